@@ -1,0 +1,27 @@
+//! The words that every other crate shares: names, kinds, tokens, lock rows and small payloads.
+//!
+//! A [`Name`] is the SHA-256 (FIPS 180-4) of the bytes that it names. An [`Instance`] tells one client
+//! from another, a [`Token`] one lock from another. A [`LockRow`] is a live lock, and has one form in
+//! bytes, which frames and the ledger share. [`Bytes`], [`Names`] and [`Text`] are a `Vec` or a
+//! `String` that contracts see as the list that it holds.
+//!
+//! Promised: `name_of` is the object name, hexadecimal goes both ways, a row's bytes read as that row
+//! and as no other. Not promised: that SHA-256 has no clashes, or that two instances differ.
+//!
+//! The definitions stand in `specs/`: `Naming` (object name, order of names, hexadecimal), `Ranges`
+//! (the bytes at an offset and a length), `Rows` (a row's bytes, a host within its limits).
+#![tactic(auto)]
+
+mod fields;
+mod kinds;
+mod names;
+mod payloads;
+mod rows;
+mod tokens;
+
+pub use fields::{host_at, hosts_are_one, number_at, numbers_are_one, truth_at};
+pub use kinds::{BlobKind, Kind, Thing};
+pub use names::{Instance, Name, NameError, name_of};
+pub use payloads::{Bytes, Names, Text};
+pub use rows::{LockRow, RowError, append_row, read_row, rows_are_one};
+pub use tokens::Token;

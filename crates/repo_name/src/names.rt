@@ -1,0 +1,109 @@
+//! Names by SHA-256, and their hexadecimal text.
+
+ghost use Rattle.std.specs.Prelude.{◌≡◌, ◌≢◌, ◌↔◌, ℕ, length, IfOk, IsOk, IsErrOf, IsTrue, string_bytes};
+ghost use Rattle.hex.specs.Hex.{IsBytes};
+ghost use Rattle.repo_name.specs.Naming.{name, hex_of, IsName};
+ghost use Rattle.repo_name.specs.declared.names.Name.{Name};
+ghost use Rattle.repo_name.specs.declared.names.NameError.{NameError};
+
+use hex::FromHex;
+use sha2::{Digest, Sha256};
+use std::alloc::{AllocError, Global};
+use thiserror::Error;
+
+/// The name of some bytes: their SHA-256 (FIPS 180-4), 32 bytes. Names go by their bytes, the first
+/// ones first.
+#[derive(Clone, Copy, Debug, PartialEq, Eq, PartialOrd, Ord)]
+pub struct Name(pub [u8; 32]);
+
+/// What tells one client from another: 16 bytes, drawn at random. Instances go by their bytes.
+#[derive(Clone, Copy, Debug, PartialEq, Eq, PartialOrd, Ord)]
+pub struct Instance(pub [u8; 16]);
+
+/// Why a text is no name.
+#[derive(Clone, Copy, Debug, PartialEq, Eq, Error)]
+pub enum NameError {
+    /// It hasn't 64 bytes.
+    #[error("a name has 64 digits")]
+    Length,
+    /// It has 64 bytes, and one of them is none of `0` to `9` and `a` to `f`.
+    #[error("a name's digits are 0 to 9 and a to f")]
+    Digit,
+}
+
+/// The name of these bytes. It takes no memory and always succeeds.
+pub fn name_of(bytes: &[u8]) -> Name
+    ensures { result ≡ name bytes.now }
+{
+    Name(Sha256::digest(bytes))
+}
+
+impl Name {
+    /// The name's 64 digits, in lower case. It fails for memory alone.
+    pub fn to_hex(&self, alloc: Global) -> Result<String, AllocError>
+        ensures { IfOk result (λ text. string_bytes text ≡ hex_of self.now) }
+    {
+        hex::encode(alloc, &self.0)
+    }
+
+    /// The name of which this is the text, 64 digits in lower case. It takes no memory.
+    ///
+    /// `Length` comes first, where there aren't 64 bytes, and then `Digit`.
+    pub fn from_hex(text: &str) -> Result<Name, NameError>
+        ensures ok { IfOk result (λ n. text.now ≡ hex_of n) }
+        ensures length { IsErrOf result NameError.Length ↔ (length text.now ≢ 64) }
+        ensures digit { IsErrOf result NameError.Digit → (n : Name) → IsName n → text.now ≢ hex_of n }
+    {
+        if text.len() != 64 {
+            return Err(NameError::Length);
+        }
+        let Ok(bytes) = <[u8; 32] as FromHex>::from_hex(text) else {
+            return Err(NameError::Digit);
+        };
+        let mut written = [0u8; 64];
+        hex::encode_to_slice(&bytes, &mut written).unwrap();
+        if text.as_bytes() == written.as_slice() {
+            Ok(Name(bytes))
+        } else {
+            Err(NameError::Digit)
+        }
+    }
+}
+
+#[cfg(test)]
+mod tests {
+    use super::*;
+    use std::test::Fail;
+
+    // The examples of FIPS 180-4 for SHA-256: `abc`, and the empty text.
+    const ABC: &str = "ba7816bf8f01cfea414140de5dae2223b00361a396177a9cb410ff61f20015ad";
+
+    const EMPTY: &str = "e3b0c44298fc1c149afbf4c8996fb92427ae41e4649b934ca495991b7852b855";
+
+    #[test]
+    fn names_are_sha256_in_hexadecimal(rt: HostRuntime) -> Result<(), Fail> {
+        let alloc = rt.alloc();
+        for (bytes, digits) in [(b"abc".as_slice(), ABC), (b"".as_slice(), EMPTY)] {
+            let name = name_of(bytes);
+            let text = name.to_hex(alloc)?;
+            assert_eq!(rt; text.as_str(), digits);
+            assert_eq!(rt; Name::from_hex(digits), Ok(name));
+        }
+        Ok(())
+    }
+
+    #[test]
+    fn texts_that_are_no_names(rt: HostRuntime) {
+        let upper = "Ba7816bf8f01cfea414140de5dae2223b00361a396177a9cb410ff61f20015ad";
+        let other = "ga7816bf8f01cfea414140de5dae2223b00361a396177a9cb410ff61f20015ad";
+        let short = "a7816bf8f01cfea414140de5dae2223b00361a396177a9cb410ff61f20015ad";
+        for (text, fault) in [
+            (short, NameError::Length),
+            ("", NameError::Length),
+            (upper, NameError::Digit),
+            (other, NameError::Digit),
+        ] {
+            assert_eq!(rt; Name::from_hex(text), Err(fault), "of {text}");
+        }
+    }
+}

@@ -1,0 +1,98 @@
+//! Requests, replies, and the codes of refusals.
+
+ghost use Rattle.std.specs.Prelude.{◌≡◌};
+ghost use Rattle.repo_wire.specs.Messages.{code_number};
+
+use repo_name::{Instance, LockRow, Token};
+
+/// What a client asks.
+#[derive(Debug, Drop, PartialEq)]
+pub enum Ask {
+    /// A new token.
+    Ticket,
+    /// The lock of this row, whose host is within its limits.
+    Lock(LockRow),
+    /// The end of this token's lock.
+    Unlock(Token),
+}
+
+/// A request: what one client asks, by its sequence number.
+#[derive(Debug, Drop, PartialEq)]
+pub struct Request {
+    pub instance: Instance,
+    pub sequence: u64,
+    pub ask: Ask,
+}
+
+/// Why a store refuses. The numbers are those of the frames.
+#[derive(Clone, Copy, Debug, PartialEq, Eq)]
+pub enum Code {
+    /// 1: the request makes no sense.
+    Malformed,
+    /// 2: the token is dead, or was never issued.
+    Dead,
+    /// 3: other locks exclude this one.
+    Busy,
+    /// 4: a deletion wants an exclusive lock.
+    NotExclusive,
+    /// 5: there is no such object.
+    Missing,
+    /// 6: the bytes have another name.
+    NameMismatch,
+    /// 7: the object is above its kind's limit.
+    TooLarge,
+    /// 8: the range isn't within the object.
+    Range,
+    /// 9: the token is live, with a lock of the other kind.
+    OtherKind,
+    /// 10: the store's device failed; what was asked may have been done.
+    Fault,
+    /// 11: there was no memory; nothing was done.
+    NoMemory,
+    /// 12: there are as many locks as there may be.
+    Full,
+    /// 13: there are no more numbers.
+    Exhausted,
+}
+
+impl Code {
+    /// The code's number, 1 to 13.
+    pub fn number(self) -> u8
+        ensures { result ≡ code_number self }
+    {
+        match self {
+            Code::Malformed => 1,
+            Code::Dead => 2,
+            Code::Busy => 3,
+            Code::NotExclusive => 4,
+            Code::Missing => 5,
+            Code::NameMismatch => 6,
+            Code::TooLarge => 7,
+            Code::Range => 8,
+            Code::OtherKind => 9,
+            Code::Fault => 10,
+            Code::NoMemory => 11,
+            Code::Full => 12,
+            Code::Exhausted => 13,
+        }
+    }
+}
+
+/// What a store says.
+#[derive(Debug, Drop, PartialEq)]
+pub enum Say {
+    /// The token asked for.
+    Token(Token),
+    /// It was done.
+    Done,
+    /// It wasn't done, but where the code says otherwise.
+    Refused(Code),
+}
+
+/// A reply: what the store says to the request of this client and this sequence number.
+#[derive(Debug, Drop, PartialEq)]
+pub struct Reply {
+    pub instance: Instance,
+    pub sequence: u64,
+    pub say: Say,
+}
