@@ -1,1 +1,2 @@
+pub mod NameMaps
 pub mod RowLemmas

@@ -1,3 +1,4 @@
+pub mod NameMaps
 pub mod Naming
 pub mod Ranges
 pub mod Rows

@@ -14,6 +14,7 @@
 
 mod fields;
 mod kinds;
+mod name_maps;
 mod names;
 mod payloads;
 mod rows;
@@ -21,6 +22,7 @@ mod tokens;
 
 pub use fields::{host_at, hosts_are_one, number_at, numbers_are_one, truth_at};
 pub use kinds::{BlobKind, Kind, Thing};
+pub use name_maps::{insert_named, remove_named};
 pub use names::{Instance, Name, NameError, name_of};
 pub use payloads::{Bytes, Names, Text};
 pub use rows::{LockRow, RowError, append_row, read_row, rows_are_one};

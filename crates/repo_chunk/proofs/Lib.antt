@@ -1,0 +1,6 @@
+mod Bits
+pub mod Cutting
+pub mod CutLaws
+pub mod FirstCuts
+mod Held
+mod UnderWay

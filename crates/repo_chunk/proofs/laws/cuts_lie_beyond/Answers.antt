@@ -1,0 +1,5 @@
+use Rattle.repo_chunk.proofs.CutLaws as lemmas
+use Rattle.repo_chunk.proofs.laws.cuts_lie_beyond.Goals as goal
+
+pub returns : goal.returns
+returns c = lemmas.cuts_lie_beyond

@@ -1,0 +1,5 @@
+use Rattle.repo_chunk.proofs.FirstCuts as lemmas
+use Rattle.repo_chunk.proofs.laws.first_cuts_end.Goals as goal
+
+pub returns : goal.returns
+returns c = lemmas.first_cuts_end

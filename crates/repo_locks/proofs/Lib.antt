@@ -1,0 +1,5 @@
+pub mod Ascending
+pub mod Changed
+pub mod LawfulSteps
+pub mod Numbers
+pub mod Texts

@@ -1,0 +1,55 @@
+use Rattle.std.specs.Prelude.{◌≡◌, ◌≤◌, ◌<◌, ◌^◌, ◌++◌, ℕ, List, length, All}
+use Rattle.std.specs.List.{flat_map}
+use Rattle.std.specs.Int.{w16, to_be_bytes}
+use Rattle.repo_name.specs.Rows.{number, row_bytes, IsRow}
+use Rattle.repo_name.specs.declared.rows.LockRow.{LockRow}
+use Rattle.repo_name.specs.declared.rows.RowError.{RowError}
+use Rattle.repo_name.specs.declared.tokens.Token.{Token}
+use Rattle.repo_locks.specs.declared.outcomes.LedgerError.{LedgerError}
+use Rattle.repo_locks.specs.TokenMachine.{Tokens, fresh_limit, live_limit}
+use Rattle.repo_locks.specs.Lawful.{IsLedger}
+
+-- a count in two bytes, the higher first
+abbrev pub count_bytes : ℕ → List ℕ
+count_bytes n = to_be_bytes w16 n
+
+-- a token in bytes
+abbrev pub token_bytes : Token → List ℕ
+token_bytes t = number t.0
+
+-- fresh numbers in bytes: how many, and each
+abbrev pub fresh_bytes : List Token → List ℕ
+fresh_bytes ts = count_bytes (length ts) ++ flat_map token_bytes ts
+
+-- live rows in bytes: how many, and each
+abbrev pub live_bytes : List LockRow → List ℕ
+live_bytes rs = count_bytes (length rs) ++ flat_map row_bytes rs
+
+-- a ledger in bytes: the next number, the fresh ones, and the rows of the live ones
+abbrev pub ledger_bytes : Tokens → List ℕ
+ledger_bytes l = number l.next ++ fresh_bytes l.fresh ++ live_bytes l.live
+
+-- a number of 64 bits
+abbrev pub IsNumber : Token → Type 0
+IsNumber t = t.0 < 2 ^ 64
+
+-- a state whose parts fit their places in bytes, lawful or not
+pub record FitsBytes (l : Tokens) : Type 0 where
+  pub next : l.next < 2 ^ 64
+  pub few_fresh : length l.fresh ≤ fresh_limit
+  pub fresh : All IsNumber l.fresh
+  pub few_live : length l.live ≤ live_limit
+  pub live : All IsRow l.live
+
+-- the bytes of a state whose parts fit them
+abbrev pub HasBytes : Tokens → List ℕ → Type 0
+HasBytes l bytes = FitsBytes l × (bytes ≡ ledger_bytes l)
+
+-- what a row's fault is to a ledger
+abbrev pub ledger_error : RowError → LedgerError
+ledger_error RowError.Shape = LedgerError.Shape
+ledger_error RowError.Memory = LedgerError.Memory
+
+-- one text for one state
+abbrev pub LedgersAreOne : Type 0
+LedgersAreOne = (a b : Tokens) → IsLedger a → IsLedger b → ledger_bytes a ≡ ledger_bytes b → a ≡ b

@@ -1,0 +1,6 @@
+pub mod TokenMachine
+pub mod Lawful
+pub mod Laws
+pub mod LedgerBytes
+pub mod Ages
+pub use Rattle.repo_name.specs.Rows

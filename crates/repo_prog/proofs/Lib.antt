@@ -1,0 +1,4 @@
+pub mod LineLemmas
+pub mod Outputs
+pub mod TalkLemmas
+pub mod TalkLines

@@ -1,0 +1,38 @@
+use Rattle.std.specs.Prelude.{◌≡◌, ◌≢◌, ◌⊎◌, ◌++◌, ◌∷◌, [], ⊤, ℕ, List, flat_map, Ok}
+use Rattle.hex.specs.Hex.{decode_of, encode_lower}
+use Rattle.repo_wire.specs.declared.messages.Reply.{Reply}
+use Rattle.repo_wire.specs.Messages.{reply_body}
+use Rattle.repo_wire.specs.Stream.{frame}
+
+-- the byte that ends a line
+abbrev pub line_feed : ℕ
+line_feed = 10
+
+-- no line ends within these bytes
+abbrev pub IsLine : List ℕ → Type 0
+IsLine [] = ⊤
+IsLine (b ∷ bytes) = (b ≢ line_feed) × IsLine bytes
+
+-- the input's first lines are these, and this follows: a line ends at a line feed or, if it isn't empty, at the input's end
+abbrev pub AreLines : List ℕ → List (List ℕ) → List ℕ → Type 0
+AreLines input [] rest = rest ≡ input
+AreLines input (line ∷ lines) rest = IsLine line × (
+    ((after : List ℕ) × (input ≡ line ++ line_feed ∷ after) × AreLines after lines rest)
+    ⊎ ((line ≢ []) × (input ≡ line) × (lines ≡ []) × (rest ≡ [])))
+
+-- the lines are hexadecimal, in digits of both cases, and spell these bytes
+abbrev pub Spell : List (List ℕ) → List ℕ → Type 0
+Spell [] bytes = bytes ≡ []
+Spell (line ∷ lines) bytes = (first : List ℕ) × (rest : List ℕ) × (decode_of line ≡ Ok first) × Spell lines rest × (bytes ≡ first ++ rest)
+
+-- a line that isn't hexadecimal
+abbrev pub IsNotHex : List ℕ → Type 0
+IsNotHex line = (bytes : List ℕ) → decode_of line ≢ Ok bytes
+
+-- a reply's line: its frame in hexadecimal, lower case
+abbrev pub reply_line : Reply → List ℕ
+reply_line reply = encode_lower (frame (reply_body reply)) ++ line_feed ∷ []
+
+-- the lines of some replies
+abbrev pub printed : List Reply → List ℕ
+printed replies = flat_map reply_line replies

@@ -1,0 +1,5 @@
+pub mod Commands
+pub mod FramesRun
+pub mod HexLines
+pub mod Output
+pub mod Talks

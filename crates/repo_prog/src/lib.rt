@@ -1,0 +1,24 @@
+//! The program's engines and commands, as functions over readers, writers and values.
+//!
+//! [`frames`] answers request frames in hexadecimal from an empty store in memory.
+//!
+//! Promised: what `frames` writes is the lines of the replies of a run of the store machine, from the
+//! empty store, over the requests of the stream that the input's lines spell; each of its errors comes
+//! only for its cause, after the replies to all requests before it. Not promised: what a terminal or a
+//! file gives or takes.
+//!
+//! The definitions stand in `specs/`: `HexLines` (lines, and the bytes that they spell), `FramesRun`
+//! (what `frames` gives), `Talks` (what holds while it runs).
+#![tactic(auto)]
+
+mod commands;
+mod errors;
+mod frames_engine;
+mod output;
+mod talks;
+#[cfg(test)]
+mod tests;
+
+pub use commands::{Order, Status, frames_command, refuse_words, run};
+pub use errors::FramesError;
+pub use frames_engine::frames;
