@@ -1,0 +1,95 @@
+//! Kernels to be timed from outside: a word names one, and a number its size in bytes. With no words each
+//! runs on a tiny size. What is printed is the digest of what was made, so that no work can be left out.
+#![tactic(auto)]
+
+use anyhow::{Result, bail};
+use repo_name::{BlobKind, Name, name_of};
+use repo_pack::{PackError, PackView, PackWriter};
+use std::alloc::{AllocError, Global};
+
+/// The size at which each kernel runs with no words.
+const TINY: usize = 1000;
+
+/// The bytes of a blob, but for the last one.
+const BLOB: usize = 65_536;
+
+/// The target of a pack, the greatest there is.
+const TARGET: u32 = 16_777_216;
+
+/// What is timed.
+#[derive(Clone, Copy)]
+enum Kernel {
+    /// The name of some bytes.
+    Name,
+    /// A pack of them, sealed, read again, and its names compared.
+    Pack,
+}
+
+/// So many bytes, with no long run of equal ones.
+fn bytes_of(alloc: Global, size: usize) -> Result<Vec<u8>, AllocError> {
+    let mut bytes = Vec::with_capacity(alloc, size)?;
+    let mut byte = 1u8;
+    for _ in 0..size {
+        bytes.push(byte)?;
+        byte = byte.wrapping_mul(5).wrapping_add(17);
+    }
+    Ok(bytes)
+}
+
+/// The name of a pack of these bytes.
+fn packed(alloc: Global, bytes: &[u8]) -> Result<Name, PackError> {
+    let mut writer = PackWriter::new(alloc, TARGET);
+    for blob in bytes.chunks(BLOB) {
+        if !blob.is_empty() {
+            writer.add(BlobKind::Content, blob)?;
+        }
+    }
+    if writer.is_empty() {
+        return Err(PackError::Empty);
+    }
+    let sealed = writer.seal()?;
+    let view = PackView::read(sealed.bytes.as_slice())?;
+    for place in 0..view.len() {
+        if !view.name_holds(place) {
+            return Err(PackError::Lengths);
+        }
+    }
+    Ok(sealed.name)
+}
+
+fn digest_of(alloc: Global, kernel: Kernel, size: usize) -> Result<Name> {
+    let bytes = bytes_of(alloc, size)?;
+    match kernel {
+        Kernel::Name => Ok(name_of(&bytes)),
+        Kernel::Pack => Ok(packed(alloc, &bytes)?),
+    }
+}
+
+fn run(rt: &HostRuntime, kernel: Kernel, size: usize) -> Result<()> {
+    let digest = digest_of(rt.alloc(), kernel, size)?.to_hex(rt.alloc())?;
+    let word = match kernel {
+        Kernel::Name => "name",
+        Kernel::Pack => "pack",
+    };
+    println!(rt; "{word} {size} {digest}")?;
+    Ok(())
+}
+
+fn main(rt: HostRuntime) -> Result<()> {
+    let words: Vec<String> = std::env::args(&rt)?.collect(rt.alloc())?;
+    match words.as_slice() {
+        [_] => {
+            run(&rt, Kernel::Name, TINY)?;
+            run(&rt, Kernel::Pack, TINY)
+        }
+        [_, kernel, size] => {
+            let size: usize = size.as_str().parse()?;
+            match kernel.as_str() {
+                "name" => run(&rt, Kernel::Name, size),
+                "pack" => run(&rt, Kernel::Pack, size),
+                _ => bail!("no such kernel"),
+            }
+        }
+        _ => bail!("bench, or bench KERNEL SIZE"),
+    }
+}

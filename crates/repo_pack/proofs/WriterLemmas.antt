@@ -1,0 +1,139 @@
+-- A pack that is written: one more item, and its end.
+use Rattle.std.proofs.Common.{◌≡◌, ◌≤◌, ◌<◌, ◌+◌, ◌^◌, ◌++◌, ◌∷◌, [], ℕ, zero, suc, List, length, drop, map, get_or, refl, sym, ap, ◌∙◌, append_assoc, arith}
+use Rattle.std.specs.Prelude.{slice_get, Some}
+use Rattle.std.specs.List.{sum_by}
+use Rattle.std.specs.Int.{w32, to_le_bytes}
+use Rattle.std.proofs.lemmas.List.{append-nil, length-append, length-map, map_push, length_push, drop_more, drop_all}
+use Rattle.std.proofs.lemmas.List.Elements.{All-push, All-nil, recursion_from_All}
+use Rattle.std.proofs.lemmas.List.Concat.{flat_map-append}
+use Rattle.repo_name.specs.declared.names.Name.{Name}
+use Rattle.repo_pack.specs.declared.rows.Row.{Row}
+use Rattle.repo_pack.specs.declared.places.Place.{Place}
+use Rattle.repo_pack.specs.PackLayout.{Item, IsItem, IsNamed, blobs_of, header_of, offset_of, IsTruePack}
+use Rattle.repo_pack.specs.PackReading.{items_of}
+use Rattle.repo_pack.specs.PackWriting.{row_of, rows_bytes, IsFilled, places_from, ArePlaces}
+use Rattle.repo_pack.proofs.Entries.{items_of-rows, length-header_of}
+use Rattle.repo_pack.proofs.Offsets.{offset_of-cons}
+use Rattle.repo_pack.proofs.Stands.{header_spelled, rows_sum}
+
+-- rows and bytes of some items show these
+pub filled_shows : (rows : List Row) (blobs : List ℕ) (items : List Item) → rows ≡ map row_of items → blobs ≡ blobs_of items → items_of rows blobs ≡ items
+filled_shows rows blobs items r b = ap (λ x. items_of x blobs) r ∙ ap (items_of (map row_of items)) b ∙ items_of-rows items
+
+pub filled_none : (target : ℕ) → 1_024 ≤ target → target ≤ 16_777_216 → IsFilled [] [] target (items_of [] [])
+unfolding items_of
+filled_none target low high = record {
+  bounds = (low, high);
+  few = omega arith;
+  room = omega arith;
+  each = All-nil IsItem;
+  named = All-nil IsNamed;
+  rows_are = refl;
+  blobs_are = refl;
+}
+
+pub shows_none : items_of [] [] ≡ []
+unfolding items_of
+shows_none = refl
+
+blobs_of-push : (items : List Item) (item : Item) → blobs_of (items ++ item ∷ []) ≡ blobs_of items ++ item.bytes
+blobs_of-push items item = flat_map-append (λ (i : Item). i.bytes) items (item ∷ []) ∙ ap (λ t. blobs_of items ++ t) (append-nil item.bytes)
+
+module _ (rows : List Row) (blobs : List ℕ) (target : ℕ) (items : List Item) (filled : IsFilled rows blobs target items) where
+  pub rows_push : (item : Item) → rows ++ row_of item ∷ [] ≡ map row_of (items ++ item ∷ [])
+  rows_push item = ap (λ t. t ++ row_of item ∷ []) filled.rows_are ∙ sym (map_push row_of items item)
+
+  pub blobs_push : (item : Item) → blobs ++ item.bytes ≡ blobs_of (items ++ item ∷ [])
+  blobs_push item = ap (λ t. t ++ item.bytes) filled.blobs_are ∙ sym (blobs_of-push items item)
+
+  pub shows_push : (item : Item) → items_of (rows ++ row_of item ∷ []) (blobs ++ item.bytes) ≡ items ++ item ∷ []
+  shows_push item = filled_shows (rows ++ row_of item ∷ []) (blobs ++ item.bytes) (items ++ item ∷ []) (rows_push item) (blobs_push item)
+
+  -- one more item, where there is room
+  pub filled_push : (item : Item) → IsItem item → IsNamed item → length items < 4_096 → length blobs < target
+      → IsFilled (rows ++ row_of item ∷ []) (blobs ++ item.bytes) target (items ++ item ∷ [])
+  filled_push item is named few room =
+      let small = is.0.1 in
+      record {
+        bounds = filled.bounds;
+        few = omega (arith, length_push items item);
+        room = omega (arith, length-append blobs item.bytes);
+        each = All-push IsItem items item filled.each is;
+        named = All-push IsNamed items item filled.named named;
+        rows_are = rows_push item;
+        blobs_are = blobs_push item;
+      }
+
+  rows_bytes_are : rows_bytes rows ≡ header_of items
+  rows_bytes_are = ap rows_bytes filled.rows_are ∙ sym (header_spelled items)
+
+  pub sealed_is : 1 ≤ length items → IsTruePack (blobs ++ (rows_bytes rows ++ to_le_bytes w32 (length (rows_bytes rows)))) items
+  sealed_is some = record {
+    pack = record {
+      count = (some, filled.few);
+      each = filled.each;
+      layout = sym (append_assoc blobs (rows_bytes rows) (to_le_bytes w32 (length (rows_bytes rows))))
+          ∙ ap (λ t. t ++ rows_bytes rows ++ to_le_bytes w32 (length (rows_bytes rows))) filled.blobs_are
+          ∙ ap (λ t. blobs_of items ++ t ++ to_le_bytes w32 (length t)) rows_bytes_are;
+    };
+    named = filled.named;
+  }
+
+  pub sealed_length : length (blobs ++ (rows_bytes rows ++ to_le_bytes w32 (length (rows_bytes rows)))) ≤ 25_317_379
+  sealed_length =
+      let header = ap length rows_bytes_are ∙ length-header_of items (recursion_from_All IsItem items filled.each) in
+      let few = filled.few in
+      let room = filled.room in
+      let high = filled.bounds.1 in
+      let tail = to_le_bytes w32 (length (rows_bytes rows)) in
+      let four : length tail ≡ 4 = refl in
+      omega (arith, length-append blobs (rows_bytes rows ++ tail), length-append (rows_bytes rows) tail)
+
+  pub lengths_small : sum_by (λ (row : Row). row.length) rows < 2 ^ 32
+  lengths_small =
+      let total = ap (sum_by (λ (row : Row). row.length)) filled.rows_are ∙ rows_sum items ∙ ap length (sym filled.blobs_are) in
+      let room = filled.room in
+      let high = filled.bounds.1 in
+      omega arith
+
+  pub count_is : length rows ≡ length items
+  count_is = ap length filled.rows_are ∙ length-map items row_of
+
+-- the places of the entries of some items, from an offset on
+places_at : (pack : Name) (offset : ℕ) (items : List Item) (k : ℕ) (item : Item) → slice_get items k ≡ Some item
+    → slice_get (places_from pack offset (map row_of items)) k ≡ Some (record { pack = pack; offset = offset + offset_of items k; length = length item.bytes })
+unfolding places_from
+places_at pack offset [] k item h = absurd cc
+places_at pack offset (first ∷ items) zero item h =
+    let e : first ≡ item = cc in
+    let zero_more : offset ≡ offset + 0 = omega arith in
+    λ i. Some (record { pack = pack; offset = zero_more i; length = length (e i).bytes })
+places_at pack offset (first ∷ items) (suc k) item h =
+    let e : (offset + length first.bytes) + offset_of items k ≡ offset + offset_of (first ∷ items) (suc k) = omega (arith, offset_of-cons first items k) in
+    places_at pack (offset + length first.bytes) items k item h ∙ ap (λ o. Some (record { pack = pack; offset = o; length = length item.bytes })) e
+
+length-places_from : (pack : Name) (offset : ℕ) (rows : List Row) → length (places_from pack offset rows) ≡ length rows
+unfolding places_from
+length-places_from pack offset [] = refl
+length-places_from pack offset (row ∷ rows) = ap suc (length-places_from pack (offset + row.length) rows)
+
+pub places_are : (pack : Name) (items : List Item) → ArePlaces pack items (places_from pack 0 (map row_of items))
+places_are pack items = record {
+  count = length-places_from pack 0 (map row_of items) ∙ length-map items row_of;
+  each = λ k item h.
+      let e : 0 + offset_of items k ≡ offset_of items k = omega arith in
+      places_at pack 0 items k item h ∙ ap (λ o. Some (record { pack = pack; offset = o; length = length item.bytes })) e;
+}
+
+-- one more place
+pub places_more : (front : List Place) (pack : Name) (offset : ℕ) (rows : List Row) (k : ℕ) (d : Row) → k < length rows
+    → (front ++ record { pack = pack; offset = offset; length = (get_or rows k d).length } ∷ []) ++ places_from pack (offset + (get_or rows k d).length) (drop (k + 1) rows) ≡ front ++ places_from pack offset (drop k rows)
+unfolding places_from
+places_more front pack offset rows k d h =
+    let row = get_or rows k d in
+    append_assoc front (record { pack = pack; offset = offset; length = row.length } ∷ []) (places_from pack (offset + row.length) (drop (k + 1) rows))
+    ∙ ap (λ t. front ++ places_from pack offset t) (sym (drop_more rows k d h))
+
+pub places_end : (pack : Name) (offset : ℕ) (rows : List Row) (k : ℕ) → length rows ≤ k → places_from pack offset (drop k rows) ≡ []
+unfolding places_from
+places_end pack offset rows k h = ap (places_from pack offset) (drop_all k rows h)

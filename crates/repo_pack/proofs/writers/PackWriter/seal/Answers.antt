@@ -1,0 +1,42 @@
+use Rattle.std.proofs.Common.{◌++◌, ℕ, List, length, sym, ap, subst, ◌∙◌, arith}
+use Rattle.std.specs.Int.{w32, to_le_bytes}
+use Rattle.repo_pack.specs.declared.rows.Row.{Row}
+use Rattle.repo_pack.specs.PackLayout.{IsTruePack}
+use Rattle.repo_pack.specs.PackWriting.{Packing, IsFilled, rows_bytes, places_from, ArePlaces}
+use Rattle.repo_pack.proofs.WriterLemmas.{sealed_is, sealed_length, lengths_small, places_are}
+use Rattle.repo_pack.proofs.writers.PackWriter.seal.Goals as goal
+
+pub finish-requires-clause-small : goal.finish-requires-clause-small
+finish-requires-clause-small c =
+    rw c.deref.ensures.value (lengths_small c.self.inside.rows.items c.self.inside.blobs.items c.self.inside.target _ c.self.invariant)
+
+-- the bytes that end in the header of some rows
+ended : List ℕ → List Row → List ℕ
+ended blobs rows = blobs ++ (rows_bytes rows ++ to_le_bytes w32 (length (rows_bytes rows)))
+
+pub returns-in-Ok-clause-pack : goal.returns-in-Ok-clause-pack
+unfolding ended
+returns-in-Ok-clause-pack c =
+    let rows = c.self.inside.rows.items in
+    let blobs = c.self.inside.blobs.items in
+    let items = c.args.self.items in
+    let filled = subst (IsFilled rows blobs c.self.inside.target) (ap (λ (p : Packing). p.items) c.self.view_is) c.self.invariant in
+    let bytes = c.of.ensures ∙ c.in-Ok.ensures.ok ∙ ap (ended blobs) c.deref.ensures.value in
+    subst (λ (x : List ℕ). IsTruePack x items) (sym bytes) (sealed_is rows blobs c.self.inside.target items filled c.requires)
+
+pub returns-in-Ok-clause-places : goal.returns-in-Ok-clause-places
+returns-in-Ok-clause-places c =
+    let rows = c.self.inside.rows.items in
+    let blobs = c.self.inside.blobs.items in
+    let items = c.args.self.items in
+    let filled = subst (IsFilled rows blobs c.self.inside.target) (ap (λ (p : Packing). p.items) c.self.view_is) c.self.invariant in
+    let places = c.in-Ok.ensures.places ∙ ap (places_from c.in-Ok.name 0) (c.deref.ensures.value ∙ filled.rows_are) in
+    subst (ArePlaces c.in-Ok.name items) (sym places) (places_are c.in-Ok.name items)
+
+pub returns-in-Ok-clause-size : goal.returns-in-Ok-clause-size
+unfolding ended
+returns-in-Ok-clause-size c =
+    let rows = c.self.inside.rows.items in
+    let blobs = c.self.inside.blobs.items in
+    let bytes = c.of.ensures ∙ c.in-Ok.ensures.ok ∙ ap (ended blobs) c.deref.ensures.value in
+    omega (arith, ap length bytes, sealed_length rows blobs c.self.inside.target _ c.self.invariant)

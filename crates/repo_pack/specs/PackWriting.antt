@@ -1,0 +1,64 @@
+use Rattle.std.specs.Prelude.{◌≡◌, ◌≤◌, ◌<◌, ◌+◌, ◌++◌, ◌∷◌, [], ◌⊎◌, ℕ, List, length, map, slice_get, Some}
+use Rattle.std.specs.List.{All, flat_map}
+use Rattle.repo_name.specs.declared.names.Name.{Name}
+use Rattle.repo_pack.specs.declared.rows.Row.{Row}
+use Rattle.repo_pack.specs.declared.places.Place.{Place}
+use Rattle.repo_pack.specs.declared.faults.PackError.{PackError}
+use Rattle.repo_pack.specs.declared.faults.PackError.TheVariants as faults
+use Rattle.repo_pack.specs.PackLayout.{Item, IsItem, IsNamed, entry_bytes, blobs_of, offset_of}
+
+-- a pack that is being written: the items added, in order, and the bytes to aim at
+pub record Packing : Type 0 where
+  pub items : List Item
+  pub target : ℕ
+
+-- the blobs' bytes reach the target, or there are 4,096 blobs
+abbrev pub IsDue : Packing → Type 0
+IsDue packing = (packing.target ≤ length (blobs_of packing.items)) ⊎ (4_096 ≤ length packing.items)
+
+-- neither
+abbrev pub IsOpen : Packing → Type 0
+IsOpen packing = (length (blobs_of packing.items) < packing.target) × (length packing.items < 4_096)
+
+-- the same with an item at its end
+abbrev pub with_item : Packing → Item → Packing
+with_item packing item = record { items = packing.items ++ item ∷ []; target = packing.target }
+
+-- Why a blob of so many bytes isn't added: the first reason in this order.
+abbrev pub IsRefusal : Packing → ℕ → PackError → Type 0
+IsRefusal packing n faults.Closed = IsDue packing
+IsRefusal packing n faults.TooLarge = IsOpen packing × (8_388_608 < n)
+IsRefusal packing n faults.Memory = IsOpen packing × (n ≤ 8_388_608)
+IsRefusal packing n faults.Short = ⊥
+IsRefusal packing n faults.Empty = ⊥
+IsRefusal packing n faults.HeaderLength = ⊥
+IsRefusal packing n faults.BlobKind = ⊥
+IsRefusal packing n faults.Lengths = ⊥
+
+-- an item's entry: its kind, its name and its length
+abbrev pub row_of : Item → Row
+row_of item = record { kind = item.kind; name = item.name; length = length item.bytes }
+
+-- entries, one after another
+abbrev pub rows_bytes : List Row → List ℕ
+rows_bytes rows = flat_map (λ row. entry_bytes row.kind row.length row.name) rows
+
+-- rows and bytes are those of these items, whose names are true, and within what the target allows
+pub record IsFilled (rows : List Row) (blobs : List ℕ) (target : ℕ) (items : List Item) : Type 0 where
+  pub bounds : (1_024 ≤ target) × (target ≤ 16_777_216)
+  pub few : length items ≤ 4_096
+  pub room : length blobs < target + 8_388_608
+  pub each : All IsItem items
+  pub named : All IsNamed items
+  pub rows_are : rows ≡ map row_of items
+  pub blobs_are : blobs ≡ blobs_of items
+
+-- where the blobs of these entries lie in a pack, the first of them at this offset
+unfoldable pub places_from : Name → ℕ → List Row → List Place
+places_from pack offset [] = []
+places_from pack offset (row ∷ rows) = record { pack = pack; offset = offset; length = row.length } ∷ places_from pack (offset + row.length) rows
+
+-- these are the items' places in a pack, in the items' order
+pub record ArePlaces (pack : Name) (items : List Item) (places : List Place) : Type 0 where
+  pub count : length places ≡ length items
+  pub each : (k : ℕ) (item : Item) → slice_get items k ≡ Some item → slice_get places k ≡ Some (record { pack = pack; offset = offset_of items k; length = length item.bytes })

@@ -1,0 +1,231 @@
+//! Packs as they are written.
+
+ghost use Rattle.std.specs.Prelude.{◌≡◌, ◌≤◌, ◌<◌, ◌+◌, ◌^◌, ◌++◌, [], ◌↔◌, length, IsTrue, IfOk, IfErr, OnOk, OnErr, IsErrOf, vec_len, vec_capacity};
+ghost use Rattle.std.specs.List.{sum_by};
+ghost use Rattle.std.specs.Int.{w32, to_le_bytes};
+ghost use Rattle.repo_name.specs.Naming as naming;
+ghost use Rattle.repo_pack.specs.PackLayout.{IsTruePack};
+ghost use Rattle.repo_pack.specs.PackWriting.{IsDue, IsOpen, IsRefusal, with_item, rows_bytes, places_from, ArePlaces};
+
+use crate::faults::PackError;
+use crate::places::Place;
+use crate::rows::{BLOB_LIMIT, Row, header_bytes};
+use repo_name::{BlobKind, Bytes, Name, name_of};
+use std::alloc::{AllocError, Global};
+use std::marker::Model;
+use thiserror::Error;
+
+/// The most blobs of a pack.
+const COUNT_LIMIT: usize = 4_096;
+
+/// A pack that is being written. A clause sees the items added, in order, and the target.
+#[derive(Debug, Drop)]
+pub struct PackWriter {
+    blobs: Vec<u8>,
+    rows: Vec<Row>,
+    target: u32,
+}
+
+impl Model for PackWriter {
+    ghost use Rattle.repo_pack.specs.PackReading.{items_of};
+    ghost use Rattle.repo_pack.specs.PackWriting.{Packing, IsFilled};
+
+    ghost Value = { Packing };
+
+    ghost view = { λ w. record { items = items_of w.rows.items w.blobs.items; target = w.target } };
+
+    ghost invariant = { λ w. IsFilled w.rows.items w.blobs.items w.target (items_of w.rows.items w.blobs.items) };
+}
+
+/// A pack that was written: its bytes, their name, and where its blobs lie, in the order in which they
+/// were added.
+#[derive(Debug, Drop)]
+pub struct Sealed {
+    pub bytes: Bytes,
+    pub name: Name,
+    pub places: Vec<Place>,
+}
+
+/// There was no memory to seal a pack, which is here as it was.
+#[derive(Debug, Drop, Error)]
+#[error("out of memory")]
+pub struct Unsealed {
+    pub writer: PackWriter,
+}
+
+impl From<Unsealed> for PackError {
+    ghost use Rattle.std.specs.Prelude.{◌≡◌};
+    ghost use Rattle.repo_pack.specs.declared.faults.PackError.{PackError};
+
+    ghost from_gives = { λ _ e. e ≡ PackError.Memory };
+
+    fn from(_: Unsealed) -> PackError {
+        PackError::Memory
+    }
+}
+
+/// Adds the places of these entries' blobs, for which there is room.
+fn add_places(places: &mut Vec<Place>, pack: Name, rows: &[Row])
+    requires room { vec_len places.old + length rows.now ≤ vec_capacity places.old }
+    requires small { sum_by (λ row. row.length) rows.now < 2 ^ 32 }
+    ensures { places.new.items ≡ places.old.items ++ places_from pack 0 rows.now }
+{
+    let mut offset = 0;
+    for row in rows {
+        let length = row.length;
+        places
+            .push(Place {
+                pack,
+                offset,
+                length,
+            })
+            .unwrap();
+        offset += length;
+    }
+}
+
+/// Ends the bytes with the header of these entries, and answers their name and the places in them.
+fn finish(blobs: &mut Vec<u8>, rows: &[Row]) -> Result<(Name, Vec<Place>), AllocError>
+    requires few { length rows.now ≤ 4_096 }
+    requires small { sum_by (λ row. row.length) rows.now < 2 ^ 32 }
+    ensures ok { OnOk result (blobs.new.items ≡ blobs.old.items ++ (rows_bytes rows.now ++ to_le_bytes w32 (length (rows_bytes rows.now)))) }
+    ensures name { IfOk result (λ x. x.0 ≡ naming.name blobs.new.items) }
+    ensures places { IfOk result (λ x. x.1.items ≡ places_from x.0 0 rows.now) }
+    ensures err { OnErr result (blobs.new.items ≡ blobs.old.items) }
+{
+    let alloc = *blobs.allocator();
+    let mut places = Vec::with_capacity(alloc, rows.len())?;
+    let header = header_bytes(alloc, rows)?;
+    blobs.extend_from_slice(&header)?;
+    let name = name_of(blobs);
+    add_places(&mut places, name, rows);
+    Ok((name, places))
+}
+
+impl PackWriter {
+    /// A pack with no blob, to be sealed once its blobs reach the target: 1,024 to 16,777,216 bytes.
+    pub fn new(alloc: Global, target: u32) -> PackWriter
+        requires { (1_024 ≤ target) × (target ≤ 16_777_216) }
+        ensures { result ≡ record { items = []; target = target } }
+    {
+        let blobs = Vec::new(alloc);
+        let rows = Vec::new(alloc);
+        PackWriter {
+            blobs,
+            rows,
+            target,
+        }
+    }
+
+    /// The number of blobs.
+    pub fn len(&self) -> usize
+        ensures { result ≡ length self.now.items }
+    {
+        self.rows.len()
+    }
+
+    /// Whether there is no blob.
+    pub fn is_empty(&self) -> bool
+        ensures { IsTrue result ↔ (self.now.items ≡ []) }
+    {
+        self.rows.is_empty()
+    }
+
+    /// Whether the blobs' bytes reach the target, or there are 4,096 blobs. Then it takes no more.
+    pub fn is_due(&self) -> bool
+        ensures { IsTrue result ↔ IsDue self.now }
+    {
+        self.blobs.len() >= self.target as usize || self.rows.len() >= COUNT_LIMIT
+    }
+
+    /// Whether a blob of so many bytes has room. It answers the first reason against it that stands.
+    fn check_room(&self, size: usize) -> Result<(), PackError>
+        ensures ok { OnOk result (IsOpen self.now × (size ≤ 8_388_608)) }
+        ensures refusal { IfErr result (IsRefusal self.now size) }
+        ensures memory { ¬ IsErrOf result PackError.Memory }
+    {
+        if self.is_due() {
+            return Err(PackError::Closed);
+        }
+        if size > BLOB_LIMIT {
+            return Err(PackError::TooLarge);
+        }
+        Ok(())
+    }
+
+    /// Adds a blob that has room. It fails for memory alone, and then changes nothing.
+    fn append(&mut self, row: Row, bytes: &[u8]) -> Result<(), AllocError>
+        requires room { IsOpen self.old }
+        requires size { (1 ≤ length bytes.now) × (length bytes.now ≤ 8_388_608) }
+        requires row { row.length ≡ length bytes.now }
+        requires name { row.name ≡ naming.name bytes.now }
+        requires whole { naming.IsName row.name }
+        ensures ok { OnOk result (self.new ≡ with_item self.old (record { kind = row.kind; name = row.name; bytes = bytes.now })) }
+        ensures err { OnErr result (self.new ≡ self.old) }
+    {
+        self.rows.reserve(1)?;
+        self.blobs.extend_from_slice(bytes)?;
+        self.rows.push(row).unwrap();
+        Ok(())
+    }
+
+    /// Adds a blob, under its name.
+    ///
+    /// A reason to refuse it is the first one that stands: `Closed`, `TooLarge`, `Memory`. An `Err`
+    /// changes nothing.
+    pub fn add(&mut self, kind: BlobKind, bytes: &[u8]) -> Result<(), PackError>
+        requires { 1 ≤ length bytes.now }
+        ensures ok { OnOk result (self.new ≡ with_item self.old (record { kind = kind; name = naming.name bytes.now; bytes = bytes.now })) }
+        ensures room { OnOk result (IsOpen self.old × (length bytes.now ≤ 8_388_608)) }
+        ensures refusal { IfErr result (IsRefusal self.old (length bytes.now)) }
+        ensures err { OnErr result (self.new ≡ self.old) }
+    {
+        self.check_room(bytes.len())?;
+        let row = Row::new(kind, name_of(bytes), bytes.len() as u32);
+        Ok(self.append(row, bytes)?)
+    }
+
+    /// Adds a blob whose name is known. It is otherwise as `add`, and takes the name as it is.
+    pub fn add_named(&mut self, kind: BlobKind, name: &Name, bytes: &[u8]) -> Result<(), PackError>
+        requires some { 1 ≤ length bytes.now }
+        requires named { name.now ≡ naming.name bytes.now }
+        ensures ok { OnOk result (self.new ≡ with_item self.old (record { kind = kind; name = name.now; bytes = bytes.now })) }
+        ensures room { OnOk result (IsOpen self.old × (length bytes.now ≤ 8_388_608)) }
+        ensures refusal { IfErr result (IsRefusal self.old (length bytes.now)) }
+        ensures err { OnErr result (self.new ≡ self.old) }
+    {
+        self.check_room(bytes.len())?;
+        let row = Row::new(kind, *name, bytes.len() as u32);
+        Ok(self.append(row, bytes)?)
+    }
+
+    /// The pack of the blobs added. It fails for memory alone, and gives the writer back as it was.
+    pub fn seal(self) -> Result<Sealed, Unsealed>
+        requires { 1 ≤ length self.items }
+        ensures pack { IfOk result (λ sealed. IsTruePack sealed.bytes self.items) }
+        ensures name { IfOk result (λ sealed. sealed.name ≡ naming.name sealed.bytes) }
+        ensures places { IfOk result (λ sealed. ArePlaces sealed.name self.items sealed.places.items) }
+        ensures size { IfOk result (λ sealed. length sealed.bytes ≤ 25_317_379) }
+        ensures err { IfErr result (λ unsealed. unsealed.writer ≡ self) }
+    {
+        let PackWriter {
+            mut blobs,
+            rows,
+            target,
+        } = self;
+        match finish(&mut blobs, &rows) {
+            Ok((name, places)) => Ok(Sealed {
+                bytes: Bytes::of(blobs),
+                name,
+                places,
+            }),
+            Err(_) => Err(Unsealed {
+                writer: PackWriter {
+                    blobs,
+                    rows,
+                    target,
+                },
+            }),
+        }
+    }
+}
