@@ -14,11 +14,6 @@ drop_entry n header =
     let e : 37 + 37 * n ≡ 37 * (n + 1) = omega arith in
     drop-drop (37 * n) 37 header ∙ ap (λ m. drop m header) e
 
-pub drop_next : (n : ℕ) (header : List ℕ) → drop 37 (drop (37 * n) header) ≡ drop (37 * (n + 1)) header
-drop_next n header =
-    let e : 37 * n + 37 ≡ 37 * (n + 1) = omega arith in
-    drop-drop 37 (37 * n) header ∙ ap (λ m. drop m header) e
-
 pub rows_in_more : (n : ℕ) (header : List ℕ) → rows_in (n + 1) header ≡ rows_in n header ++ row_in (drop (37 * n) header) ∷ []
 unfolding rows_in
 rows_in_more zero header = refl

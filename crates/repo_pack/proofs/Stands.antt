@@ -1,9 +1,9 @@
--- Bytes that pass a reader's tests are a pack, and a pack passes them.
+-- Bytes that pass a reader's tests are a pack.
 use Rattle.std.proofs.Common.{◌≡◌, ◌≢◌, ◌≤◌, ◌<◌, ◌+◌, ◌-◌, ◌*◌, ◌/◌, ◌%◌, ◌++◌, ◌∷◌, [], ℕ, zero, suc, List, length, take, drop, map, get_or, refl, sym, ap, subst, ◌∙◌, arith}
-use Rattle.std.specs.List.{AllByRecursion, sum_by, flat_map}
+use Rattle.std.specs.List.{AllByRecursion, sum_by}
 use Rattle.std.specs.Int.{w32, to_le_bytes}
-use Rattle.std.proofs.lemmas.List.{length-append, length-take, length-drop, length-map, take-append-drop, get_or-take, get_or-drop, get_or_past, take_all, nil_from_length}
-use Rattle.std.proofs.lemmas.List.Elements.{recursion_from_All, All-from_recursion, All-same}
+use Rattle.std.proofs.lemmas.List.{length-take, length-drop, length-map, take-append-drop, get_or-take, get_or-drop, get_or_past, take_all, nil_from_length}
+use Rattle.std.proofs.lemmas.List.Elements.{recursion_from_All, All-from_recursion}
 use Rattle.std.proofs.lemmas.List.Sums.{sum_by-cons}
 use Rattle.std.proofs.lemmas.Nat.{le_bytes_4}
 use Rattle.std.proofs.Math.Seq.{take-add}
@@ -11,16 +11,11 @@ use Rattle.repo_name.specs.Naming.{IsName}
 use Rattle.std.proofs.lemmas.Bool.{cases_lt}
 use Rattle.std.proofs.Common.{inl, inr}
 use Rattle.byteorder.specs.Endian.{little_number}
-use Rattle.repo_name.specs.declared.kinds.BlobKind.{BlobKind}
-use Rattle.repo_name.specs.declared.kinds.BlobKind.TheVariants.{Content, Tree}
 use Rattle.repo_pack.specs.declared.rows.Row.{Row}
 use Rattle.repo_pack.specs.PackLayout.{Item, IsItem, IsBlobLength, kind_number, entry_bytes, blobs_of, header_of, IsPack}
-use Rattle.repo_pack.specs.PackReading.{kind_of, length_in, row_in, rows_in, items_of, items_in, IsLaidOut, header_len, front_of, header_in, blobs_in, HasHeader, HasKinds, HasLengths, IsFault}
-use Rattle.repo_pack.specs.declared.faults.PackError.{PackError}
-use Rattle.repo_pack.specs.declared.faults.PackError.TheVariants as faults
-use Rattle.repo_pack.specs.PackWriting.{row_of}
-use Rattle.repo_pack.proofs.Entries.{Each, entry, length-header_of, drop-header_of}
-use Rattle.repo_pack.proofs.Packs.{each_of, header_len_is, header_in_is, blobs_in_is, rows_are}
+use Rattle.repo_pack.specs.PackReading.{kind_of, length_in, row_in, rows_in, items_of, items_in, IsLaidOut, header_len, front_of, header_in, blobs_in, HasHeader, HasKinds, HasLengths}
+use Rattle.repo_pack.specs.PackWriting.{row_of, rows_bytes}
+use Rattle.repo_pack.proofs.Entries.{Each, entry, length-header_of}
 use Rattle.repo_pack.proofs.RowLemmas.{length-rows_in}
 
 -- each number of a list is a byte's
@@ -45,10 +40,6 @@ kind_number-kind_of : (n : ℕ) → n ≤ 1 → kind_number (kind_of n) ≡ n
 kind_number-kind_of zero h = refl
 kind_number-kind_of (suc zero) h = refl
 kind_number-kind_of (suc (suc n)) h = absurd (omega arith)
-
-kind_small : (kind : BlobKind) → kind_number kind ≤ 1
-kind_small Content = omega arith
-kind_small Tree = omega arith
 
 -- a front of four bytes is that of the number in them
 four_bytes : (bytes : List ℕ) → AreBytes bytes → 4 ≤ length bytes → to_le_bytes w32 (little_number 4 bytes) ≡ take 4 bytes
@@ -77,17 +68,17 @@ kinds_after n header kinds k h =
     rw (get_or-drop 37 header (37 * k) 0, ← e) there
 
 -- the first entries are spelled as the bytes there
-rows_spelled : (n : ℕ) (header : List ℕ) → AreBytes header → 37 * n ≤ length header → ((k : ℕ) → k < n → get_or header (37 * k) 0 ≤ 1) → flat_map spelled (rows_in n header) ≡ take (37 * n) header
+rows_spelled : (n : ℕ) (header : List ℕ) → AreBytes header → 37 * n ≤ length header → ((k : ℕ) → k < n → get_or header (37 * k) 0 ≤ 1) → rows_bytes (rows_in n header) ≡ take (37 * n) header
 unfolding rows_in
 rows_spelled zero header h le kinds = refl
 rows_spelled (suc n) header h le kinds =
     let e : 37 + 37 * n ≡ 37 * suc n = omega arith in
     let front = front_spelled header h (omega arith) (kinds 0 (omega arith)) in
     let rest = rows_spelled n (drop 37 header) (AreBytes-drop 37 header h) (omega (arith, length-drop 37 header)) (kinds_after n header kinds) in
-    ap (λ t. t ++ flat_map spelled (rows_in n (drop 37 header))) front ∙ ap (λ t. take 37 header ++ t) rest
+    ap (λ t. t ++ rows_bytes (rows_in n (drop 37 header))) front ∙ ap (λ t. take 37 header ++ t) rest
     ∙ sym (take-add 37 (37 * n) header) ∙ ap (λ m. take m header) e
 
-pub header_spelled : (items : List Item) → header_of items ≡ flat_map spelled (map row_of items)
+pub header_spelled : (items : List Item) → header_of items ≡ rows_bytes (map row_of items)
 header_spelled [] = refl
 header_spelled (item ∷ items) = ap (λ t. entry item ++ t) (header_spelled items)
 
@@ -145,14 +136,9 @@ laid_out header blobs h whole few kinds lengths =
     record {
       few = omega (arith, length-map items row_of, length-rows_in n header);
       each = All-from_recursion IsItem items (items_each rows blobs (omega (arith, lengths.1)) each);
-      header_is = sym (header_spelled items ∙ ap (flat_map spelled) back ∙ rows_spelled n header h (omega arith) kinds ∙ ap (λ m. take m header) full ∙ take_all (length header) header (omega arith));
+      header_is = sym (header_spelled items ∙ ap rows_bytes back ∙ rows_spelled n header h (omega arith) kinds ∙ ap (λ m. take m header) full ∙ take_all (length header) header (omega arith));
       blobs_is = sym (blobs_back rows blobs lengths.1);
     }
-
--- the first kind of a header is 0 or 1
-first_kind : (items : List Item) → 1 ≤ length items → get_or (header_of items) 0 0 ≤ 1
-first_kind [] h = absurd (omega arith)
-first_kind (item ∷ items) h = kind_small item.kind
 
 -- the last four bytes are those of the number in them
 tail_spelled : (bytes : List ℕ) → AreBytes bytes → 4 ≤ length bytes → drop (length bytes - 4) bytes ≡ to_le_bytes w32 (header_len bytes)
@@ -205,55 +191,3 @@ read_out bytes header blobs h has kinds lengths b e =
     let P : List ℕ → List ℕ → Type 0 = λ x y. IsLaidOut x y (items_in x y) → IsPack bytes (items_in x y) in
     let there : P (header_in bytes) (blobs_in bytes) = stands bytes h has in
     (laid, subst (λ (x : List ℕ). P x blobs) (sym e) (subst (P (header_in bytes)) (sym b) there) laid)
-
--- ---- a pack passes them
-
-kinds_of_items : (items : List Item) → Each items → HasKinds (header_of items)
-kinds_of_items items each k h =
-    let n = length-header_of items each in
-    let inside : k < length items = omega arith in
-    let start = drop-header_of k items (omega arith) each in
-    let first = first_kind (drop k items) (omega (arith, length-drop k items)) in
-    let zero_more : 37 * k + 0 ≡ 37 * k = omega arith in
-    let there : get_or (header_of (drop k items)) 0 0 ≡ get_or (header_of items) (37 * k) 0 = ap (λ t. get_or t 0 0) (sym start) ∙ get_or-drop (37 * k) (header_of items) 0 0 ∙ ap (λ m. get_or (header_of items) m 0) zero_more in
-    subst (λ (m : ℕ). m ≤ 1) there first
-
-rows_lengths : (items : List Item) → Each items → AllByRecursion (λ (row : Row). IsBlobLength row.length) (map row_of items)
-rows_lengths [] each = tt
-rows_lengths (item ∷ items) each = (each.0.0, rows_lengths items each.1)
-
-pub rows_sum : (items : List Item) → sum_by (λ (row : Row). row.length) (map row_of items) ≡ length (blobs_of items)
-rows_sum [] = refl
-rows_sum (item ∷ items) =
-    sum_by-cons (λ (row : Row). row.length) (row_of item) (map row_of items) ∙ ap (λ n. length item.bytes + n) (rows_sum items) ∙ sym (length-append item.bytes (blobs_of items))
-
-lengths_of_items : (items : List Item) → Each items → HasLengths (header_of items) (blobs_of items)
-lengths_of_items items each =
-    let rows = rows_are items each in (
-      All-same (λ (row : Row). IsBlobLength row.length) _ (map row_of items) rows (All-from_recursion (λ (row : Row). IsBlobLength row.length) (map row_of items) (rows_lengths items each)),
-      ap (sum_by (λ (row : Row). row.length)) rows ∙ rows_sum items,
-    )
-
-header_stands : (bytes : List ℕ) (items : List Item) → IsPack bytes items → HasHeader bytes
-header_stands bytes items h =
-    let n = header_len_is bytes items h in
-    let k = length-header_of items (each_of bytes items h) in
-    let total = ap length h.layout ∙ length-append (blobs_of items ++ header_of items) (to_le_bytes w32 (length (header_of items))) in
-    let front = length-append (blobs_of items) (header_of items) in
-    let some = h.count.0 in
-    let few = h.count.1 in
-    (omega arith, omega arith, omega arith, omega arith, omega arith)
-
--- no bytes with a fault are a pack
-pub no_pack : (bytes : List ℕ) (fault : PackError) (items : List Item) → IsFault bytes fault → ¬ IsPack bytes items
-no_pack bytes faults.Short items f h = let four = (header_stands bytes items h).0 in omega arith
-no_pack bytes faults.Empty items f h = (header_stands bytes items h).1 f.1
-no_pack bytes faults.HeaderLength items f h = f.2 (header_stands bytes items h)
-no_pack bytes faults.BlobKind items f h =
-    f.1 (subst HasKinds (sym (header_in_is bytes items h)) (kinds_of_items items (each_of bytes items h)))
-no_pack bytes faults.Lengths items f h =
-    f.2 (subst (λ (header : List ℕ). HasLengths header (blobs_in bytes)) (sym (header_in_is bytes items h))
-    (subst (HasLengths (header_of items)) (sym (blobs_in_is bytes items h)) (lengths_of_items items (each_of bytes items h))))
-no_pack bytes faults.Closed items f h = f
-no_pack bytes faults.TooLarge items f h = f
-no_pack bytes faults.Memory items f h = f

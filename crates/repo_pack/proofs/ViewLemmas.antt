@@ -10,7 +10,7 @@ use Rattle.repo_pack.specs.PackReading.{row_in, rows_in, IsLaidOut, entry_of}
 use Rattle.repo_pack.specs.PackWriting.{row_of}
 use Rattle.repo_pack.proofs.Entries.{Each, length-header_of, rows_in-header_of, drop-header_of, row_in-entry}
 use Rattle.repo_pack.proofs.Offsets.{length-blobs_of, blob_fits, blob_at}
-use Rattle.repo_pack.proofs.Stands.{rows_sum}
+use Rattle.repo_pack.proofs.Passes.{rows_sum}
 
 pub found_at : (items : List Item) (place : ℕ) → place < length items → (item : Item) × (slice_get items place ≡ Some item)
 found_at [] place h = absurd (omega arith)

@@ -11,10 +11,11 @@ use Rattle.repo_pack.specs.declared.rows.Row.{Row}
 use Rattle.repo_pack.specs.declared.places.Place.{Place}
 use Rattle.repo_pack.specs.PackLayout.{Item, IsItem, IsNamed, blobs_of, header_of, offset_of, IsTruePack}
 use Rattle.repo_pack.specs.PackReading.{items_of}
-use Rattle.repo_pack.specs.PackWriting.{row_of, rows_bytes, IsFilled, places_from, ArePlaces}
+use Rattle.repo_pack.specs.PackWriting.{row_of, rows_bytes, ending_of, IsFilled, places_from, ArePlaces}
 use Rattle.repo_pack.proofs.Entries.{items_of-rows, length-header_of}
 use Rattle.repo_pack.proofs.Offsets.{offset_of-cons}
-use Rattle.repo_pack.proofs.Stands.{header_spelled, rows_sum}
+use Rattle.repo_pack.proofs.Passes.{rows_sum}
+use Rattle.repo_pack.proofs.Stands.{header_spelled}
 
 -- rows and bytes of some items show these
 pub filled_shows : (rows : List Row) (blobs : List ℕ) (items : List Item) → rows ≡ map row_of items → blobs ≡ blobs_of items → items_of rows blobs ≡ items
@@ -67,7 +68,7 @@ module _ (rows : List Row) (blobs : List ℕ) (target : ℕ) (items : List Item)
   rows_bytes_are : rows_bytes rows ≡ header_of items
   rows_bytes_are = ap rows_bytes filled.rows_are ∙ sym (header_spelled items)
 
-  pub sealed_is : 1 ≤ length items → IsTruePack (blobs ++ (rows_bytes rows ++ to_le_bytes w32 (length (rows_bytes rows)))) items
+  pub sealed_is : 1 ≤ length items → IsTruePack (blobs ++ ending_of rows) items
   sealed_is some = record {
     pack = record {
       count = (some, filled.few);
@@ -79,7 +80,7 @@ module _ (rows : List Row) (blobs : List ℕ) (target : ℕ) (items : List Item)
     named = filled.named;
   }
 
-  pub sealed_length : length (blobs ++ (rows_bytes rows ++ to_le_bytes w32 (length (rows_bytes rows)))) ≤ 25_317_379
+  pub sealed_length : length (blobs ++ ending_of rows) ≤ 25_317_379
   sealed_length =
       let header = ap length rows_bytes_are ∙ length-header_of items (recursion_from_All IsItem items filled.each) in
       let few = filled.few in
@@ -95,9 +96,6 @@ module _ (rows : List Row) (blobs : List ℕ) (target : ℕ) (items : List Item)
       let room = filled.room in
       let high = filled.bounds.1 in
       omega arith
-
-  pub count_is : length rows ≡ length items
-  count_is = ap length filled.rows_are ∙ length-map items row_of
 
 -- the places of the entries of some items, from an offset on
 places_at : (pack : Name) (offset : ℕ) (items : List Item) (k : ℕ) (item : Item) → slice_get items k ≡ Some item

@@ -13,6 +13,10 @@ pub record Item : Type 0 where
   pub name : Name
   pub bytes : List ℕ
 
+-- a blob under its own name
+abbrev pub item_of : BlobKind → List ℕ → Item
+item_of kind bytes = record { kind = kind; name = naming.name bytes; bytes = bytes }
+
 -- a blob has 1 to 8,388,608 bytes
 abbrev pub IsBlobLength : ℕ → Type 0
 IsBlobLength n = (1 ≤ n) × (n ≤ 8_388_608)
@@ -67,5 +71,5 @@ PacksAreOne = (bytes : List ℕ) (a b : List Item) → IsPack bytes a → IsPack
 
 -- the bytes at an item's offset and length are the item's
 abbrev pub RangesAreItems : Type 0
-RangesAreItems = (bytes : List ℕ) (items : List Item) (place : ℕ) (item : Item) → IsPack bytes items → slice_get items place ≡ Some item
-    → range bytes (offset_of items place) (length item.bytes) ≡ Some item.bytes
+RangesAreItems = (bytes : List ℕ) (items : List Item) (place : ℕ) (item : Item)
+    → IsPack bytes items → slice_get items place ≡ Some item → range bytes (offset_of items place) (length item.bytes) ≡ Some item.bytes

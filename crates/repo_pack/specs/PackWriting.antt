@@ -1,5 +1,6 @@
 use Rattle.std.specs.Prelude.{◌≡◌, ◌≤◌, ◌<◌, ◌+◌, ◌++◌, ◌∷◌, [], ◌⊎◌, ℕ, List, length, map, slice_get, Some}
 use Rattle.std.specs.List.{All, flat_map}
+use Rattle.std.specs.Int.{w32, to_le_bytes}
 use Rattle.repo_name.specs.declared.names.Name.{Name}
 use Rattle.repo_pack.specs.declared.rows.Row.{Row}
 use Rattle.repo_pack.specs.declared.places.Place.{Place}
@@ -43,6 +44,10 @@ row_of item = record { kind = item.kind; name = item.name; length = length item.
 abbrev pub rows_bytes : List Row → List ℕ
 rows_bytes rows = flat_map (λ row. entry_bytes row.kind row.length row.name) rows
 
+-- what these entries end a pack with: they, one after another, and their length in four bytes
+abbrev pub ending_of : List Row → List ℕ
+ending_of rows = rows_bytes rows ++ to_le_bytes w32 (length (rows_bytes rows))
+
 -- rows and bytes are those of these items, whose names are true, and within what the target allows
 pub record IsFilled (rows : List Row) (blobs : List ℕ) (target : ℕ) (items : List Item) : Type 0 where
   pub bounds : (1_024 ≤ target) × (target ≤ 16_777_216)
@@ -56,9 +61,15 @@ pub record IsFilled (rows : List Row) (blobs : List ℕ) (target : ℕ) (items :
 -- where the blobs of these entries lie in a pack, the first of them at this offset
 unfoldable pub places_from : Name → ℕ → List Row → List Place
 places_from pack offset [] = []
-places_from pack offset (row ∷ rows) = record { pack = pack; offset = offset; length = row.length } ∷ places_from pack (offset + row.length) rows
+places_from pack offset (row ∷ rows) =
+    record { pack = pack; offset = offset; length = row.length } ∷ places_from pack (offset + row.length) rows
+
+-- where an item lies that begins at this offset of a pack
+abbrev pub place_of : Name → ℕ → Item → Place
+place_of pack offset item = record { pack = pack; offset = offset; length = length item.bytes }
 
 -- these are the items' places in a pack, in the items' order
 pub record ArePlaces (pack : Name) (items : List Item) (places : List Place) : Type 0 where
   pub count : length places ≡ length items
-  pub each : (k : ℕ) (item : Item) → slice_get items k ≡ Some item → slice_get places k ≡ Some (record { pack = pack; offset = offset_of items k; length = length item.bytes })
+  pub each : (k : ℕ) (item : Item) → slice_get items k ≡ Some item
+      → slice_get places k ≡ Some (place_of pack (offset_of items k) item)

@@ -1,6 +1,6 @@
 //! Why a blob isn't added, or bytes aren't read.
 
-use std::alloc::{AllocError, AllocFailed};
+use std::alloc::AllocError;
 use thiserror::Error;
 
 /// Why a writer refuses a blob, or why bytes are no pack.
@@ -12,7 +12,7 @@ pub enum PackError {
     /// The blob has more than 8,388,608 bytes.
     #[error("the blob is too large for a pack")]
     TooLarge,
-    /// There is no memory to add the blob.
+    /// There is no memory to add the blob, or to seal the pack.
     #[error("out of memory")]
     Memory,
     /// There are fewer than the four bytes of the header's length.

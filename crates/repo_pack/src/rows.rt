@@ -1,12 +1,11 @@
 //! The entries of a header, each of 37 bytes: a kind, a length in four bytes, the lowest first, and a name.
 
-ghost use Rattle.std.specs.Prelude.{◌≡◌, ◌≤◌, ◌<◌, ◌+◌, ◌*◌, ◌/◌, ◌++◌, ◌↔◌, length, drop, IsTrue, IfSome, IfNone, IfOk};
+ghost use Rattle.std.specs.Prelude.{◌≡◌, ◌≤◌, ◌<◌, ◌+◌, ◌*◌, ◌↔◌, length, drop, IsTrue, IsSome, IfSome, IfOk};
 ghost use Rattle.std.specs.List.{All, sum_by};
-ghost use Rattle.std.specs.Int.{w32, to_le_bytes};
 ghost use Rattle.repo_name.specs.Naming.{IsName};
 ghost use Rattle.repo_pack.specs.PackLayout.{IsBlobLength, kind_number};
-ghost use Rattle.repo_pack.specs.PackReading.{kind_of, length_in, row_in, rows_in, HasKinds, HasLengths};
-ghost use Rattle.repo_pack.specs.PackWriting.{rows_bytes};
+ghost use Rattle.repo_pack.specs.PackReading.{kind_of, length_in, row_in, rows_in, header_rows, HasKinds, HasLengths};
+ghost use Rattle.repo_pack.specs.PackWriting.{ending_of};
 
 use byteorder::{ByteOrder, LittleEndian};
 use repo_name::{BlobKind, Name};
@@ -99,9 +98,8 @@ pub fn has_kinds(header: &[u8]) -> bool
 /// The sum of the lengths, if each is a blob's.
 fn total_length(header: &[u8]) -> Option<u64>
     requires { length header.now ≤ 151_552 }
-    ensures found { IfSome result (λ total. All (λ row. IsBlobLength row.length) (rows_in (length header.now / 37) header.now)
-        × (total ≡ sum_by (λ row. row.length) (rows_in (length header.now / 37) header.now))) }
-    ensures none { IfNone result (¬ All (λ row. IsBlobLength row.length) (rows_in (length header.now / 37) header.now)) }
+    ensures each { IsSome result ↔ All (λ row. IsBlobLength row.length) (header_rows header.now) }
+    ensures total { IfSome result (λ total. total ≡ sum_by (λ row. row.length) (header_rows header.now)) }
 {
     let mut total = 0;
     for place in 0..header.len() / ENTRY_BYTES {
@@ -141,7 +139,7 @@ pub fn row_and_offset(header: &[u8], place: usize) -> (Row, u64)
 /// The header of these entries, and behind it its length.
 pub fn header_bytes(alloc: Global, rows: &[Row]) -> Result<Vec<u8>, AllocError>
     requires { length rows.now ≤ 4_096 }
-    ensures { IfOk result (λ header. header.items ≡ rows_bytes rows.now ++ to_le_bytes w32 (length (rows_bytes rows.now))) }
+    ensures { IfOk result (λ header. header.items ≡ ending_of rows.now) }
 {
     let mut header = Vec::new(alloc);
     for row in rows {

@@ -39,7 +39,8 @@ impl<'a> Model for PackView<'a> {
 
 /// The bytes before the header, and the header.
 fn parts(bytes: &[u8]) -> Result<(&[u8], &[u8]), PackError>
-    ensures ok { IfOk result (λ x. HasHeader bytes.now × (x.0.now ≡ blobs_in bytes.now) × (x.1.now ≡ header_in bytes.now)) }
+    ensures ok { IfOk result (λ x. HasHeader bytes.now
+        × (x.0.now ≡ blobs_in bytes.now) × (x.1.now ≡ header_in bytes.now)) }
     ensures fault { IfErr result (IsFault bytes.now) }
 {
     if bytes.len() < LENGTH_BYTES {
@@ -95,7 +96,8 @@ impl<'a> PackView<'a> {
     /// What the pack tells of the blob at a place.
     pub fn entry(&self, place: usize) -> Entry
         requires { place < length self.now }
-        ensures { IsSomeAnd (slice_get self.now place) (λ item. result ≡ entry_of item (offset_of self.now place)) }
+        ensures { IsSomeAnd (slice_get self.now place)
+            (λ item. result ≡ entry_of item (offset_of self.now place)) }
     {
         let (row, offset) = row_and_offset(self.header, place);
         Entry {
@@ -120,7 +122,8 @@ impl<'a> PackView<'a> {
     /// Whether the blob at a place has the name that its entry gives it.
     pub fn name_holds(&self, place: usize) -> bool
         requires { place < length self.now }
-        ensures { IsSomeAnd (slice_get self.now place) (λ item. IsTrue result ↔ (item.name ≡ name item.bytes)) }
+        ensures { IsSomeAnd (slice_get self.now place)
+            (λ item. IsTrue result ↔ (item.name ≡ name item.bytes)) }
     {
         name_of(self.blob(place)) == self.entry(place).name
     }

@@ -2,10 +2,9 @@
 
 ghost use Rattle.std.specs.Prelude.{◌≡◌, ◌≤◌, ◌<◌, ◌+◌, ◌^◌, ◌++◌, [], ◌↔◌, length, IsTrue, IfOk, IfErr, OnOk, OnErr, IsErrOf, vec_len, vec_capacity};
 ghost use Rattle.std.specs.List.{sum_by};
-ghost use Rattle.std.specs.Int.{w32, to_le_bytes};
 ghost use Rattle.repo_name.specs.Naming as naming;
-ghost use Rattle.repo_pack.specs.PackLayout.{IsTruePack};
-ghost use Rattle.repo_pack.specs.PackWriting.{IsDue, IsOpen, IsRefusal, with_item, rows_bytes, places_from, ArePlaces};
+ghost use Rattle.repo_pack.specs.PackLayout.{item_of, IsTruePack};
+ghost use Rattle.repo_pack.specs.PackWriting.{IsDue, IsOpen, IsRefusal, with_item, ending_of, places_from, ArePlaces};
 
 use crate::faults::PackError;
 use crate::places::Place;
@@ -88,7 +87,7 @@ fn add_places(places: &mut Vec<Place>, pack: Name, rows: &[Row])
 fn finish(blobs: &mut Vec<u8>, rows: &[Row]) -> Result<(Name, Vec<Place>), AllocError>
     requires few { length rows.now ≤ 4_096 }
     requires small { sum_by (λ row. row.length) rows.now < 2 ^ 32 }
-    ensures ok { OnOk result (blobs.new.items ≡ blobs.old.items ++ (rows_bytes rows.now ++ to_le_bytes w32 (length (rows_bytes rows.now)))) }
+    ensures ok { OnOk result (blobs.new.items ≡ blobs.old.items ++ ending_of rows.now) }
     ensures name { IfOk result (λ x. x.0 ≡ naming.name blobs.new.items) }
     ensures places { IfOk result (λ x. x.1.items ≡ places_from x.0 0 rows.now) }
     ensures err { OnErr result (blobs.new.items ≡ blobs.old.items) }
@@ -160,7 +159,7 @@ impl PackWriter {
         requires row { row.length ≡ length bytes.now }
         requires name { row.name ≡ naming.name bytes.now }
         requires whole { naming.IsName row.name }
-        ensures ok { OnOk result (self.new ≡ with_item self.old (record { kind = row.kind; name = row.name; bytes = bytes.now })) }
+        ensures ok { OnOk result (self.new ≡ with_item self.old (item_of row.kind bytes.now)) }
         ensures err { OnErr result (self.new ≡ self.old) }
     {
         self.rows.reserve(1)?;
@@ -175,7 +174,7 @@ impl PackWriter {
     /// changes nothing.
     pub fn add(&mut self, kind: BlobKind, bytes: &[u8]) -> Result<(), PackError>
         requires { 1 ≤ length bytes.now }
-        ensures ok { OnOk result (self.new ≡ with_item self.old (record { kind = kind; name = naming.name bytes.now; bytes = bytes.now })) }
+        ensures ok { OnOk result (self.new ≡ with_item self.old (item_of kind bytes.now)) }
         ensures room { OnOk result (IsOpen self.old × (length bytes.now ≤ 8_388_608)) }
         ensures refusal { IfErr result (IsRefusal self.old (length bytes.now)) }
         ensures err { OnErr result (self.new ≡ self.old) }
@@ -189,7 +188,7 @@ impl PackWriter {
     pub fn add_named(&mut self, kind: BlobKind, name: &Name, bytes: &[u8]) -> Result<(), PackError>
         requires some { 1 ≤ length bytes.now }
         requires named { name.now ≡ naming.name bytes.now }
-        ensures ok { OnOk result (self.new ≡ with_item self.old (record { kind = kind; name = name.now; bytes = bytes.now })) }
+        ensures ok { OnOk result (self.new ≡ with_item self.old (item_of kind bytes.now)) }
         ensures room { OnOk result (IsOpen self.old × (length bytes.now ≤ 8_388_608)) }
         ensures refusal { IfErr result (IsRefusal self.old (length bytes.now)) }
         ensures err { OnErr result (self.new ≡ self.old) }

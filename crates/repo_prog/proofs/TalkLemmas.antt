@@ -6,6 +6,8 @@ use Rattle.std.proofs.lemmas.List.{append-nil}
 use Rattle.std.proofs.lemmas.List.Concat.{flat_map-append}
 use Rattle.repo_wire.specs.declared.faults.Fault.{Fault}
 use Rattle.repo_wire.specs.declared.faults.WireError.{WireError}
+use Rattle.repo_wire.specs.declared.messages.Code.{Code}
+use Rattle.repo_wire.specs.declared.messages.Say.{Say}
 use Rattle.repo_wire.specs.declared.messages.Reply.{Reply}
 use Rattle.repo_wire.specs.declared.messages.Request.{Request}
 use Rattle.repo_wire.specs.Messages.{requests}
@@ -15,7 +17,7 @@ use Rattle.repo_wire.proofs.Streams.{readers_follow}
 use Rattle.repo_store.specs.Memory.{store_of}
 use Rattle.repo_prog.specs.declared.errors.FramesError.{FramesError}
 use Rattle.repo_prog.specs.declared.talks.Talk.{Talk}
-use Rattle.repo_prog.specs.FramesRun.{Past, AllTold, SomeTold, Gives}
+use Rattle.repo_prog.specs.FramesRun.{TellNoFault, Past, AllTold, SomeTold, Gives}
 use Rattle.repo_prog.specs.HexLines.{AreLines, printed, reply_line}
 use Rattle.repo_prog.specs.Output.{AppendsPart}
 use Rattle.repo_prog.specs.Talks.{Has, Talks, RepliesNext, HasSameLines, with_reply, wire_error}
@@ -36,7 +38,7 @@ pub some_told : (start : Option (List ℕ)) (talk : Talk) (past : Past) (n : ℕ
 some_told start talk past n contents has written = record {
   spelled = has.spelled;
   stream = left_at past.bytes past.asked talk.reader.unread talk.reader.fault has.reader;
-  answered = (store_of talk.shelf, has.run);
+  answered = (store_of talk.shelf, has.run, has.sound);
   written = (n, written);
 }
 
@@ -55,7 +57,7 @@ memory_told input rest start talk past contents lines talks = (past, rest, lines
 pub reply_told : (input rest : List ℕ) (start : Option (List ℕ)) (talk new : Talk) (past : Past) (contents : Option (List ℕ)) (error : FramesError) → AreLines input past.lines rest
     → Talks start talk past contents → RepliesNext past (Err error) new → Gives input start (Err error) contents
 reply_told input rest start talk new past contents (FramesError.Wire fault) lines talks h =
-    (past, rest, lines, record { spelled = talks.has.spelled; stream = h; answered = (store_of talk.shelf, talks.has.run); written = talks.written })
+    (past, rest, lines, record { spelled = talks.has.spelled; stream = h; answered = (store_of talk.shelf, talks.has.run, talks.has.sound); written = talks.written })
 reply_told input rest start talk new past contents FramesError.Memory lines talks h = memory_told input rest start talk past contents lines talks
 reply_told input rest start talk new past contents FramesError.Read lines talks h = absurd h
 reply_told input rest start talk new past contents FramesError.Write lines talks h = absurd h
@@ -93,3 +95,8 @@ pub limit_told : (input rest : List ℕ) (start : Option (List ℕ)) (talk : Tal
     → Talks start talk past contents → 2 ^ 32 ≤ talk.answered → Gives input start (Err FramesError.Limit) contents
 limit_told input rest start talk past contents lines talks many =
     (past, rest, lines, whole_told start talk past contents talks, inl (omega (arith, talks.has.answered)))
+
+-- one more reply that tells no fault
+pub sound_more : (replies : List Reply) (reply : Reply) → TellNoFault replies → (reply.say ≡ Say.Refused Code.Fault → ⊥) → TellNoFault (replies ++ reply ∷ [])
+sound_more [] reply h sound = (sound, tt)
+sound_more (r ∷ replies) reply h sound = (h.0, sound_more replies reply h.1 sound)

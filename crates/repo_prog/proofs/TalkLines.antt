@@ -1,5 +1,4 @@
 use Rattle.std.proofs.Common.{◌≡◌, ◌+◌, ◌++◌, ◌∷◌, [], ℕ, List, Option, Some, None, Result, Ok, Err, OnOk, length, refl, sym, subst, arith, append_assoc, length-append, ◌∙◌, ap}
-use Rattle.std.specs.Io.KnownBytes.{Consumes, IsAtEnd}
 use Rattle.hex.specs.Hex.{decode_of}
 use Rattle.repo_wire.specs.declared.messages.Request.{Request}
 use Rattle.repo_wire.specs.Messages.{requests}
@@ -33,6 +32,7 @@ fed_talks start old new past contents line bytes talks spelled reader shelf answ
         spelled = spell_more past.lines past.bytes line bytes talks.has.spelled spelled;
         reader = subst P (sym reader) ((readers_follow requests).fed_on past.bytes bytes past.asked old.reader talks.has.reader);
         run = subst Q (sym shelf) talks.has.run;
+        sound = talks.has.sound;
         answered = answered ∙ talks.has.answered;
         number = omega (arith, number, talks.has.number, length-append past.lines (line ∷ []));
       };
@@ -75,6 +75,7 @@ same_rests start old new past contents reader shelf answered number rests =
           spelled = has.spelled;
           reader = subst P (sym reader) has.reader;
           run = subst Q (sym shelf) has.run;
+          sound = has.sound;
           answered = answered ∙ has.answered;
           number = number ∙ has.number;
         };
@@ -99,19 +100,7 @@ byte_taken input ahead start old new past contents byte other line reader shelf 
 -- a talk that rests has told all
 pub all_told : (start : Option (List ℕ)) (talk : Talk) (past : Past) (contents : Option (List ℕ)) → Rests start talk past contents → AllTold start past (Waits talk.reader.unread) contents
 all_told start talk past contents rests =
-    record { spelled = rests.talks.has.spelled; stream = rests.waits; answered = (store_of talk.shelf, rests.talks.has.run); written = rests.talks.written }
-
--- some known bytes were read, and these are left
-pub left_after : (old new : Option (List ℕ)) (ahead bytes : List ℕ) → old ≡ Some ahead → Consumes old new bytes → (after : List ℕ) × (new ≡ Some after) × (ahead ≡ bytes ++ after)
-left_after None new ahead bytes same h = absurd (cc)
-left_after (Some xs) None ahead bytes same h = absurd h
-left_after (Some xs) (Some ys) ahead bytes same h = (ys, refl, cc)
-
--- none was, at the end
-pub none_after : (old new : Option (List ℕ)) (ahead : List ℕ) → old ≡ Some ahead → Consumes old new [] → IsAtEnd new → ahead ≡ []
-none_after None new ahead same h end = absurd (cc)
-none_after (Some xs) None ahead same h end = absurd h
-none_after (Some xs) (Some ys) ahead same h end = cc
+    record { spelled = rests.talks.has.spelled; stream = rests.waits; answered = (store_of talk.shelf, rests.talks.has.run, rests.talks.has.sound); written = rests.talks.written }
 
 -- a new talk rests before the input
 pub begun : (input : List ℕ) (start : Option (List ℕ)) (talk : Talk) → Rests start talk nothing start → talk.line.items ≡ [] → RestsInside input start talk nothing input start

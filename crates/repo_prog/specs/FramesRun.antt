@@ -1,7 +1,9 @@
 use Rattle.std.specs.Prelude.{◌≡◌, ◌≢◌, ◌⊎◌, ◌+◌, ◌≤◌, ◌^◌, ◌++◌, ◌∷◌, [], ⊤, ℕ, List, length, take, Option, Some, None, Result, Ok, Err}
 use Rattle.std.specs.Io.KnownBytes.{Appends}
+use Rattle.repo_wire.specs.declared.messages.Code.{Code}
 use Rattle.repo_wire.specs.declared.messages.Reply.{Reply}
 use Rattle.repo_wire.specs.declared.messages.Request.{Request}
+use Rattle.repo_wire.specs.declared.messages.Say.{Say}
 use Rattle.repo_wire.specs.Messages.{requests}
 use Rattle.repo_wire.specs.Stream.{AreFrames, IsStream, Ending, Waits, Fails}
 use Rattle.repo_store.specs.Runs.{Run}
@@ -16,9 +18,14 @@ pub record Past : Type 0 where
   pub asked : List Request
   pub replies : List Reply
 
--- the replies are those of a run of the store machine over the requests, from the empty store
+-- none of the replies says that the device failed
+abbrev pub TellNoFault : List Reply → Type 0
+TellNoFault [] = ⊤
+TellNoFault (reply ∷ replies) = (reply.say ≢ Say.Refused Code.Fault) × TellNoFault replies
+
+-- the replies are those of a run of the store machine over the requests, from the empty store, whose device never failed
 abbrev pub IsAnswered : Past → Type 0
-IsAnswered past = (last : Store) × Run empty past.asked past.replies last
+IsAnswered past = (last : Store) × Run empty past.asked past.replies last × TellNoFault past.replies
 
 -- the bytes read as the requests and this ending, each was answered, and the lines of all replies were written
 pub record AllTold (start : Option (List ℕ)) (past : Past) (ending : Ending) (contents : Option (List ℕ)) : Type 0 where

@@ -11,7 +11,7 @@ use Rattle.repo_store.specs.Runs.{Run}
 use Rattle.repo_store.specs.Stores.{empty}
 use Rattle.repo_prog.specs.declared.errors.FramesError.{FramesError}
 use Rattle.repo_prog.specs.declared.talks.Talk.{Talk}
-use Rattle.repo_prog.specs.FramesRun.{Past, Gives}
+use Rattle.repo_prog.specs.FramesRun.{Past, TellNoFault, Gives}
 use Rattle.repo_prog.specs.HexLines.{AreLines, IsLine, Spell, printed}
 
 -- the error of a reader's error
@@ -32,6 +32,7 @@ pub record Has (talk : Talk) (past : Past) : Type 0 where
   pub spelled : Spell past.lines past.bytes
   pub reader : Follows requests past.bytes past.asked talk.reader
   pub run : Run empty past.asked past.replies (store_of talk.shelf)
+  pub sound : TellNoFault past.replies
   pub answered : talk.answered ≡ length past.asked
   pub number : talk.number ≡ length past.lines
 

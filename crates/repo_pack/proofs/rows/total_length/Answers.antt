@@ -18,10 +18,13 @@ loop-place-preserved c =
       small = omega arith;
     }
 
-pub returns-then-not-is_blob_length-clause-none : goal.returns-then-not-is_blob_length-clause-none
-returns-then-not-is_blob_length-clause-none c each =
-    let place = c.loop-place.place in
-    let len : c.length_at-length.result ≡ length_in (drop (37 * place) c.args.header.now) = c.length_at-length.ensures ∙ ap length_in c.from_entry.ensures in
-    let one = each_at (length c.args.header.now / 37) place c.args.header.now c.loop-place-test.true each in
-    let yes : c.is_blob_length.result ≡ true = c.is_blob_length.ensures.1 (subst (λ (n : ℕ). IsBlobLength n) (sym len) one) in
-    cc
+pub returns-then-not-is_blob_length-clause-each : goal.returns-then-not-is_blob_length-clause-each
+returns-then-not-is_blob_length-clause-each c = (
+  λ none. absurd cc,
+  λ each.
+      let place = c.loop-place.place in
+      let len : c.length_at-length.result ≡ length_in (drop (37 * place) c.args.header.now) = c.length_at-length.ensures ∙ ap length_in c.from_entry.ensures in
+      let one = each_at (length c.args.header.now / 37) place c.args.header.now c.loop-place-test.true each in
+      let yes : c.is_blob_length.result ≡ true = c.is_blob_length.ensures.1 (subst (λ (n : ℕ). IsBlobLength n) (sym len) one) in
+      cc,
+)

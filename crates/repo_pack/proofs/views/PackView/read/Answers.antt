@@ -1,6 +1,7 @@
 use Rattle.std.proofs.Common.{arith}
 use Rattle.std.proofs.lemmas.Result.{err_from_is_err_and}
-use Rattle.repo_pack.proofs.Stands.{no_pack, read_out}
+use Rattle.repo_pack.proofs.Passes.{no_pack}
+use Rattle.repo_pack.proofs.Stands.{read_out}
 use Rattle.repo_pack.proofs.views.PackView.read.Goals as goal
 
 pub returns-in_err-blobs-clause-none : goal.returns-in_err-blobs-clause-none

@@ -1,8 +1,7 @@
 use Rattle.std.proofs.Common.{◌++◌, ℕ, List, length, sym, ap, subst, ◌∙◌, arith}
-use Rattle.std.specs.Int.{w32, to_le_bytes}
 use Rattle.repo_pack.specs.declared.rows.Row.{Row}
 use Rattle.repo_pack.specs.PackLayout.{IsTruePack}
-use Rattle.repo_pack.specs.PackWriting.{Packing, IsFilled, rows_bytes, places_from, ArePlaces}
+use Rattle.repo_pack.specs.PackWriting.{Packing, IsFilled, ending_of, places_from, ArePlaces}
 use Rattle.repo_pack.proofs.WriterLemmas.{sealed_is, sealed_length, lengths_small, places_are}
 use Rattle.repo_pack.proofs.writers.PackWriter.seal.Goals as goal
 
@@ -12,7 +11,7 @@ finish-requires-clause-small c =
 
 -- the bytes that end in the header of some rows
 ended : List ℕ → List Row → List ℕ
-ended blobs rows = blobs ++ (rows_bytes rows ++ to_le_bytes w32 (length (rows_bytes rows)))
+ended blobs rows = blobs ++ ending_of rows
 
 pub returns-in-Ok-clause-pack : goal.returns-in-Ok-clause-pack
 unfolding ended

@@ -1,4 +1,4 @@
-use Rattle.std.proofs.Common.{◌∷◌, [], Option, Ok, subst, arith, length-append}
+use Rattle.std.proofs.Common.{◌≡◌, ◌<◌, ◌-◌, ◌^◌, ◌⊎◌, inl, inr, ◌∷◌, [], Option, Ok, subst, arith, length-append}
 use Rattle.repo_wire.specs.declared.messages.Request.{Request}
 use Rattle.repo_wire.specs.Messages.{requests}
 use Rattle.repo_wire.specs.Reading.{NextMessage}
@@ -6,8 +6,13 @@ use Rattle.repo_wire.proofs.Streams.{readers_follow}
 use Rattle.repo_store.proofs.RunLemmas.{run_on}
 use Rattle.repo_store.specs.Memory.{store_of}
 use Rattle.repo_store.specs.Stores.{empty}
-use Rattle.repo_prog.proofs.TalkLemmas.{reply_failed}
+use Rattle.repo_prog.proofs.TalkLemmas.{reply_failed, sound_more}
 use Rattle.repo_prog.proofs.talks.Talk.next_reply.Goals as goal
+
+-- a shelf in memory counts no failure
+no_cause : (0 < 0) ⊎ (0 ≡ 2 ^ 64 - 1) → ⊥
+no_cause (inl h) = absurd (omega arith)
+no_cause (inr h) = absurd (omega arith)
 
 pub returns-in-Ok-Some-clause-next : goal.returns-in-Ok-Some-clause-next
 returns-in-Ok-Some-clause-next c past has =
@@ -19,6 +24,7 @@ returns-in-Ok-Some-clause-next c past has =
         spelled = has.spelled;
         reader = (readers_follow requests).given past.bytes past.asked request c.args.self.now.reader c.next_request.new.self has.reader given;
         run = run_on empty past.asked past.replies (store_of c.args.self.now.shelf) request c.answer-reply.result (store_of c.answer-reply.new.shelf) has.run (c.answer-reply.ensures.replies tt);
+        sound = sound_more past.replies c.answer-reply.result has.sound (λ fault. no_cause ((c.answer-reply.ensures.cause tt).1 fault));
         answered = omega (arith, has.answered, length-append past.asked (request ∷ []));
         number = has.number;
       },
