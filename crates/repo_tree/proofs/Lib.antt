@@ -1,0 +1,9 @@
+pub mod NameLemmas
+pub mod TreeLemmas
+pub mod SpellingLemmas
+pub mod LengthLemmas
+pub mod SnapshotLemmas
+pub mod ConfigLemmas
+pub mod ItemLemmas
+pub mod OrderLemmas
+pub mod WritingLemmas

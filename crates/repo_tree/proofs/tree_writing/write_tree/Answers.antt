@@ -1,0 +1,28 @@
+use Rattle.std.proofs.Common.{rules, ◌≡◌, ◌<◌, ◌≤◌, ◌∙◌, ℕ, List, length, Some, ap, subst}
+use Rattle.serde_json.specs.Data.{depth}
+use Rattle.serde_json.specs.View.{view}
+use Rattle.serde_json.specs.Written.{has_float, compact_text}
+use Rattle.repo_tree.specs.TreeWriting.{tree_data, tree_text}
+use Rattle.repo_tree.proofs.WritingLemmas.{tree_float, tree_depth, tree_reads}
+use Rattle.repo_tree.proofs.tree_writing.write_tree.Goals as goal
+
+pub returns-then-len-gt-LIMIT-clause-fault : goal.returns-then-len-gt-LIMIT-clause-fault
+returns-then-len-gt-LIMIT-clause-fault c =
+    let value : view c.in_ok-value.value ≡ tree_data c.args.nodes.now = c.in_ok-value.ensures.value in
+    let text : c.in_ok-text.text.items ≡ tree_text c.args.nodes.now =
+    c.in_ok-text.ensures.text (ap has_float value ∙ tree_float c.args.nodes.now) ∙ ap compact_text value in
+    let long : 8388608 < length c.in_ok-text.text.items = search rules in
+    (c.in_ok-check_nodes.ensures.ok, subst (λ (t : List ℕ). 8388608 < length t) text long)
+
+pub returns-clause-text : goal.returns-clause-text
+returns-clause-text c =
+    let value : view c.in_ok-value.value ≡ tree_data c.args.nodes.now = c.in_ok-value.ensures.value in
+    c.in_ok-text.ensures.text (ap has_float value ∙ tree_float c.args.nodes.now) ∙ ap compact_text value
+
+pub returns-clause-reads : goal.returns-clause-reads
+returns-clause-reads c =
+    let value : view c.in_ok-value.value ≡ tree_data c.args.nodes.now = c.in_ok-value.ensures.value in
+    let short : length c.in_ok-text.text.items ≤ 8388608 = search rules in
+    let shallow : depth (view c.in_ok-value.value) ≤ 127 = rw value (tree_depth c.args.nodes.now) in
+    let reads = c.in_ok-text.ensures.reads_back shallow ∙ ap Some value in
+    tree_reads c.args.nodes.now c.in_ok-text.text.items c.in_ok-check_nodes.ensures.ok c.in_ok-value.ensures.named short c.in_ok-text.ensures.utf8 reads
