@@ -3,9 +3,14 @@
 #![tactic(auto)]
 
 use anyhow::{Result, bail};
+use chunk::{chunked, random_bytes};
 use repo_name::{BlobKind, Name, name_of};
 use repo_pack::{PackError, PackView, PackWriter};
 use std::alloc::{AllocError, Global};
+use streams::streamed;
+
+mod chunk;
+mod streams;
 
 /// The size at which each kernel runs with no words.
 const TINY: usize = 1000;
@@ -23,6 +28,12 @@ enum Kernel {
     Name,
     /// A pack of them, sealed, read again, and its names compared.
     Pack,
+    /// A stream of Put frames, fed in pieces and read.
+    Frames,
+    /// Random bytes alone, of which the last 64 are named.
+    Random,
+    /// The lengths of the chunks of random bytes.
+    Chunk,
 }
 
 /// So many bytes, with no long run of equal ones.
@@ -58,10 +69,15 @@ fn packed(alloc: Global, bytes: &[u8]) -> Result<Name, PackError> {
 }
 
 fn digest_of(alloc: Global, kernel: Kernel, size: usize) -> Result<Name> {
-    let bytes = bytes_of(alloc, size)?;
     match kernel {
-        Kernel::Name => Ok(name_of(&bytes)),
-        Kernel::Pack => Ok(packed(alloc, &bytes)?),
+        Kernel::Name => Ok(name_of(&bytes_of(alloc, size)?)),
+        Kernel::Pack => Ok(packed(alloc, &bytes_of(alloc, size)?)?),
+        Kernel::Frames => Ok(streamed(alloc, size)?),
+        Kernel::Random => {
+            let bytes = random_bytes(alloc, size)?;
+            Ok(name_of(&bytes[bytes.len().saturating_sub(64)..]))
+        }
+        Kernel::Chunk => chunked(alloc, &random_bytes(alloc, size)?),
     }
 }
 
@@ -70,6 +86,9 @@ fn run(rt: &HostRuntime, kernel: Kernel, size: usize) -> Result<()> {
     let word = match kernel {
         Kernel::Name => "name",
         Kernel::Pack => "pack",
+        Kernel::Frames => "frames",
+        Kernel::Random => "random",
+        Kernel::Chunk => "chunk",
     };
     println!(rt; "{word} {size} {digest}")?;
     Ok(())
@@ -80,13 +99,19 @@ fn main(rt: HostRuntime) -> Result<()> {
     match words.as_slice() {
         [_] => {
             run(&rt, Kernel::Name, TINY)?;
-            run(&rt, Kernel::Pack, TINY)
+            run(&rt, Kernel::Pack, TINY)?;
+            run(&rt, Kernel::Frames, TINY)?;
+            run(&rt, Kernel::Random, TINY)?;
+            run(&rt, Kernel::Chunk, TINY)
         }
         [_, kernel, size] => {
             let size: usize = size.as_str().parse()?;
             match kernel.as_str() {
                 "name" => run(&rt, Kernel::Name, size),
                 "pack" => run(&rt, Kernel::Pack, size),
+                "frames" => run(&rt, Kernel::Frames, size),
+                "random" => run(&rt, Kernel::Random, size),
+                "chunk" => run(&rt, Kernel::Chunk, size),
                 _ => bail!("no such kernel"),
             }
         }

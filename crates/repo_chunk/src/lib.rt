@@ -4,11 +4,12 @@
 //! bytes are zero, and at a greatest length if there is none. So equal stretches of two files are mostly cut alike.
 //!
 //! Promised: however a stream is cut into pieces, [`Chunker`] finds the cuts of the whole; each list has cuts, and no
-//! others. No call takes memory. Not promised: how even the lengths are, and speed: the remainder is made anew at
-//! each length.
+//! others. No call takes memory. Not promised: how even the lengths are, and speed; a byte costs two look-ups at most,
+//! and the first ones of a chunk, which cannot end it, cost none.
 //!
 //! The definitions stand in `specs/`: `Rabin` (the remainder), `Parameters`, `Cuts` (the rule), `Chunkers` (what a
-//! chunker holds), `Runs` (a whole run) and `Laws`, whose laws are the contracts of the functions of [`laws`].
+//! chunker holds), `Runs` (a whole run), `Laws`, whose laws are the contracts of the functions of [`laws`], and for
+//! the remainder of a window that moves on `Tables` and `Rolling`.
 #![tactic(auto)]
 
 pub use chunkers::{Chunker, Scan};
@@ -20,6 +21,8 @@ mod chunkers;
 pub mod laws;
 mod parameters;
 mod rabin;
+mod rolling;
 mod runs;
+mod tables;
 #[cfg(test)]
 mod tests;

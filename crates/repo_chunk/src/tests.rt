@@ -41,6 +41,30 @@ fn stream(alloc: Global, count: usize) -> Result<Vec<u8>, AllocError> {
     Ok(bytes)
 }
 
+// The chunker without tables: the whole remainder at each length from the least on.
+fn plain_lengths(alloc: Global, params: Params, bytes: &[u8]) -> Result<Vec<u64>, AllocError> {
+    let mut lengths = Vec::new(alloc);
+    let mut window = [0u8; 64];
+    let mut begun = 0;
+    for (i, byte) in bytes.iter().enumerate() {
+        window.rotate_left(1);
+        window[63] = *byte;
+        let taken = (i as u64 + 1).saturating_sub(begun);
+        if taken >= params.min()
+            && (taken == params.max() || remainder(&window) % (1 << params.bits()) == 0)
+        {
+            lengths.push(taken)?;
+            begun = i as u64 + 1;
+            window = [0; 64];
+        }
+    }
+    let rest = (bytes.len() as u64).saturating_sub(begun);
+    if rest > 0 {
+        lengths.push(rest)?;
+    }
+    Ok(lengths)
+}
+
 #[test]
 fn remainders_are_those_of_the_polynomial(rt: HostRuntime) {
     // The bit 53 alone leaves the polynomial without its bit 53, and the bit 54 twice that, reduced again; the lines
@@ -141,6 +165,8 @@ fn a_stream_is_cut_alike_in_any_pieces(rt: HostRuntime) -> Result<(), Fail> {
     //             state = (state * 1664525 + 1013904223) % 2 ** 32
     //             data.append(state >> 24)
     //         return data
+    //
+    // So does restic's chunker library, with its average of 6 bits.
     let want = [
         109, 148, 93, 107, 83, 108, 109, 146, 66, 67, 65, 79, 203, 77, 70, 101, 116, 78, 90, 66,
         182, 96, 215, 98, 227, 95, 256, 173, 64, 244, 101, 201, 80, 107, 106, 244, 106, 74, 239,
@@ -151,6 +177,74 @@ fn a_stream_is_cut_alike_in_any_pieces(rt: HostRuntime) -> Result<(), Fail> {
     for size in [1, 63, 65, 5000] {
         let lengths = lengths_by(rt.alloc(), params, bytes.as_slice(), size)?;
         assert_eq!(rt; lengths.as_slice(), want.as_slice(), "in pieces of {size}");
+    }
+    Ok(())
+}
+
+#[test]
+fn the_default_parameters_cut_as_restic_does(rt: HostRuntime) -> Result<(), Fail> {
+    // The lengths are those of restic's chunker library with this polynomial.
+    let params = Params::new(524_288, 8_388_608, 20)?;
+    let bytes = stream(rt.alloc(), 4_000_000)?;
+    for size in [65_536, 4_000_000] {
+        let lengths = lengths_by(rt.alloc(), params, bytes.as_slice(), size)?;
+        assert_eq!(rt;
+            lengths.as_slice(),
+            [1_257_677, 895_311, 699_655, 1_147_357].as_slice()
+        );
+    }
+    Ok(())
+}
+
+#[test]
+fn the_rolling_fingerprint_cuts_as_the_whole_remainder(rt: HostRuntime) -> Result<(), Fail> {
+    // Nothing is passed over; less than a window; more than one; no chunk but the longest; mostly the longest; long.
+    let bytes = stream(rt.alloc(), 100_000)?;
+    for (least, greatest, zeros) in [
+        (64, 256, 6),
+        (65, 200, 5),
+        (127, 400, 7),
+        (128, 128, 1),
+        (1000, 1100, 20),
+        (512, 8192, 10),
+    ] {
+        let params = Params::new(least, greatest, zeros)?;
+        let want = plain_lengths(rt.alloc(), params, bytes.as_slice())?;
+        for size in [1, 63, 65, 100_000] {
+            let lengths = lengths_by(rt.alloc(), params, bytes.as_slice(), size)?;
+            assert_eq!(rt;
+                lengths.as_slice(),
+                want.as_slice(),
+                "of {least}, {greatest}, {zeros} in pieces of {size}"
+            );
+        }
+    }
+    Ok(())
+}
+
+#[test]
+fn a_piece_may_end_where_the_chunker_changes_its_way(rt: HostRuntime) -> Result<(), Fail> {
+    // Where bytes begin to count, at the least length, at the cut and at the greatest length, and a byte to each
+    // side. The lengths are those of restic's chunker library.
+    let bytes = stream(rt.alloc(), 1000)?;
+    let table: [(u64, &[u64]); 2] = [
+        (6, &[257, 200, 191, 139, 182, 31]),
+        (20, &[300, 300, 300, 100]),
+    ];
+    for (zeros, want) in table {
+        let params = Params::new(128, 300, zeros)?;
+        for end in [63, 64, 65, 127, 128, 129, 256, 257, 258, 299, 300, 301] {
+            let (front, rest) = bytes.as_slice().split_at(bytes.len().min(end));
+            let mut lengths = Vec::new(rt.alloc());
+            report_cuts(params, &[front, rest], |n| {
+                let _ = lengths.push(n);
+            });
+            assert_eq!(rt;
+                lengths.as_slice(),
+                want,
+                "{zeros} bits, and a piece of {end}"
+            );
+        }
     }
     Ok(())
 }

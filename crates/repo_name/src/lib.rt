@@ -2,7 +2,7 @@
 //!
 //! A [`Name`] is the SHA-256 (FIPS 180-4) of the bytes that it names. An [`Instance`] tells one client
 //! from another, a [`Token`] one lock from another. A [`LockRow`] is a live lock, and has one form in
-//! bytes, which frames and the ledger share. [`Bytes`], [`Names`] and [`Text`] are a `Vec` or a
+//! bytes, which frames and the ledger share. [`Bytes`], [`Names`], [`LockRows`] and [`Text`] are a `Vec` or a
 //! `String` that contracts see as the list that it holds.
 //!
 //! Promised: `name_of` is the object name, hexadecimal goes both ways, a row's bytes read as that row
@@ -24,6 +24,6 @@ pub use fields::{host_at, hosts_are_one, number_at, numbers_are_one, truth_at};
 pub use kinds::{BlobKind, Kind, Thing};
 pub use name_maps::{insert_named, remove_named};
 pub use names::{Instance, Name, NameError, name_of};
-pub use payloads::{Bytes, Names, Text};
+pub use payloads::{Bytes, LockRows, Names, Text};
 pub use rows::{LockRow, RowError, append_row, read_row, rows_are_one};
 pub use tokens::Token;

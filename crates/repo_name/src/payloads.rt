@@ -1,6 +1,10 @@
 //! Lists that contracts see as lists: made from a `Vec` or a `String`, and lent as a slice, without memory.
 
+ghost use Rattle.std.specs.Prelude.{◌≡◌, All};
+ghost use Rattle.repo_name.specs.Naming.{IsName};
+
 use crate::names::Name;
+use crate::rows::LockRow;
 use std::marker::Model;
 
 /// Some bytes. A clause sees their list.
@@ -65,12 +69,15 @@ impl Model for Names {
 }
 
 impl Names {
-    ghost use Rattle.std.specs.Prelude.{◌≡◌};
+    ghost use Rattle.std.specs.Prelude.{◌≡◌, All};
+    ghost use Rattle.repo_name.specs.Naming.{IsName};
 
     /// The names of a `Vec`.
     pub fn of(inner: Vec<Name>) -> Names
-        ensures { result ≡ inner.items }
+        ensures value { result ≡ inner.items }
+        ensures names { All IsName result }
     {
+        are_names(inner.as_slice());
         Names { inner }
     }
 
@@ -79,6 +86,84 @@ impl Names {
         ensures { result.now ≡ self.now }
     {
         self.inner.as_slice()
+    }
+}
+
+/// A name's bytes: what tells a proof that there are 32 of them.
+fn bytes_of(name: Name) -> [u8; 32]
+    ensures bytes { result ≡ name.0 }
+    ensures name { IsName name }
+{
+    name.0
+}
+
+/// Tells a proof what the type of names says. It computes nothing.
+fn are_names(names: &[Name])
+    ensures { All IsName names.now }
+{
+    for name in names {
+        bytes_of(*name);
+    }
+}
+
+impl PartialEq for Names {
+    ghost use Rattle.std.specs.Cmp.Lexicographic.{pointwise, lists_per};
+    ghost use Rattle.repo_name.specs.contracts.names.NamePartialEq.TheImpl as element;
+    ghost use Rattle.repo_name.specs.contracts.names.NamePartialEq.TheImpl.Laws as element_laws;
+
+    ghost eq = { pointwise (element.ghosts).eq };
+
+    ghost laws = { lists_per element_laws.laws-law };
+
+    fn eq(&self, other: &Names) -> bool {
+        self.inner.as_slice() == other.inner.as_slice()
+    }
+}
+
+/// Some rows of live locks, in an order that their owner states. A clause sees their list.
+#[derive(Clone, Debug, Drop)]
+pub struct LockRows {
+    inner: Vec<LockRow>,
+}
+
+impl Model for LockRows {
+    ghost use Rattle.std.specs.Prelude.{List};
+    ghost use Rattle.repo_name.specs.declared.rows.LockRow.{LockRow};
+
+    ghost Value = { List LockRow };
+
+    ghost view = { λ r. r.inner.items };
+}
+
+impl LockRows {
+    ghost use Rattle.std.specs.Prelude.{◌≡◌};
+
+    /// The rows of a `Vec`.
+    pub fn of(inner: Vec<LockRow>) -> LockRows
+        ensures { result ≡ inner.items }
+    {
+        LockRows { inner }
+    }
+
+    /// The rows, lent.
+    pub fn as_slice(&self) -> &[LockRow]
+        ensures { result.now ≡ self.now }
+    {
+        self.inner.as_slice()
+    }
+}
+
+impl PartialEq for LockRows {
+    ghost use Rattle.std.specs.Cmp.Lexicographic.{pointwise, lists_per};
+    ghost use Rattle.repo_name.specs.contracts.rows.LockRowPartialEq.TheImpl as element;
+    ghost use Rattle.repo_name.specs.contracts.rows.LockRowPartialEq.TheImpl.Laws as element_laws;
+
+    ghost eq = { pointwise (element.ghosts).eq };
+
+    ghost laws = { lists_per element_laws.laws-law };
+
+    fn eq(&self, other: &LockRows) -> bool {
+        self.inner.as_slice() == other.inner.as_slice()
     }
 }
 

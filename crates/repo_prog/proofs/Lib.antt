@@ -1,4 +1,3 @@
 pub mod LineLemmas
-pub mod Outputs
 pub mod TalkLemmas
 pub mod TalkLines

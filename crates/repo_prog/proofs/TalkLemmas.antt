@@ -19,7 +19,7 @@ use Rattle.repo_prog.specs.declared.errors.FramesError.{FramesError}
 use Rattle.repo_prog.specs.declared.talks.Talk.{Talk}
 use Rattle.repo_prog.specs.FramesRun.{TellNoFault, Past, AllTold, SomeTold, Gives}
 use Rattle.repo_prog.specs.HexLines.{AreLines, printed, reply_line}
-use Rattle.repo_prog.specs.Output.{AppendsPart}
+use Rattle.repo_store.specs.Output.{AppendsPart}
 use Rattle.repo_prog.specs.Talks.{Has, Talks, RepliesNext, HasSameLines, with_reply, wire_error}
 
 -- a reader's error is the talk's

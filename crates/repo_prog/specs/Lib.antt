@@ -1,5 +1,4 @@
 pub mod Commands
 pub mod FramesRun
 pub mod HexLines
-pub mod Output
 pub mod Talks

@@ -1,86 +1,20 @@
-//! The command line: its words, and each command over readers, writers and values.
+//! What the command line's words ask for, done over readers, writers and a machine.
 
 ghost use Rattle.std.specs.Prelude.{◌≡◌, ◌≢◌, ℕ, List, Some};
-ghost use Rattle.repo_prog.specs.Commands.{status_code, FramesGives};
-ghost use Rattle.repo_prog.specs.declared.commands.Status.{Status};
+ghost use Rattle.repo_prog.specs.Commands.{FramesGives, IsOrder};
+ghost use Rattle.repo_prog.specs.declared.status.Status.{Status};
+ghost use Rattle.repo_prog.specs.declared.words.Order.{Order};
 
-use crate::errors::FramesError;
 use crate::frames_engine::frames;
-use clap::Command;
-use std::alloc::{AllocError, Global};
-use std::fmt::Display;
+use crate::making::init_folder;
+use crate::listening::serve_folder;
+use crate::status::{Status, failed, refuse_words};
+use crate::words::{Order, WordsError, order_of};
+use std::alloc::{AllocGlobal, Global};
+use std::fs::Files;
 use std::io::{Read, Write};
-
-/// How the program ends.
-#[derive(Clone, Copy, Debug, PartialEq, Eq)]
-pub enum Status {
-    /// 0: it did what was asked.
-    Done,
-    /// 1: it ended without completing; standard error says why.
-    Failed,
-    /// 2: the words make no command; standard error says why.
-    Usage,
-}
-
-impl Status {
-    /// The exit status.
-    pub fn code(self) -> u8
-        ensures { result ≡ status_code self }
-    {
-        match self {
-            Status::Done => 0,
-            Status::Failed => 1,
-            Status::Usage => 2,
-        }
-    }
-}
-
-/// What the words ask for.
-#[derive(Clone, Copy, Debug, PartialEq, Eq)]
-pub enum Order {
-    /// Answer request frames in hexadecimal.
-    Frames,
-}
-
-/// The commands and their words.
-fn commands<'a>(alloc: Global) -> Result<Command<'a>, AllocError> {
-    let frames = Command::new(alloc, "frames").about(
-        "Answers request frames in hexadecimal, from an empty store in memory",
-    );
-    Command::new(alloc, "vault")
-        .about("A shared, deduplicating backup repository")
-        .subcommand_required(true)
-        .subcommand(frames)
-}
-
-/// Why the words make no command.
-enum WordsError {
-    /// `clap` says why, or shows its help.
-    Clap(clap::Error),
-    /// `clap` takes them, and the program doesn't know them.
-    Unknown,
-}
-
-impl From<clap::Error> for WordsError {
-    fn from(error: clap::Error) -> WordsError {
-        WordsError::Clap(error)
-    }
-}
-
-/// The order that the words spell, the program's name first.
-fn order_of(alloc: Global, words: &[String]) -> Result<Order, WordsError> {
-    let commands = commands(alloc).map_err(clap::Error::from)?;
-    let matches = commands.try_get_matches_from(words)?;
-    match matches.subcommand() {
-        Some(("frames", _)) => Ok(Order::Frames),
-        _ => Err(WordsError::Unknown),
-    }
-}
-
-/// Writes a fault's text on a line. A text that can't be written is lost.
-fn tell<F: Write, T: Display>(faults: &mut F, text: &T) {
-    let _ = writeln!(faults, "{text}");
-}
+use std::net::Net;
+use std::random::RandomSource;
 
 /// `vault frames`: answers the frames of the input's lines on the output, and writes the text of the
 /// error that ended it to the faults.
@@ -94,19 +28,8 @@ pub fn frames_command<R: Read, W: Write, F: Write>(
 {
     match frames(alloc, input, output) {
         Ok(_) => Status::Done,
-        Err(error) => {
-            tell(faults, &error);
-            Status::Failed
-        }
+        Err(error) => failed(faults, &error),
     }
-}
-
-/// Tells that a word isn't as it should be, where `clap` itself has no text for it.
-pub fn refuse_words<F: Write>(faults: &mut F) -> Status
-    ensures { result ≡ Status.Usage }
-{
-    tell(faults, &"bad argument");
-    Status::Usage
 }
 
 /// Shows `clap`'s text: its help on the output, and else its refusal on the faults.
@@ -122,19 +45,57 @@ fn show<W: Write, F: Write>(error: &clap::Error, output: &mut W, faults: &mut F)
     }
 }
 
-/// Does what the words ask for, the program's name first. It fails only as the command does.
-pub fn run<R: Read, W: Write, F: Write>(
-    alloc: Global,
-    words: &[String],
+/// Does what is asked for. Of `vault frames` all is said that `frames` says; of the others, nothing that
+/// a folder or a socket would have to keep.
+pub fn perform<
+    T: Files + Net + AllocGlobal + RandomSource + Clone + Drop,
+    R: Read,
+    W: Write,
+    F: Write,
+>(
+    rt: &T,
+    order: &Order,
     input: &mut R,
     output: &mut W,
     faults: &mut F,
 ) -> Status
-    ensures { result ≡ Status.Failed → (text : List ℕ) → R.remaining input.old ≡ Some text → FramesGives text (W.contents output.old) Status.Failed (W.contents output.new) }
+    requires { IsOrder order.now }
+    ensures frames { order.now ≡ Order.Frames → (text : List ℕ) → R.remaining input.old ≡ Some text → FramesGives text (W.contents output.old) result (W.contents output.new) }
 {
-    match order_of(alloc, words) {
-        Ok(Order::Frames) => frames_command(alloc, input, output, faults),
+    match order {
+        Order::Frames => frames_command(rt.alloc(), input, output, faults),
+        Order::Init { folder, making } => init_folder(rt, folder.as_str(), making, output, faults),
+        Order::Serve {
+            folder,
+            address,
+            connections,
+        } => serve_folder(
+            rt,
+            folder.as_str(),
+            address.as_str(),
+            *connections,
+            output,
+            faults,
+        ),
+    }
+}
+
+/// Does what the words ask for, the program's name first.
+pub fn run<
+    T: Files + Net + AllocGlobal + RandomSource + Clone + Drop,
+    R: Read,
+    W: Write,
+    F: Write,
+>(
+    rt: &T,
+    words: &[String],
+    input: &mut R,
+    output: &mut W,
+    faults: &mut F,
+) -> Status {
+    match order_of(rt.alloc(), words) {
+        Ok(order) => perform(rt, &order, input, output, faults),
         Err(WordsError::Clap(error)) => show(&error, output, faults),
-        Err(WordsError::Unknown) => refuse_words(faults),
+        Err(WordsError::BadArgument) => refuse_words(faults),
     }
 }

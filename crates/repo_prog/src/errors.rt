@@ -1,6 +1,6 @@
 //! Why `frames` ended before the input did.
 
-use crate::output::Unwritten;
+use repo_store::Unwritten;
 use repo_wire::{Fault, WireError};
 use std::alloc::AllocError;
 use thiserror::Error;

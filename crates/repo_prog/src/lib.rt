@@ -1,6 +1,7 @@
 //! The program's engines and commands, as functions over readers, writers and values.
 //!
-//! [`frames`] answers request frames in hexadecimal from an empty store in memory.
+//! [`frames`] answers request frames in hexadecimal from an empty store in memory. [`init_command`] makes
+//! a store, and [`serve_connections`] serves one.
 //!
 //! Promised: what `frames` writes is the lines of the replies of a run of the store machine, from the
 //! empty store, over the requests of the stream that the input's lines spell; each of its errors comes
@@ -11,14 +12,24 @@
 //! (what `frames` gives), `Talks` (what holds while it runs).
 #![tactic(auto)]
 
+#[cfg(test)]
+mod command_tests;
 mod commands;
 mod errors;
 mod frames_engine;
+mod listening;
+mod making;
 mod output;
+mod status;
 mod talks;
 #[cfg(test)]
 mod tests;
+mod words;
 
-pub use commands::{Order, Status, frames_command, refuse_words, run};
+pub use commands::{frames_command, perform, run};
 pub use errors::FramesError;
 pub use frames_engine::frames;
+pub use making::{init_command, init_folder, random_instance};
+pub use listening::{serve_connections, serve_folder};
+pub use status::{Status, refuse_words};
+pub use words::{Making, Order, WordsError, order_of};

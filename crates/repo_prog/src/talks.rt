@@ -1,14 +1,16 @@
 //! A talk with a store in memory, line by line.
 
 ghost use Rattle.std.specs.Prelude.{◌≡◌, ◌<◌, ◌≤◌, ◌+◌, ◌^◌, ◌++◌, ◌∷◌, [], ℕ, List, Option, length, IfOk, IfSome, IsTrue, OnOk};
+ghost use Rattle.repo_wire.specs.Messages.{replies};
+ghost use Rattle.repo_wire.specs.Stream.{FitsFrame};
 ghost use Rattle.repo_prog.specs.FramesRun.{Past, Gives};
 ghost use Rattle.repo_prog.specs.HexLines.{AreLines};
 ghost use Rattle.repo_prog.specs.Talks.{nothing, Has, RepliesNext, Talks, Rests, AnswersNext, HasSameLines, GoesOn, RestsInside};
 
 use crate::errors::FramesError;
-use crate::output::{line_of, write_whole};
+use crate::output::line_of;
 use hex::FromHexError;
-use repo_store::{MemShelf, answer};
+use repo_store::{MemShelf, answer, write_whole};
 use repo_wire::{FrameReader, Reply};
 use std::alloc::Global;
 use std::io::Write;
@@ -50,13 +52,15 @@ impl Talk {
         requires { self.old.answered < 2 ^ 32 }
         ensures next { (past : Past) → Has self.old past → RepliesNext past result self.new }
         ensures counted { IfOk result (λ found. IfSome found (λ _. self.new.answered ≡ self.old.answered + 1)) }
+        ensures fits { IfOk result (λ found. IfSome found (FitsFrame replies)) }
         ensures kept { self.new.line ≡ self.old.line }
         ensures number { self.new.number ≡ self.old.number }
     {
         match self.reader.next_request() {
             Ok(None) => Ok(None),
             Ok(Some(request)) => {
-                let reply = answer(&mut self.shelf, &request);
+                let alloc = *self.line.allocator();
+                let reply = answer(alloc, &mut self.shelf, &request);
                 self.answered += 1;
                 Ok(Some(reply))
             }

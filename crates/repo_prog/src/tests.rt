@@ -1,6 +1,7 @@
 //! The engine and the commands on whole inputs.
 
-use crate::commands::{Status, frames_command, refuse_words, run};
+use crate::commands::frames_command;
+use crate::status::Status;
 use crate::errors::FramesError;
 use crate::frames_engine::frames;
 use repo_wire::Fault;
@@ -143,7 +144,7 @@ const FAULTS: [(&str, Result<u64, FramesError>, &str, bool); 13] = [
         false,
     ),
     (
-        "0000001903010101010101010101010101010101010000000000000001",
+        "000000190d010101010101010101010101010101010000000000000001",
         Err(FramesError::Wire(Fault::Tag)),
         "malformed: tag\n",
         false,
@@ -308,49 +309,63 @@ fn a_writer_that_fails(rt: HostRuntime) {
     }
 }
 
+// Requests and their replies: a ticket, a shared lock of it, a snapshot `abc` put, got, and listed; its
+// pack isn't there; the lock is refreshed and listed; a deletion wants an exclusive lock; no config.
+const STORED: [(&str, &str); 9] = [
+    (TICKET, TOKEN),
+    (
+        "0000002c0201010101010101010101010101010101000000000000000200000000000000010000000000000000050161",
+        "0000001982010101010101010101010101010101010000000000000002",
+    ),
+    (
+        "00000045090101010101010101010101010101010100000000000000030000000000000001\
+         02ba7816bf8f01cfea414140de5dae2223b00361a396177a9cb410ff61f20015ad616263",
+        "0000001982010101010101010101010101010101010000000000000003",
+    ),
+    (
+        "0000003a0701010101010101010101010101010101000000000000000402\
+         ba7816bf8f01cfea414140de5dae2223b00361a396177a9cb410ff61f20015ad",
+        "0000001c84010101010101010101010101010101010000000000000004616263",
+    ),
+    (
+        "0000001b060101010101010101010101010101010100000000000000050200",
+        "0000003c83010101010101010101010101010101010000000000000005000001\
+         ba7816bf8f01cfea414140de5dae2223b00361a396177a9cb410ff61f20015ad",
+    ),
+    (
+        "0000004108010101010101010101010101010101010000000000000006\
+         ba7816bf8f01cfea414140de5dae2223b00361a396177a9cb410ff61f20015ad0000000100000002",
+        "0000001a8601010101010101010101010101010101000000000000000605",
+    ),
+    (
+        "000000290301010101010101010101010101010101000000000000000700000000000000010000000000000009",
+        "0000001982010101010101010101010101010101010000000000000007",
+    ),
+    (
+        "0000001905010101010101010101010101010101010000000000000008",
+        "0000002e850101010101010101010101010101010100000000000000080001\
+         00000000000000010000000000000000090161",
+    ),
+    (
+        "000000190b010101010101010101010101010101010000000000000009",
+        "0000001a8601010101010101010101010101010101000000000000000905",
+    ),
+];
+
 #[test]
-fn words(rt: HostRuntime) -> Result<(), Fail> {
+fn an_object_put_is_given_back(rt: HostRuntime) -> Result<(), Fail> {
     let alloc = rt.alloc();
-    for (words, wanted, output_starts, faults_start) in [
-        (["vault", "frames"].as_slice(), Status::Done, TOKEN, ""),
-        (
-            ["vault", "--help"].as_slice(),
-            Status::Done,
-            "A shared, deduplicating",
-            "",
-        ),
-        (["vault"].as_slice(), Status::Usage, "", "error"),
-        (["vault", "nothing"].as_slice(), Status::Usage, "", "error"),
-        (
-            ["vault", "frames", "more"].as_slice(),
-            Status::Usage,
-            "",
-            "error",
-        ),
-    ] {
-        let mut given = Vec::new(alloc);
-        for word in words {
-            given.push(String::from_str(alloc, word)?)?;
-        }
-        let (mut output, mut faults) = (Vec::new(alloc), Vec::new(alloc));
-        let status = run(
-            alloc,
-            given.as_slice(),
-            &mut TICKET.as_bytes(),
-            &mut output,
-            &mut faults,
-        );
-        assert_eq!(rt; status, wanted, "of {words:?}");
-        assert!(rt;
-            output.starts_with(output_starts.as_bytes()),
-            "of {words:?}"
-        );
-        assert!(rt; faults.starts_with(faults_start.as_bytes()), "of {words:?}");
-        assert_eq!(rt; faults.is_empty(), status.code() == 0);
+    let mut asked = String::new(alloc);
+    let mut wanted = String::new(alloc);
+    for (request, reply) in STORED {
+        asked.push_str(request)?;
+        asked.push('\n')?;
+        wanted.push_str(reply)?;
+        wanted.push('\n')?;
     }
-    let mut faults = Vec::new(alloc);
-    assert_eq!(rt; refuse_words(&mut faults).code(), 2);
-    assert_eq!(rt; faults.as_slice(), b"bad argument\n".as_slice());
+    let (ended, output) = given(alloc, asked.as_str())?;
+    assert_eq!(rt; ended, Ok(STORED.len() as u64));
+    assert_eq!(rt; output.as_slice(), wanted.as_str().as_bytes());
     Ok(())
 }
 

@@ -1,10 +1,10 @@
-use Rattle.std.proofs.Common.{◌≡◌, inl, inr, refl, sym, subst, ◌∙◌, Ok, Err, Result}
+use Rattle.std.proofs.Common.{ℕ, ◌≡◌, inl, inr, refl, sym, subst, ◌∙◌, Ok, Err, Result}
 use Rattle.repo_name.specs.declared.rows.LockRow.{LockRow}
 use Rattle.repo_name.specs.declared.tokens.Token.{Token}
 use Rattle.repo_wire.specs.declared.messages.Ask.{Ask}
 use Rattle.repo_wire.specs.declared.messages.Say.{Say}
 use Rattle.repo_locks.specs.declared.outcomes.Grant.{Grant}
-use Rattle.repo_locks.specs.TokenMachine.{Tokens, TicketStep, LockStep}
+use Rattle.repo_locks.specs.TokenMachine.{Tokens, TicketStep, LockStep, RefreshStep}
 use Rattle.repo_store.specs.declared.shelves.ShelfError.{ShelfError}
 use Rattle.repo_store.specs.Laws.{Writes}
 use Rattle.repo_store.specs.StoreMachine.{Answers, Looks, Step, refusal}
@@ -34,3 +34,10 @@ lock_failed old mid new read tokens row e same is step w =
     let P : Tokens → Type 0 = λ l. LockStep l row.token row.exclusive row.time row.host (Ok Grant.New) tokens in
     save_failed old mid new tokens (Ask.Lock row) Say.Done e tt same
     (λ saved. record { result = Ok Grant.New; tokens = tokens; step = subst P is step; says = refl; saves = saved }) w
+
+pub refresh_failed : (old mid new : Store) (read tokens : Tokens) (token : Token) (time : ℕ) (e : ShelfError) → mid ≡ old → read ≡ old.tokens
+    → RefreshStep read token time (Ok tt) tokens → Writes {T = Unit {0}} (SavesTokens tokens) mid (Err e) new → Step old (Ask.Refresh token time) (refusal e) new
+refresh_failed old mid new read tokens token time e same is step w =
+    let P : Tokens → Type 0 = λ l. RefreshStep l token time (Ok tt) tokens in
+    save_failed old mid new tokens (Ask.Refresh token time) Say.Done e tt same
+    (λ saved. record { result = Ok tt; tokens = tokens; step = subst P is step; says = refl; saves = saved }) w

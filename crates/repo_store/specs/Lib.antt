@@ -1,5 +1,12 @@
+pub mod Faults
 pub mod Laws
+pub mod Making
 pub mod Memory
+pub mod Output
+pub mod Pages
 pub mod Runs
+pub mod Services
+pub mod Serving
+pub mod Slices
 pub mod StoreMachine
 pub mod Stores

@@ -1,23 +1,57 @@
-use Rattle.std.specs.Prelude.{◌≡◌, ◌⊎◌, ◌≤◌, ◌<◌, ⊤, ℕ, Bool, Result, Ok, Err}
+use Rattle.std.specs.Prelude.{◌≡◌, ◌≢◌, ◌⊎◌, ◌≤◌, ◌<◌, ⊤, ℕ, Bool, true, false, List, length, Option, Some, None, Result, Ok, Err}
+use Rattle.repo_name.specs.declared.kinds.Kind.{Kind}
+use Rattle.repo_name.specs.declared.names.Name.{Name}
 use Rattle.repo_name.specs.declared.rows.LockRow.{LockRow}
 use Rattle.repo_name.specs.declared.tokens.Token.{Token}
+use Rattle.repo_name.specs.Naming as naming
 use Rattle.repo_name.specs.Rows.{IsHost}
 use Rattle.repo_wire.specs.declared.messages.Ask.{Ask}
 use Rattle.repo_wire.specs.declared.messages.Code.{Code}
 use Rattle.repo_wire.specs.declared.messages.Say.{Say}
+use Rattle.repo_wire.specs.Messages.{page_limit}
 use Rattle.repo_locks.specs.declared.outcomes.Grant.{Grant}
 use Rattle.repo_locks.specs.declared.outcomes.LockError.{LockError}
+use Rattle.repo_locks.specs.declared.outcomes.RefreshError.{RefreshError}
 use Rattle.repo_locks.specs.declared.outcomes.TicketError.{TicketError}
-use Rattle.repo_locks.specs.TokenMachine.{Tokens, TicketStep, LockStep, UnlockStep}
+use Rattle.repo_locks.specs.TokenMachine.{Tokens, live_as, TicketStep, LockStep, RefreshStep, UnlockStep}
 use Rattle.repo_store.specs.declared.shelves.ShelfError.{ShelfError}
+use Rattle.repo_store.specs.declared.shelves.Slice.{Slice}
 use Rattle.repo_store.specs.Laws.{greatest_count}
-use Rattle.repo_store.specs.Stores.{Store, SavesTokens}
+use Rattle.repo_store.specs.Pages.{IsPage}
+use Rattle.repo_store.specs.Slices.{IsSlice}
+use Rattle.repo_store.specs.Stores.{Store, PutsObject, RemovesObject, SavesTokens}
+
+-- the most bytes of an object of each kind
+abbrev pub object_limit : Kind → ℕ
+object_limit Kind.Pack = 25317379
+object_limit Kind.Index = 8388608
+object_limit Kind.Snapshot = 65536
+
+-- the most bytes of a config
+abbrev pub config_limit : ℕ
+config_limit = 65536
+
+-- the most bytes that are asked for of a pack at once
+abbrev pub range_limit : ℕ
+range_limit = 8388608
+
+-- a length that may be asked for of a pack
+abbrev pub IsRangeLength : ℕ → Type 0
+IsRangeLength len = (1 ≤ len) × (len ≤ range_limit)
 
 -- what can be answered: a host that is asked with is within its limits
 abbrev pub IsAnswerable : Ask → Type 0
 IsAnswerable (Ask.Lock row) = IsHost row.host
 IsAnswerable Ask.Ticket = ⊤
+IsAnswerable (Ask.Refresh token time) = ⊤
 IsAnswerable (Ask.Unlock token) = ⊤
+IsAnswerable Ask.Locks = ⊤
+IsAnswerable (Ask.List kind after) = ⊤
+IsAnswerable (Ask.Get kind name) = ⊤
+IsAnswerable (Ask.Range pack offset len) = ⊤
+IsAnswerable (Ask.Put token kind name bytes) = ⊤
+IsAnswerable (Ask.Delete token kind name) = ⊤
+IsAnswerable Ask.Config = ⊤
 
 -- what is said of a ticket
 abbrev pub TicketSays : Result Token TicketError → Say → Type 0
@@ -34,6 +68,11 @@ LockSays (Err LockError.Busy) say = say ≡ Say.Refused Code.Busy
 LockSays (Err LockError.Full) say = say ≡ Say.Refused Code.Full
 LockSays (Err LockError.Memory) say = ⊥
 
+-- what is said of a refresh
+abbrev pub RefreshSays : Result (Unit {0}) RefreshError → Say → Type 0
+RefreshSays (Ok done) say = say ≡ Say.Done
+RefreshSays (Err RefreshError.Dead) say = say ≡ Say.Refused Code.Dead
+
 -- the token machine's steps, and what is said of them
 pub record TicketAnswer (old : Store) (say : Say) (new : Store) : Type 0 where
   pub result : Result Token TicketError
@@ -49,6 +88,13 @@ pub record LockAnswer (old : Store) (row : LockRow) (say : Say) (new : Store) : 
   pub says : LockSays result say
   pub saves : SavesTokens tokens old new
 
+pub record RefreshAnswer (old : Store) (token : Token) (time : ℕ) (say : Say) (new : Store) : Type 0 where
+  pub result : Result (Unit {0}) RefreshError
+  pub tokens : Tokens
+  pub step : RefreshStep old.tokens token time result tokens
+  pub says : RefreshSays result say
+  pub saves : SavesTokens tokens old new
+
 pub record UnlockAnswer (old : Store) (token : Token) (say : Say) (new : Store) : Type 0 where
   pub result : Bool
   pub tokens : Tokens
@@ -56,17 +102,81 @@ pub record UnlockAnswer (old : Store) (token : Token) (say : Say) (new : Store) 
   pub says : say ≡ Say.Done
   pub saves : SavesTokens tokens old new
 
+-- the live rows
+abbrev pub LocksAnswer : Store → Say → Store → Type 0
+LocksAnswer old say new = (say ≡ Say.LockList old.tokens.live) × (new ≡ old)
+
+-- a page of names
+abbrev pub ListAnswer : Store → Kind → Option Name → Say → Store → Type 0
+ListAnswer old kind after say new = (names : List Name) × (more : Bool) × IsPage old.objects kind after page_limit names more × (say ≡ Say.Names more names) × (new ≡ old)
+
+-- what is said of bytes that are there or not, and have a limit
+abbrev pub GetSays : ℕ → Option (List ℕ) → Say → Type 0
+GetSays limit None say = say ≡ Say.Refused Code.Missing
+GetSays limit (Some bytes) say = ((length bytes ≤ limit) × (say ≡ Say.Bytes bytes)) ⊎ ((limit < length bytes) × (say ≡ Say.Refused Code.TooLarge))
+
+-- an object whole
+abbrev pub GetAnswer : Store → Kind → Name → Say → Store → Type 0
+GetAnswer old kind name say new = GetSays (object_limit kind) (old.objects kind name) say × (new ≡ old)
+
+-- the config
+abbrev pub ConfigAnswer : Store → Say → Store → Type 0
+ConfigAnswer old say new = GetSays config_limit old.config say × (new ≡ old)
+
+-- what is said of a slice
+abbrev pub SliceSays : Slice → Say → Type 0
+SliceSays (Slice.Found bytes) say = say ≡ Say.Bytes bytes
+SliceSays Slice.Missing say = say ≡ Say.Refused Code.Missing
+SliceSays Slice.Outside say = say ≡ Say.Refused Code.Range
+
+-- a part of a pack: first whether so many bytes may be asked for
+abbrev pub RangeAnswer : Store → Name → ℕ → ℕ → Say → Store → Type 0
+RangeAnswer old pack offset len say new =
+    (¬ IsRangeLength len × (say ≡ Say.Refused Code.Malformed) × (new ≡ old))
+    ⊎ (IsRangeLength len × ((slice : Slice) × IsSlice (old.objects Kind.Pack pack) offset len slice × SliceSays slice say) × (new ≡ old))
+
+-- an object is put: first whether it is too large, then its token, then its name
+abbrev pub PutAnswer : Store → Token → Kind → Name → List ℕ → Say → Store → Type 0
+PutAnswer old token kind name bytes say new =
+    ((object_limit kind < length bytes) × (say ≡ Say.Refused Code.TooLarge) × (new ≡ old))
+    ⊎ (((length bytes ≤ object_limit kind) × (live_as old.tokens token ≡ None) × (say ≡ Say.Refused Code.Dead) × (new ≡ old))
+    ⊎ (((length bytes ≤ object_limit kind) × (live_as old.tokens token ≢ None) × (naming.name bytes ≢ name) × (say ≡ Say.Refused Code.NameMismatch) × (new ≡ old))
+    ⊎ ((length bytes ≤ object_limit kind) × (live_as old.tokens token ≢ None) × (naming.name bytes ≡ name) × (say ≡ Say.Done) × PutsObject kind name bytes old new)))
+
+-- an object is removed, under an exclusive lock
+abbrev pub DeleteAnswer : Store → Token → Kind → Name → Say → Store → Type 0
+DeleteAnswer old token kind name say new =
+    ((live_as old.tokens token ≡ None) × (say ≡ Say.Refused Code.Dead) × (new ≡ old))
+    ⊎ (((live_as old.tokens token ≡ Some false) × (say ≡ Say.Refused Code.NotExclusive) × (new ≡ old))
+    ⊎ ((live_as old.tokens token ≡ Some true) × (say ≡ Say.Done) × RemovesObject kind name old new))
+
 -- the answers of a store whose device doesn't fail
 abbrev pub Answers : Store → Ask → Say → Store → Type 0
 Answers old Ask.Ticket say new = TicketAnswer old say new
 Answers old (Ask.Lock row) say new = LockAnswer old row say new
+Answers old (Ask.Refresh token time) say new = RefreshAnswer old token time say new
 Answers old (Ask.Unlock token) say new = UnlockAnswer old token say new
+Answers old Ask.Locks say new = LocksAnswer old say new
+Answers old (Ask.List kind after) say new = ListAnswer old kind after say new
+Answers old (Ask.Get kind name) say new = GetAnswer old kind name say new
+Answers old (Ask.Range pack offset len) say new = RangeAnswer old pack offset len say new
+Answers old (Ask.Put token kind name bytes) say new = PutAnswer old token kind name bytes say new
+Answers old (Ask.Delete token kind name) say new = DeleteAnswer old token kind name say new
+Answers old Ask.Config say new = ConfigAnswer old say new
 
 -- a request that isn't answered before the device is looked at
 abbrev pub Looks : Ask → Type 0
 Looks Ask.Ticket = ⊤
 Looks (Ask.Lock row) = ⊤
+Looks (Ask.Refresh token time) = ⊤
 Looks (Ask.Unlock token) = ⊤
+Looks Ask.Locks = ⊤
+Looks (Ask.List kind after) = ⊤
+Looks (Ask.Get kind name) = ⊤
+Looks (Ask.Range pack offset len) = IsRangeLength len
+Looks (Ask.Put token kind name bytes) = length bytes ≤ object_limit kind
+Looks (Ask.Delete token kind name) = ⊤
+Looks Ask.Config = ⊤
 
 -- in place of an answer: the device failed, before the answer's change or after it; or there was no memory, and nothing changed
 abbrev pub Fails : Store → (Say → Store → Type 0) → Say → Store → Type 0

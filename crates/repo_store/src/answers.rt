@@ -1,18 +1,23 @@
 //! The answer to each request.
 
 ghost use Rattle.std.specs.Prelude.{◌≡◌};
-ghost use Rattle.repo_name.specs.Rows.{IsHost};
-ghost use Rattle.repo_wire.specs.declared.messages.Ask.{Ask};
+ghost use Rattle.repo_name.specs.Naming.{IsInstance};
+ghost use Rattle.repo_wire.specs.Messages.{replies, IsReply, IsSay, IsShortSay};
+ghost use Rattle.repo_wire.specs.Stream.{FitsFrame};
 ghost use Rattle.repo_store.specs.Runs.{Replies};
-ghost use Rattle.repo_store.specs.StoreMachine.{refusal, lock_refusal, IsAnswerable, Step, SaysFault};
+ghost use Rattle.repo_store.specs.StoreMachine.{refusal, IsAnswerable, Step, SaysFault};
 
+use crate::lock_answers::{answer_lock, answer_locks, answer_refresh, answer_ticket, answer_unlock};
+use crate::object_answers::{
+    answer_config, answer_delete, answer_get, answer_list, answer_put, answer_range,
+};
 use crate::shelves::{Shelf, ShelfError};
-use repo_locks::{Grant, LockError, TicketError};
-use repo_name::{LockRow, Token};
+use repo_name::Instance;
 use repo_wire::{Ask, Code, Reply, Request, Say};
+use std::alloc::Global;
 
 /// The refusal for a call of the shelf that failed.
-fn refusal(error: ShelfError) -> Say
+pub fn refusal(error: ShelfError) -> Say
     ensures { result ≡ refusal error }
 {
     match error {
@@ -21,104 +26,73 @@ fn refusal(error: ShelfError) -> Say
     }
 }
 
-/// The refusal for a lock that isn't granted.
-fn lock_refusal(error: LockError) -> Say
-    ensures { result ≡ lock_refusal error }
-{
-    match error {
-        LockError::Dead => Say::Refused(Code::Dead),
-        LockError::OtherKind => Say::Refused(Code::OtherKind),
-        LockError::Busy => Say::Refused(Code::Busy),
-        LockError::Full => Say::Refused(Code::Full),
-        LockError::Memory => Say::Refused(Code::NoMemory),
-    }
-}
-
-fn answer_ticket<S: Shelf>(shelf: &mut S) -> Say
-    ensures step { S.honest shelf.old → Step (S.store shelf.old) Ask.Ticket result (S.store shelf.new) }
-    ensures cause { S.honest shelf.old → SaysFault (S.failed shelf.old) result (S.failed shelf.new) }
-    ensures honest { S.honest shelf.old → S.honest shelf.new }
-{
-    let mut ledger = match shelf.ledger() {
-        Ok(ledger) => ledger,
-        Err(error) => return refusal(error),
-    };
-    let token = match ledger.ticket() {
-        Ok(token) => token,
-        Err(TicketError::Exhausted) => return Say::Refused(Code::Exhausted),
-        Err(TicketError::Memory) => return Say::Refused(Code::NoMemory),
-    };
-    match shelf.save_ledger(&ledger) {
-        Ok(()) => Say::Token(token),
-        Err(error) => refusal(error),
-    }
-}
-
-fn answer_lock<S: Shelf>(shelf: &mut S, row: &LockRow) -> Say
-    requires { IsHost row.now.host }
-    ensures step { S.honest shelf.old → Step (S.store shelf.old) (Ask.Lock row.now) result (S.store shelf.new) }
-    ensures cause { S.honest shelf.old → SaysFault (S.failed shelf.old) result (S.failed shelf.new) }
-    ensures honest { S.honest shelf.old → S.honest shelf.new }
-{
-    let mut ledger = match shelf.ledger() {
-        Ok(ledger) => ledger,
-        Err(error) => return refusal(error),
-    };
-    match ledger.lock(row.token, row.exclusive, row.time, row.host.as_str()) {
-        Ok(Grant::New) => {}
-        Ok(Grant::Held) => return Say::Done,
-        Err(error) => return lock_refusal(error),
-    }
-    match shelf.save_ledger(&ledger) {
-        Ok(()) => Say::Done,
-        Err(error) => refusal(error),
-    }
-}
-
-fn answer_unlock<S: Shelf>(shelf: &mut S, token: Token) -> Say
-    ensures step { S.honest shelf.old → Step (S.store shelf.old) (Ask.Unlock token) result (S.store shelf.new) }
-    ensures cause { S.honest shelf.old → SaysFault (S.failed shelf.old) result (S.failed shelf.new) }
-    ensures honest { S.honest shelf.old → S.honest shelf.new }
-{
-    let mut ledger = match shelf.ledger() {
-        Ok(ledger) => ledger,
-        Err(error) => return refusal(error),
-    };
-    if !ledger.unlock(token) {
-        return Say::Done;
-    }
-    match shelf.save_ledger(&ledger) {
-        Ok(()) => Say::Done,
-        Err(error) => refusal(error),
-    }
-}
-
-fn say_to<S: Shelf>(shelf: &mut S, ask: &Ask) -> Say
+/// What is said to what is asked.
+fn say_to<S: Shelf>(alloc: Global, shelf: &mut S, ask: &Ask) -> Say
     requires { IsAnswerable ask.now }
     ensures step { S.honest shelf.old → Step (S.store shelf.old) ask.now result (S.store shelf.new) }
     ensures cause { S.honest shelf.old → SaysFault (S.failed shelf.old) result (S.failed shelf.new) }
     ensures honest { S.honest shelf.old → S.honest shelf.new }
+    ensures within { IsSay result × IsShortSay result }
 {
     match ask {
         Ask::Ticket => answer_ticket(shelf),
         Ask::Lock(row) => answer_lock(shelf, row),
+        Ask::Refresh { token, time } => answer_refresh(shelf, *token, *time),
         Ask::Unlock(token) => answer_unlock(shelf, *token),
+        Ask::Locks => answer_locks(alloc, shelf),
+        Ask::List { kind, after } => answer_list(shelf, *kind, after.as_ref()),
+        Ask::Get { kind, name } => answer_get(shelf, *kind, name),
+        Ask::Range {
+            pack,
+            offset,
+            length,
+        } => answer_range(shelf, pack, *offset, *length),
+        Ask::Put {
+            token,
+            kind,
+            name,
+            bytes,
+        } => answer_put(shelf, *token, *kind, name, bytes.as_slice()),
+        Ask::Delete { token, kind, name } => answer_delete(shelf, *token, *kind, name),
+        Ask::Config => answer_config(shelf),
     }
 }
 
-/// The answer to a request: one step of the store machine, over an honest shelf.
+/// An instance's bytes: what tells a proof that there are 16 of them.
+fn bytes_of(instance: Instance) -> [u8; 16]
+    ensures bytes { result ≡ instance.0 }
+    ensures instance { IsInstance instance }
+{
+    instance.0
+}
+
+/// A reply to this instance and sequence.
+fn reply_to(instance: Instance, sequence: u64, say: Say) -> Reply
+    requires { IsSay say }
+    ensures reply { result ≡ record { instance = instance; sequence = sequence; say = say } }
+    ensures within { IsReply result }
+{
+    let instance = Instance(bytes_of(instance));
+    Reply {
+        instance,
+        sequence,
+        say,
+    }
+}
+
+/// The answer to a request: one step of the store machine, over an honest shelf. It repeats the request's
+/// instance and sequence, and fits a frame.
 ///
 /// Code 10 is said only where the shelf failed in this call; the store is then as before, or as after
-/// the answer that the request would have had. After every other refusal the store is as before.
-pub fn answer<S: Shelf>(shelf: &mut S, request: &Request) -> Reply
+/// the answer that the request would have had. After every other refusal the store is as before. The
+/// shelf is asked to write at most once.
+pub fn answer<S: Shelf>(alloc: Global, shelf: &mut S, request: &Request) -> Reply
     requires { IsAnswerable request.now.ask }
     ensures replies { S.honest shelf.old → Replies (S.store shelf.old) request.now result (S.store shelf.new) }
     ensures cause { S.honest shelf.old → SaysFault (S.failed shelf.old) result.say (S.failed shelf.new) }
     ensures honest { S.honest shelf.old → S.honest shelf.new }
+    ensures fits { FitsFrame replies result }
 {
-    Reply {
-        instance: request.instance,
-        sequence: request.sequence,
-        say: say_to(shelf, &request.ask),
-    }
+    let say = say_to(alloc, shelf, &request.ask);
+    reply_to(request.instance, request.sequence, say)
 }

@@ -1,10 +1,15 @@
 //! The device that a store keeps everything on.
 
-ghost use Rattle.std.specs.Prelude.{◌≡◌, ℕ};
+ghost use Rattle.std.specs.Prelude.{◌≡◌, ◌≤◌, ℕ, length, option_map, All, IfOk};
+ghost use Rattle.repo_name.specs.declared.kinds.Kind.{Kind};
+ghost use Rattle.repo_name.specs.Naming.{IsName};
 ghost use Rattle.repo_store.specs.Laws.{Reads, Writes, HasCause};
-ghost use Rattle.repo_store.specs.Stores.{Store, SavesTokens};
+ghost use Rattle.repo_store.specs.Pages.{IsPage};
+ghost use Rattle.repo_store.specs.Slices.{IsSlice, HasLength};
+ghost use Rattle.repo_store.specs.Stores.{Store, PutsObject, RemovesObject, SavesTokens, SavesConfig};
 
 use repo_locks::Ledger;
+use repo_name::{Bytes, Kind, Name, Names};
 use std::alloc::AllocError;
 use thiserror::Error;
 
@@ -30,6 +35,24 @@ impl From<AllocError> for ShelfError {
     }
 }
 
+/// What a device has of a pack at an offset and a length.
+#[derive(Debug, Drop, PartialEq)]
+pub enum Slice {
+    /// Those bytes.
+    Found(Bytes),
+    /// There is no such pack.
+    Missing,
+    /// The pack ends before the last of these bytes.
+    Outside,
+}
+
+/// The least names of a kind after a given one, ascending, and whether more follow.
+#[derive(Debug, Drop, PartialEq)]
+pub struct Page {
+    pub names: Names,
+    pub more: bool,
+}
+
 /// A device that keeps a store. What its calls promise holds where it is honest, which each call keeps.
 pub trait Shelf {
     /// What is stored.
@@ -38,6 +61,46 @@ pub trait Shelf {
     ghost failed: { Self → ℕ };
     /// The device keeps what it was given.
     ghost honest: { Self → Type 0 };
+
+    /// An object's bytes, whole. It changes nothing but the count of failures.
+    fn get(&mut self, kind: Kind, name: &Name) -> Result<Option<Bytes>, ShelfError>
+        ensures law { honest self.old → Reads (λ found. found ≡ (store self.old).objects kind name.now) (store self.old) result (store self.new) }
+        ensures cause { honest self.old → HasCause (failed self.old) result (failed self.new) }
+        ensures honest { honest self.old → honest self.new };
+
+    /// So many bytes of a pack at an offset. It changes nothing but the count of failures.
+    fn range(&mut self, pack: &Name, offset: u32, length: u32) -> Result<Slice, ShelfError>
+        ensures law { honest self.old → Reads (IsSlice ((store self.old).objects Kind.Pack pack.now) offset length) (store self.old) result (store self.new) }
+        ensures cause { honest self.old → HasCause (failed self.old) result (failed self.new) }
+        ensures honest { honest self.old → honest self.new }
+        ensures length { IfOk result (HasLength length) };
+
+    /// Puts an object, where none has its kind and name; else nothing changes. After a fault it may be
+    /// there or not.
+    fn put(&mut self, kind: Kind, name: &Name, bytes: &[u8]) -> Result<(), ShelfError>
+        ensures law { honest self.old → Writes (PutsObject kind name.now bytes.now) (store self.old) result (store self.new) }
+        ensures cause { honest self.old → HasCause (failed self.old) result (failed self.new) }
+        ensures honest { honest self.old → honest self.new };
+
+    /// Removes an object, if there is one. After a fault it may be there or not.
+    fn remove(&mut self, kind: Kind, name: &Name) -> Result<(), ShelfError>
+        ensures law { honest self.old → Writes (RemovesObject kind name.now) (store self.old) result (store self.new) }
+        ensures cause { honest self.old → HasCause (failed self.old) result (failed self.new) }
+        ensures honest { honest self.old → honest self.new };
+
+    /// The least names of a kind after the given one, at most `limit`. It changes nothing but the count
+    /// of failures.
+    fn names_after(
+        &mut self,
+        kind: Kind,
+        after: Option<&Name>,
+        limit: usize,
+    ) -> Result<Page, ShelfError>
+        ensures law { honest self.old → Reads (λ page. IsPage (store self.old).objects kind (option_map (λ name. name.now) after.entry) limit page.names page.more) (store self.old) result (store self.new) }
+        ensures cause { honest self.old → HasCause (failed self.old) result (failed self.new) }
+        ensures honest { honest self.old → honest self.new }
+        ensures few { IfOk result (λ page. length page.names ≤ limit) }
+        ensures names { IfOk result (λ page. All IsName page.names) };
 
     /// The ledger, as it was saved last. It changes nothing but the count of failures.
     fn ledger(&mut self) -> Result<Ledger, ShelfError>
@@ -48,6 +111,18 @@ pub trait Shelf {
     /// Keeps the ledger in place of the one before. After a fault it may be kept or not.
     fn save_ledger(&mut self, ledger: &Ledger) -> Result<(), ShelfError>
         ensures law { honest self.old → Writes (SavesTokens ledger.now) (store self.old) result (store self.new) }
+        ensures cause { honest self.old → HasCause (failed self.old) result (failed self.new) }
+        ensures honest { honest self.old → honest self.new };
+
+    /// The config's bytes, if there is one. It changes nothing but the count of failures.
+    fn config(&mut self) -> Result<Option<Bytes>, ShelfError>
+        ensures law { honest self.old → Reads (λ found. found ≡ (store self.old).config) (store self.old) result (store self.new) }
+        ensures cause { honest self.old → HasCause (failed self.old) result (failed self.new) }
+        ensures honest { honest self.old → honest self.new };
+
+    /// Keeps these bytes as the config. After a fault they may be kept or not.
+    fn save_config(&mut self, bytes: &[u8]) -> Result<(), ShelfError>
+        ensures law { honest self.old → Writes (SavesConfig bytes.now) (store self.old) result (store self.new) }
         ensures cause { honest self.old → HasCause (failed self.old) result (failed self.new) }
         ensures honest { honest self.old → honest self.new };
 

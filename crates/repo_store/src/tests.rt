@@ -1,16 +1,20 @@
-//! Answers over a shelf in memory.
+//! Answers over shelves in memory, some of which fail as they are told.
 
 ghost use Rattle.std.specs.Prelude.{IfOk};
 ghost use Rattle.repo_name.specs.Rows.{IsHost};
 ghost use Rattle.repo_store.specs.StoreMachine.{IsAnswerable};
 
 use crate::answers::answer;
+use crate::faults::{Fail, FaultShelf};
+use crate::making::{InitError, init};
 use crate::memory::MemShelf;
-use crate::shelves::Shelf;
-use repo_name::{Instance, LockRow, Text, Token};
+use crate::shelves::{Page, Shelf, ShelfError, Slice};
+use repo_chunk::Params;
+use repo_name::{Bytes, Instance, Kind, LockRow, LockRows, Name, Names, Text, Token, name_of};
+use repo_tree::Config;
 use repo_wire::{Ask, Code, Request, Say};
 use std::alloc::{AllocError, Global};
-use std::test::Fail;
+use std::test::Fail as TestFail;
 
 /// The lock of a token, at the time 5 by the host `a`.
 fn lock(alloc: Global, token: u64, exclusive: bool) -> Result<Ask, AllocError>
@@ -32,12 +36,13 @@ fn one_letter(alloc: Global) -> Result<Text, AllocError>
     Ok(Text::of(String::from_str(alloc, "a")?))
 }
 
-/// What the shelf's store says to what is asked, by a client that repeats itself nowhere.
-fn said(shelf: &mut MemShelf, ask: Ask) -> Say
+/// What a shelf's store says to what is asked.
+fn said<S: Shelf>(alloc: Global, shelf: &mut S, ask: Ask) -> Say
     requires { IsAnswerable ask }
 {
     let instance = Instance([7; 16]);
     answer(
+        alloc,
         shelf,
         &Request {
             instance,
@@ -48,12 +53,48 @@ fn said(shelf: &mut MemShelf, ask: Ask) -> Say
     .say
 }
 
+/// Some bytes in a payload.
+fn bytes_of(alloc: Global, bytes: &[u8]) -> Result<Bytes, AllocError> {
+    Ok(Bytes::of(bytes.to_vec(alloc)?))
+}
+
+/// The ask that puts bytes under a name.
+fn put(alloc: Global, token: u64, kind: Kind, name: Name, bytes: &[u8]) -> Result<Ask, AllocError>
+    ensures { IfOk result (λ ask. IsAnswerable ask) }
+{
+    let token = Token(token);
+    let bytes = bytes_of(alloc, bytes)?;
+    Ok(Ask::Put {
+        token,
+        kind,
+        name,
+        bytes,
+    })
+}
+
+/// A page of names.
+fn page(alloc: Global, names: &[Name], more: bool) -> Result<Say, AllocError> {
+    Ok(Say::Names {
+        more,
+        names: Names::of(names.to_vec(alloc)?),
+    })
+}
+
+/// A shelf with one live lock, of the token 1.
+fn locked(alloc: Global, exclusive: bool) -> Result<MemShelf, AllocError> {
+    let mut shelf = MemShelf::new(alloc);
+    said(alloc, &mut shelf, Ask::Ticket);
+    let lock = lock(alloc, 1, exclusive)?;
+    said(alloc, &mut shelf, lock);
+    Ok(shelf)
+}
+
 #[test]
-fn locks_and_dead_tokens(rt: HostRuntime) -> Result<(), Fail> {
+fn locks_and_dead_tokens(rt: HostRuntime) -> Result<(), TestFail> {
     let alloc = rt.alloc();
     let mut shelf = MemShelf::new(alloc);
     for number in 1..4 {
-        assert_eq!(rt; said(&mut shelf, Ask::Ticket), Say::Token(Token(number)));
+        assert_eq!(rt; said(alloc, &mut shelf, Ask::Ticket), Say::Token(Token(number)));
     }
     for (token, exclusive, wanted) in [
         (1, false, Say::Done),
@@ -62,41 +103,183 @@ fn locks_and_dead_tokens(rt: HostRuntime) -> Result<(), Fail> {
         (1, false, Say::Done),
         (1, true, Say::Refused(Code::OtherKind)),
     ] {
-        assert_eq!(rt; said(&mut shelf, lock(alloc, token, exclusive)?), wanted);
+        let ask = lock(alloc, token, exclusive)?;
+        assert_eq!(rt; said(alloc, &mut shelf, ask), wanted);
     }
-    assert_eq!(rt; said(&mut shelf, Ask::Unlock(Token(1))), Say::Done);
-    assert_eq!(rt;
-        said(&mut shelf, lock(alloc, 1, false)?),
-        Say::Refused(Code::Dead)
-    );
-    assert_eq!(rt; said(&mut shelf, Ask::Unlock(Token(9))), Say::Done);
-    assert_eq!(rt; said(&mut shelf, Ask::Ticket), Say::Token(Token(4)));
+    assert_eq!(rt; said(alloc, &mut shelf, Ask::Unlock(Token(1))), Say::Done);
+    let again = lock(alloc, 1, false)?;
+    assert_eq!(rt; said(alloc, &mut shelf, again), Say::Refused(Code::Dead));
+    let row = LockRow {
+        token: Token(2),
+        exclusive: false,
+        time: 5,
+        host: one_letter(alloc)?,
+    };
+    let mut rows = Vec::new(alloc);
+    rows.push(row)?;
+    let listed = Say::LockList(LockRows::of(rows));
+    assert_eq!(rt; said(alloc, &mut shelf, Ask::Locks), listed);
     assert_eq!(rt; shelf.failures(), 0);
     Ok(())
 }
 
 #[test]
-fn as_many_as_there_may_be(rt: HostRuntime) -> Result<(), Fail> {
+fn nothing_is_put_under_a_dead_token(rt: HostRuntime) -> Result<(), TestFail> {
+    let alloc = rt.alloc();
+    let mut shelf = locked(alloc, false)?;
+    let (kind, name) = (Kind::Pack, name_of(b"abc"));
+    assert_eq!(rt; said(alloc, &mut shelf, Ask::Unlock(Token(1))), Say::Done);
+    let late = put(alloc, 1, kind, name, b"abc")?;
+    assert_eq!(rt; said(alloc, &mut shelf, late), Say::Refused(Code::Dead));
+    let get = Ask::Get { kind, name };
+    assert_eq!(rt; said(alloc, &mut shelf, get), Say::Refused(Code::Missing));
+    assert_eq!(rt; said(alloc, &mut shelf, Ask::Unlock(Token(9))), Say::Done);
+    for number in 2..10 {
+        assert_eq!(rt; said(alloc, &mut shelf, Ask::Ticket), Say::Token(Token(number)));
+    }
+    Ok(())
+}
+
+#[test]
+fn objects_are_put_once_and_listed(rt: HostRuntime) -> Result<(), TestFail> {
+    let alloc = rt.alloc();
+    let mut shelf = locked(alloc, false)?;
+    let (kind, name, empty) = (Kind::Pack, name_of(b"abc"), name_of(b""));
+    let large = vec![in alloc; 0u8; 65_537]?;
+    let ask = put(alloc, 7, Kind::Snapshot, empty, large.as_slice())?;
+    assert_eq!(rt; said(alloc, &mut shelf, ask), Say::Refused(Code::TooLarge));
+    let ask = put(alloc, 1, kind, empty, b"abc")?;
+    assert_eq!(rt; said(alloc, &mut shelf, ask), Say::Refused(Code::NameMismatch));
+    for _ in 0..2 {
+        let ask = put(alloc, 1, kind, name, b"abc")?;
+        assert_eq!(rt; said(alloc, &mut shelf, ask), Say::Done);
+    }
+    let ask = Ask::List { kind, after: None };
+    assert_eq!(rt; said(alloc, &mut shelf, ask), page(alloc, &[name], false)?);
+    let after = Some(name);
+    let ask = Ask::List { kind, after };
+    assert_eq!(rt; said(alloc, &mut shelf, ask), page(alloc, &[], false)?);
+    let token = Token(1);
+    let ask = Ask::Delete { token, kind, name };
+    assert_eq!(rt; said(alloc, &mut shelf, ask), Say::Refused(Code::NotExclusive));
+    Ok(())
+}
+
+#[test]
+fn parts_of_packs_and_times_of_locks(rt: HostRuntime) -> Result<(), TestFail> {
+    let alloc = rt.alloc();
+    let mut shelf = locked(alloc, false)?;
+    let (pack, empty) = (name_of(b"abc"), name_of(b""));
+    let ask = put(alloc, 1, Kind::Pack, pack, b"abc")?;
+    assert_eq!(rt; said(alloc, &mut shelf, ask), Say::Done);
+    let ask = lock(alloc, 1, true)?;
+    assert_eq!(rt; said(alloc, &mut shelf, ask), Say::Refused(Code::OtherKind));
+    for (pack, offset, length, wanted) in [
+        (pack, 0, 0, Say::Refused(Code::Malformed)),
+        (pack, 0, 8_388_609, Say::Refused(Code::Malformed)),
+        (pack, 2, 2, Say::Refused(Code::Range)),
+        (pack, 1, 2, Say::Bytes(bytes_of(alloc, b"bc")?)),
+        (empty, 0, 1, Say::Refused(Code::Missing)),
+    ] {
+        let ask = Ask::Range {
+            pack,
+            offset,
+            length,
+        };
+        assert_eq!(rt; said(alloc, &mut shelf, ask), wanted);
+    }
+    assert_eq!(rt; said(alloc, &mut shelf, Ask::Config), Say::Refused(Code::Missing));
+    for (token, wanted) in [(1, Say::Done), (2, Say::Refused(Code::Dead))] {
+        let token = Token(token);
+        let ask = Ask::Refresh { token, time: 9 };
+        assert_eq!(rt; said(alloc, &mut shelf, ask), wanted);
+    }
+    Ok(())
+}
+
+#[test]
+fn an_exclusive_lock_deletes(rt: HostRuntime) -> Result<(), TestFail> {
+    let alloc = rt.alloc();
+    let mut shelf = locked(alloc, true)?;
+    let (token, kind, name) = (Token(1), Kind::Index, name_of(b"abc"));
+    let ask = put(alloc, 1, kind, name, b"abc")?;
+    assert_eq!(rt; said(alloc, &mut shelf, ask), Say::Done);
+    let get = Ask::Get { kind, name };
+    let there = Say::Bytes(bytes_of(alloc, b"abc")?);
+    assert_eq!(rt; said(alloc, &mut shelf, get), there);
+    for _ in 0..2 {
+        let ask = Ask::Delete { token, kind, name };
+        assert_eq!(rt; said(alloc, &mut shelf, ask), Say::Done);
+        let get = Ask::Get { kind, name };
+        assert_eq!(rt; said(alloc, &mut shelf, get), Say::Refused(Code::Missing));
+    }
+    let token = Token(2);
+    let ask = Ask::Delete { token, kind, name };
+    assert_eq!(rt; said(alloc, &mut shelf, ask), Say::Refused(Code::Dead));
+    Ok(())
+}
+
+#[test]
+fn a_snapshot_above_its_limit_is_not_given(rt: HostRuntime) -> Result<(), TestFail> {
+    let alloc = rt.alloc();
+    let mut shelf = MemShelf::new(alloc);
+    let large = vec![in alloc; 0u8; 65_537]?;
+    let (kind, name) = (Kind::Snapshot, name_of(large.as_slice()));
+    shelf.put(kind, &name, large.as_slice())?;
+    let get = Ask::Get { kind, name };
+    assert_eq!(rt; said(alloc, &mut shelf, get), Say::Refused(Code::TooLarge));
+    shelf.put(kind, &name_of(b""), &large.as_slice()[..1])?;
+    let get = Ask::Get { kind, name: name_of(b"") };
+    let byte = Say::Bytes(bytes_of(alloc, &[0])?);
+    assert_eq!(rt; said(alloc, &mut shelf, get), byte);
+    shelf.save_config(large.as_slice())?;
+    assert_eq!(rt; said(alloc, &mut shelf, Ask::Config), Say::Refused(Code::TooLarge));
+    Ok(())
+}
+
+#[test]
+fn a_page_has_256_names(rt: HostRuntime) -> Result<(), TestFail> {
+    let alloc = rt.alloc();
+    let mut shelf = MemShelf::new(alloc);
+    let mut names = Vec::new(alloc);
+    for number in 0u16..257 {
+        let mut name = [0u8; 32];
+        name[..2].copy_from_slice(&number.to_be_bytes());
+        names.push(Name(name))?;
+        shelf.put(Kind::Index, &Name(name), b"")?;
+    }
+    let (kind, mut after) = (Kind::Index, None);
+    for names in names.as_slice().chunks(256) {
+        let ask = Ask::List { kind, after };
+        let listed = page(alloc, names, names.len() == 256)?;
+        assert_eq!(rt; said(alloc, &mut shelf, ask), listed);
+        after = names.last().copied();
+    }
+    Ok(())
+}
+
+#[test]
+fn as_many_as_there_may_be(rt: HostRuntime) -> Result<(), TestFail> {
     let alloc = rt.alloc();
     let mut shelf = MemShelf::new(alloc);
     for number in 1..258 {
-        assert_eq!(rt; said(&mut shelf, Ask::Ticket), Say::Token(Token(number)));
+        assert_eq!(rt; said(alloc, &mut shelf, Ask::Ticket), Say::Token(Token(number)));
         let wanted = if number < 257 {
             Say::Done
         } else {
             Say::Refused(Code::Full)
         };
-        assert_eq!(rt; said(&mut shelf, lock(alloc, number, false)?), wanted);
+        let ask = lock(alloc, number, false)?;
+        assert_eq!(rt; said(alloc, &mut shelf, ask), wanted);
     }
     let mut shelf = MemShelf::new(alloc);
     for number in 1..1026 {
-        assert_eq!(rt; said(&mut shelf, Ask::Ticket), Say::Token(Token(number)));
+        assert_eq!(rt; said(alloc, &mut shelf, Ask::Ticket), Say::Token(Token(number)));
     }
-    assert_eq!(rt;
-        said(&mut shelf, lock(alloc, 1, false)?),
-        Say::Refused(Code::Dead)
-    );
-    assert_eq!(rt; said(&mut shelf, lock(alloc, 2, false)?), Say::Done);
+    for (number, wanted) in [(1, Say::Refused(Code::Dead)), (2, Say::Done)] {
+        let ask = lock(alloc, number, false)?;
+        assert_eq!(rt; said(alloc, &mut shelf, ask), wanted);
+    }
     Ok(())
 }
 
@@ -105,6 +288,7 @@ fn a_reply_repeats_instance_and_sequence(rt: HostRuntime) {
     let mut shelf = MemShelf::new(rt.alloc());
     let instance = Instance([3; 16]);
     let reply = answer(
+        rt.alloc(),
         &mut shelf,
         &Request {
             instance,
@@ -116,17 +300,131 @@ fn a_reply_repeats_instance_and_sequence(rt: HostRuntime) {
     assert_eq!(rt; reply.sequence, 77);
 }
 
+/// What is asked in the table of failures, by its number.
+fn asked(alloc: Global, number: u64) -> Result<Ask, AllocError>
+    ensures { IfOk result (λ ask. IsAnswerable ask) }
+{
+    let (token, kind, name) = (Token(1), Kind::Pack, name_of(b"abc"));
+    Ok(match number {
+        0 => Ask::Ticket,
+        1 => lock(alloc, 2, false)?,
+        2 => Ask::Refresh { token, time: 9 },
+        3 => Ask::Unlock(token),
+        4 => put(alloc, 1, kind, name, b"abc")?,
+        5 => Ask::Delete { token, kind, name },
+        6 => Ask::Locks,
+        7 => Ask::List { kind, after: None },
+        8 => Ask::Get { kind, name },
+        9 => Ask::Range {
+            pack: name,
+            offset: 0,
+            length: 1,
+        },
+        _ => Ask::Config,
+    })
+}
+
+/// A shelf where each ask of the table is done: its lock is exclusive for a deletion, else shared, and
+/// there are an object and a config.
+fn ready(alloc: Global, number: u64) -> Result<FaultShelf<MemShelf>, TestFail> {
+    let mut shelf = locked(alloc, number == 5)?;
+    said(alloc, &mut shelf, Ask::Ticket);
+    if number != 4 {
+        shelf.put(Kind::Pack, &name_of(b"abc"), b"abc")?;
+    }
+    shelf.save_config(b"{}")?;
+    Ok(FaultShelf::new(shelf))
+}
+
+// The first six of the table write, and each reads.
+#[test]
+fn each_ask_meets_each_failure(rt: HostRuntime) -> Result<(), TestFail> {
+    let alloc = rt.alloc();
+    for number in 0..11 {
+        let writes = number < 6;
+        for (fail, fails) in [
+            (Fail::Read, true),
+            (Fail::Write(true), writes),
+            (Fail::Write(false), writes),
+        ] {
+            let mut shelf = ready(alloc, number)?;
+            shelf.arm(fail);
+            let say = said(alloc, &mut shelf, asked(alloc, number)?);
+            assert_eq!(rt; say == Say::Refused(Code::Fault), fails, "of {number}");
+            assert_eq!(rt; shelf.failures(), fails as u64);
+            shelf.disarm();
+            let there = shelf.get(Kind::Pack, &name_of(b"abc"))?.is_some();
+            let kept = match number {
+                4 => fail == Fail::Write(true),
+                5 => fail != Fail::Write(true),
+                _ => true,
+            };
+            assert_eq!(rt; there, kept, "after {number}");
+        }
+    }
+    Ok(())
+}
+
+#[test]
+fn the_armed_call_fails_alone(rt: HostRuntime) -> Result<(), TestFail> {
+    let alloc = rt.alloc();
+    let mut shelf = ready(alloc, 4)?;
+    let name = name_of(b"abc");
+    shelf.arm_at(2, true);
+    assert_eq!(rt; shelf.get(Kind::Pack, &name), Ok(None));
+    assert_eq!(rt; shelf.put(Kind::Pack, &name, b"abc"), Err(ShelfError::Fault));
+    assert!(rt; shelf.get(Kind::Pack, &name)?.is_some());
+    shelf.arm_at(1, false);
+    assert_eq!(rt; shelf.remove(Kind::Pack, &name), Err(ShelfError::Fault));
+    let slice = shelf.range(&name, 1, 1)?;
+    assert_eq!(rt; slice, Slice::Found(bytes_of(alloc, b"b")?));
+    shelf.arm(Fail::Write(true));
+    shelf.disarm();
+    shelf.remove(Kind::Pack, &name)?;
+    let none = Page {
+        names: Names::of(Vec::new(alloc)),
+        more: false,
+    };
+    assert_eq!(rt; shelf.names_after(Kind::Pack, None, 3)?, none);
+    assert_eq!(rt; shelf.failures(), 2);
+    Ok(())
+}
+
+#[test]
+fn a_config_is_kept_once(rt: HostRuntime) -> Result<(), TestFail> {
+    let alloc = rt.alloc();
+    let mut shelf = MemShelf::new(alloc);
+    let Ok(params) = Params::new(64, 128, 6) else {
+        assert!(rt; false, "these are lawful");
+        return Ok(());
+    };
+    let config = Config {
+        version: 1,
+        id: Instance([0; 16]),
+        params,
+        target: 1024,
+    };
+    assert_eq!(rt; init(alloc, &mut shelf, &config), Ok(()));
+    assert_eq!(rt; init(alloc, &mut shelf, &config), Err(InitError::Exists));
+    let text = "{\"chunk_bits\":6,\"chunk_max\":128,\"chunk_min\":64,\
+                \"id\":\"00000000000000000000000000000000\",\"pack_target\":1024,\"version\":1}";
+    let given = Say::Bytes(bytes_of(alloc, text.as_bytes())?);
+    assert_eq!(rt; said(alloc, &mut shelf, Ask::Config), given);
+    Ok(())
+}
+
 // Run by a script with each allocation refused in turn: the answer is then the refusal for memory, nothing
 // changed, and the same request succeeds afterwards.
 #[test]
 fn refused_growth(rt: HostRuntime) {
-    let mut shelf = MemShelf::new(rt.alloc());
+    let alloc = rt.alloc();
+    let mut shelf = MemShelf::new(alloc);
     for _ in 0..3 {
-        let say = said(&mut shelf, Ask::Ticket);
+        let say = said(alloc, &mut shelf, Ask::Ticket);
         if say != Say::Token(Token(1)) {
             assert_eq!(rt; say, Say::Refused(Code::NoMemory));
-            assert_eq!(rt; said(&mut shelf, Ask::Ticket), Say::Token(Token(1)));
+            assert_eq!(rt; said(alloc, &mut shelf, Ask::Ticket), Say::Token(Token(1)));
         }
-        shelf = MemShelf::new(rt.alloc());
+        shelf = MemShelf::new(alloc);
     }
 }

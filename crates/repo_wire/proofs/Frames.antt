@@ -1,10 +1,10 @@
-use Rattle.std.proofs.Common.{◌≡◌, ◌≤◌, ◌<◌, ◌+◌, ◌++◌, ◌∷◌, [], ℕ, zero, suc, lit<, List, length, take, drop, get_or, refl, sym, ap, subst, arith, ◌∙◌, length-append, length-drop}
-use Rattle.std.specs.Int.{w32, to_be_bytes, from_be_bytes}
-use Rattle.std.proofs.Math.Seq.{take-append_seam, drop-append_seam}
+use Rattle.std.proofs.Common.{◌≡◌, ◌≤◌, ◌<◌, ◌+◌, ◌++◌, ◌∷◌, [], ℕ, zero, suc, lit<, List, length, take, drop, get_or, sym, ap, subst, arith, ◌∙◌, length-append, length-drop}
+use Rattle.std.specs.Int.{w32, to_be_bytes}
+use Rattle.std.proofs.Math.Seq.{take-append_seam}
 use Rattle.std.proofs.lemmas.List.{take-append-drop, length-take-le, drop-drop}
 use Rattle.std.proofs.lemmas.Nat.{from_be_bytes-to_be_bytes_4, be_bytes_4}
 use Rattle.repo_name.proofs.RowLemmas.{fronts_are_one}
-use Rattle.repo_wire.specs.Stream.{Sort, frame, named_length, body_at, tag_at, IsAllowed, IsWhole, IsPartial, Begins, HasFault}
+use Rattle.repo_wire.specs.Stream.{Sort, frame, named_length, body_at, IsAllowed, IsWhole, Begins}
 
 -- a frame names its body's length
 pub named : (b rest : List ℕ) → IsAllowed (length b) → named_length (frame b ++ rest) ≡ length b

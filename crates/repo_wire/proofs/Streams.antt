@@ -1,10 +1,9 @@
-use Rattle.std.proofs.Common.{◌≡◌, ◌≤◌, ◌<◌, ◌+◌, ◌++◌, ◌∷◌, [], ℕ, List, Option, Some, None, length, take, drop, refl, sym, ap, subst, arith, ◌∙◌, append_assoc, length-append, length-drop, slice_index, MatchOption, inl, inr, Ok, Err}
+use Rattle.std.proofs.Common.{◌≡◌, ◌≤◌, ◌++◌, ◌∷◌, [], ℕ, List, Option, Some, None, length, take, drop, refl, sym, ap, subst, arith, ◌∙◌, append_assoc, length-append, length-drop, slice_index, MatchOption, inl, inr}
 use Rattle.std.proofs.lemmas.List.{take-append-le, drop-append-le}
 use Rattle.std.specs.Int.{w32, from_be_bytes}
 use Rattle.repo_wire.specs.declared.faults.Fault.{Fault}
-use Rattle.repo_wire.specs.declared.faults.WireError.{WireError}
-use Rattle.repo_wire.specs.Reading.{Reading, with_piece, fed, NextMessage, Follows, ReadersFollow}
-use Rattle.repo_wire.specs.Stream.{Sort, frame, named_length, body_at, tag_at, IsAllowed, IsWhole, IsPartial, Begins, HasFault, AreFrames, Ending, Waits, Fails, Ends, IsStream, HasOneReading}
+use Rattle.repo_wire.specs.Reading.{Reading, with_piece, Follows, ReadersFollow}
+use Rattle.repo_wire.specs.Stream.{Sort, frame, named_length, body_at, IsAllowed, IsWhole, IsPartial, Begins, HasFault, AreFrames, Ending, Waits, Fails, Ends, IsStream}
 use Rattle.repo_wire.proofs.Frames.{named, length-frame, framed, frames_one}
 
 -- what a sort of messages has to have: a body is of one message, and a message's tag is known

@@ -1,10 +1,14 @@
-use Rattle.std.specs.Prelude.{◌≡◌, ◌≢◌, ◌≤◌, ⊤, ℕ, List, length, drop, slice_index, Option, Some, None, Result, Ok, Err}
+use Rattle.std.specs.Prelude.{◌≡◌, ◌≢◌, ◌≤◌, ◌++◌, ◌∷◌, ⊤, ℕ, List, length, drop, slice_index, Option, Some, None, Result, Ok, Err}
+use Rattle.repo_name.specs.declared.kinds.Kind.{Kind}
+use Rattle.repo_name.specs.declared.names.Name.{Name}
 use Rattle.repo_name.specs.declared.rows.RowError.{RowError}
+use Rattle.repo_name.specs.declared.tokens.Token.{Token}
+use Rattle.repo_name.specs.Rows.{number}
 use Rattle.repo_wire.specs.declared.faults.Fault.{Fault}
 use Rattle.repo_wire.specs.declared.faults.WireError.{WireError}
 use Rattle.repo_wire.specs.declared.messages.Ask.{Ask}
-use Rattle.repo_wire.specs.declared.messages.Request.{Request}
-use Rattle.repo_wire.specs.Messages.{ask_tag, ask_fields, IsAsk, IsRequest, request_body, requests}
+use Rattle.repo_wire.specs.declared.messages.Say.{Say}
+use Rattle.repo_wire.specs.Messages.{short_number, kind_number, ask_tag, ask_fields, IsAsk, requests, say_tag, say_fields, IsSay, replies}
 use Rattle.repo_wire.specs.Stream.{Sort, Begins, HasFault, IsPartial}
 
 -- the fault of fields that are no row
@@ -19,6 +23,32 @@ AskRead tag fields (Err (WireError.Fault Fault.Length)) = ⊥
 AskRead tag fields (Err (WireError.Fault Fault.Tag)) = ¬ requests.KnowsTag tag
 AskRead tag fields (Err (WireError.Fault Fault.Fields)) = requests.KnowsTag tag × ((ask : Ask) → IsAsk ask → ask_tag ask ≡ tag → fields ≢ ask_fields ask)
 AskRead tag fields (Err WireError.Memory) = ⊤
+
+-- what is asked by a tag and fields, where no memory is wanted, or that nothing is
+abbrev pub AskFound : ℕ → List ℕ → Option Ask → Type 0
+AskFound tag fields (Some ask) = IsAsk ask × (ask_tag ask ≡ tag) × (fields ≡ ask_fields ask)
+AskFound tag fields None = (ask : Ask) → IsAsk ask → ask_tag ask ≡ tag → fields ≢ ask_fields ask
+
+-- a token, a kind and a name, as a Put and a Delete begin
+abbrev pub object_bytes : Token → Kind → Name → List ℕ
+object_bytes token kind name = number token.0 ++ kind_number kind ∷ name.0
+
+-- a pack's name, an offset and a length, as a Range names them
+abbrev pub range_bytes : Name → ℕ → ℕ → List ℕ
+range_bytes pack offset len = pack.0 ++ short_number offset ++ short_number len
+
+-- what is said by a tag and fields, or why nothing is
+abbrev pub SayRead : ℕ → List ℕ → Result Say WireError → Type 0
+SayRead tag fields (Ok say) = IsSay say × (say_tag say ≡ tag) × (fields ≡ say_fields say)
+SayRead tag fields (Err (WireError.Fault Fault.Length)) = ⊥
+SayRead tag fields (Err (WireError.Fault Fault.Tag)) = ¬ replies.KnowsTag tag
+SayRead tag fields (Err (WireError.Fault Fault.Fields)) = replies.KnowsTag tag × ((say : Say) → IsSay say → say_tag say ≡ tag → fields ≢ say_fields say)
+SayRead tag fields (Err WireError.Memory) = ⊤
+
+-- what is said by a tag and fields, where no memory is wanted, or that nothing is
+abbrev pub SayFound : ℕ → List ℕ → Option Say → Type 0
+SayFound tag fields (Some say) = IsSay say × (say_tag say ≡ tag) × (fields ≡ say_fields say)
+SayFound tag fields None = (say : Say) → IsSay say → say_tag say ≡ tag → fields ≢ say_fields say
 
 -- the message of a body, or why it has none
 abbrev pub MessageRead : {M : Type 0} → Sort M → List ℕ → Result M WireError → Type 0

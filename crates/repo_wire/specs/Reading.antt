@@ -1,4 +1,4 @@
-use Rattle.std.specs.Prelude.{◌≡◌, ◌⊎◌, ◌++◌, ◌∷◌, [], ℕ, List, Option, Some, None, Result, Ok, Err, MatchOption}
+use Rattle.std.specs.Prelude.{◌≡◌, ◌⊎◌, ◌≤◌, ◌++◌, ◌∷◌, [], ⊤, ℕ, List, length, drop, Option, Some, None, Result, Ok, Err, MatchOption}
 use Rattle.repo_wire.specs.declared.faults.Fault.{Fault}
 use Rattle.repo_wire.specs.declared.faults.WireError.{WireError}
 use Rattle.repo_wire.specs.Stream.{Sort, Begins, IsPartial, HasFault, AreFrames, IsStream, Waits, Fails}
@@ -24,6 +24,19 @@ NextMessage sort old (Ok None) new = (old.fault ≡ None) × IsPartial old.unrea
 NextMessage sort old (Err (WireError.Fault fault)) new =
     (new.unread ≡ old.unread) × (new.fault ≡ Some fault) × ((old.fault ≡ Some fault) ⊎ ((old.fault ≡ None) × HasFault sort old.unread fault))
 NextMessage sort old (Err WireError.Memory) new = (old.fault ≡ None) × (new ≡ old)
+
+-- the frame of a message found at the front is within the bytes that are unread
+abbrev pub IsWithin : {M : Type 0} → Result (Option (M × ℕ)) WireError → List ℕ → Type 0
+IsWithin (Ok (Some found)) unread = found.1 ≤ length unread
+IsWithin (Ok None) unread = ⊤
+IsWithin (Err error) unread = ⊤
+
+-- what was found at the front is answered: a frame is given out, a fault is kept
+abbrev pub IsNoted : {M : Type 0} → Reading → Result (Option (M × ℕ)) WireError → Result (Option M) WireError → Reading → Type 0
+IsNoted old (Ok (Some found)) result new = (result ≡ Ok (Some found.0)) × (new ≡ record { unread = drop found.1 old.unread; fault = old.fault })
+IsNoted old (Ok None) result new = (result ≡ Ok None) × (new ≡ old)
+IsNoted old (Err (WireError.Fault fault)) result new = (result ≡ Err (WireError.Fault fault)) × (new ≡ record { unread = old.unread; fault = Some fault })
+IsNoted old (Err WireError.Memory) result new = (result ≡ Err WireError.Memory) × (new ≡ old)
 
 -- of the bytes fed so far these messages were given out, and what is left, or the fault told, stands after them
 abbrev pub Follows : {M : Type 0} → Sort M → List ℕ → List M → Reading → Type 0

@@ -27,6 +27,10 @@ body_at bytes = take (named_length bytes) (drop 4 bytes)
 abbrev pub tag_at : List ℕ → ℕ
 tag_at bytes = slice_index (body_at bytes) 0
 
+-- a message within its limits, whose body has a length that a frame allows
+abbrev pub FitsFrame : {M : Type 0} → Sort M → M → Type 0
+FitsFrame sort m = sort.IsMessage m × IsAllowed (length (sort.body m))
+
 -- a length stands there, and all of its body
 abbrev pub IsWhole : List ℕ → Type 0
 IsWhole bytes = (4 ≤ length bytes) × IsAllowed (named_length bytes) × (4 + named_length bytes ≤ length bytes)

@@ -5,22 +5,37 @@
 //! has 25 to 26,214,400 bytes.
 //!
 //! Promised: a [`FrameReader`] gives out exactly the messages of the stream that it was fed, in whatever
-//! pieces it came, and tells its first fault, for good; [`write_reply`] appends the one frame of a
-//! reply; a stream has one reading. Not promised: anything about who sent it.
+//! pieces it came, and tells its first fault, for good; [`write_request`] and [`write_reply`] append the
+//! one frame of a message, and `fits` tells which messages have one; a stream has one reading. Not
+//! promised: anything about who sent it.
 //!
 //! The definitions stand in `specs/`: `Messages` (the body of each message), `Stream` (frames, faults,
 //! the reading of a stream), `Reading` (what a reader has left, and one step of it).
 #![tactic(auto)]
 
+mod appending;
+mod asks;
 mod faults;
+mod fields;
+mod fits;
 mod laws;
+mod lengths;
 mod messages;
 mod parsing;
+mod parts;
+mod ranges;
 mod reading;
+mod says;
 mod writing;
 
 pub use faults::{Fault, WireError};
-pub use laws::{one_reading_of_requests, readers_follow_requests};
+pub use laws::{
+    one_reading_of_replies, one_reading_of_requests, readers_follow_replies,
+    readers_follow_requests, replies_fit,
+};
 pub use messages::{Ask, Code, Reply, Request, Say};
 pub use reading::FrameReader;
-pub use writing::write_reply;
+pub use writing::{write_reply, write_request};
+
+#[cfg(test)]
+mod tests;

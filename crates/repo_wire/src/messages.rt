@@ -3,7 +3,7 @@
 ghost use Rattle.std.specs.Prelude.{◌≡◌};
 ghost use Rattle.repo_wire.specs.Messages.{code_number};
 
-use repo_name::{Instance, LockRow, Token};
+use repo_name::{Bytes, Instance, Kind, LockRow, LockRows, Name, Names, Token};
 
 /// What a client asks.
 #[derive(Debug, Drop, PartialEq)]
@@ -12,8 +12,46 @@ pub enum Ask {
     Ticket,
     /// The lock of this row, whose host is within its limits.
     Lock(LockRow),
+    /// A later time, in seconds since 1970, for this token's live lock.
+    Refresh {
+        token: Token,
+        time: u64,
+    },
     /// The end of this token's lock.
     Unlock(Token),
+    /// The rows of all live locks.
+    Locks,
+    /// The least names of a kind, those after the given one, at most 256.
+    List {
+        kind: Kind,
+        after: Option<Name>,
+    },
+    /// An object whole.
+    Get {
+        kind: Kind,
+        name: Name,
+    },
+    /// So many bytes of a pack at an offset.
+    Range {
+        pack: Name,
+        offset: u32,
+        length: u32,
+    },
+    /// That these bytes, which have this name, be stored, under a live lock's token.
+    Put {
+        token: Token,
+        kind: Kind,
+        name: Name,
+        bytes: Bytes,
+    },
+    /// That an object be removed, under a live exclusive lock's token.
+    Delete {
+        token: Token,
+        kind: Kind,
+        name: Name,
+    },
+    /// The store's config.
+    Config,
 }
 
 /// A request: what one client asks, by its sequence number.
@@ -78,6 +116,9 @@ impl Code {
     }
 }
 
+/// How many names or rows a reply may hold.
+pub const PAGE_LIMIT: usize = 256;
+
 /// What a store says.
 #[derive(Debug, Drop, PartialEq)]
 pub enum Say {
@@ -85,6 +126,12 @@ pub enum Say {
     Token(Token),
     /// It was done.
     Done,
+    /// A page of names, ascending, at most 256, and whether more follow.
+    Names { more: bool, names: Names },
+    /// The bytes asked for.
+    Bytes(Bytes),
+    /// The rows of all live locks, ascending by token, at most 256.
+    LockList(LockRows),
     /// It wasn't done, but where the code says otherwise.
     Refused(Code),
 }

@@ -1,44 +1,46 @@
-//! Frames of replies.
+//! Frames of messages, appended to some bytes.
 
-ghost use Rattle.std.specs.Prelude.{◌≡◌, ◌+◌, ◌++◌, ◌∷◌, [], length, take, OnOk, OnErr};
+ghost use Rattle.std.specs.Prelude.{◌≡◌, ◌+◌, ◌++◌, ◌∷◌, [], length, OnOk, OnErr};
 ghost use Rattle.std.specs.Int.{w32, to_be_bytes};
 ghost use Rattle.std.specs.Io.{StartsWith};
 ghost use Rattle.repo_name.specs.Rows.{number};
-ghost use Rattle.repo_wire.specs.Messages.{reply_body, say_tag, say_fields};
-ghost use Rattle.repo_wire.specs.Stream.{frame};
+ghost use Rattle.repo_wire.specs.Messages.{ask_tag, ask_fields, request_body, requests, say_tag, say_fields, reply_body, replies};
+ghost use Rattle.repo_wire.specs.Stream.{frame, FitsFrame};
 
-use crate::messages::{Reply, Say};
+use crate::appending::{append_ask, append_say};
+use crate::lengths::{ask_length, say_length};
+use crate::messages::{Ask, Reply, Request, Say};
 use repo_name::Instance;
 use std::alloc::AllocError;
 
-fn tag_of(say: &Say) -> u8
+fn ask_tag(ask: &Ask) -> u8
+    ensures { result ≡ ask_tag ask.now }
+{
+    match ask {
+        Ask::Ticket => 1,
+        Ask::Lock(_) => 2,
+        Ask::Refresh { .. } => 3,
+        Ask::Unlock(_) => 4,
+        Ask::Locks => 5,
+        Ask::List { .. } => 6,
+        Ask::Get { .. } => 7,
+        Ask::Range { .. } => 8,
+        Ask::Put { .. } => 9,
+        Ask::Delete { .. } => 10,
+        Ask::Config => 11,
+    }
+}
+
+fn say_tag(say: &Say) -> u8
     ensures { result ≡ say_tag say.now }
 {
     match say {
         Say::Token(_) => 129,
         Say::Done => 130,
+        Say::Names { .. } => 131,
+        Say::Bytes(_) => 132,
+        Say::LockList(_) => 133,
         Say::Refused(_) => 134,
-    }
-}
-
-fn fields_length(say: &Say) -> u32
-    ensures { result ≡ length (say_fields say.now) }
-{
-    match say {
-        Say::Token(_) => 8,
-        Say::Done => 0,
-        Say::Refused(_) => 1,
-    }
-}
-
-fn append_fields(say: &Say, out: &mut Vec<u8>) -> Result<(), AllocError>
-    ensures ok { OnOk result (out.new.items ≡ out.old.items ++ say_fields say.now) }
-    ensures err { OnErr result (out.new.items ≡ out.old.items) }
-{
-    match say {
-        Say::Token(token) => out.extend_from_slice(&token.0.to_be_bytes()),
-        Say::Done => Ok(()),
-        Say::Refused(code) => out.extend_from_slice(&[code.number()]),
     }
 }
 
@@ -60,65 +62,58 @@ fn append_head(
     out.extend_from_slice(&sequence.to_be_bytes())
 }
 
-fn append_frame(reply: &Reply, out: &mut Vec<u8>) -> Result<(), AllocError>
+/// Appends a request's frame, for which memory is asked once.
+fn append_request(request: &Request, out: &mut Vec<u8>) -> Result<(), AllocError>
+    requires { FitsFrame requests request.now }
+    ensures ok { OnOk result (out.new.items ≡ out.old.items ++ frame (request_body request.now)) }
+    ensures kept { StartsWith out.new.items out.old.items }
+{
+    let length = 25 + ask_length(&request.ask);
+    let tag = ask_tag(&request.ask);
+    out.reserve(4 + length as usize)?;
+    append_head(length, tag, &request.instance, request.sequence, out)?;
+    append_ask(&request.ask, out)
+}
+
+/// Appends a reply's frame, for which memory is asked once.
+fn append_reply(reply: &Reply, out: &mut Vec<u8>) -> Result<(), AllocError>
+    requires { FitsFrame replies reply.now }
     ensures ok { OnOk result (out.new.items ≡ out.old.items ++ frame (reply_body reply.now)) }
     ensures kept { StartsWith out.new.items out.old.items }
 {
-    let length = 25 + fields_length(&reply.say);
-    let tag = tag_of(&reply.say);
+    let length = 25 + say_length(&reply.say);
+    let tag = say_tag(&reply.say);
+    out.reserve(4 + length as usize)?;
     append_head(length, tag, &reply.instance, reply.sequence, out)?;
-    append_fields(&reply.say, out)
+    append_say(&reply.say, out)
 }
 
-/// Appends the one frame of the reply. It fails for memory alone, and then nothing was appended.
-pub fn write_reply(reply: &Reply, out: &mut Vec<u8>) -> Result<(), AllocError>
-    ensures ok { OnOk result (out.new.items ≡ out.old.items ++ frame (reply_body reply.now)) }
+/// Appends the one frame of the request, which fits it (`Request::fits`). It fails for memory alone, and
+/// then nothing was appended.
+pub fn write_request(request: &Request, out: &mut Vec<u8>) -> Result<(), AllocError>
+    requires { FitsFrame requests request.now }
+    ensures ok { OnOk result (out.new.items ≡ out.old.items ++ frame (request_body request.now)) }
     ensures err { OnErr result (out.new.items ≡ out.old.items) }
 {
     let before = out.len();
-    let written = append_frame(reply, out);
+    let written = append_request(request, out);
     if written.is_err() {
         out.truncate(before);
     }
     written
 }
 
-#[cfg(test)]
-mod tests {
-    use super::*;
-    use crate::messages::Code;
-    use repo_name::Token;
-    use std::test::Fail;
-
-    // Frames spelled out by the format: length, tag, sixteen bytes 01, sequence, fields.
-    #[test]
-    fn replies_in_bytes(rt: HostRuntime) -> Result<(), Fail> {
-        let alloc = rt.alloc();
-        for (say, digits) in [
-            (
-                Say::Token(Token(1)),
-                "0000002181010101010101010101010101010101010000000000000007\
-                                    0000000000000001",
-            ),
-            (
-                Say::Done,
-                "0000001982010101010101010101010101010101010000000000000007",
-            ),
-            (
-                Say::Refused(Code::Exhausted),
-                "0000001a86010101010101010101010101010101010000000000\
-                                             0000070d",
-            ),
-        ] {
-            let reply = Reply {
-                instance: Instance([1; 16]),
-                sequence: 7,
-                say,
-            };
-            let mut out = Vec::new(alloc);
-            write_reply(&reply, &mut out)?;
-            assert_eq!(rt; out.as_slice(), hex::decode(alloc, digits)?.as_slice());
-        }
-        Ok(())
+/// Appends the one frame of the reply, which fits it (`Reply::fits`). It fails for memory alone, and then
+/// nothing was appended.
+pub fn write_reply(reply: &Reply, out: &mut Vec<u8>) -> Result<(), AllocError>
+    requires { FitsFrame replies reply.now }
+    ensures ok { OnOk result (out.new.items ≡ out.old.items ++ frame (reply_body reply.now)) }
+    ensures err { OnErr result (out.new.items ≡ out.old.items) }
+{
+    let before = out.len();
+    let written = append_reply(reply, out);
+    if written.is_err() {
+        out.truncate(before);
     }
+    written
 }

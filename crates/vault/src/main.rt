@@ -16,7 +16,7 @@ fn main(rt: HostRuntime) -> ExitCode {
     let mut faults = io::writer(&err);
     let status = match words_of(&rt) {
         Some(words) => run(
-            rt.alloc(),
+            &rt,
             &words,
             &mut rt.reader(),
             &mut io::writer(&out),

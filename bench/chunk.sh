@@ -1,0 +1,31 @@
+#!/usr/bin/env bash
+# Times how the kernel chunk of the crate bench cuts 256 MiB of random bytes with the default parameters, less the
+# making of the bytes, and restic's chunker library on the same bytes beside it. The least of five runs counts, and
+# the digest of the lengths has to be the same. The library is the Debian package golang-github-restic-chunker-dev,
+# to be built with golang-go. Usage: bench/chunk.sh
+set -euo pipefail
+here="$(cd "$(dirname "$0")" && pwd)"
+cd "$here/../crates/bench"
+rt run >/dev/null 2>&1
+size=268435456
+
+# Milliseconds of the fastest of five runs of a kernel.
+least() {
+    local best=0
+    for _ in 1 2 3 4 5; do
+        local start=$(date +%s%N)
+        out/bench "$1" "$size" >/dev/null
+        local took=$((($(date +%s%N) - start) / 1000000))
+        if [ "$best" -eq 0 ] || [ "$took" -lt "$best" ]; then best=$took; fi
+    done
+    echo "$best"
+}
+
+made=$(least random)
+cut=$(least chunk)
+echo "chunks of 256 MiB: $((cut - made)) ms, lengths $(out/bench chunk "$size" | cut -d ' ' -f 3)"
+go=$(mktemp -d)
+trap 'rm -rf "$go"' EXIT
+sources="$(dpkg -L golang-github-restic-chunker-dev | sed -n 's|/src$||p')"
+GO111MODULE=off GOPATH="$sources" GOCACHE="$go" go build -o "$go/restic_chunks" "$here/restic_chunks/main.go"
+echo "restic's chunker: $("$go/restic_chunks" "$size")"

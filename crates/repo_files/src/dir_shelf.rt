@@ -1,0 +1,268 @@
+//! The shelf in a folder.
+
+ghost use Rattle.std.specs.Prelude.{◌≡◌, ◌≤◌, length, All, IfOk};
+ghost use Rattle.repo_name.specs.Naming.{IsName};
+ghost use Rattle.repo_store.specs.Slices.{HasLength};
+
+use crate::folders::{Folder, Paths, TEMPORARY};
+use repo_locks::{Ledger, LedgerError};
+use repo_name::{Bytes, Kind, Name, Names};
+use repo_store::{Page, Shelf, ShelfError, Slice};
+use std::alloc::{AllocError, AllocGlobal, Global};
+use std::fs::Files;
+use std::io;
+use std::io::ErrorKind;
+
+/// The folder of packs, which has one for each first byte of a name.
+const PACKS: &str = "data";
+
+/// The folders of indexes and of snapshots.
+const INDEXES: &str = "index";
+
+const SNAPSHOTS: &str = "snapshots";
+
+/// The file of the ledger, and the one of the config.
+const LEDGER: &str = "ledger";
+
+const CONFIG: &str = "config";
+
+/// A shelf that keeps a store in a folder. One program at a time may write there.
+///
+/// Nothing is proved of what its files hold: it is never claimed to be honest, so what is proved over
+/// honest shelves takes the machine's honesty as a premise.
+#[derive(Debug, Drop)]
+pub struct DirShelf<R> {
+    rt: R,
+    folder: Folder<R>,
+    failures: u64,
+}
+
+impl<R: Files + AllocGlobal + Clone + Drop> DirShelf<R> {
+    /// The shelf in the folder of this path, which is made where it isn't there, with all that it
+    /// holds: its folders and, where none is there, a fresh ledger.
+    pub fn create(rt: R, root: &str) -> io::Result<DirShelf<R>> {
+        let folder = Folder::of(rt.clone()?, root)?;
+        for below in ["", TEMPORARY, PACKS, INDEXES, SNAPSHOTS] {
+            folder.make(below)?;
+        }
+        for first in 0..=255u8 {
+            folder.make(pack_folder(rt.alloc(), first)?.as_str())?;
+        }
+        let mut shelf = DirShelf {
+            rt,
+            folder,
+            failures: 0,
+        };
+        shelf.begin_ledger()?;
+        Ok(shelf)
+    }
+
+    /// The shelf in the folder of this path, which has to be there. Nothing is made: where there is no
+    /// ledger, each call that reads it fails.
+    pub fn open(rt: R, root: &str) -> io::Result<DirShelf<R>> {
+        let folder = Folder::of(rt.clone()?, root)?;
+        if !folder.is_there() {
+            return Err(io::Error::from(ErrorKind::NotFound));
+        }
+        Ok(DirShelf {
+            rt,
+            folder,
+            failures: 0,
+        })
+    }
+
+    /// Keeps a fresh ledger where there is none.
+    fn begin_ledger(&mut self) -> io::Result<()> {
+        if self.folder.read("", LEDGER)?.is_some() {
+            return Ok(());
+        }
+        let bytes = Ledger::new(self.rt.alloc()).write()?;
+        let paths = Paths::of(&self.folder, "", LEDGER)?;
+        self.folder.write(&paths, bytes.as_slice())
+    }
+
+    /// Counts a failure of the device.
+    fn fault(&mut self) -> ShelfError {
+        self.failures = self.failures.saturating_add(1);
+        ShelfError::Fault
+    }
+
+    /// Why a reading call failed.
+    fn unread(&mut self, error: &io::Error) -> ShelfError {
+        if error.kind() == ErrorKind::OutOfMemory {
+            return ShelfError::Memory;
+        }
+        self.fault()
+    }
+
+    /// Writes a file whole. Want of memory is told where the paths can't be made, and nothing was done.
+    fn keep(&mut self, below: &str, name: &str, bytes: &[u8]) -> Result<(), ShelfError> {
+        let paths = Paths::of(&self.folder, below, name)?;
+        match self.folder.write(&paths, bytes) {
+            Ok(()) => Ok(()),
+            Err(_) => Err(self.fault()),
+        }
+    }
+
+    /// Reads a file whole, if it is there.
+    fn whole(&mut self, below: &str, name: &str) -> Result<Option<Bytes>, ShelfError> {
+        match self.folder.read(below, name) {
+            Ok(None) => Ok(None),
+            Ok(Some(bytes)) => Ok(Some(Bytes::of(bytes))),
+            Err(error) => Err(self.unread(&error)),
+        }
+    }
+
+    /// The folder of an object, and its file's name.
+    fn place(&self, kind: Kind, name: &Name) -> Result<(String, String), AllocError> {
+        let alloc = self.rt.alloc();
+        let below = match kind {
+            Kind::Pack => pack_folder(alloc, name.0[0])?,
+            Kind::Index => String::from_str(alloc, INDEXES)?,
+            Kind::Snapshot => String::from_str(alloc, SNAPSHOTS)?,
+        };
+        Ok((below, name.to_hex(alloc)?))
+    }
+
+    /// The names of a kind above the given one, more than `limit` of the least of them where there are
+    /// as many.
+    fn names_above(
+        &self,
+        kind: Kind,
+        after: Option<&Name>,
+        limit: usize,
+    ) -> io::Result<Vec<Name>> {
+        let mut names = Vec::new(self.rt.alloc());
+        match kind {
+            Kind::Pack => self.packs_above(after, limit, &mut names)?,
+            Kind::Index => self.folder.add_names(INDEXES, after, &mut names)?,
+            Kind::Snapshot => self.folder.add_names(SNAPSHOTS, after, &mut names)?,
+        }
+        names.sort_unstable();
+        Ok(names)
+    }
+
+    /// The names of packs above the given one, folder by folder, until there are more than `limit`. A
+    /// name in a folder that isn't its own is passed over.
+    fn packs_above(
+        &self,
+        after: Option<&Name>,
+        limit: usize,
+        names: &mut Vec<Name>,
+    ) -> io::Result<()> {
+        let least = match after {
+            None => 0,
+            Some(name) => name.0[0],
+        };
+        for first in least..=255 {
+            let below = pack_folder(self.rt.alloc(), first)?;
+            let mut found = Vec::new(self.rt.alloc());
+            self.folder.add_names(below.as_str(), after, &mut found)?;
+            found.retain(|name| name.0[0] == first);
+            names.extend_from_slice(found.as_slice())?;
+            if names.len() > limit {
+                return Ok(());
+            }
+        }
+        Ok(())
+    }
+}
+
+/// The folder of the packs whose names begin with this byte.
+fn pack_folder(alloc: Global, first: u8) -> Result<String, AllocError> {
+    let digits = hex::encode(alloc, &[first])?;
+    let mut below = String::from_str(alloc, PACKS)?;
+    below.push('/')?;
+    below.push_str(digits.as_str())?;
+    Ok(below)
+}
+
+impl<R: Files + AllocGlobal + Clone + Drop> Shelf for DirShelf<R> {
+    ghost use Rattle.repo_store.specs.Stores.{empty};
+
+    ghost store = { λ _. empty };
+
+    ghost failed = { λ d. d.failures };
+
+    ghost honest = { λ _. ⊥ };
+
+    fn get(&mut self, kind: Kind, name: &Name) -> Result<Option<Bytes>, ShelfError> {
+        let (below, file) = self.place(kind, name)?;
+        self.whole(below.as_str(), file.as_str())
+    }
+
+    fn range(&mut self, pack: &Name, offset: u32, length: u32) -> Result<Slice, ShelfError> {
+        let (below, file) = self.place(Kind::Pack, pack)?;
+        match self
+            .folder
+            .read_part(below.as_str(), file.as_str(), offset, length)
+        {
+            Ok(slice) => Ok(slice),
+            Err(error) => Err(self.unread(&error)),
+        }
+    }
+
+    fn put(&mut self, kind: Kind, name: &Name, bytes: &[u8]) -> Result<(), ShelfError> {
+        let (below, file) = self.place(kind, name)?;
+        match self.folder.has(below.as_str(), file.as_str()) {
+            Ok(true) => Ok(()),
+            Ok(false) => self.keep(below.as_str(), file.as_str(), bytes),
+            Err(error) => Err(self.unread(&error)),
+        }
+    }
+
+    fn remove(&mut self, kind: Kind, name: &Name) -> Result<(), ShelfError> {
+        let (below, file) = self.place(kind, name)?;
+        let paths = Paths::of(&self.folder, below.as_str(), file.as_str())?;
+        match self.folder.remove(&paths) {
+            Ok(()) => Ok(()),
+            Err(_) => Err(self.fault()),
+        }
+    }
+
+    fn names_after(
+        &mut self,
+        kind: Kind,
+        after: Option<&Name>,
+        limit: usize,
+    ) -> Result<Page, ShelfError> {
+        let mut names = match self.names_above(kind, after, limit) {
+            Ok(names) => names,
+            Err(error) => return Err(self.unread(&error)),
+        };
+        let more = names.len() > limit;
+        names.truncate(limit);
+        Ok(Page {
+            names: Names::of(names),
+            more,
+        })
+    }
+
+    fn ledger(&mut self) -> Result<Ledger, ShelfError> {
+        let Some(bytes) = self.whole("", LEDGER)? else {
+            return Err(self.fault());
+        };
+        match Ledger::read(self.rt.alloc(), bytes.as_slice()) {
+            Ok(ledger) => Ok(ledger),
+            Err(LedgerError::Memory) => Err(ShelfError::Memory),
+            Err(LedgerError::Shape) => Err(self.fault()),
+        }
+    }
+
+    fn save_ledger(&mut self, ledger: &Ledger) -> Result<(), ShelfError> {
+        let bytes = ledger.write()?;
+        self.keep("", LEDGER, bytes.as_slice())
+    }
+
+    fn config(&mut self) -> Result<Option<Bytes>, ShelfError> {
+        self.whole("", CONFIG)
+    }
+
+    fn save_config(&mut self, bytes: &[u8]) -> Result<(), ShelfError> {
+        self.keep("", CONFIG, bytes)
+    }
+
+    fn failures(&self) -> u64 {
+        self.failures
+    }
+}

@@ -1,0 +1,174 @@
+//! A folder's files: their paths, and reading and writing them whole.
+
+ghost use Rattle.std.specs.Prelude.{◌≡◌, IfOk};
+ghost use Rattle.repo_store.specs.Slices.{HasLength};
+
+use repo_name::{Bytes, Name};
+use repo_store::Slice;
+use std::alloc::{AllocError, AllocGlobal};
+use std::fs;
+use std::fs::{File, Files, OpenFile};
+use std::io;
+use std::io::{ErrorKind, Read, Seek, SeekFrom, Write};
+
+/// The folder of files that are being written.
+pub const TEMPORARY: &str = "tmp";
+
+/// A folder, by its path.
+#[derive(Debug, Drop)]
+pub struct Folder<R> {
+    rt: R,
+    root: String,
+}
+
+/// The paths that writing or removing a file wants, made before anything is done.
+#[derive(Debug, Drop)]
+pub struct Paths {
+    /// Where the file lies while it is written.
+    temporary: String,
+    folder: String,
+    file: String,
+}
+
+impl Paths {
+    /// The paths of a file.
+    pub fn of<R: Files + AllocGlobal + Clone + Drop>(
+        folder: &Folder<R>,
+        below: &str,
+        name: &str,
+    ) -> Result<Paths, AllocError> {
+        Ok(Paths {
+            temporary: folder.path(TEMPORARY, name)?,
+            folder: folder.path(below, "")?,
+            file: folder.path(below, name)?,
+        })
+    }
+}
+
+impl<R: Files + AllocGlobal + Clone + Drop> Folder<R> {
+    /// The folder of this path, whether it is there or not.
+    pub fn of(rt: R, root: &str) -> Result<Folder<R>, AllocError> {
+        let root = String::from_str(rt.alloc(), root)?;
+        Ok(Folder { rt, root })
+    }
+
+    /// The path of a file or folder in it.
+    pub fn path(&self, below: &str, name: &str) -> Result<String, AllocError> {
+        let mut path = String::from_str(self.rt.alloc(), self.root.as_str())?;
+        for part in [below, name] {
+            if !part.is_empty() {
+                path.push('/')?;
+                path.push_str(part)?;
+            }
+        }
+        Ok(path)
+    }
+
+    /// Whether it is there, as a folder.
+    pub fn is_there(&self) -> bool {
+        match fs::metadata(&self.rt, self.root.as_str()) {
+            Ok(found) => found.is_dir(),
+            Err(_) => false,
+        }
+    }
+
+    /// Makes the folder of this path in it, and each one above, where it isn't there.
+    pub fn make(&self, below: &str) -> io::Result<()> {
+        let path = self.path(below, "")?;
+        fs::create_dir_all(&self.rt, path.as_str())
+    }
+
+    /// A file's bytes; `None` where it isn't there.
+    pub fn read(&self, below: &str, name: &str) -> io::Result<Option<Vec<u8>>> {
+        let path = self.path(below, name)?;
+        match fs::read(&self.rt, path.as_str()) {
+            Ok(bytes) => Ok(Some(bytes)),
+            Err(error) if error.kind() == ErrorKind::NotFound => Ok(None),
+            Err(error) => Err(error),
+        }
+    }
+
+    /// A part of a file.
+    pub fn read_part(
+        &self,
+        below: &str,
+        name: &str,
+        offset: u32,
+        length: u32,
+    ) -> io::Result<Slice>
+        ensures { IfOk result (HasLength length) }
+    {
+        let path = self.path(below, name)?;
+        let mut file = match File::open(&self.rt, path.as_str()) {
+            Ok(file) => file,
+            Err(error) if error.kind() == ErrorKind::NotFound => return Ok(Slice::Missing),
+            Err(error) => return Err(error),
+        };
+        let size = file.metadata()?.len();
+        if size < offset as u64 + length as u64 {
+            return Ok(Slice::Outside);
+        }
+        file.seek(SeekFrom::Start(offset as u64))?;
+        let mut bytes = vec![in self.rt.alloc(); 0u8; length as usize]?;
+        file.read_exact(bytes.as_mut_slice())?;
+        Ok(Slice::Found(Bytes::of(bytes)))
+    }
+
+    /// Whether a file is there.
+    pub fn has(&self, below: &str, name: &str) -> io::Result<bool> {
+        let path = self.path(below, name)?;
+        fs::exists(&self.rt, path.as_str())
+    }
+
+    /// Writes a file whole: at its temporary path, synced, and then renamed into its place, whose folder
+    /// is synced.
+    pub fn write(&self, paths: &Paths, bytes: &[u8]) -> io::Result<()> {
+        let mut file = fs::create(&self.rt, paths.temporary.as_str())?;
+        file.write_all(bytes)?;
+        file.sync_all()?;
+        fs::rename(&self.rt, paths.temporary.as_str(), paths.file.as_str())?;
+        self.sync(paths)
+    }
+
+    /// Removes a file, if it is there, and syncs its folder.
+    pub fn remove(&self, paths: &Paths) -> io::Result<()> {
+        match fs::remove_file(&self.rt, paths.file.as_str()) {
+            Ok(()) => self.sync(paths),
+            Err(error) if error.kind() == ErrorKind::NotFound => Ok(()),
+            Err(error) => Err(error),
+        }
+    }
+
+    /// Syncs a file's folder, so that the names in it last.
+    fn sync(&self, paths: &Paths) -> io::Result<()> {
+        File::open(&self.rt, paths.folder.as_str())?.sync_all()
+    }
+
+    /// Adds the names of the files in a folder that are names of objects, above the one given, if one is.
+    pub fn add_names(
+        &self,
+        below: &str,
+        after: Option<&Name>,
+        names: &mut Vec<Name>,
+    ) -> io::Result<()> {
+        let path = self.path(below, "")?;
+        for entry in fs::read_dir(&self.rt, path.as_str())? {
+            let entry = match entry {
+                Ok(entry) => entry,
+                Err(error) if error.kind() == ErrorKind::InvalidFilename => continue,
+                Err(error) => return Err(error),
+            };
+            let Ok(name) = Name::from_hex(entry.file_name()) else {
+                continue;
+            };
+            let is_above = match after {
+                None => true,
+                Some(after) => name.cmp(after).is_gt(),
+            };
+            if is_above {
+                names.push(name)?;
+            }
+        }
+        Ok(())
+    }
+}

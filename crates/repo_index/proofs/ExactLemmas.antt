@@ -1,0 +1,61 @@
+-- An index that lists the items of a pack is exact for it.
+use Rattle.std.proofs.Common.{◌≡◌, ◌≢◌, ◌++◌, ◌∷◌, [], ℕ, zero, suc, List, length, Some, refl, ap, sym, subst, inl, inr, Contains, arith}
+use Rattle.std.specs.Prelude.{slice_get}
+use Rattle.std.proofs.lemmas.List.Elements.{Contains-append_left, Contains-append_right, Contains-append_cases}
+use Rattle.repo_name.specs.declared.names.Name.{Name}
+use Rattle.repo_pack.specs.PackLayout.{Item}
+use Rattle.repo_index.specs.IndexText.{facts_in}
+use Rattle.repo_index.specs.Exactness.{fact_at, AreFactsAt, IsExactFor}
+use Rattle.repo_index.specs.declared.facts.Fact.{Fact}
+use Rattle.repo_index.specs.declared.facts.PackFacts.{PackFacts}
+use Rattle.repo_index.proofs.LookupLemmas.{facts_split}
+use Rattle.repo_index.proofs.PackLemmas.{none_in, here, later, here_or_later}
+
+-- what a list has at an index it contains
+get_in : {X : Type 0} (xs : List X) (k : ℕ) (x : X) → slice_get xs k ≡ Some x → Contains xs x
+get_in [] zero x h = cc h
+get_in [] (suc k) x h = cc h
+get_in (y ∷ xs) zero x h = let e : y ≡ x = cc h in subst (Contains (y ∷ xs)) e (here y xs)
+get_in (y ∷ xs) (suc k) x h = later y xs x (get_in xs k x h)
+
+in_get : {X : Type 0} (xs : List X) (x : X) → Contains xs x → (k : ℕ) × (slice_get xs k ≡ Some x)
+in_get [] x h = absurd (none_in x h)
+in_get (y ∷ xs) x h = elim (here_or_later y xs x h) [
+  | inl same ↦ (0, ap Some same)
+  | inr more ↦ let k = in_get xs x more in (suc k.0, k.1)
+]
+
+-- a list of the same length has something there too
+get_both : {X Y : Type 0} (xs : List X) (ys : List Y) (k : ℕ) (x : X) → length xs ≡ length ys → slice_get xs k ≡ Some x → (y : Y) × (slice_get ys k ≡ Some y)
+get_both [] ys zero x e h = cc h
+get_both [] ys (suc k) x e h = cc h
+get_both (z ∷ xs) [] k x e h = absurd (omega (arith, e))
+get_both (z ∷ xs) (y ∷ ys) zero x e h = (y, refl)
+get_both (z ∷ xs) (y ∷ ys) (suc k) x e h = let f : length xs ≡ length ys = omega (arith, e) in get_both xs ys k x f h
+
+pub listed_exact : (before after : List PackFacts) (pack : Name) (items : List Item) (facts : List Fact) → AreFactsAt pack items facts
+    → ((fact : Fact) → Contains (facts_in before ++ facts_in after) fact → fact.place.pack ≢ pack)
+    → IsExactFor (before ++ record { pack = pack; facts = facts } ∷ after) pack items
+listed_exact before after pack items facts are others fact =
+    let all : facts_in (before ++ record { pack = pack; facts = facts } ∷ after) ≡ facts_in before ++ (facts ++ facts_in after) =
+    facts_split before (record { pack = pack; facts = facts } ∷ after) in (
+      λ h. elim (Contains-append_cases (facts_in before) (facts ++ facts_in after) fact (subst (λ (fs : List Fact). Contains fs fact) all h.0)) [
+        | inl first ↦ absurd (others fact (Contains-append_left (facts_in before) (facts_in after) fact first) h.1)
+        | inr rest ↦ elim (Contains-append_cases facts (facts_in after) fact rest) [
+          | inl own ↦
+              let k = in_get facts fact own in
+              let item = get_both facts items k.0 fact are.count k.1 in
+              let there = are.each k.0 item.0 item.1 in
+              let same : fact ≡ fact_at pack items k.0 item.0 = cc (k.1, there) in
+              (k.0, item.0, item.1, same)
+          | inr last ↦ absurd (others fact (Contains-append_right (facts_in before) (facts_in after) fact last) h.1)
+        ]
+      ],
+      λ h.
+          let there = get_in facts h.0 (fact_at pack items h.0 h.1) (are.each h.0 h.1 h.2) in
+          let own = subst (Contains facts) (sym h.3) there in (
+            subst (λ (fs : List Fact). Contains fs fact) (sym all)
+                (Contains-append_right (facts_in before) (facts ++ facts_in after) fact (Contains-append_left facts (facts_in after) fact own)),
+            ap (λ (f : Fact). f.place.pack) h.3,
+          ),
+    )

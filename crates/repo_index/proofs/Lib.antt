@@ -1,0 +1,10 @@
+pub mod NameLemmas
+pub mod ListingLemmas
+pub mod FaultLemmas
+pub mod WritingLemmas
+pub mod LengthLemmas
+pub mod OrderLemmas
+pub mod LookupLemmas
+pub mod PackLemmas
+pub mod OneLemmas
+pub mod ExactLemmas

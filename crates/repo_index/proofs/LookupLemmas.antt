@@ -1,0 +1,300 @@
+-- What a look-up holds, and what it finds.
+use Rattle.std.proofs.Common.{◌≡◌, ◌<◌, ◌+◌, ◌⊎◌, ◌++◌, ◌∷◌, [], ℕ, List, length, take, drop, get_or, append-nil, append_assoc, Bool, true, false, not, cond, refl, ap, sym, ◌∙◌, subst, inl, inr, Contains, arith}
+use Rattle.std.specs.Prelude.{IsTrue}
+use Rattle.std.proofs.lemmas.Cmp.{tied_itself}
+use Rattle.std.proofs.lemmas.Map.Views.{btree_set_contains_iff}
+use Rattle.std.proofs.lemmas.List.{take_more, take-append-drop}
+use Rattle.std.proofs.lemmas.List.Elements.{Contains-append_left, Contains-append_right, Contains-append_cases, Contains-push, Contains-push_cases}
+use Rattle.std.specs.Ordering.{ordering_then, is_gt, is_eq}
+use Rattle.std.specs.declared.cmp.Ordering.{Ordering}
+use Rattle.std.specs.declared.cmp.Ordering.TheVariants.{Less, Equal, Greater}
+use Rattle.std.specs.declared.ops.Bound.TheVariants.{Included}
+use Rattle.std.specs.List.{list_any}
+use Rattle.std.specs.BTreeMap.{is_at}
+use Rattle.std.specs.BTreeMap.Range.{IsLeBy, IsInRange}
+use Rattle.std.specs.BTreeSet.{BTreeSet, contains, Updates, IsKeyRangeOf}
+use Rattle.repo_name.specs.Naming.{name_cmp}
+use Rattle.repo_name.specs.declared.names.Name.{Name}
+use Rattle.repo_name.specs.declared.kinds.BlobKind.{BlobKind}
+use Rattle.repo_pack.specs.declared.places.Place.{Place}
+use Rattle.repo_index.specs.IndexText.{fact_of, IsFact, facts_in}
+use Rattle.repo_index.specs.Order.{place_cmp, kind_cmp, place_first, name_first, IsAtMost, names_total, kinds_total, place_first_total, name_first_total}
+use Rattle.repo_index.specs.Bounds.{IsBeforePair, IsAfterPair}
+use Rattle.repo_index.specs.Lookups.{IsLeast, Joins, JoinsPart, AreHeld}
+use Rattle.repo_index.specs.declared.facts.Fact.{Fact}
+use Rattle.repo_index.specs.declared.facts.PackFacts.{PackFacts}
+use Rattle.repo_index.proofs.OrderLemmas.{then_le, between, same_le, kinds_exact, names_exact, place_first_exact, name_first_exact}
+
+-- ---- members of a set
+
+pub has : (s : BTreeSet Fact) (f : Fact) → Contains s.keys f → IsTrue (contains place_first s f)
+has s f h = (btree_set_contains_iff place_first_total place_first_exact s f).1 h
+
+pub member : (s : BTreeSet Fact) (f : Fact) → IsTrue (contains place_first s f) → Contains s.keys f
+member s f h = (btree_set_contains_iff place_first_total place_first_exact s f).0 h
+
+-- ---- what a look-up finds
+
+-- what stands between the bounds of a kind and name is of that kind and name
+pair_is : (kind : BlobKind) (name : Name) (lo hi f : Fact) → IsBeforePair kind name lo → IsAfterPair kind name hi
+    → IsInRange name_first (Included lo) (Included hi) f → (kind ≡ f.kind) × (name ≡ f.name)
+pair_is kind name lo hi f low high is =
+    let below : is_gt (ordering_then (kind_cmp kind f.kind) (ordering_then (name_cmp name f.name) (place_cmp lo.place f.place))) ≡ false =
+    subst (λ (n : Name). is_gt (ordering_then (kind_cmp kind f.kind) (ordering_then (name_cmp n f.name) (place_cmp lo.place f.place))) ≡ false) low.name_is
+    (subst (λ (k : BlobKind). is_gt (ordering_then (kind_cmp k f.kind) (ordering_then (name_cmp lo.name f.name) (place_cmp lo.place f.place))) ≡ false) low.kind_is is.0) in
+    let above : is_gt (ordering_then (kind_cmp f.kind kind) (ordering_then (name_cmp f.name name) (place_cmp f.place hi.place))) ≡ false =
+    subst (λ (n : Name). is_gt (ordering_then (kind_cmp f.kind kind) (ordering_then (name_cmp f.name n) (place_cmp f.place hi.place))) ≡ false) high.name_is
+    (subst (λ (k : BlobKind). is_gt (ordering_then (kind_cmp f.kind k) (ordering_then (name_cmp f.name hi.name) (place_cmp f.place hi.place))) ≡ false) high.kind_is is.1) in
+    let kinds = between (kind_cmp kind f.kind) (kind_cmp f.kind kind) (ordering_then (name_cmp name f.name) (place_cmp lo.place f.place))
+    (ordering_then (name_cmp f.name name) (place_cmp f.place hi.place)) (kinds_total.antisymm f.kind kind) below above in
+    let names = between (name_cmp name f.name) (name_cmp f.name name) (place_cmp lo.place f.place) (place_cmp f.place hi.place)
+    (names_total.antisymm f.name name) kinds.1 kinds.2 in
+    (kinds_exact kind f.kind kinds.0, names_exact name f.name names.0)
+
+-- and each fact of that kind and name stands there
+pair_in : (kind : BlobKind) (name : Name) (lo hi : Fact) (place : Place) → IsBeforePair kind name lo → IsAfterPair kind name hi
+    → IsFact (fact_of kind name place) → IsInRange name_first (Included lo) (Included hi) (fact_of kind name place)
+pair_in kind name lo hi place low high is = (
+  then_le (kind_cmp lo.kind kind) (ordering_then (name_cmp lo.name name) (place_cmp lo.place place)) (same_le kinds_total lo.kind kind low.kind_is)
+      (then_le (name_cmp lo.name name) (place_cmp lo.place place) (same_le names_total lo.name name low.name_is) (low.before place is.place)),
+  then_le (kind_cmp kind hi.kind) (ordering_then (name_cmp name hi.name) (place_cmp place hi.place)) (same_le kinds_total kind hi.kind (sym high.kind_is))
+      (then_le (name_cmp name hi.name) (place_cmp place hi.place) (same_le names_total name hi.name (sym high.name_is)) (high.after place is.place)),
+)
+
+-- the bounds stand in order
+pub pair_forward : (kind : BlobKind) (name : Name) (lo hi : Fact) → IsBeforePair kind name lo → IsAfterPair kind name hi → IsLeBy name_first lo hi
+pair_forward kind name lo hi low high =
+    then_le (kind_cmp lo.kind hi.kind) (ordering_then (name_cmp lo.name hi.name) (place_cmp lo.place hi.place))
+    (same_le kinds_total lo.kind hi.kind (low.kind_is ∙ sym high.kind_is))
+    (then_le (name_cmp lo.name hi.name) (place_cmp lo.place hi.place) (same_le names_total lo.name hi.name (low.name_is ∙ sym high.name_is))
+    (low.before hi.place high.place))
+
+-- of facts of one kind and name the first has the least place
+place_of_first : (kind : BlobKind) (name : Name) (p q : Place) → IsLeBy name_first (fact_of kind name p) (fact_of kind name q) → IsAtMost p q
+place_of_first kind name p q h =
+    let e : kind_cmp kind kind ≡ Equal = tied_itself kinds_total kind in
+    let f : name_cmp name name ≡ Equal = tied_itself names_total name in
+    let g : is_gt (ordering_then Equal (ordering_then (name_cmp name name) (place_cmp p q))) ≡ false =
+    subst (λ (o : Ordering). is_gt (ordering_then o (ordering_then (name_cmp name name) (place_cmp p q))) ≡ false) e h in
+    subst (λ (o : Ordering). is_gt (ordering_then o (place_cmp p q)) ≡ false) f g
+
+-- the first fact between the bounds has the least place
+pub least_is_first : (by_place by_name : BTreeSet Fact) (kind : BlobKind) (name : Name) (lo hi k : Fact) (rest : List Fact)
+    → AreHeld by_place by_name → IsBeforePair kind name lo → IsAfterPair kind name hi
+    → IsKeyRangeOf name_first (Included lo) (Included hi) by_name (k ∷ rest) → IsLeast by_place.keys kind name k.place
+least_is_first by_place by_name kind name lo hi k rest held low high range =
+    let pair = pair_is kind name lo hi k low high range.1.0 in
+    let is : k ≡ fact_of kind name k.place = λ i. record { kind = sym pair.0 i; name = sym pair.1 i; place = k.place } in
+    record {
+      among = subst (Contains by_place.keys) is (member by_place k (sym (held.same k) ∙ range.1.1));
+      least = λ other h.
+          let there = has by_place (fact_of kind name other) h in
+          let inside = pair_in kind name lo hi other low high (held.made (fact_of kind name other) there) in
+          let first = range.2 (fact_of kind name other) inside (held.same (fact_of kind name other) ∙ there) in
+          place_of_first kind name k.place other (subst (λ (f : Fact). IsLeBy name_first f (fact_of kind name other)) is first);
+    }
+
+-- where nothing stands between the bounds no fact has the kind and name
+pub none_is_none : (by_place by_name : BTreeSet Fact) (kind : BlobKind) (name : Name) (lo hi : Fact)
+    → AreHeld by_place by_name → IsBeforePair kind name lo → IsAfterPair kind name hi
+    → IsKeyRangeOf name_first (Included lo) (Included hi) by_name [] → (place : Place) → ¬ Contains by_place.keys (fact_of kind name place)
+none_is_none by_place by_name kind name lo hi held low high range place h =
+    let there = has by_place (fact_of kind name place) h in
+    let inside = pair_in kind name lo hi place low high (held.made (fact_of kind name place) there) in
+    let absent = range.5 refl (fact_of kind name place) inside in
+    let present = held.same (fact_of kind name place) ∙ there in
+    let e : true ≡ false = sym present ∙ absent in
+    cc e
+
+-- ---- a fact added
+
+bools_same : (b c : Bool) → (b ≡ true → c ≡ true) → (c ≡ true → b ≡ true) → b ≡ c
+bools_same true c h g = sym (h refl)
+bools_same false true h g = g refl
+bools_same false false h g = refl
+
+equal_is : (o : Ordering) → is_eq o ≡ true → o ≡ Equal
+equal_is Less h = cc h
+equal_is Equal h = refl
+equal_is Greater h = cc h
+
+-- the two orders tell the same facts from one another
+at_place : (k f : Fact) → is_at (place_first k) f ≡ true → k ≡ f
+at_place k f h = place_first_exact k f (equal_is (place_first k f) h)
+
+at_name : (k f : Fact) → is_at (name_first k) f ≡ true → k ≡ f
+at_name k f h = name_first_exact k f (equal_is (name_first k f) h)
+
+place_at : (k f : Fact) → k ≡ f → is_at (place_first k) f ≡ true
+place_at k f same =
+    let e : place_first k f ≡ Equal = subst (λ (x : Fact). place_first k x ≡ Equal) same (tied_itself place_first_total k) in
+    ap is_eq e
+
+name_at : (k f : Fact) → k ≡ f → is_at (name_first k) f ≡ true
+name_at k f same =
+    let e : name_first k f ≡ Equal = subst (λ (x : Fact). name_first k x ≡ Equal) same (tied_itself name_first_total k) in
+    ap is_eq e
+
+at_both : (k f : Fact) → is_at (name_first k) f ≡ is_at (place_first k) f
+at_both k f = bools_same (is_at (name_first k) f) (is_at (place_first k) f) (λ h. place_at k f (at_name k f h)) (λ h. name_at k f (at_place k f h))
+
+true_cases : (b c : Bool) → cond b true c ≡ true → (b ≡ true) ⊎ (c ≡ true)
+true_cases true c h = inl refl
+true_cases false c h = inr h
+
+cond_right : (b c : Bool) → c ≡ true → cond b true c ≡ true
+cond_right true c h = refl
+cond_right false c h = h
+
+none_in : (f : Fact) → Contains [] f → ⊥
+none_in f h = absurd (omega (arith, h.1))
+
+-- what stands in a list of one
+only : (k f : Fact) → Contains (k ∷ []) f → k ≡ f
+only k f h = elim (Contains-push_cases [] k f h) [ inl none ↦ absurd (none_in f none) | inr same ↦ same ]
+
+-- both sets with a fact more
+pub held_more : (p n p2 n2 : BTreeSet Fact) (k : Fact) → AreHeld p n → IsFact k → Updates name_first n n2 k true → Updates place_first p p2 k true
+    → AreHeld p2 n2
+held_more p n p2 n2 k held is names places = record {
+  same = λ f. names.0 f ∙ ap (λ b. cond b true (contains name_first n f)) (at_both k f)
+      ∙ ap (cond (is_at (place_first k) f) true) (held.same f) ∙ sym (places.0 f);
+  made = λ f h. elim (true_cases (is_at (place_first k) f) (contains place_first p f) (sym (places.0 f) ∙ h)) [
+    | inl at ↦ subst IsFact (at_place k f at) is
+    | inr old ↦ held.made f old
+  ];
+}
+
+taken_back : (b old put back : Bool) → put ≡ cond b true old → back ≡ cond b false put → (b ≡ true → old ≡ false) → back ≡ old
+taken_back true old put back e f absent = f ∙ sym (absent refl)
+taken_back false old put back e f absent = f ∙ e
+
+-- a fact that was put and taken back
+pub held_back : (p n n2 n3 : BTreeSet Fact) (k : Fact) → AreHeld p n → contains name_first n k ≡ false
+    → Updates name_first n n2 k true → Updates name_first n2 n3 k false → AreHeld p n3
+held_back p n n2 n3 k held absent put back = record {
+  same = λ f. taken_back (is_at (name_first k) f) (contains name_first n f) (contains name_first n2 f) (contains name_first n3 f) (put.0 f) (back.0 f)
+      (λ at. subst (λ (x : Fact). contains name_first n x ≡ false) (at_name k f at) absent) ∙ held.same f;
+  made = held.made;
+}
+
+-- the set with a fact more has the facts of both
+pub joins_fact : (p p2 : BTreeSet Fact) (k : Fact) → Updates place_first p p2 k true → Joins p.keys (k ∷ []) p2.keys
+joins_fact p p2 k places f = (
+  λ h. elim (true_cases (is_at (place_first k) f) (contains place_first p f) (sym (places.0 f) ∙ has p2 f h)) [
+    | inl at ↦ inr (subst (Contains (k ∷ [])) (at_place k f at) (Contains-push [] k))
+    | inr old ↦ inl (member p f old)
+  ],
+  λ h. member p2 f (places.0 f ∙ elim h [
+    | inl old ↦ cond_right (is_at (place_first k) f) (contains place_first p f) (has p f old)
+    | inr new ↦ ap (λ b. cond b true (contains place_first p f)) (place_at k f (only k f new))
+  ]),
+)
+
+-- a fact that is there already
+pub joins_known : (p n : BTreeSet Fact) (k : Fact) → AreHeld p n → contains name_first n k ≡ true → Joins p.keys (k ∷ []) p.keys
+joins_known p n k held known f = (
+  λ h. inl h,
+  λ h. elim h [
+    | inl old ↦ old
+    | inr new ↦ subst (Contains p.keys) (only k f new) (member p k (sym (held.same k) ∙ known))
+  ],
+)
+
+pub not_false : (x b : Bool) → x ≡ false → x ≡ not b → b ≡ true
+not_false x true h g = refl
+not_false x false h g = let e : false ≡ true = sym h ∙ g in cc e
+
+pub not_true : (x b : Bool) → x ≡ true → x ≡ not b → b ≡ false
+not_true x false h g = refl
+not_true x true h g = let e : true ≡ false = sym h ∙ g in cc e
+
+-- ---- lists of facts, joined
+
+-- first some facts, and then others
+pub joins_then : (old xs mid ys new : List Fact) → Joins old xs mid → Joins mid ys new → Joins old (xs ++ ys) new
+joins_then old xs mid ys new h g f = (
+  λ is. elim ((g f).0 is) [
+    | inl there ↦ elim ((h f).0 there) [ inl before ↦ inl before | inr one ↦ inr (Contains-append_left xs ys f one) ]
+    | inr other ↦ inr (Contains-append_right xs ys f other)
+  ],
+  λ is. elim is [
+    | inl before ↦ (g f).1 (inl ((h f).1 (inl before)))
+    | inr one ↦ elim (Contains-append_cases xs ys f one) [ inl a ↦ (g f).1 (inl ((h f).1 (inr a))) | inr b ↦ (g f).1 (inr b) ]
+  ],
+)
+
+pub joins_none : (old : List Fact) → Joins old [] old
+joins_none old f = (λ h. inl h, λ h. elim h [ inl there ↦ there | inr none ↦ absurd (none_in f none) ])
+
+-- the whole joined after a part of it is the whole
+pub joins_again : (old more new whole : List Fact) → JoinsPart old more new → Joins new more whole → Joins old more whole
+joins_again old more new whole part h f = (
+  λ is. elim ((h f).0 is) [
+    | inl there ↦ elim ((part.joins f).0 there) [
+      | inl before ↦ inl before
+      | inr one ↦ inr (subst (λ (xs : List Fact). Contains xs f) (sym part.split) (Contains-append_left part.first part.rest f one))
+    ]
+    | inr other ↦ inr other
+  ],
+  λ is. elim is [ inl before ↦ (h f).1 (inl ((part.joins f).1 (inl before))) | inr other ↦ (h f).1 (inr other) ],
+)
+
+-- ---- a loop over facts
+
+-- a fact more
+pub joins_more : (old facts mid new : List Fact) (i : ℕ) (d : Fact) → i < length facts → Joins old (take i facts) mid
+    → Joins mid (get_or facts i d ∷ []) new → Joins old (take (i + 1) facts) new
+joins_more old facts mid new i d lt h g =
+    subst (λ (fs : List Fact). Joins old fs new) (sym (take_more facts i d lt)) (joins_then old (take i facts) mid (get_or facts i d ∷ []) new h g)
+
+-- no more than the first facts
+pub part_of_first : (old facts mid new : List Fact) (i : ℕ) → Joins old (take i facts) mid → new ≡ mid → JoinsPart old facts new
+part_of_first old facts mid new i h same = record {
+  first = take i facts;
+  rest = drop i facts;
+  split = sym (take-append-drop i facts);
+  joins = subst (λ (fs : List Fact). Joins old (take i facts) fs) (sym same) h;
+}
+
+-- ---- a loop over packs
+
+facts_push : (ps : List PackFacts) (p : PackFacts) → facts_in (ps ++ p ∷ []) ≡ facts_in ps ++ p.facts
+facts_push [] p = append-nil p.facts
+facts_push (q ∷ ps) p = ap (λ fs. q.facts ++ fs) (facts_push ps p) ∙ sym (append_assoc q.facts (facts_in ps) p.facts)
+
+pub facts_of_more : (packs : List PackFacts) (i : ℕ) (p : PackFacts) → i < length packs → p ≡ get_or packs i p
+    → facts_in (take (i + 1) packs) ≡ facts_in (take i packs) ++ p.facts
+facts_of_more packs i p lt at =
+    ap facts_in (take_more packs i p lt) ∙ ap (λ q. facts_in (take i packs ++ q ∷ [])) (sym at) ∙ facts_push (take i packs) p
+
+pub facts_split : (ps qs : List PackFacts) → facts_in (ps ++ qs) ≡ facts_in ps ++ facts_in qs
+facts_split [] qs = refl
+facts_split (p ∷ ps) qs = ap (λ fs. p.facts ++ fs) (facts_split ps qs) ∙ sym (append_assoc p.facts (facts_in ps) (facts_in qs))
+
+-- the facts of a pack more
+pub joins_pack : (old mid new : List Fact) (packs : List PackFacts) (i : ℕ) (p : PackFacts) → i < length packs → p ≡ get_or packs i p
+    → Joins old (facts_in (take i packs)) mid → Joins mid p.facts new → Joins old (facts_in (take (i + 1) packs)) new
+joins_pack old mid new packs i p lt at h g =
+    subst (λ (fs : List Fact). Joins old fs new) (sym (facts_of_more packs i p lt at)) (joins_then old (facts_in (take i packs)) mid p.facts new h g)
+
+-- some facts of a pack more
+pub part_of_pack : (old mid new : List Fact) (packs : List PackFacts) (i : ℕ) (p : PackFacts) → i < length packs → p ≡ get_or packs i p
+    → Joins old (facts_in (take i packs)) mid → JoinsPart mid p.facts new → JoinsPart old (facts_in packs) new
+part_of_pack old mid new packs i p lt at h part = record {
+  first = facts_in (take i packs) ++ part.first;
+  rest = part.rest ++ facts_in (drop (i + 1) packs);
+  split = ap facts_in (sym (take-append-drop (i + 1) packs)) ∙ facts_split (take (i + 1) packs) (drop (i + 1) packs)
+      ∙ ap (λ fs. fs ++ facts_in (drop (i + 1) packs)) (facts_of_more packs i p lt at ∙ ap (λ fs. facts_in (take i packs) ++ fs) part.split
+      ∙ sym (append_assoc (facts_in (take i packs)) part.first part.rest))
+      ∙ append_assoc (facts_in (take i packs) ++ part.first) part.rest (facts_in (drop (i + 1) packs));
+  joins = joins_then old (facts_in (take i packs)) mid part.first new h part.joins;
+}
+
+-- ---- a set that didn't change
+
+pub held_same : (p p2 n : BTreeSet Fact) → p2.keys ≡ p.keys → AreHeld p n → AreHeld p2 n
+held_same p p2 n e held = record {
+  same = λ f. held.same f ∙ ap (list_any (is_at (place_first f))) (sym e);
+  made = λ f h. held.made f (ap (list_any (is_at (place_first f))) (sym e) ∙ h);
+}

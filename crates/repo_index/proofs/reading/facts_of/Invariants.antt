@@ -1,0 +1,9 @@
+-- The values begin with those of the facts so far, and the ones that are left follow.
+use Rattle.std.proofs.Common.{drop}
+use Rattle.serde_json.specs.View.{items_view}
+use Rattle.repo_index.specs.Listing.{BeginsWith}
+use Rattle.repo_index.specs.IndexText.{BlobSays}
+use Rattle.repo_index.proofs.reading.facts_of.Given as goal
+
+abbrev pub invariant-loop-value : goal.invariant-loop-value
+invariant-loop-value l = BeginsWith (BlobSays l.pack) (items_view l.values) l.facts.items (items_view (drop l.value-index l.values))

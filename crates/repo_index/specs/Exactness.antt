@@ -1,0 +1,28 @@
+-- An index, and the items of a pack.
+use Rattle.std.specs.Prelude.{◌≡◌, ◌≢◌, ◌↔◌, ◌++◌, ◌∷◌, ℕ, List, length, slice_get, Some, Contains}
+use Rattle.repo_name.specs.declared.names.Name.{Name}
+use Rattle.repo_pack.specs.PackLayout.{Item, offset_of}
+use Rattle.repo_pack.specs.PackWriting.{place_of}
+use Rattle.repo_index.specs.IndexText.{fact_of, facts_in}
+use Rattle.repo_index.specs.declared.facts.Fact.{Fact}
+use Rattle.repo_index.specs.declared.facts.PackFacts.{PackFacts}
+
+-- the fact of an item that stands at this index among the items of a pack
+abbrev pub fact_at : Name → List Item → ℕ → Item → Fact
+fact_at pack items k item = fact_of item.kind item.name (place_of pack (offset_of items k) item)
+
+-- an index is exact for a pack: its facts of the pack are exactly those of these items
+abbrev pub IsExactFor : List PackFacts → Name → List Item → Type 0
+IsExactFor packs pack items = (fact : Fact) → (Contains (facts_in packs) fact × (fact.place.pack ≡ pack))
+    ↔ ((k : ℕ) × (item : Item) × (slice_get items k ≡ Some item) × (fact ≡ fact_at pack items k item))
+
+-- these are the facts of a pack of these items, in the items' order
+pub record AreFactsAt (pack : Name) (items : List Item) (facts : List Fact) : Type 0 where
+  pub count : length facts ≡ length items
+  pub each : (k : ℕ) (item : Item) → slice_get items k ≡ Some item → slice_get facts k ≡ Some (fact_at pack items k item)
+
+-- an index that lists a pack with the facts of its items, and has no other fact of it, is exact for it
+abbrev pub ListedIsExact : Type 0
+ListedIsExact = (before after : List PackFacts) (pack : Name) (items : List Item) (facts : List Fact) → AreFactsAt pack items facts
+    → ((fact : Fact) → Contains (facts_in before ++ facts_in after) fact → fact.place.pack ≢ pack)
+    → IsExactFor (before ++ record { pack = pack; facts = facts } ∷ after) pack items

@@ -1,0 +1,11 @@
+-- The definitions that the contracts of this crate cite.
+pub mod JsonText
+pub mod Listing
+pub mod IndexText
+pub mod IndexFaults
+pub mod IndexWriting
+pub mod Order
+pub mod Bounds
+pub mod Lookups
+pub mod Laws
+pub mod Exactness

@@ -1,0 +1,46 @@
+-- What a look-up holds, and what it finds.
+use Rattle.std.specs.Prelude.{◌≡◌, ◌-◌, ◌⊎◌, ◌↔◌, ◌++◌, List, length, slice_get, Some, Contains, IsTrue}
+use Rattle.std.specs.List.Sorted.{IsStrictlySortedBy}
+use Rattle.std.specs.BTreeSet.{BTreeSet, contains}
+use Rattle.repo_name.specs.Naming.{name_cmp}
+use Rattle.repo_name.specs.declared.names.Name.{Name}
+use Rattle.repo_name.specs.declared.kinds.BlobKind.{BlobKind}
+use Rattle.repo_pack.specs.declared.places.Place.{Place}
+use Rattle.repo_index.specs.IndexText.{IsFact, fact_of}
+use Rattle.repo_index.specs.Order.{place_first, name_first, IsAtMost}
+use Rattle.repo_index.specs.declared.facts.Fact.{Fact}
+
+-- of the places that these facts give a pair of kind and name, this is the least
+pub record IsLeast (facts : List Fact) (kind : BlobKind) (name : Name) (place : Place) : Type 0 where
+  pub among : Contains facts (fact_of kind name place)
+  pub least : (other : Place) → Contains facts (fact_of kind name other) → IsAtMost place other
+
+-- new has the facts of old and these
+abbrev pub Joins : List Fact → List Fact → List Fact → Type 0
+Joins old more new = (fact : Fact) → Contains new fact ↔ (Contains old fact ⊎ Contains more fact)
+
+-- new has the facts of old and some first ones of these
+pub record JoinsPart (old more new : List Fact) : Type 0 where
+  pub first : List Fact
+  pub rest : List Fact
+  pub split : more ≡ first ++ rest
+  pub joins : Joins old first new
+
+-- the last of the names is this one
+abbrev pub EndsWith : List Name → Name → Type 0
+EndsWith names name = slice_get names (length names - 1) ≡ Some name
+
+-- the packs of these facts, each once and ascending
+pub record ArePacksOf (facts : List Fact) (packs : List Name) : Type 0 where
+  pub each : (pack : Name) → Contains packs pack ↔ ((fact : Fact) × Contains facts fact × (fact.place.pack ≡ pack))
+  pub ascend : IsStrictlySortedBy name_cmp packs
+
+-- those of these facts that are of a pack, by offset, then by length, kind and name
+pub record AreFactsOf (facts : List Fact) (pack : Name) (own : List Fact) : Type 0 where
+  pub each : (fact : Fact) → Contains own fact ↔ (Contains facts fact × (fact.place.pack ≡ pack))
+  pub ascend : IsStrictlySortedBy place_first own
+
+-- the two sets of a look-up have the same facts, and these are as programs make them
+pub record AreHeld (by_place by_name : BTreeSet Fact) : Type 0 where
+  pub same : (fact : Fact) → contains name_first by_name fact ≡ contains place_first by_place fact
+  pub made : (fact : Fact) → IsTrue (contains place_first by_place fact) → IsFact fact

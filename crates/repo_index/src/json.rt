@@ -1,0 +1,59 @@
+//! Bytes that are JSON, and texts that are names.
+
+ghost use Rattle.std.specs.Prelude.{◌≡◌, ◌≢◌, IfOk, IfErr, IfSome, IfNone, IsErrOf, string_bytes};
+ghost use Rattle.serde_json.specs.Data.{Data};
+ghost use Rattle.serde_json.specs.View.{view};
+ghost use Rattle.repo_name.specs.Naming.{hex_of, IsName};
+ghost use Rattle.repo_index.specs.JsonText.{IsJson};
+ghost use Rattle.repo_index.specs.IndexText.{IsId};
+ghost use Rattle.repo_index.specs.IndexFaults.{NamesNothing};
+ghost use Rattle.repo_index.specs.declared.faults.IndexError.{IndexError};
+
+use crate::faults::IndexError;
+use repo_name::Name;
+use serde_json::Value;
+use std::alloc::{AllocError, Global};
+
+/// The value that the bytes read as.
+pub(crate) fn parse(alloc: Global, bytes: &[u8]) -> Result<Value, IndexError>
+    ensures ok { IfOk result (λ v. IsJson bytes.now (view v)) }
+    ensures none { IsErrOf result IndexError.Json → (d : Data) → ¬ IsJson bytes.now d }
+    ensures only { IfErr result (λ e. e ≢ IndexError.Memory → e ≡ IndexError.Json) }
+{
+    match Value::from_slice(alloc, bytes) {
+        Ok(value) => Ok(value),
+        Err(error) => {
+            if error.is_memory() {
+                return Err(IndexError::Memory);
+            }
+            Err(IndexError::Json)
+        }
+    }
+}
+
+/// The bytes of a name.
+fn bytes_of(name: Name) -> [u8; 32]
+    ensures bytes { result ≡ name.0 }
+    ensures named { IsName name }
+{
+    name.0
+}
+
+/// The name of which this is the text: 64 digits in lower case.
+pub(crate) fn name_of(text: &str) -> Option<Name>
+    ensures found { IfSome result (IsId text.now) }
+    ensures none { IfNone result (NamesNothing text.now) }
+{
+    let Ok(name) = Name::from_hex(text) else {
+        return None;
+    };
+    Some(Name(bytes_of(name)))
+}
+
+/// A name's 64 digits, in lower case.
+pub(crate) fn digits_of(alloc: Global, name: Name) -> Result<String, AllocError>
+    ensures text { IfOk result (λ text. string_bytes text ≡ hex_of name) }
+    ensures named { IsName name }
+{
+    Name(bytes_of(name)).to_hex(alloc)
+}

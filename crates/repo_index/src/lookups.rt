@@ -1,0 +1,153 @@
+//! Look-up of blobs over the facts of many indexes.
+
+ghost use Rattle.std.specs.Prelude.{◌≡◌, ◌↔◌, ◌∷◌, [], List, IsTrue, OnOk, OnErr, IfOk, IfSome, IfNone, Contains};
+ghost use Rattle.repo_pack.specs.declared.places.Place.{Place};
+ghost use Rattle.repo_index.specs.IndexText.{fact_of, facts_in};
+ghost use Rattle.repo_index.specs.Lookups.{IsLeast, Joins, JoinsPart, EndsWith, ArePacksOf, AreFactsOf};
+ghost use Rattle.repo_index.specs.declared.facts.Fact.{Fact};
+
+use crate::bounds::{greatest_of_pack, greatest_of_pair, least_of_pack, least_of_pair};
+use crate::facts::{Fact, Facts};
+use crate::index_text::IndexText;
+use crate::keys::{ByName, ByPlace};
+use repo_name::{BlobKind, Name, Names};
+use repo_pack::Place;
+use std::alloc::{AllocError, Global};
+use std::collections::BTreeSet;
+use std::marker::Model;
+use std::ops::Bound;
+
+/// Where blobs lie, by the facts of the indexes that were added. A clause sees these facts in a list, and tells which ones
+/// it contains.
+///
+/// It finds a blob's least place, and a pack's facts, in logarithmic time. A fact takes 76 bytes in each of two ordered
+/// sets, whose blocks have room for 15 facts and hold 7 at least: 155 to 350 bytes a fact, and no allocation of its own.
+#[derive(Drop)]
+pub struct Lookup {
+    by_place: BTreeSet<ByPlace>,
+    by_name: BTreeSet<ByName>,
+    alloc: Global,
+}
+
+impl Model for Lookup {
+    ghost use Rattle.std.specs.Prelude.{List};
+    ghost use Rattle.repo_index.specs.declared.facts.Fact.{Fact};
+
+    ghost Value = { List Fact };
+
+    ghost use Rattle.repo_index.specs.Lookups.{AreHeld};
+
+    ghost view = { λ l. l.by_place.keys };
+
+    ghost invariant = { λ l. AreHeld l.by_place l.by_name };
+}
+
+/// Whether a name is the last of some.
+fn ends_with(names: &[Name], name: &Name) -> bool
+    ensures { IsTrue result ↔ EndsWith names.now name.now }
+{
+    match names.last() {
+        Some(last) => last == name,
+        None => false,
+    }
+}
+
+impl Lookup {
+    /// A look-up without facts.
+    pub fn new(alloc: Global) -> Lookup
+        ensures { result ≡ [] }
+    {
+        Lookup {
+            by_place: BTreeSet::new(alloc),
+            by_name: BTreeSet::new(alloc),
+            alloc,
+        }
+    }
+
+    /// Adds a fact. It fails for memory alone, and then nothing changed.
+    fn add_fact(&mut self, fact: Fact) -> Result<(), AllocError>
+        ensures ok { OnOk result (Joins self.old (fact ∷ []) self.new) }
+        ensures err { OnErr result (self.new ≡ self.old) }
+    {
+        let key = ByName::of(fact);
+        match self.by_name.insert(key) {
+            Err(_) => return Err(AllocError),
+            Ok(false) => return Ok(()),
+            Ok(true) => {}
+        }
+        match self.by_place.insert(ByPlace::of(fact)) {
+            Ok(_) => Ok(()),
+            Err(_) => {
+                self.by_name.remove(&key);
+                Err(AllocError)
+            }
+        }
+    }
+
+    /// Adds some facts. It fails for memory alone, and then some first ones were added.
+    fn add_facts(&mut self, facts: &[Fact]) -> Result<(), AllocError>
+        ensures ok { OnOk result (Joins self.old facts.now self.new) }
+        ensures err { OnErr result (JoinsPart self.old facts.now self.new) }
+    {
+        for fact in facts {
+            self.add_fact(*fact)?;
+        }
+        Ok(())
+    }
+
+    /// Adds the facts of an index. It fails for memory alone, and then some first facts of the text were added; adding
+    /// it again gives the whole.
+    pub fn add(&mut self, text: &IndexText) -> Result<(), AllocError>
+        ensures ok { OnOk result (Joins self.old (facts_in text.now) self.new) }
+        ensures err { OnErr result (JoinsPart self.old (facts_in text.now) self.new) }
+        ensures again { OnErr result ((whole : List Fact) → Joins self.new (facts_in text.now) whole → Joins self.old (facts_in text.now) whole) }
+    {
+        let packs = text.packs();
+        for listed in packs {
+            self.add_facts(listed.facts.as_slice())?;
+        }
+        Ok(())
+    }
+
+    /// The least place of a blob of this kind and name: that of the least pack, there that of the least offset, and
+    /// then of the least length. `None` where no fact gives one. It takes no memory.
+    pub fn find(&self, kind: BlobKind, name: &Name) -> Option<Place>
+        ensures found { IfSome result (IsLeast self.now kind name.now) }
+        ensures none { IfNone result ((place : Place) → ¬ Contains self.now (fact_of kind name.now place)) }
+    {
+        let least = least_of_pair(kind, *name);
+        let greatest = greatest_of_pair(kind, *name);
+        let of_pair = (Bound::Included(least), Bound::Included(greatest));
+        let key = self.by_name.range(of_pair).next()?;
+        Some(key.fact().place)
+    }
+
+    /// The packs that the facts are of, ascending. It fails for memory alone.
+    pub fn packs(&self) -> Result<Names, AllocError>
+        ensures { IfOk result (ArePacksOf self.now) }
+    {
+        let mut packs: Vec<Name> = Vec::new(self.alloc);
+        for key in self.by_place.iter() {
+            let pack = key.fact().place.pack;
+            if !ends_with(packs.as_slice(), &pack) {
+                packs.push(pack)?;
+            }
+        }
+        Ok(Names::of(packs))
+    }
+
+    /// The facts of a pack, by offset, then by length, kind and name. It fails for memory alone.
+    pub fn facts_of(&self, pack: &Name) -> Result<Facts, AllocError>
+        ensures { IfOk result (AreFactsOf self.now pack.now) }
+    {
+        let least = least_of_pack(*pack);
+        let greatest = greatest_of_pack(*pack);
+        let of_pack = (Bound::Included(least), Bound::Included(greatest));
+        let facts = self
+            .by_place
+            .range(of_pack)
+            .map(|key| key.fact())
+            .collect(self.alloc)?;
+        Ok(Facts::of(facts))
+    }
+}

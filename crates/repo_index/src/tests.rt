@@ -1,0 +1,4 @@
+//! What no clause says: texts from outside, and that calls succeed.
+
+mod lookups;
+mod texts;

@@ -1,0 +1,53 @@
+//! How the program ends, and what it says then.
+
+ghost use Rattle.std.specs.Prelude.{◌≡◌};
+ghost use Rattle.repo_prog.specs.Commands.{status_code};
+ghost use Rattle.repo_prog.specs.declared.status.Status.{Status};
+
+use std::fmt::Display;
+use std::io::Write;
+
+/// How the program ends.
+#[derive(Clone, Copy, Debug, PartialEq, Eq)]
+pub enum Status {
+    /// 0: it did what was asked.
+    Done,
+    /// 1: it ended without completing; standard error says why.
+    Failed,
+    /// 2: the words make no command; standard error says why.
+    Usage,
+}
+
+impl Status {
+    /// The exit status.
+    pub fn code(self) -> u8
+        ensures { result ≡ status_code self }
+    {
+        match self {
+            Status::Done => 0,
+            Status::Failed => 1,
+            Status::Usage => 2,
+        }
+    }
+}
+
+/// Writes a fault's text on a line. A text that can't be written is lost.
+pub fn tell<F: Write, T: Display>(faults: &mut F, text: &T) {
+    let _ = writeln!(faults, "{text}");
+}
+
+/// Tells why a command failed.
+pub fn failed<F: Write, T: Display>(faults: &mut F, text: &T) -> Status
+    ensures { result ≡ Status.Failed }
+{
+    tell(faults, text);
+    Status::Failed
+}
+
+/// Tells that a word isn't as it should be, where `clap` itself has no text for it.
+pub fn refuse_words<F: Write>(faults: &mut F) -> Status
+    ensures { result ≡ Status.Usage }
+{
+    tell(faults, &"bad argument");
+    Status::Usage
+}

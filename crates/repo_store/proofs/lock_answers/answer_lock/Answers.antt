@@ -1,0 +1,16 @@
+use Rattle.std.proofs.Common.{List, ℕ, subst, Ok}
+use Rattle.repo_locks.specs.declared.outcomes.Grant.{Grant}
+use Rattle.repo_locks.specs.TokenMachine.{LockStep}
+use Rattle.repo_store.proofs.Failing.{lock_failed}
+use Rattle.repo_store.proofs.lock_answers.answer_lock.Goals as goal
+
+pub returns-clause-step : goal.returns-clause-step
+returns-clause-step g c h =
+    let row = c.args.row.now in
+    let r = c.in-Ok.ensures.law h in
+    let w = c.in-Err-save_ledger.ensures.law (c.in-Ok.ensures.honest h) in
+    let P : List ℕ → Type 0 = λ host. LockStep c.in-Ok.ledger row.token row.exclusive row.time host (Ok Grant.New) c.lock.new.self in
+    let Q : Grant → Type 0 = λ grant. LockStep c.in-Ok.ledger row.token row.exclusive row.time c.as_str.result.now (Ok grant) c.lock.new.self in
+    let granted = subst Q c.in-Ok-New.field-0-is c.in-Ok-New.ensures in
+    rw c.refusal-in-Err-save_ledger.ensures
+    (lock_failed _ _ (g.S.Shelf.store c.save_ledger.new.self) c.in-Ok.ledger c.lock.new.self row c.in-Err-save_ledger.error r.1 r.0 (subst P c.as_str.ensures.text granted) w)

@@ -1,0 +1,312 @@
+//! A shelf that fails as it is told, around another.
+
+ghost use Rattle.std.specs.Prelude.{◌≡◌, ◌≢◌, ◌≤◌, ◌+◌, ◌^◌, ◌-◌, ℕ, min, length, option_map, All, Bool, true, false, Some, None, IfOk, IsErrOf};
+ghost use Rattle.repo_name.specs.declared.kinds.Kind.{Kind};
+ghost use Rattle.repo_name.specs.Naming.{IsName};
+ghost use Rattle.repo_store.specs.Faults.{fails_reading, fails_writing, one_less, count_of, WritesThenFails};
+ghost use Rattle.repo_store.specs.Laws.{Reads, Writes, HasCause};
+ghost use Rattle.repo_store.specs.Pages.{IsPage};
+ghost use Rattle.repo_store.specs.Slices.{IsSlice, HasLength};
+ghost use Rattle.repo_store.specs.Stores.{PutsObject, RemovesObject, SavesTokens, SavesConfig};
+ghost use Rattle.repo_store.specs.declared.faults.Armed.{Armed};
+ghost use Rattle.repo_store.specs.declared.faults.Fail.{Fail};
+ghost use Rattle.repo_store.specs.declared.shelves.ShelfError.{ShelfError};
+
+use crate::shelves::{Page, Shelf, ShelfError, Slice};
+use repo_locks::Ledger;
+use repo_name::{Bytes, Kind, Name};
+
+/// The call that is to fail next.
+#[derive(Clone, Copy, Debug, PartialEq, Eq)]
+pub enum Fail {
+    /// The next reading call.
+    Read,
+    /// The next writing call: with true its change is made, and a fault is told all the same.
+    Write(bool),
+}
+
+/// What is armed.
+#[derive(Clone, Copy, Debug, PartialEq, Eq)]
+enum Armed {
+    Nothing,
+    Next(Fail),
+    /// The call of this number from now, counted from 1. If it is a writing one its change is made or not.
+    Call { number: u64, applied: bool },
+}
+
+/// A shelf around another, which fails in just the call that was armed, and counts that failure. All
+/// other calls are the inner shelf's.
+#[derive(Debug, Drop)]
+pub struct FaultShelf<S> {
+    inner: S,
+    armed: Armed,
+    count: u64,
+}
+
+impl<S> FaultShelf<S> {
+    /// A shelf around this one, with nothing armed.
+    pub fn new(inner: S) -> FaultShelf<S>
+        ensures { result ≡ record { inner = inner; armed = Armed.Nothing; count = 0 } }
+    {
+        FaultShelf {
+            inner,
+            armed: Armed::Nothing,
+            count: 0,
+        }
+    }
+
+    /// Arms the next call of a sort, in place of what was armed. It waits for its call.
+    pub fn arm(&mut self, fail: Fail)
+        ensures { self.new ≡ record { inner = self.old.inner; armed = Armed.Next fail; count = self.old.count } }
+    {
+        self.armed = Armed::Next(fail);
+    }
+
+    /// Arms the call of this number from now, counted from 1, in place of what was armed. If it is a
+    /// writing one its change is made where `applied`.
+    pub fn arm_at(&mut self, number: u64, applied: bool)
+        requires { 1 ≤ number }
+        ensures { self.new ≡ record { inner = self.old.inner; armed = Armed.Call number applied; count = self.old.count } }
+    {
+        self.armed = Armed::Call { number, applied };
+    }
+
+    /// Arms nothing.
+    pub fn disarm(&mut self)
+        ensures { self.new ≡ record { inner = self.old.inner; armed = Armed.Nothing; count = self.old.count } }
+    {
+        self.armed = Armed::Nothing;
+    }
+
+    /// Counts one failure more, and arms nothing.
+    fn fail(&mut self)
+        ensures inner { self.new.inner ≡ self.old.inner }
+        ensures armed { self.new.armed ≡ Armed.Nothing }
+        ensures count { self.new.count ≡ min (self.old.count + 1) (2 ^ 64 - 1) }
+    {
+        self.armed = Armed::Nothing;
+        self.count = self.count.saturating_add(1);
+    }
+
+    /// Passes a call that isn't the armed one.
+    fn pass(&mut self)
+        ensures inner { self.new.inner ≡ self.old.inner }
+        ensures armed { self.new.armed ≡ one_less self.old.armed }
+        ensures count { self.new.count ≡ self.old.count }
+    {
+        if let Armed::Call { number, applied } = self.armed {
+            let number = number.saturating_sub(1);
+            self.armed = Armed::Call { number, applied };
+        }
+    }
+
+    /// Whether this reading call is the armed one.
+    fn fails_reading(&mut self) -> bool
+        ensures fails { result ≡ fails_reading self.old.armed }
+        ensures inner { self.new.inner ≡ self.old.inner }
+        ensures armed { result ≡ true → (self.new.armed ≡ Armed.Nothing) × (self.new.count ≡ min (self.old.count + 1) (2 ^ 64 - 1)) }
+        ensures other { result ≡ false → (self.new.armed ≡ one_less self.old.armed) × (self.new.count ≡ self.old.count) }
+    {
+        match self.armed {
+            Armed::Next(Fail::Read) => {}
+            Armed::Call { number, .. } if number == 1 => {}
+            _ => {
+                self.pass();
+                return false;
+            }
+        }
+        self.fail();
+        true
+    }
+
+    /// Whether this writing call is the armed one, and then whether its change is made.
+    fn fails_writing(&mut self) -> Option<bool>
+        ensures fails { result ≡ fails_writing self.old.armed }
+        ensures inner { self.new.inner ≡ self.old.inner }
+        ensures armed { result ≢ None → (self.new.armed ≡ Armed.Nothing) × (self.new.count ≡ min (self.old.count + 1) (2 ^ 64 - 1)) }
+        ensures other { result ≡ None → (self.new.armed ≡ one_less self.old.armed) × (self.new.count ≡ self.old.count) }
+    {
+        let applied = match self.armed {
+            Armed::Next(Fail::Write(applied)) => applied,
+            Armed::Call { number, applied } if number == 1 => applied,
+            _ => {
+                self.pass();
+                return None;
+            }
+        };
+        self.fail();
+        Some(applied)
+    }
+}
+
+impl<S: Shelf> Shelf for FaultShelf<S> {
+    ghost use Rattle.repo_store.specs.Faults.{count_of};
+
+    ghost store = { λ f. S.store f.inner };
+
+    ghost failed = { λ f. count_of (S.failed f.inner) f.count };
+
+    ghost honest = { λ f. S.honest f.inner };
+
+    fn get(&mut self, kind: Kind, name: &Name) -> Result<Option<Bytes>, ShelfError>
+        ensures law { S.honest self.old.inner → Reads (λ found. found ≡ (S.store self.old.inner).objects kind name.now) (S.store self.old.inner) result (S.store self.new.inner) }
+        ensures cause { S.honest self.old.inner → HasCause (count_of (S.failed self.old.inner) self.old.count) result (count_of (S.failed self.new.inner) self.new.count) }
+        ensures honest { S.honest self.old.inner → S.honest self.new.inner }
+        ensures armed { fails_reading self.old.armed ≡ true → IsErrOf result ShelfError.Fault × (self.new.inner ≡ self.old.inner) × (self.new.armed ≡ Armed.Nothing) }
+        ensures other { fails_reading self.old.armed ≡ false → (self.new.armed ≡ one_less self.old.armed) × (self.new.count ≡ self.old.count) }
+        ensures inner { fails_reading self.old.armed ≡ false → S.honest self.old.inner → HasCause (S.failed self.old.inner) result (S.failed self.new.inner) }
+    {
+        if self.fails_reading() {
+            return Err(ShelfError::Fault);
+        }
+        self.inner.get(kind, name)
+    }
+
+    fn range(&mut self, pack: &Name, offset: u32, length: u32) -> Result<Slice, ShelfError>
+        ensures law { S.honest self.old.inner → Reads (IsSlice ((S.store self.old.inner).objects Kind.Pack pack.now) offset length) (S.store self.old.inner) result (S.store self.new.inner) }
+        ensures cause { S.honest self.old.inner → HasCause (count_of (S.failed self.old.inner) self.old.count) result (count_of (S.failed self.new.inner) self.new.count) }
+        ensures honest { S.honest self.old.inner → S.honest self.new.inner }
+        ensures length { IfOk result (HasLength length) }
+        ensures armed { fails_reading self.old.armed ≡ true → IsErrOf result ShelfError.Fault × (self.new.inner ≡ self.old.inner) × (self.new.armed ≡ Armed.Nothing) }
+        ensures other { fails_reading self.old.armed ≡ false → (self.new.armed ≡ one_less self.old.armed) × (self.new.count ≡ self.old.count) }
+        ensures inner { fails_reading self.old.armed ≡ false → S.honest self.old.inner → HasCause (S.failed self.old.inner) result (S.failed self.new.inner) }
+    {
+        if self.fails_reading() {
+            return Err(ShelfError::Fault);
+        }
+        self.inner.range(pack, offset, length)
+    }
+
+    fn put(&mut self, kind: Kind, name: &Name, bytes: &[u8]) -> Result<(), ShelfError>
+        ensures law { S.honest self.old.inner → Writes (PutsObject kind name.now bytes.now) (S.store self.old.inner) result (S.store self.new.inner) }
+        ensures cause { S.honest self.old.inner → HasCause (count_of (S.failed self.old.inner) self.old.count) result (count_of (S.failed self.new.inner) self.new.count) }
+        ensures honest { S.honest self.old.inner → S.honest self.new.inner }
+        ensures applied { fails_writing self.old.armed ≡ Some true → S.honest self.old.inner → WritesThenFails (PutsObject kind name.now bytes.now) (S.store self.old.inner) result (S.store self.new.inner) }
+        ensures unapplied { fails_writing self.old.armed ≡ Some false → IsErrOf result ShelfError.Fault × (self.new.inner ≡ self.old.inner) }
+        ensures once { fails_writing self.old.armed ≢ None → self.new.armed ≡ Armed.Nothing }
+        ensures other { fails_writing self.old.armed ≡ None → (self.new.armed ≡ one_less self.old.armed) × (self.new.count ≡ self.old.count) }
+        ensures inner { fails_writing self.old.armed ≡ None → S.honest self.old.inner → HasCause (S.failed self.old.inner) result (S.failed self.new.inner) }
+    {
+        match self.fails_writing() {
+            None => self.inner.put(kind, name, bytes),
+            Some(false) => Err(ShelfError::Fault),
+            Some(true) => {
+                self.inner.put(kind, name, bytes)?;
+                Err(ShelfError::Fault)
+            }
+        }
+    }
+
+    fn remove(&mut self, kind: Kind, name: &Name) -> Result<(), ShelfError>
+        ensures law { S.honest self.old.inner → Writes (RemovesObject kind name.now) (S.store self.old.inner) result (S.store self.new.inner) }
+        ensures cause { S.honest self.old.inner → HasCause (count_of (S.failed self.old.inner) self.old.count) result (count_of (S.failed self.new.inner) self.new.count) }
+        ensures honest { S.honest self.old.inner → S.honest self.new.inner }
+        ensures applied { fails_writing self.old.armed ≡ Some true → S.honest self.old.inner → WritesThenFails (RemovesObject kind name.now) (S.store self.old.inner) result (S.store self.new.inner) }
+        ensures unapplied { fails_writing self.old.armed ≡ Some false → IsErrOf result ShelfError.Fault × (self.new.inner ≡ self.old.inner) }
+        ensures once { fails_writing self.old.armed ≢ None → self.new.armed ≡ Armed.Nothing }
+        ensures other { fails_writing self.old.armed ≡ None → (self.new.armed ≡ one_less self.old.armed) × (self.new.count ≡ self.old.count) }
+        ensures inner { fails_writing self.old.armed ≡ None → S.honest self.old.inner → HasCause (S.failed self.old.inner) result (S.failed self.new.inner) }
+    {
+        match self.fails_writing() {
+            None => self.inner.remove(kind, name),
+            Some(false) => Err(ShelfError::Fault),
+            Some(true) => {
+                self.inner.remove(kind, name)?;
+                Err(ShelfError::Fault)
+            }
+        }
+    }
+
+    fn names_after(
+        &mut self,
+        kind: Kind,
+        after: Option<&Name>,
+        limit: usize,
+    ) -> Result<Page, ShelfError>
+        ensures law { S.honest self.old.inner → Reads (λ page. IsPage (S.store self.old.inner).objects kind (option_map (λ name. name.now) after.entry) limit page.names page.more) (S.store self.old.inner) result (S.store self.new.inner) }
+        ensures cause { S.honest self.old.inner → HasCause (count_of (S.failed self.old.inner) self.old.count) result (count_of (S.failed self.new.inner) self.new.count) }
+        ensures honest { S.honest self.old.inner → S.honest self.new.inner }
+        ensures few { IfOk result (λ page. length page.names ≤ limit) }
+        ensures names { IfOk result (λ page. All IsName page.names) }
+        ensures armed { fails_reading self.old.armed ≡ true → IsErrOf result ShelfError.Fault × (self.new.inner ≡ self.old.inner) × (self.new.armed ≡ Armed.Nothing) }
+        ensures other { fails_reading self.old.armed ≡ false → (self.new.armed ≡ one_less self.old.armed) × (self.new.count ≡ self.old.count) }
+        ensures inner { fails_reading self.old.armed ≡ false → S.honest self.old.inner → HasCause (S.failed self.old.inner) result (S.failed self.new.inner) }
+    {
+        if self.fails_reading() {
+            return Err(ShelfError::Fault);
+        }
+        self.inner.names_after(kind, after, limit)
+    }
+
+    fn ledger(&mut self) -> Result<Ledger, ShelfError>
+        ensures law { S.honest self.old.inner → Reads (λ ledger. ledger ≡ (S.store self.old.inner).tokens) (S.store self.old.inner) result (S.store self.new.inner) }
+        ensures cause { S.honest self.old.inner → HasCause (count_of (S.failed self.old.inner) self.old.count) result (count_of (S.failed self.new.inner) self.new.count) }
+        ensures honest { S.honest self.old.inner → S.honest self.new.inner }
+        ensures armed { fails_reading self.old.armed ≡ true → IsErrOf result ShelfError.Fault × (self.new.inner ≡ self.old.inner) × (self.new.armed ≡ Armed.Nothing) }
+        ensures other { fails_reading self.old.armed ≡ false → (self.new.armed ≡ one_less self.old.armed) × (self.new.count ≡ self.old.count) }
+        ensures inner { fails_reading self.old.armed ≡ false → S.honest self.old.inner → HasCause (S.failed self.old.inner) result (S.failed self.new.inner) }
+    {
+        if self.fails_reading() {
+            return Err(ShelfError::Fault);
+        }
+        self.inner.ledger()
+    }
+
+    fn save_ledger(&mut self, ledger: &Ledger) -> Result<(), ShelfError>
+        ensures law { S.honest self.old.inner → Writes (SavesTokens ledger.now) (S.store self.old.inner) result (S.store self.new.inner) }
+        ensures cause { S.honest self.old.inner → HasCause (count_of (S.failed self.old.inner) self.old.count) result (count_of (S.failed self.new.inner) self.new.count) }
+        ensures honest { S.honest self.old.inner → S.honest self.new.inner }
+        ensures applied { fails_writing self.old.armed ≡ Some true → S.honest self.old.inner → WritesThenFails (SavesTokens ledger.now) (S.store self.old.inner) result (S.store self.new.inner) }
+        ensures unapplied { fails_writing self.old.armed ≡ Some false → IsErrOf result ShelfError.Fault × (self.new.inner ≡ self.old.inner) }
+        ensures once { fails_writing self.old.armed ≢ None → self.new.armed ≡ Armed.Nothing }
+        ensures other { fails_writing self.old.armed ≡ None → (self.new.armed ≡ one_less self.old.armed) × (self.new.count ≡ self.old.count) }
+        ensures inner { fails_writing self.old.armed ≡ None → S.honest self.old.inner → HasCause (S.failed self.old.inner) result (S.failed self.new.inner) }
+    {
+        match self.fails_writing() {
+            None => self.inner.save_ledger(ledger),
+            Some(false) => Err(ShelfError::Fault),
+            Some(true) => {
+                self.inner.save_ledger(ledger)?;
+                Err(ShelfError::Fault)
+            }
+        }
+    }
+
+    fn config(&mut self) -> Result<Option<Bytes>, ShelfError>
+        ensures law { S.honest self.old.inner → Reads (λ found. found ≡ (S.store self.old.inner).config) (S.store self.old.inner) result (S.store self.new.inner) }
+        ensures cause { S.honest self.old.inner → HasCause (count_of (S.failed self.old.inner) self.old.count) result (count_of (S.failed self.new.inner) self.new.count) }
+        ensures honest { S.honest self.old.inner → S.honest self.new.inner }
+        ensures armed { fails_reading self.old.armed ≡ true → IsErrOf result ShelfError.Fault × (self.new.inner ≡ self.old.inner) × (self.new.armed ≡ Armed.Nothing) }
+        ensures other { fails_reading self.old.armed ≡ false → (self.new.armed ≡ one_less self.old.armed) × (self.new.count ≡ self.old.count) }
+        ensures inner { fails_reading self.old.armed ≡ false → S.honest self.old.inner → HasCause (S.failed self.old.inner) result (S.failed self.new.inner) }
+    {
+        if self.fails_reading() {
+            return Err(ShelfError::Fault);
+        }
+        self.inner.config()
+    }
+
+    fn save_config(&mut self, bytes: &[u8]) -> Result<(), ShelfError>
+        ensures law { S.honest self.old.inner → Writes (SavesConfig bytes.now) (S.store self.old.inner) result (S.store self.new.inner) }
+        ensures cause { S.honest self.old.inner → HasCause (count_of (S.failed self.old.inner) self.old.count) result (count_of (S.failed self.new.inner) self.new.count) }
+        ensures honest { S.honest self.old.inner → S.honest self.new.inner }
+        ensures applied { fails_writing self.old.armed ≡ Some true → S.honest self.old.inner → WritesThenFails (SavesConfig bytes.now) (S.store self.old.inner) result (S.store self.new.inner) }
+        ensures unapplied { fails_writing self.old.armed ≡ Some false → IsErrOf result ShelfError.Fault × (self.new.inner ≡ self.old.inner) }
+        ensures once { fails_writing self.old.armed ≢ None → self.new.armed ≡ Armed.Nothing }
+        ensures other { fails_writing self.old.armed ≡ None → (self.new.armed ≡ one_less self.old.armed) × (self.new.count ≡ self.old.count) }
+        ensures inner { fails_writing self.old.armed ≡ None → S.honest self.old.inner → HasCause (S.failed self.old.inner) result (S.failed self.new.inner) }
+    {
+        match self.fails_writing() {
+            None => self.inner.save_config(bytes),
+            Some(false) => Err(ShelfError::Fault),
+            Some(true) => {
+                self.inner.save_config(bytes)?;
+                Err(ShelfError::Fault)
+            }
+        }
+    }
+
+    fn failures(&self) -> u64 {
+        self.inner.failures().saturating_add(self.count)
+    }
+}

@@ -1,0 +1,60 @@
+//! The config that a store begins with.
+
+ghost use Rattle.std.specs.Prelude.{◌≡◌};
+ghost use Rattle.repo_tree.specs.ConfigText.{config_text, IsTarget};
+ghost use Rattle.repo_store.specs.Making.{Makes, MakingHasCause, making_error};
+
+use crate::shelves::{Shelf, ShelfError};
+use repo_tree::Config;
+use std::alloc::Global;
+use thiserror::Error;
+
+/// Why a store wasn't made.
+#[derive(Clone, Copy, Debug, PartialEq, Eq, Error)]
+pub enum InitError {
+    /// There is a config already, whatever it holds. Nothing changed.
+    #[error("exists")]
+    Exists,
+    /// The shelf failed. The config may be kept, whole, or not.
+    #[error("shelf failed")]
+    Fault,
+    /// There was no memory. Nothing changed.
+    #[error("out of memory")]
+    Memory,
+}
+
+/// The error of a shelf's call that failed.
+fn making_error(error: ShelfError) -> InitError
+    ensures { result ≡ making_error error }
+{
+    match error {
+        ShelfError::Fault => InitError::Fault,
+        ShelfError::Memory => InitError::Memory,
+    }
+}
+
+/// Keeps the config on a shelf that has none. The config's version has to be 1, and its target within
+/// its limits.
+///
+/// `Exists` comes first. `Fault` comes only where the shelf failed in this call.
+pub fn init<S: Shelf>(alloc: Global, shelf: &mut S, config: &Config) -> Result<(), InitError>
+    requires version { config.now.version ≡ 1 }
+    requires target { IsTarget config.now.target }
+    ensures law { S.honest shelf.old → Makes (config_text config.now) (S.store shelf.old) result (S.store shelf.new) }
+    ensures cause { S.honest shelf.old → MakingHasCause (S.failed shelf.old) result (S.failed shelf.new) }
+    ensures honest { S.honest shelf.old → S.honest shelf.new }
+{
+    match shelf.config() {
+        Ok(None) => {}
+        Ok(Some(_)) => return Err(InitError::Exists),
+        Err(error) => return Err(making_error(error)),
+    }
+    let text = match config.write(alloc) {
+        Ok(text) => text,
+        Err(_) => return Err(InitError::Memory),
+    };
+    match shelf.save_config(text.as_slice()) {
+        Ok(()) => Ok(()),
+        Err(error) => Err(making_error(error)),
+    }
+}

@@ -1,0 +1,157 @@
+//! The answers to what is asked of objects and of the config.
+
+ghost use Rattle.std.specs.Prelude.{◌≡◌, ◌≤◌, length, option_map, IfSome, IsTrue, ◌↔◌};
+ghost use Rattle.repo_name.specs.declared.names.Name.{Name};
+ghost use Rattle.repo_wire.specs.declared.messages.Ask.{Ask};
+ghost use Rattle.repo_wire.specs.Messages.{IsSay, IsShortSay};
+ghost use Rattle.repo_store.specs.StoreMachine.{object_limit, config_limit, range_limit, GetSays, Step, SaysFault};
+
+use crate::answers::refusal;
+use crate::shelves::{Shelf, Slice};
+use repo_name::{Bytes, Kind, Name, Token, name_of};
+use repo_wire::{Code, Say};
+
+/// The most names of a page.
+const PAGE: usize = 256;
+
+/// The most bytes of a config.
+const CONFIG: usize = 65_536;
+
+/// The most bytes that are asked for of a pack at once.
+const RANGE: u32 = 8_388_608;
+
+/// The most bytes of an object of this kind.
+fn limit_of(kind: Kind) -> usize
+    ensures { result ≡ object_limit kind }
+{
+    match kind {
+        Kind::Pack => 25_317_379,
+        Kind::Index => 8_388_608,
+        Kind::Snapshot => 65_536,
+    }
+}
+
+/// What is said of bytes that are there or not, and have a limit.
+fn say_of(found: Option<Bytes>, limit: usize) -> Say
+    requires { limit ≤ 26214375 }
+    ensures says { GetSays limit found result }
+    ensures within { IsSay result × IsShortSay result }
+{
+    match found {
+        None => Say::Refused(Code::Missing),
+        Some(bytes) => {
+            if bytes.as_slice().len() > limit {
+                return Say::Refused(Code::TooLarge);
+            }
+            Say::Bytes(bytes)
+        }
+    }
+}
+
+/// Gives a page of names.
+pub fn answer_list<S: Shelf>(shelf: &mut S, kind: Kind, after: Option<&Name>) -> Say
+    ensures step { S.honest shelf.old → Step (S.store shelf.old) (Ask.List kind (option_map (λ name. name.now) after.entry)) result (S.store shelf.new) }
+    ensures cause { S.honest shelf.old → SaysFault (S.failed shelf.old) result (S.failed shelf.new) }
+    ensures honest { S.honest shelf.old → S.honest shelf.new }
+    ensures within { IsSay result × IsShortSay result }
+{
+    match shelf.names_after(kind, after, PAGE) {
+        Ok(page) => Say::Names {
+            more: page.more,
+            names: page.names,
+        },
+        Err(error) => refusal(error),
+    }
+}
+
+/// Gives an object whole.
+pub fn answer_get<S: Shelf>(shelf: &mut S, kind: Kind, name: &Name) -> Say
+    ensures step { S.honest shelf.old → Step (S.store shelf.old) (Ask.Get kind name.now) result (S.store shelf.new) }
+    ensures cause { S.honest shelf.old → SaysFault (S.failed shelf.old) result (S.failed shelf.new) }
+    ensures honest { S.honest shelf.old → S.honest shelf.new }
+    ensures within { IsSay result × IsShortSay result }
+{
+    match shelf.get(kind, name) {
+        Ok(found) => say_of(found, limit_of(kind)),
+        Err(error) => refusal(error),
+    }
+}
+
+/// Gives the config.
+pub fn answer_config<S: Shelf>(shelf: &mut S) -> Say
+    ensures step { S.honest shelf.old → Step (S.store shelf.old) Ask.Config result (S.store shelf.new) }
+    ensures cause { S.honest shelf.old → SaysFault (S.failed shelf.old) result (S.failed shelf.new) }
+    ensures honest { S.honest shelf.old → S.honest shelf.new }
+    ensures within { IsSay result × IsShortSay result }
+{
+    match shelf.config() {
+        Ok(found) => say_of(found, CONFIG),
+        Err(error) => refusal(error),
+    }
+}
+
+/// Gives a part of a pack.
+pub fn answer_range<S: Shelf>(shelf: &mut S, pack: &Name, offset: u32, length: u32) -> Say
+    ensures step { S.honest shelf.old → Step (S.store shelf.old) (Ask.Range pack.now offset length) result (S.store shelf.new) }
+    ensures cause { S.honest shelf.old → SaysFault (S.failed shelf.old) result (S.failed shelf.new) }
+    ensures honest { S.honest shelf.old → S.honest shelf.new }
+    ensures within { IsSay result × IsShortSay result }
+{
+    if length == 0 || length > RANGE {
+        return Say::Refused(Code::Malformed);
+    }
+    match shelf.range(pack, offset, length) {
+        Ok(Slice::Found(bytes)) => Say::Bytes(bytes),
+        Ok(Slice::Missing) => Say::Refused(Code::Missing),
+        Ok(Slice::Outside) => Say::Refused(Code::Range),
+        Err(error) => refusal(error),
+    }
+}
+
+/// Stores an object, under a live lock.
+pub fn answer_put<S: Shelf>(shelf: &mut S, token: Token, kind: Kind, name: &Name, bytes: &[u8]) -> Say
+    ensures step { S.honest shelf.old → Step (S.store shelf.old) (Ask.Put token kind name.now bytes.now) result (S.store shelf.new) }
+    ensures cause { S.honest shelf.old → SaysFault (S.failed shelf.old) result (S.failed shelf.new) }
+    ensures honest { S.honest shelf.old → S.honest shelf.new }
+    ensures within { IsSay result × IsShortSay result }
+{
+    if bytes.len() > limit_of(kind) {
+        return Say::Refused(Code::TooLarge);
+    }
+    let ledger = match shelf.ledger() {
+        Ok(ledger) => ledger,
+        Err(error) => return refusal(error),
+    };
+    if !ledger.is_live(token) {
+        return Say::Refused(Code::Dead);
+    }
+    if name_of(bytes) != *name {
+        return Say::Refused(Code::NameMismatch);
+    }
+    match shelf.put(kind, name, bytes) {
+        Ok(()) => Say::Done,
+        Err(error) => refusal(error),
+    }
+}
+
+/// Removes an object, under a live exclusive lock.
+pub fn answer_delete<S: Shelf>(shelf: &mut S, token: Token, kind: Kind, name: &Name) -> Say
+    ensures step { S.honest shelf.old → Step (S.store shelf.old) (Ask.Delete token kind name.now) result (S.store shelf.new) }
+    ensures cause { S.honest shelf.old → SaysFault (S.failed shelf.old) result (S.failed shelf.new) }
+    ensures honest { S.honest shelf.old → S.honest shelf.new }
+    ensures within { IsSay result × IsShortSay result }
+{
+    let ledger = match shelf.ledger() {
+        Ok(ledger) => ledger,
+        Err(error) => return refusal(error),
+    };
+    match ledger.live_as(token) {
+        None => return Say::Refused(Code::Dead),
+        Some(false) => return Say::Refused(Code::NotExclusive),
+        Some(true) => {}
+    }
+    match shelf.remove(kind, name) {
+        Ok(()) => Say::Done,
+        Err(error) => refusal(error),
+    }
+}

@@ -1,0 +1,134 @@
+//! The server of one connection.
+
+ghost use Rattle.std.specs.Prelude.{◌≡◌, ◌<◌, ℕ, List, length, Option, Some, IfOk, vec_len};
+ghost use Rattle.repo_store.specs.Services.{Rests, PieceGives};
+ghost use Rattle.repo_store.specs.Serving.{Past, Serves};
+ghost use Rattle.repo_store.specs.Stores.{Store};
+
+use crate::output::Unwritten;
+use crate::services::Service;
+use crate::shelves::Shelf;
+use repo_wire::WireError;
+use std::alloc::{AllocError, Global};
+use std::io::{Read, Write};
+use thiserror::Error;
+
+/// Why serving ended before the input did. The shelf is where the requests that were answered leave it,
+/// and what was written is some first part of their replies' frames: all of it after `Read` and `Malformed`.
+#[derive(Clone, Copy, Debug, PartialEq, Eq, Error)]
+pub enum ServeError {
+    /// The reader failed.
+    #[error("read failed")]
+    Read,
+    /// The writer failed, or took nothing.
+    #[error("write failed")]
+    Write,
+    /// The input is no stream of requests: it has a fault, or it ends inside a frame. Nothing is written
+    /// for it.
+    #[error("malformed")]
+    Malformed,
+    /// 2^32 requests were answered, or 2^48 reads made.
+    #[error("limit")]
+    Limit,
+    /// There was no memory.
+    #[error("out of memory")]
+    Memory,
+}
+
+impl From<AllocError> for ServeError {
+    ghost use Rattle.std.specs.Prelude.{◌≡◌};
+    ghost use Rattle.repo_store.specs.declared.serving.ServeError.{ServeError};
+
+    ghost from_gives = { λ e r. r ≡ ServeError.Memory };
+
+    fn from(_: AllocError) -> ServeError {
+        ServeError::Memory
+    }
+}
+
+impl From<Unwritten> for ServeError {
+    ghost use Rattle.std.specs.Prelude.{◌≡◌};
+    ghost use Rattle.repo_store.specs.declared.serving.ServeError.{ServeError};
+
+    ghost from_gives = { λ e r. r ≡ ServeError.Write };
+
+    fn from(_: Unwritten) -> ServeError {
+        ServeError::Write
+    }
+}
+
+impl From<WireError> for ServeError {
+    ghost use Rattle.std.specs.Prelude.{◌≡◌};
+    ghost use Rattle.repo_store.specs.Services.{serve_error};
+
+    ghost from_gives = { λ e r. r ≡ serve_error e };
+
+    fn from(error: WireError) -> ServeError {
+        match error {
+            WireError::Fault(_) => ServeError::Malformed,
+            WireError::Memory => ServeError::Memory,
+        }
+    }
+}
+
+/// The most reads that are made.
+const READS: u64 = 1 << 48;
+
+/// How many bytes are read at once, at most.
+const PIECE: usize = 65_536;
+
+/// Room for a piece of the input.
+fn room(alloc: Global) -> Result<Vec<u8>, AllocError>
+    ensures { IfOk result (λ room. vec_len room ≡ 65536) }
+{
+    vec![in alloc; 0u8; PIECE]
+}
+
+/// Reads a piece of the input, and answers each request that is there. It says whether there was one;
+/// there is none at the end.
+fn take_piece<R: Read, W: Write, S: Shelf>(
+    service: &mut Service,
+    piece: &mut [u8],
+    reader: &mut R,
+    writer: &mut W,
+    shelf: &mut S,
+) -> Result<bool, ServeError>
+    requires { 0 < length piece.old }
+    ensures next { S.honest shelf.old → (from : Store) (start : Option (List ℕ)) (past : Past) (ahead : List ℕ) → R.remaining reader.old ≡ Some ahead
+        → Rests from start service.old past (S.store shelf.old) (W.contents writer.old)
+        → PieceGives result from start past ahead (R.remaining reader.new) service.new (S.store shelf.new) (W.contents writer.new) }
+    ensures honest { S.honest shelf.old → S.honest shelf.new }
+{
+    match reader.read(piece) {
+        Ok(0) => Ok(false),
+        Ok(count) => {
+            service.take(&piece[..count], shelf, writer)?;
+            Ok(true)
+        }
+        Err(_) => Err(ServeError::Read),
+    }
+}
+
+/// Answers the requests of one connection, in their order, and writes the frame of each reply. It gives
+/// the number of requests that were answered, at an input that ends between frames. See [`ServeError`]
+/// for when each error comes, and what stands then.
+pub fn serve<R: Read, W: Write, S: Shelf>(
+    alloc: Global,
+    reader: &mut R,
+    writer: &mut W,
+    shelf: &mut S,
+) -> Result<u64, ServeError>
+    ensures serves { S.honest shelf.old → (input : List ℕ) → R.remaining reader.old ≡ Some input
+        → Serves input (S.store shelf.old) (W.contents writer.old) result (S.store shelf.new) (W.contents writer.new) }
+    ensures honest { S.honest shelf.old → S.honest shelf.new }
+{
+    let mut service = Service::new(alloc);
+    let mut piece = room(alloc)?;
+    for turn in 0..READS {
+        let more = take_piece(&mut service, piece.as_mut_slice(), reader, writer, shelf)?;
+        if !more {
+            return service.finish();
+        }
+    }
+    Err(ServeError::Limit)
+}
