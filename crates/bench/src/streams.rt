@@ -38,11 +38,7 @@ fn last_byte(request: &Request) -> u8 {
 }
 
 /// Feeds the frame, and keeps the last byte of each object that comes out.
-fn feed_frame(
-    reader: &mut FrameReader,
-    frame: &[u8],
-    ends: &mut Vec<u8>,
-) -> Result<(), WireError> {
+fn feed_frame(reader: &mut FrameReader, frame: &[u8], ends: &mut Vec<u8>) -> Result<(), WireError> {
     for piece in frame.chunks(PIECE) {
         reader.feed(piece)?;
         if let Some(request) = reader.next_request()? {

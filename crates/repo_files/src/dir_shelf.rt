@@ -126,12 +126,7 @@ impl<R: Files + AllocGlobal + Clone + Drop> DirShelf<R> {
 
     /// The names of a kind above the given one, more than `limit` of the least of them where there are
     /// as many.
-    fn names_above(
-        &self,
-        kind: Kind,
-        after: Option<&Name>,
-        limit: usize,
-    ) -> io::Result<Vec<Name>> {
+    fn names_above(&self, kind: Kind, after: Option<&Name>, limit: usize) -> io::Result<Vec<Name>> {
         let mut names = Vec::new(self.rt.alloc());
         match kind {
             Kind::Pack => self.packs_above(after, limit, &mut names)?,
@@ -183,6 +178,8 @@ impl<R: Files + AllocGlobal + Clone + Drop> Shelf for DirShelf<R> {
     ghost store = { λ _. empty };
 
     ghost failed = { λ d. d.failures };
+
+    ghost writes = { λ _. 0 };
 
     ghost honest = { λ _. ⊥ };
 

@@ -6,10 +6,9 @@ ghost use Rattle.repo_store.specs.Slices.{HasLength};
 use repo_name::{Bytes, Name};
 use repo_store::Slice;
 use std::alloc::{AllocError, AllocGlobal};
-use std::fs;
 use std::fs::{File, Files, OpenFile};
-use std::io;
 use std::io::{ErrorKind, Read, Seek, SeekFrom, Write};
+use std::{fs, io};
 
 /// The folder of files that are being written.
 pub const TEMPORARY: &str = "tmp";
@@ -89,13 +88,7 @@ impl<R: Files + AllocGlobal + Clone + Drop> Folder<R> {
     }
 
     /// A part of a file.
-    pub fn read_part(
-        &self,
-        below: &str,
-        name: &str,
-        offset: u32,
-        length: u32,
-    ) -> io::Result<Slice>
+    pub fn read_part(&self, below: &str, name: &str, offset: u32, length: u32) -> io::Result<Slice>
         ensures { IfOk result (HasLength length) }
     {
         let path = self.path(below, name)?;

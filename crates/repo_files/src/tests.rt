@@ -5,10 +5,8 @@ use repo_locks::Ledger;
 use repo_name::{Bytes, Kind, Name, Token, name_of};
 use repo_store::{Shelf, ShelfError, Slice};
 use std::alloc::{AllocError, Global};
-use std::env;
-use std::fs;
-use std::io;
 use std::test::Fail;
+use std::{env, fs, io};
 
 /// A folder of this test's own, which isn't there yet.
 fn folder(rt: HostRuntime, test: &str) -> io::Result<String> {
@@ -45,8 +43,18 @@ fn what_was_put_is_there_when_opened_again(rt: HostRuntime) -> Result<(), Fail> 
     let mut shelf = DirShelf::open(rt, root.as_str())?;
     for kind in [Kind::Pack, Kind::Index, Kind::Snapshot] {
         assert_eq!(rt; shelf.get(kind, &name)?, bytes_of(rt.alloc(), b"abc")?);
-        assert_eq!(rt; shelf.names_after(kind, None, 9)?.names.as_slice(), [name].as_slice());
-        assert_eq!(rt; shelf.names_after(kind, Some(&name), 9)?.names.as_slice().len(), 0);
+        assert_eq!(rt;
+            shelf.names_after(kind, None, 9)?.names.as_slice(),
+            [name].as_slice()
+        );
+        assert_eq!(rt;
+            shelf
+                .names_after(kind, Some(&name), 9)?
+                .names
+                .as_slice()
+                .len(),
+            0
+        );
     }
     assert_eq!(rt; shelf.config()?, bytes_of(rt.alloc(), b"{}")?);
     shelf.remove(Kind::Pack, &name)?;
@@ -84,7 +92,11 @@ fn pages_pass_over_files_of_other_names(rt: HostRuntime) -> Result<(), Fail> {
     let strange = "data/02/0101010101010101010101010101010101010101010101010101010101010102";
     let upper = "data/01/010101010101010101010101010101010101010101010101010101010101010A";
     for file in [strange, upper, "data/01/README"] {
-        fs::write(&rt, below(rt.alloc(), root.as_str(), file)?.as_str(), b"x".as_slice())?;
+        fs::write(
+            &rt,
+            below(rt.alloc(), root.as_str(), file)?.as_str(),
+            b"x".as_slice(),
+        )?;
     }
     let page = shelf.names_after(Kind::Pack, None, 2)?;
     let (one, five, nine) = (Name([1; 32]), Name([5; 32]), Name([9; 32]));

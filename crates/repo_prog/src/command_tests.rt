@@ -9,12 +9,10 @@ use repo_name::Instance;
 use repo_store::MemShelf;
 use repo_tree::Config;
 use std::alloc::AllocError;
-use std::env;
-use std::fs;
-use std::io;
 use std::io::{Read, Write};
 use std::net::{TcpListener, TcpStream};
 use std::test::Fail;
+use std::{env, fs, io};
 
 // A ticket with sequence 1, and its reply: in hexadecimal, and as bytes.
 const TICKET: &str = "0000001901010101010101010101010101010101010000000000000001";
@@ -50,17 +48,57 @@ fn ran(rt: HostRuntime, words: &[&str]) -> Result<Outcome, AllocError> {
 fn words(rt: HostRuntime) -> Result<(), Fail> {
     for (words, status, output, faults) in [
         (["vault", "frames"].as_slice(), Status::Done, TOKEN, ""),
-        (["vault", "--help"].as_slice(), Status::Done, "A shared, deduplicating", ""),
+        (
+            ["vault", "--help"].as_slice(),
+            Status::Done,
+            "A shared, deduplicating",
+            "",
+        ),
         (["vault"].as_slice(), Status::Usage, "", "error"),
         (["vault", "nothing"].as_slice(), Status::Usage, "", "error"),
-        (["vault", "frames", "more"].as_slice(), Status::Usage, "", "error"),
+        (
+            ["vault", "frames", "more"].as_slice(),
+            Status::Usage,
+            "",
+            "error",
+        ),
         (["vault", "init"].as_slice(), Status::Usage, "", "error"),
-        (["vault", "init", "x", "--min", "63"].as_slice(), Status::Usage, "", "bad argument\n"),
-        (["vault", "init", "x", "--bits", "33"].as_slice(), Status::Usage, "", "bad argument\n"),
-        (["vault", "init", "x", "--target", "1023"].as_slice(), Status::Usage, "", "bad argument\n"),
-        (["vault", "init", "x", "--max", "-1"].as_slice(), Status::Usage, "", "error"),
-        (["vault", "serve", "x"].as_slice(), Status::Usage, "", "error"),
-        (["vault", "serve", "x", "y", "--connections", "0"].as_slice(), Status::Usage, "", "bad argument\n"),
+        (
+            ["vault", "init", "x", "--min", "63"].as_slice(),
+            Status::Usage,
+            "",
+            "bad argument\n",
+        ),
+        (
+            ["vault", "init", "x", "--bits", "33"].as_slice(),
+            Status::Usage,
+            "",
+            "bad argument\n",
+        ),
+        (
+            ["vault", "init", "x", "--target", "1023"].as_slice(),
+            Status::Usage,
+            "",
+            "bad argument\n",
+        ),
+        (
+            ["vault", "init", "x", "--max", "-1"].as_slice(),
+            Status::Usage,
+            "",
+            "error",
+        ),
+        (
+            ["vault", "serve", "x"].as_slice(),
+            Status::Usage,
+            "",
+            "error",
+        ),
+        (
+            ["vault", "serve", "x", "y", "--connections", "0"].as_slice(),
+            Status::Usage,
+            "",
+            "bad argument\n",
+        ),
     ] {
         let ran = ran(rt, words)?;
         assert_eq!(rt; ran.status, status, "of {words:?}");
@@ -88,7 +126,22 @@ fn folder(rt: HostRuntime, test: &str) -> io::Result<String> {
 #[test]
 fn a_folder_is_made_a_store_once(rt: HostRuntime) -> Result<(), Fail> {
     let root = folder(rt, "init")?;
-    let first = ran(rt, &["vault", "init", root.as_str(), "--min", "64", "--max", "128", "--bits", "6", "--target", "1024"])?;
+    let first = ran(
+        rt,
+        &[
+            "vault",
+            "init",
+            root.as_str(),
+            "--min",
+            "64",
+            "--max",
+            "128",
+            "--bits",
+            "6",
+            "--target",
+            "1024",
+        ],
+    )?;
     assert_eq!(rt; first.status, Status::Done);
     assert!(rt; first.output.starts_with(b"created "));
     assert_eq!(rt; first.output.len(), 41);

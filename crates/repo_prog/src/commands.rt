@@ -6,8 +6,8 @@ ghost use Rattle.repo_prog.specs.declared.status.Status.{Status};
 ghost use Rattle.repo_prog.specs.declared.words.Order.{Order};
 
 use crate::frames_engine::frames;
-use crate::making::init_folder;
 use crate::listening::serve_folder;
+use crate::making::init_folder;
 use crate::status::{Status, failed, refuse_words};
 use crate::words::{Order, WordsError, order_of};
 use std::alloc::{AllocGlobal, Global};
@@ -52,13 +52,7 @@ pub fn perform<
     R: Read,
     W: Write,
     F: Write,
->(
-    rt: &T,
-    order: &Order,
-    input: &mut R,
-    output: &mut W,
-    faults: &mut F,
-) -> Status
+>(rt: &T, order: &Order, input: &mut R, output: &mut W, faults: &mut F) -> Status
     requires { IsOrder order.now }
     ensures frames { order.now ≡ Order.Frames → (text : List ℕ) → R.remaining input.old ≡ Some text → FramesGives text (W.contents output.old) result (W.contents output.new) }
 {
@@ -81,12 +75,7 @@ pub fn perform<
 }
 
 /// Does what the words ask for, the program's name first.
-pub fn run<
-    T: Files + Net + AllocGlobal + RandomSource + Clone + Drop,
-    R: Read,
-    W: Write,
-    F: Write,
->(
+pub fn run<T: Files + Net + AllocGlobal + RandomSource + Clone + Drop, R: Read, W: Write, F: Write>(
     rt: &T,
     words: &[String],
     input: &mut R,

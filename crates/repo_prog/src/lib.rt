@@ -29,7 +29,7 @@ mod words;
 pub use commands::{frames_command, perform, run};
 pub use errors::FramesError;
 pub use frames_engine::frames;
-pub use making::{init_command, init_folder, random_instance};
 pub use listening::{serve_connections, serve_folder};
+pub use making::{init_command, init_folder, random_instance};
 pub use status::{Status, refuse_words};
 pub use words::{Making, Order, WordsError, order_of};

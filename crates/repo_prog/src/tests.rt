@@ -1,9 +1,9 @@
 //! The engine and the commands on whole inputs.
 
 use crate::commands::frames_command;
-use crate::status::Status;
 use crate::errors::FramesError;
 use crate::frames_engine::frames;
+use crate::status::Status;
 use repo_wire::Fault;
 use std::alloc::{AllocError, Global};
 use std::io;

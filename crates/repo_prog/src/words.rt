@@ -23,7 +23,10 @@ pub enum Order {
     /// Answer request frames in hexadecimal.
     Frames,
     /// Make a store in a folder.
-    Init { folder: String, making: Making },
+    Init {
+        folder: String,
+        making: Making,
+    },
     /// Serve so many connections to an address, one after another, from the store in a folder.
     Serve {
         folder: String,
@@ -55,18 +58,18 @@ impl From<AllocError> for WordsError {
 
 /// An option whose word is a number, and the number where it is left out.
 fn number<'a>(alloc: Global, name: &'a str, default: &'a str) -> Result<Arg<'a>, AllocError> {
-    Ok(Arg::new(alloc, name)
-        .long(name)
-        .value_name("N")
-        .value_parser(clap::value_parser!(u64))
-        .default_value(default))
+    Ok(
+        Arg::new(alloc, name)
+            .long(name)
+            .value_name("N")
+            .value_parser(clap::value_parser!(u64))
+            .default_value(default),
+    )
 }
 
 /// A word that has to be there.
 fn needed<'a>(alloc: Global, name: &'a str) -> Arg<'a> {
-    Arg::new(alloc, name)
-        .required(true)
-        .action(ArgAction::Set)
+    Arg::new(alloc, name).required(true).action(ArgAction::Set)
 }
 
 fn init_words<'a>(alloc: Global) -> Result<Command<'a>, AllocError> {

@@ -1,13 +1,15 @@
 //! The answer to each request.
 
-ghost use Rattle.std.specs.Prelude.{◌≡◌};
+ghost use Rattle.std.specs.Prelude.{◌≡◌, ◌≤◌, ◌+◌};
 ghost use Rattle.repo_name.specs.Naming.{IsInstance};
 ghost use Rattle.repo_wire.specs.Messages.{replies, IsReply, IsSay, IsShortSay};
 ghost use Rattle.repo_wire.specs.Stream.{FitsFrame};
 ghost use Rattle.repo_store.specs.Runs.{Replies};
 ghost use Rattle.repo_store.specs.StoreMachine.{refusal, IsAnswerable, Step, SaysFault};
 
-use crate::lock_answers::{answer_lock, answer_locks, answer_refresh, answer_ticket, answer_unlock};
+use crate::lock_answers::{
+    answer_lock, answer_locks, answer_refresh, answer_ticket, answer_unlock,
+};
 use crate::object_answers::{
     answer_config, answer_delete, answer_get, answer_list, answer_put, answer_range,
 };
@@ -32,6 +34,7 @@ fn say_to<S: Shelf>(alloc: Global, shelf: &mut S, ask: &Ask) -> Say
     ensures step { S.honest shelf.old → Step (S.store shelf.old) ask.now result (S.store shelf.new) }
     ensures cause { S.honest shelf.old → SaysFault (S.failed shelf.old) result (S.failed shelf.new) }
     ensures honest { S.honest shelf.old → S.honest shelf.new }
+    ensures once { S.writes shelf.new ≤ S.writes shelf.old + 1 }
     ensures within { IsSay result × IsShortSay result }
 {
     match ask {
@@ -91,6 +94,7 @@ pub fn answer<S: Shelf>(alloc: Global, shelf: &mut S, request: &Request) -> Repl
     ensures replies { S.honest shelf.old → Replies (S.store shelf.old) request.now result (S.store shelf.new) }
     ensures cause { S.honest shelf.old → SaysFault (S.failed shelf.old) result.say (S.failed shelf.new) }
     ensures honest { S.honest shelf.old → S.honest shelf.new }
+    ensures once { S.writes shelf.new ≤ S.writes shelf.old + 1 }
     ensures fits { FitsFrame replies result }
 {
     let say = say_to(alloc, shelf, &request.ask);

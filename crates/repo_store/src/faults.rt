@@ -146,12 +146,15 @@ impl<S: Shelf> Shelf for FaultShelf<S> {
 
     ghost failed = { λ f. count_of (S.failed f.inner) f.count };
 
+    ghost writes = { λ f. S.writes f.inner };
+
     ghost honest = { λ f. S.honest f.inner };
 
     fn get(&mut self, kind: Kind, name: &Name) -> Result<Option<Bytes>, ShelfError>
         ensures law { S.honest self.old.inner → Reads (λ found. found ≡ (S.store self.old.inner).objects kind name.now) (S.store self.old.inner) result (S.store self.new.inner) }
         ensures cause { S.honest self.old.inner → HasCause (count_of (S.failed self.old.inner) self.old.count) result (count_of (S.failed self.new.inner) self.new.count) }
         ensures honest { S.honest self.old.inner → S.honest self.new.inner }
+        ensures quiet { S.writes self.new.inner ≡ S.writes self.old.inner }
         ensures armed { fails_reading self.old.armed ≡ true → IsErrOf result ShelfError.Fault × (self.new.inner ≡ self.old.inner) × (self.new.armed ≡ Armed.Nothing) }
         ensures other { fails_reading self.old.armed ≡ false → (self.new.armed ≡ one_less self.old.armed) × (self.new.count ≡ self.old.count) }
         ensures inner { fails_reading self.old.armed ≡ false → S.honest self.old.inner → HasCause (S.failed self.old.inner) result (S.failed self.new.inner) }
@@ -166,6 +169,7 @@ impl<S: Shelf> Shelf for FaultShelf<S> {
         ensures law { S.honest self.old.inner → Reads (IsSlice ((S.store self.old.inner).objects Kind.Pack pack.now) offset length) (S.store self.old.inner) result (S.store self.new.inner) }
         ensures cause { S.honest self.old.inner → HasCause (count_of (S.failed self.old.inner) self.old.count) result (count_of (S.failed self.new.inner) self.new.count) }
         ensures honest { S.honest self.old.inner → S.honest self.new.inner }
+        ensures quiet { S.writes self.new.inner ≡ S.writes self.old.inner }
         ensures length { IfOk result (HasLength length) }
         ensures armed { fails_reading self.old.armed ≡ true → IsErrOf result ShelfError.Fault × (self.new.inner ≡ self.old.inner) × (self.new.armed ≡ Armed.Nothing) }
         ensures other { fails_reading self.old.armed ≡ false → (self.new.armed ≡ one_less self.old.armed) × (self.new.count ≡ self.old.count) }
@@ -181,9 +185,10 @@ impl<S: Shelf> Shelf for FaultShelf<S> {
         ensures law { S.honest self.old.inner → Writes (PutsObject kind name.now bytes.now) (S.store self.old.inner) result (S.store self.new.inner) }
         ensures cause { S.honest self.old.inner → HasCause (count_of (S.failed self.old.inner) self.old.count) result (count_of (S.failed self.new.inner) self.new.count) }
         ensures honest { S.honest self.old.inner → S.honest self.new.inner }
+        ensures once { S.writes self.new.inner ≤ S.writes self.old.inner + 1 }
         ensures applied { fails_writing self.old.armed ≡ Some true → S.honest self.old.inner → WritesThenFails (PutsObject kind name.now bytes.now) (S.store self.old.inner) result (S.store self.new.inner) }
         ensures unapplied { fails_writing self.old.armed ≡ Some false → IsErrOf result ShelfError.Fault × (self.new.inner ≡ self.old.inner) }
-        ensures once { fails_writing self.old.armed ≢ None → self.new.armed ≡ Armed.Nothing }
+        ensures spent { fails_writing self.old.armed ≢ None → self.new.armed ≡ Armed.Nothing }
         ensures other { fails_writing self.old.armed ≡ None → (self.new.armed ≡ one_less self.old.armed) × (self.new.count ≡ self.old.count) }
         ensures inner { fails_writing self.old.armed ≡ None → S.honest self.old.inner → HasCause (S.failed self.old.inner) result (S.failed self.new.inner) }
     {
@@ -201,9 +206,10 @@ impl<S: Shelf> Shelf for FaultShelf<S> {
         ensures law { S.honest self.old.inner → Writes (RemovesObject kind name.now) (S.store self.old.inner) result (S.store self.new.inner) }
         ensures cause { S.honest self.old.inner → HasCause (count_of (S.failed self.old.inner) self.old.count) result (count_of (S.failed self.new.inner) self.new.count) }
         ensures honest { S.honest self.old.inner → S.honest self.new.inner }
+        ensures once { S.writes self.new.inner ≤ S.writes self.old.inner + 1 }
         ensures applied { fails_writing self.old.armed ≡ Some true → S.honest self.old.inner → WritesThenFails (RemovesObject kind name.now) (S.store self.old.inner) result (S.store self.new.inner) }
         ensures unapplied { fails_writing self.old.armed ≡ Some false → IsErrOf result ShelfError.Fault × (self.new.inner ≡ self.old.inner) }
-        ensures once { fails_writing self.old.armed ≢ None → self.new.armed ≡ Armed.Nothing }
+        ensures spent { fails_writing self.old.armed ≢ None → self.new.armed ≡ Armed.Nothing }
         ensures other { fails_writing self.old.armed ≡ None → (self.new.armed ≡ one_less self.old.armed) × (self.new.count ≡ self.old.count) }
         ensures inner { fails_writing self.old.armed ≡ None → S.honest self.old.inner → HasCause (S.failed self.old.inner) result (S.failed self.new.inner) }
     {
@@ -226,6 +232,7 @@ impl<S: Shelf> Shelf for FaultShelf<S> {
         ensures law { S.honest self.old.inner → Reads (λ page. IsPage (S.store self.old.inner).objects kind (option_map (λ name. name.now) after.entry) limit page.names page.more) (S.store self.old.inner) result (S.store self.new.inner) }
         ensures cause { S.honest self.old.inner → HasCause (count_of (S.failed self.old.inner) self.old.count) result (count_of (S.failed self.new.inner) self.new.count) }
         ensures honest { S.honest self.old.inner → S.honest self.new.inner }
+        ensures quiet { S.writes self.new.inner ≡ S.writes self.old.inner }
         ensures few { IfOk result (λ page. length page.names ≤ limit) }
         ensures names { IfOk result (λ page. All IsName page.names) }
         ensures armed { fails_reading self.old.armed ≡ true → IsErrOf result ShelfError.Fault × (self.new.inner ≡ self.old.inner) × (self.new.armed ≡ Armed.Nothing) }
@@ -242,6 +249,7 @@ impl<S: Shelf> Shelf for FaultShelf<S> {
         ensures law { S.honest self.old.inner → Reads (λ ledger. ledger ≡ (S.store self.old.inner).tokens) (S.store self.old.inner) result (S.store self.new.inner) }
         ensures cause { S.honest self.old.inner → HasCause (count_of (S.failed self.old.inner) self.old.count) result (count_of (S.failed self.new.inner) self.new.count) }
         ensures honest { S.honest self.old.inner → S.honest self.new.inner }
+        ensures quiet { S.writes self.new.inner ≡ S.writes self.old.inner }
         ensures armed { fails_reading self.old.armed ≡ true → IsErrOf result ShelfError.Fault × (self.new.inner ≡ self.old.inner) × (self.new.armed ≡ Armed.Nothing) }
         ensures other { fails_reading self.old.armed ≡ false → (self.new.armed ≡ one_less self.old.armed) × (self.new.count ≡ self.old.count) }
         ensures inner { fails_reading self.old.armed ≡ false → S.honest self.old.inner → HasCause (S.failed self.old.inner) result (S.failed self.new.inner) }
@@ -256,9 +264,10 @@ impl<S: Shelf> Shelf for FaultShelf<S> {
         ensures law { S.honest self.old.inner → Writes (SavesTokens ledger.now) (S.store self.old.inner) result (S.store self.new.inner) }
         ensures cause { S.honest self.old.inner → HasCause (count_of (S.failed self.old.inner) self.old.count) result (count_of (S.failed self.new.inner) self.new.count) }
         ensures honest { S.honest self.old.inner → S.honest self.new.inner }
+        ensures once { S.writes self.new.inner ≤ S.writes self.old.inner + 1 }
         ensures applied { fails_writing self.old.armed ≡ Some true → S.honest self.old.inner → WritesThenFails (SavesTokens ledger.now) (S.store self.old.inner) result (S.store self.new.inner) }
         ensures unapplied { fails_writing self.old.armed ≡ Some false → IsErrOf result ShelfError.Fault × (self.new.inner ≡ self.old.inner) }
-        ensures once { fails_writing self.old.armed ≢ None → self.new.armed ≡ Armed.Nothing }
+        ensures spent { fails_writing self.old.armed ≢ None → self.new.armed ≡ Armed.Nothing }
         ensures other { fails_writing self.old.armed ≡ None → (self.new.armed ≡ one_less self.old.armed) × (self.new.count ≡ self.old.count) }
         ensures inner { fails_writing self.old.armed ≡ None → S.honest self.old.inner → HasCause (S.failed self.old.inner) result (S.failed self.new.inner) }
     {
@@ -276,6 +285,7 @@ impl<S: Shelf> Shelf for FaultShelf<S> {
         ensures law { S.honest self.old.inner → Reads (λ found. found ≡ (S.store self.old.inner).config) (S.store self.old.inner) result (S.store self.new.inner) }
         ensures cause { S.honest self.old.inner → HasCause (count_of (S.failed self.old.inner) self.old.count) result (count_of (S.failed self.new.inner) self.new.count) }
         ensures honest { S.honest self.old.inner → S.honest self.new.inner }
+        ensures quiet { S.writes self.new.inner ≡ S.writes self.old.inner }
         ensures armed { fails_reading self.old.armed ≡ true → IsErrOf result ShelfError.Fault × (self.new.inner ≡ self.old.inner) × (self.new.armed ≡ Armed.Nothing) }
         ensures other { fails_reading self.old.armed ≡ false → (self.new.armed ≡ one_less self.old.armed) × (self.new.count ≡ self.old.count) }
         ensures inner { fails_reading self.old.armed ≡ false → S.honest self.old.inner → HasCause (S.failed self.old.inner) result (S.failed self.new.inner) }
@@ -290,9 +300,10 @@ impl<S: Shelf> Shelf for FaultShelf<S> {
         ensures law { S.honest self.old.inner → Writes (SavesConfig bytes.now) (S.store self.old.inner) result (S.store self.new.inner) }
         ensures cause { S.honest self.old.inner → HasCause (count_of (S.failed self.old.inner) self.old.count) result (count_of (S.failed self.new.inner) self.new.count) }
         ensures honest { S.honest self.old.inner → S.honest self.new.inner }
+        ensures once { S.writes self.new.inner ≤ S.writes self.old.inner + 1 }
         ensures applied { fails_writing self.old.armed ≡ Some true → S.honest self.old.inner → WritesThenFails (SavesConfig bytes.now) (S.store self.old.inner) result (S.store self.new.inner) }
         ensures unapplied { fails_writing self.old.armed ≡ Some false → IsErrOf result ShelfError.Fault × (self.new.inner ≡ self.old.inner) }
-        ensures once { fails_writing self.old.armed ≢ None → self.new.armed ≡ Armed.Nothing }
+        ensures spent { fails_writing self.old.armed ≢ None → self.new.armed ≡ Armed.Nothing }
         ensures other { fails_writing self.old.armed ≡ None → (self.new.armed ≡ one_less self.old.armed) × (self.new.count ≡ self.old.count) }
         ensures inner { fails_writing self.old.armed ≡ None → S.honest self.old.inner → HasCause (S.failed self.old.inner) result (S.failed self.new.inner) }
     {

@@ -1,6 +1,6 @@
 //! The answers to what is asked of the locks. The ledger is read once, and saved at most once, at the end.
 
-ghost use Rattle.std.specs.Prelude.{◌≡◌};
+ghost use Rattle.std.specs.Prelude.{◌≡◌, ◌≤◌, ◌+◌};
 ghost use Rattle.repo_name.specs.Rows.{IsHost};
 ghost use Rattle.repo_wire.specs.declared.messages.Ask.{Ask};
 ghost use Rattle.repo_wire.specs.Messages.{IsSay, IsShortSay};
@@ -31,6 +31,7 @@ pub fn answer_ticket<S: Shelf>(shelf: &mut S) -> Say
     ensures step { S.honest shelf.old → Step (S.store shelf.old) Ask.Ticket result (S.store shelf.new) }
     ensures cause { S.honest shelf.old → SaysFault (S.failed shelf.old) result (S.failed shelf.new) }
     ensures honest { S.honest shelf.old → S.honest shelf.new }
+    ensures once { S.writes shelf.new ≤ S.writes shelf.old + 1 }
     ensures within { IsSay result × IsShortSay result }
 {
     let mut ledger = match shelf.ledger() {
@@ -54,6 +55,7 @@ pub fn answer_lock<S: Shelf>(shelf: &mut S, row: &LockRow) -> Say
     ensures step { S.honest shelf.old → Step (S.store shelf.old) (Ask.Lock row.now) result (S.store shelf.new) }
     ensures cause { S.honest shelf.old → SaysFault (S.failed shelf.old) result (S.failed shelf.new) }
     ensures honest { S.honest shelf.old → S.honest shelf.new }
+    ensures once { S.writes shelf.new ≤ S.writes shelf.old + 1 }
     ensures within { IsSay result × IsShortSay result }
 {
     let mut ledger = match shelf.ledger() {
@@ -76,6 +78,7 @@ pub fn answer_refresh<S: Shelf>(shelf: &mut S, token: Token, time: u64) -> Say
     ensures step { S.honest shelf.old → Step (S.store shelf.old) (Ask.Refresh token time) result (S.store shelf.new) }
     ensures cause { S.honest shelf.old → SaysFault (S.failed shelf.old) result (S.failed shelf.new) }
     ensures honest { S.honest shelf.old → S.honest shelf.new }
+    ensures once { S.writes shelf.new ≤ S.writes shelf.old + 1 }
     ensures within { IsSay result × IsShortSay result }
 {
     let mut ledger = match shelf.ledger() {
@@ -97,6 +100,7 @@ pub fn answer_unlock<S: Shelf>(shelf: &mut S, token: Token) -> Say
     ensures step { S.honest shelf.old → Step (S.store shelf.old) (Ask.Unlock token) result (S.store shelf.new) }
     ensures cause { S.honest shelf.old → SaysFault (S.failed shelf.old) result (S.failed shelf.new) }
     ensures honest { S.honest shelf.old → S.honest shelf.new }
+    ensures once { S.writes shelf.new ≤ S.writes shelf.old + 1 }
     ensures within { IsSay result × IsShortSay result }
 {
     let mut ledger = match shelf.ledger() {
@@ -117,6 +121,7 @@ pub fn answer_locks<S: Shelf>(alloc: Global, shelf: &mut S) -> Say
     ensures step { S.honest shelf.old → Step (S.store shelf.old) Ask.Locks result (S.store shelf.new) }
     ensures cause { S.honest shelf.old → SaysFault (S.failed shelf.old) result (S.failed shelf.new) }
     ensures honest { S.honest shelf.old → S.honest shelf.new }
+    ensures once { S.writes shelf.new ≤ S.writes shelf.old + 1 }
     ensures within { IsSay result × IsShortSay result }
 {
     let ledger = match shelf.ledger() {

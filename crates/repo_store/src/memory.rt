@@ -133,6 +133,8 @@ impl Shelf for MemShelf {
 
     ghost failed = { λ _. 0 };
 
+    ghost writes = { λ _. 0 };
+
     ghost honest = { λ _. ⊤ };
 
     fn get(&mut self, kind: Kind, name: &Name) -> Result<Option<Bytes>, ShelfError> {

@@ -1,6 +1,6 @@
 //! The answers to what is asked of objects and of the config.
 
-ghost use Rattle.std.specs.Prelude.{◌≡◌, ◌≤◌, length, option_map, IfSome, IsTrue, ◌↔◌};
+ghost use Rattle.std.specs.Prelude.{◌≡◌, ◌≤◌, ◌+◌, length, option_map, IfSome, IsTrue, ◌↔◌};
 ghost use Rattle.repo_name.specs.declared.names.Name.{Name};
 ghost use Rattle.repo_wire.specs.declared.messages.Ask.{Ask};
 ghost use Rattle.repo_wire.specs.Messages.{IsSay, IsShortSay};
@@ -53,6 +53,7 @@ pub fn answer_list<S: Shelf>(shelf: &mut S, kind: Kind, after: Option<&Name>) ->
     ensures step { S.honest shelf.old → Step (S.store shelf.old) (Ask.List kind (option_map (λ name. name.now) after.entry)) result (S.store shelf.new) }
     ensures cause { S.honest shelf.old → SaysFault (S.failed shelf.old) result (S.failed shelf.new) }
     ensures honest { S.honest shelf.old → S.honest shelf.new }
+    ensures once { S.writes shelf.new ≤ S.writes shelf.old + 1 }
     ensures within { IsSay result × IsShortSay result }
 {
     match shelf.names_after(kind, after, PAGE) {
@@ -69,6 +70,7 @@ pub fn answer_get<S: Shelf>(shelf: &mut S, kind: Kind, name: &Name) -> Say
     ensures step { S.honest shelf.old → Step (S.store shelf.old) (Ask.Get kind name.now) result (S.store shelf.new) }
     ensures cause { S.honest shelf.old → SaysFault (S.failed shelf.old) result (S.failed shelf.new) }
     ensures honest { S.honest shelf.old → S.honest shelf.new }
+    ensures once { S.writes shelf.new ≤ S.writes shelf.old + 1 }
     ensures within { IsSay result × IsShortSay result }
 {
     match shelf.get(kind, name) {
@@ -82,6 +84,7 @@ pub fn answer_config<S: Shelf>(shelf: &mut S) -> Say
     ensures step { S.honest shelf.old → Step (S.store shelf.old) Ask.Config result (S.store shelf.new) }
     ensures cause { S.honest shelf.old → SaysFault (S.failed shelf.old) result (S.failed shelf.new) }
     ensures honest { S.honest shelf.old → S.honest shelf.new }
+    ensures once { S.writes shelf.new ≤ S.writes shelf.old + 1 }
     ensures within { IsSay result × IsShortSay result }
 {
     match shelf.config() {
@@ -95,6 +98,7 @@ pub fn answer_range<S: Shelf>(shelf: &mut S, pack: &Name, offset: u32, length: u
     ensures step { S.honest shelf.old → Step (S.store shelf.old) (Ask.Range pack.now offset length) result (S.store shelf.new) }
     ensures cause { S.honest shelf.old → SaysFault (S.failed shelf.old) result (S.failed shelf.new) }
     ensures honest { S.honest shelf.old → S.honest shelf.new }
+    ensures once { S.writes shelf.new ≤ S.writes shelf.old + 1 }
     ensures within { IsSay result × IsShortSay result }
 {
     if length == 0 || length > RANGE {
@@ -109,10 +113,17 @@ pub fn answer_range<S: Shelf>(shelf: &mut S, pack: &Name, offset: u32, length: u
 }
 
 /// Stores an object, under a live lock.
-pub fn answer_put<S: Shelf>(shelf: &mut S, token: Token, kind: Kind, name: &Name, bytes: &[u8]) -> Say
+pub fn answer_put<S: Shelf>(
+    shelf: &mut S,
+    token: Token,
+    kind: Kind,
+    name: &Name,
+    bytes: &[u8],
+) -> Say
     ensures step { S.honest shelf.old → Step (S.store shelf.old) (Ask.Put token kind name.now bytes.now) result (S.store shelf.new) }
     ensures cause { S.honest shelf.old → SaysFault (S.failed shelf.old) result (S.failed shelf.new) }
     ensures honest { S.honest shelf.old → S.honest shelf.new }
+    ensures once { S.writes shelf.new ≤ S.writes shelf.old + 1 }
     ensures within { IsSay result × IsShortSay result }
 {
     if bytes.len() > limit_of(kind) {
@@ -139,6 +150,7 @@ pub fn answer_delete<S: Shelf>(shelf: &mut S, token: Token, kind: Kind, name: &N
     ensures step { S.honest shelf.old → Step (S.store shelf.old) (Ask.Delete token kind name.now) result (S.store shelf.new) }
     ensures cause { S.honest shelf.old → SaysFault (S.failed shelf.old) result (S.failed shelf.new) }
     ensures honest { S.honest shelf.old → S.honest shelf.new }
+    ensures once { S.writes shelf.new ≤ S.writes shelf.old + 1 }
     ensures within { IsSay result × IsShortSay result }
 {
     let ledger = match shelf.ledger() {

@@ -13,7 +13,9 @@ const TICKET: [u8; 5] = [0, 0, 0, 25, 1];
 
 const TOKEN: [u8; 5] = [0, 0, 0, 33, 129];
 
-const HEAD: [u8; 24] = [1, 1, 1, 1, 1, 1, 1, 1, 1, 1, 1, 1, 1, 1, 1, 1, 0, 0, 0, 0, 0, 0, 0, 1];
+const HEAD: [u8; 24] = [
+    1, 1, 1, 1, 1, 1, 1, 1, 1, 1, 1, 1, 1, 1, 1, 1, 0, 0, 0, 0, 0, 0, 0, 1,
+];
 
 /// The bytes of these parts, one after another.
 fn joined(alloc: Global, parts: &[&[u8]]) -> Result<Vec<u8>, AllocError> {
@@ -49,13 +51,26 @@ impl Read for Slow<'_> {
 fn a_connection_is_served_to_its_end(rt: HostRuntime) -> Result<(), Fail> {
     let alloc = rt.alloc();
     let ticket = joined(alloc, &[TICKET.as_slice(), HEAD.as_slice()])?;
-    let token = joined(alloc, &[TOKEN.as_slice(), HEAD.as_slice(), &[0, 0, 0, 0, 0, 0, 0, 1]])?;
+    let token = joined(
+        alloc,
+        &[TOKEN.as_slice(), HEAD.as_slice(), &[0, 0, 0, 0, 0, 0, 0, 1]],
+    )?;
     let bad = joined(alloc, &[ticket.as_slice(), &[0, 0, 0, 24]])?;
     for (input, fails, ended, answered) in [
         (ticket.as_slice(), false, Ok(1), true),
         (ticket.as_slice(), true, Err(ServeError::Read), true),
-        (&ticket.as_slice()[..28.min(ticket.len())], false, Err(ServeError::Malformed), false),
-        ([0, 0, 0, 24].as_slice(), false, Err(ServeError::Malformed), false),
+        (
+            &ticket.as_slice()[..28.min(ticket.len())],
+            false,
+            Err(ServeError::Malformed),
+            false,
+        ),
+        (
+            [0, 0, 0, 24].as_slice(),
+            false,
+            Err(ServeError::Malformed),
+            false,
+        ),
         (bad.as_slice(), false, Err(ServeError::Malformed), true),
         ([].as_slice(), false, Ok(0), false),
     ] {
@@ -63,7 +78,14 @@ fn a_connection_is_served_to_its_end(rt: HostRuntime) -> Result<(), Fail> {
         let mut output = Vec::new(alloc);
         let mut input = Slow { left: input, fails };
         assert_eq!(rt; serve(alloc, &mut input, &mut output, &mut shelf), ended);
-        assert_eq!(rt; output.as_slice(), if answered { token.as_slice() } else { [].as_slice() });
+        assert_eq!(rt;
+            output.as_slice(),
+            if answered {
+                token.as_slice()
+            } else {
+                [].as_slice()
+            }
+        );
     }
     Ok(())
 }

@@ -1,6 +1,6 @@
 //! The device that a store keeps everything on.
 
-ghost use Rattle.std.specs.Prelude.{◌≡◌, ◌≤◌, ℕ, length, option_map, All, IfOk};
+ghost use Rattle.std.specs.Prelude.{◌≡◌, ◌≤◌, ◌+◌, ℕ, length, option_map, All, IfOk};
 ghost use Rattle.repo_name.specs.declared.kinds.Kind.{Kind};
 ghost use Rattle.repo_name.specs.Naming.{IsName};
 ghost use Rattle.repo_store.specs.Laws.{Reads, Writes, HasCause};
@@ -59,6 +59,8 @@ pub trait Shelf {
     ghost store: { Self → Store };
     /// How many calls have failed by the device's own fault.
     ghost failed: { Self → ℕ };
+    /// How many writing calls were made, as far as the device counts them.
+    ghost writes: { Self → ℕ };
     /// The device keeps what it was given.
     ghost honest: { Self → Type 0 };
 
@@ -66,13 +68,15 @@ pub trait Shelf {
     fn get(&mut self, kind: Kind, name: &Name) -> Result<Option<Bytes>, ShelfError>
         ensures law { honest self.old → Reads (λ found. found ≡ (store self.old).objects kind name.now) (store self.old) result (store self.new) }
         ensures cause { honest self.old → HasCause (failed self.old) result (failed self.new) }
-        ensures honest { honest self.old → honest self.new };
+        ensures honest { honest self.old → honest self.new }
+        ensures quiet { writes self.new ≡ writes self.old };
 
     /// So many bytes of a pack at an offset. It changes nothing but the count of failures.
     fn range(&mut self, pack: &Name, offset: u32, length: u32) -> Result<Slice, ShelfError>
         ensures law { honest self.old → Reads (IsSlice ((store self.old).objects Kind.Pack pack.now) offset length) (store self.old) result (store self.new) }
         ensures cause { honest self.old → HasCause (failed self.old) result (failed self.new) }
         ensures honest { honest self.old → honest self.new }
+        ensures quiet { writes self.new ≡ writes self.old }
         ensures length { IfOk result (HasLength length) };
 
     /// Puts an object, where none has its kind and name; else nothing changes. After a fault it may be
@@ -80,13 +84,15 @@ pub trait Shelf {
     fn put(&mut self, kind: Kind, name: &Name, bytes: &[u8]) -> Result<(), ShelfError>
         ensures law { honest self.old → Writes (PutsObject kind name.now bytes.now) (store self.old) result (store self.new) }
         ensures cause { honest self.old → HasCause (failed self.old) result (failed self.new) }
-        ensures honest { honest self.old → honest self.new };
+        ensures honest { honest self.old → honest self.new }
+        ensures once { writes self.new ≤ writes self.old + 1 };
 
     /// Removes an object, if there is one. After a fault it may be there or not.
     fn remove(&mut self, kind: Kind, name: &Name) -> Result<(), ShelfError>
         ensures law { honest self.old → Writes (RemovesObject kind name.now) (store self.old) result (store self.new) }
         ensures cause { honest self.old → HasCause (failed self.old) result (failed self.new) }
-        ensures honest { honest self.old → honest self.new };
+        ensures honest { honest self.old → honest self.new }
+        ensures once { writes self.new ≤ writes self.old + 1 };
 
     /// The least names of a kind after the given one, at most `limit`. It changes nothing but the count
     /// of failures.
@@ -99,6 +105,7 @@ pub trait Shelf {
         ensures law { honest self.old → Reads (λ page. IsPage (store self.old).objects kind (option_map (λ name. name.now) after.entry) limit page.names page.more) (store self.old) result (store self.new) }
         ensures cause { honest self.old → HasCause (failed self.old) result (failed self.new) }
         ensures honest { honest self.old → honest self.new }
+        ensures quiet { writes self.new ≡ writes self.old }
         ensures few { IfOk result (λ page. length page.names ≤ limit) }
         ensures names { IfOk result (λ page. All IsName page.names) };
 
@@ -106,25 +113,29 @@ pub trait Shelf {
     fn ledger(&mut self) -> Result<Ledger, ShelfError>
         ensures law { honest self.old → Reads (λ ledger. ledger ≡ (store self.old).tokens) (store self.old) result (store self.new) }
         ensures cause { honest self.old → HasCause (failed self.old) result (failed self.new) }
-        ensures honest { honest self.old → honest self.new };
+        ensures honest { honest self.old → honest self.new }
+        ensures quiet { writes self.new ≡ writes self.old };
 
     /// Keeps the ledger in place of the one before. After a fault it may be kept or not.
     fn save_ledger(&mut self, ledger: &Ledger) -> Result<(), ShelfError>
         ensures law { honest self.old → Writes (SavesTokens ledger.now) (store self.old) result (store self.new) }
         ensures cause { honest self.old → HasCause (failed self.old) result (failed self.new) }
-        ensures honest { honest self.old → honest self.new };
+        ensures honest { honest self.old → honest self.new }
+        ensures once { writes self.new ≤ writes self.old + 1 };
 
     /// The config's bytes, if there is one. It changes nothing but the count of failures.
     fn config(&mut self) -> Result<Option<Bytes>, ShelfError>
         ensures law { honest self.old → Reads (λ found. found ≡ (store self.old).config) (store self.old) result (store self.new) }
         ensures cause { honest self.old → HasCause (failed self.old) result (failed self.new) }
-        ensures honest { honest self.old → honest self.new };
+        ensures honest { honest self.old → honest self.new }
+        ensures quiet { writes self.new ≡ writes self.old };
 
     /// Keeps these bytes as the config. After a fault they may be kept or not.
     fn save_config(&mut self, bytes: &[u8]) -> Result<(), ShelfError>
         ensures law { honest self.old → Writes (SavesConfig bytes.now) (store self.old) result (store self.new) }
         ensures cause { honest self.old → HasCause (failed self.old) result (failed self.new) }
-        ensures honest { honest self.old → honest self.new };
+        ensures honest { honest self.old → honest self.new }
+        ensures once { writes self.new ≤ writes self.old + 1 };
 
     /// How many calls have failed by the device's own fault. At its greatest the count stays.
     fn failures(&self) -> u64

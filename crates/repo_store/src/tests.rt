@@ -94,7 +94,10 @@ fn locks_and_dead_tokens(rt: HostRuntime) -> Result<(), TestFail> {
     let alloc = rt.alloc();
     let mut shelf = MemShelf::new(alloc);
     for number in 1..4 {
-        assert_eq!(rt; said(alloc, &mut shelf, Ask::Ticket), Say::Token(Token(number)));
+        assert_eq!(rt;
+            said(alloc, &mut shelf, Ask::Ticket),
+            Say::Token(Token(number))
+        );
     }
     for (token, exclusive, wanted) in [
         (1, false, Say::Done),
@@ -135,7 +138,10 @@ fn nothing_is_put_under_a_dead_token(rt: HostRuntime) -> Result<(), TestFail> {
     assert_eq!(rt; said(alloc, &mut shelf, get), Say::Refused(Code::Missing));
     assert_eq!(rt; said(alloc, &mut shelf, Ask::Unlock(Token(9))), Say::Done);
     for number in 2..10 {
-        assert_eq!(rt; said(alloc, &mut shelf, Ask::Ticket), Say::Token(Token(number)));
+        assert_eq!(rt;
+            said(alloc, &mut shelf, Ask::Ticket),
+            Say::Token(Token(number))
+        );
     }
     Ok(())
 }
@@ -149,7 +155,10 @@ fn objects_are_put_once_and_listed(rt: HostRuntime) -> Result<(), TestFail> {
     let ask = put(alloc, 7, Kind::Snapshot, empty, large.as_slice())?;
     assert_eq!(rt; said(alloc, &mut shelf, ask), Say::Refused(Code::TooLarge));
     let ask = put(alloc, 1, kind, empty, b"abc")?;
-    assert_eq!(rt; said(alloc, &mut shelf, ask), Say::Refused(Code::NameMismatch));
+    assert_eq!(rt;
+        said(alloc, &mut shelf, ask),
+        Say::Refused(Code::NameMismatch)
+    );
     for _ in 0..2 {
         let ask = put(alloc, 1, kind, name, b"abc")?;
         assert_eq!(rt; said(alloc, &mut shelf, ask), Say::Done);
@@ -161,7 +170,10 @@ fn objects_are_put_once_and_listed(rt: HostRuntime) -> Result<(), TestFail> {
     assert_eq!(rt; said(alloc, &mut shelf, ask), page(alloc, &[], false)?);
     let token = Token(1);
     let ask = Ask::Delete { token, kind, name };
-    assert_eq!(rt; said(alloc, &mut shelf, ask), Say::Refused(Code::NotExclusive));
+    assert_eq!(rt;
+        said(alloc, &mut shelf, ask),
+        Say::Refused(Code::NotExclusive)
+    );
     Ok(())
 }
 
@@ -188,7 +200,10 @@ fn parts_of_packs_and_times_of_locks(rt: HostRuntime) -> Result<(), TestFail> {
         };
         assert_eq!(rt; said(alloc, &mut shelf, ask), wanted);
     }
-    assert_eq!(rt; said(alloc, &mut shelf, Ask::Config), Say::Refused(Code::Missing));
+    assert_eq!(rt;
+        said(alloc, &mut shelf, Ask::Config),
+        Say::Refused(Code::Missing)
+    );
     for (token, wanted) in [(1, Say::Done), (2, Say::Refused(Code::Dead))] {
         let token = Token(token);
         let ask = Ask::Refresh { token, time: 9 };
@@ -229,11 +244,17 @@ fn a_snapshot_above_its_limit_is_not_given(rt: HostRuntime) -> Result<(), TestFa
     let get = Ask::Get { kind, name };
     assert_eq!(rt; said(alloc, &mut shelf, get), Say::Refused(Code::TooLarge));
     shelf.put(kind, &name_of(b""), &large.as_slice()[..1])?;
-    let get = Ask::Get { kind, name: name_of(b"") };
+    let get = Ask::Get {
+        kind,
+        name: name_of(b""),
+    };
     let byte = Say::Bytes(bytes_of(alloc, &[0])?);
     assert_eq!(rt; said(alloc, &mut shelf, get), byte);
     shelf.save_config(large.as_slice())?;
-    assert_eq!(rt; said(alloc, &mut shelf, Ask::Config), Say::Refused(Code::TooLarge));
+    assert_eq!(rt;
+        said(alloc, &mut shelf, Ask::Config),
+        Say::Refused(Code::TooLarge)
+    );
     Ok(())
 }
 
@@ -263,7 +284,10 @@ fn as_many_as_there_may_be(rt: HostRuntime) -> Result<(), TestFail> {
     let alloc = rt.alloc();
     let mut shelf = MemShelf::new(alloc);
     for number in 1..258 {
-        assert_eq!(rt; said(alloc, &mut shelf, Ask::Ticket), Say::Token(Token(number)));
+        assert_eq!(rt;
+            said(alloc, &mut shelf, Ask::Ticket),
+            Say::Token(Token(number))
+        );
         let wanted = if number < 257 {
             Say::Done
         } else {
@@ -274,7 +298,10 @@ fn as_many_as_there_may_be(rt: HostRuntime) -> Result<(), TestFail> {
     }
     let mut shelf = MemShelf::new(alloc);
     for number in 1..1026 {
-        assert_eq!(rt; said(alloc, &mut shelf, Ask::Ticket), Say::Token(Token(number)));
+        assert_eq!(rt;
+            said(alloc, &mut shelf, Ask::Ticket),
+            Say::Token(Token(number))
+        );
     }
     for (number, wanted) in [(1, Say::Refused(Code::Dead)), (2, Say::Done)] {
         let ask = lock(alloc, number, false)?;
@@ -372,7 +399,10 @@ fn the_armed_call_fails_alone(rt: HostRuntime) -> Result<(), TestFail> {
     let name = name_of(b"abc");
     shelf.arm_at(2, true);
     assert_eq!(rt; shelf.get(Kind::Pack, &name), Ok(None));
-    assert_eq!(rt; shelf.put(Kind::Pack, &name, b"abc"), Err(ShelfError::Fault));
+    assert_eq!(rt;
+        shelf.put(Kind::Pack, &name, b"abc"),
+        Err(ShelfError::Fault)
+    );
     assert!(rt; shelf.get(Kind::Pack, &name)?.is_some());
     shelf.arm_at(1, false);
     assert_eq!(rt; shelf.remove(Kind::Pack, &name), Err(ShelfError::Fault));
@@ -386,6 +416,10 @@ fn the_armed_call_fails_alone(rt: HostRuntime) -> Result<(), TestFail> {
         more: false,
     };
     assert_eq!(rt; shelf.names_after(Kind::Pack, None, 3)?, none);
+    assert_eq!(rt; said(alloc, &mut shelf, Ask::Ticket), Say::Token(Token(3)));
+    shelf.save_config(b"[]")?;
+    let config = Say::Bytes(bytes_of(alloc, b"[]")?);
+    assert_eq!(rt; said(alloc, &mut shelf, Ask::Config), config);
     assert_eq!(rt; shelf.failures(), 2);
     Ok(())
 }

@@ -48,7 +48,7 @@ loop-turn-preserved g c = record {
       let start = g.W.Write.contents c.args.writer.now in
       let i = c.loop-turn.invariant.all honest input same in
       let P : Bool → Type 0 = λ more. PieceGives (Ok more) from start i.1 i.0 (g.R.Read.remaining c.take_piece.new.reader) c.take_piece.new.service (g.S.Shelf.store c.take_piece.new.shelf)
-          (g.W.Write.contents c.take_piece.new.writer) in
+      (g.W.Write.contents c.take_piece.new.writer) in
       let e = subst P c.if-not-more.false (c.in_ok-more.ensures.next (c.loop-turn.invariant.honest honest) from start i.1 i.0 i.2 i.5) in
       (e.0, e.1, e.2, i.3 ∙ e.3, omega (arith, i.4, e.4), e.5);
   honest = λ honest. c.take_piece.ensures.honest (c.loop-turn.invariant.honest honest);

@@ -16,8 +16,7 @@ returns-in_ok-take-in-Ok-clause-next g c honest from start past ahead same rests
     let r = read_ahead (g.R.Read.remaining c.args.reader.now) (g.R.Read.remaining c.read.new.self) ahead piece same c.in-Ok.ensures.bytes.0 in
     let a = c.in_ok-take-in-Ok.ensures.all honest from start past rests in
     let some : 0 < c.in-Ok.count = search (arith) in
-    let more : length a.0.bytes ≡ length (past.bytes ++ piece) = ap length a.1 in
-    (
+    let more : length a.0.bytes ≡ length (past.bytes ++ piece) = ap length a.1 in (
       r.0,
       a.0,
       r.1,
