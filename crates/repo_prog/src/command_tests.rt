@@ -27,11 +27,11 @@ struct Outcome {
     faults: Vec<u8>,
 }
 
-/// Runs the program with these words, on the ticket as its input.
-fn ran(rt: HostRuntime, words: &[&str]) -> Result<Outcome, AllocError> {
+/// Runs the program with these words, which have spaces between them, on the ticket as its input.
+fn ran(rt: HostRuntime, words: &str) -> Result<Outcome, AllocError> {
     let alloc = rt.alloc();
     let mut given = Vec::new(alloc);
-    for word in words {
+    for word in words.split(' ') {
         given.push(String::from_str(alloc, word)?)?;
     }
     let (mut output, mut faults) = (Vec::new(alloc), Vec::new(alloc));
@@ -47,63 +47,38 @@ fn ran(rt: HostRuntime, words: &[&str]) -> Result<Outcome, AllocError> {
 #[test]
 fn words(rt: HostRuntime) -> Result<(), Fail> {
     for (words, status, output, faults) in [
-        (["vault", "frames"].as_slice(), Status::Done, TOKEN, ""),
+        ("vault frames", Status::Done, TOKEN, ""),
+        ("vault --help", Status::Done, "A shared, deduplicating", ""),
+        ("vault", Status::Usage, "", "error"),
+        ("vault nothing", Status::Usage, "", "error"),
+        ("vault frames more", Status::Usage, "", "error"),
+        ("vault init", Status::Usage, "", "error"),
+        ("vault init x --min 63", Status::Usage, "", "bad argument\n"),
         (
-            ["vault", "--help"].as_slice(),
-            Status::Done,
-            "A shared, deduplicating",
-            "",
-        ),
-        (["vault"].as_slice(), Status::Usage, "", "error"),
-        (["vault", "nothing"].as_slice(), Status::Usage, "", "error"),
-        (
-            ["vault", "frames", "more"].as_slice(),
-            Status::Usage,
-            "",
-            "error",
-        ),
-        (["vault", "init"].as_slice(), Status::Usage, "", "error"),
-        (
-            ["vault", "init", "x", "--min", "63"].as_slice(),
+            "vault init x --bits 33",
             Status::Usage,
             "",
             "bad argument\n",
         ),
         (
-            ["vault", "init", "x", "--bits", "33"].as_slice(),
+            "vault init x --target 1023",
             Status::Usage,
             "",
             "bad argument\n",
         ),
+        ("vault init x --max -1", Status::Usage, "", "error"),
+        ("vault serve x", Status::Usage, "", "error"),
         (
-            ["vault", "init", "x", "--target", "1023"].as_slice(),
-            Status::Usage,
-            "",
-            "bad argument\n",
-        ),
-        (
-            ["vault", "init", "x", "--max", "-1"].as_slice(),
-            Status::Usage,
-            "",
-            "error",
-        ),
-        (
-            ["vault", "serve", "x"].as_slice(),
-            Status::Usage,
-            "",
-            "error",
-        ),
-        (
-            ["vault", "serve", "x", "y", "--connections", "0"].as_slice(),
+            "vault serve x y --connections 0",
             Status::Usage,
             "",
             "bad argument\n",
         ),
     ] {
         let ran = ran(rt, words)?;
-        assert_eq!(rt; ran.status, status, "of {words:?}");
-        assert!(rt; ran.output.starts_with(output.as_bytes()), "of {words:?}");
-        assert!(rt; ran.faults.starts_with(faults.as_bytes()), "of {words:?}");
+        assert_eq!(rt; ran.status, status, "of {words}");
+        assert!(rt; ran.output.starts_with(output.as_bytes()), "of {words}");
+        assert!(rt; ran.faults.starts_with(faults.as_bytes()), "of {words}");
         assert_eq!(rt; ran.faults.is_empty(), status.code() == 0);
     }
     let mut faults = Vec::new(rt.alloc());
@@ -123,33 +98,35 @@ fn folder(rt: HostRuntime, test: &str) -> io::Result<String> {
     Ok(path)
 }
 
+/// Words around the path of a folder.
+fn around(rt: HostRuntime, before: &str, path: &str, after: &str) -> Result<String, AllocError> {
+    let mut words = String::from_str(rt.alloc(), before)?;
+    words.push_str(path)?;
+    words.push_str(after)?;
+    Ok(words)
+}
+
 #[test]
 fn a_folder_is_made_a_store_once(rt: HostRuntime) -> Result<(), Fail> {
     let root = folder(rt, "init")?;
-    let first = ran(
-        rt,
-        &[
-            "vault",
-            "init",
-            root.as_str(),
-            "--min",
-            "64",
-            "--max",
-            "128",
-            "--bits",
-            "6",
-            "--target",
-            "1024",
-        ],
-    )?;
+    let numbers = " --min 64 --max 128 --bits 6 --target 1024";
+    let words = around(rt, "vault init ", root.as_str(), numbers)?;
+    let first = ran(rt, words.as_str())?;
     assert_eq!(rt; first.status, Status::Done);
     assert!(rt; first.output.starts_with(b"created "));
     assert_eq!(rt; first.output.len(), 41);
-    let second = ran(rt, &["vault", "init", root.as_str()])?;
+    let second = ran(rt, words.as_str())?;
     assert_eq!(rt; second.status, Status::Failed);
     assert_eq!(rt; second.faults.as_slice(), b"exists\n".as_slice());
     fs::remove_dir_all(&rt, root.as_str())?;
-    let away = ran(rt, &["vault", "serve", root.as_str(), "127.0.0.1:0"])?;
+    Ok(())
+}
+
+#[test]
+fn a_folder_that_is_not_there_is_not_served(rt: HostRuntime) -> Result<(), Fail> {
+    let root = folder(rt, "serve")?;
+    let words = around(rt, "vault serve ", root.as_str(), " 127.0.0.1:0")?;
+    let away = ran(rt, words.as_str())?;
     assert_eq!(rt; away.status, Status::Failed);
     assert_eq!(rt; away.faults.as_slice(), b"shelf failed\n".as_slice());
     Ok(())
