@@ -5,24 +5,13 @@
 # to be built with golang-go. Usage: bench/chunk.sh
 set -euo pipefail
 here="$(cd "$(dirname "$0")" && pwd)"
+. "$here/least.sh"
 cd "$here/../crates/bench"
 rt run >/dev/null 2>&1
 size=268435456
 
-# Milliseconds of the fastest of five runs of a kernel.
-least() {
-    local best=0
-    for _ in 1 2 3 4 5; do
-        local start=$(date +%s%N)
-        out/bench "$1" "$size" >/dev/null
-        local took=$((($(date +%s%N) - start) / 1000000))
-        if [ "$best" -eq 0 ] || [ "$took" -lt "$best" ]; then best=$took; fi
-    done
-    echo "$best"
-}
-
-made=$(least random)
-cut=$(least chunk)
+made=$(least out/bench random "$size")
+cut=$(least out/bench chunk "$size")
 echo "chunks of 256 MiB: $((cut - made)) ms, lengths $(out/bench chunk "$size" | cut -d ' ' -f 3)"
 go=$(mktemp -d)
 trap 'rm -rf "$go"' EXIT

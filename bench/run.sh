@@ -2,21 +2,11 @@
 # Times the kernels of the crate bench at 16 MiB, from outside, and openssl's SHA-256 of as many bytes
 # beside them. The least of five runs counts. Usage: bench/run.sh
 set -euo pipefail
-cd "$(dirname "$0")/../crates/bench"
+here="$(cd "$(dirname "$0")" && pwd)"
+. "$here/least.sh"
+cd "$here/../crates/bench"
 rt run >/dev/null 2>&1
 size=16777216
-
-# Milliseconds of the fastest of five runs of a command.
-least() {
-    local best=0
-    for _ in 1 2 3 4 5; do
-        local start=$(date +%s%N)
-        "$@" >/dev/null
-        local took=$((($(date +%s%N) - start) / 1000000))
-        if [ "$best" -eq 0 ] || [ "$took" -lt "$best" ]; then best=$took; fi
-    done
-    echo "$best"
-}
 
 bytes=$(mktemp)
 trap 'rm -f "$bytes"' EXIT
