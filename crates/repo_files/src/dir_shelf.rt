@@ -40,7 +40,10 @@ pub struct DirShelf<R> {
 impl<R: Files + AllocGlobal + Clone + Drop> DirShelf<R> {
     /// The shelf in the folder of this path, which is made where it isn't there, with all that it
     /// holds: its folders and, where none is there, a fresh ledger.
-    pub fn create(rt: R, root: &str) -> io::Result<DirShelf<R>> {
+    /// It counts no failure yet.
+    pub fn create(rt: R, root: &str) -> io::Result<DirShelf<R>>
+        ensures { IfOk result (λ shelf. shelf.failures ≡ 0) }
+    {
         let folder = Folder::of(rt.clone()?, root)?;
         for below in ["", TEMPORARY, PACKS, INDEXES, SNAPSHOTS] {
             folder.make(below)?;
@@ -48,7 +51,7 @@ impl<R: Files + AllocGlobal + Clone + Drop> DirShelf<R> {
         for first in 0..=255u8 {
             folder.make(pack_folder(rt.alloc(), first)?.as_str())?;
         }
-        let mut shelf = DirShelf {
+        let shelf = DirShelf {
             rt,
             folder,
             failures: 0,
@@ -59,7 +62,10 @@ impl<R: Files + AllocGlobal + Clone + Drop> DirShelf<R> {
 
     /// The shelf in the folder of this path, which has to be there. Nothing is made: where there is no
     /// ledger, each call that reads it fails.
-    pub fn open(rt: R, root: &str) -> io::Result<DirShelf<R>> {
+    /// It counts no failure yet.
+    pub fn open(rt: R, root: &str) -> io::Result<DirShelf<R>>
+        ensures { IfOk result (λ shelf. shelf.failures ≡ 0) }
+    {
         let folder = Folder::of(rt.clone()?, root)?;
         if !folder.is_there() {
             return Err(io::Error::from(ErrorKind::NotFound));
@@ -72,7 +78,7 @@ impl<R: Files + AllocGlobal + Clone + Drop> DirShelf<R> {
     }
 
     /// Keeps a fresh ledger where there is none.
-    fn begin_ledger(&mut self) -> io::Result<()> {
+    fn begin_ledger(&self) -> io::Result<()> {
         if self.folder.read("", LEDGER)?.is_some() {
             return Ok(());
         }

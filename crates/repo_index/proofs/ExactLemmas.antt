@@ -1,11 +1,13 @@
 -- An index that lists the items of a pack is exact for it.
-use Rattle.std.proofs.Common.{◌≡◌, ◌≢◌, ◌++◌, ◌∷◌, [], ℕ, zero, suc, List, length, Some, refl, ap, sym, subst, inl, inr, Contains, arith}
+use Rattle.std.proofs.Common.{◌≡◌, ◌≢◌, ◌++◌, ◌∷◌, [], ℕ, zero, suc, List, length, Some, refl, ap, sym, ◌∙◌, subst, inl, inr, Contains, arith}
 use Rattle.std.specs.Prelude.{slice_get}
-use Rattle.std.proofs.lemmas.List.Elements.{Contains-append_left, Contains-append_right, Contains-append_cases}
+use Rattle.std.proofs.lemmas.List.Elements.{All-contains, Contains-append_left, Contains-append_right, Contains-append_cases}
+use Rattle.std.specs.List.{All}
 use Rattle.repo_name.specs.declared.names.Name.{Name}
-use Rattle.repo_pack.specs.PackLayout.{Item}
+use Rattle.repo_pack.specs.PackLayout.{Item, IsWithin}
 use Rattle.repo_index.specs.IndexText.{facts_in}
-use Rattle.repo_index.specs.Exactness.{fact_at, AreFactsAt, IsExactFor}
+use Rattle.repo_index.specs.Exactness.{fact_at, AreFactsAt, IsExactFor, ListsItems}
+use Rattle.repo_index.specs.IndexWriting.{AreLawful}
 use Rattle.repo_index.specs.declared.facts.Fact.{Fact}
 use Rattle.repo_index.specs.declared.facts.PackFacts.{PackFacts}
 use Rattle.repo_index.proofs.LookupLemmas.{facts_split}
@@ -59,3 +61,48 @@ listed_exact before after pack items facts are others fact =
             ap (λ (f : Fact). f.place.pack) h.3,
           ),
     )
+
+-- ---- listings
+
+-- a fact of an index is one of a listing
+listing_of : (packs : List PackFacts) (fact : Fact) → Contains (facts_in packs) fact → (listed : PackFacts) × Contains packs listed × Contains listed.facts fact
+listing_of [] fact h = absurd (none_in fact h)
+listing_of (p ∷ ps) fact h = elim (Contains-append_cases p.facts (facts_in ps) fact h) [
+  | inl first ↦ (p, here p ps, first)
+  | inr rest ↦ let more = listing_of ps fact rest in (more.0, later p ps more.0 more.1, more.2)
+]
+
+-- a listing's facts are those of the index
+of_listing : (packs : List PackFacts) (listed : PackFacts) (fact : Fact) → Contains packs listed → Contains listed.facts fact → Contains (facts_in packs) fact
+of_listing [] listed fact h is = absurd (none_in listed h)
+of_listing (p ∷ ps) listed fact h is = elim (here_or_later p ps listed h) [
+  | inl same ↦ Contains-append_left p.facts (facts_in ps) fact (subst (λ (q : PackFacts). Contains q.facts fact) (sym same) is)
+  | inr more ↦ Contains-append_right p.facts (facts_in ps) fact (of_listing ps listed fact more is)
+]
+
+-- a fact at an item's place is one of the facts of the items, and each of these is at one
+pub fact_there : (pack : Name) (items : List Item) (facts : List Fact) (k : ℕ) (item : Item) → AreFactsAt pack items facts
+    → slice_get items k ≡ Some item → Contains facts (fact_at pack items k item)
+fact_there pack items facts k item are h = get_in facts k (fact_at pack items k item) (are.each k item h)
+
+pub item_there : (pack : Name) (items : List Item) (facts : List Fact) (fact : Fact) → AreFactsAt pack items facts → Contains facts fact
+    → (k : ℕ) × (item : Item) × (slice_get items k ≡ Some item) × (fact ≡ fact_at pack items k item)
+item_there pack items facts fact are h =
+    let k = in_get facts fact h in
+    let item = get_both facts items k.0 fact are.count k.1 in
+    let there = are.each k.0 item.0 item.1 in
+    let same : fact ≡ fact_at pack items k.0 item.0 = cc (k.1, there) in
+    (k.0, item.0, item.1, same)
+
+pub each_listed_exact : (packs : List PackFacts) (pack : Name) (items : List Item) → AreLawful packs → ListsItems packs pack items → IsExactFor packs pack items
+each_listed_exact packs pack items lawful lists fact = (
+  λ h.
+      let listing = listing_of packs fact h.0 in
+      let own = All-contains (λ (p : PackFacts). All (λ f. (f.place.pack ≡ p.pack) × IsWithin f.place.offset f.place.length) p.facts) packs listing.0 lawful listing.1 in
+      let is = All-contains (λ (f : Fact). (f.place.pack ≡ listing.0.pack) × IsWithin f.place.offset f.place.length) listing.0.facts fact own listing.2 in
+      item_there pack items listing.0.facts fact (lists.each listing.0 listing.1 (sym is.0 ∙ h.1)) listing.2,
+  λ h.
+      let are = lists.each lists.some.0 lists.some.1 lists.some.2 in
+      let there = subst (Contains lists.some.0.facts) (sym h.3) (fact_there pack items lists.some.0.facts h.0 h.1 are h.2) in
+      (of_listing packs lists.some.0 fact lists.some.1 there, ap (λ (f : Fact). f.place.pack) h.3),
+)

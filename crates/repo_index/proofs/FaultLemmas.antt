@@ -3,9 +3,10 @@ use Rattle.std.proofs.Common.{◌≡◌, ◌≢◌, ℕ, List, codes, None, opti
 use Rattle.serde_json.specs.Data.{Data, Items}
 use Rattle.serde_json.specs.Find.{as_array}
 use Rattle.repo_name.specs.declared.names.Name.{Name}
+use Rattle.repo_pack.specs.PackLayout.{IsWithin}
 use Rattle.repo_index.specs.JsonText.{IsJson, items_at}
 use Rattle.repo_index.specs.Listing.{AreAll}
-use Rattle.repo_index.specs.IndexText.{IsId, IsWithin, BlobSays, PackLists, IsNameText, HasSuperseded, IndexLists, IsIndexText}
+use Rattle.repo_index.specs.IndexText.{IsId, BlobSays, PackLists, IsNameText, HasSuperseded, IndexLists, IsIndexText}
 use Rattle.repo_index.specs.IndexFaults.{NamesNothing, BlobFault, PackFault, NameFault, SupersededFault, RootFault, IndexFault}
 use Rattle.repo_index.specs.declared.facts.Fact.{Fact}
 use Rattle.repo_index.specs.declared.facts.PackFacts.{PackFacts}

@@ -8,3 +8,5 @@ pub mod LookupLemmas
 pub mod PackLemmas
 pub mod OneLemmas
 pub mod ExactLemmas
+pub mod SameLemmas
+pub mod ViewLemmas

@@ -1,11 +1,15 @@
 -- A text is that of one index.
 use Rattle.std.proofs.Common.{◌≡◌, ◌∷◌, [], ℕ, List, slice_index, ap, refl, sym, subst, arith}
+use Rattle.std.specs.List.{All}
+use Rattle.std.proofs.lemmas.List.Elements.{All-nil, All-cons}
 use Rattle.serde_json.specs.Data.{Data, Items, no_items, item}
 use Rattle.repo_name.specs.declared.names.Name.{Name}
 use Rattle.repo_name.specs.declared.kinds.BlobKind.{BlobKind}
 use Rattle.repo_name.specs.declared.kinds.BlobKind.TheVariants.{Content, Tree}
+use Rattle.repo_pack.specs.PackLayout.{IsWithin}
 use Rattle.repo_index.specs.Listing.{AreAll}
 use Rattle.repo_index.specs.IndexText.{type_text, BlobSays, PackLists, IndexLists, IsIndexText}
+use Rattle.repo_index.specs.IndexWriting.{AreLawful}
 use Rattle.repo_index.specs.declared.facts.Fact.{Fact}
 use Rattle.repo_index.specs.declared.facts.PackFacts.{PackFacts}
 use Rattle.repo_index.proofs.NameLemmas.{id_one}
@@ -58,3 +62,17 @@ index_texts_one bytes a b h g =
     let k : IndexLists h.root b = subst (λ (d : Data). IndexLists d b) roots g.index in
     let items : k.items ≡ h.index.items = cc (k.listed, h.index.listed) in
     lists_one PackLists packs_one h.index.items a b h.index.packs_are (subst (λ (i : Items). AreAll PackLists i b) items k.packs_are)
+
+-- what holds of each element that an item may be that of, holds of all
+all_of : {X : Type 0} (Is : Data → X → Type 0) (P : X → Type 0) → ((d : Data) (x : X) → Is d x → P x) → (items : Items) (xs : List X)
+    → AreAll Is items xs → All P xs
+all_of Is P each items [] h = All-nil P
+all_of Is P each no_items (x ∷ xs) h = absurd h
+all_of Is P each (item d items) (x ∷ xs) h = All-cons P x xs (each d x h.0) (all_of Is P each items xs h.1)
+
+pub index_texts_lawful : (bytes : List ℕ) (packs : List PackFacts) → IsIndexText bytes packs → AreLawful packs
+index_texts_lawful bytes packs h =
+    all_of PackLists (λ p. All (λ f. (f.place.pack ≡ p.pack) × IsWithin f.place.offset f.place.length) p.facts)
+    (λ d p listed. all_of (BlobSays p.pack) (λ f. (f.place.pack ≡ p.pack) × IsWithin f.place.offset f.place.length)
+    (λ e f says. (says.here, says.within)) listed.blobs p.facts listed.facts_are)
+    h.index.items packs h.index.packs_are

@@ -1,9 +1,12 @@
 -- An index, and the items of a pack.
-use Rattle.std.specs.Prelude.{◌≡◌, ◌≢◌, ◌↔◌, ◌++◌, ◌∷◌, ℕ, List, length, slice_get, Some, Contains}
+use Rattle.std.specs.Prelude.{◌≡◌, ◌≢◌, ◌↔◌, ◌++◌, ◌∷◌, [], ℕ, List, length, slice_get, Some, Contains}
+use Rattle.std.specs.List.{All}
 use Rattle.repo_name.specs.declared.names.Name.{Name}
-use Rattle.repo_pack.specs.PackLayout.{Item, offset_of}
+use Rattle.repo_pack.specs.PackLayout.{Item, IsItem, offset_of}
 use Rattle.repo_pack.specs.PackWriting.{place_of}
 use Rattle.repo_index.specs.IndexText.{fact_of, facts_in}
+use Rattle.repo_index.specs.IndexWriting.{AreLawful}
+use Rattle.repo_index.specs.Lookups.{Joins, AreFactsOf}
 use Rattle.repo_index.specs.declared.facts.Fact.{Fact}
 use Rattle.repo_index.specs.declared.facts.PackFacts.{PackFacts}
 
@@ -26,3 +29,19 @@ abbrev pub ListedIsExact : Type 0
 ListedIsExact = (before after : List PackFacts) (pack : Name) (items : List Item) (facts : List Fact) → AreFactsAt pack items facts
     → ((fact : Fact) → Contains (facts_in before ++ facts_in after) fact → fact.place.pack ≢ pack)
     → IsExactFor (before ++ record { pack = pack; facts = facts } ∷ after) pack items
+
+-- an index lists a pack, once or more, and each time the facts of these items
+pub record ListsItems (packs : List PackFacts) (pack : Name) (items : List Item) : Type 0 where
+  pub some : (listed : PackFacts) × Contains packs listed × (listed.pack ≡ pack)
+  pub each : (listed : PackFacts) → Contains packs listed → listed.pack ≡ pack → AreFactsAt pack items listed.facts
+
+-- an index whose facts are of the packs that list them, and that lists a pack with the facts of its items, is exact for it
+abbrev pub EachListedIsExact : Type 0
+EachListedIsExact = (packs : List PackFacts) (pack : Name) (items : List Item) → AreLawful packs → ListsItems packs pack items → IsExactFor packs pack items
+
+-- An index is exact for a pack just where two lists are one: the facts of the pack that a look-up gives which holds this
+-- index alone, and the facts of the pack's items in their order.
+abbrev pub ExactIsSame : Type 0
+ExactIsSame = (packs : List PackFacts) (facts : List Fact) (pack : Name) (items : List Item) (own listed : List Fact)
+    → Joins [] (facts_in packs) facts → AreFactsOf facts pack own → AreFactsAt pack items listed → All IsItem items
+    → IsExactFor packs pack items ↔ (own ≡ listed)

@@ -4,9 +4,10 @@ use Rattle.serde_json.specs.Data.{Data, Items}
 use Rattle.serde_json.specs.Find.{get, as_str}
 use Rattle.repo_name.specs.declared.names.Name.{Name}
 use Rattle.repo_name.specs.declared.kinds.BlobKind.{BlobKind}
+use Rattle.repo_pack.specs.PackLayout.{IsWithin}
 use Rattle.repo_index.specs.JsonText.{IsJson, items_at}
 use Rattle.repo_index.specs.Listing.{AreAll, HasFault}
-use Rattle.repo_index.specs.IndexText.{IsId, IsWithin, HasBlob, BlobSays, HasPack, PackLists, IsNameText}
+use Rattle.repo_index.specs.IndexText.{IsId, HasBlob, BlobSays, HasPack, PackLists, IsNameText}
 use Rattle.repo_index.specs.declared.faults.IndexError.{IndexError}
 use Rattle.repo_index.specs.declared.faults.IndexError.TheVariants as fault
 use Rattle.repo_index.specs.declared.facts.PackFacts.{PackFacts}

@@ -1,5 +1,5 @@
 -- The text of an index, and what it gives.
-use Rattle.std.specs.Prelude.{◌≡◌, ◌≤◌, ◌<◌, ◌+◌, ◌^◌, ◌⊎◌, ℕ, List, codes, Some, None, Contains}
+use Rattle.std.specs.Prelude.{◌≡◌, ◌<◌, ◌^◌, ◌⊎◌, ℕ, List, codes, Some, None, Contains}
 use Rattle.std.specs.List.{flat_map}
 use Rattle.serde_json.specs.Data.{Data, Items}
 use Rattle.serde_json.specs.Find.{get, as_str}
@@ -7,7 +7,7 @@ use Rattle.repo_name.specs.Naming.{hex_of, IsName}
 use Rattle.repo_name.specs.declared.names.Name.{Name}
 use Rattle.repo_name.specs.declared.kinds.BlobKind.{BlobKind}
 use Rattle.repo_name.specs.declared.kinds.BlobKind.TheVariants.{Content, Tree}
-use Rattle.repo_pack.specs.PackLayout.{IsBlobLength}
+use Rattle.repo_pack.specs.PackLayout.{IsWithin}
 use Rattle.repo_pack.specs.declared.places.Place.{Place}
 use Rattle.repo_index.specs.JsonText.{IsJson, number_at, text_at, items_at}
 use Rattle.repo_index.specs.Listing.{AreAll}
@@ -37,11 +37,6 @@ type_text Tree = codes "tree"
 -- a text is that of a name
 abbrev pub IsId : List ℕ → Name → Type 0
 IsId id name = IsName name × (id ≡ hex_of name)
-
--- a blob has 1 to 8,388,608 bytes, as in a pack, and lies within the first 25,165,823 of its pack
-pub record IsWithin (offset length : ℕ) : Type 0 where
-  pub blob : IsBlobLength length
-  pub ends : offset + length ≤ 25_165_823
 
 -- the members of a blob's object; what other members it has is of no account
 pub record HasBlob (d : Data) (id : List ℕ) (length offset : ℕ) (kind : BlobKind) : Type 0 where

@@ -3,7 +3,8 @@ use Rattle.std.specs.Prelude.{◌≡◌, ◌≢◌, ◌≤◌, ◌∷◌, [], �
 use Rattle.serde_json.specs.Data.{Data, string, number, unsigned, array, object, Items, no_items, item, member, no_members}
 use Rattle.serde_json.specs.Written.{compact_text}
 use Rattle.repo_name.specs.Naming.{hex_of, IsName}
-use Rattle.repo_index.specs.IndexText.{type_text, IsFact, IsWithin, facts_in}
+use Rattle.repo_pack.specs.PackLayout.{IsWithin}
+use Rattle.repo_index.specs.IndexText.{type_text, IsFact, facts_in}
 use Rattle.repo_index.specs.declared.facts.Fact.{Fact}
 use Rattle.repo_index.specs.declared.facts.PackFacts.{PackFacts}
 

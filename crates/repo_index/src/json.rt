@@ -31,14 +31,6 @@ pub(crate) fn parse(alloc: Global, bytes: &[u8]) -> Result<Value, IndexError>
     }
 }
 
-/// The bytes of a name.
-fn bytes_of(name: Name) -> [u8; 32]
-    ensures bytes { result ≡ name.0 }
-    ensures named { IsName name }
-{
-    name.0
-}
-
 /// The name of which this is the text: 64 digits in lower case.
 pub(crate) fn name_of(text: &str) -> Option<Name>
     ensures found { IfSome result (IsId text.now) }
@@ -47,7 +39,7 @@ pub(crate) fn name_of(text: &str) -> Option<Name>
     let Ok(name) = Name::from_hex(text) else {
         return None;
     };
-    Some(Name(bytes_of(name)))
+    Some(name)
 }
 
 /// A name's 64 digits, in lower case.
@@ -55,5 +47,5 @@ pub(crate) fn digits_of(alloc: Global, name: Name) -> Result<String, AllocError>
     ensures text { IfOk result (λ text. string_bytes text ≡ hex_of name) }
     ensures named { IsName name }
 {
-    Name(bytes_of(name)).to_hex(alloc)
+    name.to_hex(alloc)
 }

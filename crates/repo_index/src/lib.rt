@@ -25,6 +25,7 @@ mod json;
 mod keys;
 pub mod laws;
 mod lookups;
+mod pack_facts;
 mod reading;
 #[cfg(test)]
 mod tests;

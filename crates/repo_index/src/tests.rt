@@ -1,4 +1,5 @@
 //! What no clause says: texts from outside, and that calls succeed.
 
 mod lookups;
+mod packs;
 mod texts;

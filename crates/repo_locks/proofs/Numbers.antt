@@ -1,4 +1,4 @@
-use Rattle.std.proofs.Common.{◌≡◌, ◌≢◌, ℕ, Bool, true, false, List, [], ◌∷◌, ◌++◌, length, eqb, Option, Some, None, is_some, Result, Ok, Err, inl, inr, refl, sym, ap, ◌∙◌, subst, arith}
+use Rattle.std.proofs.Common.{◌≡◌, ◌≢◌, ◌⊎◌, ℕ, Bool, true, false, List, [], ◌∷◌, ◌++◌, length, eqb, Option, Some, None, is_some, Result, Ok, Err, inl, inr, refl, sym, ap, ◌∙◌, subst, arith}
 use Rattle.std.proofs.lemmas.Bool.{cases_Bool, or_parts, or_from, false_from_ne_true, eqb-true, eqb-false, true≢false}
 use Rattle.repo_name.specs.declared.rows.LockRow.{LockRow}
 use Rattle.repo_name.specs.declared.tokens.Token.{Token}
@@ -7,9 +7,9 @@ use Rattle.repo_locks.specs.declared.outcomes.TicketError.{TicketError}
 use Rattle.repo_locks.specs.declared.outcomes.LockError.{LockError}
 use Rattle.repo_locks.specs.declared.outcomes.RefreshError.{RefreshError}
 use Rattle.repo_locks.specs.TokenMachine.{Tokens, is_among, kind_among, has_exclusive, is_fresh, is_live, live_as, with_room, without, rows_without, granted, unlocked, TicketStep, LockStep, RefreshStep, UnlockStep}
-use Rattle.repo_locks.specs.Laws.{IssuedIsFresh, LockedIsLive, UnlockedIsNeither, by_ticket, by_lock, by_refresh, by_unlock, GoesForward, NumbersGoForward, DeadStaysDead, NothingToUnlock, ExclusiveIsAlone}
+use Rattle.repo_locks.specs.Laws.{IssuedIsFresh, LockedIsLive, UnlockedIsNeither, by_ticket, by_lock, by_refresh, by_unlock, GoesForward, NumbersGoForward, DeadStaysDead, LiveStaysLive, NothingToUnlock, ExclusiveIsAlone}
 use Rattle.repo_locks.proofs.Ascending.{none_parts}
-use Rattle.repo_locks.proofs.Changed.{among_drop_one, among_push, among_without, kind_among-with_row, kind_among-rows_at, kind_among-with_row_same, kind_among-rows_without_same, some-rows_without}
+use Rattle.repo_locks.proofs.Changed.{among_drop_one, among_push, among_without, kind_among-with_row, kind_among-rows_at, kind_among-with_row_same, kind_among-rows_without_same, kind_among-rows_without, some-rows_without}
 
 -- where nothing changed
 stays : (old new : Tokens) → new ≡ old → GoesForward old new
@@ -155,6 +155,57 @@ dead_stays old new t m dead =
           ])
           (not_live_after old new t go parts.0 parts.1),
     )
+
+-- after a ticket what was live is
+ticket_keeps : (old new : Tokens) (r : Result Token TicketError) (u : Token) (b : Bool) → TicketStep old r new → live_as old u ≡ Some b → live_as new u ≡ Some b
+ticket_keeps old new (Ok issue) u b step live = rw step.2 live
+ticket_keeps old new (Err TicketError.Exhausted) u b step live = rw step.1 live
+ticket_keeps old new (Err TicketError.Memory) u b step live = rw step.1 live
+
+-- after a lock is granted what was live is
+granted_keeps : (old : Tokens) (row : LockRow) (u : Token) (b : Bool) → live_as old row.token ≡ None → live_as old u ≡ Some b → live_as (granted old row) u ≡ Some b
+granted_keeps old row u b none live =
+    kind_among-with_row row old.live u (λ n.
+    let same : u ≡ row.token = λ i. record { 0 = n i } in
+    let k : None ≡ Some b = sym none ∙ ap (λ v. live_as old v) (sym same) ∙ live in cc) ∙ live
+
+-- after a lock what was live is
+lock_keeps : (old new : Tokens) (t : Token) (exclusive : Bool) (time : ℕ) (host : List ℕ) (r : Result Grant LockError) (u : Token) (b : Bool)
+    → LockStep old t exclusive time host r new → live_as old u ≡ Some b → live_as new u ≡ Some b
+lock_keeps old new t exclusive time host (Ok Grant.New) u b step live =
+    rw step.1 (granted_keeps old (record { token = t; exclusive = exclusive; time = time; host = host }) u b step.0.0 live)
+lock_keeps old new t exclusive time host (Ok Grant.Held) u b step live = rw step.1 live
+lock_keeps old new t exclusive time host (Err LockError.Dead) u b step live = rw step.2 live
+lock_keeps old new t exclusive time host (Err LockError.OtherKind) u b step live = rw step.1 live
+lock_keeps old new t exclusive time host (Err LockError.Busy) u b step live = rw step.3 live
+lock_keeps old new t exclusive time host (Err LockError.Full) u b step live = rw step.4 live
+lock_keeps old new t exclusive time host (Err LockError.Memory) u b step live = rw step.1 live
+
+-- after a refresh what was live is
+refresh_keeps : (old new : Tokens) (t : Token) (time : ℕ) (r : Result (Unit {0}) RefreshError) (u : Token) (b : Bool)
+    → RefreshStep old t time r new → live_as old u ≡ Some b → live_as new u ≡ Some b
+refresh_keeps old new t time (Ok done) u b step live = rw step.1 (kind_among-rows_at t time old.live u ∙ live)
+refresh_keeps old new t time (Err RefreshError.Dead) u b step live = rw step.1 live
+
+-- after another's unlock what was live is
+unlocked_keeps : (old : Tokens) (t u : Token) (b : Bool) → (u.0 ≡ t.0 → ⊥) → live_as old u ≡ Some b → live_as (unlocked old t) u ≡ Some b
+unlocked_keeps old t u b n live = kind_among-rows_without t old.live u n ∙ live
+
+-- after an unlock what was live is, where it isn't what was unlocked
+unlock_keeps : (old new : Tokens) (t : Token) (found : Bool) (u : Token) (b : Bool) → UnlockStep old t found new → live_as old u ≡ Some b
+    → (live_as new u ≡ Some b) ⊎ (new ≡ unlocked old u)
+unlock_keeps old new t true u b step live = elim (cases_Bool (eqb u.0 t.0)) [
+  | inl e ↦ inr (step.1 ∙ ap (λ v. unlocked old v) (let n = eqb-true u.0 t.0 e in let same : t ≡ u = λ i. record { 0 = sym n i } in same))
+  | inr e ↦ inl (ap (λ l. live_as l u) step.1 ∙ unlocked_keeps old t u b (eqb-false u.0 t.0 e) live)
+]
+unlock_keeps old new t false u b step live = inl (ap (λ l. live_as l u) step.1 ∙ live)
+
+-- what is live stays so until its own unlock
+pub live_stays : LiveStaysLive
+live_stays old new u b (by_ticket r step) live = inl (ticket_keeps old new r u b step live)
+live_stays old new u b (by_lock t exclusive time host r fits is_host step) live = inl (lock_keeps old new t exclusive time host r u b step live)
+live_stays old new u b (by_refresh t time r fits step) live = inl (refresh_keeps old new t time r u b step live)
+live_stays old new u b (by_unlock t found step) live = unlock_keeps old new t found u b step live
 
 -- an unlock of what is neither fresh nor live changes nothing
 pub unlocked_same : NothingToUnlock

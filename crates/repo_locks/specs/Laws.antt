@@ -51,6 +51,11 @@ NumbersGoForward = (old new : Tokens) → Moves old new → GoesForward old new
 abbrev pub DeadStaysDead : Type 0
 DeadStaysDead = (old new : Tokens) (t : Token) → Moves old new → IsDead old t → IsDead new t
 
+-- a live number stays live in its way, until its own unlock
+abbrev pub LiveStaysLive : Type 0
+LiveStaysLive = (old new : Tokens) (t : Token) (exclusive : Bool) → Moves old new → live_as old t ≡ Some exclusive
+    → (live_as new t ≡ Some exclusive) ⊎ (new ≡ unlocked old t)
+
 -- an unlock of a number that is neither fresh nor live would change nothing
 abbrev pub NothingToUnlock : Type 0
 NothingToUnlock = (l : Tokens) (t : Token) → is_fresh_or_live l t ≡ false → unlocked l t ≡ l

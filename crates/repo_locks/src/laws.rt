@@ -1,6 +1,6 @@
 //! The laws of the ledger, each as the contract of a function that does nothing.
 
-ghost use Rattle.repo_locks.specs.Laws.{StartIsLawful, StepsStayLawful, IssuedIsFresh, LockedIsLive, UnlockedIsNeither, NumbersGoForward, DeadStaysDead, NothingToUnlock, ExclusiveIsAlone};
+ghost use Rattle.repo_locks.specs.Laws.{StartIsLawful, StepsStayLawful, IssuedIsFresh, LockedIsLive, UnlockedIsNeither, NumbersGoForward, DeadStaysDead, LiveStaysLive, NothingToUnlock, ExclusiveIsAlone};
 ghost use Rattle.repo_locks.specs.LedgerBytes.{LedgersAreOne};
 
 /// The ledger before any ticket is lawful.
@@ -36,6 +36,11 @@ pub fn numbers_go_forward()
 /// A number that was issued and is neither fresh nor live is never fresh or live again.
 pub fn dead_stays_dead()
     ensures { DeadStaysDead }
+{}
+
+/// A number that is live stays so in its way, shared or exclusive, until its own unlock.
+pub fn live_stays_live()
+    ensures { LiveStaysLive }
 {}
 
 /// An unlock of a number that is neither fresh nor live would change nothing.

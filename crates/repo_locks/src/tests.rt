@@ -220,6 +220,52 @@ fn other_bytes_are_no_ledger(rt: HostRuntime) -> Result<(), Fail> {
     Ok(())
 }
 
+// Token 1 live and exclusive since time 5, for host `a`.
+const LEDGER: [u8; 31] = [
+    0, 0, 0, 0, 0, 0, 0, 2, 0, 0, 0, 1, 0, 0, 0, 0, 0, 0, 0, 1, 1, 0, 0, 0, 0, 0, 0, 0, 5, 1, 97,
+];
+
+// It holds where any one growth is refused, and is asked for again.
+#[test]
+fn refused_growth(rt: HostRuntime) -> Result<(), Fail> {
+    let mut ledger = Ledger::new(rt.alloc());
+    let token = match ledger.ticket() {
+        Err(TicketError::Memory) => ledger.ticket()?,
+        issued => issued?,
+    };
+    assert_eq!(rt; token, Token(1));
+    let grant = match lock(&mut ledger, 1, true, 5) {
+        Err(LockError::Memory) => lock(&mut ledger, 1, true, 5)?,
+        granted => granted?,
+    };
+    assert_eq!(rt; grant, Grant::New);
+    let copied = match ledger.copy() {
+        Err(_) => ledger.copy()?,
+        Ok(copied) => copied,
+    };
+    let bytes = match copied.write() {
+        Err(_) => copied.write()?,
+        Ok(bytes) => bytes,
+    };
+    assert_eq!(rt; bytes.as_slice(), LEDGER.as_slice());
+    Ok(())
+}
+
+// It holds where any one growth is refused, and is asked for again.
+#[test]
+fn refused_growth_of_what_is_read(rt: HostRuntime) -> Result<(), Fail> {
+    let ledger = match Ledger::read(rt.alloc(), &LEDGER) {
+        Err(LedgerError::Memory) => Ledger::read(rt.alloc(), &LEDGER)?,
+        read => read?,
+    };
+    let tokens = match stale(rt.alloc(), ledger.locks(), 10_000) {
+        Err(_) => stale(rt.alloc(), ledger.locks(), 10_000)?,
+        Ok(tokens) => tokens,
+    };
+    assert_eq!(rt; tokens.as_slice(), [Token(1)].as_slice());
+    Ok(())
+}
+
 #[test]
 fn old_locks_are_stale(rt: HostRuntime) -> Result<(), Fail> {
     let mut ledger = Ledger::new(rt.alloc());

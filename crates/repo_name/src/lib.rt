@@ -9,7 +9,8 @@
 //! and as no other. Not promised: that SHA-256 has no clashes, or that two instances differ.
 //!
 //! The definitions stand in `specs/`: `Naming` (object name, order of names, hexadecimal), `Ranges`
-//! (the bytes at an offset and a length), `Rows` (a row's bytes, a host within its limits).
+//! (the bytes at an offset and a length), `Rows` (a row's bytes, a host within its limits), `NameMaps`
+//! (what stands in a map under each name, and how a map changes under one).
 #![tactic(auto)]
 
 mod fields;

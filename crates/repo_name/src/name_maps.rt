@@ -49,4 +49,20 @@ mod tests {
         assert_eq!(rt; map.get(&empty), Some(&2));
         Ok(())
     }
+
+    // It holds where any one growth is refused, and is asked for again.
+    #[test]
+    fn refused_growth(rt: HostRuntime) -> Result<(), Fail> {
+        let mut map = BTreeMap::new(rt.alloc());
+        for (name, value) in [(name_of(b"abc"), 1), (name_of(b""), 2)] {
+            let before = map.len();
+            if insert_named(&mut map, name, value).is_err() {
+                assert_eq!(rt; map.get(&name), None);
+                assert_eq!(rt; map.len(), before);
+                insert_named(&mut map, name, value)?;
+            }
+            assert_eq!(rt; map.get(&name), Some(&value));
+        }
+        Ok(())
+    }
 }

@@ -2,7 +2,7 @@
 
 ghost use Rattle.std.specs.Prelude.{◌≡◌, ◌≢◌, ◌↔◌, ℕ, length, IfOk, IsOk, IsErrOf, IsTrue, string_bytes};
 ghost use Rattle.hex.specs.Hex.{IsBytes};
-ghost use Rattle.repo_name.specs.Naming.{name, hex_of, IsName};
+ghost use Rattle.repo_name.specs.Naming.{name, hex_of, IsName, IsInstance};
 ghost use Rattle.repo_name.specs.declared.names.Name.{Name};
 ghost use Rattle.repo_name.specs.declared.names.NameError.{NameError};
 
@@ -33,17 +33,37 @@ pub enum NameError {
 
 /// The name of these bytes. It takes no memory and always succeeds.
 pub fn name_of(bytes: &[u8]) -> Name
-    ensures { result ≡ name bytes.now }
+    ensures value { result ≡ name bytes.now }
+    ensures name { IsName result }
 {
     Name(Sha256::digest(bytes))
 }
 
+impl Instance {
+    /// The instance's 16 bytes.
+    pub fn to_bytes(self) -> [u8; 16]
+        ensures bytes { result ≡ self.0 }
+        ensures instance { IsInstance self }
+    {
+        self.0
+    }
+}
+
 impl Name {
+    /// The name's 32 bytes.
+    pub fn to_bytes(self) -> [u8; 32]
+        ensures bytes { result ≡ self.0 }
+        ensures name { IsName self }
+    {
+        self.0
+    }
+
     /// The name's 64 digits, in lower case. It fails for memory alone.
     pub fn to_hex(&self, alloc: Global) -> Result<String, AllocError>
-        ensures { IfOk result (λ text. string_bytes text ≡ hex_of self.now) }
+        ensures text { IfOk result (λ text. string_bytes text ≡ hex_of self.now) }
+        ensures name { IsName self.now }
     {
-        hex::encode(alloc, &self.0)
+        hex::encode(alloc, &self.to_bytes())
     }
 
     /// The name of which this is the text, 64 digits in lower case. It takes no memory.
@@ -51,6 +71,7 @@ impl Name {
     /// `Length` comes first, where there aren't 64 bytes, and then `Digit`.
     pub fn from_hex(text: &str) -> Result<Name, NameError>
         ensures ok { IfOk result (λ n. text.now ≡ hex_of n) }
+        ensures name { IfOk result IsName }
         ensures length { IsErrOf result NameError.Length ↔ (length text.now ≢ 64) }
         ensures digit { IsErrOf result NameError.Digit → (n : Name) → IsName n → text.now ≢ hex_of n }
     {
@@ -89,6 +110,21 @@ mod tests {
             assert_eq!(rt; text.as_str(), digits);
             assert_eq!(rt; Name::from_hex(digits), Ok(name));
         }
+        Ok(())
+    }
+
+    // It holds where any one growth is refused, and is asked for again.
+    #[test]
+    fn refused_growth(rt: HostRuntime) -> Result<(), Fail> {
+        let name = name_of(b"abc");
+        let text = match name.to_hex(rt.alloc()) {
+            Err(_) => name.to_hex(rt.alloc())?,
+            Ok(text) => text,
+        };
+        assert_eq!(rt; text.as_str(), ABC);
+        assert_eq!(rt; Name(name.to_bytes()), name);
+        let instance = Instance([1; 16]);
+        assert_eq!(rt; Instance(instance.to_bytes()), instance);
         Ok(())
     }
 

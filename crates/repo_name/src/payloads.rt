@@ -1,6 +1,6 @@
 //! Lists that contracts see as lists: made from a `Vec` or a `String`, and lent as a slice, without memory.
 
-ghost use Rattle.std.specs.Prelude.{◌≡◌, All};
+ghost use Rattle.std.specs.Prelude.{All};
 ghost use Rattle.repo_name.specs.Naming.{IsName};
 
 use crate::names::Name;
@@ -60,12 +60,15 @@ pub struct Names {
 }
 
 impl Model for Names {
-    ghost use Rattle.std.specs.Prelude.{List};
+    ghost use Rattle.std.specs.Prelude.{List, All};
+    ghost use Rattle.repo_name.specs.Naming.{IsName};
     ghost use Rattle.repo_name.specs.declared.names.Name.{Name};
 
     ghost Value = { List Name };
 
     ghost view = { λ n. n.inner.items };
+
+    ghost invariant = { λ n. All IsName n.inner.items };
 }
 
 impl Names {
@@ -83,18 +86,11 @@ impl Names {
 
     /// The names, lent.
     pub fn as_slice(&self) -> &[Name]
-        ensures { result.now ≡ self.now }
+        ensures value { result.now ≡ self.now }
+        ensures names { All IsName self.now }
     {
         self.inner.as_slice()
     }
-}
-
-/// A name's bytes: what tells a proof that there are 32 of them.
-fn bytes_of(name: Name) -> [u8; 32]
-    ensures bytes { result ≡ name.0 }
-    ensures name { IsName name }
-{
-    name.0
 }
 
 /// Tells a proof what the type of names says. It computes nothing.
@@ -102,7 +98,7 @@ fn are_names(names: &[Name])
     ensures { All IsName names.now }
 {
     for name in names {
-        bytes_of(*name);
+        name.to_bytes();
     }
 }
 

@@ -135,6 +135,26 @@ mod tests {
         Ok(())
     }
 
+    // It holds where any one growth is refused, and is asked for again.
+    #[test]
+    fn refused_growth(rt: HostRuntime) -> Result<(), Fail> {
+        let alloc = rt.alloc();
+        let (row, rest) = match read_row(alloc, &ROW) {
+            Err(RowError::Memory) => read_row(alloc, &ROW)?,
+            read => read?,
+        };
+        assert_eq!(rt; rest.len(), 0);
+        let host = row.host.as_str();
+        assert!(rt; host.len() == 1);
+        let mut out = Vec::new(alloc);
+        if append_row(&row, &mut out).is_err() {
+            assert_eq!(rt; out.len(), 0);
+            append_row(&row, &mut out)?;
+        }
+        assert_eq!(rt; out.as_slice(), ROW.as_slice());
+        Ok(())
+    }
+
     #[test]
     fn bytes_that_are_no_row(rt: HostRuntime) {
         let alloc = rt.alloc();

@@ -1,5 +1,5 @@
 -- What the bytes of a pack show.
-use Rattle.std.proofs.Common.{◌≡◌, ◌<◌, ◌-◌, ◌/◌, ◌^◌, ◌++◌, [], ℕ, List, length, take, drop, map, sym, ap, ◌∙◌, arith}
+use Rattle.std.proofs.Common.{◌≡◌, ◌≤◌, ◌<◌, ◌-◌, ◌/◌, ◌^◌, ◌++◌, [], ℕ, List, length, take, drop, map, sym, ap, ◌∙◌, arith}
 use Rattle.std.specs.Int.{w32, to_le_bytes}
 use Rattle.std.proofs.lemmas.List.{take_at, drop_at, take_all, length-append}
 use Rattle.std.proofs.lemmas.List.Elements.{recursion_from_All}
@@ -21,6 +21,12 @@ unfolding front
 length_is bytes items h =
     let n = ap length h.layout ∙ length-append (front items) (to_le_bytes w32 (length (header_of items))) in
     omega (arith, n)
+
+-- the blobs' bytes are no more than the pack's
+pub blobs_short : (bytes : List ℕ) (items : List Item) → IsPack bytes items → length (blobs_of items) ≤ length bytes
+blobs_short bytes items h =
+    let whole = ap length h.layout ∙ length-append (blobs_of items ++ header_of items) (to_le_bytes w32 (length (header_of items))) in
+    omega (arith, whole, length-append (blobs_of items) (header_of items))
 
 front_is : (bytes : List ℕ) (items : List Item) → IsPack bytes items → front_of bytes ≡ blobs_of items ++ header_of items
 unfolding front

@@ -1,15 +1,15 @@
 -- A pack that is written: one more item, and its end.
 use Rattle.std.proofs.Common.{◌≡◌, ◌≤◌, ◌<◌, ◌+◌, ◌^◌, ◌++◌, ◌∷◌, [], ℕ, zero, suc, List, length, drop, map, get_or, refl, sym, ap, ◌∙◌, append_assoc, arith}
 use Rattle.std.specs.Prelude.{slice_get, Some}
-use Rattle.std.specs.List.{sum_by}
+use Rattle.std.specs.List.{All, sum_by}
 use Rattle.std.specs.Int.{w32, to_le_bytes}
 use Rattle.std.proofs.lemmas.List.{append-nil, length-append, length-map, map_push, length_push, drop_more, drop_all}
-use Rattle.std.proofs.lemmas.List.Elements.{All-push, All-nil, recursion_from_All}
+use Rattle.std.proofs.lemmas.List.Elements.{All-push, All-nil, All-cons, All-head, All-tail, recursion_from_All}
 use Rattle.std.proofs.lemmas.List.Concat.{flat_map-append}
 use Rattle.repo_name.specs.declared.names.Name.{Name}
 use Rattle.repo_pack.specs.declared.rows.Row.{Row}
 use Rattle.repo_pack.specs.declared.places.Place.{Place}
-use Rattle.repo_pack.specs.PackLayout.{Item, IsItem, IsNamed, blobs_of, header_of, offset_of, IsTruePack}
+use Rattle.repo_pack.specs.PackLayout.{Item, IsItem, IsNamed, IsWithin, blobs_of, header_of, offset_of, IsTruePack}
 use Rattle.repo_pack.specs.PackReading.{items_of}
 use Rattle.repo_pack.specs.PackWriting.{row_of, rows_bytes, ending_of, IsFilled, places_from, ArePlaces}
 use Rattle.repo_pack.proofs.Entries.{items_of-rows, length-header_of}
@@ -122,6 +122,27 @@ places_are pack items = record {
       let e : 0 + offset_of items k ≡ offset_of items k = omega arith in
       places_at pack 0 items k item h ∙ ap (λ o. Some (record { pack = pack; offset = o; length = length item.bytes })) e;
 }
+
+-- they are within range, where the items' bytes are
+places_in_range : (pack : Name) (offset : ℕ) (items : List Item) → All IsItem items → offset + length (blobs_of items) ≤ 25_165_823
+    → All (λ (place : Place). IsWithin place.offset place.length) (places_from pack offset (map row_of items))
+unfolding places_from
+places_in_range pack offset [] each room = All-nil (λ (place : Place). IsWithin place.offset place.length)
+places_in_range pack offset (first ∷ items) each room =
+    let whole = length-append first.bytes (blobs_of items) in
+    let is : IsItem first = All-head IsItem first items each in
+    let place : Place = record { pack = pack; offset = offset; length = length first.bytes } in
+    All-cons (λ (p : Place). IsWithin p.offset p.length) place (places_from pack (offset + length first.bytes) (map row_of items))
+    (record { blob = is.0; ends = omega (arith, room, whole) })
+    (places_in_range pack (offset + length first.bytes) items (All-tail IsItem first items each) (omega (arith, room, whole)))
+
+pub places_within : (pack : Name) (rows : List Row) (blobs : List ℕ) (target : ℕ) (items : List Item) → IsFilled rows blobs target items
+    → All (λ (place : Place). IsWithin place.offset place.length) (places_from pack 0 (map row_of items))
+places_within pack rows blobs target items filled =
+    let short = ap length filled.blobs_are in
+    let room = filled.room in
+    let high = filled.bounds.1 in
+    places_in_range pack 0 items filled.each (omega (arith, short, room, high))
 
 -- one more place
 pub places_more : (front : List Place) (pack : Name) (offset : ℕ) (rows : List Row) (k : ℕ) (d : Row) → k < length rows

@@ -1,4 +1,4 @@
-use Rattle.std.specs.Prelude.{◌≡◌, ◌≤◌, ◌++◌, ◌∷◌, ℕ, List, length, take, slice_get, Some}
+use Rattle.std.specs.Prelude.{◌≡◌, ◌≤◌, ◌+◌, ◌++◌, ◌∷◌, ℕ, List, length, take, slice_get, Some}
 use Rattle.std.specs.Int.{w32, to_le_bytes}
 use Rattle.std.specs.List.{All, flat_map, sum_by}
 use Rattle.repo_name.specs.declared.names.Name.{Name}
@@ -20,6 +20,11 @@ item_of kind bytes = record { kind = kind; name = naming.name bytes; bytes = byt
 -- a blob has 1 to 8,388,608 bytes
 abbrev pub IsBlobLength : ℕ → Type 0
 IsBlobLength n = (1 ≤ n) × (n ≤ 8_388_608)
+
+-- a blob ends within the first 25,165,823 bytes of its pack, as every blob of a pack that is written does
+pub record IsWithin (offset size : ℕ) : Type 0 where
+  pub blob : IsBlobLength size
+  pub ends : offset + size ≤ 25_165_823
 
 -- what a pack can hold: a blob under a name of 32 bytes
 abbrev pub IsItem : Item → Type 0

@@ -26,9 +26,9 @@ const TWO: &str = "9bad8a7af003e758150335a54f5af2695e8d0b64205b64540add69dda69bc
 //       + struct.pack("<I", 151552)
 const MANY: &str = "98fee47a7d28f065bf4f65aa99a4c6dd6be95296c99ec8e597a8b0d17fb711eb";
 
-// It holds too where any one growth is refused, and is asked for again.
+// It holds where any one growth is refused, and is asked for again.
 #[test]
-fn packs_that_are_sealed(rt: HostRuntime) -> Result<(), Fail> {
+fn refused_growth(rt: HostRuntime) -> Result<(), Fail> {
     let mut writer = PackWriter::new(rt.alloc(), 1_024);
     if let Err(fault) = writer.add(BlobKind::Content, b"abc") {
         assert_eq!(rt; fault, PackError::Memory);
@@ -45,6 +45,14 @@ fn packs_that_are_sealed(rt: HostRuntime) -> Result<(), Fail> {
     };
     assert_eq!(rt; sealed.bytes.as_slice(), PACK.as_slice());
     assert_eq!(rt; sealed.name, Name::from_hex(ONE)?);
+
+    let mut writer = PackWriter::new(rt.alloc(), 1_024);
+    let name = repo_name::name_of(b"abc");
+    if let Err(fault) = writer.add_named(BlobKind::Content, &name, b"abc") {
+        assert_eq!(rt; fault, PackError::Memory);
+        writer.add_named(BlobKind::Content, &name, b"abc")?;
+    }
+    assert_eq!(rt; writer.len(), 1);
     Ok(())
 }
 

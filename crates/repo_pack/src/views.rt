@@ -1,8 +1,8 @@
 //! Packs as they are read, in place.
 
-ghost use Rattle.std.specs.Prelude.{◌≡◌, ◌<◌, ◌↔◌, List, length, slice_get, IsTrue, IfOk, IfErr, OnErr, IsSomeAnd};
+ghost use Rattle.std.specs.Prelude.{◌≡◌, ◌≤◌, ◌<◌, ◌↔◌, List, length, slice_get, IsTrue, IfOk, IfErr, OnErr, IsSomeAnd};
 ghost use Rattle.repo_name.specs.Naming.{name};
-ghost use Rattle.repo_pack.specs.PackLayout.{Item, IsPack, offset_of};
+ghost use Rattle.repo_pack.specs.PackLayout.{Item, IsPack, blobs_of, offset_of};
 ghost use Rattle.repo_pack.specs.PackReading.{HasHeader, HasKinds, HasLengths, blobs_in, header_in, IsFault, entry_of};
 
 use crate::faults::PackError;
@@ -79,6 +79,7 @@ impl<'a> PackView<'a> {
     /// A fault is the first one that stands: `Short`, `Empty`, `HeaderLength`, `BlobKind`, `Lengths`.
     pub fn read(bytes: &'a [u8]) -> Result<PackView<'a>, PackError>
         ensures ok { IfOk result (λ items. IsPack bytes.now items) }
+        ensures size { IfOk result (λ items. length (blobs_of items) ≤ length bytes.now) }
         ensures none { OnErr result ((items : List Item) → ¬ IsPack bytes.now items) }
         ensures fault { IfErr result (IsFault bytes.now) }
     {

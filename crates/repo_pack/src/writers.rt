@@ -1,9 +1,9 @@
 //! Packs as they are written.
 
 ghost use Rattle.std.specs.Prelude.{◌≡◌, ◌≤◌, ◌<◌, ◌+◌, ◌^◌, ◌++◌, [], ◌↔◌, length, IsTrue, IfOk, IfErr, OnOk, OnErr, IsErrOf, vec_len, vec_capacity};
-ghost use Rattle.std.specs.List.{sum_by};
+ghost use Rattle.std.specs.List.{All, sum_by};
 ghost use Rattle.repo_name.specs.Naming as naming;
-ghost use Rattle.repo_pack.specs.PackLayout.{item_of, IsTruePack};
+ghost use Rattle.repo_pack.specs.PackLayout.{item_of, IsTruePack, IsWithin};
 ghost use Rattle.repo_pack.specs.PackWriting.{IsDue, IsOpen, IsRefusal, with_item, ending_of, places_from, ArePlaces};
 
 use crate::faults::PackError;
@@ -204,6 +204,7 @@ impl PackWriter {
         ensures pack { IfOk result (λ sealed. IsTruePack sealed.bytes self.items) }
         ensures name { IfOk result (λ sealed. sealed.name ≡ naming.name sealed.bytes) }
         ensures places { IfOk result (λ sealed. ArePlaces sealed.name self.items sealed.places.items) }
+        ensures within { IfOk result (λ sealed. All (λ place. IsWithin place.offset place.length) sealed.places.items) }
         ensures size { IfOk result (λ sealed. length sealed.bytes ≤ 25_317_379) }
         ensures err { IfErr result (λ unsealed. unsealed.writer ≡ self) }
     {

@@ -1,102 +1,105 @@
-use Rattle.std.proofs.Common.{◌≡◌, ◌≤◌, ◌+◌, ◌^◌, ◌++◌, ◌∷◌, [], ℕ, List, Option, Some, None, Result, Ok, Err, length, take, flat_map, MatchOption, refl, sym, ap, subst, arith, inl, ◌∙◌}
-use Rattle.std.specs.Io.KnownBytes.{Appends}
-use Rattle.std.proofs.KnownBytes.{Appends-trans}
-use Rattle.std.proofs.Math.Seq.{take-length, take-append-add}
-use Rattle.std.proofs.lemmas.List.{append-nil}
-use Rattle.std.proofs.lemmas.List.Concat.{flat_map-append}
-use Rattle.repo_wire.specs.declared.faults.Fault.{Fault}
-use Rattle.repo_wire.specs.declared.faults.WireError.{WireError}
-use Rattle.repo_wire.specs.declared.messages.Code.{Code}
-use Rattle.repo_wire.specs.declared.messages.Say.{Say}
-use Rattle.repo_wire.specs.declared.messages.Reply.{Reply}
-use Rattle.repo_wire.specs.declared.messages.Request.{Request}
-use Rattle.repo_wire.specs.Messages.{requests}
-use Rattle.repo_wire.specs.Reading.{Reading, Follows, NextMessage}
-use Rattle.repo_wire.specs.Stream.{AreFrames, IsStream, Waits, Fails}
-use Rattle.repo_wire.proofs.Streams.{readers_follow}
+use Rattle.std.proofs.Common.{◌≡◌, ◌≢◌, ◌≤◌, ◌<◌, ◌+◌, ◌^◌, ◌++◌, ◌∷◌, [], ℕ, List, Option, Some, None, Result, Ok, Err, OnOk, length, refl, sym, ap, subst, arith, inl, append_assoc, length-append, ◌∙◌}
+use Rattle.std.specs.Prelude.{ok_or}
+use Rattle.hex.specs.Hex.{decode_of}
+use Rattle.repo_wire.specs.Stream.{Waits}
+use Rattle.repo_store.specs.declared.forms.ServiceError.{ServiceError}
+use Rattle.repo_store.specs.declared.memory.MemShelf.{MemShelf}
+use Rattle.repo_store.specs.declared.services.Service.{Service}
 use Rattle.repo_store.specs.Memory.{store_of}
+use Rattle.repo_store.specs.Services.{nothing, with_bytes, Has, Rests, Ends, EndsBy, AnswersAll, Finishes}
+use Rattle.repo_store.specs.Serving.{Past, seen}
+use Rattle.repo_store.specs.Stores.{Store, empty}
+use Rattle.repo_store.proofs.ServiceLemmas.{whole_served, all_served}
 use Rattle.repo_prog.specs.declared.errors.FramesError.{FramesError}
+use Rattle.repo_prog.specs.declared.output.HexLine.{HexLine}
 use Rattle.repo_prog.specs.declared.talks.Talk.{Talk}
-use Rattle.repo_prog.specs.FramesRun.{TellNoFault, Past, AllTold, SomeTold, Gives}
-use Rattle.repo_prog.specs.HexLines.{AreLines, printed, reply_line}
-use Rattle.repo_store.specs.Output.{AppendsPart}
-use Rattle.repo_prog.specs.Talks.{Has, Talks, RepliesNext, HasSameLines, with_reply, wire_error}
+use Rattle.repo_prog.specs.FramesRun.{AllTold, SomeTold, Gives}
+use Rattle.repo_prog.specs.HexLines.{AreLines, IsLine, Spell, hex_line, line_feed}
+use Rattle.repo_prog.specs.Talks.{Talks, TalksInside, LineGives, BytesGive, EndGives, frames_error}
+use Rattle.repo_prog.proofs.LineLemmas.{spell_more, line_more}
 
--- a reader's error is the talk's
-pub reply_failed : (past : Past) (old new : Talk) (error : WireError) → Has old past → NextMessage requests old.reader (Err error) new.reader → RepliesNext past (Err (wire_error error)) new
-reply_failed past old new (WireError.Fault fault) has h = (readers_follow requests).told past.bytes past.asked fault old.reader new.reader has.reader h
-reply_failed past old new WireError.Memory has h = tt
-
-left_at : (bytes : List ℕ) (asked : List Request) (unread : List ℕ) (told : Option Fault)
-    → MatchOption told (AreFrames requests bytes asked unread) (λ fault. IsStream requests bytes asked (Fails fault)) → (rest : List ℕ) × AreFrames requests bytes asked rest
-left_at bytes asked unread None h = (unread, h)
-left_at bytes asked unread (Some fault) h = (h.0, h.1)
-
--- some first part of the lines was written
-pub some_told : (start : Option (List ℕ)) (talk : Talk) (past : Past) (n : ℕ) (contents : Option (List ℕ)) → Has talk past
-    → Appends start contents (take n (printed past.replies)) → SomeTold start past contents
-some_told start talk past n contents has written = record {
-  spelled = has.spelled;
-  stream = left_at past.bytes past.asked talk.reader.unread talk.reader.fault has.reader;
-  answered = (store_of talk.shelf, has.run, has.sound);
-  written = (n, written);
+-- all lines of the replies so far were written
+pub all_told : (start : Option (List ℕ)) (talk : Talk) (lines : List (List ℕ)) (past : Past) (contents : Option (List ℕ)) → Talks start talk lines past contents
+    → AllTold start lines past (Waits talk.service.reader.unread) contents
+all_told start talk lines past contents talks = record {
+  spelled = talks.spelled;
+  last = store_of talk.shelf;
+  served = all_served hex_line (seen empty 0 start) talk.service past (seen (store_of talk.shelf) 0 contents) talks.rests;
 }
 
--- all of the lines are some of them
-pub whole_told : (start : Option (List ℕ)) (talk : Talk) (past : Past) (contents : Option (List ℕ)) → Talks start talk past contents → SomeTold start past contents
-whole_told start talk past contents talks =
-    let P : List ℕ → Type 0 = λ x. Appends start contents x in
-    some_told start talk past (length (printed past.replies)) contents talks.has (subst P (sym (take-length (printed past.replies))) talks.written)
+pub whole_told : (start : Option (List ℕ)) (talk : Talk) (lines : List (List ℕ)) (past : Past) (contents : Option (List ℕ)) → Talks start talk lines past contents
+    → SomeTold start lines past contents
+whole_told start talk lines past contents talks = record {
+  spelled = talks.spelled;
+  last = store_of talk.shelf;
+  served = whole_served hex_line (seen empty 0 start) talk.service past (seen (store_of talk.shelf) 0 contents) talks.rests.has;
+}
 
 -- no memory, after all lines were written
-pub memory_told : (input rest : List ℕ) (start : Option (List ℕ)) (talk : Talk) (past : Past) (contents : Option (List ℕ)) → AreLines input past.lines rest
-    → Talks start talk past contents → Gives input start (Err FramesError.Memory) contents
-memory_told input rest start talk past contents lines talks = (past, rest, lines, whole_told start talk past contents talks)
+pub memory_told : (input rest : List ℕ) (start : Option (List ℕ)) (talk : Talk) (lines : List (List ℕ)) (past : Past) (contents : Option (List ℕ)) → AreLines input lines rest
+    → Talks start talk lines past contents → Gives input start (Err FramesError.Memory) contents
+memory_told input rest start talk lines past contents are talks = (lines, past, rest, are, whole_told start talk lines past contents talks)
 
--- why there is no next reply is the answer
-pub reply_told : (input rest : List ℕ) (start : Option (List ℕ)) (talk new : Talk) (past : Past) (contents : Option (List ℕ)) (error : FramesError) → AreLines input past.lines rest
-    → Talks start talk past contents → RepliesNext past (Err error) new → Gives input start (Err error) contents
-reply_told input rest start talk new past contents (FramesError.Wire fault) lines talks h =
-    (past, rest, lines, record { spelled = talks.has.spelled; stream = h; answered = (store_of talk.shelf, talks.has.run, talks.has.sound); written = talks.written })
-reply_told input rest start talk new past contents FramesError.Memory lines talks h = memory_told input rest start talk past contents lines talks
-reply_told input rest start talk new past contents FramesError.Read lines talks h = absurd h
-reply_told input rest start talk new past contents FramesError.Write lines talks h = absurd h
-reply_told input rest start talk new past contents (FramesError.Hex n) lines talks h = absurd h
-reply_told input rest start talk new past contents FramesError.Inside lines talks h = absurd h
-reply_told input rest start talk new past contents FramesError.Limit lines talks h = absurd h
+-- why the service ended is why the talk does
+ended_past : (error : ServiceError) (input rest : List ℕ) (start : Option (List ℕ)) (lines : List (List ℕ)) (past : Past) (last : Store) (contents : Option (List ℕ))
+    → AreLines input lines rest → Spell lines past.bytes → EndsBy hex_line error (seen empty 0 start) past (seen last 0 contents) → Gives input start (Err (frames_error error)) contents
+ended_past (ServiceError.Wire fault) input rest start lines past last contents are spelled ends = (lines, past, rest, are, record { spelled = spelled; last = last; served = ends })
+ended_past ServiceError.Write input rest start lines past last contents are spelled ends = (lines, past, rest, are, record { spelled = spelled; last = last; served = ends })
+ended_past ServiceError.Limit input rest start lines past last contents are spelled ends = (lines, past, rest, are, record { spelled = spelled; last = last; served = ends.0 }, inl ends.1)
+ended_past ServiceError.Memory input rest start lines past last contents are spelled ends = (lines, past, rest, are, record { spelled = spelled; last = last; served = ends })
 
--- the lines of one more reply
-pub printed_more : (replies : List Reply) (reply : Reply) → printed (replies ++ reply ∷ []) ≡ printed replies ++ reply_line reply
-printed_more replies reply = flat_map-append reply_line replies (reply ∷ []) ∙ ap (λ x. printed replies ++ x) (append-nil (reply_line reply))
+pub ended_told : (error : ServiceError) (input rest : List ℕ) (start : Option (List ℕ)) (lines : List (List ℕ)) (bytes : List ℕ) (last : Store) (contents : Option (List ℕ))
+    → AreLines input lines rest → Spell lines bytes → Ends hex_line error (seen empty 0 start) bytes (seen last 0 contents) → Gives input start (Err (frames_error error)) contents
+ended_told error input rest start lines bytes last contents are spelled ends =
+    let P : List ℕ → Type 0 = λ x. Spell lines x in
+    ended_past error input rest start lines ends.0 last contents are (subst P (sym ends.1) spelled) ends.2
 
--- a line that was written in part
-pub line_told : (input rest : List ℕ) (start : Option (List ℕ)) (new : Talk) (past : Past) (request : Request) (reply : Reply) (a b : Option (List ℕ)) (line : List ℕ)
-    → AreLines input past.lines rest → Appends start a (printed past.replies) → Has new (with_reply past request reply) → line ≡ reply_line reply → AppendsPart a b line
-    → Gives input start (Err FramesError.Write) b
-line_told input rest start new past request reply a b line lines written has same part =
-    let p = printed past.replies in
-    let P : List ℕ → Type 0 = λ x. Appends start b x in
-    let more : p ++ take part.0 line ≡ take (length p + part.0) (printed (past.replies ++ reply ∷ [])) =
-    ap (λ x. p ++ take part.0 x) same ∙ sym (take-append-add p (reply_line reply) part.0) ∙ ap (take (length p + part.0)) (sym (printed_more past.replies reply)) in (
-      with_reply past request reply,
-      rest,
-      lines,
-      some_told start new (with_reply past request reply) (length p + part.0) b has (subst P more (Appends-trans start a b p (take part.0 line) written part.2)),
-    )
+-- a service that answered all of a line's bytes
+pub line_answered : (start : Option (List ℕ)) (talk : Talk) (lines : List (List ℕ)) (bytes : List ℕ) (contents : Option (List ℕ)) → Spell lines bytes → talk.number ≡ length lines
+    → AnswersAll hex_line (Ok tt) (seen empty 0 start) bytes talk.service (seen (store_of talk.shelf) 0 contents) → (past : Past) × Talks start talk lines past contents
+line_answered start talk lines bytes contents spelled number a =
+    let P : List ℕ → Type 0 = λ x. Spell lines x in
+    (a.0, record { spelled = subst P (sym a.1) spelled; rests = a.2; number = number })
 
--- the lines of the input are those of a past with the same lines
-pub same_lines : (input rest : List ℕ) (past next : Past) → HasSameLines past next → AreLines input past.lines rest → AreLines input next.lines rest
-same_lines input rest past next same lines =
-    let P : List (List ℕ) → Type 0 = λ x. AreLines input x rest in
-    subst P (sym same.lines) lines
+-- a line that ended, and nothing of the next
+pub ended_goes : (input ahead : List ℕ) (start : Option (List ℕ)) (new : Talk) (lines : List (List ℕ)) (result : Result (Unit {0}) FramesError) (contents : Option (List ℕ))
+    → AreLines input lines ahead → OnOk result (new.line.items ≡ []) → LineGives input start lines result new contents → BytesGive input start result new ahead contents
+ended_goes input ahead start new lines (Ok done) contents ended none h =
+    let P : List ℕ → Type 0 = λ line. IsLine line in
+    let Q : List ℕ → Type 0 = λ line. AreLines input lines (line ++ ahead) in
+    (lines, h.0, record { talks = h.1; line = subst P (sym none) tt; are = subst Q (sym none) ended })
+ended_goes input ahead start new lines (Err error) contents ended none h = h
 
--- as many requests were answered as may be
-pub limit_told : (input rest : List ℕ) (start : Option (List ℕ)) (talk : Talk) (past : Past) (contents : Option (List ℕ)) → AreLines input past.lines rest
-    → Talks start talk past contents → 2 ^ 32 ≤ talk.answered → Gives input start (Err FramesError.Limit) contents
-limit_told input rest start talk past contents lines talks many =
-    (past, rest, lines, whole_told start talk past contents talks, inl (omega (arith, talks.has.answered)))
+-- the last line that ended
+pub last_goes : (input : List ℕ) (start : Option (List ℕ)) (new : Talk) (lines : List (List ℕ)) (result : Result (Unit {0}) FramesError) (contents : Option (List ℕ))
+    → AreLines input lines [] → LineGives input start lines result new contents → EndGives input start result new contents
+last_goes input start new lines (Ok done) contents ended h = (lines, h.0, ended, h.1)
+last_goes input start new lines (Err error) contents ended h = h
 
--- one more reply that tells no fault
-pub sound_more : (replies : List Reply) (reply : Reply) → TellNoFault replies → (reply.say ≡ Say.Refused Code.Fault → ⊥) → TellNoFault (replies ++ reply ∷ [])
-sound_more [] reply h sound = (sound, tt)
-sound_more (r ∷ replies) reply h sound = (h.0, sound_more replies reply h.1 sound)
+-- one more byte of the line
+pub byte_taken : (input ahead : List ℕ) (start : Option (List ℕ)) (old new : Talk) (lines : List (List ℕ)) (past : Past) (contents : Option (List ℕ)) (byte : ℕ) → (byte ≡ line_feed → ⊥)
+    → new.line.items ≡ old.line.items ++ byte ∷ [] → new.service ≡ old.service → new.shelf ≡ old.shelf → new.number ≡ old.number
+    → TalksInside input start old lines past (byte ∷ ahead) contents → TalksInside input start new lines past ahead contents
+byte_taken input ahead start old new lines past contents byte other line service shelf number r =
+    let P : List ℕ → Type 0 = λ x. IsLine x in
+    let Q : List ℕ → Type 0 = λ x. AreLines input lines x in
+    let R : Service HexLine → Type 0 = λ s. Rests hex_line (seen empty 0 start) s past (seen (store_of new.shelf) 0 contents) in
+    let S : MemShelf → Type 0 = λ s. Rests hex_line (seen empty 0 start) old.service past (seen (store_of s) 0 contents) in
+    record {
+      talks = record { spelled = r.talks.spelled; rests = subst R (sym service) (subst S (sym shelf) r.talks.rests); number = number ∙ r.talks.number };
+      line = subst P (sym line) (line_more old.line.items byte r.line other);
+      are = subst Q (sym (ap (λ x. x ++ ahead) line ∙ append_assoc old.line.items (byte ∷ []) ahead)) r.are;
+    }
+
+-- a new talk is before the input
+pub begun : (input : List ℕ) (start : Option (List ℕ)) (talk : Talk) → Talks start talk [] nothing start → talk.line.items ≡ [] → TalksInside input start talk [] nothing input start
+begun input start talk talks none =
+    let P : List ℕ → Type 0 = λ line. IsLine line in
+    let Q : List ℕ → Type 0 = λ line. AreLines input [] (line ++ input) in
+    record { talks = talks; line = subst P (sym none) tt; are = subst Q (sym none) refl }
+
+-- what the end of the service's stream gives is what the talk gives
+pub finish_told : (input : List ℕ) (start : Option (List ℕ)) (lines : List (List ℕ)) (past : Past) (last : Store) (contents : Option (List ℕ)) (found : Option ℕ) → AreLines input lines []
+    → Spell lines past.bytes → Finishes hex_line (seen empty 0 start) past found (seen last 0 contents) → Gives input start (ok_or found FramesError.Inside) contents
+finish_told input start lines past last contents (Some n) are spelled h = (lines, past, are, record { spelled = spelled; last = last; served = h.1 }, h.0)
+finish_told input start lines past last contents None are spelled h = (lines, past, h.0, are, h.1, record { spelled = spelled; last = last; served = h.2 })

@@ -1,9 +1,18 @@
-use Rattle.std.specs.Prelude.{◌≤◌, ⊤, ℕ, List, Option, Result, Ok, Err}
-use Rattle.repo_prog.specs.declared.status.Status.{Status}
-use Rattle.repo_tree.specs.ConfigText.{IsTarget}
-use Rattle.repo_prog.specs.declared.words.Order.{Order}
+use Rattle.std.specs.Prelude.{◌≤◌, ◌++◌, ◌∷◌, [], ⊤, ℕ, List, Option, Result, Ok, Err, codes}
+use Rattle.std.specs.Io.KnownBytes.{Appends}
+use Rattle.hex.specs.Hex.{encode_lower}
+use Rattle.repo_name.specs.declared.names.Instance.{Instance}
+use Rattle.repo_store.specs.declared.making.InitError.{InitError}
+use Rattle.repo_store.specs.Making.{Makes}
+use Rattle.repo_store.specs.Output.{AppendsPart}
+use Rattle.repo_store.specs.Stores.{Store}
+use Rattle.repo_tree.specs.declared.configs.Config.{Config}
+use Rattle.repo_tree.specs.ConfigText.{IsTarget, config_text}
 use Rattle.repo_prog.specs.declared.errors.FramesError.{FramesError}
+use Rattle.repo_prog.specs.declared.status.Status.{Status}
+use Rattle.repo_prog.specs.declared.words.Order.{Order}
 use Rattle.repo_prog.specs.FramesRun.{Gives}
+use Rattle.repo_prog.specs.HexLines.{line_feed}
 
 -- the exit status of each end
 abbrev pub status_code : Status → ℕ
@@ -22,3 +31,17 @@ abbrev pub FramesGives : List ℕ → Option (List ℕ) → Status → Option (L
 FramesGives input start Status.Done contents = (n : ℕ) × Gives input start (Ok n) contents
 FramesGives input start Status.Failed contents = (error : FramesError) × Gives input start (Err error) contents
 FramesGives input start Status.Usage contents = ⊥
+
+-- the line that tells a new store's instance
+abbrev pub created_line : Instance → List ℕ
+created_line id = codes "created " ++ encode_lower id.0 ++ line_feed ∷ []
+
+-- the line that tells that a server listens
+abbrev pub listening_line : List ℕ
+listening_line = codes "listening" ++ line_feed ∷ []
+
+-- what making a store gives: it was made, and its line was written; or an error left what it leaves, and some first part of the line was written
+abbrev pub InitGives : Config → Store → Option (List ℕ) → Status → Store → Option (List ℕ) → Type 0
+InitGives config old start Status.Done new contents = Makes (config_text config) old (Ok tt) new × Appends start contents (created_line config.id)
+InitGives config old start Status.Failed new contents = ((result : Result (Unit {0}) InitError) × Makes (config_text config) old result new) × AppendsPart start contents (created_line config.id)
+InitGives config old start Status.Usage new contents = ⊥

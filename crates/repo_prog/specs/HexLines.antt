@@ -1,8 +1,5 @@
-use Rattle.std.specs.Prelude.{◌≡◌, ◌≢◌, ◌⊎◌, ◌++◌, ◌∷◌, [], ⊤, ℕ, List, flat_map, Ok}
+use Rattle.std.specs.Prelude.{◌≡◌, ◌≢◌, ◌⊎◌, ◌++◌, ◌∷◌, [], ⊤, ℕ, List, Ok}
 use Rattle.hex.specs.Hex.{decode_of, encode_lower}
-use Rattle.repo_wire.specs.declared.messages.Reply.{Reply}
-use Rattle.repo_wire.specs.Messages.{reply_body}
-use Rattle.repo_wire.specs.Stream.{frame}
 
 -- the byte that ends a line
 abbrev pub line_feed : ℕ
@@ -29,10 +26,6 @@ Spell (line ∷ lines) bytes = (first : List ℕ) × (rest : List ℕ) × (decod
 abbrev pub IsNotHex : List ℕ → Type 0
 IsNotHex line = (bytes : List ℕ) → decode_of line ≢ Ok bytes
 
--- a reply's line: its frame in hexadecimal, lower case
-abbrev pub reply_line : Reply → List ℕ
-reply_line reply = encode_lower (frame (reply_body reply)) ++ line_feed ∷ []
-
--- the lines of some replies
-abbrev pub printed : List Reply → List ℕ
-printed replies = flat_map reply_line replies
+-- the line of a frame: its bytes in hexadecimal, lower case, and a line feed
+abbrev pub hex_line : List ℕ → List ℕ
+hex_line bytes = encode_lower bytes ++ line_feed ∷ []

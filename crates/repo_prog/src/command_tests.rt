@@ -1,16 +1,17 @@
 //! The command line's words, and the commands on a folder and a socket.
 
 use crate::commands::run;
-use crate::listening::serve_connections;
+use crate::errors::FramesError;
+use crate::listening::{serve_connections, serve_folder};
 use crate::making::init_command;
-use crate::status::{Status, refuse_words};
+use crate::status::{Status, failed, refuse_words};
 use repo_chunk::Params;
 use repo_name::Instance;
-use repo_store::MemShelf;
+use repo_store::{InitError, MemShelf, ServeError};
 use repo_tree::Config;
 use std::alloc::AllocError;
 use std::io::{Read, Write};
-use std::net::{TcpListener, TcpStream};
+use std::net::{OpenListener, SocketAddr, TcpListener, TcpStream};
 use std::test::Fail;
 use std::{env, fs, io};
 
@@ -132,6 +133,34 @@ fn a_folder_that_is_not_there_is_not_served(rt: HostRuntime) -> Result<(), Fail>
     Ok(())
 }
 
+/// Words that end with these texts, before or after the path of a folder that is there and is a store. An
+/// address that can't be listened to, a folder that is a file, an address that is none.
+#[test]
+fn commands_on_a_folder_and_their_texts(rt: HostRuntime) -> Result<(), Fail> {
+    let root = folder(rt, "texts")?;
+    let made = around(rt, "vault init ", root.as_str(), "")?;
+    assert_eq!(rt; ran(rt, made.as_str())?.status, Status::Done);
+    let taken = TcpListener::bind(&rt, "127.0.0.1:0")?;
+    let address = taken.local_addr()?;
+    let busy = format!(in rt.alloc(); " {address}")?;
+    for (before, after, text) in [
+        ("vault init ", "", "exists\n"),
+        ("vault init ", "/config", "shelf failed\n"),
+        ("vault serve ", "/config 127.0.0.1:0", "shelf failed\n"),
+        ("vault serve ", "/away 127.0.0.1:0", "shelf failed\n"),
+        ("vault serve ", " nowhere", "not reached\n"),
+        ("vault serve ", busy.as_str(), "not reached\n"),
+    ] {
+        let words = around(rt, before, root.as_str(), after)?;
+        let ended = ran(rt, words.as_str())?;
+        assert_eq!(rt; ended.status, Status::Failed, "of {words}");
+        assert_eq!(rt; ended.faults.as_slice(), text.as_bytes(), "of {words}");
+        assert!(rt; ended.output.is_empty(), "of {words}");
+    }
+    fs::remove_dir_all(&rt, root.as_str())?;
+    Ok(())
+}
+
 #[test]
 fn init_tells_the_instance(rt: HostRuntime) -> Result<(), Fail> {
     let alloc = rt.alloc();
@@ -181,5 +210,186 @@ fn connections_are_served_one_after_another(rt: HostRuntime) -> Result<(), Fail>
     let mut none = Vec::new(alloc);
     other.read_to_end(&mut none)?;
     assert!(rt; none.is_empty());
+    Ok(())
+}
+
+/// A listener that gives no connection.
+#[derive(Drop)]
+struct Deaf;
+
+impl OpenListener for Deaf {
+    type Stream = TcpStream;
+
+    fn accept(&self) -> io::Result<(TcpStream, SocketAddr)> {
+        Err(io::Error::from(io::ErrorKind::ConnectionAborted))
+    }
+}
+
+#[test]
+fn connections_that_cannot_be_taken_count(rt: HostRuntime) {
+    let mut shelf = MemShelf::new(rt.alloc());
+    let mut faults = Vec::new(rt.alloc());
+    let status = serve_connections(rt.alloc(), &Deaf, 2, &mut shelf, &mut faults);
+    assert_eq!(rt; status, Status::Failed);
+    assert_eq!(rt; faults.as_slice(), b"read failed\nread failed\n".as_slice());
+}
+
+/// An output that calls back: when it is told that the server listens, it connects to it and asks. With
+/// nothing to ask, it can't be written to.
+#[derive(Drop)]
+struct Caller {
+    rt: HostRuntime,
+    address: SocketAddr,
+    asks: Vec<u8>,
+    told: Vec<u8>,
+    client: Option<TcpStream>,
+}
+
+impl Write for Caller {
+    fn write(&mut self, buf: &[u8]) -> io::Result<usize> {
+        if self.asks.as_slice().is_empty() {
+            return Err(io::Error::from(io::ErrorKind::BrokenPipe));
+        }
+        if self.client.is_none() {
+            let mut client = TcpStream::connect(&self.rt, self.address)?;
+            client.write_all(self.asks.as_slice())?;
+            client.shutdown(std::net::Shutdown::Write)?;
+            self.client = Some(client);
+        }
+        self.told.extend_from_slice(buf)?;
+        Ok(buf.len())
+    }
+
+    fn flush(&mut self) -> io::Result<()> {
+        Ok(())
+    }
+}
+
+/// Serves a folder to one client that asks these bytes, on a port that was free: the status and the
+/// fault, what was told, and the reply.
+fn served(rt: HostRuntime, root: &str, asks: &[u8]) -> Result<(Outcome, Vec<u8>), Fail> {
+    let alloc = rt.alloc();
+    let free = TcpListener::bind(&rt, "127.0.0.1:0")?;
+    let address = free.local_addr()?;
+    drop(free);
+    let mut caller = Caller {
+        rt,
+        address,
+        asks: asks.to_vec(alloc)?,
+        told: Vec::new(alloc),
+        client: None,
+    };
+    let place = format!(in alloc; "{address}")?;
+    let mut faults = Vec::new(alloc);
+    let status = serve_folder(&rt, root, place.as_str(), 1, &mut caller, &mut faults);
+    let mut reply = Vec::new(alloc);
+    if let Some(mut client) = caller.client.take() {
+        client.read_to_end(&mut reply)?;
+    }
+    let output = caller.told.to_vec(alloc)?;
+    Ok((
+        Outcome {
+            status,
+            output,
+            faults,
+        },
+        reply,
+    ))
+}
+
+// The second ticket is token 2, since the folder kept the first.
+#[test]
+fn a_folder_is_served(rt: HostRuntime) -> Result<(), Fail> {
+    let root = folder(rt, "served")?;
+    let made = around(rt, "vault init ", root.as_str(), "")?;
+    assert_eq!(rt; ran(rt, made.as_str())?.status, Status::Done);
+    let ticket = hex::decode(rt.alloc(), TICKET)?;
+    let second = "00000021810101010101010101010101010101010100000000000000010000000000000002";
+    let told = "listening\n";
+    for (asks, status, told, fault, reply) in [
+        (ticket.as_slice(), Status::Done, told, "", TOKEN),
+        (
+            [0, 0, 0, 24].as_slice(),
+            Status::Failed,
+            told,
+            "malformed\n",
+            "",
+        ),
+        ([0, 0].as_slice(), Status::Failed, told, "malformed\n", ""),
+        ([].as_slice(), Status::Failed, "", "write failed\n", ""),
+        (ticket.as_slice(), Status::Done, told, "", second),
+    ] {
+        let (ended, replied) = served(rt, root.as_str(), asks)?;
+        assert_eq!(rt; ended.status, status);
+        assert_eq!(rt; ended.output.as_slice(), told.as_bytes());
+        assert_eq!(rt; ended.faults.as_slice(), fault.as_bytes());
+        let digits = hex::encode(rt.alloc(), replied.as_slice())?;
+        assert_eq!(rt; digits.as_str(), reply);
+    }
+    fs::remove_dir_all(&rt, root.as_str())?;
+    Ok(())
+}
+
+#[test]
+fn texts_of_errors(rt: HostRuntime) {
+    let mut faults = Vec::new(rt.alloc());
+    for error in [ServeError::Read, ServeError::Write, ServeError::Malformed] {
+        assert_eq!(rt; failed(&mut faults, &error), Status::Failed);
+    }
+    for error in [ServeError::Limit, ServeError::Memory] {
+        assert_eq!(rt; failed(&mut faults, &error), Status::Failed);
+    }
+    for error in [
+        FramesError::Read,
+        FramesError::Write,
+        FramesError::Limit,
+        FramesError::Memory,
+    ] {
+        assert_eq!(rt; failed(&mut faults, &error), Status::Failed);
+    }
+    for error in [InitError::Exists, InitError::Fault, InitError::Memory] {
+        assert_eq!(rt; failed(&mut faults, &error), Status::Failed);
+    }
+    let texts = "read failed\nwrite failed\nmalformed\nlimit\nout of memory\n\
+                 read failed\nwrite failed\nlimit\nout of memory\n\
+                 exists\nshelf failed\nout of memory\n";
+    assert_eq!(rt; faults.as_slice(), texts.as_bytes());
+}
+
+/// An output that can't be written to.
+#[derive(Drop)]
+struct Shut;
+
+impl Write for Shut {
+    fn write(&mut self, _buf: &[u8]) -> io::Result<usize> {
+        Err(io::Error::from(io::ErrorKind::BrokenPipe))
+    }
+
+    fn flush(&mut self) -> io::Result<()> {
+        Ok(())
+    }
+}
+
+#[test]
+fn a_store_whose_line_is_not_written_is_made(rt: HostRuntime) -> Result<(), Fail> {
+    let alloc = rt.alloc();
+    let Ok(params) = Params::new(64, 128, 6) else {
+        assert!(rt; false, "these are lawful");
+        return Ok(());
+    };
+    let config = Config {
+        version: 1,
+        id: Instance([0; 16]),
+        params,
+        target: 1024,
+    };
+    let mut shelf = MemShelf::new(alloc);
+    let mut faults = Vec::new(alloc);
+    for text in ["write failed\n", "exists\n"] {
+        faults.clear();
+        let status = init_command(alloc, &mut shelf, &config, &mut Shut, &mut faults);
+        assert_eq!(rt; status, Status::Failed);
+        assert_eq!(rt; faults.as_slice(), text.as_bytes());
+    }
     Ok(())
 }

@@ -24,7 +24,9 @@ pub fn frames_command<R: Read, W: Write, F: Write>(
     output: &mut W,
     faults: &mut F,
 ) -> Status
-    ensures { (text : List ℕ) → R.remaining input.old ≡ Some text → FramesGives text (W.contents output.old) result (W.contents output.new) }
+    ensures gives { (text : List ℕ) → R.remaining input.old ≡ Some text → FramesGives text (W.contents output.old) result (W.contents output.new) }
+    ensures silent { result ≡ Status.Done → faults.new ≡ faults.old }
+    ensures status { result ≢ Status.Usage }
 {
     match frames(alloc, input, output) {
         Ok(_) => Status::Done,
@@ -34,7 +36,9 @@ pub fn frames_command<R: Read, W: Write, F: Write>(
 
 /// Shows `clap`'s text: its help on the output, and else its refusal on the faults.
 fn show<W: Write, F: Write>(error: &clap::Error, output: &mut W, faults: &mut F) -> Status
-    ensures { result ≢ Status.Failed }
+    ensures status { result ≢ Status.Failed }
+    ensures silent { result ≡ Status.Done → faults.new ≡ faults.old }
+    ensures usage { result ≡ Status.Usage → output.new ≡ output.old }
 {
     if error.use_stderr() {
         let _ = write!(faults, "{error}");
@@ -46,7 +50,7 @@ fn show<W: Write, F: Write>(error: &clap::Error, output: &mut W, faults: &mut F)
 }
 
 /// Does what is asked for. Of `vault frames` all is said that `frames` says; of the others, nothing that
-/// a folder or a socket would have to keep.
+/// a folder or a socket would have to keep. Where it is done, no fault was told.
 pub fn perform<
     T: Files + Net + AllocGlobal + RandomSource + Clone + Drop,
     R: Read,
@@ -54,6 +58,9 @@ pub fn perform<
     F: Write,
 >(rt: &T, order: &Order, input: &mut R, output: &mut W, faults: &mut F) -> Status
     requires { IsOrder order.now }
+    ensures silent { result ≡ Status.Done → faults.new ≡ faults.old }
+    ensures status { result ≢ Status.Usage }
+    ensures unread { order.now ≢ Order.Frames → input.new ≡ input.old }
     ensures frames { order.now ≡ Order.Frames → (text : List ℕ) → R.remaining input.old ≡ Some text → FramesGives text (W.contents output.old) result (W.contents output.new) }
 {
     match order {
@@ -74,14 +81,18 @@ pub fn perform<
     }
 }
 
-/// Does what the words ask for, the program's name first.
+/// Does what the words ask for, the program's name first. Where they make no command nothing is read, and
+/// nothing is written but the fault. What words mean is `clap`'s, and no clause.
 pub fn run<T: Files + Net + AllocGlobal + RandomSource + Clone + Drop, R: Read, W: Write, F: Write>(
     rt: &T,
     words: &[String],
     input: &mut R,
     output: &mut W,
     faults: &mut F,
-) -> Status {
+) -> Status
+    ensures silent { result ≡ Status.Done → faults.new ≡ faults.old }
+    ensures usage { result ≡ Status.Usage → (input.new ≡ input.old) × (output.new ≡ output.old) }
+{
     match order_of(rt.alloc(), words) {
         Ok(order) => perform(rt, &order, input, output, faults),
         Err(WordsError::Clap(error)) => show(&error, output, faults),

@@ -1,7 +1,7 @@
 //! Why `frames` ended before the input did.
 
-use repo_store::Unwritten;
-use repo_wire::{Fault, WireError};
+use repo_store::ServiceError;
+use repo_wire::Fault;
 use std::alloc::AllocError;
 use thiserror::Error;
 
@@ -43,27 +43,18 @@ impl From<AllocError> for FramesError {
     }
 }
 
-impl From<WireError> for FramesError {
+impl From<ServiceError> for FramesError {
     ghost use Rattle.std.specs.Prelude.{◌≡◌};
-    ghost use Rattle.repo_prog.specs.Talks.{wire_error};
+    ghost use Rattle.repo_prog.specs.Talks.{frames_error};
 
-    ghost from_gives = { λ e r. r ≡ wire_error e };
+    ghost from_gives = { λ e r. r ≡ frames_error e };
 
-    fn from(error: WireError) -> FramesError {
+    fn from(error: ServiceError) -> FramesError {
         match error {
-            WireError::Fault(fault) => FramesError::Wire(fault),
-            WireError::Memory => FramesError::Memory,
+            ServiceError::Wire(fault) => FramesError::Wire(fault),
+            ServiceError::Write => FramesError::Write,
+            ServiceError::Limit => FramesError::Limit,
+            ServiceError::Memory => FramesError::Memory,
         }
-    }
-}
-
-impl From<Unwritten> for FramesError {
-    ghost use Rattle.std.specs.Prelude.{◌≡◌};
-    ghost use Rattle.repo_prog.specs.declared.errors.FramesError.{FramesError};
-
-    ghost from_gives = { λ e r. r ≡ FramesError.Write };
-
-    fn from(_: Unwritten) -> FramesError {
-        FramesError::Write
     }
 }

@@ -9,7 +9,7 @@
 //! file gives or takes.
 //!
 //! The definitions stand in `specs/`: `HexLines` (lines, and the bytes that they spell), `FramesRun`
-//! (what `frames` gives), `Talks` (what holds while it runs).
+//! (what `frames` gives), `Talks` (what holds while it runs), `Commands` (what the commands give).
 #![tactic(auto)]
 
 #[cfg(test)]

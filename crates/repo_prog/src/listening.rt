@@ -1,8 +1,14 @@
 //! `vault serve`.
 
+ghost use Rattle.std.specs.Prelude.{◌≡◌, ◌≢◌, IsErr};
+ghost use Rattle.std.specs.Io.KnownBytes.{Appends};
+ghost use Rattle.repo_store.specs.Serving.{Ran};
+ghost use Rattle.repo_prog.specs.Commands.{listening_line};
+ghost use Rattle.repo_prog.specs.declared.status.Status.{Status};
+
 use crate::status::{Status, failed};
 use repo_files::DirShelf;
-use repo_store::{ServeError, Shelf, serve};
+use repo_store::{ServeError, Shelf, serve, write_whole};
 use std::alloc::{AllocGlobal, Global};
 use std::fs::Files;
 use std::io::{Read, Write};
@@ -14,7 +20,8 @@ fn serve_stream<T: Read + Write + OpenStream + Drop, S: Shelf>(
     mut stream: T,
     shelf: &mut S,
 ) -> Result<u64, ServeError>
-    ensures { S.honest shelf.old → S.honest shelf.new }
+    ensures runs { S.honest shelf.old → Ran (S.store shelf.old) (S.failed shelf.old) (S.store shelf.new) (S.failed shelf.new) }
+    ensures honest { S.honest shelf.old → S.honest shelf.new }
 {
     let Ok(mut reader) = stream.try_clone() else {
         return Err(ServeError::Read);
@@ -22,9 +29,41 @@ fn serve_stream<T: Read + Write + OpenStream + Drop, S: Shelf>(
     serve(alloc, &mut reader, &mut stream, shelf)
 }
 
+/// Takes the next connection, and serves it.
+fn serve_next<L: OpenListener, S: Shelf>(
+    alloc: Global,
+    listener: &L,
+    shelf: &mut S,
+) -> Result<u64, ServeError>
+where
+    L::Stream: Read + Write + OpenStream,
+    ensures runs { S.honest shelf.old → Ran (S.store shelf.old) (S.failed shelf.old) (S.store shelf.new) (S.failed shelf.new) }
+    ensures honest { S.honest shelf.old → S.honest shelf.new }
+{
+    match listener.accept() {
+        Ok((stream, _)) => serve_stream(alloc, stream, shelf),
+        Err(_) => Err(ServeError::Read),
+    }
+}
+
+/// The status after a connection: where it ended by an error the text is told.
+fn status_after<F: Write>(status: Status, served: Result<u64, ServeError>, faults: &mut F) -> Status
+    ensures silent { result ≡ Status.Done → (status ≡ Status.Done) × (faults.new ≡ faults.old) }
+    ensures usage { status ≢ Status.Usage → result ≢ Status.Usage }
+    ensures failed { IsErr served → result ≡ Status.Failed }
+{
+    match served {
+        Ok(_) => status,
+        Err(error) => failed(faults, &error),
+    }
+}
+
 /// Takes so many connections of a bound listener, one after another, and serves each. Where one ends by
 /// an error its text is told, the next is served, and the status at the end is `Failed`. A connection
 /// that can't be taken counts, with the text `read failed`.
+///
+/// Whatever the connections bring, the shelf is where a run of the machine leads. That as many are taken
+/// as was said is no clause, since a listener tells no contract what it took.
 pub fn serve_connections<L: OpenListener, S: Shelf, F: Write>(
     alloc: Global,
     listener: &L,
@@ -34,23 +73,22 @@ pub fn serve_connections<L: OpenListener, S: Shelf, F: Write>(
 ) -> Status
 where
     L::Stream: Read + Write + OpenStream,
-    ensures { S.honest shelf.old → S.honest shelf.new }
+    ensures runs { S.honest shelf.old → Ran (S.store shelf.old) (S.failed shelf.old) (S.store shelf.new) (S.failed shelf.new) }
+    ensures honest { S.honest shelf.old → S.honest shelf.new }
+    ensures silent { result ≡ Status.Done → faults.new ≡ faults.old }
+    ensures status { result ≢ Status.Usage }
 {
     let mut status = Status::Done;
     for turn in 0..connections {
-        let served = match listener.accept() {
-            Ok((stream, _)) => serve_stream(alloc, stream, shelf),
-            Err(_) => Err(ServeError::Read),
-        };
-        if let Err(error) = served {
-            status = failed(faults, &error);
-        }
+        let served = serve_next(alloc, listener, shelf);
+        status = status_after(status, served, faults);
     }
     status
 }
 
 /// `vault serve`: opens the store in a folder, binds the address, writes `listening` on a line, and
-/// serves so many connections.
+/// serves so many connections. A folder that can't be opened is told as `shelf failed`, an address as `not
+/// reached`, a line that can't be written as `write failed`; then nothing is served.
 pub fn serve_folder<R: Files + Net + AllocGlobal + Clone + Drop, W: Write, F: Write>(
     rt: &R,
     folder: &str,
@@ -58,14 +96,18 @@ pub fn serve_folder<R: Files + Net + AllocGlobal + Clone + Drop, W: Write, F: Wr
     connections: u64,
     output: &mut W,
     faults: &mut F,
-) -> Status {
+) -> Status
+    ensures silent { result ≡ Status.Done → faults.new ≡ faults.old }
+    ensures status { result ≢ Status.Usage }
+    ensures written { result ≡ Status.Done → Appends (W.contents output.old) (W.contents output.new) listening_line }
+{
     let Ok(mut shelf) = DirShelf::open(rt, folder) else {
         return failed(faults, &"shelf failed");
     };
     let Ok(listener) = TcpListener::bind(rt, address) else {
         return failed(faults, &"not reached");
     };
-    if writeln!(output, "listening").is_err() || output.flush().is_err() {
+    if write_whole(output, b"listening\n").is_err() || output.flush().is_err() {
         return failed(faults, &"write failed");
     }
     serve_connections(rt.alloc(), &listener, connections, &mut shelf, faults)

@@ -1,8 +1,11 @@
 //! `vault init`.
 
-ghost use Rattle.std.specs.Prelude.{◌≡◌, Ok, IfOk};
-ghost use Rattle.repo_tree.specs.ConfigText.{config_text, IsTarget};
-ghost use Rattle.repo_store.specs.Making.{Makes};
+ghost use Rattle.std.specs.Prelude.{◌≡◌, ◌≢◌, IfOk, string_bytes};
+ghost use Rattle.std.specs.Io.KnownBytes.{Appends};
+ghost use Rattle.repo_name.specs.declared.names.Instance.{Instance};
+ghost use Rattle.repo_name.specs.Naming.{IsInstance};
+ghost use Rattle.repo_tree.specs.ConfigText.{IsTarget};
+ghost use Rattle.repo_prog.specs.Commands.{created_line, InitGives};
 ghost use Rattle.repo_prog.specs.declared.status.Status.{Status};
 
 use crate::status::{Status, failed};
@@ -11,16 +14,18 @@ use rand::rngs::SysRng;
 use rand_core::TryRng;
 use repo_files::DirShelf;
 use repo_name::Instance;
-use repo_store::{Shelf, init};
+use repo_store::{InitError, Shelf, init, write_whole};
 use repo_tree::Config;
-use std::alloc::{AllocGlobal, Global};
+use std::alloc::{AllocError, AllocGlobal, Global};
 use std::fs::Files;
 use std::io;
 use std::io::Write;
 use std::random::RandomSource;
 
 /// Sixteen bytes from the machine's source of random bytes: two numbers of 64 bits, each big-endian.
-pub fn random_instance<R: RandomSource>(rt: &R) -> io::Result<Instance> {
+pub fn random_instance<R: RandomSource>(rt: &R) -> io::Result<Instance>
+    ensures { IfOk result IsInstance }
+{
     let mut source = SysRng::new(rt);
     let mut instance = [0u8; 16];
     let (first, second) = instance.split_at_mut(8);
@@ -29,10 +34,15 @@ pub fn random_instance<R: RandomSource>(rt: &R) -> io::Result<Instance> {
     Ok(Instance(instance))
 }
 
-/// Writes the line that tells a store's instance.
-fn show_created<W: Write>(alloc: Global, id: &Instance, output: &mut W) -> io::Result<()> {
+/// The line that tells a store's instance.
+fn created_line(alloc: Global, id: &Instance) -> Result<String, AllocError>
+    ensures { IfOk result (λ line. string_bytes line ≡ created_line id.now) }
+{
     let digits = hex::encode(alloc, &id.0)?;
-    writeln!(output, "created {digits}")
+    let mut line = String::from_str(alloc, "created ")?;
+    line.push_str(digits.as_str())?;
+    line.push('\n')?;
+    Ok(line)
 }
 
 /// Keeps the config on a shelf that has none, and writes `created` and the config's instance in
@@ -47,19 +57,27 @@ pub fn init_command<S: Shelf, W: Write, F: Write>(
 ) -> Status
     requires version { config.now.version ≡ 1 }
     requires target { IsTarget config.now.target }
-    ensures made { result ≡ Status.Done → S.honest shelf.old → Makes (config_text config.now) (S.store shelf.old) (Ok tt) (S.store shelf.new) }
+    ensures gives { S.honest shelf.old → InitGives config.now (S.store shelf.old) (W.contents output.old) result (S.store shelf.new) (W.contents output.new) }
     ensures honest { S.honest shelf.old → S.honest shelf.new }
+    ensures silent { result ≡ Status.Done → faults.new ≡ faults.old }
+    ensures status { result ≢ Status.Usage }
+    ensures written { result ≡ Status.Done → Appends (W.contents output.old) (W.contents output.new) (created_line config.now.id) }
 {
+    let line = match created_line(alloc, &config.id) {
+        Ok(line) => line,
+        Err(_) => return failed(faults, &InitError::Memory),
+    };
     if let Err(error) = init(alloc, shelf, config) {
         return failed(faults, &error);
     }
-    match show_created(alloc, &config.id, output) {
+    match write_whole(output, line.as_bytes()) {
         Ok(()) => Status::Done,
-        Err(_) => failed(faults, &"write failed"),
+        Err(error) => failed(faults, &error),
     }
 }
 
-/// `vault init`: makes a store in a folder, which is made where it isn't there.
+/// `vault init`: makes a store in a folder, which is made where it isn't there. That the folder keeps it
+/// is a premise about the machine.
 pub fn init_folder<R: Files + AllocGlobal + RandomSource + Clone + Drop, W: Write, F: Write>(
     rt: &R,
     folder: &str,
@@ -68,6 +86,9 @@ pub fn init_folder<R: Files + AllocGlobal + RandomSource + Clone + Drop, W: Writ
     faults: &mut F,
 ) -> Status
     requires { IsTarget making.now.target }
+    ensures silent { result ≡ Status.Done → faults.new ≡ faults.old }
+    ensures status { result ≢ Status.Usage }
+    ensures written { result ≡ Status.Done → (id : Instance) × Appends (W.contents output.old) (W.contents output.new) (created_line id) }
 {
     let Ok(id) = random_instance(rt) else {
         return failed(faults, &"read failed");

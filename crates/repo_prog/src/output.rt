@@ -1,21 +1,22 @@
-//! Lines of replies.
+//! Replies as lines of hexadecimal digits.
 
-ghost use Rattle.std.specs.Prelude.{◌≡◌, IfOk, string_bytes};
-ghost use Rattle.repo_prog.specs.HexLines.{reply_line};
-ghost use Rattle.repo_wire.specs.Messages.{replies};
-ghost use Rattle.repo_wire.specs.Stream.{FitsFrame};
+use repo_store::Form;
+use std::alloc::AllocError;
 
-use repo_wire::{Reply, write_reply};
-use std::alloc::{AllocError, Global};
+/// Each frame in hexadecimal, on a line.
+#[derive(Clone, Copy, Debug)]
+pub struct HexLine;
 
-/// The line of a reply that fits a frame: its frame in hexadecimal, and a line feed.
-pub fn line_of(alloc: Global, reply: &Reply) -> Result<String, AllocError>
-    requires { FitsFrame replies reply.now }
-    ensures { IfOk result (λ line. string_bytes line ≡ reply_line reply.now) }
-{
-    let mut frame = Vec::new(alloc);
-    write_reply(reply, &mut frame)?;
-    let mut line = hex::encode(alloc, frame.as_slice())?;
-    line.push('\n')?;
-    Ok(line)
+impl Form for HexLine {
+    ghost use Rattle.repo_prog.specs.HexLines.{hex_line};
+
+    ghost shown = { hex_line };
+
+    fn show(&self, frame: &mut Vec<u8>) -> Result<(), AllocError> {
+        let alloc = *frame.allocator();
+        let mut line = hex::encode(alloc, frame.as_slice())?;
+        line.push('\n')?;
+        *frame = line.into_bytes();
+        Ok(())
+    }
 }

@@ -1,115 +1,51 @@
 //! A talk with a store in memory, line by line.
 
-ghost use Rattle.std.specs.Prelude.{◌≡◌, ◌<◌, ◌≤◌, ◌+◌, ◌^◌, ◌++◌, ◌∷◌, [], ℕ, List, Option, length, IfOk, IfSome, IsTrue, OnOk};
-ghost use Rattle.repo_wire.specs.Messages.{replies};
-ghost use Rattle.repo_wire.specs.Stream.{FitsFrame};
-ghost use Rattle.repo_prog.specs.FramesRun.{Past, Gives};
+ghost use Rattle.std.specs.Prelude.{◌≡◌, ◌<◌, ◌≤◌, ◌+◌, ◌^◌, ◌++◌, ◌∷◌, [], ℕ, List, Option, length, OnOk};
+ghost use Rattle.repo_store.specs.Services.{nothing};
+ghost use Rattle.repo_store.specs.Serving.{Past};
+ghost use Rattle.repo_prog.specs.FramesRun.{Gives};
 ghost use Rattle.repo_prog.specs.HexLines.{AreLines};
-ghost use Rattle.repo_prog.specs.Talks.{nothing, Has, RepliesNext, Talks, Rests, AnswersNext, HasSameLines, GoesOn, RestsInside};
+ghost use Rattle.repo_prog.specs.Talks.{Talks, TalksInside, LineGives, BytesGive, EndGives};
 
 use crate::errors::FramesError;
-use crate::output::line_of;
+use crate::output::HexLine;
 use hex::FromHexError;
-use repo_store::{MemShelf, answer, write_whole};
-use repo_wire::{FrameReader, Reply};
+use repo_store::{MemShelf, Service};
 use std::alloc::Global;
 use std::io::Write;
 
-/// The most requests that are answered.
-pub const REQUESTS: u64 = 1 << 32;
-
-/// A store in memory, the reader of its requests, and the line that hasn't ended yet.
+/// A store in memory, the service of its requests, and the line that hasn't ended yet.
 #[derive(Drop)]
 pub struct Talk {
     pub line: Vec<u8>,
     /// How many lines have ended.
     pub number: u64,
-    pub reader: FrameReader,
+    pub service: Service<HexLine>,
     pub shelf: MemShelf,
-    /// How many requests were answered.
-    pub answered: u64,
 }
 
 impl Talk {
     /// A talk of nothing so far, with an empty store. It takes no memory.
     pub fn new(alloc: Global) -> Talk
-        ensures has { Has result nothing }
-        ensures rests { (start : Option (List ℕ)) → Rests start result nothing start }
+        ensures talks { (start : Option (List ℕ)) → Talks start result [] nothing start }
         ensures line { result.line.items ≡ [] }
         ensures number { result.number ≡ 0 }
     {
         Talk {
             line: Vec::new(alloc),
             number: 0,
-            reader: FrameReader::new(alloc),
+            service: Service::new(alloc, HexLine),
             shelf: MemShelf::new(alloc),
-            answered: 0,
         }
-    }
-
-    /// The reply to the next request, where one is there.
-    fn next_reply(&mut self) -> Result<Option<Reply>, FramesError>
-        requires { self.old.answered < 2 ^ 32 }
-        ensures next { (past : Past) → Has self.old past → RepliesNext past result self.new }
-        ensures counted { IfOk result (λ found. IfSome found (λ _. self.new.answered ≡ self.old.answered + 1)) }
-        ensures fits { IfOk result (λ found. IfSome found (FitsFrame replies)) }
-        ensures kept { self.new.line ≡ self.old.line }
-        ensures number { self.new.number ≡ self.old.number }
-    {
-        match self.reader.next_request() {
-            Ok(None) => Ok(None),
-            Ok(Some(request)) => {
-                let alloc = *self.line.allocator();
-                let reply = answer(alloc, &mut self.shelf, &request);
-                self.answered += 1;
-                Ok(Some(reply))
-            }
-            Err(error) => Err(FramesError::from(error)),
-        }
-    }
-
-    /// Answers the next request, where one is there, and writes the reply's line.
-    fn answer_next<W: Write>(&mut self, writer: &mut W) -> Result<bool, FramesError>
-        requires { self.old.answered < 2 ^ 32 }
-        ensures next { (input rest : List ℕ) (start : Option (List ℕ)) (past : Past) → AreLines input past.lines rest
-            → Talks start self.old past (W.contents writer.old) → AnswersNext input start past result self.new (W.contents writer.new) }
-        ensures counted { IfOk result (λ more. IsTrue more → self.new.answered ≡ self.old.answered + 1) }
-        ensures kept { self.new.line ≡ self.old.line }
-        ensures number { self.new.number ≡ self.old.number }
-    {
-        let alloc = *self.line.allocator();
-        let Some(reply) = self.next_reply()? else {
-            return Ok(false);
-        };
-        let line = line_of(alloc, &reply)?;
-        write_whole(writer, line.as_bytes())?;
-        Ok(true)
-    }
-
-    /// Answers each request that is there.
-    fn answer_all<W: Write>(&mut self, writer: &mut W) -> Result<(), FramesError>
-        ensures next { (input rest : List ℕ) (start : Option (List ℕ)) (past : Past) → AreLines input past.lines rest
-            → Talks start self.old past (W.contents writer.old)
-            → GoesOn input start (λ next. HasSameLines past next × Rests start self.new next (W.contents writer.new)) result (W.contents writer.new) }
-        ensures kept { self.new.line ≡ self.old.line }
-        ensures number { self.new.number ≡ self.old.number }
-    {
-        while self.answered < REQUESTS {
-            let more = self.answer_next(writer)?;
-            if !more {
-                return Ok(());
-            }
-        }
-        Err(FramesError::Limit)
     }
 
     /// Ends a line: its bytes are fed, and each request that is there is answered. A line that isn't
     /// hexadecimal gives no bytes.
     fn end_line<W: Write>(&mut self, writer: &mut W) -> Result<(), FramesError>
         requires { self.old.number < 2 ^ 63 }
-        ensures next { (input ahead : List ℕ) (start : Option (List ℕ)) (past : Past) → Rests start self.old past (W.contents writer.old)
-            → AreLines input (past.lines ++ self.old.line.items ∷ []) ahead
-            → GoesOn input start (λ next. (next.lines ≡ past.lines ++ self.old.line.items ∷ []) × Rests start self.new next (W.contents writer.new)) result (W.contents writer.new) }
+        ensures next { (input ahead : List ℕ) (start : Option (List ℕ)) (lines : List (List ℕ)) (past : Past) → Talks start self.old lines past (W.contents writer.old)
+            → AreLines input (lines ++ self.old.line.items ∷ []) ahead
+            → LineGives input start (lines ++ self.old.line.items ∷ []) result self.new (W.contents writer.new) }
         ensures line { OnOk result (self.new.line.items ≡ []) }
         ensures number { OnOk result (self.new.number ≡ self.old.number + 1) }
     {
@@ -119,17 +55,18 @@ impl Talk {
             Err(FromHexError::OutOfMemory) => return Err(FramesError::Memory),
             Err(_) => return Err(FramesError::Hex(self.number + 1)),
         };
-        self.reader.feed(&bytes)?;
+        self.service.feed(&bytes)?;
         self.line.clear();
         self.number += 1;
-        self.answer_all(writer)
+        self.service.answer_all(&mut self.shelf, writer)?;
+        Ok(())
     }
 
     /// Takes the next byte of the input.
     fn take_byte<W: Write>(&mut self, byte: u8, writer: &mut W) -> Result<(), FramesError>
         requires { self.old.number < 2 ^ 63 }
-        ensures next { (input ahead : List ℕ) (start : Option (List ℕ)) (past : Past) → RestsInside input start self.old past (byte ∷ ahead) (W.contents writer.old)
-            → GoesOn input start (λ next. RestsInside input start self.new next ahead (W.contents writer.new)) result (W.contents writer.new) }
+        ensures next { (input ahead : List ℕ) (start : Option (List ℕ)) (lines : List (List ℕ)) (past : Past)
+            → TalksInside input start self.old lines past (byte ∷ ahead) (W.contents writer.old) → BytesGive input start result self.new ahead (W.contents writer.new) }
         ensures number { OnOk result (self.new.number ≤ self.old.number + 1) }
     {
         if byte == b'\n' {
@@ -144,8 +81,8 @@ impl Talk {
     /// Takes the next piece of the input.
     pub fn take<W: Write>(&mut self, piece: &[u8], writer: &mut W) -> Result<(), FramesError>
         requires { self.old.number + length piece.now < 2 ^ 63 }
-        ensures next { (input ahead : List ℕ) (start : Option (List ℕ)) (past : Past) → RestsInside input start self.old past (piece.now ++ ahead) (W.contents writer.old)
-            → GoesOn input start (λ next. RestsInside input start self.new next ahead (W.contents writer.new)) result (W.contents writer.new) }
+        ensures next { (input ahead : List ℕ) (start : Option (List ℕ)) (lines : List (List ℕ)) (past : Past)
+            → TalksInside input start self.old lines past (piece.now ++ ahead) (W.contents writer.old) → BytesGive input start result self.new ahead (W.contents writer.new) }
         ensures number { OnOk result (self.new.number ≤ self.old.number + length piece.now) }
     {
         for byte in piece {
@@ -157,8 +94,8 @@ impl Talk {
     /// Ends the last line, if there is one, at the end of the input.
     fn end_last_line<W: Write>(&mut self, writer: &mut W) -> Result<(), FramesError>
         requires { self.old.number < 2 ^ 63 }
-        ensures { (input : List ℕ) (start : Option (List ℕ)) (past : Past) → RestsInside input start self.old past [] (W.contents writer.old)
-            → GoesOn input start (λ next. AreLines input next.lines [] × Rests start self.new next (W.contents writer.new)) result (W.contents writer.new) }
+        ensures { (input : List ℕ) (start : Option (List ℕ)) (lines : List (List ℕ)) (past : Past) → TalksInside input start self.old lines past [] (W.contents writer.old)
+            → EndGives input start result self.new (W.contents writer.new) }
     {
         if self.line.as_slice().is_empty() {
             return Ok(());
@@ -169,13 +106,10 @@ impl Talk {
     /// Ends the input, and gives the number of requests that were answered.
     pub fn finish<W: Write>(mut self, writer: &mut W) -> Result<u64, FramesError>
         requires { self.number < 2 ^ 63 }
-        ensures { (input : List ℕ) (start : Option (List ℕ)) (past : Past) → RestsInside input start self past [] (W.contents writer.old)
+        ensures { (input : List ℕ) (start : Option (List ℕ)) (lines : List (List ℕ)) (past : Past) → TalksInside input start self lines past [] (W.contents writer.old)
             → Gives input start result (W.contents writer.new) }
     {
         self.end_last_line(writer)?;
-        if !self.reader.is_between() {
-            return Err(FramesError::Inside);
-        }
-        Ok(self.answered)
+        self.service.finish().ok_or(FramesError::Inside)
     }
 }

@@ -1,4 +1,4 @@
-use Rattle.std.proofs.Common.{ℕ, ◌≡◌, inl, inr, refl, sym, subst, ◌∙◌, Ok, Err, Result}
+use Rattle.std.proofs.Common.{ℕ, ◌≡◌, inl, inr, refl, subst, ◌∙◌, Ok, Err}
 use Rattle.repo_name.specs.declared.rows.LockRow.{LockRow}
 use Rattle.repo_name.specs.declared.tokens.Token.{Token}
 use Rattle.repo_wire.specs.declared.messages.Ask.{Ask}

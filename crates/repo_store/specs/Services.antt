@@ -1,21 +1,27 @@
-use Rattle.std.specs.Prelude.{◌≡◌, ◌<◌, Some, ◌++◌, ◌∷◌, [], ℕ, List, length, Option, Bool, true, false, Result, Ok, Err}
-use Rattle.std.specs.Io.KnownBytes.{Appends}
+use Rattle.std.specs.Prelude.{◌≡◌, ◌≢◌, ◌≤◌, ◌<◌, ◌^◌, ◌++◌, ◌∷◌, [], ℕ, List, length, Option, Some, None, Bool, true, false, Result, Ok, Err}
+use Rattle.std.specs.Io.KnownBytes.{Appends, Consumes, IsAtEnd}
 use Rattle.repo_wire.specs.declared.faults.WireError.{WireError}
 use Rattle.repo_wire.specs.declared.messages.Reply.{Reply}
 use Rattle.repo_wire.specs.declared.messages.Request.{Request}
 use Rattle.repo_wire.specs.Messages.{requests}
 use Rattle.repo_wire.specs.Reading.{Follows}
-use Rattle.repo_wire.specs.Stream.{IsStream, Waits}
+use Rattle.repo_wire.specs.Stream.{IsStream, Waits, Fails}
 use Rattle.repo_store.specs.declared.serving.ServeError.{ServeError}
 use Rattle.repo_store.specs.declared.services.Service.{Service}
-use Rattle.repo_store.specs.Runs.{Run}
-use Rattle.repo_store.specs.Serving.{Past, frames_of, EndsBy}
-use Rattle.repo_store.specs.Stores.{Store}
+use Rattle.repo_store.specs.declared.forms.ServiceError.{ServiceError}
+use Rattle.repo_store.specs.Serving.{Moment, Past, shown, plain, IsAnswered, AllServed, SomeServed, Serves}
 
 -- the error of a reader's error
-abbrev pub serve_error : WireError → ServeError
-serve_error (WireError.Fault fault) = ServeError.Malformed
-serve_error WireError.Memory = ServeError.Memory
+abbrev pub service_error : WireError → ServiceError
+service_error (WireError.Fault fault) = ServiceError.Wire fault
+service_error WireError.Memory = ServiceError.Memory
+
+-- the error of a service's error
+abbrev pub serve_error : ServiceError → ServeError
+serve_error (ServiceError.Wire fault) = ServeError.Malformed
+serve_error ServiceError.Write = ServeError.Write
+serve_error ServiceError.Limit = ServeError.Limit
+serve_error ServiceError.Memory = ServeError.Memory
 
 -- nothing so far
 abbrev pub nothing : Past
@@ -29,37 +35,48 @@ with_reply past request reply = record { bytes = past.bytes; asked = past.asked 
 abbrev pub with_bytes : Past → List ℕ → Past
 with_bytes past piece = record { bytes = past.bytes ++ piece; asked = past.asked; replies = past.replies }
 
--- a service with this past: its reader followed the bytes, the store ran over the requests, and all replies were written
-pub record Has (from : Store) (start : Option (List ℕ)) (service : Service) (past : Past) (to : Store) (contents : Option (List ℕ)) : Type 0 where
+-- a service with this past: its reader followed the bytes, the requests were answered, and all replies were written
+pub record Has {F : Type 0} (form : List ℕ → List ℕ) (before : Moment) (service : Service F) (past : Past) (after : Moment) : Type 0 where
   pub reader : Follows requests past.bytes past.asked service.reader
-  pub run : Run from past.asked past.replies to
-  pub answered : service.answered ≡ length past.asked
-  pub written : Appends start contents (frames_of past.replies)
+  pub answered : IsAnswered before past after
+  pub count : service.answered ≡ length past.asked
+  pub written : Appends before.written after.written (shown form past.replies)
 
 -- it rests: each request of the bytes was answered
-pub record Rests (from : Store) (start : Option (List ℕ)) (service : Service) (past : Past) (to : Store) (contents : Option (List ℕ)) : Type 0 where
-  pub has : Has from start service past to contents
+pub record Rests {F : Type 0} (form : List ℕ → List ℕ) (before : Moment) (service : Service F) (past : Past) (after : Moment) : Type 0 where
+  pub has : Has form before service past after
   pub waits : IsStream requests past.bytes past.asked (Waits service.reader.unread)
 
--- it ended with an error, after some first ones of these bytes
-abbrev pub Ends : ServeError → Store → Option (List ℕ) → List ℕ → Store → Option (List ℕ) → Type 0
-Ends error from start bytes to contents = (next : Past) × (left : List ℕ) × (bytes ≡ next.bytes ++ left) × ((rest : List ℕ) → EndsBy error from start next rest to contents)
+-- what each error comes for
+abbrev pub EndsBy : (List ℕ → List ℕ) → ServiceError → Moment → Past → Moment → Type 0
+EndsBy form (ServiceError.Wire fault) before past after = AllServed form before past (Fails fault) after
+EndsBy form ServiceError.Write before past after = SomeServed form before past after
+EndsBy form ServiceError.Limit before past after = SomeServed form before past after × (2 ^ 32 ≤ length past.asked)
+EndsBy form ServiceError.Memory before past after = SomeServed form before past after
+
+-- it ended with an error, with these bytes
+abbrev pub Ends : (List ℕ → List ℕ) → ServiceError → Moment → List ℕ → Moment → Type 0
+Ends form error before bytes after = (next : Past) × (next.bytes ≡ bytes) × EndsBy form error before next after
 
 -- what answering the next request gives
-abbrev pub AnswersNext : Result Bool ServeError → Store → Option (List ℕ) → Past → Service → Store → Option (List ℕ) → Type 0
-AnswersNext (Ok true) from start past service to contents = (request : Request) × (reply : Reply) × Has from start service (with_reply past request reply) to contents
-AnswersNext (Ok false) from start past service to contents = Rests from start service past to contents
-AnswersNext (Err error) from start past service to contents = Ends error from start past.bytes to contents
+abbrev pub AnswersNext : {F : Type 0} → (List ℕ → List ℕ) → Result Bool ServiceError → Moment → Past → Service F → Moment → Type 0
+AnswersNext form (Ok true) before past service after = (request : Request) × (reply : Reply) × Has form before service (with_reply past request reply) after
+AnswersNext form (Ok false) before past service after = Rests form before service past after
+AnswersNext form (Err error) before past service after = Ends form error before past.bytes after
 
--- what answering all requests of these bytes gives
-abbrev pub AnswersAll : Result (Unit {0}) ServeError → Store → Option (List ℕ) → List ℕ → Service → Store → Option (List ℕ) → Type 0
-AnswersAll (Ok done) from start bytes service to contents = (next : Past) × (next.bytes ≡ bytes) × Rests from start service next to contents
-AnswersAll (Err error) from start bytes service to contents = Ends error from start bytes to contents
+-- what answering all requests of the bytes gives
+abbrev pub AnswersAll : {F : Type 0} → (List ℕ → List ℕ) → Result (Unit {0}) ServiceError → Moment → List ℕ → Service F → Moment → Type 0
+AnswersAll form (Ok done) before bytes service after = (next : Past) × (next.bytes ≡ bytes) × Rests form before service next after
+AnswersAll form (Err error) before bytes service after = Ends form error before bytes after
 
--- what reading the next piece gives, where these bytes are ahead: some of them are taken, or there are none, or it ended with an error
-abbrev pub PieceGives : Result Bool ServeError → Store → Option (List ℕ) → Past → List ℕ → Option (List ℕ) → Service → Store → Option (List ℕ) → Type 0
-PieceGives (Ok true) from start past ahead left service to contents =
-    (after : List ℕ) × (next : Past) × (left ≡ Some after) × (past.bytes ++ ahead ≡ next.bytes ++ after) × (length past.bytes < length next.bytes) × Rests from start service next to contents
-PieceGives (Ok false) from start past ahead left service to contents = (ahead ≡ []) × Rests from start service past to contents
-PieceGives (Err error) from start past ahead left service to contents =
-    (next : Past) × (rest : List ℕ) × (past.bytes ++ ahead ≡ next.bytes ++ rest) × EndsBy error from start next rest to contents
+-- what the end of the bytes gives: the number of requests, between frames alone
+abbrev pub Finishes : (List ℕ → List ℕ) → Moment → Past → Option ℕ → Moment → Type 0
+Finishes form before past (Some n) after = (n ≡ length past.asked) × AllServed form before past (Waits []) after
+Finishes form before past None after = (unread : List ℕ) × (unread ≢ []) × AllServed form before past (Waits unread) after
+
+-- what reading the next piece gives: some bytes more are taken, or none is left, or it ended with an error
+abbrev pub PieceGives : {F : Type 0} → Option (List ℕ) → Moment → Past → Result Bool ServeError → Option (List ℕ) → Service F → Moment → Type 0
+PieceGives input before past (Ok true) left service after =
+    (next : Past) × Consumes input left next.bytes × (length past.bytes < length next.bytes) × Rests plain before service next after
+PieceGives input before past (Ok false) left service after = Consumes input left past.bytes × IsAtEnd left × Rests plain before service past after
+PieceGives input before past (Err error) left service after = Serves input before (Err error) left after

@@ -1,7 +1,6 @@
 //! The answer to each request.
 
 ghost use Rattle.std.specs.Prelude.{◌≡◌, ◌≤◌, ◌+◌};
-ghost use Rattle.repo_name.specs.Naming.{IsInstance};
 ghost use Rattle.repo_wire.specs.Messages.{replies, IsReply, IsSay, IsShortSay};
 ghost use Rattle.repo_wire.specs.Stream.{FitsFrame};
 ghost use Rattle.repo_store.specs.Runs.{Replies};
@@ -61,21 +60,13 @@ fn say_to<S: Shelf>(alloc: Global, shelf: &mut S, ask: &Ask) -> Say
     }
 }
 
-/// An instance's bytes: what tells a proof that there are 16 of them.
-fn bytes_of(instance: Instance) -> [u8; 16]
-    ensures bytes { result ≡ instance.0 }
-    ensures instance { IsInstance instance }
-{
-    instance.0
-}
-
 /// A reply to this instance and sequence.
 fn reply_to(instance: Instance, sequence: u64, say: Say) -> Reply
     requires { IsSay say }
     ensures reply { result ≡ record { instance = instance; sequence = sequence; say = say } }
     ensures within { IsReply result }
 {
-    let instance = Instance(bytes_of(instance));
+    let instance = Instance(instance.to_bytes());
     Reply {
         instance,
         sequence,
@@ -96,6 +87,7 @@ pub fn answer<S: Shelf>(alloc: Global, shelf: &mut S, request: &Request) -> Repl
     ensures honest { S.honest shelf.old → S.honest shelf.new }
     ensures once { S.writes shelf.new ≤ S.writes shelf.old + 1 }
     ensures fits { FitsFrame replies result }
+    ensures repeats { (result.instance ≡ request.now.instance) × (result.sequence ≡ request.now.sequence) }
 {
     let say = say_to(alloc, shelf, &request.ask);
     reply_to(request.instance, request.sequence, say)

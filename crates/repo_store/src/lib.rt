@@ -1,19 +1,24 @@
 //! The store: a device that keeps what clients put, and the answer to each request.
 //!
 //! A [`Shelf`] is the device: it keeps objects, a config and the ledger of locks, and counts its own
-//! failures. [`MemShelf`] is one in memory. [`answer`] answers a request over any shelf.
+//! failures. [`MemShelf`] is one in memory, and [`FaultShelf`] one that fails as it is told. [`init`]
+//! keeps a config where none was. [`answer`] answers a request over any shelf; a [`Service`] answers
+//! those of a stream, and [`serve`] those of a connection.
 //!
 //! Promised: over an honest shelf, `answer` is a step of the store machine; it tells that the device
 //! failed only where the device's count of failures rose in that call, or stands at its greatest.
-//! Not promised: that a device of the outside world is honest.
+//! `serve` is a run of that machine over the requests of the stream that was read, and what it wrote is
+//! their replies' frames. Not promised: that a device of the outside world is honest.
 //!
 //! The definitions stand in `specs/`: `Stores` (the machine's state and its changes), `Pages` and
 //! `Slices` (what a page of names and a part of a pack are), `Laws` (what a call of an honest shelf
-//! does), `StoreMachine` (the step for each request), `Runs` (steps one after another).
+//! does), `StoreMachine` (the step for each request), `Runs` (steps one after another), `Serving` (what
+//! serving an input gives), `Making` (what making a store gives), `Faults` (the call that is armed).
 #![tactic(auto)]
 
 mod answers;
 mod faults;
+mod forms;
 mod laws;
 mod lock_answers;
 mod making;
@@ -30,9 +35,11 @@ mod tests;
 
 pub use answers::answer;
 pub use faults::{Fail, FaultShelf};
-pub use laws::refusals_change_nothing;
+pub use forms::{Form, Plain, ServiceError};
+pub use laws::{refusals_change_nothing, runs_compose, serving_runs};
 pub use making::{InitError, init};
 pub use memory::MemShelf;
 pub use output::{Unwritten, write_whole};
+pub use services::Service;
 pub use serving::{ServeError, serve};
 pub use shelves::{Page, Shelf, ShelfError, Slice};

@@ -4,7 +4,7 @@ ghost use Rattle.std.specs.Prelude.{◌≡◌, Some, option_map, All, IfOk, OnOk
 ghost use Rattle.std.specs.BTreeMap.{IsOrdered};
 ghost use Rattle.repo_name.specs.NameMaps.{found};
 ghost use Rattle.repo_name.specs.Naming.{name_cmp, IsName};
-ghost use Rattle.repo_store.specs.Memory.{store_of, above, AddedIn, RemovedIn, IsCut};
+ghost use Rattle.repo_store.specs.Memory.{objects_of, store_of, above, AddedIn, RemovedIn, IsCut};
 ghost use Rattle.repo_store.specs.Slices.{IsSlice, HasLength};
 ghost use Rattle.repo_store.specs.Stores.{empty};
 
@@ -38,6 +38,17 @@ impl MemShelf {
             config: None,
             ledger: Ledger::new(alloc),
             alloc,
+        }
+    }
+
+    /// The objects of a kind.
+    fn map(&self, kind: Kind) -> &BTreeMap<Name, Bytes>
+        ensures { found result.now ≡ objects_of self.now kind }
+    {
+        match kind {
+            Kind::Pack => &self.packs,
+            Kind::Index => &self.indexes,
+            Kind::Snapshot => &self.snapshots,
         }
     }
 }
@@ -138,11 +149,7 @@ impl Shelf for MemShelf {
     ghost honest = { λ _. ⊤ };
 
     fn get(&mut self, kind: Kind, name: &Name) -> Result<Option<Bytes>, ShelfError> {
-        match kind {
-            Kind::Pack => Ok(look_up(&self.packs, name)?),
-            Kind::Index => Ok(look_up(&self.indexes, name)?),
-            Kind::Snapshot => Ok(look_up(&self.snapshots, name)?),
-        }
+        Ok(look_up(self.map(kind), name)?)
     }
 
     fn range(&mut self, pack: &Name, offset: u32, length: u32) -> Result<Slice, ShelfError> {
@@ -184,11 +191,7 @@ impl Shelf for MemShelf {
         after: Option<&Name>,
         limit: usize,
     ) -> Result<Page, ShelfError> {
-        match kind {
-            Kind::Pack => Ok(page_after(self.alloc, &self.packs, after, limit)?),
-            Kind::Index => Ok(page_after(self.alloc, &self.indexes, after, limit)?),
-            Kind::Snapshot => Ok(page_after(self.alloc, &self.snapshots, after, limit)?),
-        }
+        Ok(page_after(self.alloc, self.map(kind), after, limit)?)
     }
 
     fn ledger(&mut self) -> Result<Ledger, ShelfError> {

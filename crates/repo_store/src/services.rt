@@ -1,51 +1,53 @@
-//! The requests of one connection, answered one after another.
+//! The requests of one stream, answered one after another.
 
-ghost use Rattle.std.specs.Prelude.{◌≡◌, ◌<◌, ◌+◌, ◌^◌, ◌++◌, ℕ, List, Option, IfOk, IsTrue};
-ghost use Rattle.repo_store.specs.Serving.{Past, Serves};
-ghost use Rattle.repo_store.specs.Services.{nothing, Has, Rests, AnswersNext, AnswersAll};
-ghost use Rattle.repo_store.specs.Stores.{Store};
+ghost use Rattle.std.specs.Prelude.{◌≡◌, ◌<◌, ◌+◌, ◌^◌, ◌++◌, IfOk, IsTrue, OnOk, OnErr};
+ghost use Rattle.repo_wire.specs.Reading.{fed};
+ghost use Rattle.repo_store.specs.Serving.{Past, Moment, seen};
+ghost use Rattle.repo_store.specs.Services.{nothing, Has, Rests, AnswersNext, AnswersAll, Finishes};
 
 use crate::answers::answer;
+use crate::forms::{Form, ServiceError};
 use crate::output::write_whole;
-use crate::serving::ServeError;
 use crate::shelves::Shelf;
 use repo_wire::{FrameReader, write_reply};
-use std::alloc::Global;
+use std::alloc::{AllocError, Global};
 use std::io::Write;
 
 /// The most requests that are answered.
 const REQUESTS: u64 = 1 << 32;
 
-/// The reader of a connection's requests, and how many were answered.
+/// The reader of a stream's requests, how their replies are written, and how many were answered.
 #[derive(Drop)]
-pub struct Service {
+pub struct Service<F> {
     pub reader: FrameReader,
-    /// The frame of the last reply.
+    form: F,
+    /// What is written for the last reply.
     frame: Vec<u8>,
     pub answered: u64,
 }
 
-impl Service {
+impl<F: Form + Drop> Service<F> {
     /// A service of nothing so far. It takes no memory.
-    pub fn new(alloc: Global) -> Service
-        ensures { (from : Store) (start : Option (List ℕ)) → Rests from start result nothing from start }
+    pub fn new(alloc: Global, form: F) -> Service<F>
+        ensures { (before : Moment) → Rests F.shown before result nothing before }
     {
         Service {
             reader: FrameReader::new(alloc),
+            form,
             frame: Vec::new(alloc),
             answered: 0,
         }
     }
 
-    /// Answers the next request, where one is there, and writes the reply's frame.
+    /// Answers the next request, where one is there, and writes its reply.
     fn answer_next<S: Shelf, W: Write>(
         &mut self,
         shelf: &mut S,
         writer: &mut W,
-    ) -> Result<bool, ServeError>
+    ) -> Result<bool, ServiceError>
         requires { self.old.answered < 2 ^ 32 }
-        ensures next { S.honest shelf.old → (from : Store) (start : Option (List ℕ)) (past : Past) → Has from start self.old past (S.store shelf.old) (W.contents writer.old)
-            → AnswersNext result from start past self.new (S.store shelf.new) (W.contents writer.new) }
+        ensures next { S.honest shelf.old → (before : Moment) (past : Past) → Has F.shown before self.old past (seen (S.store shelf.old) (S.failed shelf.old) (W.contents writer.old))
+            → AnswersNext F.shown result before past self.new (seen (S.store shelf.new) (S.failed shelf.new) (W.contents writer.new)) }
         ensures honest { S.honest shelf.old → S.honest shelf.new }
         ensures counted { IfOk result (λ more. IsTrue more → self.new.answered ≡ self.old.answered + 1) }
     {
@@ -57,18 +59,28 @@ impl Service {
         self.answered += 1;
         self.frame.clear();
         write_reply(&reply, &mut self.frame)?;
+        self.form.show(&mut self.frame)?;
         write_whole(writer, self.frame.as_slice())?;
         Ok(true)
     }
 
-    /// Answers each request that is there.
-    fn answer_all<S: Shelf, W: Write>(
+    /// Takes the next piece of the stream. It fails for memory alone, and then nothing changed.
+    pub fn feed(&mut self, piece: &[u8]) -> Result<(), AllocError>
+        ensures ok { OnOk result (self.new.reader ≡ fed self.old.reader piece.now) }
+        ensures answered { self.new.answered ≡ self.old.answered }
+        ensures err { OnErr result (self.new ≡ self.old) }
+    {
+        self.reader.feed(piece)
+    }
+
+    /// Answers each request that is there, and writes its reply.
+    pub fn answer_all<S: Shelf, W: Write>(
         &mut self,
         shelf: &mut S,
         writer: &mut W,
-    ) -> Result<(), ServeError>
-        ensures all { S.honest shelf.old → (from : Store) (start : Option (List ℕ)) (past : Past) → Has from start self.old past (S.store shelf.old) (W.contents writer.old)
-            → AnswersAll result from start past.bytes self.new (S.store shelf.new) (W.contents writer.new) }
+    ) -> Result<(), ServiceError>
+        ensures all { S.honest shelf.old → (before : Moment) (past : Past) → Has F.shown before self.old past (seen (S.store shelf.old) (S.failed shelf.old) (W.contents writer.old))
+            → AnswersAll F.shown result before past.bytes self.new (seen (S.store shelf.new) (S.failed shelf.new) (W.contents writer.new)) }
         ensures honest { S.honest shelf.old → S.honest shelf.new }
     {
         while self.answered < REQUESTS {
@@ -77,32 +89,16 @@ impl Service {
                 return Ok(());
             }
         }
-        Err(ServeError::Limit)
+        Err(ServiceError::Limit)
     }
 
-    /// Takes the next piece of the input, and answers each request that is there.
-    pub fn take<S: Shelf, W: Write>(
-        &mut self,
-        piece: &[u8],
-        shelf: &mut S,
-        writer: &mut W,
-    ) -> Result<(), ServeError>
-        ensures all { S.honest shelf.old → (from : Store) (start : Option (List ℕ)) (past : Past) → Rests from start self.old past (S.store shelf.old) (W.contents writer.old)
-            → AnswersAll result from start (past.bytes ++ piece.now) self.new (S.store shelf.new) (W.contents writer.new) }
-        ensures honest { S.honest shelf.old → S.honest shelf.new }
-    {
-        self.reader.feed(piece)?;
-        self.answer_all(shelf, writer)
-    }
-
-    /// Ends the input, and gives the number of requests that were answered.
-    pub fn finish(self) -> Result<u64, ServeError>
-        ensures { (from : Store) (start : Option (List ℕ)) (past : Past) (to : Store) (contents : Option (List ℕ)) → Rests from start self past to contents
-            → Serves past.bytes from start result to contents }
+    /// Ends the stream, and gives the number of requests that were answered; `None` inside a frame.
+    pub fn finish(self) -> Option<u64>
+        ensures { (before after : Moment) (past : Past) → Rests F.shown before self past after → Finishes F.shown before past result after }
     {
         if !self.reader.is_between() {
-            return Err(ServeError::Malformed);
+            return None;
         }
-        Ok(self.answered)
+        Some(self.answered)
     }
 }

@@ -1,14 +1,13 @@
 //! The server of one connection.
 
-ghost use Rattle.std.specs.Prelude.{◌≡◌, ◌<◌, ℕ, List, length, Option, Some, IfOk, vec_len};
+ghost use Rattle.std.specs.Prelude.{◌≡◌, ◌<◌, ℕ, List, length, Option, IfOk, vec_len};
+ghost use Rattle.std.specs.Io.KnownBytes.{Consumes};
 ghost use Rattle.repo_store.specs.Services.{Rests, PieceGives};
-ghost use Rattle.repo_store.specs.Serving.{Past, Serves};
-ghost use Rattle.repo_store.specs.Stores.{Store};
+ghost use Rattle.repo_store.specs.Serving.{Past, Moment, seen, plain, Serves};
 
-use crate::output::Unwritten;
+use crate::forms::{Plain, ServiceError};
 use crate::services::Service;
 use crate::shelves::Shelf;
-use repo_wire::WireError;
 use std::alloc::{AllocError, Global};
 use std::io::{Read, Write};
 use thiserror::Error;
@@ -46,27 +45,18 @@ impl From<AllocError> for ServeError {
     }
 }
 
-impl From<Unwritten> for ServeError {
-    ghost use Rattle.std.specs.Prelude.{◌≡◌};
-    ghost use Rattle.repo_store.specs.declared.serving.ServeError.{ServeError};
-
-    ghost from_gives = { λ e r. r ≡ ServeError.Write };
-
-    fn from(_: Unwritten) -> ServeError {
-        ServeError::Write
-    }
-}
-
-impl From<WireError> for ServeError {
+impl From<ServiceError> for ServeError {
     ghost use Rattle.std.specs.Prelude.{◌≡◌};
     ghost use Rattle.repo_store.specs.Services.{serve_error};
 
     ghost from_gives = { λ e r. r ≡ serve_error e };
 
-    fn from(error: WireError) -> ServeError {
+    fn from(error: ServiceError) -> ServeError {
         match error {
-            WireError::Fault(_) => ServeError::Malformed,
-            WireError::Memory => ServeError::Memory,
+            ServiceError::Wire(_) => ServeError::Malformed,
+            ServiceError::Write => ServeError::Write,
+            ServiceError::Limit => ServeError::Limit,
+            ServiceError::Memory => ServeError::Memory,
         }
     }
 }
@@ -87,22 +77,23 @@ fn room(alloc: Global) -> Result<Vec<u8>, AllocError>
 /// Reads a piece of the input, and answers each request that is there. It says whether there was one;
 /// there is none at the end.
 fn take_piece<R: Read, W: Write, S: Shelf>(
-    service: &mut Service,
+    service: &mut Service<Plain>,
     piece: &mut [u8],
     reader: &mut R,
     writer: &mut W,
     shelf: &mut S,
 ) -> Result<bool, ServeError>
     requires { 0 < length piece.old }
-    ensures next { S.honest shelf.old → (from : Store) (start : Option (List ℕ)) (past : Past) (ahead : List ℕ) → R.remaining reader.old ≡ Some ahead
-        → Rests from start service.old past (S.store shelf.old) (W.contents writer.old)
-        → PieceGives result from start past ahead (R.remaining reader.new) service.new (S.store shelf.new) (W.contents writer.new) }
+    ensures next { S.honest shelf.old → (input : Option (List ℕ)) (before : Moment) (past : Past) → Consumes input (R.remaining reader.old) past.bytes
+        → Rests plain before service.old past (seen (S.store shelf.old) (S.failed shelf.old) (W.contents writer.old))
+        → PieceGives input before past result (R.remaining reader.new) service.new (seen (S.store shelf.new) (S.failed shelf.new) (W.contents writer.new)) }
     ensures honest { S.honest shelf.old → S.honest shelf.new }
 {
     match reader.read(piece) {
         Ok(0) => Ok(false),
         Ok(count) => {
-            service.take(&piece[..count], shelf, writer)?;
+            service.feed(&piece[..count])?;
+            service.answer_all(shelf, writer)?;
             Ok(true)
         }
         Err(_) => Err(ServeError::Read),
@@ -112,22 +103,25 @@ fn take_piece<R: Read, W: Write, S: Shelf>(
 /// Answers the requests of one connection, in their order, and writes the frame of each reply. It gives
 /// the number of requests that were answered, at an input that ends between frames. See [`ServeError`]
 /// for when each error comes, and what stands then.
+///
+/// Whatever the reader and the writer tell of their bytes, the shelf is where a run of the machine leads,
+/// and a reply says that the device failed only where the device counted a failure.
 pub fn serve<R: Read, W: Write, S: Shelf>(
     alloc: Global,
     reader: &mut R,
     writer: &mut W,
     shelf: &mut S,
 ) -> Result<u64, ServeError>
-    ensures serves { S.honest shelf.old → (input : List ℕ) → R.remaining reader.old ≡ Some input
-        → Serves input (S.store shelf.old) (W.contents writer.old) result (S.store shelf.new) (W.contents writer.new) }
+    ensures serves { S.honest shelf.old → Serves (R.remaining reader.old) (seen (S.store shelf.old) (S.failed shelf.old) (W.contents writer.old)) result
+        (R.remaining reader.new) (seen (S.store shelf.new) (S.failed shelf.new) (W.contents writer.new)) }
     ensures honest { S.honest shelf.old → S.honest shelf.new }
 {
-    let mut service = Service::new(alloc);
+    let mut service = Service::new(alloc, Plain);
     let mut piece = room(alloc)?;
     for turn in 0..READS {
         let more = take_piece(&mut service, piece.as_mut_slice(), reader, writer, shelf)?;
         if !more {
-            return service.finish();
+            return service.finish().ok_or(ServeError::Malformed);
         }
     }
     Err(ServeError::Limit)

@@ -1,12 +1,12 @@
 -- What trees spell and reach, in two sets of blobs that agree.
-use Rattle.std.proofs.Common.{◌≡◌, ◌<◌, ◌-◌, inl, inr, ℕ, zero, suc, List, [], ◌∷◌, ◌++◌, length, refl, sym, ◌∙◌, ap, subst, arith, length-append, Contains}
+use Rattle.std.proofs.Common.{◌≡◌, ◌<◌, ◌≤◌, ◌-◌, inl, inr, ℕ, zero, suc, List, [], ◌∷◌, ◌++◌, length, refl, sym, ◌∙◌, ap, subst, arith, length-append, append-nil, append_assoc, Contains}
 use Rattle.repo_name.specs.Naming.{name}
 use Rattle.repo_name.specs.declared.names.Name.{Name}
 use Rattle.repo_name.specs.declared.kinds.BlobKind.{BlobKind}
 use Rattle.repo_name.specs.declared.kinds.BlobKind.TheVariants.{Content, Tree}
 use Rattle.repo_tree.specs.TreeText.{IsTreeText}
 use Rattle.repo_tree.specs.Spelling.{Blobs, IsTree, Joined, NodeSpells, NodesSpell, SpellsTo, Spells, NodeReaches, NodesReach, ReachTo, Reach, HasPair, greatest_depth, dir_entry, file_entry}
-use Rattle.repo_tree.specs.Laws.{Agree}
+use Rattle.repo_tree.specs.Laws.{Agree, Grows}
 use Rattle.repo_tree.specs.declared.nodes.Node.{Node}
 use Rattle.repo_tree.specs.declared.nodes.NodeKind.{NodeKind}
 use Rattle.repo_tree.specs.declared.nodes.NodeKind.TheVariants.{File, Dir}
@@ -64,7 +64,7 @@ spells_once B C agree (suc depth) t path d e h g =
 abbrev Moves : Blobs → Blobs → BlobKind → Name → Type 0
 Moves B C k n = (x : List ℕ) → B k x → name x ≡ n → C k x
 
-joined_move : (B C : Blobs) (ns : List Name) (x : List ℕ) → Joined B ns x → ((n : Name) → Contains ns n → Moves B C Content n) → Joined C ns x
+pub joined_move : (B C : Blobs) (ns : List Name) (x : List ℕ) → Joined B ns x → ((n : Name) → Contains ns n → Moves B C Content n) → Joined C ns x
 joined_move B C [] x h move = h
 joined_move B C (n ∷ ns) x h move =
     (h.0, h.1, move n (zero, omega arith, refl) h.0 h.2 h.3, h.3, joined_move B C ns h.1 h.4 (λ m g. move m (suc g.0, omega arith, g.2)), h.5)
@@ -228,3 +228,46 @@ moved B C agree t e h has =
 
 pub reached : (B : Blobs) → Agree B B → (t : Name) (e : List Entry) → Spells B t [] e → (k : BlobKind) (n : Name) → Reach B t k n → HasPair B k n
 reached B agree t e h k n r = spelled_pair B agree greatest_depth t [] e k n (subst (λ (d : ℕ). SpellsTo d B t [] e) at_root h) r
+
+-- ---- one more, and more blobs
+
+pub joined_push : (B : Blobs) (names : List Name) (bytes : List ℕ) (next : Name) (more : List ℕ) → Joined B names bytes → B Content more → name more ≡ next
+    → Joined B (names ++ next ∷ []) (bytes ++ more)
+joined_push B [] bytes next more h is named = (more, [], is, named, refl, ap (λ x. x ++ more) h ∙ sym (append-nil more))
+joined_push B (n ∷ ns) bytes next more h is named = (
+  h.0,
+  h.1 ++ more,
+  h.2,
+  h.3,
+  joined_push B ns h.1 next more h.4 is named,
+  ap (λ x. x ++ more) h.5 ∙ append_assoc h.0 h.1 more,
+)
+
+pub nodes_push : (B : Blobs) (S : Sub) (path : List (List ℕ)) (nodes : List Node) (e : List Entry) (next : Node) (more : List Entry)
+    → NodesSpell B S path nodes e → NodeSpells B S (path ++ next.name ∷ []) next.what more → NodesSpell B S path (nodes ++ next ∷ []) (e ++ more)
+nodes_push B S path [] e next more h is = (more, [], is, refl, ap (λ x. x ++ more) h ∙ sym (append-nil more))
+nodes_push B S path (node ∷ nodes) e next more h is = (
+  h.0,
+  h.1 ++ more,
+  h.2,
+  nodes_push B S path nodes h.1 next more h.3 is,
+  ap (λ x. x ++ more) h.4 ∙ append_assoc h.0 h.1 more,
+)
+
+node_grown : (B C : Blobs) → Grows B C → (path : List (List ℕ)) (what : NodeKind) (e : List Entry) → NodeSpells B (Spells B) path what e → NodeSpells C (Spells C) path what e
+node_grown B C grows path (File size content) e h =
+    (h.0, joined_move B C content h.0 h.1 (λ n is x b same. grows Content x b), h.2, h.3)
+node_grown B C grows path (Dir subtree) e h =
+    (h.0, spells_move B C (greatest_depth - length path) subtree path h.0 h.1 (λ k n r x b is. grows k x b), h.2)
+
+pub nodes_grown : (B C : Blobs) → Grows B C → (path : List (List ℕ)) (nodes : List Node) (e : List Entry) → NodesSpell B (Spells B) path nodes e
+    → NodesSpell C (Spells C) path nodes e
+nodes_grown B C grows path [] e h = h
+nodes_grown B C grows path (node ∷ nodes) e h =
+    (h.0, h.1, node_grown B C grows (path ++ node.name ∷ []) node.what h.0 h.2, nodes_grown B C grows path nodes h.1 h.3, h.4)
+
+pub deepest_empty : (B : Blobs) (t : Name) (path : List (List ℕ)) (e : List Entry) → greatest_depth ≤ length path → Spells B t path e
+    → IsTree B t [] × (e ≡ [])
+deepest_empty B t path e deep h =
+    let none : greatest_depth - length path ≡ 0 = omega (arith, deep) in
+    subst (λ (n : ℕ). SpellsTo n B t path e) none h

@@ -1,8 +1,8 @@
 -- What is written of a tree reads as the tree.
-use Rattle.std.proofs.Common.{◌≡◌, ◌<◌, ◌≤◌, ◌+◌, ◌∷◌, ◌++◌, [], ℕ, List, length, take, drop, get_or, codes, Some, false, refl, ap, ◌∙◌, sym, subst, arith, All}
+use Rattle.std.proofs.Common.{◌≡◌, ◌<◌, ◌≤◌, ◌+◌, ◌∷◌, ◌++◌, [], ℕ, zero, List, length, take, drop, get_or, codes, Some, false, refl, ap, ◌∙◌, sym, subst, arith, All}
 use Rattle.std.specs.Prelude.{IsUtf8}
 use Rattle.std.proofs.lemmas.List.{take_more, take-append-drop}
-use Rattle.std.proofs.lemmas.List.Elements.{All-head, All-tail, All-push, All-same}
+use Rattle.std.proofs.lemmas.List.Elements.{All-head, All-tail, All-push, All-same, All-contains, Contains-append_right}
 use Rattle.serde_json.specs.Data.{Data, string, Items, no_items, item, depth, items_depth}
 use Rattle.serde_json.specs.Read.{read}
 use Rattle.serde_json.specs.View.{view, items_view}
@@ -14,13 +14,14 @@ use Rattle.repo_tree.specs.Components.{IsComponent}
 use Rattle.repo_tree.specs.JsonText.{text_at}
 use Rattle.repo_tree.specs.Named.{AreNamed}
 use Rattle.repo_tree.specs.TreeText.{name_items, IsKind, BeginsWith, AreInOrder, Follows, IsTreeText}
-use Rattle.repo_tree.specs.TreeWriting.{kind_data, node_items, tree_data, IsSized, AreWritable, NodeFault, NodesFault}
+use Rattle.repo_tree.specs.TreeWriting.{kind_data, node_items, tree_data, tree_text, IsSized, AreWritable, NodeFault, NodesFault}
 use Rattle.repo_tree.specs.declared.faults.TreeError.{TreeError}
+use Rattle.repo_tree.specs.declared.faults.TreeError.TheVariants as fault
 use Rattle.repo_tree.specs.declared.nodes.Node.{Node}
 use Rattle.repo_tree.specs.declared.nodes.NodeKind.{NodeKind}
 use Rattle.repo_tree.specs.declared.nodes.NodeKind.TheVariants.{File, Dir}
 use Rattle.repo_tree.proofs.ItemLemmas.{drop_here}
-use Rattle.repo_tree.proofs.OrderLemmas.{in_order_push}
+use Rattle.repo_tree.proofs.OrderLemmas.{in_order_push, in_order_at}
 
 -- ---- lists that grow at their end
 
@@ -83,6 +84,23 @@ nodes_fault nodes i n e lt at writable next = record {
   next = next;
 }
 
+-- no node is at fault among those that may be written
+pub faulty_node : (nodes : List Node) (e : TreeError) → NodesFault nodes e → AreWritable nodes → ⊥
+faulty_node nodes e h writable =
+    let whole : AreWritable (h.before ++ h.here ∷ h.rest) = subst AreWritable h.split writable in
+    let fits = in_order_at h.before h.here h.rest whole.1 in
+    let sized : IsSized h.here.what = All-contains (λ (n : Node). IsSized n.what) (h.before ++ h.here ∷ h.rest) h.here whole.0
+    (Contains-append_right h.before (h.here ∷ h.rest) h.here (zero, omega arith, refl)) in
+    no_fault h.before h.here e h.next sized fits.0 fits.1
+  where
+    no_fault : (before : List Node) (n : Node) (e : TreeError) → NodeFault before n e → IsSized n.what → IsComponent n.name → Follows before n.name → ⊥
+    no_fault before n fault.TooLarge h sized is follows = h
+    no_fault before n fault.Json h sized is follows = h
+    no_fault before n fault.Shape h sized is follows = h sized
+    no_fault before n fault.BadName h sized is follows = h.1 is
+    no_fault before n fault.Order h sized is follows = h.2 follows
+    no_fault before n fault.Memory h sized is follows = h
+
 -- ---- the written value
 
 names_float : (ns : List Name) → items_have_float (name_items ns) ≡ false
@@ -114,6 +132,10 @@ nodes_depth (n ∷ ns) = omega (arith, kind_depth n.name n.what, nodes_depth ns)
 
 pub tree_depth : (ns : List Node) → depth (tree_data ns) ≤ 127
 tree_depth ns = omega (arith, nodes_depth ns)
+
+-- a tree's text begins with a brace
+pub tree_some : (ns : List Node) → 1 ≤ length (tree_text ns)
+tree_some ns = omega arith
 
 -- the object of a node is that of the node
 kind_reads : (name : List ℕ) (k : NodeKind) → IsSized k → AreNamed k → (text_at (codes "name") (kind_data name k) ≡ Some name) × IsKind (kind_data name k) k

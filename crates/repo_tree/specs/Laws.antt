@@ -1,15 +1,15 @@
 -- What holds of texts, and of trees in sets of blobs.
-use Rattle.std.specs.Prelude.{◌≡◌, ◌<◌, ℕ, List, [], length}
+use Rattle.std.specs.Prelude.{◌≡◌, ◌<◌, ◌≤◌, ◌++◌, ◌∷◌, ℕ, List, [], length}
 use Rattle.repo_name.specs.Naming.{name}
 use Rattle.repo_name.specs.declared.names.Name.{Name}
 use Rattle.repo_name.specs.declared.kinds.BlobKind.{BlobKind}
-use Rattle.repo_name.specs.declared.kinds.BlobKind.TheVariants.{Tree}
+use Rattle.repo_name.specs.declared.kinds.BlobKind.TheVariants.{Content, Tree}
 use Rattle.repo_tree.specs.TreeText.{IsTreeText}
 use Rattle.repo_tree.specs.SnapshotText.{IsSnapshotText}
 use Rattle.repo_tree.specs.ConfigText.{IsConfigText}
 use Rattle.repo_tree.specs.declared.snapshots.Snapshot.{Snapshot}
 use Rattle.repo_tree.specs.declared.configs.Config.{Config}
-use Rattle.repo_tree.specs.Spelling.{Blobs, IsTree, NodesSpell, Spells, Reach, HasPair, greatest_depth}
+use Rattle.repo_tree.specs.Spelling.{Blobs, IsTree, Joined, NodeSpells, NodesSpell, Spells, Reach, HasPair, greatest_depth}
 use Rattle.repo_tree.specs.declared.nodes.Node.{Node}
 use Rattle.repo_tree.specs.declared.entries.Entry.{Entry}
 
@@ -69,3 +69,28 @@ NodesMakeSpelled B = (t : Name) (path : List (List ℕ)) (nodes : List Node) (en
 abbrev pub SpelledHasNodes : Blobs → Type 0
 SpelledHasNodes B = (t : Name) (path : List (List ℕ)) (entries : List Entry) → length path < greatest_depth → Spells B t path entries
     → (nodes : List Node) × IsTree B t nodes × NodesSpell B (Spells B) path nodes entries
+
+-- at the greatest depth there are no nodes
+abbrev pub DeepestIsEmpty : Blobs → Type 0
+DeepestIsEmpty B = (t : Name) (path : List (List ℕ)) (entries : List Entry) → greatest_depth ≤ length path → Spells B t path entries
+    → IsTree B t [] × (entries ≡ [])
+
+-- the bytes of some content blobs, and of one more behind them
+abbrev pub JoinedGoOn : Blobs → Type 0
+JoinedGoOn B = (names : List Name) (bytes : List ℕ) (next : Name) (more : List ℕ) → Joined B names bytes → B Content more → name more ≡ next
+    → Joined B (names ++ next ∷ []) (bytes ++ more)
+
+-- what some nodes spell, and one more behind them
+abbrev pub NodesGoOn : Blobs → Type 0
+NodesGoOn B = (path : List (List ℕ)) (nodes : List Node) (entries : List Entry) (next : Node) (more : List Entry)
+    → NodesSpell B (Spells B) path nodes entries → NodeSpells B (Spells B) (path ++ next.name ∷ []) next.what more
+    → NodesSpell B (Spells B) path (nodes ++ next ∷ []) (entries ++ more)
+
+-- the bytes that blobs of B make up, those of C that grew from it make up
+abbrev pub JoinedGrow : Blobs → Blobs → Type 0
+JoinedGrow B C = Grows B C → (names : List Name) (bytes : List ℕ) → Joined B names bytes → Joined C names bytes
+
+-- what some nodes of a directory spell in B, they spell in C that grew from it
+abbrev pub NodesGrow : Blobs → Blobs → Type 0
+NodesGrow B C = Grows B C → (path : List (List ℕ)) (nodes : List Node) (entries : List Entry)
+    → NodesSpell B (Spells B) path nodes entries → NodesSpell C (Spells C) path nodes entries

@@ -52,20 +52,12 @@ fn instance_of(text: &str) -> Option<Instance>
     }
 }
 
-/// The bytes of an instance.
-fn bytes_of(id: Instance) -> [u8; 16]
-    ensures bytes { result ≡ id.0 }
-    ensures instance { IsInstance id }
-{
-    id.0
-}
-
 /// An instance's 32 digits, in lower case.
 fn digits_of(alloc: Global, id: Instance) -> Result<String, AllocError>
     ensures text { IfOk result (λ text. string_bytes text ≡ encode_lower id.0) }
     ensures instance { IsInstance id }
 {
-    hex::encode(alloc, &bytes_of(id))
+    hex::encode(alloc, &id.to_bytes())
 }
 
 /// Whether a pack may be closed at this length.

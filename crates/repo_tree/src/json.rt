@@ -42,14 +42,6 @@ pub(crate) fn parse(alloc: Global, bytes: &[u8], limit: usize) -> Result<Value, 
     }
 }
 
-/// The bytes of a name.
-fn bytes_of(name: Name) -> [u8; 32]
-    ensures bytes { result ≡ name.0 }
-    ensures named { IsName name }
-{
-    name.0
-}
-
 /// The name of which this is the text: 64 digits in lower case.
 pub(crate) fn name_of(text: &str) -> Option<Name>
     ensures found { IfSome result (λ n. text.now ≡ hex_of n) }
@@ -59,7 +51,7 @@ pub(crate) fn name_of(text: &str) -> Option<Name>
     let Ok(name) = Name::from_hex(text) else {
         return None;
     };
-    Some(Name(bytes_of(name)))
+    Some(name)
 }
 
 /// The name under a key.
@@ -97,5 +89,5 @@ pub(crate) fn digits_of(alloc: Global, name: Name) -> Result<String, AllocError>
     ensures text { IfOk result (λ text. string_bytes text ≡ hex_of name) }
     ensures named { IsName name }
 {
-    Name(bytes_of(name)).to_hex(alloc)
+    name.to_hex(alloc)
 }

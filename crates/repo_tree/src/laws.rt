@@ -3,7 +3,8 @@
 
 ghost use Rattle.repo_tree.specs.Laws.{TreeTextsAreOne, SnapshotTextsAreOne, ConfigTextsAreOne};
 ghost use Rattle.repo_tree.specs.Laws.{SpellsOne, SpellsGrow, SpellsMove, ReachedIsThere, ReachStays};
-ghost use Rattle.repo_tree.specs.Laws.{EmptySpells, NodesMakeSpelled, SpelledHasNodes};
+ghost use Rattle.repo_tree.specs.Laws.{EmptySpells, DeepestIsEmpty, NodesMakeSpelled, SpelledHasNodes};
+ghost use Rattle.repo_tree.specs.Laws.{JoinedGoOn, NodesGoOn, JoinedGrow, NodesGrow};
 ghost use Rattle.repo_name.specs.declared.kinds.BlobKind.{BlobKind};
 ghost use Rattle.std.specs.Prelude.{List, ℕ};
 
@@ -58,6 +59,11 @@ pub fn empty_spells<B: BlobSet>()
     ensures { EmptySpells B.has }
 {}
 
+/// At a path of 100 components a tree has no nodes, and spells nothing.
+pub fn deepest_is_empty<B: BlobSet>()
+    ensures { DeepestIsEmpty B.has }
+{}
+
 /// A directory's entries are spelled from its nodes and what its subtrees spell.
 pub fn nodes_make_spelled<B: BlobSet>()
     ensures { NodesMakeSpelled B.has }
@@ -66,4 +72,24 @@ pub fn nodes_make_spelled<B: BlobSet>()
 /// What a directory spells, its nodes spell.
 pub fn spelled_has_nodes<B: BlobSet>()
     ensures { SpelledHasNodes B.has }
+{}
+
+/// The bytes of a file's first blobs go on with those of the next.
+pub fn joined_go_on<B: BlobSet>()
+    ensures { JoinedGoOn B.has }
+{}
+
+/// What a directory's first nodes spell goes on with what the next one spells.
+pub fn nodes_go_on<B: BlobSet>()
+    ensures { NodesGoOn B.has }
+{}
+
+/// The bytes of a file's first blobs stay when the set has more.
+pub fn joined_grow<B: BlobSet, C: BlobSet>()
+    ensures { JoinedGrow B.has C.has }
+{}
+
+/// What a directory's first nodes spell stays when the set has more.
+pub fn nodes_grow<B: BlobSet, C: BlobSet>()
+    ensures { NodesGrow B.has C.has }
 {}

@@ -1,6 +1,6 @@
 //! Tree texts, written.
 
-ghost use Rattle.std.specs.Prelude.{◌≡◌, ◌≢◌, ◌<◌, ◌↔◌, ℕ, List, length, codes, IfOk, IfErr, OnOk, OnErr, IsTrue, All};
+ghost use Rattle.std.specs.Prelude.{◌≡◌, ◌≢◌, ◌<◌, ◌≤◌, ◌↔◌, ◌⊎◌, ℕ, List, length, codes, IfOk, IfErr, OnOk, OnErr, IsTrue, All};
 ghost use Rattle.serde_json.specs.Data.{string, array};
 ghost use Rattle.serde_json.specs.View.{view, items_view};
 ghost use Rattle.repo_name.specs.Naming.{hex_of, IsName};
@@ -126,11 +126,14 @@ fn check_nodes(nodes: &[Node]) -> Result<(), TreeError>
 }
 
 /// The text of a tree of these nodes. Nodes are looked at one after another, and each one's `Shape`, a file of 2^48
-/// bytes or more, `BadName` and `Order` in this order; then memory is asked for, and `TooLarge` comes last.
+/// bytes or more, `BadName` and `Order` in this order; then memory is asked for, and `TooLarge` comes last. So nodes in
+/// order whose files are not too long are refused for the text's length alone, or for memory.
 pub fn write_tree(alloc: Global, nodes: &[Node]) -> Result<Vec<u8>, TreeError>
     ensures text { IfOk result (λ text. text.items ≡ tree_text nodes.now) }
     ensures reads { IfOk result (λ text. IsTreeText text.items nodes.now) }
+    ensures some { IfOk result (λ text. 1 ≤ length text.items) }
     ensures fault { IfErr result (TreeIsUnwritable nodes.now) }
+    ensures writable { IfErr result (λ e. AreWritable nodes.now → (e ≡ TreeError.TooLarge) ⊎ (e ≡ TreeError.Memory)) }
 {
     check_nodes(nodes)?;
     let value = tree_value(alloc, nodes)?;

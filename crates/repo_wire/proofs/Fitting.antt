@@ -1,14 +1,15 @@
-use Rattle.std.proofs.Common.{◌≡◌, ◌≤◌, ◌<◌, ◌+◌, ◌*◌, ◌^◌, ◌↔◌, ◌∷◌, [], Bool, List, length, IsTrue, refl, sym, ap, subst, arith, length-append}
+use Rattle.std.proofs.Common.{◌≡◌, ◌≤◌, ◌<◌, ◌+◌, ◌*◌, ◌^◌, ◌↔◌, ◌++◌, ◌∷◌, [], Bool, List, Some, None, length, IsTrue, refl, sym, ap, subst, arith, length-append}
 use Rattle.std.specs.List.{flat_map, All}
 use Rattle.std.proofs.lemmas.List.Elements.{All-head, All-tail}
 use Rattle.repo_name.specs.declared.names.Name.{Name}
 use Rattle.repo_name.specs.declared.rows.LockRow.{LockRow}
 use Rattle.repo_name.specs.Naming.{IsInstance, IsName}
 use Rattle.repo_name.specs.Rows.{row_bytes, IsRow}
+use Rattle.repo_wire.specs.declared.messages.Ask.{Ask}
 use Rattle.repo_wire.specs.declared.messages.Reply.{Reply}
 use Rattle.repo_wire.specs.declared.messages.Request.{Request}
 use Rattle.repo_wire.specs.declared.messages.Say.{Say}
-use Rattle.repo_wire.specs.Messages.{names_bytes, ask_tag, ask_fields, IsAsk, requests, say_tag, say_fields, IsSay, IsReply, IsShortSay, replies}
+use Rattle.repo_wire.specs.Messages.{short_number, names_bytes, ask_tag, ask_fields, IsAsk, IsRequest, IsShortAsk, requests, say_tag, say_fields, IsSay, IsReply, IsShortSay, replies}
 use Rattle.repo_wire.specs.Stream.{FitsFrame}
 use Rattle.repo_wire.proofs.Bodies.{length-body}
 
@@ -44,13 +45,33 @@ reply_fits reply ok short =
     let all = length-body (say_tag reply.say) reply.instance.0 (say_fields reply.say) reply.sequence ok.instance.0 in
     (ok, (omega arith, omega arith))
 
+-- the fields of a short ask leave room for the body's other parts
+short_asks : (ask : Ask) → IsAsk ask → IsShortAsk ask → length (ask_fields ask) ≤ 26214375
+short_asks Ask.Ticket ok short = omega arith
+short_asks (Ask.Lock row) ok short = let few = ok.host.1 in omega arith
+short_asks (Ask.Refresh token time) ok short = omega arith
+short_asks (Ask.Unlock token) ok short = omega arith
+short_asks Ask.Locks ok short = omega arith
+short_asks (Ask.List kind None) ok short = omega arith
+short_asks (Ask.List kind (Some name)) ok short = let all = ok.0 in omega arith
+short_asks (Ask.Get kind name) ok short = let all = ok.0 in omega arith
+short_asks (Ask.Range pack offset len) ok short = let all : length pack.0 ≡ 32 = ok.0.0 in omega (arith, length-append pack.0 (short_number offset ++ short_number len), length-append pack.0 (short_number offset), length-append (pack.0 ++ short_number offset) (short_number len))
+short_asks (Ask.Put token kind name bytes) ok short = let all = ok.1.0 in omega (arith, length-append name.0 bytes)
+short_asks (Ask.Delete token kind name) ok short = let all = ok.1.0 in omega arith
+short_asks Ask.Config ok short = omega arith
+
+-- a request within its limits, with few enough bytes, fits a frame
+pub request_fits : (request : Request) → IsRequest request → IsShortAsk request.ask → FitsFrame requests request
+request_fits request ok short =
+    let few = short_asks request.ask ok.ask short in
+    let all = length-body (ask_tag request.ask) request.instance.0 (ask_fields request.ask) request.sequence ok.instance.0 in
+    (ok, (omega arith, omega arith))
+
 -- a page of names fits where it is within its limits
-pub names_fit : (say : Say) (more : Bool) (names list : List Name) (r : Bool) → say ≡ Say.Names more names → list ≡ names
-    → IsTrue r ↔ ((length list ≤ 256) × All IsName list) → IsTrue r ↔ (IsSay say × (length (say_fields say) ≤ 26214375))
-names_fit say more names list r is same h =
+pub names_fit : (say : Say) (more : Bool) (names : List Name) (r : Bool) → say ≡ Say.Names more names
+    → IsTrue r ↔ ((length names ≤ 256) × All IsName names) → IsTrue r ↔ (IsSay say × (length (say_fields say) ≤ 26214375))
+names_fit say more names r is k =
     let P : Say → Type 0 = λ s. IsTrue r ↔ (IsSay s × (length (say_fields s) ≤ 26214375)) in
-    let Q : List Name → Type 0 = λ l. IsTrue r ↔ ((length l ≤ 256) × All IsName l) in
-    let k = subst Q same h in
     subst P (sym is) (λ yes. (k.0 yes, short_fields (Say.Names more names) (k.0 yes) tt), λ fits. k.1 fits.0)
 
 -- a list of locks fits where it is within its limits

@@ -96,9 +96,27 @@ pub record IsRequest (request : Request) : Type 0 where
 abbrev pub request_body : Request → List ℕ
 request_body request = ask_tag request.ask ∷ request.instance.0 ++ (number request.sequence ++ ask_fields request.ask)
 
+-- what is asked has few enough bytes for a frame
+abbrev pub IsShortAsk : Ask → Type 0
+IsShortAsk Ask.Ticket = ⊤
+IsShortAsk (Ask.Lock row) = ⊤
+IsShortAsk (Ask.Refresh token time) = ⊤
+IsShortAsk (Ask.Unlock token) = ⊤
+IsShortAsk Ask.Locks = ⊤
+IsShortAsk (Ask.List kind after) = ⊤
+IsShortAsk (Ask.Get kind name) = ⊤
+IsShortAsk (Ask.Range pack offset len) = ⊤
+IsShortAsk (Ask.Put token kind name bytes) = length bytes ≤ 26214334
+IsShortAsk (Ask.Delete token kind name) = ⊤
+IsShortAsk Ask.Config = ⊤
+
 -- the messages that clients send
 abbrev pub requests : Sort Request
 requests = record { body = request_body; IsMessage = IsRequest; KnowsTag = λ tag. (ask : Ask) × (ask_tag ask ≡ tag) }
+
+-- requests within their limits, with few enough bytes, fit a frame
+abbrev pub RequestsFit : Type 0
+RequestsFit = (request : Request) → IsRequest request → IsShortAsk request.ask → FitsFrame requests request
 
 -- the number of each refusal
 abbrev pub code_number : Code → ℕ

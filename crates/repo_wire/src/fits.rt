@@ -1,4 +1,5 @@
-//! Which messages fit a frame.
+//! Which messages fit a frame. The tests of how many bytes a name or an instance has always hold, and are
+//! compiled to nothing.
 
 ghost use Rattle.std.specs.Prelude.{◌≡◌, ◌≤◌, ◌↔◌, length, All, IsTrue};
 ghost use Rattle.repo_name.specs.Naming.{IsName};
@@ -8,8 +9,8 @@ ghost use Rattle.repo_wire.specs.Stream.{FitsFrame};
 
 use crate::messages::{Ask, PAGE_LIMIT, Reply, Request, Say};
 use crate::parts::{GREATEST, LEAST};
-use crate::ranges::{is_head, is_name, is_number, is_short_number};
-use repo_name::{LockRow, Name};
+use crate::ranges::{is_number, is_short_number};
+use repo_name::{LockRow, Names};
 
 /// The greatest length of a message's fields.
 const FIELDS_LIMIT: usize = GREATEST - LEAST;
@@ -38,13 +39,13 @@ fn ask_fits(ask: &Ask) -> bool
         Ask::List {
             after: Some(name),
             ..
-        } => is_name(*name),
-        Ask::Get { name, .. } => is_name(*name),
+        } => name.to_bytes().len() == 32,
+        Ask::Get { name, .. } => name.to_bytes().len() == 32,
         Ask::Range {
             pack,
             offset,
             length,
-        } => is_name(*pack) && is_short_number(*offset) && is_short_number(*length),
+        } => pack.to_bytes().len() == 32 && is_short_number(*offset) && is_short_number(*length),
         Ask::Put {
             token,
             name,
@@ -52,18 +53,18 @@ fn ask_fits(ask: &Ask) -> bool
             ..
         } => {
             is_number(token.0)
-                && is_name(*name)
+                && name.to_bytes().len() == 32
                 && bytes.as_slice().len() <= FIELDS_LIMIT - PUT_HEAD
         }
-        Ask::Delete { token, name, .. } => is_number(token.0) && is_name(*name),
+        Ask::Delete { token, name, .. } => is_number(token.0) && name.to_bytes().len() == 32,
     }
 }
 
 /// Whether there are at most 256 names.
-fn is_page(names: &[Name]) -> bool
+fn is_page(names: &Names) -> bool
     ensures { IsTrue result ↔ ((length names.now ≤ page_limit) × All IsName names.now) }
 {
-    names.len() <= PAGE_LIMIT && names.iter().copied().all(is_name)
+    names.as_slice().len() <= PAGE_LIMIT
 }
 
 /// Whether each row's host is within its limits.
@@ -92,7 +93,7 @@ fn say_fits(say: &Say) -> bool
     match say {
         Say::Token(token) => is_number(token.0),
         Say::Done | Say::Refused(_) => true,
-        Say::Names { names, .. } => is_page(names.as_slice()),
+        Say::Names { names, .. } => is_page(names),
         Say::Bytes(bytes) => bytes.as_slice().len() <= FIELDS_LIMIT,
         Say::LockList(rows) => is_lock_list(rows.as_slice()),
     }
@@ -104,7 +105,7 @@ impl Request {
     pub fn fits(&self) -> bool
         ensures { IsTrue result ↔ FitsFrame requests self.now }
     {
-        is_head(self.instance, self.sequence) && ask_fits(&self.ask)
+        self.instance.to_bytes().len() == 16 && is_number(self.sequence) && ask_fits(&self.ask)
     }
 }
 
@@ -114,6 +115,6 @@ impl Reply {
     pub fn fits(&self) -> bool
         ensures { IsTrue result ↔ FitsFrame replies self.now }
     {
-        is_head(self.instance, self.sequence) && say_fits(&self.say)
+        self.instance.to_bytes().len() == 16 && is_number(self.sequence) && say_fits(&self.say)
     }
 }

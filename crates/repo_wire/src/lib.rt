@@ -10,7 +10,8 @@
 //! promised: anything about who sent it.
 //!
 //! The definitions stand in `specs/`: `Messages` (the body of each message), `Stream` (frames, faults,
-//! the reading of a stream), `Reading` (what a reader has left, and one step of it).
+//! the reading of a stream), `Reading` (what a reader has left, and one step of it), `Parsing` (what
+//! fields say under a tag).
 #![tactic(auto)]
 
 mod appending;
@@ -31,7 +32,7 @@ mod writing;
 pub use faults::{Fault, WireError};
 pub use laws::{
     one_reading_of_replies, one_reading_of_requests, readers_follow_replies,
-    readers_follow_requests, replies_fit,
+    readers_follow_requests, replies_fit, requests_fit,
 };
 pub use messages::{Ask, Code, Reply, Request, Say};
 pub use reading::FrameReader;

@@ -427,7 +427,7 @@ fn hosts_have_1_to_255_bytes(rt: HostRuntime) -> Result<(), Fail> {
 
 // It holds too where any one growth is refused, and is asked for again.
 #[test]
-fn a_put_comes_back(rt: HostRuntime) -> Result<(), Fail> {
+fn refused_growth_of_a_put(rt: HostRuntime) -> Result<(), Fail> {
     let alloc = rt.alloc();
     let put = [
         0, 0, 0, 67, 9, 1, 1, 1, 1, 1, 1, 1, 1, 1, 1, 1, 1, 1, 1, 1, 1, 0, 0, 0, 0, 0, 0, 0, 3, 0,
@@ -454,5 +454,46 @@ fn a_put_comes_back(rt: HostRuntime) -> Result<(), Fail> {
         write_request(&request, &mut out)?;
     }
     assert_eq!(rt; out.as_slice(), put.as_slice());
+    Ok(())
+}
+
+// A page of one name, and a list of one lock: token 1, exclusive, time 5, host `a`.
+const PAGE: [u8; 64] = [
+    0, 0, 0, 60, 131, 1, 1, 1, 1, 1, 1, 1, 1, 1, 1, 1, 1, 1, 1, 1, 1, 0, 0, 0, 0, 0, 0, 0, 3, 1, 0,
+    1, 7, 7, 7, 7, 7, 7, 7, 7, 7, 7, 7, 7, 7, 7, 7, 7, 7, 7, 7, 7, 7, 7, 7, 7, 7, 7, 7, 7, 7, 7, 7,
+    7,
+];
+
+const LOCKS: [u8; 50] = [
+    0, 0, 0, 46, 133, 1, 1, 1, 1, 1, 1, 1, 1, 1, 1, 1, 1, 1, 1, 1, 1, 0, 0, 0, 0, 0, 0, 0, 3, 0, 1,
+    0, 0, 0, 0, 0, 0, 0, 1, 1, 0, 0, 0, 0, 0, 0, 0, 5, 1, 97,
+];
+
+// It holds where any one growth is refused, and is asked for again.
+#[test]
+fn refused_growth_of_replies(rt: HostRuntime) -> Result<(), Fail> {
+    let alloc = rt.alloc();
+    for frame in [PAGE.as_slice(), LOCKS.as_slice()] {
+        let mut reader = FrameReader::new(alloc);
+        if reader.feed(frame).is_err() {
+            assert!(rt; reader.is_between());
+            reader.feed(frame)?;
+        }
+        let found = match reader.next_reply() {
+            Err(WireError::Memory) => reader.next_reply()?,
+            found => found?,
+        };
+        let Some(reply) = found else {
+            assert!(rt; false);
+            return Ok(());
+        };
+        assert!(rt; reply.fits());
+        let mut out = Vec::new(alloc);
+        if write_reply(&reply, &mut out).is_err() {
+            assert_eq!(rt; out.len(), 0);
+            write_reply(&reply, &mut out)?;
+        }
+        assert_eq!(rt; out.as_slice(), frame);
+    }
     Ok(())
 }

@@ -1,7 +1,8 @@
 //! Snapshots and configs against texts that were written by hand after the format, and the laws at a set of blobs.
 
 use crate::laws::{
-    BlobSet, config_texts_are_one, empty_spells, nodes_make_spelled, reach_stays, reached_is_there,
+    BlobSet, config_texts_are_one, deepest_is_empty, empty_spells, joined_go_on, joined_grow,
+    nodes_go_on, nodes_grow, nodes_make_spelled, reach_stays, reached_is_there,
     snapshot_texts_are_one, spelled_has_nodes, spells_grow, spells_move, spells_one,
     tree_texts_are_one,
 };
@@ -249,4 +250,9 @@ fn laws_hold_of_no_blobs() {
     empty_spells::<NoBlobs>();
     nodes_make_spelled::<NoBlobs>();
     spelled_has_nodes::<NoBlobs>();
+    deepest_is_empty::<NoBlobs>();
+    joined_go_on::<NoBlobs>();
+    nodes_go_on::<NoBlobs>();
+    joined_grow::<NoBlobs, NoBlobs>();
+    nodes_grow::<NoBlobs, NoBlobs>();
 }

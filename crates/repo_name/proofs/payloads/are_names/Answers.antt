@@ -6,7 +6,7 @@ use Rattle.repo_name.specs.Naming.{IsName}
 use Rattle.repo_name.proofs.payloads.are_names.Goals as goal
 
 pub loop-name-preserved : goal.loop-name-preserved
-loop-name-preserved c = All-more IsName c.args.names.now c.loop-name.name-index (record { 0 = [] }) c.loop-name-test.true c.loop-name.invariant c.bytes_of.ensures.name
+loop-name-preserved c = All-more IsName c.args.names.now c.loop-name.name-index (record { 0 = [] }) c.loop-name-test.true c.loop-name.invariant c.to_bytes.ensures.name
 
 pub returns : goal.returns
 returns c =

@@ -1,7 +1,8 @@
-use Rattle.std.proofs.Common.{◌++◌, Bool, Ok, subst, arith, inr}
+use Rattle.std.proofs.Common.{◌++◌, [], Bool, Ok, subst, arith, inr}
 use Rattle.std.proofs.lemmas.Result.{err_from_is_err_and}
-use Rattle.repo_prog.specs.Talks.{nothing, PieceGives}
-use Rattle.repo_prog.proofs.TalkLines.{begun, inside_memory_told, inside_some_told}
+use Rattle.repo_store.specs.Services.{nothing}
+use Rattle.repo_prog.specs.Talks.{PieceGives}
+use Rattle.repo_prog.proofs.TalkLemmas.{begun, memory_told, whole_told}
 use Rattle.repo_prog.proofs.frames_engine.frames.Goals as goal
 
 pub returns-in_err-piece : goal.returns-in_err-piece
@@ -9,13 +10,14 @@ returns-in_err-piece g c input same =
     let start = g.W.Write.contents c.args.writer.now in
     let talk = c.new-talk.result in
     let p = err_from_is_err_and c.from_residual.result c.from_residual.ensures.1 in
-    rw (p.1, p.2) (inside_memory_told input input start talk nothing start (begun input start talk (c.new-talk.ensures.rests start) c.new-talk.ensures.line))
+    let r = begun input start talk (c.new-talk.ensures.talks start) c.new-talk.ensures.line in
+    rw (p.1, p.2) (memory_told input (talk.line.items ++ input) start talk [] nothing start r.are r.talks)
 
 pub loop-turn-init : goal.loop-turn-init
 loop-turn-init g c = record {
   next = λ input same.
       let start = g.W.Write.contents c.args.writer.now in
-      (input, nothing, same, omega arith, begun input start c.new-talk.result (c.new-talk.ensures.rests start) c.new-talk.ensures.line);
+      (input, same, omega arith, [], nothing, begun input start c.new-talk.result (c.new-talk.ensures.talks start) c.new-talk.ensures.line);
   number = omega (arith, c.new-talk.ensures.number);
   piece = c.in_ok-piece.ensures.len;
 }
@@ -24,15 +26,15 @@ pub returns-in_err-more : goal.returns-in_err-more
 returns-in_err-more g c input same =
     let i = c.loop-turn.invariant.next input same in
     let p = err_from_is_err_and c.from_residual-in_err-more.result c.from_residual-in_err-more.ensures.1 in
-    rw (p.1, p.2) (c.in_err-more.ensures.next input i.0 (g.W.Write.contents c.args.writer.now) i.1 i.2 i.4)
+    rw (p.1, p.2) (c.in_err-more.ensures.next input i.0 (g.W.Write.contents c.args.writer.now) i.3 i.4 i.1 i.5)
 
 pub returns-then-not-more : goal.returns-then-not-more
 returns-then-not-more g c input same =
     let start = g.W.Write.contents c.args.writer.now in
     let i = c.loop-turn.invariant.next input same in
     let P : Bool → Type 0 = λ more. PieceGives input start i.0 (g.R.Read.remaining c.read_piece.new.reader) (Ok more) c.read_piece.new.talk (g.W.Write.contents c.read_piece.new.writer) in
-    let r = subst P c.if-not-more.true (c.in_ok-more.ensures.next input i.0 start i.1 i.2 i.4) in
-    c.finish.ensures input start r.0 r.1
+    let r = subst P c.if-not-more.true (c.in_ok-more.ensures.next input i.0 start i.3 i.4 i.1 i.5) in
+    c.finish.ensures input start r.0 r.1 r.2
 
 pub loop-turn-preserved : goal.loop-turn-preserved
 loop-turn-preserved g c = record {
@@ -40,8 +42,8 @@ loop-turn-preserved g c = record {
       let start = g.W.Write.contents c.args.writer.now in
       let i = c.loop-turn.invariant.next input same in
       let P : Bool → Type 0 = λ more. PieceGives input start i.0 (g.R.Read.remaining c.read_piece.new.reader) (Ok more) c.read_piece.new.talk (g.W.Write.contents c.read_piece.new.writer) in
-      let r = subst P c.if-not-more.false (c.in_ok-more.ensures.next input i.0 start i.1 i.2 i.4) in
-      (r.0, r.1, r.2, omega (arith, i.3, r.3), r.4);
+      let r = subst P c.if-not-more.false (c.in_ok-more.ensures.next input i.0 start i.3 i.4 i.1 i.5) in
+      (r.0, r.1, omega (arith, i.2, r.2), r.3, r.4, r.5);
   number = omega (arith, c.in_ok-more.ensures.number, c.loop-turn.invariant.number, c.as_mut_slice.ensures.len, c.loop-turn.invariant.piece);
   piece = c.loop-turn.invariant.piece;
 }
@@ -50,4 +52,4 @@ pub returns : goal.returns
 returns g c input same =
     let start = g.W.Write.contents c.args.writer.now in
     let i = c.loop-turn.invariant.next input same in
-    (i.1, c.loop-turn.talk.line.items ++ i.0, i.4.lines, inside_some_told input i.0 start c.loop-turn.talk i.1 (g.W.Write.contents c.loop-turn.writer) i.4, inr (omega (arith, i.3, c.loop-turn-test.false)))
+    (i.3, i.4, c.loop-turn.talk.line.items ++ i.0, i.5.are, whole_told start c.loop-turn.talk i.3 i.4 (g.W.Write.contents c.loop-turn.writer) i.5.talks, inr (omega (arith, i.2, c.loop-turn-test.false)))

@@ -1,10 +1,16 @@
-use Rattle.std.proofs.Common.{rules, ◌≡◌, ◌<◌, ◌≤◌, ◌∙◌, ℕ, List, length, Some, ap, subst}
+use Rattle.std.proofs.Common.{rules, ◌≡◌, ◌<◌, ◌≤◌, ◌∙◌, ℕ, List, length, Some, ap, subst, arith}
+use Rattle.std.proofs.lemmas.Result.{err_from_is_err_and}
 use Rattle.serde_json.specs.Data.{depth}
 use Rattle.serde_json.specs.View.{view}
 use Rattle.serde_json.specs.Written.{has_float, compact_text}
 use Rattle.repo_tree.specs.TreeWriting.{tree_data, tree_text}
-use Rattle.repo_tree.proofs.WritingLemmas.{tree_float, tree_depth, tree_reads}
+use Rattle.repo_tree.proofs.WritingLemmas.{tree_float, tree_depth, tree_reads, faulty_node, tree_some}
 use Rattle.repo_tree.proofs.tree_writing.write_tree.Goals as goal
+
+pub returns-in_err-check_nodes-clause-writable : goal.returns-in_err-check_nodes-clause-writable
+returns-in_err-check_nodes-clause-writable c =
+    let p = err_from_is_err_and c.from_residual.result c.from_residual.ensures.1 in
+    rw (p.1, p.2) (λ writable. absurd (faulty_node c.args.nodes.now c.in_err-check_nodes.field-0.0 c.in_err-check_nodes.ensures.fault writable))
 
 pub returns-then-len-gt-LIMIT-clause-fault : goal.returns-then-len-gt-LIMIT-clause-fault
 returns-then-len-gt-LIMIT-clause-fault c =
@@ -26,3 +32,10 @@ returns-clause-reads c =
     let shallow : depth (view c.in_ok-value.value) ≤ 127 = rw value (tree_depth c.args.nodes.now) in
     let reads = c.in_ok-text.ensures.reads_back shallow ∙ ap Some value in
     tree_reads c.args.nodes.now c.in_ok-text.text.items c.in_ok-check_nodes.ensures.ok c.in_ok-value.ensures.named short c.in_ok-text.ensures.utf8 reads
+
+pub returns-clause-some : goal.returns-clause-some
+returns-clause-some c =
+    let value : view c.in_ok-value.value ≡ tree_data c.args.nodes.now = c.in_ok-value.ensures.value in
+    let text : c.in_ok-text.text.items ≡ tree_text c.args.nodes.now =
+    c.in_ok-text.ensures.text (ap has_float value ∙ tree_float c.args.nodes.now) ∙ ap compact_text value in
+    omega (arith, ap length text, tree_some c.args.nodes.now)

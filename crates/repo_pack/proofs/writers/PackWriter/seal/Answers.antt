@@ -1,8 +1,10 @@
 use Rattle.std.proofs.Common.{◌++◌, ℕ, List, length, sym, ap, subst, ◌∙◌, arith}
+use Rattle.std.specs.List.{All}
 use Rattle.repo_pack.specs.declared.rows.Row.{Row}
-use Rattle.repo_pack.specs.PackLayout.{IsTruePack}
+use Rattle.repo_pack.specs.declared.places.Place.{Place}
+use Rattle.repo_pack.specs.PackLayout.{IsTruePack, IsWithin}
 use Rattle.repo_pack.specs.PackWriting.{Packing, IsFilled, ending_of, places_from, ArePlaces}
-use Rattle.repo_pack.proofs.WriterLemmas.{sealed_is, sealed_length, lengths_small, places_are}
+use Rattle.repo_pack.proofs.WriterLemmas.{sealed_is, sealed_length, lengths_small, places_are, places_within}
 use Rattle.repo_pack.proofs.writers.PackWriter.seal.Goals as goal
 
 pub finish-requires-clause-small : goal.finish-requires-clause-small
@@ -31,6 +33,15 @@ returns-in-Ok-clause-places c =
     let filled = subst (IsFilled rows blobs c.self.inside.target) (ap (λ (p : Packing). p.items) c.self.view_is) c.self.invariant in
     let places = c.in-Ok.ensures.places ∙ ap (places_from c.in-Ok.name 0) (c.deref.ensures.value ∙ filled.rows_are) in
     subst (ArePlaces c.in-Ok.name items) (sym places) (places_are c.in-Ok.name items)
+
+pub returns-in-Ok-clause-within : goal.returns-in-Ok-clause-within
+returns-in-Ok-clause-within c =
+    let rows = c.self.inside.rows.items in
+    let blobs = c.self.inside.blobs.items in
+    let items = c.args.self.items in
+    let filled = subst (IsFilled rows blobs c.self.inside.target) (ap (λ (p : Packing). p.items) c.self.view_is) c.self.invariant in
+    let places = c.in-Ok.ensures.places ∙ ap (places_from c.in-Ok.name 0) (c.deref.ensures.value ∙ filled.rows_are) in
+    subst (All (λ (place : Place). IsWithin place.offset place.length)) (sym places) (places_within c.in-Ok.name rows blobs c.self.inside.target items filled)
 
 pub returns-in-Ok-clause-size : goal.returns-in-Ok-clause-size
 unfolding ended

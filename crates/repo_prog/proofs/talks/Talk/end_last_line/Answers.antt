@@ -1,24 +1,19 @@
 use Rattle.std.proofs.Common.{◌≡◌, ◌++◌, ◌∷◌, [], List, ℕ, length, ap, sym, subst, eq-eqb, ◌∙◌}
 use Rattle.std.proofs.lemmas.List.{append-nil}
-use Rattle.repo_prog.specs.FramesRun.{Past}
 use Rattle.repo_prog.specs.HexLines.{AreLines}
-use Rattle.repo_prog.specs.Talks.{Rests}
 use Rattle.repo_prog.proofs.LineLemmas.{last_line}
-use Rattle.repo_prog.proofs.TalkLines.{goes_on}
+use Rattle.repo_prog.proofs.TalkLemmas.{last_goes}
 use Rattle.repo_prog.proofs.talks.Talk.end_last_line.Goals as goal
 
 pub returns : goal.returns
-returns g c input start past r =
+returns g c input start lines past r =
     let line = c.args.self.now.line.items in
-    let P : List ℕ → Type 0 = λ x. AreLines input past.lines x in
+    let P : List ℕ → Type 0 = λ x. AreLines input lines x in
     let some : line ≡ [] → ⊥ = λ none.
     let zero : length c.as_slice.result.now ≡ 0 = ap length (c.as_slice.ensures.value ∙ none) in
     let empty = eq-eqb (length c.as_slice.result.now) 0 zero in
     let is = c.is_empty.ensures in
     let not = c.if-is_empty.false in
     absurd (cc (empty, is, not)) in
-    let last = last_line input past.lines line r.line some (subst P (append-nil line) r.lines) in
-    let Q : List (List ℕ) → Type 0 = λ x. AreLines input x [] in
-    goes_on input start (λ n. (n.lines ≡ past.lines ++ line ∷ []) × Rests start c.end_line.new.self n (g.W.Write.contents c.end_line.new.writer))
-    (λ n. AreLines input n.lines [] × Rests start c.end_line.new.self n (g.W.Write.contents c.end_line.new.writer))
-    c.end_line.result (g.W.Write.contents c.end_line.new.writer) (λ n h. (subst Q (sym h.0) last, h.1)) (c.end_line.ensures.next input [] start past r.rests last)
+    let last = last_line input lines line r.line some (subst P (append-nil line) r.are) in
+    last_goes input start c.end_line.new.self (lines ++ line ∷ []) c.end_line.result (g.W.Write.contents c.end_line.new.writer) last (c.end_line.ensures.next input [] start lines past r.talks last)

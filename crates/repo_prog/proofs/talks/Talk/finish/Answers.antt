@@ -1,9 +1,12 @@
-use Rattle.repo_prog.proofs.TalkLines.{all_told}
+use Rattle.repo_store.specs.Memory.{store_of}
+use Rattle.repo_store.specs.Serving.{seen}
+use Rattle.repo_store.specs.Stores.{empty}
+use Rattle.repo_prog.proofs.TalkLemmas.{finish_told}
 use Rattle.repo_prog.proofs.talks.Talk.finish.Goals as goal
 
-pub returns-then-not-is_between : goal.returns-then-not-is_between
-returns-then-not-is_between g c input start past r =
-    let e = c.in_ok-end_last_line.ensures input start past r in
-    let talk = c.end_last_line.new.self in
-    let inside = c.if-not-is_between.true in
-    (e.0, talk.reader.unread, e.1.0, (λ none. let between = c.is_between.ensures.1 none in cc (between, inside)), all_told start talk e.0 (g.W.Write.contents c.end_last_line.new.writer) e.1.1)
+pub returns : goal.returns
+returns g c input start lines past r =
+    let e = c.in_ok-end_last_line.ensures input start lines past r in
+    let last = store_of c.end_last_line.new.self.shelf in
+    let contents = g.W.Write.contents c.end_last_line.new.writer in
+    rw c.ok_or.ensures.value (finish_told input start e.0 e.1 last contents c.finish.result e.2 e.3.spelled (c.finish.ensures (seen empty 0 start) (seen last 0 contents) e.1 e.3.rests))

@@ -1,19 +1,8 @@
-use Rattle.std.proofs.Common.{refl, ap}
-use Rattle.repo_store.specs.Memory.{objects_of}
+use Rattle.std.proofs.Common.{ap, sym, refl}
 use Rattle.repo_store.proofs.PageLemmas.{page_of}
 use Rattle.repo_store.proofs.memory.MemShelfShelf.names_after.Goals as goal
 
-pub returns-in_ok-page_after-in-Pack-clause-law : goal.returns-in_ok-page_after-in-Pack-clause-law
-returns-in_ok-page_after-in-Pack-clause-law c h =
-    let p = c.in_ok-page_after-in-Pack in
-    (page_of _ _ _ _ c.args.self.now.packs (λ n. ap (λ k. objects_of c.args.self.now k n) c.in-Pack.is) p.ensures.ordered _ _ p.ensures.cut, refl)
-
-pub returns-in_ok-page_after-in-Index-clause-law : goal.returns-in_ok-page_after-in-Index-clause-law
-returns-in_ok-page_after-in-Index-clause-law c h =
-    let p = c.in_ok-page_after-in-Index in
-    (page_of _ _ _ _ c.args.self.now.indexes (λ n. ap (λ k. objects_of c.args.self.now k n) c.in-Index.is) p.ensures.ordered _ _ p.ensures.cut, refl)
-
-pub returns-in_ok-page_after-in-Snapshot-clause-law : goal.returns-in_ok-page_after-in-Snapshot-clause-law
-returns-in_ok-page_after-in-Snapshot-clause-law c h =
-    let p = c.in_ok-page_after-in-Snapshot in
-    (page_of _ _ _ _ c.args.self.now.snapshots (λ n. ap (λ k. objects_of c.args.self.now k n) c.in-Snapshot.is) p.ensures.ordered _ _ p.ensures.cut, refl)
+pub returns-clause-law : goal.returns-clause-law
+returns-clause-law c h =
+    let p = c.in_ok-page_after in
+    (page_of _ _ _ _ c.map.result.now (λ n. ap (λ f. f n) (sym c.map.ensures)) p.ensures.ordered _ _ p.ensures.cut, refl)

@@ -1,0 +1,3 @@
+pub mod Connecting
+pub mod Talking
+pub mod Meeting

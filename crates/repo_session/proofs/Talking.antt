@@ -1,0 +1,172 @@
+-- What a talk has, after one turn more.
+use Rattle.std.proofs.Common.{◌≡◌, ◌<◌, ◌+◌, ◌++◌, ◌∷◌, [], ℕ, List, Option, Some, None, Result, Ok, Err, length, take, refl, sym, ap, subst, arith, inl, inr, append_assoc, get_or, suc, ◌∙◌}
+use Rattle.std.specs.Io.KnownBytes.{Appends, Consumes}
+use Rattle.std.proofs.KnownBytes.{Appends-trans, Appends-nil}
+use Rattle.std.proofs.Math.Seq.{take-length, take-append_seam, take-append-add, take-suc}
+use Rattle.std.proofs.lemmas.List.{append-nil}
+use Rattle.std.proofs.lemmas.List.Concat.{flat_map-append}
+use Rattle.repo_wire.specs.declared.messages.Ask.{Ask}
+use Rattle.repo_wire.specs.declared.messages.Reply.{Reply}
+use Rattle.repo_wire.specs.declared.messages.Request.{Request}
+use Rattle.repo_wire.specs.Messages.{IsAsk, requests, request_body}
+use Rattle.repo_wire.specs.Stream.{frame, FitsFrame}
+use Rattle.repo_store.specs.Runs.{Replies}
+use Rattle.repo_store.specs.StoreMachine.{SaysFault, IsAnswerable}
+use Rattle.repo_store.specs.Stores.{Store}
+use Rattle.repo_store.proofs.RunLemmas.{run_on}
+use Rattle.repo_store.proofs.ServiceLemmas.{causes_on}
+use Rattle.repo_session.specs.declared.connections.Connection.{Connection}
+use Rattle.repo_session.specs.declared.driving.DriveError.{DriveError}
+use Rattle.repo_session.specs.declared.emissions.Emission.{Emission}
+use Rattle.repo_session.specs.Clients.{Answers, exchange}
+use Rattle.repo_session.specs.Connections.{BeginsWith, Asks}
+use Rattle.repo_session.specs.Talks.{Turn, Talk, IsTurn, trace_of, sent_in, taken_in, read_in, frames_of, Went, Said, IsHeard, WritesPart, ArePassed, with_next, DriveCause, TalkRan, MayStep, AskGives}
+use Rattle.repo_session.specs.Traces.{Each, Trace}
+use Rattle.repo_session.proofs.Connecting.{begins}
+
+-- the frames of one request more
+pub frames_on : (sent : List Request) (request : Request) → frames_of (sent ++ request ∷ []) ≡ frames_of sent ++ frame (request_body request)
+frames_on sent request = flat_map-append (λ r. frame (request_body r)) sent (request ∷ []) ∙ ap (λ x. frames_of sent ++ x) (append-nil (frame (request_body request)))
+
+-- a request that was written whole
+pub written_on : (a b c : Option (List ℕ)) (sent : List Request) (request : Request) → Appends a b (frames_of sent) → Appends b c (frame (request_body request)) → Appends a c (frames_of (sent ++ request ∷ []))
+written_on a b c sent request p q = subst (λ x. Appends a c x) (sym (frames_on sent request)) (Appends-trans a b c (frames_of sent) (frame (request_body request)) p q)
+
+-- a request that was written in part
+pub written_part : (a b c : Option (List ℕ)) (sent : List Request) (request : Request) (k : ℕ) → Appends a b (frames_of sent) → Appends b c (take k (frame (request_body request)))
+    → WritesPart a (sent ++ request ∷ []) c
+written_part a b c sent request k p q =
+    let front = frames_of sent in
+    let body = frame (request_body request) in
+    let same : front ++ take k body ≡ take (length front + k) (frames_of (sent ++ request ∷ [])) = sym (take-append-add front body k) ∙ ap (take (length front + k)) (sym (frames_on sent request)) in
+    (length front + k, subst (λ x. Appends a c x) same (Appends-trans a b c front (take k body) p q))
+
+-- the requests that were sent, and the one that is pending
+pub part_next : (a c : Option (List ℕ)) (sent : List Request) (request : Request) (next : Option Request) → next ≡ Some request → WritesPart a (sent ++ request ∷ []) c → WritesPart a (with_next sent next) c
+part_next a c sent request next same p = subst (λ n. WritesPart a (with_next sent n) c) (sym same) p
+
+-- all that was sent, whatever is pending
+pub whole_part : (a b : Option (List ℕ)) (sent : List Request) (next : Option Request) → Appends a b (frames_of sent) → WritesPart a (with_next sent next) b
+whole_part a b sent None p = (length (frames_of sent), subst (λ x. Appends a b x) (sym (take-length (frames_of sent))) p)
+whole_part a b sent (Some request) p =
+    let front = frames_of sent in
+    let same : front ≡ take (length front) (frames_of (sent ++ request ∷ [])) = sym (ap (take (length front)) (frames_on sent request) ∙ take-append_seam front (frame (request_body request))) in
+    (length front, subst (λ x. Appends a b x) same p)
+
+-- all of some requests
+pub whole_of : (a b : Option (List ℕ)) (sent : List Request) → Appends a b (frames_of sent) → WritesPart a sent b
+whole_of a b sent p = (length (frames_of sent), subst (λ x. Appends a b x) (sym (take-length (frames_of sent))) p)
+
+-- no turn
+pub went_nowhere : {C : Type 0} (Fits : C → Trace → Type 0) (client : C) → Went Fits client [] client
+went_nowhere Fits client = record { turns = tt; fits = λ es h. h }
+
+pub passed_none : (next : Option Request) → ArePassed next []
+passed_none None = tt
+passed_none (Some request) = tt
+
+-- what was heard, with no more replies behind the turns
+pub heard_all : (bytes : List ℕ) (talk : Talk) → BeginsWith bytes (read_in talk) → IsHeard (record { bytes = bytes; talk = talk; more = [] })
+heard_all bytes talk h = subst (λ x. BeginsWith bytes x) (sym (append-nil (read_in talk))) h
+
+-- why a request wasn't answered
+pub unanswered : (error : DriveError) (request : Request) (bytes : List ℕ) (talk : Talk) (passed : List Reply) (new : Connection) (next : Option Request) (a b c : Option (List ℕ))
+    → next ≡ Some request → ArePassed (Some request) passed → Asks request (Err error) bytes (read_in talk) passed new b c → Appends a b (frames_of (sent_in talk))
+    → DriveCause error (record { bytes = bytes; talk = talk; more = passed }) next × WritesPart a (with_next (sent_in talk) next) c
+unanswered error request bytes talk passed new next a b c same h asks w =
+    let r = at error asks in
+    (subst (λ n. DriveCause error (record { bytes = bytes; talk = talk; more = passed }) n) (sym same) r.0, part_next a c (sent_in talk) request next same (written_part a b c (sent_in talk) request r.1.0 w r.1.1))
+  where
+    at : (error : DriveError) → Asks request (Err error) bytes (read_in talk) passed new b c
+        → DriveCause error (record { bytes = bytes; talk = talk; more = passed }) (Some request) × ((k : ℕ) × Appends b c (take k (frame (request_body request))))
+    at DriveError.Read x = ((x.0, h), x.1)
+    at DriveError.Write x = ((subst (λ more. BeginsWith bytes (read_in talk ++ more)) (sym x.1) (subst (λ z. BeginsWith bytes z) (sym (append-nil (read_in talk))) x.0), x.1), x.2)
+    at DriveError.Malformed x = ((x.0.0, x.0.1, h), x.1)
+    at DriveError.Limit x = ((x.0.0, h, inr x.0.1), x.1)
+    at DriveError.Memory x = (x.0, x.1)
+    at DriveError.Sink x = absurd x
+
+-- a turn more
+pub went_on : {C : Type 0} (Fits : C → Trace → Type 0) (old mid new : C) (talk : Talk) (turn : Turn) → Went Fits old talk mid → IsTurn turn
+    → ((es : Trace) → Fits mid es → Fits new (exchange turn.request turn.reply turn.emitted ∷ es)) → Went Fits old (turn ∷ talk) new
+went_on Fits old mid new talk turn w t f = record { turns = (t, w.turns); fits = λ es h. f (trace_of talk ++ es) (w.fits es h) }
+
+-- the same turns, where the client went on by itself
+pub went_same : {C : Type 0} (Fits : C → Trace → Type 0) (old mid new : C) (talk : Talk) → Went Fits old talk mid → ((es : Trace) → Fits mid es → Fits new es) → Went Fits old talk new
+went_same Fits old mid new talk w f = record { turns = w.turns; fits = λ es h. f (trace_of talk ++ es) (w.fits es h) }
+
+-- ---- against a shelf
+
+-- one step more of the store
+pub ran_on : (from : Store) (failed : ℕ) (talk : Talk) (turn : Turn) (mid : Store) (count : ℕ) (to : Store) (failing : ℕ) → TalkRan from failed talk mid count → Replies mid turn.request turn.reply to
+    → SaysFault count turn.reply.say failing → TalkRan from failed (turn ∷ talk) to failing
+ran_on from failed talk turn mid count to failing r s f = record {
+  run = run_on from (sent_in talk) (taken_in talk) mid turn.request turn.reply to r.run s;
+  cause = causes_on failed count failing (taken_in talk) turn.reply r.cause f;
+}
+
+pub may_stay : (mid : Store) (next : Option Request) → MayStep mid next mid
+may_stay mid None = refl
+may_stay mid (Some request) = inl refl
+
+pub may_step : (mid : Store) (next : Option Request) (request : Request) (reply : Reply) (to : Store) → next ≡ Some request → Replies mid request reply to → MayStep mid next to
+may_step mid next request reply to same s = subst (λ n. MayStep mid n to) (sym same) (inr (reply, s))
+
+-- what was kept of one turn more
+pub kept_on : (out old new given emitted : List Emission) → old ≡ out ++ given → new ≡ old ++ emitted → new ≡ out ++ (given ++ emitted)
+kept_on out old new given emitted p q = q ∙ ap (λ x. x ++ emitted) p ∙ append_assoc out given emitted
+
+pub kept_part : (out old new given emitted : List Emission) (k : ℕ) → old ≡ out ++ given → new ≡ old ++ take k emitted → (n : ℕ) × (new ≡ out ++ take n (given ++ emitted))
+kept_part out old new given emitted k p q = (length given + k, q ∙ ap (λ x. x ++ take k emitted) p ∙ append_assoc out given (take k emitted) ∙ ap (λ x. out ++ x) (sym (take-append-add given emitted k)))
+
+pub kept_all : (out new given : List Emission) → new ≡ out ++ given → (n : ℕ) × (new ≡ out ++ take n given)
+kept_all out new given p = (length given, p ∙ ap (λ x. out ++ x) (sym (take-length given)))
+
+-- one more of what was given out is kept
+pub kept_next : (out old new emitted : List Emission) (k : ℕ) (emission : Emission) → old ≡ out ++ take k emitted → k < length emitted → emission ≡ get_or emitted k emission
+    → new ≡ old ++ emission ∷ [] → new ≡ out ++ take (k + 1) emitted
+kept_next out old new emitted k emission p within is q =
+    let more : k + 1 ≡ suc k = omega arith in
+    q ∙ ap (λ x. x ++ emission ∷ []) p ∙ append_assoc out (take k emitted) (emission ∷ [])
+    ∙ ap (λ x. out ++ x) (ap (λ e. take k emitted ++ e ∷ []) is ∙ sym (take-suc emitted k emission within) ∙ sym (ap (λ n. take n emitted) more))
+
+-- a request that fits a frame can be answered
+answerable_ask : (ask : Ask) → IsAsk ask → IsAnswerable ask
+answerable_ask Ask.Ticket h = tt
+answerable_ask (Ask.Lock row) h = h.host
+answerable_ask (Ask.Refresh token time) h = tt
+answerable_ask (Ask.Unlock token) h = tt
+answerable_ask Ask.Locks h = tt
+answerable_ask (Ask.List kind after) h = tt
+answerable_ask (Ask.Get kind name) h = tt
+answerable_ask (Ask.Range pack offset len) h = tt
+answerable_ask (Ask.Put token kind name bytes) h = tt
+answerable_ask (Ask.Delete token kind name) h = tt
+answerable_ask Ask.Config h = tt
+
+pub answerable : (request : Request) → FitsFrame requests request → IsAnswerable request.ask
+answerable request h = answerable_ask request.ask h.0.ask
+
+-- ---- one request
+
+-- nothing was read and nothing written
+abbrev pub silent : Said
+silent = record { bytes = []; talk = []; more = [] }
+
+pub unasked : (request : Request) (contents : Option (List ℕ)) → AskGives request (Err DriveError.Memory) silent contents contents
+unasked request contents = (refl, ([], refl), (0, Appends-nil contents))
+
+-- what asking over a new connection gives
+pub once_asked : (request : Request) (result : Result Reply DriveError) (bytes : List ℕ) (passed : List Reply) (new : Connection) (a b c d : Option (List ℕ)) → Consumes a b bytes
+    → Each (λ reply. ¬ Answers request reply) passed → Asks request result bytes [] passed new c d → (said : Said) × Consumes a b said.bytes × AskGives request result said c d
+once_asked request (Ok reply) bytes passed new a b c d read others asks =
+    let turn : Turn = record { request = request; passed = passed; reply = reply; emitted = [] } in
+    let talk : Talk = turn ∷ [] in
+    let heard : BeginsWith bytes (passed ++ reply ∷ []) = begins bytes (passed ++ reply ∷ []) new asks.0.1 in (
+      record { bytes = bytes; talk = talk; more = [] },
+      read,
+      (passed, refl, (record { passed = others; answers = asks.0.0 }, tt), heard_all bytes talk heard, refl, subst (λ x. Appends c d x) (sym (append-nil (frame (request_body request)))) asks.1),
+    )
+once_asked request (Err error) bytes passed new a b c d read others asks =
+    let r = unanswered error request bytes [] passed new (Some request) c c d refl others asks (Appends-nil c) in
+    (record { bytes = bytes; talk = []; more = passed }, read, (refl, r.0, r.1))

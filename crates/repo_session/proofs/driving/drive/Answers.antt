@@ -1,0 +1,138 @@
+use Rattle.std.proofs.Common.{◌≡◌, ◌++◌, ◌∷◌, [], Some, None, refl, sym, ap, inl, lit≤, arith, option_map, ◌∙◌}
+use Rattle.std.proofs.KnownBytes.{Consumes-nil, Appends-nil}
+use Rattle.std.proofs.lemmas.Result.{err_from_is_err_and}
+use Rattle.repo_session.specs.Talks.{Turn, Talk, IsTurn, Said, read_in, sent_in}
+use Rattle.repo_session.proofs.Connecting.{begins, consumed}
+use Rattle.repo_session.proofs.Talking.{silent, written_on, whole_of, whole_part, part_next, passed_none, heard_all, unanswered, went_nowhere, went_on, went_same}
+use Rattle.repo_session.proofs.driving.drive.Goals as goal
+
+pub returns-in_err-piece : goal.returns-in_err-piece
+returns-in_err-piece g c =
+    let p = err_from_is_err_and c.from_residual.result c.from_residual.ensures.1 in
+    let start = g.W.Write.contents c.args.writer.now in
+    rw (p.1, p.2) (
+      silent,
+      Consumes-nil (g.R.Read.remaining c.args.reader.now),
+      (went_nowhere g.C.Client.fits c.args.client.now, ([], refl), whole_part start start [] (g.C.Client.next c.args.client.now) (Appends-nil start)),
+    )
+
+pub loop-turn-init : goal.loop-turn-init
+loop-turn-init g c = record {
+  gone = ([], [], Consumes-nil (g.R.Read.remaining c.args.reader.now), c.new-connection.ensures, went_nowhere g.C.Client.fits c.args.client.now, refl, Appends-nil (g.W.Write.contents c.args.writer.now));
+  few = lit≤ tt;
+  room = c.in_ok-piece.ensures;
+  sink = c.requires;
+}
+
+pub returns-in-None : goal.returns-in-None
+returns-in-None g c =
+    let i = c.loop-turn.invariant.gone in
+    let none : g.C.Client.next c.loop-turn.client ≡ None = sym c.pending.ensures.next ∙ ap (option_map (λ r. r.now)) c.in-None.is in
+    let said : Said = record { bytes = i.0; talk = i.1; more = [] } in
+    (said, i.2, (i.4, i.5, none, heard_all i.0 i.1 (begins i.0 (read_in i.1) c.loop-turn.connection i.3), refl, i.6))
+
+pub ask-requires-clause-fits : goal.ask-requires-clause-fits
+ask-requires-clause-fits g c =
+    let pending : g.C.Client.next c.loop-turn.client ≡ Some c.in-Some.request.now = sym c.pending.ensures.next ∙ ap (option_map (λ r. r.now)) c.in-Some.is in
+    c.pending.ensures.frame c.in-Some.request.now pending
+
+pub returns-in_err-reply-in-Some : goal.returns-in_err-reply-in-Some
+returns-in_err-reply-in-Some g c =
+    let p = err_from_is_err_and c.from_residual-in_err-reply-in-Some.result c.from_residual-in_err-reply-in-Some.ensures.1 in
+    let i = c.loop-turn.invariant.gone in
+    let pending : g.C.Client.next c.loop-turn.client ≡ Some c.in-Some.request.now = sym c.pending.ensures.next ∙ ap (option_map (λ r. r.now)) c.in-Some.is in
+    let n = c.in_err-reply-in-Some.ensures i.0 (read_in i.1) i.3 in
+    let said : Said = record { bytes = i.0 ++ n.0; talk = i.1; more = n.2 } in
+    let r = unanswered c.in_err-reply-in-Some.field-0.0 c.in-Some.request.now (i.0 ++ n.0) i.1 n.2 c.ask.new.self (g.C.Client.next c.loop-turn.client) (g.W.Write.contents c.args.writer.now)
+    (g.W.Write.contents c.loop-turn.writer) (g.W.Write.contents c.ask.new.writer) pending n.3 n.4 i.6 in
+    rw (p.1, p.2) (said, consumed (g.R.Read.remaining c.args.reader.now) (g.R.Read.remaining c.loop-turn.reader) (g.R.Read.remaining c.ask.new.reader) i.0 n.0 i.2 n.1, (i.4, r.0, r.1))
+
+pub returns-in_err-take : goal.returns-in_err-take
+returns-in_err-take g c =
+    let p = err_from_is_err_and c.from_residual-in_err-take.result c.from_residual-in_err-take.ensures.1 in
+    let i = c.loop-turn.invariant.gone in
+    let pending : g.C.Client.next c.loop-turn.client ≡ Some c.in-Some.request.now = sym c.pending.ensures.next ∙ ap (option_map (λ r. r.now)) c.in-Some.is in
+    let still = c.in_err-take.ensures.next ∙ pending in
+    let start = g.W.Write.contents c.args.writer.now in
+    let end = g.W.Write.contents c.ask.new.writer in
+    let n = c.in_ok-reply-in-Some.ensures i.0 (read_in i.1) i.3 in
+    let more = n.2 ++ c.in_ok-reply-in-Some.reply ∷ [] in
+    let said : Said = record { bytes = i.0 ++ n.0; talk = i.1; more = more } in
+    let written = written_on start (g.W.Write.contents c.loop-turn.writer) end (sent_in i.1) c.in-Some.request.now i.6 n.4.1 in
+    rw (p.1, p.2) (
+      said,
+      consumed (g.R.Read.remaining c.args.reader.now) (g.R.Read.remaining c.loop-turn.reader) (g.R.Read.remaining c.ask.new.reader) i.0 n.0 i.2 n.1,
+      (
+        went_same g.C.Client.fits c.args.client.now c.loop-turn.client c.take.new.self i.1 i.4 c.in_err-take.ensures.fits,
+        begins (i.0 ++ n.0) (read_in i.1 ++ more) c.ask.new.self n.4.0.1,
+        part_next start end (sent_in i.1) c.in-Some.request.now (g.C.Client.next c.take.new.self) still (whole_of start end (sent_in i.1 ++ c.in-Some.request.now ∷ []) written),
+      ),
+    )
+
+pub returns-then-not-hand_out : goal.returns-then-not-hand_out
+returns-then-not-hand_out g c =
+    let i = c.loop-turn.invariant.gone in
+    let pending : g.C.Client.next c.loop-turn.client ≡ Some c.in-Some.request.now = sym c.pending.ensures.next ∙ ap (option_map (λ r. r.now)) c.in-Some.is in
+    let start = g.W.Write.contents c.args.writer.now in
+    let end = g.W.Write.contents c.ask.new.writer in
+    let n = c.in_ok-reply-in-Some.ensures i.0 (read_in i.1) i.3 in
+    let turn : Turn = record { request = c.in-Some.request.now; passed = n.2; reply = c.in_ok-reply-in-Some.reply; emitted = g.C.Client.given c.take.new.self } in
+    let is : IsTurn turn = record { passed = n.3; answers = n.4.0.0 } in
+    let talk : Talk = turn ∷ i.1 in
+    let said : Said = record { bytes = i.0 ++ n.0; talk = talk; more = [] } in
+    let written = written_on start (g.W.Write.contents c.loop-turn.writer) end (sent_in i.1) c.in-Some.request.now i.6 n.4.1 in (
+      said,
+      consumed (g.R.Read.remaining c.args.reader.now) (g.R.Read.remaining c.loop-turn.reader) (g.R.Read.remaining c.ask.new.reader) i.0 n.0 i.2 n.1,
+      (
+        went_on g.C.Client.fits c.args.client.now c.loop-turn.client c.take.new.self i.1 turn i.4 is (c.in_ok-take.ensures.taken c.in-Some.request.now pending is.answers),
+        (heard_all (i.0 ++ n.0) talk (begins (i.0 ++ n.0) (read_in talk) c.ask.new.self n.4.0.1), refl),
+        whole_part start end (sent_in talk) (g.C.Client.next c.take.new.self) written,
+      ),
+    )
+
+pub loop-turn-preserved : goal.loop-turn-preserved
+loop-turn-preserved g c =
+    let i = c.loop-turn.invariant.gone in
+    let pending : g.C.Client.next c.loop-turn.client ≡ Some c.in-Some.request.now = sym c.pending.ensures.next ∙ ap (option_map (λ r. r.now)) c.in-Some.is in
+    let start = g.W.Write.contents c.args.writer.now in
+    let end = g.W.Write.contents c.ask.new.writer in
+    let n = c.in_ok-reply-in-Some.ensures i.0 (read_in i.1) i.3 in
+    let turn : Turn = record { request = c.in-Some.request.now; passed = n.2; reply = c.in_ok-reply-in-Some.reply; emitted = g.C.Client.given c.take.new.self } in
+    let is : IsTurn turn = record { passed = n.3; answers = n.4.0.0 } in
+    record {
+      gone = (
+        i.0 ++ n.0,
+        turn ∷ i.1,
+        consumed (g.R.Read.remaining c.args.reader.now) (g.R.Read.remaining c.loop-turn.reader) (g.R.Read.remaining c.ask.new.reader) i.0 n.0 i.2 n.1,
+        n.4.0.1,
+        went_on g.C.Client.fits c.args.client.now c.loop-turn.client c.take.new.self i.1 turn i.4 is (c.in_ok-take.ensures.taken c.in-Some.request.now pending is.answers),
+        omega (arith, i.5),
+        written_on start (g.W.Write.contents c.loop-turn.writer) end (sent_in i.1) c.in-Some.request.now i.6 n.4.1,
+      );
+      few = omega (arith, c.loop-turn-test.true);
+      room = c.loop-turn.invariant.room;
+      sink = c.hand_out.ensures;
+    }
+
+pub returns-in-None-pending : goal.returns-in-None-pending
+returns-in-None-pending g c =
+    let i = c.loop-turn.invariant.gone in
+    let none : g.C.Client.next c.loop-turn.client ≡ None = sym c.pending-2.ensures.next ∙ ap (option_map (λ r. r.now)) c.in-None-pending.is in
+    let said : Said = record { bytes = i.0; talk = i.1; more = [] } in
+    let many = c.loop-turn-test.false in
+    (said, i.2, (i.4, omega (arith, i.5, many, c.loop-turn.invariant.few), none, heard_all i.0 i.1 (begins i.0 (read_in i.1) c.loop-turn.connection i.3), refl, i.6))
+
+pub returns : goal.returns
+returns g c =
+    let i = c.loop-turn.invariant.gone in
+    let said : Said = record { bytes = i.0; talk = i.1; more = [] } in
+    let many = c.loop-turn-test.false in
+    let next = g.C.Client.next c.loop-turn.client in (
+      said,
+      i.2,
+      (
+        i.4,
+        (heard_all i.0 i.1 (begins i.0 (read_in i.1) c.loop-turn.connection i.3), passed_none next, inl (omega (arith, i.5, many))),
+        whole_part (g.W.Write.contents c.args.writer.now) (g.W.Write.contents c.loop-turn.writer) (sent_in i.1) next i.6,
+      ),
+    )

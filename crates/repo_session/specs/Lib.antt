@@ -1,0 +1,12 @@
+-- The definitions that the contracts of this crate cite.
+pub mod Askers
+pub mod Traces
+pub mod Order
+pub mod Ends
+pub mod Clients
+pub mod Rebuilding
+pub mod Soundness
+pub mod Talks
+pub mod Connections
+pub mod Laws
+pub mod Example

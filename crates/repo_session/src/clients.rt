@@ -1,0 +1,81 @@
+//! Clients: one job each.
+
+ghost use Rattle.std.specs.Prelude.{◌≡◌, ◌∷◌, ℕ, List, Some, OnOk, OnErr, IsOk, IfSome, Option, option_map};
+ghost use Rattle.repo_wire.specs.declared.messages.Ask.{Ask};
+ghost use Rattle.repo_wire.specs.declared.messages.Request.{Request};
+ghost use Rattle.repo_wire.specs.Messages.{requests};
+ghost use Rattle.repo_wire.specs.Stream.{FitsFrame};
+ghost use Rattle.repo_session.specs.declared.emissions.Emission.{Emission};
+ghost use Rattle.repo_session.specs.declared.outcomes.Outcome.{Outcome};
+ghost use Rattle.repo_session.specs.Clients.{Answers, AnswersNext, exchange, IsObedient, IsSteady};
+ghost use Rattle.repo_session.specs.Order.{Task};
+ghost use Rattle.repo_session.specs.Traces.{Exchange, Trace};
+
+use crate::emissions::Emission;
+use crate::outcomes::Outcome;
+use repo_wire::{Reply, Request};
+use std::alloc::AllocError;
+
+/// One job of one client. It shows the request that is pending, and takes the reply to it, until it has an
+/// outcome and nothing is pending.
+///
+/// What a client promises it promises of its trace, the list of its exchanges. It keeps no such list: the
+/// ghost member `fits` says of which traces it stands at the end, and each call's promise holds for every
+/// one of them.
+pub trait Client {
+    /// What the client was made for, with all that it was handed.
+    ghost Job: { Type 0 };
+
+    ghost job: { Self → Job };
+    /// Who asks, and under which kind of lock.
+    ghost task: { Job → Task };
+    /// What the job's own rule allows to be asked after a trace.
+    ghost allows: { Job → Trace → Ask → Type 0 };
+    /// What the job's own rule allows to be given out on an exchange after a trace.
+    ghost gives: { Job → Trace → Exchange → Type 0 };
+    /// The outcomes that the job's own rule allows after a trace.
+    ghost concludes: { Job → Trace → Outcome → Type 0 };
+    /// The client stands where this trace leaves it.
+    ghost fits: { Self → Trace → Type 0 };
+    /// The request that is pending.
+    ghost next: { Self → Option Request };
+    /// How the job ended.
+    ghost ended: { Self → Option Outcome };
+    /// What the last reply that was taken gave out.
+    ghost given: { Self → List Emission };
+
+    /// The request that is pending: `None` once the job is at its end. It fits a frame.
+    fn pending(&self) -> Option<&Request>
+        ensures next { option_map (λ request. request.now) result ≡ next self.now }
+        ensures frame { (request : Request) → next self.now ≡ Some request → FitsFrame requests request };
+
+    /// Takes a reply. One that isn't to the pending request changes nothing.
+    ///
+    /// It fails for memory alone, and then `pending`, `outcome` and `emitted` are as before, and the reply
+    /// may be taken again. No memory is asked for a reply that isn't to the pending request, nor for one to
+    /// a ticket, a lock or an unlock.
+    fn take(&mut self, reply: &Reply) -> Result<(), AllocError>
+        ensures taken { OnOk result ((request : Request) → next self.old ≡ Some request → Answers request reply.now
+            → (es : Trace) → fits self.old es → fits self.new (exchange request reply.now (given self.new) ∷ es)) }
+        ensures other { ¬ AnswersNext (next self.old) reply.now → self.new ≡ self.old }
+        ensures steady { ¬ AnswersNext (next self.old) reply.now → IsOk result }
+        ensures sure { (request : Request) → next self.old ≡ Some request → IsSteady request.ask → IsOk result }
+        ensures fits { OnErr result ((es : Trace) → fits self.old es → fits self.new es) }
+        ensures next { OnErr result (next self.new ≡ next self.old) }
+        ensures ended { OnErr result (ended self.new ≡ ended self.old) }
+        ensures given { OnErr result (given self.new ≡ given self.old) }
+        ensures job { job self.new ≡ job self.old };
+
+    /// How the job ended, once it has. An unlock may still be pending then.
+    fn outcome(&self) -> Option<&Outcome>
+        ensures { option_map (λ outcome. outcome.now) result ≡ ended self.now };
+
+    /// What the last reply to the pending request gave out.
+    fn emitted(&self) -> &[Emission]
+        ensures { result.now ≡ given self.now };
+
+    /// A trace at whose end the client stands obeys the common order and the job's rule; so does what is
+    /// pending; where nothing is, there is an outcome; and an outcome comes only where it may.
+    ghost obedient: { (client : Self) (es : Trace) → fits client es
+        → IsObedient (task (job client)) (allows (job client)) (gives (job client)) (concludes (job client)) (next client) (ended client) es };
+}
