@@ -92,6 +92,15 @@ Suits (Ask.Delete token k n) Say.Done = ⊤
 Suits Ask.Config (Say.Bytes x) = ⊤
 Suits _ _ = ⊥
 
+-- the reply is a refusal, or of another sort than the request wants
+abbrev pub IsUnwelcome : Ask → Say → Type 0
+IsUnwelcome ask (Say.Refused code) = ⊤
+IsUnwelcome ask (Say.Token token) = ¬ Suits ask (Say.Token token)
+IsUnwelcome ask Say.Done = ¬ Suits ask Say.Done
+IsUnwelcome ask (Say.Names more names) = ¬ Suits ask (Say.Names more names)
+IsUnwelcome ask (Say.Bytes x) = ¬ Suits ask (Say.Bytes x)
+IsUnwelcome ask (Say.LockList rows) = ¬ Suits ask (Say.LockList rows)
+
 -- a page rises: its names ascend, all above the one asked after, and there is one where more follow
 abbrev pub PageRises : Option Name → Bool → List Name → Type 0
 PageRises after more names = Ascends after names × (more ≡ true → names ≢ [])

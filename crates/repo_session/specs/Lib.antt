@@ -10,3 +10,7 @@ pub mod Talks
 pub mod Connections
 pub mod Laws
 pub mod Example
+pub mod Lines
+pub mod Openings
+pub mod Rolls
+pub mod Obedience

@@ -12,7 +12,7 @@ use Rattle.repo_index.specs.declared.facts.Fact.{Fact}
 use Rattle.repo_tree.specs.declared.configs.Config.{Config}
 use Rattle.repo_tree.specs.ConfigText.{IsConfigText}
 use Rattle.repo_store.specs.StoreMachine.{object_limit}
-use Rattle.repo_session.specs.Askers.{Asker}
+use Rattle.repo_session.specs.Askers.{Asker, row_of}
 use Rattle.repo_session.specs.Traces.{Each, Exchange, Trace, names_in, is_complete, Rise, Lists, ReadFact}
 
 -- who does a job, under which kind of lock, and which snapshot it may get without having listed it
@@ -23,7 +23,7 @@ pub record Task : Type 0 where
 
 -- the lock that is asked for with a ticket
 abbrev pub lock_row : Task → Token → LockRow
-lock_row task token = record { token = token; exclusive = task.exclusive; time = task.who.time; host = task.who.host }
+lock_row task token = row_of token task.exclusive task.who.time task.who.host
 
 -- only the ticket was asked for, and given
 abbrev pub ticketed : Token → Trace

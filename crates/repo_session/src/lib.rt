@@ -3,7 +3,8 @@
 //! A [`Client`] is one job of one client: it shows the request that is pending and takes the reply to it,
 //! until it has an outcome and nothing is pending. [`drive`] carries its requests over a connection,
 //! [`lockstep`] to a shelf directly, and [`ask`] carries one request. A [`Who`] is the client's name for
-//! itself, an [`Outcome`] how the job ended, an [`Emission`] a part of what a restore gives out.
+//! itself, an [`Outcome`] how the job ended, an [`Emission`] a part of what a restore gives out. An
+//! [`Opening`] is the start and the end that all jobs share, a [`Roll`] the objects of one kind, page by page.
 //!
 //! Promised: a client is tied to its trace, the list of its exchanges with what was given out on each. Each
 //! request was one that the exchanges before it allow, whoever answers; an outcome comes only where its
@@ -12,7 +13,8 @@
 //!
 //! The definitions stand in `specs/`: `Traces` (exchanges, and what they listed and read), `Order` (what may
 //! be sent after which exchanges, whatever the job), `Ends` (what each end comes from), `Clients` (what a
-//! client owes), `Talks` (what the drivers do), `Rebuilding` (the entries that emissions give), `Soundness`
+//! client owes), `Openings` and `Rolls` (what the two builders know of the trace), `Talks` (what the drivers
+//! do), `Rebuilding` (the entries that emissions give), `Soundness`
 //! (the blobs that a store holds, and when it is sound).
 #![tactic(auto)]
 
@@ -20,9 +22,13 @@ mod clients;
 mod connections;
 mod driving;
 mod emissions;
+mod ends;
 mod laws;
 mod letters;
+mod lines;
+mod openings;
 mod outcomes;
+mod rolls;
 mod stepping;
 #[cfg(test)]
 mod tests;
@@ -33,6 +39,8 @@ pub use driving::{DriveError, ask, drive};
 pub use emissions::Emission;
 pub use laws::order_can_be_met;
 pub use letters::Letter;
+pub use openings::{Heard, Job, Opening};
 pub use outcomes::{End, Outcome, Snapshots};
+pub use rolls::{Got, Paged, Roll};
 pub use stepping::{StepError, lockstep};
 pub use who::{Who, WhoError};

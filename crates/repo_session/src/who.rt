@@ -1,11 +1,11 @@
 //! What a client calls itself.
 
 ghost use Rattle.std.specs.Prelude.{◌≡◌, ◌↔◌, IfOk, IsErrOf};
-ghost use Rattle.repo_name.specs.Rows.{IsHost};
-ghost use Rattle.repo_session.specs.Askers.{asker};
+ghost use Rattle.repo_name.specs.Rows.{IsHost, IsRow};
+ghost use Rattle.repo_session.specs.Askers.{asker, row_of};
 ghost use Rattle.repo_session.specs.declared.who.WhoError.{WhoError};
 
-use repo_name::{Instance, Text};
+use repo_name::{Instance, LockRow, Text, Token};
 use std::alloc::{AllocError, Global};
 use std::marker::Model;
 use thiserror::Error;
@@ -31,6 +31,42 @@ impl Model for Who {
     ghost view = { λ w. record { instance = w.instance; host = w.host; time = w.time } };
 
     ghost invariant = { λ w. IsHost w.host × (w.lock_host ≡ w.host) };
+}
+
+/// A lock to be asked for, once there is a ticket. A clause sees its row, with token 0; the host is within
+/// its limits.
+#[derive(Drop)]
+pub struct Claim {
+    exclusive: bool,
+    time: u64,
+    host: Text,
+}
+
+impl Model for Claim {
+    ghost use Rattle.repo_name.specs.Rows.{IsHost};
+    ghost use Rattle.repo_name.specs.declared.rows.LockRow.{LockRow};
+    ghost use Rattle.repo_session.specs.Askers.{row_of};
+
+    ghost Value = { LockRow };
+
+    ghost view = { λ c. row_of (record { 0 = 0 }) c.exclusive c.time c.host };
+
+    ghost invariant = { λ c. IsHost c.host };
+}
+
+impl Claim {
+    /// The row of the lock, with the ticket's token.
+    pub fn with_token(self, token: Token) -> LockRow
+        ensures row { result ≡ row_of token self.exclusive self.time self.host }
+        ensures within { IsRow result }
+    {
+        LockRow {
+            token,
+            exclusive: self.exclusive,
+            time: self.time,
+            host: self.host,
+        }
+    }
 }
 
 /// Why there is no such `Who`.
@@ -86,6 +122,21 @@ impl Who {
         ensures { result.now ≡ self.now.host }
     {
         self.host.as_str()
+    }
+
+    /// Its parts: the instance, the host, the moment, and the lock that it may ask for.
+    pub fn into_parts(self, exclusive: bool) -> (Instance, Text, u64, Claim)
+        ensures instance { result.0 ≡ self.instance }
+        ensures host { result.1 ≡ self.host }
+        ensures time { result.2 ≡ self.time }
+        ensures claim { result.3 ≡ row_of (record { 0 = 0 }) exclusive self.time self.host }
+    {
+        let claim = Claim {
+            exclusive,
+            time: self.time,
+            host: self.lock_host,
+        };
+        (self.instance, self.host, self.time, claim)
     }
 
     /// The moment, in seconds since 1970.

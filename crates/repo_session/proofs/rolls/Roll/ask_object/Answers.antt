@@ -1,0 +1,13 @@
+use Rattle.std.proofs.Common.{◌∙◌, refl, sym}
+use Rattle.repo_session.specs.Openings.{task_of}
+use Rattle.repo_session.proofs.Rolling.{got_past, may_get}
+use Rattle.repo_session.proofs.rolls.Roll.ask_object.Goals as goal
+
+pub returns-in-Some-clause-more : goal.returns-in-Some-clause-more
+returns-in-Some-clause-more g c = λ _ es ready rolled.
+    let o = c.args.opening.now in
+    let roll = c.args.self.now in
+    c.ask.ensures.fits es ready tt (may_get (task_of o) o.token roll.kind roll.names.items roll.read c.in-Some.name es ready.idle.working rolled (sym c.next_name.ensures.next ∙ c.in-Some.is)) tt
+
+pub returns-in-None-clause-all : goal.returns-in-None-clause-all
+returns-in-None-clause-all g c = λ _. (refl, got_past c.args.self.now.names.items c.args.self.now.read (sym c.next_name.ensures.next ∙ c.in-None.is))
