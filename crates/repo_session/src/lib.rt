@@ -26,6 +26,8 @@ mod ends;
 mod laws;
 mod letters;
 mod lines;
+#[cfg(test)]
+mod opening_tests;
 mod openings;
 mod outcomes;
 mod rolls;
