@@ -1,5 +1,5 @@
 -- What a look-up holds, and what it finds.
-use Rattle.std.proofs.Common.{◌≡◌, ◌<◌, ◌+◌, ◌⊎◌, ◌++◌, ◌∷◌, [], ℕ, List, length, take, drop, get_or, append-nil, append_assoc, Bool, true, false, not, cond, refl, ap, sym, ◌∙◌, subst, inl, inr, Contains, arith}
+use Rattle.std.proofs.Common.{◌≡◌, ◌≢◌, ◌↔◌, ◌<◌, ◌+◌, ◌⊎◌, ◌++◌, ◌∷◌, [], ℕ, List, length, take, drop, get_or, append-nil, append_assoc, Bool, true, false, not, cond, refl, ap, sym, ◌∙◌, subst, inl, inr, Contains, arith}
 use Rattle.std.specs.Prelude.{IsTrue}
 use Rattle.std.proofs.lemmas.Cmp.{tied_itself}
 use Rattle.std.proofs.lemmas.Map.Views.{btree_set_contains_iff}
@@ -20,7 +20,7 @@ use Rattle.repo_pack.specs.declared.places.Place.{Place}
 use Rattle.repo_index.specs.IndexText.{fact_of, IsFact, facts_in}
 use Rattle.repo_index.specs.Order.{place_cmp, kind_cmp, place_first, name_first, IsAtMost, names_total, kinds_total, place_first_total, name_first_total}
 use Rattle.repo_index.specs.Bounds.{IsBeforePair, IsAfterPair}
-use Rattle.repo_index.specs.Lookups.{IsLeast, Joins, JoinsPart, AreHeld}
+use Rattle.repo_index.specs.Lookups.{IsLeast, Joins, Grew, HasSame, AreHeld}
 use Rattle.repo_index.specs.declared.facts.Fact.{Fact}
 use Rattle.repo_index.specs.declared.facts.PackFacts.{PackFacts}
 use Rattle.repo_index.proofs.OrderLemmas.{then_le, between, same_le, kinds_exact, names_exact, place_first_exact, name_first_exact}
@@ -191,6 +191,37 @@ joins_fact p p2 k places f = (
   ]),
 )
 
+cond_less : (b c : Bool) → cond b false c ≡ true → c ≡ true
+cond_less true c h = cc h
+cond_less false c h = h
+
+cond_other : (b c : Bool) → c ≡ true → (b ≡ true → ⊥) → cond b false c ≡ true
+cond_other true c h n = absurd (n refl)
+cond_other false c h n = h
+
+cond_not : (b c : Bool) → cond b false c ≡ true → b ≡ true → ⊥
+cond_not true c h p = cc h
+cond_not false c h p = cc p
+
+-- both sets with a fact less
+pub held_less : (p n p2 n2 : BTreeSet Fact) (k : Fact) → AreHeld p n → Updates name_first n n2 k false → Updates place_first p p2 k false → AreHeld p2 n2
+held_less p n p2 n2 k held names places = record {
+  same = λ f. names.0 f ∙ ap (λ b. cond b false (contains name_first n f)) (at_both k f)
+      ∙ ap (cond (is_at (place_first k) f) false) (held.same f) ∙ sym (places.0 f);
+  made = λ f h. held.made f (cond_less (is_at (place_first k) f) (contains place_first p f) (sym (places.0 f) ∙ h));
+}
+
+-- the set with a fact less has the others
+pub leaves_fact : (p p2 : BTreeSet Fact) (k : Fact) → Updates place_first p p2 k false → (f : Fact) → Contains p2.keys f ↔ (Contains p.keys f × (f ≢ k))
+leaves_fact p p2 k places f = (
+  λ h.
+      let there = sym (places.0 f) ∙ has p2 f h in (
+        member p f (cond_less (is_at (place_first k) f) (contains place_first p f) there),
+        λ same. cond_not (is_at (place_first k) f) (contains place_first p f) there (place_at k f (sym same)),
+      ),
+  λ h. member p2 f (places.0 f ∙ cond_other (is_at (place_first k) f) (contains place_first p f) (has p f h.0) (λ at. h.1 (sym (at_place k f at)))),
+)
+
 -- a fact that is there already
 pub joins_known : (p n : BTreeSet Fact) (k : Fact) → AreHeld p n → contains name_first n k ≡ true → Joins p.keys (k ∷ []) p.keys
 joins_known p n k held known f = (
@@ -227,19 +258,6 @@ joins_then old xs mid ys new h g f = (
 pub joins_none : (old : List Fact) → Joins old [] old
 joins_none old f = (λ h. inl h, λ h. elim h [ inl there ↦ there | inr none ↦ absurd (none_in f none) ])
 
--- the whole joined after a part of it is the whole
-pub joins_again : (old more new whole : List Fact) → JoinsPart old more new → Joins new more whole → Joins old more whole
-joins_again old more new whole part h f = (
-  λ is. elim ((h f).0 is) [
-    | inl there ↦ elim ((part.joins f).0 there) [
-      | inl before ↦ inl before
-      | inr one ↦ inr (subst (λ (xs : List Fact). Contains xs f) (sym part.split) (Contains-append_left part.first part.rest f one))
-    ]
-    | inr other ↦ inr other
-  ],
-  λ is. elim is [ inl before ↦ (h f).1 (inl ((part.joins f).1 (inl before))) | inr other ↦ (h f).1 (inr other) ],
-)
-
 -- ---- a loop over facts
 
 -- a fact more
@@ -247,15 +265,6 @@ pub joins_more : (old facts mid new : List Fact) (i : ℕ) (d : Fact) → i < le
     → Joins mid (get_or facts i d ∷ []) new → Joins old (take (i + 1) facts) new
 joins_more old facts mid new i d lt h g =
     subst (λ (fs : List Fact). Joins old fs new) (sym (take_more facts i d lt)) (joins_then old (take i facts) mid (get_or facts i d ∷ []) new h g)
-
--- no more than the first facts
-pub part_of_first : (old facts mid new : List Fact) (i : ℕ) → Joins old (take i facts) mid → new ≡ mid → JoinsPart old facts new
-part_of_first old facts mid new i h same = record {
-  first = take i facts;
-  rest = drop i facts;
-  split = sym (take-append-drop i facts);
-  joins = subst (λ (fs : List Fact). Joins old (take i facts) fs) (sym same) h;
-}
 
 -- ---- a loop over packs
 
@@ -278,19 +287,6 @@ pub joins_pack : (old mid new : List Fact) (packs : List PackFacts) (i : ℕ) (p
 joins_pack old mid new packs i p lt at h g =
     subst (λ (fs : List Fact). Joins old fs new) (sym (facts_of_more packs i p lt at)) (joins_then old (facts_in (take i packs)) mid p.facts new h g)
 
--- some facts of a pack more
-pub part_of_pack : (old mid new : List Fact) (packs : List PackFacts) (i : ℕ) (p : PackFacts) → i < length packs → p ≡ get_or packs i p
-    → Joins old (facts_in (take i packs)) mid → JoinsPart mid p.facts new → JoinsPart old (facts_in packs) new
-part_of_pack old mid new packs i p lt at h part = record {
-  first = facts_in (take i packs) ++ part.first;
-  rest = part.rest ++ facts_in (drop (i + 1) packs);
-  split = ap facts_in (sym (take-append-drop (i + 1) packs)) ∙ facts_split (take (i + 1) packs) (drop (i + 1) packs)
-      ∙ ap (λ fs. fs ++ facts_in (drop (i + 1) packs)) (facts_of_more packs i p lt at ∙ ap (λ fs. facts_in (take i packs) ++ fs) part.split
-      ∙ sym (append_assoc (facts_in (take i packs)) part.first part.rest))
-      ∙ append_assoc (facts_in (take i packs) ++ part.first) part.rest (facts_in (drop (i + 1) packs));
-  joins = joins_then old (facts_in (take i packs)) mid part.first new h part.joins;
-}
-
 -- ---- a set that didn't change
 
 pub held_same : (p p2 n : BTreeSet Fact) → p2.keys ≡ p.keys → AreHeld p n → AreHeld p2 n
@@ -298,3 +294,54 @@ held_same p p2 n e held = record {
   same = λ f. held.same f ∙ ap (list_any (is_at (place_first f))) (sym e);
   made = λ f h. held.made f (ap (list_any (is_at (place_first f))) (sym e) ∙ h);
 }
+
+-- ---- facts that are noted as they are added
+
+-- a fact that was there
+pub grew_known : (base noted old : List Fact) (now : List Fact) → now ≡ old → Grew base noted old → Grew base noted now
+grew_known base noted old now same g = subst (λ fs. Grew base noted fs) (sym same) g
+
+-- a fact that is new
+pub grew_new : (base noted old now more : List Fact) (f : Fact) → more ≡ noted ++ f ∷ [] → Joins old (f ∷ []) now → ¬ Contains old f → Grew base noted old → Grew base more now
+grew_new base noted old now more f e joins absent g = subst (λ ns. Grew base ns now) (sym e) (record {
+  all = joins_then base noted old (f ∷ []) now g.all joins;
+  apart = λ x h. elim (Contains-append_cases noted (f ∷ []) x h) [
+    | inl before ↦ g.apart x before
+    | inr new ↦ λ b. absent (subst (Contains old) (sym (only f x new)) ((g.all x).1 (inl b)))
+  ];
+})
+
+-- without those noted it is what it was
+pub taken_whole : (base noted now new : List Fact) → Grew base noted now → ((f : Fact) → Contains new f ↔ (Contains now f × ¬ Contains noted f)) → HasSame base new
+taken_whole base noted now new g left f = (
+  λ h. let is = (left f).0 h in elim ((g.all f).0 is.0) [ inl before ↦ before | inr one ↦ absurd (is.1 one) ],
+  λ h. (left f).1 ((g.all f).1 (inl h), λ one. g.apart f one h),
+)
+
+-- one more of those noted is removed
+pub taken_more : (now mid new noted : List Fact) (i : ℕ) (d : Fact) → i < length noted → ((f : Fact) → Contains mid f ↔ (Contains now f × ¬ Contains (take i noted) f))
+    → ((f : Fact) → Contains new f ↔ (Contains mid f × (f ≢ get_or noted i d))) → (f : Fact) → Contains new f ↔ (Contains now f × ¬ Contains (take (i + 1) noted) f)
+taken_more now mid new noted i d lt h g f =
+    subst (λ (fs : List Fact). Contains new f ↔ (Contains now f × ¬ Contains fs f)) (sym (take_more noted i d lt)) (
+      λ is.
+          let one = (g f).0 is in
+          let two = (h f).0 one.0 in (
+            two.0,
+            λ among. elim (Contains-append_cases (take i noted) (get_or noted i d ∷ []) f among) [
+              | inl a ↦ two.1 a
+              | inr b ↦ one.1 (sym (only (get_or noted i d) f b))
+            ],
+          ),
+      λ is. (g f).1 (
+        (h f).1 (is.0, λ a. is.1 (Contains-append_left (take i noted) (get_or noted i d ∷ []) f a)),
+        λ same.
+            is.1 (Contains-append_right (take i noted) (get_or noted i d ∷ []) f (subst (Contains (get_or noted i d ∷ [])) (sym same) (Contains-push [] (get_or noted i d)))),
+      ),
+    )
+
+pub taken_none : (now : List Fact) (f : Fact) → Contains now f ↔ (Contains now f × ¬ Contains [] f)
+taken_none now f = (λ h. (h, none_in f), λ h. h.0)
+
+-- nothing is noted yet
+pub grew_none : (old : List Fact) → Grew old [] old
+grew_none old = record { all = joins_none old; apart = λ f h. absurd (none_in f h) }

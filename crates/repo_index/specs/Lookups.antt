@@ -19,12 +19,14 @@ pub record IsLeast (facts : List Fact) (kind : BlobKind) (name : Name) (place : 
 abbrev pub Joins : List Fact → List Fact → List Fact → Type 0
 Joins old more new = (fact : Fact) → Contains new fact ↔ (Contains old fact ⊎ Contains more fact)
 
--- new has the facts of old and some first ones of these
-pub record JoinsPart (old more new : List Fact) : Type 0 where
-  pub first : List Fact
-  pub rest : List Fact
-  pub split : more ≡ first ++ rest
-  pub joins : Joins old first new
+-- the same facts
+abbrev pub HasSame : List Fact → List Fact → Type 0
+HasSame old new = (fact : Fact) → Contains new fact ↔ Contains old fact
+
+-- now has the facts of base and those noted, none of which base has
+pub record Grew (base noted now : List Fact) : Type 0 where
+  pub all : Joins base noted now
+  pub apart : (fact : Fact) → Contains noted fact → ¬ Contains base fact
 
 -- the last of the names is this one
 abbrev pub EndsWith : List Name → Name → Type 0

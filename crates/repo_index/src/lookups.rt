@@ -1,13 +1,13 @@
 //! Look-up of blobs over the facts of many indexes.
 
-ghost use Rattle.std.specs.Prelude.{◌≡◌, ◌↔◌, ◌∷◌, [], List, IsTrue, OnOk, OnErr, IfOk, IfSome, IfNone, Contains};
+ghost use Rattle.std.specs.Prelude.{◌≡◌, ◌≢◌, ◌↔◌, ◌∷◌, [], List, IsTrue, IsFalse, OnOk, OnErr, IfOk, IfSome, IfNone, Contains};
 ghost use Rattle.repo_pack.specs.declared.places.Place.{Place};
 ghost use Rattle.repo_index.specs.IndexText.{fact_of, facts_in};
-ghost use Rattle.repo_index.specs.Lookups.{IsLeast, Joins, JoinsPart, EndsWith, ArePacksOf, AreFactsOf};
+ghost use Rattle.repo_index.specs.Lookups.{IsLeast, Joins, Grew, HasSame, EndsWith, ArePacksOf, AreFactsOf};
 ghost use Rattle.repo_index.specs.declared.facts.Fact.{Fact};
 
 use crate::bounds::{greatest_of_pack, greatest_of_pair, least_of_pack, least_of_pair};
-use crate::facts::{Fact, Facts};
+use crate::facts::{Fact, Facts, PackFacts};
 use crate::index_text::IndexText;
 use crate::keys::{ByName, ByPlace};
 use repo_name::{BlobKind, Name, Names};
@@ -64,19 +64,21 @@ impl Lookup {
         }
     }
 
-    /// Adds a fact. It fails for memory alone, and then nothing changed.
-    fn add_fact(&mut self, fact: Fact) -> Result<(), AllocError>
+    /// Adds a fact, and says whether it is new. It fails for memory alone, and then nothing changed.
+    fn add_fact(&mut self, fact: Fact) -> Result<bool, AllocError>
         ensures ok { OnOk result (Joins self.old (fact ∷ []) self.new) }
+        ensures new { IfOk result (λ is_new. IsTrue is_new → ¬ Contains self.old fact) }
+        ensures known { IfOk result (λ is_new. IsFalse is_new → self.new ≡ self.old) }
         ensures err { OnErr result (self.new ≡ self.old) }
     {
         let key = ByName::of(fact);
         match self.by_name.insert(key) {
             Err(_) => return Err(AllocError),
-            Ok(false) => return Ok(()),
+            Ok(false) => return Ok(false),
             Ok(true) => {}
         }
         match self.by_place.insert(ByPlace::of(fact)) {
-            Ok(_) => Ok(()),
+            Ok(_) => Ok(true),
             Err(_) => {
                 self.by_name.remove(&key);
                 Err(AllocError)
@@ -84,29 +86,72 @@ impl Lookup {
         }
     }
 
-    /// Adds some facts. It fails for memory alone, and then some first ones were added.
-    fn add_facts(&mut self, facts: &[Fact]) -> Result<(), AllocError>
-        ensures ok { OnOk result (Joins self.old facts.now self.new) }
-        ensures err { OnErr result (JoinsPart self.old facts.now self.new) }
+    /// Adds a fact, and notes it where it is new. It fails for memory alone, and then nothing changed.
+    fn add_noted(&mut self, fact: Fact, noted: &mut Vec<Fact>) -> Result<(), AllocError>
+        ensures ok { OnOk result (Joins self.old (fact ∷ []) self.new) }
+        ensures noted { (base : List Fact) → Grew base noted.old.items self.old → Grew base noted.new.items self.new }
     {
-        for fact in facts {
-            self.add_fact(*fact)?;
+        noted.reserve(1)?;
+        if self.add_fact(fact)? {
+            noted.push(fact).unwrap();
         }
         Ok(())
     }
 
-    /// Adds the facts of an index. It fails for memory alone, and then some first facts of the text were added; adding
-    /// it again gives the whole.
-    pub fn add(&mut self, text: &IndexText) -> Result<(), AllocError>
-        ensures ok { OnOk result (Joins self.old (facts_in text.now) self.new) }
-        ensures err { OnErr result (JoinsPart self.old (facts_in text.now) self.new) }
-        ensures again { OnErr result ((whole : List Fact) → Joins self.new (facts_in text.now) whole → Joins self.old (facts_in text.now) whole) }
+    /// Adds some facts, and notes the new ones. It fails for memory alone, and then some first facts were added and
+    /// noted.
+    fn add_facts(&mut self, facts: &[Fact], noted: &mut Vec<Fact>) -> Result<(), AllocError>
+        ensures ok { OnOk result (Joins self.old facts.now self.new) }
+        ensures noted { (base : List Fact) → Grew base noted.old.items self.old → Grew base noted.new.items self.new }
     {
-        let packs = text.packs();
-        for listed in packs {
-            self.add_facts(listed.facts.as_slice())?;
+        for fact in facts {
+            self.add_noted(*fact, noted)?;
         }
         Ok(())
+    }
+
+    /// Adds the facts of some packs, and notes the new ones. It fails for memory alone, and then some first facts were
+    /// added and noted.
+    fn add_packs(&mut self, packs: &[PackFacts], noted: &mut Vec<Fact>) -> Result<(), AllocError>
+        ensures ok { OnOk result (Joins self.old (facts_in packs.now) self.new) }
+        ensures noted { (base : List Fact) → Grew base noted.old.items self.old → Grew base noted.new.items self.new }
+    {
+        for listed in packs {
+            self.add_facts(listed.facts.as_slice(), noted)?;
+        }
+        Ok(())
+    }
+
+    /// Removes a fact.
+    fn remove_fact(&mut self, fact: Fact)
+        ensures { (other : Fact) → Contains self.new other ↔ (Contains self.old other × (other ≢ fact)) }
+    {
+        self.by_name.remove(&ByName::of(fact));
+        self.by_place.remove(&ByPlace::of(fact));
+    }
+
+    /// Removes the facts that were noted.
+    fn take_back(&mut self, noted: &[Fact])
+        ensures { (base : List Fact) → Grew base noted.now self.old → HasSame base self.new }
+    {
+        for fact in noted {
+            self.remove_fact(*fact);
+        }
+    }
+
+    /// Adds the facts of an index. It fails for memory alone, and then the look-up has the facts that it had.
+    pub fn add(&mut self, text: &IndexText) -> Result<(), AllocError>
+        ensures ok { OnOk result (Joins self.old (facts_in text.now) self.new) }
+        ensures err { OnErr result (HasSame self.old self.new) }
+    {
+        let mut noted = Vec::new(self.alloc);
+        match self.add_packs(text.packs(), &mut noted) {
+            Ok(()) => Ok(()),
+            Err(error) => {
+                self.take_back(noted.as_slice());
+                Err(error)
+            }
+        }
     }
 
     /// The least place of a blob of this kind and name: that of the least pack, there that of the least offset, and

@@ -86,6 +86,7 @@ fn refused_growth(rt: HostRuntime) -> Result<(), Fail> {
     };
     let mut lookup = Lookup::new(alloc);
     if lookup.add(&text).is_err() {
+        assert_eq!(rt; lookup.find(BlobKind::Content, &name), None);
         lookup.add(&text)?;
     }
     assert_eq!(rt;
