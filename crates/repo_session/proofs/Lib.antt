@@ -5,3 +5,5 @@ pub mod Ending
 pub mod Opens
 pub mod Hearing
 pub mod Rolling
+pub mod Receiving
+pub mod Cataloguing

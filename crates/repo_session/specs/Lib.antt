@@ -13,4 +13,5 @@ pub mod Example
 pub mod Lines
 pub mod Openings
 pub mod Rolls
+pub mod Catalogs
 pub mod Obedience

@@ -35,6 +35,10 @@ Rolls roll whole es = IsRolled roll.kind roll.names.items roll.read whole es
 abbrev pub IsPageAsk : Kind → Ask → Type 0
 IsPageAsk k ask = (after : Option Name) × (ask ≡ Ask.List k after)
 
+-- a request for the next object that wasn't read
+abbrev pub IsObjectAsk : Roll → Ask → Type 0
+IsObjectAsk roll ask = (n : Name) × (ask ≡ Ask.Get roll.kind n) × (slice_get roll.names.items roll.read ≡ Some n)
+
 -- what taking a page gives: the job ended; or the next page was asked for; or it was the last, and nothing is pending
 abbrev pub PageGives : {J E : Type 0} → (J → Trace → Ask → Type 0) → (J → Trace → Exchange → Type 0) → (J → Trace → Outcome → Type 0) → Roll → Opening J → Say → Result Paged E → Roll → Opening J → Type 0
 PageGives Allows Gives Own roll old say (Ok Paged.Ended) roll' new = (r : Request) (after : Option Name) (es : Trace) → old.line.next ≡ Some r → r.ask ≡ Ask.List roll.kind after → Fits Allows Gives Own old es

@@ -97,6 +97,15 @@ object_got k _ _ = []
 abbrev pub objects_in : Kind → Trace → List Object
 objects_in k es = gathered (λ e. object_got k e.ask e.say) es
 
+-- the object of a kind that a request puts
+abbrev pub object_put : Kind → Ask → List Object
+object_put k (Ask.Put token j n x) = cond (same_kind j k) (record { name = n; bytes = x } ∷ []) []
+object_put k _ = []
+
+-- the objects of a kind that were put, in order, whatever was said to it
+abbrev pub objects_put : Kind → Trace → List Object
+objects_put k es = gathered (λ e. object_put k e.ask) es
+
 -- the object was received, and its bytes have its name
 abbrev pub IsRead : Trace → Kind → Name → List ℕ → Type 0
 IsRead es k n x = Exchanged es (Ask.Get k n) (Say.Bytes x) × (naming.name x ≡ n)

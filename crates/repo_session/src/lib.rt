@@ -4,7 +4,8 @@
 //! until it has an outcome and nothing is pending. [`drive`] carries its requests over a connection,
 //! [`lockstep`] to a shelf directly, and [`ask`] carries one request. A [`Who`] is the client's name for
 //! itself, an [`Outcome`] how the job ended, an [`Emission`] a part of what a restore gives out. An
-//! [`Opening`] is the start and the end that all jobs share, a [`Roll`] the objects of one kind, page by page.
+//! [`Opening`] is the start and the end that all jobs share, a [`Roll`] the objects of one kind, page by page, a
+//! [`Catalog`] the indexes and what they give.
 //!
 //! Promised: a client is tied to its trace, the list of its exchanges with what was given out on each. Each
 //! request was one that the exchanges before it allow, whoever answers; an outcome comes only where its
@@ -13,11 +14,12 @@
 //!
 //! The definitions stand in `specs/`: `Traces` (exchanges, and what they listed and read), `Order` (what may
 //! be sent after which exchanges, whatever the job), `Ends` (what each end comes from), `Clients` (what a
-//! client owes), `Openings` and `Rolls` (what the two builders know of the trace), `Talks` (what the drivers
+//! client owes), `Openings`, `Rolls` and `Catalogs` (what the builders know of the trace), `Talks` (what the drivers
 //! do), `Rebuilding` (the entries that emissions give), `Soundness`
 //! (the blobs that a store holds, and when it is sound).
 #![tactic(auto)]
 
+mod catalogs;
 mod clients;
 mod connections;
 mod driving;
@@ -36,6 +38,7 @@ mod stepping;
 mod tests;
 mod who;
 
+pub use catalogs::{Catalog, Indexed};
 pub use clients::Client;
 pub use driving::{DriveError, ask, drive};
 pub use emissions::Emission;

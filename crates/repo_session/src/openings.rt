@@ -10,9 +10,10 @@ ghost use Rattle.repo_wire.specs.declared.messages.Say.{Say};
 ghost use Rattle.repo_wire.specs.Messages.{requests, IsAsk, IsShortAsk};
 ghost use Rattle.repo_wire.specs.Stream.{FitsFrame};
 ghost use Rattle.repo_session.specs.declared.emissions.Emission.{Emission};
+ghost use Rattle.repo_session.specs.declared.outcomes.End.{End};
 ghost use Rattle.repo_session.specs.declared.outcomes.Outcome.{Outcome};
 ghost use Rattle.repo_session.specs.Clients.{AnswersNext, IsSteady};
-ghost use Rattle.repo_session.specs.Ends.{Concludes, IsUnwelcome};
+ghost use Rattle.repo_session.specs.Ends.{Concludes, IsBad, IsUnwelcome};
 ghost use Rattle.repo_session.specs.Lines.{IsSent};
 ghost use Rattle.repo_session.specs.Openings.{IsWork, IsUnlock, Moves, Pends, EndsSo, ConfigGives, task_of, Fits, IsReady, MayLeave, Keeps, Replied, Hears};
 ghost use Rattle.repo_session.specs.Order.{May, IsPermitted};
@@ -24,7 +25,7 @@ use crate::letters::Letter;
 use crate::lines::Line;
 use crate::outcomes::{End, Outcome};
 use crate::who::{Claim, Who};
-use repo_name::{Instance, Name, Text, Token};
+use repo_name::{Instance, Name, Text, Thing, Token};
 use repo_tree::Config;
 use repo_wire::{Ask, Reply, Request, Say};
 use std::alloc::{AllocError, Global};
@@ -206,6 +207,19 @@ impl<J: Job + Drop> Opening<J> {
         };
         let end = end_of(&letter.request().ask, say);
         self.leave(end);
+    }
+
+    /// Ends the job on the bytes of an object or a blob that are bad.
+    pub fn reject(&mut self, thing: Thing, name: Name)
+        ensures fits { (request : Request) (say : Say) (es : Trace) → self.old.line.next ≡ Some request → IsWork request.ask → say ≢ Say.Refused Code.Dead
+            → IsBad (record { ask = request.ask; say = say; emitted = [] } ∷ es) request.ask say thing name
+            → Fits J.allows J.gives J.concludes self.old es → Fits J.allows J.gives J.concludes self.new (record { ask = request.ask; say = say; emitted = [] } ∷ es) }
+        ensures outcome { self.new.line.outcome ≡ Some (Outcome.Ended (End.BadObject thing name)) }
+        ensures left { Pends IsUnlock self.new.line }
+        ensures kept { Keeps self.old self.new }
+    {
+        self.answered();
+        self.finish(Outcome::Ended(End::BadObject(thing, name)));
     }
 
     /// Takes what is the opening's own of a reply: see [`Heard`]. It fails for memory alone, which only a

@@ -5,7 +5,7 @@ ghost use Rattle.repo_wire.specs.Messages.{IsGivenName};
 ghost use Rattle.repo_session.specs.Ends.{PageRises};
 ghost use Rattle.repo_session.specs.Openings.{Fits, IsReady, Keeps, Pends};
 ghost use Rattle.repo_session.specs.Order.{last_of};
-ghost use Rattle.repo_session.specs.Rolls.{Rolls, IsPageAsk, PageGives, IsGot};
+ghost use Rattle.repo_session.specs.Rolls.{Rolls, IsPageAsk, IsObjectAsk, PageGives, IsGot};
 ghost use Rattle.repo_session.specs.Traces.{Trace};
 ghost use Rattle.repo_store.specs.Pages.{Above, Ascends};
 
@@ -156,6 +156,7 @@ impl Roll {
     /// Asks for the next object, unless the numbers are spent. It says whether there is one to be read.
     pub fn ask_object<J: Job + Drop>(&self, opening: &mut Opening<J>) -> bool
         ensures more { IsTrue result → (es : Trace) → IsReady J.allows J.gives opening.old es → Rolls self.now true es → Fits J.allows J.gives J.concludes opening.new es }
+        ensures pends { IsTrue result → Pends (IsObjectAsk self.now) opening.new.line }
         ensures all { IsFalse result → (opening.new ≡ opening.old) × (length self.now.names.items ≤ self.now.read) }
         ensures kept { Keeps opening.old opening.new }
     {

@@ -1,0 +1,58 @@
+-- What a catalog of a store's indexes knows of the trace.
+use Rattle.std.specs.Prelude.{◌≡◌, ◌≤◌, ◌↔◌, ◌∷◌, [], ℕ, Bool, true, false, List, length, slice_get, Option, Some, None, Result, Ok, Err, Contains}
+use Rattle.repo_name.specs.declared.kinds.Kind.{Kind}
+use Rattle.repo_name.specs.declared.names.Name.{Name}
+use Rattle.repo_wire.specs.declared.messages.Ask.{Ask}
+use Rattle.repo_wire.specs.declared.messages.Request.{Request}
+use Rattle.repo_wire.specs.declared.messages.Say.{Say}
+use Rattle.repo_index.specs.declared.facts.Fact.{Fact}
+use Rattle.repo_index.specs.declared.facts.PackFacts.{PackFacts}
+use Rattle.repo_index.specs.IndexText.{IsIndexText}
+use Rattle.repo_index.specs.Lookups.{HasSame}
+use Rattle.repo_session.specs.declared.catalogs.Catalog.{Catalog}
+use Rattle.repo_session.specs.declared.catalogs.Indexed.{Indexed}
+use Rattle.repo_session.specs.declared.openings.Opening.{Opening}
+use Rattle.repo_session.specs.declared.outcomes.Outcome.{Outcome}
+use Rattle.repo_session.specs.Openings.{Fits, IsReady, IsUnlock, Pends}
+use Rattle.repo_session.specs.Rolls.{IsRolled}
+use Rattle.repo_session.specs.Traces.{Each, Exchange, Trace, Object, objects_in, IsListed, Lists, IsRead, ReadFact}
+
+-- the indexes are listed to their end, and each one listed was read, and reads
+pub record AreIndexed (es : Trace) : Type 0 where
+  pub listed : IsListed Kind.Index es
+  pub each : (n : Name) → Lists es Kind.Index n → (x : List ℕ) × (packs : List PackFacts) × IsRead es Kind.Index n x × IsIndexText x packs
+
+-- the object reads as an index
+abbrev pub IsIndexObject : Object → Type 0
+IsIndexObject o = (packs : List PackFacts) × IsIndexText o.bytes packs
+
+-- the pages gave these names of indexes so far, and the last page came or didn't; so many of the first were read, and reads each; and just these facts they give
+pub record IsCatalog (kind : Kind) (names : List Name) (read : ℕ) (facts : List Fact) (whole : Bool) (es : Trace) : Type 0 where
+  pub of_indexes : kind ≡ Kind.Index
+  pub rolled : IsRolled Kind.Index names read whole es
+  pub indexes : Each IsIndexObject (objects_in Kind.Index es)
+  pub gives : (fact : Fact) → Contains facts fact ↔ ReadFact es fact
+
+-- ---- over the code's own type
+
+-- a catalog of the code, where the last page came or didn't
+abbrev pub Catalogs : Catalog → Bool → Trace → Type 0
+Catalogs c whole es = IsCatalog c.roll.kind c.roll.names.items c.roll.read c.lookup whole es
+
+-- a request for the next index that wasn't read
+abbrev pub IsIndexAsk : Catalog → Ask → Type 0
+IsIndexAsk c ask = (n : Name) × (ask ≡ Ask.Get Kind.Index n) × (slice_get c.roll.names.items c.roll.read ≡ Some n)
+
+-- all that was listed was read
+abbrev pub IsAll : Catalog → Type 0
+IsAll c = length c.roll.names.items ≤ c.roll.read
+
+-- what taking the next index gives: the job ended; or the one after it was asked for; or it was the last, and nothing is pending
+abbrev pub IndexGives : {J E : Type 0} → (J → Trace → Ask → Type 0) → (J → Trace → Exchange → Type 0) → (J → Trace → Outcome → Type 0) → Catalog → Opening J → Say → Result Indexed E → Catalog → Opening J → Type 0
+IndexGives Allows Gives Own c old say (Ok Indexed.Ended) c' new = (r : Request) (es : Trace) → old.line.next ≡ Some r → IsIndexAsk c r.ask → Fits Allows Gives Own old es → Catalogs c true es
+    → Fits Allows Gives Own new (record { ask = r.ask; say = say; emitted = [] } ∷ es) × Pends IsUnlock new.line
+IndexGives Allows Gives Own c old say (Ok Indexed.More) c' new = (r : Request) (es : Trace) → old.line.next ≡ Some r → IsIndexAsk c r.ask → Fits Allows Gives Own old es → Catalogs c true es
+    → Fits Allows Gives Own new (record { ask = r.ask; say = say; emitted = [] } ∷ es) × Catalogs c' true (record { ask = r.ask; say = say; emitted = [] } ∷ es) × Pends (IsIndexAsk c') new.line
+IndexGives Allows Gives Own c old say (Ok Indexed.All) c' new = (r : Request) (es : Trace) → old.line.next ≡ Some r → IsIndexAsk c r.ask → Fits Allows Gives Own old es → Catalogs c true es
+    → IsReady Allows Gives new (record { ask = r.ask; say = say; emitted = [] } ∷ es) × Catalogs c' true (record { ask = r.ask; say = say; emitted = [] } ∷ es) × IsAll c'
+IndexGives Allows Gives Own c old say (Err e) c' new = (new ≡ old) × (c'.roll ≡ c.roll) × HasSame c.lookup c'.lookup
