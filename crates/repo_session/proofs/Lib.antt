@@ -7,3 +7,4 @@ pub mod Hearing
 pub mod Rolling
 pub mod Receiving
 pub mod Cataloguing
+pub mod Counting

@@ -18,7 +18,7 @@ no_page task token text k after (inr (inl h)) = let a = h.0 in absurd (cc)
 no_page task token text k after (inr (inr (inl h))) = let a = h.0 in absurd (cc)
 no_page task token text k after (inr (inr (inr h))) = absurd h
 
-first_page : (task : Task) (token : Token) (text : List ℕ) (k : Kind) → IsNextPage k None (opened task token text)
+pub first_page : (task : Task) (token : Token) (text : List ℕ) (k : Kind) → IsNextPage k None (opened task token text)
 first_page task token text k = record { rise = record { ascend = tt; moves = no_page task token text k }; incomplete = refl; last = refl }
 
 opened_now : (task : Task) (token : Token) (text : List ℕ) (config : Config) → IsConfigText text config → IsOpen task token config (opened task token text)

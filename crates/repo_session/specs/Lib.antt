@@ -15,3 +15,4 @@ pub mod Openings
 pub mod Rolls
 pub mod Catalogs
 pub mod Obedience
+pub mod Listings

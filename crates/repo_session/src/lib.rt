@@ -29,6 +29,8 @@ mod laws;
 mod letters;
 mod lines;
 #[cfg(test)]
+mod listings;
+#[cfg(test)]
 mod opening_tests;
 mod openings;
 mod outcomes;

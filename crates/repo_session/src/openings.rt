@@ -1,6 +1,6 @@
 //! The start that all jobs share, and their end: ticket, lock and config, and the unlock.
 
-ghost use Rattle.std.specs.Prelude.{◌≡◌, ◌≢◌, ◌⊎◌, ◌↔◌, ◌∷◌, [], List, Option, Some, None, option_map, IsTrue, IsSome, IsOk};
+ghost use Rattle.std.specs.Prelude.{◌≡◌, ◌≢◌, ◌⊎◌, ◌↔◌, ◌∷◌, [], List, Option, Some, None, option_map, IsTrue, IsSome, IsOk, IfOk};
 ghost use Rattle.repo_name.specs.declared.rows.LockRow.{LockRow};
 ghost use Rattle.repo_name.specs.declared.tokens.Token.{Token};
 ghost use Rattle.repo_wire.specs.declared.messages.Ask.{Ask};
@@ -11,6 +11,7 @@ ghost use Rattle.repo_wire.specs.Messages.{requests, IsAsk, IsShortAsk};
 ghost use Rattle.repo_wire.specs.Stream.{FitsFrame};
 ghost use Rattle.repo_session.specs.declared.emissions.Emission.{Emission};
 ghost use Rattle.repo_session.specs.declared.outcomes.End.{End};
+ghost use Rattle.repo_session.specs.declared.openings.Heard.{Heard};
 ghost use Rattle.repo_session.specs.declared.outcomes.Outcome.{Outcome};
 ghost use Rattle.repo_session.specs.Clients.{AnswersNext, IsSteady};
 ghost use Rattle.repo_session.specs.Ends.{Concludes, IsBad, IsUnwelcome};
@@ -81,6 +82,7 @@ impl<J: Job + Drop> Opening<J> {
         job: J,
     ) -> Opening<J>
         ensures fits { Fits J.allows J.gives J.concludes result [] }
+        ensures ticket { Pends (λ ask. ask ≡ Ask.Ticket) result.line }
         ensures job { result.job ≡ job }
         ensures task { task_of result ≡ record { who = who; exclusive = exclusive; snapshot = snapshot } }
     {
@@ -228,6 +230,7 @@ impl<J: Job + Drop> Opening<J> {
         ensures hears { Hears J.allows J.gives J.concludes self.old reply.now result self.new }
         ensures sure { (request : Request) → self.old.line.next ≡ Some request → IsSteady request.ask → IsOk result }
         ensures other { ¬ AnswersNext self.old.line.next reply.now → IsOk result }
+        ensures work { IfOk result (λ heard. heard ≡ Heard.Work → (request : Request) → self.old.line.next ≡ Some request → ¬ IsSteady request.ask) }
         ensures kept { Keeps self.old self.new }
     {
         let Some(letter) = &self.line.next else {
