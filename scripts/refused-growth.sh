@@ -8,5 +8,7 @@ cd "$(dirname "$0")/../crates/$1"
 for n in $(seq 1 "$2"); do
     line=$(rt try --test --fail-alloc "$n" 2>&1 | grep -E 'refused_growth' || true)
     echo "$n: $line"
-    [[ "$line" == *"ok"* ]]
+    if [[ -z "$line" ]] || grep -qv ' ok$' <<< "$line"; then
+        exit 1
+    fi
 done

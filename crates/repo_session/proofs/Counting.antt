@@ -1,5 +1,5 @@
 -- What the names of one kind are known to be, after a reply.
-use Rattle.std.proofs.Common.{◌≡◌, ◌≢◌, ◌∷◌, [], ◌∙◌, arith, ℕ, true, false, List, length, Option, Some, None, Result, Ok, refl, sym, ap, subst}
+use Rattle.std.proofs.Common.{◌≡◌, ◌∷◌, [], ◌∙◌, arith, ℕ, true, false, List, length, Option, Some, Ok, refl, sym, ap, subst}
 use Rattle.std.specs.declared.alloc.AllocError.{AllocError}
 use Rattle.repo_name.specs.declared.kinds.Kind.{Kind}
 use Rattle.repo_name.specs.declared.names.Name.{Name}
@@ -17,10 +17,10 @@ use Rattle.repo_session.specs.declared.rolls.Paged.{Paged}
 use Rattle.repo_session.specs.declared.rolls.Roll.{Roll}
 use Rattle.repo_session.specs.Clients.{exchange}
 use Rattle.repo_session.specs.Listings.{AllowsNothing, GivesNothing, ConcludesListed, KnowsNames, Lists}
-use Rattle.repo_session.specs.Openings.{IsWork, IsStart, IsUnlock, Moves, Pends, StandsAt, IsReady, IsOpened, Keeps, Hears, task_of}
+use Rattle.repo_session.specs.Openings.{IsWork, IsStart, IsUnlock, Moves, Pends, StandsAt, IsReady, Keeps, Hears, task_of}
 use Rattle.repo_session.specs.Order.{Task, opened}
 use Rattle.repo_session.specs.Rolls.{IsRolled, IsPageAsk, PageGives, Rolls}
-use Rattle.repo_session.specs.Traces.{Trace, names_in, IsListed}
+use Rattle.repo_session.specs.Traces.{Trace}
 use Rattle.repo_session.proofs.Meeting.{first_page}
 
 unlock_no_start : (ask : Ask) → IsUnlock ask → ¬ IsStart ask

@@ -1,7 +1,6 @@
 -- Where an opening stands after a reply, over plain values.
 use Rattle.std.proofs.Common.{arith, ◌≡◌, ◌≢◌, ◌≤◌, ◌+◌, ◌-◌, ◌^◌, ◌∷◌, ◌++◌, [], ℕ, List, length, Option, Some, None, refl, sym, ap, subst, inl, inr, append_assoc, ◌⊎◌, ◌∙◌}
 use Rattle.std.proofs.lemmas.Option.{same_Some}
-use Rattle.repo_name.specs.declared.names.Instance.{Instance}
 use Rattle.repo_name.specs.declared.rows.LockRow.{LockRow}
 use Rattle.repo_name.specs.declared.tokens.Token.{Token}
 use Rattle.repo_wire.specs.declared.messages.Ask.{Ask}

@@ -9,7 +9,6 @@ use Rattle.repo_name.specs.declared.names.Name.{Name}
 use Rattle.repo_name.specs.declared.rows.LockRow.{LockRow}
 use Rattle.repo_name.specs.declared.tokens.Token.{Token}
 use Rattle.repo_wire.specs.declared.messages.Ask.{Ask}
-use Rattle.repo_wire.specs.declared.messages.Code.{Code}
 use Rattle.repo_wire.specs.declared.messages.Request.{Request}
 use Rattle.repo_wire.specs.declared.messages.Say.{Say}
 use Rattle.repo_store.specs.Pages.{Has, Ascends}
@@ -19,9 +18,9 @@ use Rattle.repo_session.specs.declared.outcomes.End.{End}
 use Rattle.repo_session.specs.declared.outcomes.Outcome.{Outcome}
 use Rattle.repo_session.specs.Ends.{Concludes, IsSenseless, IsUnwelcome, PageRises}
 use Rattle.repo_session.specs.Openings.{StandsAt}
-use Rattle.repo_session.specs.Order.{Task, last_of, IsWorking, IsNextPage, May}
+use Rattle.repo_session.specs.Order.{Task, last_of, IsWorking, May}
 use Rattle.repo_session.specs.Rolls.{IsNamed, IsRolled}
-use Rattle.repo_session.specs.Traces.{Each, Exchange, Trace, Exchanged, Object, same_kind, page_names, is_last_page, names_in, objects_in, is_complete}
+use Rattle.repo_session.specs.Traces.{Each, Exchange, Trace, Exchanged, Object, same_kind, is_last_page, names_in, objects_in}
 use Rattle.repo_session.proofs.Opens.{told_of}
 
 pub unwelcome_page : (k : Kind) (after : Option Name) (say : Say) → ((more : Bool) (names : List Name) → say ≢ Say.Names more names) → IsUnwelcome (Ask.List k after) say

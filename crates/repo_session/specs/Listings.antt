@@ -1,6 +1,5 @@
 -- A small job: the names of one kind.
 use Rattle.std.specs.Prelude.{◌≡◌, ◌≢◌, [], ℕ, List, length, Option, Some, None, false}
-use Rattle.std.proofs.Common.{refl}
 use Rattle.repo_name.specs.declared.kinds.Kind.{Kind}
 use Rattle.repo_name.specs.declared.names.Name.{Name}
 use Rattle.repo_name.specs.declared.rows.LockRow.{LockRow}

@@ -1,6 +1,6 @@
 -- An opening is obedient.
-use Rattle.std.specs.Prelude.{◌≡◌, ◌≢◌, ◌∷◌, ◌++◌, [], List, Option, Some, None}
-use Rattle.std.proofs.Common.{refl, sym, ap, subst}
+use Rattle.std.specs.Prelude.{◌≡◌, ◌≢◌, ◌∷◌, ◌++◌, [], Option, Some, None}
+use Rattle.std.proofs.Common.{refl, sym, subst}
 use Rattle.repo_name.specs.declared.rows.LockRow.{LockRow}
 use Rattle.repo_name.specs.declared.tokens.Token.{Token}
 use Rattle.repo_wire.specs.declared.messages.Ask.{Ask}
@@ -9,7 +9,7 @@ use Rattle.repo_session.specs.declared.lines.Line.{Line}
 use Rattle.repo_session.specs.declared.outcomes.Outcome.{Outcome}
 use Rattle.repo_session.specs.Clients.{IsNext, IsObedient}
 use Rattle.repo_session.specs.Ends.{Concludes, without_unlock, before_unlock}
-use Rattle.repo_session.specs.Openings.{StandsAt, Stands, StandsBeside, Waits}
+use Rattle.repo_session.specs.Openings.{StandsAt, Stands, StandsBeside}
 use Rattle.repo_session.specs.Order.{Task, locked, IsNoUnlock, Holds, May}
 use Rattle.repo_session.specs.Traces.{Each, Exchange, Trace}
 

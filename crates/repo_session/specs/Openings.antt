@@ -139,11 +139,6 @@ pub record Keeps {J : Type 0} (old new : Opening J) : Type 0 where
   pub job : new.job ≡ old.job
   pub task : task_of new ≡ task_of old
 
--- the reply to what was pending goes onto each trace that fitted
-abbrev pub Replied : {J : Type 0} → (J → Trace → Ask → Type 0) → (J → Trace → Exchange → Type 0) → (J → Trace → Outcome → Type 0) → Opening J → Ask → Say → Opening J → Type 0
-Replied Allows Gives Own old ask say new = (request : Request) (es : Trace) → old.line.next ≡ Some request → request.ask ≡ ask → Fits Allows Gives Own old es
-    → Fits Allows Gives Own new (record { ask = request.ask; say = say; emitted = [] } ∷ es)
-
 -- the trace is ticket, lock and config alone, and this is the config
 pub record IsOpened {J : Type 0} (o : Opening J) (config : Config) (es : Trace) : Type 0 where
   pub text : List ℕ

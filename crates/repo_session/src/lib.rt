@@ -29,6 +29,8 @@ mod laws;
 mod letters;
 mod lines;
 #[cfg(test)]
+mod listing_tests;
+#[cfg(test)]
 mod listings;
 #[cfg(test)]
 mod opening_tests;

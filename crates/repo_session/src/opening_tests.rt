@@ -24,7 +24,7 @@ impl Job for Idle {
 }
 
 /// A reply of this number.
-fn reply(sequence: u64, say: Say) -> Reply {
+pub fn reply(sequence: u64, say: Say) -> Reply {
     Reply {
         instance: INSTANCE,
         sequence,
@@ -33,7 +33,7 @@ fn reply(sequence: u64, say: Say) -> Reply {
 }
 
 /// The text of a config, as a store says it.
-fn config_text(alloc: Global) -> Result<Say, AllocError> {
+pub fn config_text(alloc: Global) -> Result<Say, AllocError> {
     let text =
         r#"{"chunk_bits":6,"chunk_max":128,"chunk_min":64,"id":"01010101010101010101010101010101","pack_target":1024,"version":1}"#;
     Ok(Say::Bytes(Bytes::of(Vec::from_slice(alloc, text.as_bytes())?)))
@@ -58,7 +58,7 @@ fn end_of_job(opening: &Opening<Idle>) -> Option<End> {
 }
 
 /// A page of names.
-fn page(alloc: Global, more: bool, names: &[Name]) -> Result<Say, AllocError> {
+pub fn page(alloc: Global, more: bool, names: &[Name]) -> Result<Say, AllocError> {
     Ok(Say::Names {
         more,
         names: Names::of(Vec::from_slice(alloc, names)?),

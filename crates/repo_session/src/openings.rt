@@ -10,13 +10,13 @@ ghost use Rattle.repo_wire.specs.declared.messages.Say.{Say};
 ghost use Rattle.repo_wire.specs.Messages.{requests, IsAsk, IsShortAsk};
 ghost use Rattle.repo_wire.specs.Stream.{FitsFrame};
 ghost use Rattle.repo_session.specs.declared.emissions.Emission.{Emission};
-ghost use Rattle.repo_session.specs.declared.outcomes.End.{End};
 ghost use Rattle.repo_session.specs.declared.openings.Heard.{Heard};
+ghost use Rattle.repo_session.specs.declared.outcomes.End.{End};
 ghost use Rattle.repo_session.specs.declared.outcomes.Outcome.{Outcome};
 ghost use Rattle.repo_session.specs.Clients.{AnswersNext, IsSteady};
 ghost use Rattle.repo_session.specs.Ends.{Concludes, IsBad, IsUnwelcome};
-ghost use Rattle.repo_session.specs.Lines.{IsSent};
-ghost use Rattle.repo_session.specs.Openings.{IsWork, IsUnlock, Moves, Pends, EndsSo, ConfigGives, task_of, Fits, IsReady, MayLeave, Keeps, Replied, Hears};
+ghost use Rattle.repo_session.specs.Lines.{IsSent, IsFinished};
+ghost use Rattle.repo_session.specs.Openings.{IsWork, IsUnlock, Moves, Pends, EndsSo, ConfigGives, task_of, Fits, IsReady, MayLeave, Keeps, Hears};
 ghost use Rattle.repo_session.specs.Order.{May, IsPermitted};
 ghost use Rattle.repo_session.specs.Traces.{Exchange, Trace};
 
@@ -108,8 +108,9 @@ impl<J: Job + Drop> Opening<J> {
         }
     }
 
-    fn take_ticket(&mut self, say: &Say)
-        ensures fits { Replied J.allows J.gives J.concludes self.old Ask.Ticket say.now self.new }
+    fn take_ticket(&mut self, say: &Say, end: End)
+        ensures fits { (request : Request) (es : Trace) → self.old.line.next ≡ Some request → request.ask ≡ Ask.Ticket → EndsSo request.ask say.now end
+            → Fits J.allows J.gives J.concludes self.old es → Fits J.allows J.gives J.concludes self.new (record { ask = request.ask; say = say.now; emitted = [] } ∷ es) }
         ensures moved { (request : Request) (es : Trace) → self.old.line.next ≡ Some request → request.ask ≡ Ask.Ticket → Fits J.allows J.gives J.concludes self.old es → Moves Ask.Ticket self.new.line }
         ensures kept { Keeps self.old self.new }
     {
@@ -121,7 +122,7 @@ impl<J: Job + Drop> Opening<J> {
                 self.token = *token;
                 self.line.send(Ask::Lock(claim.with_token(*token)));
             }
-            _ => self.line.close(Outcome::Ended(end_of(&Ask::Ticket, say))),
+            _ => self.line.close(Outcome::Ended(end)),
         }
     }
 
@@ -191,6 +192,7 @@ impl<J: Job + Drop> Opening<J> {
         ensures fits { (es : Trace) → IsReady J.allows J.gives self.old es → Concludes (J.concludes self.old.job) es outcome → Fits J.allows J.gives J.concludes self.new es }
         ensures outcome { self.new.line.outcome ≡ Some outcome }
         ensures left { Pends IsUnlock self.new.line }
+        ensures sent { IsFinished self.old.line outcome self.old.token self.new.line }
         ensures kept { Keeps self.old self.new }
     {
         self.line.finish(outcome, self.token);
@@ -202,6 +204,8 @@ impl<J: Job + Drop> Opening<J> {
         ensures fits { (request : Request) (es : Trace) → self.old.line.next ≡ Some request → IsWork request.ask → IsUnwelcome request.ask say.now
             → Fits J.allows J.gives J.concludes self.old es → Fits J.allows J.gives J.concludes self.new (record { ask = request.ask; say = say.now; emitted = [] } ∷ es) }
         ensures left { IsSome self.old.line.next → Pends IsUnlock self.new.line }
+        ensures sent { (request : Request) → self.old.line.next ≡ Some request → IsUnwelcome request.ask say.now → say.now ≢ Say.Refused Code.Dead
+            → (end : End) × IsFinished self.old.line (Outcome.Ended end) self.old.token self.new.line }
         ensures kept { Keeps self.old self.new }
     {
         let Some(letter) = &self.line.next else {
@@ -243,7 +247,7 @@ impl<J: Job + Drop> Opening<J> {
         let end = end_of(&request.ask, &reply.say);
         match &request.ask {
             Ask::Ticket => {
-                self.take_ticket(&reply.say);
+                self.take_ticket(&reply.say, end);
                 Ok(Heard::Taken)
             }
             Ask::Lock(_) => {
@@ -265,6 +269,7 @@ impl<J: Job + Drop> Opening<J> {
         ensures outcome { self.new.line.outcome ≡ Some (Outcome.Ended end) }
         ensures moved { (asked : Ask) → Moves asked self.new.line }
         ensures left { Pends IsUnlock self.new.line }
+        ensures sent { end ≢ End.Fenced → IsFinished self.old.line (Outcome.Ended end) self.old.token self.new.line }
         ensures kept { Keeps self.old self.new }
     {
         match end {

@@ -118,17 +118,16 @@ impl Client for Taker {
 }
 
 /// A reply's frame, behind others.
-fn append(sequence: u64, say: Say, out: &mut Vec<u8>) -> Result<(), Fail> {
+pub fn append(sequence: u64, say: Say, out: &mut Vec<u8>) -> Result<(), AllocError> {
     let reply = Reply {
         instance: INSTANCE,
         sequence,
         say,
     };
     if !reply.fits() {
-        return Err(Fail::from(AllocError));
+        return Err(AllocError);
     }
-    write_reply(&reply, out)?;
-    Ok(())
+    write_reply(&reply, out)
 }
 
 /// The frame of the request for a ticket.

@@ -1,4 +1,4 @@
-use Rattle.std.proofs.Common.{◌≡◌, sym, ap, subst, Some, Option, ◌∙◌}
+use Rattle.std.proofs.Common.{◌≡◌, sym, ap, subst, Option, ◌∙◌}
 use Rattle.std.proofs.lemmas.Option.{same_Some}
 use Rattle.repo_wire.specs.declared.messages.Ask.{Ask}
 use Rattle.repo_wire.specs.declared.messages.Request.{Request}
@@ -14,7 +14,14 @@ returns-in-Ticket-clause-hears g c =
     let A : Request → Type 0 = λ x. Answers x c.args.reply.now in
     let N : Option Request → Type 0 = λ n. AnswersNext n c.args.reply.now in
     let a = subst N (sym c.in-Some.is) (subst A is (c.answers.ensures.0 c.if-not-answers.false)) in
-    (a, λ r es p f. let q : r.ask ≡ Ask.Ticket = ap (λ x. x.ask) (sym (is ∙ same_Some c.in-Some.letter r (sym c.in-Some.is ∙ p))) ∙ c.in-Ticket.is in let M : Ask → Type 0 = λ x. Moves x c.take_ticket.new.self.line in (c.take_ticket.ensures.fits r es p q f, subst M (sym q) (c.take_ticket.ensures.moved r es p q f)))
+    let E : Request → Type 0 = λ x. EndsSo x.ask c.args.reply.now.say c.end_of-end.result in (
+      a,
+      λ r es p f.
+          let same = is ∙ same_Some c.in-Some.letter r (sym c.in-Some.is ∙ p) in
+          let q : r.ask ≡ Ask.Ticket = ap (λ x. x.ask) (sym same) ∙ c.in-Ticket.is in
+          let M : Ask → Type 0 = λ x. Moves x c.take_ticket.new.self.line in
+          (c.take_ticket.ensures.fits r es p q (subst E same (λ u. (c.end_of-end.ensures.fenced, c.end_of-end.ensures.caused u))) f, subst M (sym q) (c.take_ticket.ensures.moved r es p q f)),
+    )
 
 pub returns-in-Lock-clause-hears : goal.returns-in-Lock-clause-hears
 returns-in-Lock-clause-hears g c =

@@ -6,7 +6,7 @@ use Rattle.repo_tree.specs.ConfigText.{IsConfigText, ConfigFault}
 use Rattle.repo_session.specs.declared.outcomes.End.{End}
 use Rattle.repo_session.specs.Ends.{CausedBy}
 use Rattle.repo_session.specs.Openings.{task_of}
-use Rattle.repo_session.specs.Traces.{Exchange, Trace}
+use Rattle.repo_session.specs.Traces.{Trace}
 use Rattle.repo_session.proofs.Opens.{config_leaves, config_opens, unwelcome_config}
 use Rattle.repo_session.proofs.openings.Opening.take_config.Goals as goal
 
