@@ -87,7 +87,7 @@ impl Lookup {
     }
 
     /// Adds a fact, and notes it where it is new. It fails for memory alone, and then nothing changed.
-    fn add_noted(&mut self, fact: Fact, noted: &mut Vec<Fact>) -> Result<(), AllocError>
+    fn note_fact(&mut self, fact: Fact, noted: &mut Vec<Fact>) -> Result<(), AllocError>
         ensures ok { OnOk result (Joins self.old (fact ∷ []) self.new) }
         ensures noted { (base : List Fact) → Grew base noted.old.items self.old → Grew base noted.new.items self.new }
     {
@@ -105,7 +105,7 @@ impl Lookup {
         ensures noted { (base : List Fact) → Grew base noted.old.items self.old → Grew base noted.new.items self.new }
     {
         for fact in facts {
-            self.add_noted(*fact, noted)?;
+            self.note_fact(*fact, noted)?;
         }
         Ok(())
     }
@@ -130,12 +130,30 @@ impl Lookup {
         self.by_place.remove(&ByPlace::of(fact));
     }
 
-    /// Removes the facts that were noted.
-    fn take_back(&mut self, noted: &[Fact])
+    /// Removes the facts that were noted as they were added: the look-up has the facts that it had before. It takes no
+    /// memory.
+    pub fn take_back(&mut self, noted: &[Fact])
         ensures { (base : List Fact) → Grew base noted.now self.old → HasSame base self.new }
     {
         for fact in noted {
             self.remove_fact(*fact);
+        }
+    }
+
+    /// Adds the facts of an index, and gives those that are new. It fails for memory alone, and then the look-up has the
+    /// facts that it had.
+    pub fn add_noted(&mut self, text: &IndexText) -> Result<Facts, AllocError>
+        ensures ok { OnOk result (Joins self.old (facts_in text.now) self.new) }
+        ensures noted { IfOk result (λ noted. Grew self.old noted self.new) }
+        ensures err { OnErr result (HasSame self.old self.new) }
+    {
+        let mut noted = Vec::new(self.alloc);
+        match self.add_packs(text.packs(), &mut noted) {
+            Ok(()) => Ok(Facts::of(noted)),
+            Err(error) => {
+                self.take_back(noted.as_slice());
+                Err(error)
+            }
         }
     }
 
@@ -144,14 +162,8 @@ impl Lookup {
         ensures ok { OnOk result (Joins self.old (facts_in text.now) self.new) }
         ensures err { OnErr result (HasSame self.old self.new) }
     {
-        let mut noted = Vec::new(self.alloc);
-        match self.add_packs(text.packs(), &mut noted) {
-            Ok(()) => Ok(()),
-            Err(error) => {
-                self.take_back(noted.as_slice());
-                Err(error)
-            }
-        }
+        self.add_noted(text)?;
+        Ok(())
     }
 
     /// The least place of a blob of this kind and name: that of the least pack, there that of the least offset, and

@@ -7,12 +7,12 @@ use Rattle.repo_index.proofs.lookups.Lookup.add_facts.Goals as goal
 
 pub loop-fact-preserved : goal.loop-fact-preserved
 loop-fact-preserved c = (
-  joins_more c.args.self.now c.args.facts.now c.loop-fact.self c.add_noted.new.self c.loop-fact.fact-index _ c.loop-fact-test.true c.loop-fact.invariant.0 c.in_ok-add_noted.ensures.ok,
-  λ base g. c.add_noted.ensures.noted base (c.loop-fact.invariant.1 base g),
+  joins_more c.args.self.now c.args.facts.now c.loop-fact.self c.note_fact.new.self c.loop-fact.fact-index _ c.loop-fact-test.true c.loop-fact.invariant.0 c.in_ok-note_fact.ensures.ok,
+  λ base g. c.note_fact.ensures.noted base (c.loop-fact.invariant.1 base g),
 )
 
-pub returns-in_err-add_noted-clause-noted : goal.returns-in_err-add_noted-clause-noted
-returns-in_err-add_noted-clause-noted c = λ base g. c.add_noted.ensures.noted base (c.loop-fact.invariant.1 base g)
+pub returns-in_err-note_fact-clause-noted : goal.returns-in_err-note_fact-clause-noted
+returns-in_err-note_fact-clause-noted c = λ base g. c.note_fact.ensures.noted base (c.loop-fact.invariant.1 base g)
 
 pub returns-clause-ok : goal.returns-clause-ok
 returns-clause-ok c =
