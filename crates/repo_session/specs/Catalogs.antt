@@ -1,5 +1,5 @@
 -- What a catalog of a store's indexes knows of the trace.
-use Rattle.std.specs.Prelude.{◌≡◌, ◌≤◌, ◌↔◌, ◌∷◌, [], ℕ, Bool, true, false, List, length, slice_get, Option, Some, None, Result, Ok, Err, Contains}
+use Rattle.std.specs.Prelude.{◌≡◌, ◌≢◌, ◌⊎◌, ◌≤◌, ◌↔◌, ◌∷◌, [], ℕ, Bool, true, false, List, length, slice_get, Option, Some, None, Result, Ok, Err, Contains}
 use Rattle.repo_name.specs.declared.kinds.Kind.{Kind}
 use Rattle.repo_name.specs.declared.names.Name.{Name}
 use Rattle.repo_wire.specs.declared.messages.Ask.{Ask}
@@ -7,8 +7,11 @@ use Rattle.repo_wire.specs.declared.messages.Request.{Request}
 use Rattle.repo_wire.specs.declared.messages.Say.{Say}
 use Rattle.repo_index.specs.declared.facts.Fact.{Fact}
 use Rattle.repo_index.specs.declared.facts.PackFacts.{PackFacts}
-use Rattle.repo_index.specs.IndexText.{IsIndexText}
-use Rattle.repo_index.specs.Lookups.{HasSame}
+use Rattle.repo_name.specs.Naming as naming
+use Rattle.repo_index.specs.IndexText.{IsIndexText, facts_in}
+use Rattle.repo_index.specs.Lookups.{Joins, Grew, HasSame}
+use Rattle.repo_session.specs.Ends.{IsUnreadable}
+use Rattle.repo_session.specs.declared.catalogs.Brought.{Brought}
 use Rattle.repo_session.specs.declared.catalogs.Catalog.{Catalog}
 use Rattle.repo_session.specs.declared.catalogs.Indexed.{Indexed}
 use Rattle.repo_session.specs.declared.openings.Opening.{Opening}
@@ -46,6 +49,14 @@ IsIndexAsk c ask = (n : Name) × (ask ≡ Ask.Get Kind.Index n) × (slice_get c.
 -- all that was listed was read
 abbrev pub IsAll : Catalog → Type 0
 IsAll c = length c.roll.names.items ≤ c.roll.read
+
+-- what a reply brings of the next index
+abbrev pub BringsIndex : {E : Type 0} → Catalog → Say → Result Brought E → Catalog → Type 0
+BringsIndex c say (Ok (Brought.New noted)) c' = (n : Name) × (x : List ℕ) × (packs : List PackFacts) × (slice_get c.roll.names.items c.roll.read ≡ Some n) × (say ≡ Say.Bytes x) × (naming.name x ≡ n)
+    × IsIndexText x packs × Joins c.lookup (facts_in packs) c'.lookup × Grew c.lookup noted c'.lookup
+BringsIndex c say (Ok (Brought.Bad n)) c' = (c' ≡ c) × (slice_get c.roll.names.items c.roll.read ≡ Some n) × ((x : List ℕ) × (say ≡ Say.Bytes x) × ((naming.name x ≢ n) ⊎ IsUnreadable Kind.Index x))
+BringsIndex c say (Ok Brought.Unwelcome) c' = (c' ≡ c) × ((slice_get c.roll.names.items c.roll.read ≡ None) ⊎ ((x : List ℕ) → say ≢ Say.Bytes x))
+BringsIndex c say (Err e) c' = HasSame c.lookup c'.lookup
 
 -- what taking the next index gives: the job ended; or the one after it was asked for; or it was the last, and nothing is pending
 abbrev pub IndexGives : {J E : Type 0} → (J → Trace → Ask → Type 0) → (J → Trace → Exchange → Type 0) → (J → Trace → Outcome → Type 0) → Catalog → Opening J → Say → Result Indexed E → Catalog → Opening J → Type 0

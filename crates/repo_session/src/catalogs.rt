@@ -3,14 +3,14 @@
 ghost use Rattle.std.specs.Prelude.{◌≡◌, ◌≢◌, [], true, IsTrue, IsFalse, OnOk};
 ghost use Rattle.repo_name.specs.declared.kinds.Kind.{Kind};
 ghost use Rattle.repo_index.specs.declared.faults.IndexError.{IndexError};
-ghost use Rattle.repo_session.specs.Catalogs.{Catalogs, IsIndexAsk, IsAll, IndexGives};
+ghost use Rattle.repo_session.specs.Catalogs.{Catalogs, IsIndexAsk, IsAll, BringsIndex, IndexGives};
 ghost use Rattle.repo_session.specs.Openings.{Fits, IsReady, Keeps, Pends};
 ghost use Rattle.repo_session.specs.Traces.{Trace};
 
 use crate::openings::{Job, Opening};
 use crate::rolls::{Got, Roll};
-use repo_index::{IndexError, IndexText, Lookup};
-use repo_name::{Kind, Thing};
+use repo_index::{Facts, IndexError, IndexText, Lookup};
+use repo_name::{Kind, Name, Thing};
 use repo_wire::Say;
 use std::alloc::{AllocError, Global};
 
@@ -23,6 +23,17 @@ pub enum Indexed {
     More,
     /// It was the last: nothing is pending.
     All,
+}
+
+/// What a reply brings of the next index.
+#[derive(Drop)]
+pub enum Brought {
+    /// Its facts, of which these weren't there.
+    New(Facts),
+    /// Bytes that don't have its name, or don't read.
+    Bad(Name),
+    /// No bytes, or nothing was asked for.
+    Unwelcome,
 }
 
 /// The indexes of a store: their names as pages gave them, how many were read, and where blobs lie by those
@@ -69,6 +80,26 @@ impl Catalog {
         self.roll.ask_object(opening)
     }
 
+    /// Adds the facts of the next index, if the reply brings it: `lookup.take_back` undoes that. The reply isn't taken
+    /// yet. It fails for memory alone, and then the facts are those that were there.
+    pub fn bring_index(&mut self, say: &Say) -> Result<Brought, AllocError>
+        ensures brings { BringsIndex self.old say.now result self.new }
+        ensures roll { self.new.roll ≡ self.old.roll }
+    {
+        let (name, bytes) = match self.roll.object(say) {
+            Got::Named(name, bytes) => (name, bytes),
+            Got::Misnamed(name) => return Ok(Brought::Bad(name)),
+            Got::Unwelcome => return Ok(Brought::Unwelcome),
+        };
+        match IndexText::read(self.alloc, bytes) {
+            Ok(text) => Ok(Brought::New(self.lookup.add_noted(&text)?)),
+            Err(error) => {
+                check_fault(error)?;
+                Ok(Brought::Bad(name))
+            }
+        }
+    }
+
     /// Takes the reply to the request for the next index. It fails for memory alone, and then nothing changed.
     pub fn take_index<J: Job + Drop>(
         &mut self,
@@ -78,26 +109,17 @@ impl Catalog {
         ensures gives { IndexGives J.allows J.gives J.concludes self.old opening.old say.now result self.new opening.new }
         ensures kept { Keeps opening.old opening.new }
     {
-        let (name, bytes) = match self.roll.object(say) {
-            Got::Named(name, bytes) => (name, bytes),
-            Got::Misnamed(name) => {
+        match self.bring_index(say)? {
+            Brought::New(_) => {}
+            Brought::Bad(name) => {
                 opening.reject(Thing::Index, name);
                 return Ok(Indexed::Ended);
             }
-            Got::Unwelcome => {
+            Brought::Unwelcome => {
                 opening.turn_away(say);
                 return Ok(Indexed::Ended);
             }
-        };
-        let text = match IndexText::read(self.alloc, bytes) {
-            Ok(text) => text,
-            Err(error) => {
-                check_fault(error)?;
-                opening.reject(Thing::Index, name);
-                return Ok(Indexed::Ended);
-            }
-        };
-        self.lookup.add(&text)?;
+        }
         opening.answered();
         self.roll.note_read();
         if self.ask_index(opening) {

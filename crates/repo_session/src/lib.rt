@@ -42,7 +42,7 @@ mod stepping;
 mod tests;
 mod who;
 
-pub use catalogs::{Catalog, Indexed};
+pub use catalogs::{Brought, Catalog, Indexed};
 pub use clients::Client;
 pub use driving::{DriveError, ask, drive};
 pub use emissions::Emission;
