@@ -27,6 +27,14 @@ impl Path {
         Path { inner }
     }
 
+    /// The components, given back.
+    pub fn into_components(self) -> Vec<Text>
+        ensures { result.items ≡ self }
+    {
+        let Path { inner } = self;
+        inner
+    }
+
     /// The components, lent.
     pub fn as_slice(&self) -> &[Text]
         ensures { result.now ≡ self.now }

@@ -228,6 +228,9 @@ fn entries_have_paths(rt: HostRuntime) -> Result<(), Fail> {
     assert_eq!(rt; parts.len(), 2);
     assert!(rt; parts[1].as_str() == "x");
     assert!(rt; matches!(copy.what, EntryKind::File(_)));
+    let parts = entry.path.into_components();
+    assert_eq!(rt; parts.len(), 2);
+    assert!(rt; parts[0].as_str() == "d");
     Ok(())
 }
 

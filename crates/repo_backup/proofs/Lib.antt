@@ -1,0 +1,10 @@
+pub mod PathOrder
+pub mod PathTests
+pub mod PackingLemmas
+pub mod StepLists
+pub mod Laying
+pub mod Fitting
+pub mod FolderLemmas
+pub mod Puts
+pub mod Ruling
+pub mod Recutting

@@ -1,0 +1,133 @@
+-- Objects that were put, the blobs of packs, and what one more put makes of a trace.
+use Rattle.std.proofs.Common.{arith, ◌≡◌, ◌++◌, ◌∷◌, [], ℕ, zero, suc, true, false, List, map, cond, slice_get, Option, Some, None, refl, sym, ap, subst, inl, inr, ◌⊎◌, ◌∙◌, Contains}
+use Rattle.std.specs.List.{flat_map}
+use Rattle.std.proofs.lemmas.List.{append-nil}
+use Rattle.std.proofs.lemmas.List.Elements.{Contains-append_left, Contains-append_right, Contains-append_cases}
+use Rattle.repo_name.specs.declared.kinds.Kind.{Kind}
+use Rattle.repo_name.specs.declared.names.Name.{Name}
+use Rattle.repo_name.specs.declared.tokens.Token.{Token}
+use Rattle.repo_wire.specs.declared.messages.Ask.{Ask}
+use Rattle.repo_wire.specs.declared.messages.Say.{Say}
+use Rattle.repo_index.specs.declared.facts.Fact.{Fact}
+use Rattle.repo_tree.specs.declared.entries.Entry.{Entry}
+use Rattle.repo_store.specs.Pages.{Has, Ascends}
+use Rattle.repo_session.specs.Catalogs.{AreIndexed}
+use Rattle.repo_session.specs.Traces.{Each, Exchange, Trace, Exchanged, Object, page_names, is_last_page, names_in, is_complete, object_put, objects_put, ReadFact}
+use Rattle.repo_session.proofs.Cataloguing.{fact_stays, fact_before}
+use Rattle.repo_session.proofs.Rolling.{same_self}
+use Rattle.repo_backup.specs.Folders.{Folder}
+use Rattle.repo_backup.specs.Rules.{PutDone, IsMade}
+
+-- ---- each of a list, and what a list contains
+
+pub none_contained : {A : Type 0} (x : A) → Contains [] x → ⊥
+none_contained x h = absurd (omega (arith, h.1))
+
+pub first_contained : {A : Type 0} (x : A) (xs : List A) → Contains (x ∷ xs) x
+first_contained x xs = (zero, omega arith, refl)
+
+pub later_contained : {A : Type 0} (y : A) (xs : List A) (x : A) → Contains xs x → Contains (y ∷ xs) x
+later_contained y xs x h = Contains-append_right (y ∷ []) xs x h
+
+pub contained_or : {A : Type 0} (y : A) (xs : List A) (x : A) → Contains (y ∷ xs) x → (y ≡ x) ⊎ Contains xs x
+contained_or y xs x (zero, within, is) = inl is
+contained_or y xs x (suc k, within, is) = inr (k, omega (arith, within), is)
+
+pub each_contained : {A : Type 0} (P : A → Type 0) (xs : List A) (x : A) → Each P xs → Contains xs x → P x
+each_contained P [] x each h = absurd (none_contained x h)
+each_contained P (y ∷ xs) x each h = elim (contained_or y xs x h) [ inl same ↦ subst P same each.0 | inr more ↦ each_contained P xs x each.1 more ]
+
+-- what a list of images contains is the image of something
+pub map_contains : {A B : Type 0} (f : A → B) (xs : List A) (y : B) → Contains (map f xs) y → (x : A) × Contains xs x × (f x ≡ y)
+map_contains f [] y h = absurd (none_contained y h)
+map_contains f (x ∷ xs) y h = elim (contained_or (f x) (map f xs) y h) [
+  | inl same ↦ (x, first_contained x xs, same)
+  | inr more ↦ let found = map_contains f xs y more in (found.0, later_contained x xs found.0 found.1, found.2)
+]
+
+-- and the image of what it contains is there
+pub contains_map : {A B : Type 0} (f : A → B) (xs : List A) (x : A) → Contains xs x → Contains (map f xs) (f x)
+contains_map f [] x h = absurd (none_contained x h)
+contains_map f (y ∷ xs) x h = elim (contained_or y xs x h) [
+  | inl same ↦ subst (λ z. Contains (f y ∷ map f xs) (f z)) same (first_contained (f y) (map f xs))
+  | inr more ↦ later_contained (f y) (map f xs) (f x) (contains_map f xs x more)
+]
+
+-- what lists joined contain, one of them does
+pub flat_contains : {A B : Type 0} (f : A → List B) (xs : List A) (y : B) → Contains (flat_map f xs) y → (x : A) × Contains xs x × Contains (f x) y
+flat_contains f [] y h = absurd (none_contained y h)
+flat_contains f (x ∷ xs) y h = elim (Contains-append_cases (f x) (flat_map f xs) y h) [
+  | inl here ↦ (x, first_contained x xs, here)
+  | inr more ↦ let found = flat_contains f xs y more in (found.0, later_contained x xs found.0 found.1, found.2)
+]
+
+-- and the other way
+pub contains_flat : {A B : Type 0} (f : A → List B) (xs : List A) (x : A) (y : B) → Contains xs x → Contains (f x) y → Contains (flat_map f xs) y
+contains_flat f [] x y h is = absurd (none_contained x h)
+contains_flat f (z ∷ xs) x y h is = elim (contained_or z xs x h) [
+  | inl same ↦ Contains-append_left (f z) (flat_map f xs) y (subst (λ w. Contains (f w) y) (sym same) is)
+  | inr more ↦ Contains-append_right (f z) (flat_map f xs) y (contains_flat f xs x y more is)
+]
+
+-- what a list contains stands at an index
+pub stands_at : {A : Type 0} (xs : List A) (x : A) → Contains xs x → (k : ℕ) × (slice_get xs k ≡ Some x)
+stands_at [] x h = absurd (none_contained x h)
+stands_at (y ∷ xs) x h = elim (contained_or y xs x h) [
+  | inl same ↦ (zero, ap Some same)
+  | inr more ↦ let k = stands_at xs x more in (suc k.0, k.1)
+]
+
+-- ---- objects that were put
+
+-- an exchange that puts none of the kind
+pub objects_put_other : (k : Kind) (e : Exchange) (es : Trace) → object_put k e.ask ≡ [] → objects_put k (e ∷ es) ≡ objects_put k es
+objects_put_other k e es h = ap (λ x. objects_put k es ++ x) h ∙ append-nil (objects_put k es)
+
+-- a put of the kind adds its object at the end
+pub objects_put_more : (k : Kind) (e : Exchange) (es : Trace) (token : Token) (n : Name) (x : List ℕ) → e.ask ≡ Ask.Put token k n x
+    → objects_put k (e ∷ es) ≡ objects_put k es ++ record { name = n; bytes = x } ∷ []
+objects_put_more k e es token n x q =
+    let o : Object = record { name = n; bytes = x } in
+    ap (λ a. objects_put k es ++ object_put k a) q ∙ ap (λ b. objects_put k es ++ cond b (o ∷ []) []) (same_self k)
+
+-- ---- what stays with one exchange more
+
+pub exchanged_later : (e : Exchange) (es : Trace) (ask : Ask) (say : Say) → Exchanged es ask say → Exchanged (e ∷ es) ask say
+exchanged_later e es ask say h = inr h
+
+pub put_done_later : (e : Exchange) (es : Trace) (k : Kind) (n : Name) (x : List ℕ) → PutDone es k n x → PutDone (e ∷ es) k n x
+put_done_later e es k n x h = (h.0, inr h.1)
+
+-- a put that is done
+pub put_done_now : (e : Exchange) (es : Trace) (token : Token) (k : Kind) (n : Name) (x : List ℕ) → e.ask ≡ Ask.Put token k n x → e.say ≡ Say.Done → PutDone (e ∷ es) k n x
+put_done_now e es token k n x q s = (token, inl (q, s))
+
+pub is_made_later : (entries : List Entry) (e : Exchange) (es : Trace) (folder : Folder) → IsMade entries es folder → IsMade entries (e ∷ es) folder
+is_made_later entries e es folder h = record { text = h.text; config = h.config; read = inr h.read; reads = h.reads; cut = h.cut }
+
+pub read_fact_later : (e : Exchange) (es : Trace) (fact : Fact) → ReadFact es fact → ReadFact (e ∷ es) fact
+read_fact_later e es fact h = fact_stays e es fact h
+
+-- a put reads no fact
+pub read_fact_before : (e : Exchange) (es : Trace) (token : Token) (k : Kind) (n : Name) (x : List ℕ) (fact : Fact) → e.ask ≡ Ask.Put token k n x → ReadFact (e ∷ es) fact → ReadFact es fact
+read_fact_before e es token k n x fact q h = fact_before e es fact (λ m y a s. (let w : Ask.Put token k n x ≡ Ask.Get Kind.Index m = sym q ∙ a in absurd (cc))) h
+
+-- with a put, all indexes are read still
+pub indexed_later : (e : Exchange) (es : Trace) (token : Token) (k : Kind) (n : Name) (x : List ℕ) → e.ask ≡ Ask.Put token k n x → AreIndexed es → AreIndexed (e ∷ es)
+indexed_later e es token k n x q h =
+    let page : page_names Kind.Index e.ask e.say ≡ [] = ap (λ a. page_names Kind.Index a e.say) q in
+    let last : is_last_page Kind.Index e.ask e.say ≡ false = ap (λ a. is_last_page Kind.Index a e.say) q in
+    let names : names_in Kind.Index (e ∷ es) ≡ names_in Kind.Index es = ap (λ x. names_in Kind.Index es ++ x) page ∙ append-nil (names_in Kind.Index es) in
+    record {
+      listed = record {
+        complete = ap (λ c. cond c true (is_complete Kind.Index es)) last ∙ h.listed.complete;
+        rise = record { ascend = subst (λ ns. Ascends None ns) (sym names) h.listed.rise.ascend; moves = λ after m. not_moved after m };
+      };
+      each = λ m l.
+          let found = h.each m (subst (λ ns. Has ns m) names l) in
+          (found.0, found.1, (inr found.2.0, found.2.1), found.3);
+    }
+  where
+    not_moved : (after : Option Name) → Exchanged (e ∷ es) (Ask.List Kind.Index after) (Say.Names true []) → ⊥
+    not_moved after (inl now) = let w : Ask.Put token k n x ≡ Ask.List Kind.Index after = sym q ∙ now.0 in absurd (cc)
+    not_moved after (inr before) = h.listed.rise.moves after before

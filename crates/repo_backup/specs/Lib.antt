@@ -1,0 +1,12 @@
+-- The definitions that the contracts of this crate cite.
+pub mod Folders
+pub mod Handed
+pub mod Plans
+pub mod Blobs
+pub mod Rules
+pub mod Packings
+pub mod Chunks
+pub mod Works
+pub mod Backing
+pub mod Readying
+pub mod Walking
