@@ -8,3 +8,9 @@ pub mod FolderLemmas
 pub mod Puts
 pub mod Ruling
 pub mod Recutting
+pub mod ListingLemmas
+pub mod FirstChunks
+pub mod Lessening
+pub mod Moving
+pub mod Standing
+pub mod Working

@@ -106,8 +106,8 @@ once_more (i ∷ items) item h none = (
   λ has. elim (has_either items (item ∷ []) i.kind i.name has) [
     | inl before ↦ h.0 before
     | inr now ↦
-      let same = is_one item i.kind i.name now in
-      none (i, Contains-append_left (i ∷ []) items i (Contains-push [] i), sym same.0, sym same.1)
+        let same = is_one item i.kind i.name now in
+        none (i, Contains-append_left (i ∷ []) items i (Contains-push [] i), sym same.0, sym same.1)
   ],
   once_more items item h.1 (λ has. none (has_after (i ∷ []) items item.kind item.name has)),
 )

@@ -7,6 +7,8 @@ pub mod Rules
 pub mod Packings
 pub mod Chunks
 pub mod Works
+pub mod Advancing
 pub mod Backing
+pub mod Listed
 pub mod Readying
 pub mod Walking

@@ -1,17 +1,16 @@
 -- What is to be sent next.
-use Rattle.std.specs.Prelude.{◌≡◌, ◌≢◌, ◌<◌, ◌++◌, ◌∷◌, [], ℕ, Bool, true, false, cond, List, length, Option, Some, None, Contains}
-use Rattle.std.specs.List.{All}
+use Rattle.std.specs.Prelude.{◌≡◌, ◌≢◌, ◌<◌, ◌++◌, ◌∷◌, [], ℕ, Bool, false, cond, List, length, Contains}
 use Rattle.repo_name.specs.Naming as naming
 use Rattle.repo_name.specs.declared.kinds.BlobKind.TheVariants.{Tree}
 use Rattle.repo_name.specs.declared.names.Name.{Name}
-use Rattle.repo_pack.specs.PackLayout.{Item, item_of, IsWithin}
+use Rattle.repo_pack.specs.PackLayout.{Item, item_of}
 use Rattle.repo_pack.specs.declared.writers.Sealed.{Sealed}
 use Rattle.repo_index.specs.declared.facts.Fact.{Fact}
 use Rattle.repo_index.specs.declared.facts.PackFacts.{PackFacts}
-use Rattle.repo_index.specs.Exactness.{AreFactsAt}
 use Rattle.repo_tree.specs.TreeWriting.{tree_text}
 use Rattle.repo_backup.specs.Folders.{Folder, nodes_of, blobs_of}
-use Rattle.repo_backup.specs.Packings.{IsCovered, IsSealedOf}
+use Rattle.repo_backup.specs.Listed.{IsListed}
+use Rattle.repo_backup.specs.Packings.{IsCovered}
 use Rattle.repo_backup.specs.Plans.{AreTreeTexts}
 use Rattle.repo_backup.specs.Works.{IsWork}
 use Rattle.repo_backup.specs.declared.backing.Next.{Next}
@@ -21,11 +20,7 @@ use Rattle.repo_session.specs.Traces.{Each}
 -- a pack is sealed of these items, and listed so
 pub record IsPackReady (known : List Fact) (folder : Folder) (sent : List Item) (new : Work) (items : List Item) (sealed : Sealed) (listed : PackFacts) : Type 0 where
   pub work : IsWork new known folder sent items
-  pub there : new.packing.sealed ≡ Some sealed
-  pub holds : IsSealedOf sealed items
-  pub same : listed.pack ≡ sealed.name
-  pub exact : AreFactsAt sealed.name items listed.facts
-  pub within : All (λ f. IsWithin f.place.offset f.place.length) listed.facts
+  pub lists : IsListed new.packing.sealed items sealed listed
 
 -- all of the folder is known or was sent, and this is its tree
 pub record IsAllDone (known : List Fact) (folder : Folder) (sent : List Item) (new : Work) (root : Name) : Type 0 where

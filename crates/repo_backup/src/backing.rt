@@ -1,12 +1,15 @@
 //! What a backup keeps between two replies once every index was read: the work, the packs that no index lists yet,
 //! and the counts.
 
-ghost use Rattle.std.specs.Prelude.{◌≡◌, ◌+◌, ◌-◌, ◌^◌, [], ℕ, List, length, min, IfOk, OnErr};
+ghost use Rattle.std.specs.Prelude.{◌≡◌, ◌≢◌, ◌++◌, ◌∷◌, [], List, cond, Some, None, IfOk, OnOk, OnErr};
 ghost use Rattle.repo_index.specs.declared.facts.Fact.{Fact};
+ghost use Rattle.repo_index.specs.declared.facts.PackFacts.{PackFacts};
 ghost use Rattle.repo_pack.specs.PackLayout.{Item};
 ghost use Rattle.repo_pack.specs.declared.writers.Sealed.{Sealed};
 ghost use Rattle.repo_backup.specs.Folders.{Folder};
 ghost use Rattle.repo_backup.specs.Works.{IsWork};
+ghost use Rattle.repo_backup.specs.Packings.{IsSealed};
+ghost use Rattle.repo_backup.specs.Listed.{IsListed};
 ghost use Rattle.repo_backup.specs.Readying.{Readies};
 
 use crate::works::{Progress, Work};
@@ -79,17 +82,23 @@ impl Backing {
                 Ok(Next::Pack)
             }
             Progress::Done(root) => {
-                if anew || self.waiting.packs().is_empty() {
+                if anew {
                     return Ok(Next::Snapshot(root));
                 }
-                Ok(Next::Index)
+                match self.waiting.packs() {
+                    [] => Ok(Next::Snapshot(root)),
+                    [..] => Ok(Next::Index),
+                }
             }
             Progress::TooLarge => Ok(Next::TooLarge),
         }
     }
 
     /// How the sealed pack is listed. `None` where none is sealed. It fails for memory alone.
-    fn facts(&self) -> Result<Option<PackFacts>, AllocError> {
+    fn facts(&self) -> Result<Option<PackFacts>, AllocError>
+        ensures { IfOk result (λ facts. (items : List Item) → self.now.work.packing.sealed ≢ None → IsSealed self.now.work.packing.sealed items
+            → (sealed : Sealed) × (listed : PackFacts) × (facts ≡ Some listed) × IsListed self.now.work.packing.sealed items sealed listed) }
+    {
         let Some(sealed) = &self.work.packing.sealed else {
             return Ok(None);
         };
@@ -104,7 +113,13 @@ impl Backing {
     }
 
     /// Lists a pack behind those that wait, or alone. It fails for memory alone, and then nothing changed.
-    fn list(&mut self, facts: PackFacts, anew: bool) -> Result<(), AllocError> {
+    fn list(&mut self, facts: PackFacts, anew: bool) -> Result<(), AllocError>
+        ensures ok { OnOk result (self.new.waiting ≡ cond anew [] self.old.waiting ++ facts ∷ []) }
+        ensures err { OnErr result (self.new.waiting ≡ self.old.waiting) }
+        ensures work { self.new.work ≡ self.old.work }
+        ensures blobs { self.new.blobs ≡ self.old.blobs }
+        ensures bytes { self.new.bytes ≡ self.old.bytes }
+    {
         if !anew {
             return self.waiting.push(facts);
         }

@@ -1,25 +1,31 @@
 //! The work that a backup does by itself between two replies: it walks a folder, makes its blobs, and adds them
 //! to packs.
 
-ghost use Rattle.std.specs.Prelude.{◌≡◌, [], ℕ, List, IfOk, OnErr};
+ghost use Rattle.std.specs.Prelude.{◌≡◌, ◌≢◌, ◌≤◌, ◌<◌, [], ℕ, List, length, Some, None, IfOk, OnOk, OnErr, IsSome, IsTrue, MatchOption, Contains};
+ghost use Rattle.std.specs.Bool.{OnTrue, OnFalse};
+ghost use Rattle.repo_name.specs.Naming as naming;
+ghost use Rattle.repo_name.specs.declared.kinds.BlobKind.TheVariants.{Tree};
 ghost use Rattle.repo_index.specs.declared.facts.Fact.{Fact};
-ghost use Rattle.repo_pack.specs.PackLayout.{Item};
+ghost use Rattle.repo_pack.specs.PackLayout.{Item, item_of};
 ghost use Rattle.repo_pack.specs.PackWriting.{IsOpen};
-ghost use Rattle.repo_backup.specs.Folders.{Folder, IsCutBy};
+ghost use Rattle.repo_tree.specs.TreeText.{IsTreeText};
+ghost use Rattle.repo_tree.specs.TreeWriting.{tree_text};
+ghost use Rattle.repo_backup.specs.declared.steps.Step.{Step};
+ghost use Rattle.repo_backup.specs.Folders.{Folder, IsCutBy, blobs_of};
+ghost use Rattle.repo_backup.specs.Packings.{IsCovered, all_items};
 ghost use Rattle.repo_backup.specs.Plans.{IsLawful, steps_of};
 ghost use Rattle.repo_backup.specs.Works.{IsWork, GoesOn};
+ghost use Rattle.repo_backup.specs.Advancing.{next_step, work_left, IsMade, Tells};
 
-use crate::chunks::first_chunk;
 use crate::packing::Packing;
 use crate::steps::Step;
 use crate::targets::Target;
-use crate::walks::{OpenFile, Outer, Walk};
+use crate::walks::Walk;
 use repo_chunk::Params;
 use repo_index::Lookup;
-use repo_name::{BlobKind, Name, Names, name_of};
-use repo_tree::{Node, NodeKind, TreeError, write_tree};
+use repo_name::{BlobKind, Name, name_of};
+use repo_tree::{TreeError, write_tree};
 use std::alloc::{AllocError, Global};
-use std::mem;
 
 /// How far the work came.
 #[derive(Clone, Copy, Debug, PartialEq, Eq)]
@@ -47,6 +53,7 @@ enum Stepped {
 pub struct Work {
     pub walk: Walk,
     pub packing: Packing,
+    target: Target,
     alloc: Global,
 }
 
@@ -67,6 +74,7 @@ impl Work {
                 file: None,
             },
             packing: Packing::new(alloc, target),
+            target,
             alloc,
         }
     }
@@ -81,7 +89,7 @@ impl Work {
         if self.packing.sealed.is_some() {
             return Ok(Progress::Pack);
         }
-        while !self.packing.writer.is_due() {
+        while !self.is_due() {
             match self.step(lookup)? {
                 Stepped::On => {}
                 Stepped::Made(root) => return self.end(root),
@@ -92,8 +100,30 @@ impl Work {
         Ok(Progress::Pack)
     }
 
-    /// Seals the last pack, where it has a blob.
-    fn end(&mut self, root: Name) -> Result<Progress, AllocError> {
+    /// Whether the pack that is being written is to be sealed. One with no blob is begun again, and isn't.
+    fn is_due(&mut self) -> bool
+        ensures due { OnTrue result (1 ≤ length self.new.packing.writer.items) }
+        ensures room { OnFalse result (IsOpen self.new.packing.writer) }
+        ensures items { self.new.packing.writer.items ≡ self.old.packing.writer.items }
+        ensures sealed { self.new.packing.sealed ≡ self.old.packing.sealed }
+        ensures added { self.new.packing.added ≡ self.old.packing.added }
+        ensures walk { self.new.walk ≡ self.old.walk }
+    {
+        if self.packing.writer.is_empty() {
+            self.packing.writer = self.target.writer(self.alloc);
+            return false;
+        }
+        self.packing.writer.is_due()
+    }
+
+    /// Seals the last pack, where it has a blob. It fails for memory alone, and then nothing changed.
+    fn end(&mut self, root: Name) -> Result<Progress, AllocError>
+        requires { self.old.packing.sealed ≡ None }
+        ensures ok { IfOk result (λ progress. (known : List Fact) (folder : Folder) (sent sealed : List Item) → IsWork self.old known folder sent sealed
+            → IsMade known folder (all_items sent sealed self.old.packing) root → GoesOn known folder sent progress self.new) }
+        ensures err { OnErr result (self.new ≡ self.old) }
+        ensures walk { self.new.walk ≡ self.old.walk }
+    {
         if self.packing.writer.is_empty() {
             return Ok(Progress::Done(root));
         }
@@ -101,94 +131,72 @@ impl Work {
         Ok(Progress::Pack)
     }
 
-    /// One step of the work.
-    fn step(&mut self, lookup: &Lookup) -> Result<Stepped, AllocError> {
+    /// One step of the work. It fails for memory alone, and then some of it may be done.
+    fn step(&mut self, lookup: &Lookup) -> Result<Stepped, AllocError>
+        requires { IsOpen self.old.packing.writer }
+        ensures work { (folder : Folder) (sent sealed : List Item) → IsWork self.old lookup.now folder sent sealed → IsWork self.new lookup.now folder sent sealed }
+        ensures told { IfOk result (λ stepped. (folder : Folder) (sent sealed : List Item) → IsWork self.old lookup.now folder sent sealed
+            → Tells lookup.now folder (all_items sent sealed self.new.packing) stepped) }
+        ensures less { IfOk result (λ stepped. stepped ≡ Stepped.On → work_left self.new.walk < work_left self.old.walk) }
+        ensures sealed { self.new.packing.sealed ≡ self.old.packing.sealed }
+        ensures steps { self.new.walk.steps ≡ self.old.walk.steps }
+    {
         if self.walk.node.is_some() {
-            return self.place_node();
+            self.walk.place_node()?;
+            return Ok(Stepped::On);
         }
         if self.walk.file.is_some() {
-            return self.cut_file(lookup);
+            self.cut_file(lookup)?;
+            return Ok(Stepped::On);
         }
         match self.walk.steps.get(self.walk.at) {
-            Some(Step::File(_, _)) => Ok(self.open_file()),
-            Some(Step::Enter(_)) => self.enter(),
+            Some(Step::File(_, _)) => {
+                self.walk.open_file(self.alloc);
+                Ok(Stepped::On)
+            }
+            Some(Step::Enter(_)) => {
+                self.walk.enter(self.alloc)?;
+                Ok(Stepped::On)
+            }
             Some(Step::Leave) => self.leave(lookup),
             None => self.make_root(lookup),
         }
     }
 
-    /// Puts the node that was made among those of the open directory.
-    fn place_node(&mut self) -> Result<Stepped, AllocError> {
-        self.walk.nodes.reserve(1)?;
-        if let Some(node) = self.walk.node.take() {
-            self.walk.nodes.push(node).unwrap();
+    /// Makes the next chunk of the open file a blob; or where none is left, makes the file's node. It fails for
+    /// memory alone.
+    fn cut_file(&mut self, lookup: &Lookup) -> Result<(), AllocError>
+        requires room { IsOpen self.old.packing.writer }
+        requires node { self.old.walk.node ≡ None }
+        requires file { IsSome self.old.walk.file }
+        ensures work { (folder : Folder) (sent sealed : List Item) → IsWork self.old lookup.now folder sent sealed → IsWork self.new lookup.now folder sent sealed }
+        ensures less { OnOk result (work_left self.new.walk < work_left self.old.walk) }
+        ensures sealed { self.new.packing.sealed ≡ self.old.packing.sealed }
+        ensures steps { self.new.walk.steps ≡ self.old.walk.steps }
+    {
+        let chunk = self.walk.next_chunk();
+        if chunk.is_empty() {
+            return self.walk.close_file();
         }
-        Ok(Stepped::On)
-    }
-
-    /// Begins to cut the file of the next step.
-    fn open_file(&mut self) -> Stepped {
-        self.walk.file = Some(OpenFile {
-            start: 0,
-            content: Vec::new(self.alloc),
-        });
-        Stepped::On
-    }
-
-    /// Enters the directory of the next step.
-    fn enter(&mut self) -> Result<Stepped, AllocError> {
-        let Some(Step::Enter(name)) = self.walk.steps.get(self.walk.at) else {
-            return Ok(Stepped::On);
-        };
-        let name = name.clone()?;
-        self.walk.above.reserve(1)?;
-        let nodes = mem::replace(&mut self.walk.nodes, Vec::new(self.alloc));
-        self.walk.above.push(Outer { nodes, name }).unwrap();
-        self.walk.at += 1;
-        Ok(Stepped::On)
-    }
-
-    /// Makes the next chunk of the open file a blob; or where none is left, makes the file's node.
-    fn cut_file(&mut self, lookup: &Lookup) -> Result<Stepped, AllocError> {
-        let Some(Step::File(_, bytes)) = self.walk.steps.get(self.walk.at) else {
-            return Ok(Stepped::On);
-        };
-        let Some(file) = &mut self.walk.file else {
-            return Ok(Stepped::On);
-        };
-        let bytes = bytes.as_slice();
-        if file.start >= bytes.len() {
-            return self.close_file();
-        }
-        let rest = &bytes[file.start..];
-        let size = first_chunk(self.walk.params, rest);
-        let chunk = &rest[..size];
         let name = name_of(chunk);
-        file.content.reserve(1)?;
+        let size = chunk.len();
         self.packing.add(lookup, BlobKind::Content, &name, chunk)?;
-        file.content.push(name).unwrap();
-        file.start += size;
-        Ok(Stepped::On)
+        self.walk.take_chunk(name, size)
     }
 
-    /// Makes the node of the open file.
-    fn close_file(&mut self) -> Result<Stepped, AllocError> {
-        let Some(Step::File(name, bytes)) = self.walk.steps.get(self.walk.at) else {
-            return Ok(Stepped::On);
-        };
-        let name = name.clone()?;
-        let size = bytes.as_slice().len() as u64;
-        if let Some(file) = self.walk.file.take() {
-            let content = Names::of(file.content);
-            let what = NodeKind::File { size, content };
-            self.walk.node = Some(Node { name, what });
-        }
-        self.walk.at += 1;
-        Ok(Stepped::On)
-    }
-
-    /// Makes the tree of the open directory a blob. `None` where its text is too large.
-    fn make_tree(&mut self, lookup: &Lookup) -> Result<Option<Name>, AllocError> {
+    /// Makes the tree of the open directory, whose nodes are all placed, a blob. `None` where its text is above
+    /// 8,388,608 bytes. It fails for memory alone.
+    fn make_tree(&mut self, lookup: &Lookup) -> Result<Option<Name>, AllocError>
+        requires { IsOpen self.old.packing.writer }
+        ensures work { (folder : Folder) (sent sealed : List Item) → Contains (blobs_of folder) (item_of Tree (tree_text self.old.walk.nodes.items))
+            → IsWork self.old lookup.now folder sent sealed → IsWork self.new lookup.now folder sent sealed }
+        ensures covered { IfOk result (λ made. IsSome made → (folder : Folder) (sent sealed : List Item) → IsWork self.old lookup.now folder sent sealed
+            → IsCovered lookup.now (all_items sent sealed self.new.packing) (item_of Tree (tree_text self.old.walk.nodes.items))) }
+        ensures named { IfOk result (λ made. MatchOption made (8_388_608 < length (tree_text self.old.walk.nodes.items))
+            (λ name. (name ≡ naming.name (tree_text self.old.walk.nodes.items)) × IsTreeText (tree_text self.old.walk.nodes.items) self.old.walk.nodes.items)) }
+        ensures walk { self.new.walk ≡ self.old.walk }
+        ensures sealed { self.new.packing.sealed ≡ self.old.packing.sealed }
+    {
         let text = match write_tree(self.alloc, self.walk.nodes.as_slice()) {
             Ok(text) => text,
             Err(TreeError::TooLarge) => return Ok(None),
@@ -199,24 +207,39 @@ impl Work {
         Ok(Some(name))
     }
 
-    /// Makes the tree of the open directory, and its node.
-    fn leave(&mut self, lookup: &Lookup) -> Result<Stepped, AllocError> {
+    /// Makes the tree of the open directory, and its node. It fails for memory alone.
+    fn leave(&mut self, lookup: &Lookup) -> Result<Stepped, AllocError>
+        requires room { IsOpen self.old.packing.writer }
+        requires node { self.old.walk.node ≡ None }
+        requires file { self.old.walk.file ≡ None }
+        requires step { next_step self.old.walk ≡ Some Step.Leave }
+        ensures work { (folder : Folder) (sent sealed : List Item) → IsWork self.old lookup.now folder sent sealed → IsWork self.new lookup.now folder sent sealed }
+        ensures told { IfOk result (λ stepped. (folder : Folder) (sent sealed : List Item) → IsWork self.old lookup.now folder sent sealed
+            → Tells lookup.now folder (all_items sent sealed self.new.packing) stepped) }
+        ensures less { IfOk result (λ stepped. stepped ≡ Stepped.On → work_left self.new.walk < work_left self.old.walk) }
+        ensures sealed { self.new.packing.sealed ≡ self.old.packing.sealed }
+        ensures steps { self.new.walk.steps ≡ self.old.walk.steps }
+    {
         let Some(subtree) = self.make_tree(lookup)? else {
             return Ok(Stepped::TooLarge);
         };
-        self.walk.at += 1;
-        if let Some(outer) = self.walk.above.pop() {
-            self.walk.nodes = outer.nodes;
-            self.walk.node = Some(Node {
-                name: outer.name,
-                what: NodeKind::Dir { subtree },
-            });
-        }
+        self.walk.leave(subtree);
         Ok(Stepped::On)
     }
 
-    /// Makes the root's tree.
-    fn make_root(&mut self, lookup: &Lookup) -> Result<Stepped, AllocError> {
+    /// Makes the root's tree. It fails for memory alone.
+    fn make_root(&mut self, lookup: &Lookup) -> Result<Stepped, AllocError>
+        requires room { IsOpen self.old.packing.writer }
+        requires node { self.old.walk.node ≡ None }
+        requires file { self.old.walk.file ≡ None }
+        requires step { next_step self.old.walk ≡ None }
+        ensures work { (folder : Folder) (sent sealed : List Item) → IsWork self.old lookup.now folder sent sealed → IsWork self.new lookup.now folder sent sealed }
+        ensures told { IfOk result (λ stepped. (folder : Folder) (sent sealed : List Item) → IsWork self.old lookup.now folder sent sealed
+            → Tells lookup.now folder (all_items sent sealed self.new.packing) stepped) }
+        ensures over { IfOk result (λ stepped. stepped ≢ Stepped.On) }
+        ensures walk { self.new.walk ≡ self.old.walk }
+        ensures sealed { self.new.packing.sealed ≡ self.old.packing.sealed }
+    {
         match self.make_tree(lookup)? {
             Some(root) => Ok(Stepped::Made(root)),
             None => Ok(Stepped::TooLarge),

@@ -1,0 +1,82 @@
+-- What a step of a walk keeps, and how much work is left.
+use Rattle.std.specs.Prelude.{◌≡◌, ◌<◌, ◌+◌, ◌-◌, ◌∷◌, [], ⊤, ℕ, List, length, drop, slice_get, Option, Some, None, Contains}
+use Rattle.repo_name.specs.Naming as naming
+use Rattle.repo_name.specs.declared.kinds.BlobKind.TheVariants.{Tree}
+use Rattle.repo_name.specs.declared.names.Name.{Name}
+use Rattle.repo_pack.specs.PackLayout.{Item, item_of}
+use Rattle.repo_index.specs.declared.facts.Fact.{Fact}
+use Rattle.repo_tree.specs.TreeWriting.{tree_text}
+use Rattle.repo_tree.specs.declared.nodes.Node.{Node}
+use Rattle.repo_backup.specs.Folders.{Folder, nodes_of, blobs_of}
+use Rattle.repo_backup.specs.Plans.{AreTreeTexts}
+use Rattle.repo_backup.specs.Packings.{IsCovered}
+use Rattle.repo_backup.specs.Works.{IsWalkable, IsWalking}
+use Rattle.repo_backup.specs.declared.steps.Step.{Step}
+use Rattle.repo_backup.specs.declared.walks.OpenFile.{OpenFile}
+use Rattle.repo_backup.specs.declared.walks.Walk.{Walk}
+use Rattle.repo_backup.specs.declared.works.Stepped.{Stepped}
+use Rattle.repo_session.specs.Traces.{Each}
+
+-- the step that comes next, if there is one
+abbrev pub next_step : Walk → Option Step
+next_step walk = slice_get walk.steps.items walk.at
+
+-- what is left of a file's bytes
+abbrev pub rest_of : Option OpenFile → Option Step → List ℕ
+rest_of None step = []
+rest_of (Some file) None = []
+rest_of (Some file) (Some (Step.File name bytes)) = drop file.start bytes
+rest_of (Some file) (Some (Step.Enter name)) = []
+rest_of (Some file) (Some Step.Leave) = []
+
+-- what is left of the open file
+abbrev pub bytes_left : Walk → List ℕ
+bytes_left walk = rest_of walk.file (next_step walk)
+
+-- the walk's steps and parameters are the same
+abbrev pub IsSameWay : Walk → Walk → Type 0
+IsSameWay old new = (new.steps ≡ old.steps) × (new.params ≡ old.params)
+
+-- in whichever folder the walk stood, it stands there with the same blobs made
+abbrev pub Stays : Walk → Walk → Type 0
+Stays old new = (folder : Folder) (taken : List Item) → IsWalkable old folder → IsWalking old folder taken → IsWalking new folder taken
+
+-- how much work some steps are at most
+abbrev pub work_of : List Step → ℕ
+work_of [] = 0
+work_of (Step.File name bytes ∷ steps) = (length bytes + 4) + work_of steps
+work_of (Step.Enter name ∷ steps) = 1 + work_of steps
+work_of (Step.Leave ∷ steps) = 2 + work_of steps
+
+-- and where a file is open
+abbrev pub work_with : Option OpenFile → List Step → ℕ
+work_with None steps = work_of steps
+work_with (Some file) [] = 1
+work_with (Some file) (Step.File name bytes ∷ steps) = ((length bytes - file.start) + 2) + work_of steps
+work_with (Some file) (Step.Enter name ∷ steps) = 2 + work_of steps
+work_with (Some file) (Step.Leave ∷ steps) = 3 + work_of steps
+
+-- and where a node isn't placed
+abbrev pub work_and : Option Node → ℕ → ℕ
+work_and None n = n
+work_and (Some node) n = n + 1
+
+-- how much work is left at most
+abbrev pub work_left : Walk → ℕ
+work_left walk = work_and walk.node (work_with walk.file (drop walk.at walk.steps.items))
+
+-- a directory's tree text is too large
+abbrev pub HasLargeTree : Folder → Type 0
+HasLargeTree folder = (text : List ℕ) × Contains (blobs_of folder) (item_of Tree text) × (8388608 < length text)
+
+-- the folder's tree has this name, and all its blobs are known or among these
+pub record IsMade (known : List Fact) (folder : Folder) (items : List Item) (root : Name) : Type 0 where
+  pub named : root ≡ naming.name (tree_text (nodes_of folder))
+  pub texts : AreTreeTexts folder
+  pub covered : Each (λ item. IsCovered known items item) (blobs_of folder)
+
+-- what a step tells of the folder
+abbrev pub Tells : List Fact → Folder → List Item → Stepped → Type 0
+Tells known folder items Stepped.On = ⊤
+Tells known folder items (Stepped.Made root) = IsMade known folder items root
+Tells known folder items Stepped.TooLarge = HasLargeTree folder
