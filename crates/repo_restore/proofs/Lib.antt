@@ -1,0 +1,9 @@
+pub mod Starting
+pub mod Rows
+pub mod Summing
+pub mod Rebuilds
+pub mod Trees
+pub mod Begins
+pub mod Passing
+pub mod Growing
+pub mod Advancing

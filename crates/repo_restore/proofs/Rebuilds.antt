@@ -1,0 +1,85 @@
+-- The entries of what was given out, and of more behind it.
+use Rattle.std.proofs.Common.{arith, ◌≡◌, ◌+◌, ◌++◌, ◌∷◌, [], ◌<◌, ℕ, suc, List, length, take, get_or, refl, sym, ap, append_assoc, ◌∙◌}
+use Rattle.std.proofs.lemmas.List.{append-nil}
+use Rattle.std.proofs.Math.Seq.{take-suc}
+use Rattle.repo_tree.specs.declared.entries.Entry.{Entry}
+use Rattle.repo_tree.specs.Spelling.{dir_entry, file_entry}
+use Rattle.repo_session.specs.declared.emissions.Emission.{Emission}
+use Rattle.repo_session.specs.Rebuilding.{pieces, rebuilt}
+use Rattle.repo_restore.specs.Walks.{ArePieces, IsWriting}
+
+pieces_before : (xs ys : List Emission) → pieces ys ≡ [] → pieces (xs ++ ys) ≡ pieces xs
+pieces_before [] ys p = p
+pieces_before (Emission.Dir path ∷ xs) ys p = refl
+pieces_before (Emission.File path ∷ xs) ys p = refl
+pieces_before (Emission.Piece bytes ∷ xs) ys p = ap (λ r. bytes ++ r) (pieces_before xs ys p)
+pieces_before (Emission.Close ∷ xs) ys p = refl
+
+-- what begins with no piece is rebuilt by itself
+pub rebuilt_both : (xs ys : List Emission) → pieces ys ≡ [] → rebuilt (xs ++ ys) ≡ rebuilt xs ++ rebuilt ys
+rebuilt_both [] ys p = refl
+rebuilt_both (Emission.Dir path ∷ xs) ys p = ap (λ r. dir_entry path ∷ r) (rebuilt_both xs ys p)
+rebuilt_both (Emission.File path ∷ xs) ys p =
+    ap (λ b. file_entry path b ∷ rebuilt (xs ++ ys)) (pieces_before xs ys p) ∙ ap (λ r. file_entry path (pieces xs) ∷ r) (rebuilt_both xs ys p)
+rebuilt_both (Emission.Piece bytes ∷ xs) ys p = rebuilt_both xs ys p
+rebuilt_both (Emission.Close ∷ xs) ys p = rebuilt_both xs ys p
+
+-- there are as many entries
+pub rebuilt_length : (xs ys : List Emission) → length (rebuilt (xs ++ ys)) ≡ length (rebuilt xs) + length (rebuilt ys)
+rebuilt_length [] ys = omega arith
+rebuilt_length (Emission.Dir path ∷ xs) ys = let h = rebuilt_length xs ys in omega (arith, h)
+rebuilt_length (Emission.File path ∷ xs) ys = let h = rebuilt_length xs ys in omega (arith, h)
+rebuilt_length (Emission.Piece bytes ∷ xs) ys = rebuilt_length xs ys
+rebuilt_length (Emission.Close ∷ xs) ys = rebuilt_length xs ys
+
+pieces_are : (ps : List Emission) (bytes : List ℕ) → ArePieces ps bytes → pieces (ps ++ Emission.Close ∷ []) ≡ bytes
+pieces_are [] bytes h = sym h
+pieces_are (Emission.Piece first ∷ ps) bytes h = ap (λ r. first ++ r) (pieces_are ps h.0 h.1) ∙ sym h.2
+pieces_are (Emission.Dir path ∷ ps) bytes h = absurd h
+pieces_are (Emission.File path ∷ ps) bytes h = absurd h
+pieces_are (Emission.Close ∷ ps) bytes h = absurd h
+
+pieces_alone : (ps : List Emission) (bytes : List ℕ) → ArePieces ps bytes → rebuilt (ps ++ Emission.Close ∷ []) ≡ []
+pieces_alone [] bytes h = refl
+pieces_alone (Emission.Piece first ∷ ps) bytes h = pieces_alone ps h.0 h.1
+pieces_alone (Emission.Dir path ∷ ps) bytes h = absurd h
+pieces_alone (Emission.File path ∷ ps) bytes h = absurd h
+pieces_alone (Emission.Close ∷ ps) bytes h = absurd h
+
+pieces_more : (ps : List Emission) (bytes more : List ℕ) → ArePieces ps bytes → ArePieces (ps ++ Emission.Piece more ∷ []) (bytes ++ more)
+pieces_more [] bytes more h = ([], refl, ap (λ b. b ++ more) h ∙ sym (append-nil more))
+pieces_more (Emission.Piece first ∷ ps) bytes more h = (h.0 ++ more, pieces_more ps h.0 more h.1, ap (λ b. b ++ more) h.2 ∙ append_assoc first h.0 more)
+pieces_more (Emission.Dir path ∷ ps) bytes more h = absurd h
+pieces_more (Emission.File path ∷ ps) bytes more h = absurd h
+pieces_more (Emission.Close ∷ ps) bytes more h = absurd h
+
+-- a file begins
+pub writing_new : (emitted : List Emission) (before : List Entry) (path : List (List ℕ)) → rebuilt emitted ≡ before → IsWriting (emitted ++ Emission.File path ∷ []) before path []
+writing_new emitted before path p = record { first = emitted; last = []; split = refl; entries = p; written = refl }
+
+-- and goes on
+pub writing_more : (emitted : List Emission) (before : List Entry) (path : List (List ℕ)) (bytes more : List ℕ) → IsWriting emitted before path bytes → IsWriting (emitted ++ Emission.Piece more ∷ []) before path (bytes ++ more)
+writing_more emitted before path bytes more h = record {
+  first = h.first;
+  last = h.last ++ Emission.Piece more ∷ [];
+  split = ap (λ e. e ++ Emission.Piece more ∷ []) h.split ∙ append_assoc h.first (Emission.File path ∷ h.last) (Emission.Piece more ∷ []);
+  entries = h.entries;
+  written = pieces_more h.last bytes more h.written;
+}
+
+-- and ends
+pub writing_done : (emitted : List Emission) (before : List Entry) (path : List (List ℕ)) (bytes : List ℕ) → IsWriting emitted before path bytes → rebuilt (emitted ++ Emission.Close ∷ []) ≡ before ++ file_entry path bytes ∷ []
+writing_done emitted before path bytes h =
+    let last : List Emission = h.last ++ Emission.Close ∷ [] in
+    ap (λ e. rebuilt (e ++ Emission.Close ∷ [])) h.split
+    ∙ ap (λ (e : List Emission). rebuilt e) (append_assoc h.first (Emission.File path ∷ h.last) (Emission.Close ∷ []))
+    ∙ rebuilt_both h.first (Emission.File path ∷ last) refl
+    ∙ ap (λ es. es ++ file_entry path (pieces last) ∷ rebuilt last) h.entries
+    ∙ ap (λ b. before ++ file_entry path b ∷ rebuilt last) (pieces_are h.last bytes h.written)
+    ∙ ap (λ es. before ++ file_entry path bytes ∷ es) (pieces_alone h.last bytes h.written)
+
+-- one more emission is counted
+pub count_more : (emitted : List Emission) (i : ℕ) (x : Emission) → i < length emitted → x ≡ get_or emitted i x → length (rebuilt (take (i + 1) emitted)) ≡ length (rebuilt (take i emitted)) + length (rebuilt (x ∷ []))
+count_more emitted i x w is =
+    let s : i + 1 ≡ suc i = omega arith in
+    ap (λ j. length (rebuilt (take j emitted))) s ∙ ap (λ es. length (rebuilt es)) (take-suc emitted i x w) ∙ ap (λ y. length (rebuilt (take i emitted ++ y ∷ []))) (sym is) ∙ rebuilt_length (take i emitted) (x ∷ [])

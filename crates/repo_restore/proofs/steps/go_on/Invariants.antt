@@ -1,0 +1,13 @@
+use Rattle.std.proofs.Common.{◌≡◌, ◌+◌, ◌++◌, ℕ, List, length}
+use Rattle.repo_name.specs.declared.names.Name.{Name}
+use Rattle.repo_session.specs.declared.emissions.Emission.{Emission}
+use Rattle.repo_session.specs.Rebuilding.{rebuilt}
+use Rattle.repo_session.specs.Traces.{Each, Trace}
+use Rattle.repo_restore.specs.Received.{Received}
+use Rattle.repo_restore.specs.Restoring.{MayGive}
+use Rattle.repo_restore.specs.Walks.{AtOpen}
+use Rattle.repo_restore.proofs.steps.go_on.Given as goal
+
+abbrev pub invariant-loop-up : goal.invariant-loop-up
+invariant-loop-up l = (gs : Trace) (root : Name) (old : List Emission) → AtOpen (Received gs) root l.fn.levels (length l.fn.levels) l.fn.begun (rebuilt (old ++ l.fn.out.items)) → Each (MayGive (Received gs) root) l.fn.out.items
+    → ((k : ℕ) → k + l.up ≡ length l.levels → AtOpen (Received gs) root l.levels k l.begun (rebuilt (old ++ l.out.items))) × Each (MayGive (Received gs) root) l.out.items

@@ -1,0 +1,53 @@
+use Rattle.std.proofs.Common.{◌≡◌, ◌≢◌, ◌≤◌, ◌<◌, ◌⊎◌, ◌++◌, ◌∷◌, [], ℕ, List, length, refl, sym, subst, inl, ◌∙◌}
+use Rattle.repo_name.specs.declared.kinds.BlobKind.{BlobKind}
+use Rattle.repo_name.specs.declared.names.Name.{Name}
+use Rattle.repo_tree.specs.declared.nodes.Node.{Node}
+use Rattle.repo_tree.specs.Spelling.{IsTree, greatest_depth}
+use Rattle.repo_session.specs.declared.emissions.Emission.{Emission}
+use Rattle.repo_session.specs.Rebuilding.{rebuilt}
+use Rattle.repo_session.specs.Traces.{Each}
+use Rattle.repo_restore.specs.declared.nodes.Level.{Level}
+use Rattle.repo_restore.specs.Received.{Received}
+use Rattle.repo_restore.specs.Restoring.{Under, MayGive}
+use Rattle.repo_restore.specs.Walking.{WaitsByKind, StopsAt, Turns}
+use Rattle.repo_restore.specs.Walks.{AtOpen}
+use Rattle.repo_restore.proofs.Passing.{path_is, entered}
+use Rattle.repo_restore.proofs.walks.Walk.enter.Goals as goal
+
+pub returns-then-is_too_deep-clause-ok : goal.returns-then-is_too_deep-clause-ok
+returns-then-is_too_deep-clause-ok c = λ gs root fact old h k n t none.
+    let w = c.args.self.now in
+    let B = Received gs in
+    let K : BlobKind → Type 0 = λ kind. WaitsByKind kind c.args.lookup.now (Received gs) root w.levels.items w.sent fact old in
+    let tree = subst K k h.waits in
+    let at = path_is (Received gs) root w.levels.items fact.name tree.0 c.in_ok-path.path (rebuilt old) tree.1 c.in_ok-path.ensures in
+    let deep = c.is_too_deep.ensures.yes c.if-is_too_deep.true in
+    let D : List (List ℕ) → Type 0 = λ p. greatest_depth ≤ length p in
+    let N : List Node → Type 0 = λ ns. ns ≢ [] in
+    let U : Name → Type 0 = λ m. Under (Received gs) root tree.0 m in
+    let E : List Emission → Type 0 = λ e. Each (MayGive (Received gs) root) e in
+    ((refl, (c.args.nodes.items, t, inl (subst N c.as_slice.ensures.value deep.1, (tree.0, subst D at deep.0, subst U n tree.2)))), subst E (sym none) tt)
+
+pub returns-in-Ok-clause-ok : goal.returns-in-Ok-clause-ok
+returns-in-Ok-clause-ok c = λ gs root fact old h k n t none.
+    let w = c.args.self.now in
+    let levels = w.levels.items in
+    let K : BlobKind → Type 0 = λ kind. WaitsByKind kind c.args.lookup.now (Received gs) root w.levels.items w.sent fact old in
+    let tree = subst K k h.waits in
+    let at = path_is (Received gs) root levels fact.name tree.0 c.in_ok-path.path (rebuilt old) tree.1 c.in_ok-path.ensures in
+    let level : Level = record { tree = c.args.tree; path = c.in_ok-path.path; nodes = c.args.nodes; begun = 0 } in
+    let T : Name → Type 0 = λ m. IsTree (Received gs) m c.args.nodes.items in
+    let S : List (List ℕ) → Type 0 = λ p. (length p < greatest_depth) ⊎ (c.args.nodes.items ≡ []) in
+    let N : List Node → Type 0 = λ ns. (length c.in_ok-path.path < greatest_depth) ⊎ (ns ≡ []) in
+    let start = entered (Received gs) root fact.name levels level tree.0 old tree.1 tree.2 (subst T (sym n) t) (sym n) at (subst S at (subst N c.as_slice.ensures.value (c.is_too_deep.ensures.no c.if-is_too_deep.false))) in
+    let same : c.as_slice-2.result.now ≡ levels ++ level ∷ [] = c.as_slice-2.ensures.value ∙ c.in_ok-push.ensures.items in
+    let A : List Level → Type 0 = λ ls. AtOpen (Received gs) root ls (length ls) 0 (rebuilt (old ++ [])) in
+    let O : List Emission → Type 0 = λ e. AtOpen (Received gs) root c.as_slice-2.result.now (length c.as_slice-2.result.now) 0 (rebuilt (old ++ e)) in
+    let E : List Emission → Type 0 = λ e. Each (MayGive (Received gs) root) e in
+    let stops = c.in-Ok.ensures gs root old (subst O (sym none) (subst A (sym same) start)) (subst E (sym none) tt) in
+    let out = c.go_on.new.out.items in
+    let stop = c.in-Ok.stop in
+    let F : List Level → Type 0 = λ ls. StopsAt c.args.lookup.now (Received gs) root ls old out stop.depth stop.begun stop.what in
+    let G : List Emission → Type 0 = λ e. StopsAt c.args.lookup.now (Received gs) root c.push.new.self.items old e stop.depth stop.begun stop.what in
+    let R : List Emission → Type 0 = λ e. Turns c.args.lookup.now (Received gs) root c.stop_at.new.self old e c.stop_at.result in
+    subst R c.as_slice-in-Ok.ensures.value (c.stop_at.ensures c.args.lookup.now gs root old (subst G (sym c.as_slice-in-Ok.ensures.value) (subst F c.as_slice-2.ensures.value stops)) h.count)

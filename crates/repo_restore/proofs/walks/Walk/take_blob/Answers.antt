@@ -1,0 +1,71 @@
+use Rattle.std.proofs.Common.{◌≡◌, ◌<◌, ◌++◌, ◌∷◌, [], ℕ, List, length, sym, ap, subst, ◌∙◌}
+use Rattle.std.proofs.lemmas.Option.{slice_get_within}
+use Rattle.repo_name.specs.declared.names.Name.{Name}
+use Rattle.repo_session.specs.declared.emissions.Emission.{Emission}
+use Rattle.repo_session.specs.Rebuilding.{rebuilt}
+use Rattle.repo_restore.specs.declared.nodes.Level.{Level}
+use Rattle.repo_restore.specs.Received.{Received}
+use Rattle.repo_restore.specs.Walking.{StopsAt, Turns}
+use Rattle.repo_restore.specs.Walks.{AtOpen}
+use Rattle.repo_restore.proofs.Passing.{file_waits, blob_last, blob_more, blob_ends}
+use Rattle.repo_restore.proofs.walks.Walk.take_blob.Goals as goal
+
+pub returns-in_ok-stop-in-Done-clause-ok : goal.returns-in_ok-stop-in-Done-clause-ok
+returns-in_ok-stop-in-Done-clause-ok c = λ gs root fact old h k among named long none.
+    let w = c.args.self.now in
+    let levels = w.levels.items in
+    let facts = c.args.lookup.now in
+    let out = c.args.out.now.items in
+    let mid = c.push.new.self.items in
+    let new = c.next_blob.new.out.items in
+    let content = c.open_content-content.result.now in
+    let next = c.one_more-sent.result in
+    let bytes = c.args.bytes.now in
+    let both = file_waits facts (Received gs) root levels w.sent w.entries fact old out mid new content next bytes h k in
+    let f = both.0 in
+    let same = c.open_content-content.ensures f.above f.level f.node f.size f.content (c.as_slice.ensures.value ∙ f.levels_are) (f.begun.at, f.begun.counts, f.begun.node_is) f.file in
+    let within = slice_get_within f.content w.sent fact.name f.asked in
+    let count = c.one_more-sent.ensures (let P : List Name → Type 0 = λ ns. w.sent < length ns in subst P (sym same) within) in
+    let m : mid ≡ out ++ Emission.Piece bytes ∷ [] = c.in_ok-push.ensures.items ∙ ap (λ b. out ++ Emission.Piece b ∷ []) c.in_ok-piece.ensures in
+    let b = rw c.in-Done.is at c.in_ok-next_blob.ensures in
+    let last = blob_last facts (Received gs) root levels w.sent w.entries fact old out mid new content next bytes f both.1 same count among named long none m b in
+    let begun : c.innermost_begun-begun.result ≡ f.level.begun = c.innermost_begun-begun.ensures f.above f.level (c.as_slice-in-Done.ensures.value ∙ f.levels_are) in
+    let slice = c.as_slice-in-Done-2.result.now in
+    let N : ℕ → Type 0 = λ n. AtOpen (Received gs) root levels (length levels) n (rebuilt (old ++ new)) in
+    let A : List Level → Type 0 = λ ls. AtOpen (Received gs) root ls (length ls) c.innermost_begun-begun.result (rebuilt (old ++ new)) in
+    let stops = c.in_ok-stop-in-Done.ensures gs root old (subst A (sym c.as_slice-in-Done-2.ensures.value) (subst N (sym begun) last.0)) last.1 in
+    let out' = c.go_on.new.out.items in
+    let stop = c.in_ok-stop-in-Done.stop in
+    let F : List Level → Type 0 = λ ls. StopsAt facts (Received gs) root ls old out' stop.depth stop.begun stop.what in
+    let G : List Emission → Type 0 = λ e. StopsAt facts (Received gs) root levels old e stop.depth stop.begun stop.what in
+    let R : List Emission → Type 0 = λ e. Turns facts (Received gs) root c.stop_at.new.self old e c.stop_at.result in
+    subst R c.as_slice-in-Done-3.ensures.value (c.stop_at.ensures facts gs root old (subst G (sym c.as_slice-in-Done-3.ensures.value) (subst F c.as_slice-in-Done-2.ensures.value stops)) h.count)
+
+pub returns-in-Waits-clause-ok : goal.returns-in-Waits-clause-ok
+returns-in-Waits-clause-ok c = λ gs root fact old h k among named long none.
+    let w = c.args.self.now in
+    let levels = w.levels.items in
+    let facts = c.args.lookup.now in
+    let out = c.args.out.now.items in
+    let mid = c.push.new.self.items in
+    let new = c.next_blob.new.out.items in
+    let content = c.open_content-content.result.now in
+    let next = c.one_more-sent.result in
+    let bytes = c.args.bytes.now in
+    let both = file_waits facts (Received gs) root levels w.sent w.entries fact old out mid new content next bytes h k in
+    let f = both.0 in
+    let same = c.open_content-content.ensures f.above f.level f.node f.size f.content (c.as_slice.ensures.value ∙ f.levels_are) (f.begun.at, f.begun.counts, f.begun.node_is) f.file in
+    let within = slice_get_within f.content w.sent fact.name f.asked in
+    let count = c.one_more-sent.ensures (let P : List Name → Type 0 = λ ns. w.sent < length ns in subst P (sym same) within) in
+    let m : mid ≡ out ++ Emission.Piece bytes ∷ [] = c.in_ok-push.ensures.items ∙ ap (λ b. out ++ Emission.Piece b ∷ []) c.in_ok-piece.ensures in
+    let b = rw c.in-Waits.is at c.in_ok-next_blob.ensures in
+    blob_more facts (Received gs) root levels w.sent w.entries fact old out mid new content next bytes c.in-Waits.fact f both.1 same count among named long none m h.count b
+
+pub returns-in-Ended-clause-ok : goal.returns-in-Ended-clause-ok
+returns-in-Ended-clause-ok c = λ gs root fact old h k among named long none.
+    let out = c.args.out.now.items in
+    let mid = c.push.new.self.items in
+    let bytes = c.args.bytes.now in
+    let m : mid ≡ out ++ Emission.Piece bytes ∷ [] = c.in_ok-push.ensures.items ∙ ap (λ b. out ++ Emission.Piece b ∷ []) c.in_ok-piece.ensures in
+    let b = rw c.in-Ended.is at c.in_ok-next_blob.ensures in
+    blob_ends c.args.lookup.now (Received gs) root c.args.self.now.levels.items c.args.self.now.sent c.args.self.now.entries fact old out mid c.next_blob.new.out.items c.open_content-content.result.now c.one_more-sent.result bytes c.in-Ended.end among none m b

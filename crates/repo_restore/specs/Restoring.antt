@@ -1,0 +1,102 @@
+-- What a restore may ask, give out and tell.
+use Rattle.std.specs.Prelude.{◌≡◌, ◌≢◌, ◌≤◌, ◌⊎◌, ◌+◌, ◌-◌, ◌^◌, ◌++◌, ◌∷◌, [], ⊤, ℕ, false, List, length, min, Some, Contains}
+use Rattle.repo_name.specs.declared.kinds.BlobKind.{BlobKind}
+use Rattle.repo_name.specs.declared.kinds.Kind.{Kind}
+use Rattle.repo_name.specs.declared.kinds.Thing.{Thing}
+use Rattle.repo_name.specs.declared.names.Name.{Name}
+use Rattle.repo_wire.specs.declared.messages.Ask.{Ask}
+use Rattle.repo_index.specs.declared.facts.Fact.{Fact}
+use Rattle.repo_tree.specs.declared.nodes.Node.{Node}
+use Rattle.repo_tree.specs.declared.nodes.NodeKind.{NodeKind}
+use Rattle.repo_tree.specs.declared.snapshots.Snapshot.{Snapshot}
+use Rattle.repo_tree.specs.SnapshotText.{IsSnapshotText}
+use Rattle.repo_tree.specs.Spelling.{Blobs, IsTree, Spells, greatest_depth}
+use Rattle.repo_session.specs.declared.emissions.Emission.{Emission}
+use Rattle.repo_session.specs.declared.outcomes.End.{End}
+use Rattle.repo_session.specs.declared.outcomes.Outcome.{Outcome}
+use Rattle.repo_session.specs.Askers.{Asker}
+use Rattle.repo_session.specs.Order.{Task}
+use Rattle.repo_session.specs.Rebuilding.{rebuilt}
+use Rattle.repo_session.specs.Traces.{Each, Exchange, Trace, emitted_in, IsRead, ReadFact}
+use Rattle.repo_restore.specs.Received.{Received}
+
+-- who restores, and which snapshot
+pub record Wish : Type 0 where
+  pub who : Asker
+  pub snapshot : Name
+
+-- a restore goes under a shared lock, and may get its snapshot without having listed it
+abbrev pub restore_task : Wish → Task
+restore_task w = record { who = w.who; exclusive = false; snapshot = Some w.snapshot }
+
+-- the snapshot was read under its name, and this is its tree
+abbrev pub HasRoot : Trace → Name → Name → Type 0
+HasRoot es name root = (x : List ℕ) × (snapshot : Snapshot) × IsRead es Kind.Snapshot name x × IsSnapshotText x snapshot × (snapshot.tree ≡ root)
+
+-- from a tree on, the directories of these names lead to this tree
+abbrev pub Under : Blobs → Name → List (List ℕ) → Name → Type 0
+Under B root [] tree = tree ≡ root
+Under B root (name ∷ path) tree = (nodes : List Node) × (subtree : Name) × IsTree B root nodes × Contains nodes (record { name = name; what = NodeKind.Dir subtree }) × Under B subtree path tree
+
+-- what stands at a path: a tree to which the path leads has a node of its last name
+pub record IsNodeAt (B : Blobs) (root : Name) (path : List (List ℕ)) (what : NodeKind) : Type 0 where
+  pub above : List (List ℕ)
+  pub name : List ℕ
+  pub tree : Name
+  pub nodes : List Node
+  pub leads : Under B root above tree
+  pub read : IsTree B tree nodes
+  pub among : Contains nodes (record { name = name; what = what })
+  pub joined : path ≡ above ++ name ∷ []
+
+-- what may be given out: directories and files that trees which were received have at their paths, and content blobs that were received
+abbrev pub MayGive : Blobs → Name → Emission → Type 0
+MayGive B root (Emission.Dir path) = (subtree : Name) × IsNodeAt B root path (NodeKind.Dir subtree)
+MayGive B root (Emission.File path) = (size : ℕ) × (content : List Name) × IsNodeAt B root path (NodeKind.File size content)
+MayGive B root (Emission.Piece bytes) = B BlobKind.Content bytes
+MayGive B root Emission.Close = ⊤
+
+-- the count of entries, which stays at the greatest number
+abbrev pub counted : ℕ → ℕ
+counted n = min n (2 ^ 64 - 1)
+
+-- places that indexes which were read give for content blobs of these names have so many bytes
+abbrev pub HaveLength : Trace → List Name → ℕ → Type 0
+HaveLength es [] total = total ≡ 0
+HaveLength es (name ∷ names) total = (fact : Fact) × (rest : ℕ) × ReadFact es fact × (fact.kind ≡ BlobKind.Content) × (fact.name ≡ name) × HaveLength es names rest × (total ≡ fact.place.length + rest)
+
+-- a file whose blobs haven't its size
+pub record IsUneven (es : Trace) (nodes : List Node) : Type 0 where
+  pub name : List ℕ
+  pub size : ℕ
+  pub content : List Name
+  pub total : ℕ
+  pub among : Contains nodes (record { name = name; what = NodeKind.File size content })
+  pub lengths : HaveLength es content total
+  pub other : total ≢ size
+
+-- the tree stands where no nodes may be
+abbrev pub IsTooDeep : Trace → Name → Name → Type 0
+IsTooDeep es snapshot tree = (root : Name) × (path : List (List ℕ)) × HasRoot es snapshot root × (greatest_depth ≤ length path) × Under (Received es) root path tree
+
+-- a tree that was received and can't be restored: it has nodes too deep, or a file whose blobs haven't its size
+abbrev pub IsBadTree : Trace → Name → Name → Type 0
+IsBadTree es snapshot tree = (nodes : List Node) × IsTree (Received es) tree nodes × (((nodes ≢ []) × IsTooDeep es snapshot tree) ⊎ IsUneven es nodes)
+
+-- what was given out is what the snapshot's tree spells in the blobs that were received
+abbrev pub IsRestored : Trace → Name → ℕ → Type 0
+IsRestored es snapshot entries = (root : Name) × HasRoot es snapshot root × Spells (Received es) root [] (rebuilt (emitted_in es)) × (entries ≡ counted (length (rebuilt (emitted_in es))))
+
+-- nothing is put or deleted
+abbrev pub RestoreAllows : Name → Trace → Ask → Type 0
+RestoreAllows snapshot es ask = ⊥
+
+-- each part given out is one that may be
+abbrev pub RestoreGives : Name → Trace → Exchange → Type 0
+RestoreGives snapshot es e = (root : Name) × HasRoot es snapshot root × Each (MayGive (Received (e ∷ es)) root) e.emitted
+
+-- it is told that all was given out only where it was
+abbrev pub RestoreConcludes : Name → Trace → Outcome → Type 0
+RestoreConcludes snapshot es (Outcome.Complete entries) = IsRestored es snapshot entries
+RestoreConcludes snapshot es (Outcome.Ended (End.BadObject Thing.Tree tree)) = IsBadTree es snapshot tree
+RestoreConcludes snapshot es _ = ⊥

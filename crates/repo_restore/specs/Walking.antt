@@ -1,0 +1,140 @@
+-- What a walk's calls give.
+use Rattle.std.specs.Prelude.{◌≡◌, ◌≢◌, ◌≤◌, ◌⊎◌, ◌+◌, ◌++◌, ◌∷◌, [], ℕ, List, length, take, slice_get, Some, Contains}
+use Rattle.repo_name.specs.declared.kinds.BlobKind.{BlobKind}
+use Rattle.repo_name.specs.declared.kinds.Thing.{Thing}
+use Rattle.repo_name.specs.declared.names.Name.{Name}
+use Rattle.repo_index.specs.declared.facts.Fact.{Fact}
+use Rattle.repo_tree.specs.declared.entries.Entry.{Entry}
+use Rattle.repo_tree.specs.declared.nodes.Node.{Node}
+use Rattle.repo_tree.specs.declared.nodes.NodeKind.{NodeKind}
+use Rattle.repo_tree.specs.Spelling.{Blobs, IsTree, Spells, greatest_depth, dir_entry}
+use Rattle.repo_session.specs.declared.emissions.Emission.{Emission}
+use Rattle.repo_session.specs.declared.outcomes.End.{End}
+use Rattle.repo_session.specs.Ends.{blob_thing}
+use Rattle.repo_session.specs.Rebuilding.{rebuilt}
+use Rattle.repo_session.specs.Traces.{Each}
+use Rattle.repo_restore.specs.declared.nodes.Begun.{Begun}
+use Rattle.repo_restore.specs.declared.nodes.Level.{Level}
+use Rattle.repo_restore.specs.declared.walks.Turn.{Turn}
+use Rattle.repo_restore.specs.declared.walks.Walk.{Walk}
+use Rattle.repo_index.specs.Lookups.{IsLeast}
+use Rattle.repo_restore.specs.Nodes.{WaitsFor, DirBegins, FileBegins}
+use Rattle.repo_restore.specs.Restoring.{Under, MayGive, counted}
+use Rattle.repo_restore.specs.Walks.{Sums, IsNowhere, IsOpen, IsBegun, IsFile, Leads, IsWriting}
+
+-- what beginning a node gives
+abbrev pub NodeBegins : List Fact → Name → List (List ℕ) → NodeKind → List Emission → List Emission → Begun → Type 0
+NodeBegins facts tree path (NodeKind.File size content) old new begun = FileBegins facts tree path size content old new begun
+NodeBegins facts tree path (NodeKind.Dir subtree) old new begun = DirBegins facts path subtree old new begun
+
+-- a level whose first nodes were given out, after what was given out before
+pub record StandsIn (B : Blobs) (root : Name) (level : Level) (begun : ℕ) (before : List Entry) (old out : List Emission) : Type 0 where
+  pub inside : List Entry
+  pub opened : IsOpen B root level.tree level.path level.nodes.items begun inside
+  pub whole : rebuilt (old ++ out) ≡ before ++ inside
+  pub given : Each (MayGive B root) out
+
+-- a blob that a node waits for, with what was given out up to it
+abbrev pub WaitsAs : List Fact → NodeKind → List (List ℕ) → Fact → List Entry → List Emission → Type 0
+WaitsAs facts (NodeKind.Dir subtree) path fact before emitted = WaitsFor facts BlobKind.Tree subtree fact × (rebuilt emitted ≡ before ++ dir_entry path ∷ [])
+WaitsAs facts (NodeKind.File size content) path fact before emitted = (slice_get content 0 ≡ Some fact.name) × WaitsFor facts BlobKind.Content fact.name fact × Sums facts content size × IsWriting emitted before path []
+
+-- a level, one node of which waits for a blob
+pub record WaitsIn (facts : List Fact) (B : Blobs) (root : Name) (level : Level) (begun : ℕ) (before : List Entry) (old out : List Emission) (fact : Fact) : Type 0 where
+  pub at : ℕ
+  pub counts : begun ≡ at + 1
+  pub node : Node
+  pub node_is : slice_get level.nodes.items at ≡ Some node
+  pub inside : List Entry
+  pub opened : IsOpen B root level.tree level.path level.nodes.items at inside
+  pub waits : WaitsAs facts node.what (level.path ++ node.name ∷ []) fact (before ++ inside) (old ++ out)
+  pub given : Each (MayGive B root) out
+
+-- a file whose blobs have another size
+abbrev pub IsUnevenIn : List Fact → List Node → Type 0
+IsUnevenIn facts nodes = (name : List ℕ) × (size : ℕ) × (content : List Name) × (total : ℕ) × Contains nodes (record { name = name; what = NodeKind.File size content }) × Sums facts content total × (total ≢ size)
+
+-- nodes where none may be
+abbrev pub IsDeepIn : Blobs → Name → Name → List Node → Type 0
+IsDeepIn B root tree nodes = (nodes ≢ []) × ((path : List (List ℕ)) × (greatest_depth ≤ length path) × Under B root path tree)
+
+-- why a walk ends
+abbrev pub WalkEnds : List Fact → Blobs → Name → End → Type 0
+WalkEnds facts B root (End.Missing thing name) = (kind : BlobKind) × (thing ≡ blob_thing kind) × IsNowhere facts kind name
+WalkEnds facts B root (End.BadObject thing tree) = (thing ≡ Thing.Tree) × ((nodes : List Node) × IsTree B tree nodes × (IsDeepIn B root tree nodes ⊎ IsUnevenIn facts nodes))
+WalkEnds facts B root _ = ⊥
+
+-- what beginning a level's next nodes gives
+abbrev pub NextBegins : List Fact → Blobs → Name → Level → List Entry → List Emission → List Emission → ℕ → Begun → Type 0
+NextBegins facts B root level before old out now Begun.Done = StandsIn B root level (length level.nodes.items) before old out
+NextBegins facts B root level before old out now (Begun.Waits fact) = WaitsIn facts B root level now before old out fact
+NextBegins facts B root level before old out now (Begun.Ended end) = WalkEnds facts B root end × Each (MayGive B root) out
+
+-- where a walk stops
+abbrev pub StopsAt : List Fact → Blobs → Name → List Level → List Emission → List Emission → ℕ → ℕ → Begun → Type 0
+StopsAt facts B root levels old out depth begun Begun.Done = Spells B root [] (rebuilt (old ++ out)) × Each (MayGive B root) out
+StopsAt facts B root levels old out depth begun (Begun.Waits fact) = (level : Level) × (before : List Entry) × (slice_get levels depth ≡ Some level)
+    × Leads B root root [] [] (take depth levels) level.tree level.path before × WaitsIn facts B root level begun before old out fact
+StopsAt facts B root levels old out depth begun (Begun.Ended end) = WalkEnds facts B root end × Each (MayGive B root) out
+
+-- a level of which so many nodes are begun
+abbrev pub with_begun : Level → ℕ → Level
+with_begun level begun = record { tree = level.tree; path = level.path; nodes = level.nodes; begun = begun }
+
+-- a file of the innermost level waits for a blob, some first ones of it were given out
+pub record FileWaits (facts : List Fact) (B : Blobs) (root : Name) (levels : List Level) (sent : ℕ) (fact : Fact) (emitted : List Emission) : Type 0 where
+  pub above : List Level
+  pub level : Level
+  pub before : List Entry
+  pub inside : List Entry
+  pub node : Node
+  pub size : ℕ
+  pub content : List Name
+  pub bytes : List ℕ
+  pub levels_are : levels ≡ above ++ level ∷ []
+  pub leads : Leads B root root [] [] above level.tree level.path before
+  pub begun : IsBegun B root level inside node
+  pub file : node.what ≡ NodeKind.File size content
+  pub asked : slice_get content sent ≡ Some fact.name
+  pub part : IsFile facts B size content sent bytes
+  pub writing : IsWriting emitted (before ++ inside) (level.path ++ node.name ∷ []) bytes
+
+-- the tree of a directory waits
+abbrev pub TreeWaits : Blobs → Name → List Level → Fact → List Emission → Type 0
+TreeWaits B root levels fact emitted = (path : List (List ℕ)) × Leads B root root [] [] levels fact.name path (rebuilt emitted) × Under B root path fact.name
+
+-- by the kind of the blob that a walk waits for
+abbrev pub WaitsByKind : BlobKind → List Fact → Blobs → Name → List Level → ℕ → Fact → List Emission → Type 0
+WaitsByKind BlobKind.Content facts B root levels sent fact emitted = FileWaits facts B root levels sent fact emitted
+WaitsByKind BlobKind.Tree facts B root levels sent fact emitted = TreeWaits B root levels fact emitted
+
+-- a walk waits for a blob, after all that was given out
+pub record WalkWaits (facts : List Fact) (B : Blobs) (root : Name) (levels : List Level) (sent entries : ℕ) (fact : Fact) (emitted : List Emission) : Type 0 where
+  pub least : IsLeast facts fact.kind fact.name fact.place
+  pub count : entries ≡ counted (length (rebuilt emitted))
+  pub waits : WaitsByKind fact.kind facts B root levels sent fact emitted
+
+-- what comes of a step of a walk
+abbrev pub TurnGives : List Fact → Blobs → Name → List Level → ℕ → ℕ → List Emission → List Emission → Turn → Type 0
+TurnGives facts B root levels sent entries old out (Turn.Ask fact) = WalkWaits facts B root levels sent entries fact (old ++ out) × Each (MayGive B root) out
+TurnGives facts B root levels sent entries old out (Turn.Complete count) = Spells B root [] (rebuilt (old ++ out)) × (count ≡ counted (length (rebuilt (old ++ out)))) × Each (MayGive B root) out
+TurnGives facts B root levels sent entries old out (Turn.Ended end) = WalkEnds facts B root end × Each (MayGive B root) out
+
+-- ---- over the code's own type
+
+-- a walk of the code waits for a blob
+abbrev pub Waits : List Fact → Blobs → Name → Walk → Fact → List Emission → Type 0
+Waits facts B root w fact emitted = WalkWaits facts B root w.levels.items w.sent w.entries fact emitted
+
+-- what comes of a step of it
+abbrev pub Turns : List Fact → Blobs → Name → Walk → List Emission → List Emission → Turn → Type 0
+Turns facts B root w old out turn = TurnGives facts B root w.levels.items w.sent w.entries old out turn
+
+-- the node that is begun of a level
+abbrev pub HasBegun : Level → Node → Type 0
+HasBegun level node = (at : ℕ) × (level.begun ≡ at + 1) × (slice_get level.nodes.items at ≡ Some node)
+
+-- where the tree that a walk waits for stands
+abbrev pub IsNextPath : List Level → List (List ℕ) → Type 0
+IsNextPath levels path = (levels ≡ [] → path ≡ [])
+    × ((above : List Level) (level : Level) (node : Node) → levels ≡ above ++ level ∷ [] → HasBegun level node → path ≡ level.path ++ node.name ∷ [])

@@ -1,0 +1,30 @@
+//! What a store gives back: the list of its snapshots, and a snapshot's directories and files.
+//!
+//! A [`SnapshotList`] is a client that lists the store's snapshots and reads each of them. A [`Restore`] is one
+//! that gives out the directories and files of a snapshot, in order, a file by pieces: it reads the snapshot and
+//! the indexes, and walks over the trees, depth first.
+//!
+//! Promised: both are clients of repo_session, so each request was one that the exchanges before it allow, whoever
+//! answers. `Listed` comes only where the snapshots were listed to their end, and gives each of them, in order, as
+//! the bytes that were read under its name say. `Complete` comes only where what was given out is what the
+//! snapshot's tree spells in the blobs that were received, which have the names that indexes which were read give
+//! them; each part given out is a piece of such a blob, or a directory or a file that a tree which was received has
+//! at its path. Not promised: that a store answers, or that a list or a restore ends well.
+//!
+//! The definitions stand in `specs/`: `Listing` (when a list may be told), `Received` (which blobs were received),
+//! `Restoring` (what a restore may give out and tell); and what is known on the way: `ListStates`, `Walks`, `Nodes`
+//! and `Walking` (where a walk over trees stands, and what its steps give), `RestoreStates`.
+#![tactic(auto)]
+
+#[cfg(test)]
+mod listing_tests;
+mod listings;
+mod nodes;
+#[cfg(test)]
+mod restore_tests;
+mod restores;
+mod steps;
+mod walks;
+
+pub use listings::SnapshotList;
+pub use restores::Restore;

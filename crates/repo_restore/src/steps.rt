@@ -1,0 +1,169 @@
+//! The steps of a walk over open directories.
+
+ghost use Rattle.std.specs.Prelude.{◌≡◌, ◌+◌, ◌++◌, ◌∷◌, [], ℕ, List, length, slice_get, Some, IfOk};
+ghost use Rattle.repo_name.specs.declared.names.Name.{Name};
+ghost use Rattle.repo_tree.specs.declared.entries.Entry.{Entry};
+ghost use Rattle.repo_session.specs.declared.emissions.Emission.{Emission};
+ghost use Rattle.repo_session.specs.Rebuilding.{rebuilt};
+ghost use Rattle.repo_session.specs.Traces.{Each, Trace};
+ghost use Rattle.repo_restore.specs.declared.nodes.Level.{Level};
+ghost use Rattle.repo_restore.specs.Received.{Received};
+ghost use Rattle.repo_restore.specs.Restoring.{MayGive, counted};
+ghost use Rattle.repo_restore.specs.Walking.{NodeBegins, StandsIn, NextBegins, StopsAt};
+ghost use Rattle.repo_restore.specs.Walks.{AtOpen};
+
+use crate::nodes::{Begun, Level, begin_dir, begin_file, path_of};
+use repo_index::Lookup;
+use repo_session::Emission;
+use repo_tree::{Node, NodeKind};
+use std::alloc::{AllocError, Global};
+
+/// Where the nodes of a level stop.
+#[derive(Clone, Copy, Debug)]
+pub struct Next {
+    /// How many of the level's nodes were begun.
+    pub begun: usize,
+    /// What became of the last one.
+    pub what: Begun,
+}
+
+/// Where a walk stops.
+#[derive(Clone, Copy, Debug)]
+pub struct Stop {
+    /// How many levels stay open above the one it stops at.
+    pub depth: usize,
+    /// How many of that level's nodes were begun.
+    pub begun: usize,
+    /// What became of the last one; all was given out where it is done.
+    pub what: Begun,
+}
+
+/// Whether an emission is of a directory or a file, as a number.
+fn entries_of(emission: &Emission) -> u64
+    ensures { result ≡ length (rebuilt (emission.now ∷ [])) }
+{
+    match emission {
+        Emission::Dir(_) => 1,
+        Emission::File(_) => 1,
+        Emission::Piece(_) => 0,
+        Emission::Close => 0,
+    }
+}
+
+/// How many directories and files there are among some emissions.
+pub fn count_entries(emitted: &[Emission]) -> u64
+    ensures { result ≡ counted (length (rebuilt emitted.now)) }
+{
+    let mut count: u64 = 0;
+    for emission in emitted {
+        count = count.saturating_add(entries_of(emission));
+    }
+    count
+}
+
+/// Gives out a node, or its beginning. It fails for memory alone.
+fn begin_node(
+    alloc: Global,
+    lookup: &Lookup,
+    level: &Level,
+    node: &Node,
+    out: &mut Vec<Emission>,
+) -> Result<Begun, AllocError>
+    ensures { IfOk result (NodeBegins lookup.now level.now.tree (level.now.path ++ node.now.name ∷ []) node.now.what out.old.items out.new.items) }
+{
+    let path = path_of(alloc, &level.path, &node.name)?;
+    match &node.what {
+        NodeKind::Dir { subtree } => begin_dir(lookup, path, *subtree, out),
+        NodeKind::File { size, content } => {
+            begin_file(lookup, level.tree, path, *size, content.as_slice(), out)
+        }
+    }
+}
+
+/// Gives out the next nodes of a level, up to one that waits. It fails for memory alone.
+fn begin_next(
+    alloc: Global,
+    lookup: &Lookup,
+    level: &Level,
+    begun: usize,
+    out: &mut Vec<Emission>,
+) -> Result<Next, AllocError>
+    ensures { IfOk result (λ next. (gs : Trace) (root : Name) (before : List Entry) (old : List Emission) → StandsIn (Received gs) root level.now begun before old out.old.items
+        → NextBegins lookup.now (Received gs) root level.now before old out.new.items next.begun next.what) }
+{
+    for at in begun..level.nodes.len() {
+        match begin_node(alloc, lookup, level, &level.nodes[at], out)? {
+            Begun::Done => {}
+            Begun::Waits(fact) => {
+                return Ok(Next {
+                    begun: at + 1,
+                    what: Begun::Waits(fact),
+                });
+            }
+            Begun::Ended(end) => {
+                return Ok(Next {
+                    begun: at + 1,
+                    what: Begun::Ended(end),
+                });
+            }
+        }
+    }
+    Ok(Next {
+        begun: level.nodes.len(),
+        what: Begun::Done,
+    })
+}
+
+/// How many nodes were begun of the level above one.
+fn begun_above(levels: &[Level], depth: usize) -> usize
+    ensures { (above : ℕ) (level : Level) → depth ≡ above + 1 → slice_get levels.now above ≡ Some level → result ≡ level.begun }
+{
+    match depth.checked_sub(1) {
+        None => 0,
+        Some(above) => match levels.get(above) {
+            None => 0,
+            Some(level) => level.begun,
+        },
+    }
+}
+
+/// Gives out what comes next from the innermost level on, up to a node that waits. It fails for memory alone.
+pub fn go_on(
+    alloc: Global,
+    lookup: &Lookup,
+    levels: &[Level],
+    begun: usize,
+    out: &mut Vec<Emission>,
+) -> Result<Stop, AllocError>
+    ensures { IfOk result (λ stop. (gs : Trace) (root : Name) (old : List Emission) → AtOpen (Received gs) root levels.now (length levels.now) begun (rebuilt (old ++ out.old.items)) → Each (MayGive (Received gs) root) out.old.items
+        → StopsAt lookup.now (Received gs) root levels.now old out.new.items stop.depth stop.begun stop.what) }
+{
+    let mut begun = begun;
+    for up in 0..levels.len() {
+        let depth = levels.len() - 1 - up;
+        let next = begin_next(alloc, lookup, &levels[depth], begun, out)?;
+        match next.what {
+            Begun::Done => {}
+            Begun::Waits(fact) => {
+                return Ok(Stop {
+                    depth,
+                    begun: next.begun,
+                    what: Begun::Waits(fact),
+                });
+            }
+            Begun::Ended(end) => {
+                return Ok(Stop {
+                    depth,
+                    begun: next.begun,
+                    what: Begun::Ended(end),
+                });
+            }
+        }
+        begun = begun_above(levels, depth);
+    }
+    Ok(Stop {
+        depth: 0,
+        begun: 0,
+        what: Begun::Done,
+    })
+}

@@ -1,0 +1,252 @@
+//! A walk over the trees of a snapshot, node by node.
+
+ghost use Rattle.std.specs.Prelude.{◌≡◌, ◌≢◌, ◌⊎◌, ◌≤◌, ◌<◌, ◌+◌, ◌++◌, ◌∷◌, [], ℕ, List, length, take, slice_get, Some, option_map, IfOk, OnErr, IsTrue, IsFalse};
+ghost use Rattle.repo_name.specs.Naming as naming;
+ghost use Rattle.repo_name.specs.declared.kinds.BlobKind.{BlobKind};
+ghost use Rattle.repo_name.specs.declared.names.Name.{Name};
+ghost use Rattle.repo_index.specs.declared.facts.Fact.{Fact};
+ghost use Rattle.repo_tree.specs.declared.nodes.Node.{Node};
+ghost use Rattle.repo_tree.specs.declared.nodes.NodeKind.{NodeKind};
+ghost use Rattle.repo_tree.specs.Spelling.{IsTree, greatest_depth};
+ghost use Rattle.repo_session.specs.declared.emissions.Emission.{Emission};
+ghost use Rattle.repo_session.specs.Rebuilding.{rebuilt};
+ghost use Rattle.repo_session.specs.Traces.{Each, Trace};
+ghost use Rattle.repo_restore.specs.declared.nodes.Level.{Level};
+ghost use Rattle.repo_restore.specs.Received.{Received};
+ghost use Rattle.repo_restore.specs.Restoring.{MayGive, counted};
+ghost use Rattle.repo_restore.specs.Walking.{StopsAt, with_begun, Waits, Turns, HasBegun, IsNextPath};
+
+use crate::nodes::{Begun, Level, next_blob, path_of};
+use crate::steps::{Stop, count_entries, go_on};
+use repo_index::{Fact, Lookup};
+use repo_name::{BlobKind, Bytes, Name, Thing};
+use repo_session::{Emission, End};
+use repo_tree::{Node, NodeKind, Path};
+use std::alloc::{AllocError, Global};
+
+/// What comes next of a walk.
+#[derive(Clone, Copy, Debug, PartialEq, Eq)]
+pub enum Turn {
+    /// The blob of this fact is to be asked for.
+    Ask(Fact),
+    /// All was given out: so many directories and files.
+    Complete(u64),
+    /// It can't go on.
+    Ended(End),
+}
+
+/// A walk over the trees of a snapshot: the open directories, how many blobs of the open file were given out, and
+/// how many directories and files.
+#[derive(Drop)]
+pub struct Walk {
+    pub levels: Vec<Level>,
+    pub sent: usize,
+    pub entries: u64,
+    alloc: Global,
+}
+
+/// How many components a path has at most.
+const DEPTH: usize = 100;
+
+/// Some bytes, copied. It fails for memory alone.
+fn copy_of(alloc: Global, bytes: &[u8]) -> Result<Bytes, AllocError>
+    ensures { IfOk result (λ copied. copied ≡ bytes.now) }
+{
+    Ok(Bytes::of(bytes.to_vec(alloc)?))
+}
+
+/// Whether some nodes stand below a path under which none may be.
+#[tactic(auto, unfolding(repo_tree::specs::Spelling::greatest_depth))]
+fn is_too_deep(path: &Path, nodes: &[Node]) -> bool
+    ensures yes { IsTrue result → (greatest_depth ≤ length path.now) × (nodes.now ≢ []) }
+    ensures no { IsFalse result → (length path.now < greatest_depth) ⊎ (nodes.now ≡ []) }
+{
+    path.as_slice().len() >= DEPTH && !nodes.is_empty()
+}
+
+/// Leaves a level and those above it open, of which so many nodes are begun.
+fn keep_open(levels: &mut Vec<Level>, depth: usize, begun: usize)
+    ensures { (level : Level) → slice_get levels.old.items depth ≡ Some level → levels.new.items ≡ take depth levels.old.items ++ with_begun level begun ∷ [] }
+{
+    if depth < levels.len() {
+        levels[depth].begun = begun;
+        levels.truncate(depth + 1);
+    }
+}
+
+/// The node that is begun of a level.
+fn begun_node(level: &Level) -> Option<&Node>
+    ensures { (node : Node) → HasBegun level.now node → option_map (λ n. n.now) result ≡ Some node }
+{
+    match level.begun.checked_sub(1) {
+        Some(at) => level.nodes.get(at),
+        None => None,
+    }
+}
+
+/// The blobs of the file that is begun of a level.
+fn begun_content(level: &Level) -> &[Name]
+    ensures { (node : Node) (size : ℕ) (content : List Name) → HasBegun level.now node → node.what ≡ NodeKind.File size content → result.now ≡ content }
+{
+    match begun_node(level) {
+        Some(node) => match &node.what {
+            NodeKind::File { content, .. } => content.as_slice(),
+            NodeKind::Dir { .. } => &[],
+        },
+        None => &[],
+    }
+}
+
+/// The blobs of the file that is begun of the innermost level.
+fn open_content(levels: &[Level]) -> &[Name]
+    ensures { (above : List Level) (level : Level) (node : Node) (size : ℕ) (content : List Name) → levels.now ≡ above ++ level ∷ [] → HasBegun level node → node.what ≡ NodeKind.File size content → result.now ≡ content }
+{
+    match levels.last() {
+        Some(level) => begun_content(level),
+        None => &[],
+    }
+}
+
+/// How many nodes are begun of the innermost level.
+fn innermost_begun(levels: &[Level]) -> usize
+    ensures { (above : List Level) (level : Level) → levels.now ≡ above ++ level ∷ [] → result ≡ level.begun }
+{
+    match levels.last() {
+        Some(level) => level.begun,
+        None => 0,
+    }
+}
+
+/// How many of a file's blobs are given out with one more.
+fn one_more(sent: usize, content: &[Name]) -> usize
+    ensures { sent < length content.now → result ≡ sent + 1 }
+{
+    if sent < content.len() {
+        return sent + 1;
+    }
+    sent
+}
+
+impl Walk {
+    /// A walk with nothing open. It takes no memory.
+    pub fn new(alloc: Global) -> Walk
+        ensures levels { result.levels.items ≡ [] }
+        ensures entries { result.entries ≡ 0 }
+    {
+        Walk {
+            levels: Vec::new(alloc),
+            sent: 0,
+            entries: 0,
+            alloc,
+        }
+    }
+
+    /// Looks up the tree of the root. It takes no memory.
+    pub fn start(&self, lookup: &Lookup, root: Name) -> Turn
+        ensures { (gs : Trace) → self.now.levels.items ≡ [] → self.now.entries ≡ 0 → Turns lookup.now (Received gs) root self.now [] [] result }
+    {
+        match lookup.find(BlobKind::Tree, &root) {
+            Some(place) => Turn::Ask(Fact {
+                kind: BlobKind::Tree,
+                name: root,
+                place,
+            }),
+            None => Turn::Ended(End::Missing(Thing::Tree, root)),
+        }
+    }
+
+    /// Stops where the steps did.
+    fn stop_at(&mut self, stop: Stop, out: &[Emission]) -> Turn
+        ensures { (facts : List Fact) (gs : Trace) (root : Name) (old : List Emission) → StopsAt facts (Received gs) root self.old.levels.items old out.now stop.depth stop.begun stop.what
+            → self.old.entries ≡ counted (length (rebuilt old)) → Turns facts (Received gs) root self.new old out.now result }
+    {
+        let entries = self.entries.saturating_add(count_entries(out));
+        match stop.what {
+            Begun::Done => Turn::Complete(entries),
+            Begun::Ended(end) => Turn::Ended(end),
+            Begun::Waits(fact) => {
+                keep_open(&mut self.levels, stop.depth, stop.begun);
+                self.sent = 0;
+                self.entries = entries;
+                Turn::Ask(fact)
+            }
+        }
+    }
+
+    /// Where the tree stands that is waited for. It fails for memory alone.
+    fn next_path(&self) -> Result<Path, AllocError>
+        ensures { IfOk result (IsNextPath self.now.levels.items) }
+    {
+        match self.levels.as_slice().last() {
+            None => Ok(Path::of(Vec::new(self.alloc))),
+            Some(level) => match begun_node(level) {
+                None => Ok(Path::of(Vec::new(self.alloc))),
+                Some(node) => path_of(self.alloc, &level.path, &node.name),
+            },
+        }
+    }
+
+    /// Takes the nodes of the tree that is waited for. It fails for memory alone, and then nothing changed.
+    pub fn enter(
+        &mut self,
+        lookup: &Lookup,
+        tree: Name,
+        nodes: Vec<Node>,
+        out: &mut Vec<Emission>,
+    ) -> Result<Turn, AllocError>
+        ensures ok { IfOk result (λ turn. (gs : Trace) (root : Name) (fact : Fact) (old : List Emission) → Waits lookup.now (Received gs) root self.old fact old → fact.kind ≡ BlobKind.Tree → fact.name ≡ tree
+            → IsTree (Received gs) tree nodes.items → out.old.items ≡ [] → Turns lookup.now (Received gs) root self.new old out.new.items turn) }
+        ensures levels { OnErr result (self.new.levels.items ≡ self.old.levels.items) }
+        ensures sent { OnErr result (self.new.sent ≡ self.old.sent) }
+        ensures entries { OnErr result (self.new.entries ≡ self.old.entries) }
+    {
+        let path = self.next_path()?;
+        if is_too_deep(&path, nodes.as_slice()) {
+            return Ok(Turn::Ended(End::BadObject(Thing::Tree, tree)));
+        }
+        self.levels.push(Level {
+            tree,
+            path,
+            nodes,
+            begun: 0,
+        })?;
+        match go_on(self.alloc, lookup, self.levels.as_slice(), 0, out) {
+            Ok(stop) => Ok(self.stop_at(stop, out.as_slice())),
+            Err(error) => {
+                self.levels.pop();
+                Err(error)
+            }
+        }
+    }
+
+    /// Takes the bytes of the content blob that is waited for. It fails for memory alone, and then nothing changed.
+    pub fn take_blob(
+        &mut self,
+        lookup: &Lookup,
+        bytes: &[u8],
+        out: &mut Vec<Emission>,
+    ) -> Result<Turn, AllocError>
+        ensures ok { IfOk result (λ turn. (gs : Trace) (root : Name) (fact : Fact) (old : List Emission) → Waits lookup.now (Received gs) root self.old fact old → fact.kind ≡ BlobKind.Content
+            → Received gs BlobKind.Content bytes.now → naming.name bytes.now ≡ fact.name → length bytes.now ≡ fact.place.length → out.old.items ≡ [] → Turns lookup.now (Received gs) root self.new old out.new.items turn) }
+        ensures levels { OnErr result (self.new.levels.items ≡ self.old.levels.items) }
+        ensures sent { OnErr result (self.new.sent ≡ self.old.sent) }
+        ensures entries { OnErr result (self.new.entries ≡ self.old.entries) }
+    {
+        let piece = copy_of(self.alloc, bytes)?;
+        out.push(Emission::Piece(piece))?;
+        let content = open_content(self.levels.as_slice());
+        let sent = one_more(self.sent, content);
+        match next_blob(lookup, content, sent, out)? {
+            Begun::Done => {
+                let begun = innermost_begun(self.levels.as_slice());
+                let stop = go_on(self.alloc, lookup, self.levels.as_slice(), begun, out)?;
+                Ok(self.stop_at(stop, out.as_slice()))
+            }
+            Begun::Waits(fact) => {
+                self.sent = sent;
+                Ok(Turn::Ask(fact))
+            }
+            Begun::Ended(end) => Ok(Turn::Ended(end)),
+        }
+    }
+}
