@@ -339,8 +339,8 @@ module _ (entries : List Entry) (known : List Fact) where
   -- the snapshot may be put where nothing waits, and each blob of the folder is known or in the packs put
   pub snapshot_rule : (blobs bytes : ℕ) (folder : Folder) (puts : List Put) (token : Token) (row : LockRow) (snapshot : Snapshot) (es : Trace) (x : List ℕ) → Backs entries known [] blobs bytes folder puts [] es
       → Each (λ item. IsCovered known (items_of puts) item) (blobs_of folder) → IsSnapshotText x snapshot → snapshot.tree ≡ naming.name (tree_text (nodes_of folder)) → snapshot.token ≡ token
-      → Exchanged es (Ask.Lock row) Say.Done → snapshot.host ≡ row.host → snapshot.time ≡ row.time → AreTreeTexts folder → IsLawful folder → SnapshotRule entries es token x
-  snapshot_rule blobs bytes folder puts token row snapshot es x b covered reads tree token_is locked host time texts lawful = record {
+      → Exchanged es (Ask.Lock row) Say.Done → row.token ≡ token → snapshot.host ≡ row.host → snapshot.time ≡ row.time → AreTreeTexts folder → IsLawful folder → SnapshotRule entries es token x
+  snapshot_rule blobs bytes folder puts token row snapshot es x b covered reads tree token_is locked own host time texts lawful = record {
     indexes = b.indexed;
     first = b.none;
     done = λ k object among. all_done [] blobs bytes folder puts es b k object among;
@@ -349,6 +349,7 @@ module _ (entries : List Entry) (known : List Fact) where
     token_is = token_is;
     row = row;
     locked = locked;
+    own = own;
     host_is = host;
     time_is = time;
     folder = folder;

@@ -95,6 +95,7 @@ pub record SnapshotRule (entries : List Entry) (es : Trace) (token : Token) (x :
   pub token_is : snapshot.token ≡ token
   pub row : LockRow
   pub locked : Exchanged es (Ask.Lock row) Say.Done
+  pub own : row.token ≡ token
   pub host_is : snapshot.host ≡ row.host
   pub time_is : snapshot.time ≡ row.time
   pub folder : Folder
