@@ -14,3 +14,7 @@ pub mod Lessening
 pub mod Moving
 pub mod Standing
 pub mod Working
+pub mod Staging
+pub mod Parcels
+pub mod Phases
+pub mod Keeping

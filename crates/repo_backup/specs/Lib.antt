@@ -12,3 +12,7 @@ pub mod Backing
 pub mod Listed
 pub mod Readying
 pub mod Walking
+pub mod Stages
+pub mod BackupStates
+pub mod Backups
+pub mod BackupObedience

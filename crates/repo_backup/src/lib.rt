@@ -16,6 +16,7 @@
 
 mod added;
 mod backing;
+mod backups;
 mod checks;
 mod chunks;
 mod faults;
@@ -23,6 +24,8 @@ mod packing;
 #[cfg(test)]
 mod plan_tests;
 mod plans;
+mod sending;
+mod stages;
 mod steps;
 mod targets;
 mod walks;
@@ -30,4 +33,5 @@ mod walks;
 mod work_tests;
 mod works;
 
+pub use backups::Backup;
 pub use faults::BackupError;

@@ -22,7 +22,7 @@ pub struct Packing {
     pub writer: PackWriter,
     pub sealed: Option<Sealed>,
     pub added: Added,
-    target: Target,
+    pub target: Target,
     alloc: Global,
 }
 

@@ -3,7 +3,7 @@
 use crate::listings::SnapshotList;
 use repo_name::{Bytes, Instance, Kind, Name, Names, Text, Thing, Token, name_of};
 use repo_session::{Client, End, Outcome, Who, drive, lockstep};
-use repo_store::{MemShelf, Shelf, ShelfError};
+use repo_store::{MemShelf, Shelf};
 use repo_tree::Snapshot;
 use repo_wire::{Code, Reply, Say, write_reply};
 use std::alloc::{AllocError, Global};
@@ -21,28 +21,28 @@ const OTHER_VERSION: &str =
     r#"{"host":"a","time":5,"token":1,"tree":"e3b0c44298fc1c149afbf4c8996fb92427ae41e4649b934ca495991b7852b855","version":2}"#;
 
 /// A list by the instance 01.., the host `a`, at the time 5.
-fn new_list(alloc: Global) -> Result<SnapshotList, Fail> {
-    let who = Who::new(alloc, INSTANCE, "a", 5)?;
+fn new_list(alloc: Global) -> Result<SnapshotList, AllocError> {
+    let who = kept(Who::new(alloc, INSTANCE, "a", 5))?;
     Ok(SnapshotList::new(alloc, who))
 }
 
-/// What a shelf's call gives.
-fn kept<T: Drop>(answer: Result<T, ShelfError>) -> Result<T, Fail> {
+/// What a call gives whose error tells of memory alone here.
+fn kept<T: Drop, E: Drop>(answer: Result<T, E>) -> Result<T, AllocError> {
     match answer {
         Ok(value) => Ok(value),
-        Err(_) => Err(Fail::from(AllocError)),
+        Err(_) => Err(AllocError),
     }
 }
 
 /// A shelf with a config.
-fn new_shelf(alloc: Global) -> Result<MemShelf, Fail> {
+fn new_shelf(alloc: Global) -> Result<MemShelf, AllocError> {
     let mut shelf = MemShelf::new(alloc);
     kept(shelf.save_config(CONFIG.as_bytes()))?;
     Ok(shelf)
 }
 
 /// The text of a snapshot of this time.
-fn text_at(alloc: Global, time: u64) -> Result<Vec<u8>, Fail> {
+fn text_at(alloc: Global, time: u64) -> Result<Vec<u8>, AllocError> {
     let snapshot = Snapshot {
         host: Text::of(String::from_str(alloc, "a")?),
         time,
@@ -52,7 +52,7 @@ fn text_at(alloc: Global, time: u64) -> Result<Vec<u8>, Fail> {
     };
     match snapshot.write(alloc) {
         Ok(text) => Ok(text),
-        Err(_) => Err(Fail::from(AllocError)),
+        Err(_) => Err(AllocError),
     }
 }
 
@@ -74,7 +74,7 @@ fn end_of(list: &SnapshotList) -> Option<End> {
 
 /// The list of a shelf with so many snapshots: whether it has as many rows, each of them the snapshot of its
 /// name, and rising.
-fn lists_all(alloc: Global, count: u64) -> Result<bool, Fail> {
+fn lists_all(alloc: Global, count: u64) -> Result<bool, AllocError> {
     let mut shelf = new_shelf(alloc)?;
     for time in 0..count {
         let text = text_at(alloc, time)?;
@@ -105,7 +105,7 @@ fn said(alloc: Global, bytes: &[u8]) -> Result<Say, AllocError> {
 }
 
 /// Replies' frames, of these numbers.
-fn frames(alloc: Global, says: Vec<(u64, Say)>) -> Result<Vec<u8>, Fail> {
+fn frames(alloc: Global, says: Vec<(u64, Say)>) -> Result<Vec<u8>, AllocError> {
     let mut out = Vec::new(alloc);
     for (sequence, say) in says {
         let reply = Reply {
@@ -114,7 +114,7 @@ fn frames(alloc: Global, says: Vec<(u64, Say)>) -> Result<Vec<u8>, Fail> {
             say,
         };
         if !reply.fits() {
-            return Err(Fail::from(AllocError));
+            return Err(AllocError);
         }
         write_reply(&reply, &mut out)?;
     }
@@ -122,7 +122,7 @@ fn frames(alloc: Global, says: Vec<(u64, Say)>) -> Result<Vec<u8>, Fail> {
 }
 
 /// The end of a list to which a store gives one name, and these bytes as its object.
-fn end_with(alloc: Global, name: Name, bytes: &[u8]) -> Result<Option<End>, Fail> {
+fn end_with(alloc: Global, name: Name, bytes: &[u8]) -> Result<Option<End>, AllocError> {
     let mut names = Vec::new(alloc);
     names.push(name)?;
     let mut says = Vec::new(alloc);
@@ -210,4 +210,36 @@ fn snapshots_that_are_no_good(rt: HostRuntime) -> Result<(), Fail> {
     }
     assert_eq!(rt; end_with(alloc, name_of(text), text)?, None);
     Ok(())
+}
+
+/// Whether a list ends well where a reply that was not taken for want of memory is taken again, or else by the
+/// store's own want of memory.
+fn ends_well(alloc: Global) -> Result<bool, AllocError> {
+    let mut shelf = new_shelf(alloc)?;
+    for time in 0..3 {
+        let text = text_at(alloc, time)?;
+        kept(shelf.put(Kind::Snapshot, &name_of(text.as_slice()), text.as_slice()))?;
+    }
+    let mut list = new_list(alloc)?;
+    let mut out = Vec::new(alloc);
+    for _ in 0..2 {
+        if lockstep(alloc, &mut list, &mut shelf, &mut out).is_ok() {
+            break;
+        }
+    }
+    Ok(match list.outcome() {
+        Some(Outcome::Listed(rows)) => rows.as_slice().len() == 3,
+        Some(Outcome::Ended(end)) => *end == End::Refused(Code::NoMemory),
+        _ => false,
+    })
+}
+
+#[test]
+fn refused_growth(rt: HostRuntime) {
+    // where the store itself can't be made for want of memory it is made again
+    let well = match ends_well(rt.alloc()) {
+        Err(_) => ends_well(rt.alloc()),
+        well => well,
+    };
+    assert_eq!(rt; well, Ok(true));
 }

@@ -46,7 +46,12 @@ impl Job for RestoreJob {
 }
 
 /// A client that restores a snapshot: it gives out the directories and files that the snapshot's tree spells, in
-/// order, a file by pieces.
+/// order, a file by pieces. Its outcome is `Complete` where all was given out.
+///
+/// A blob in no index ends it as `Missing`: a file's blobs are all looked up before anything of the file is given
+/// out, a directory's tree right after the directory. Bytes of another name, of another length than their place's,
+/// or that can't be read end it as `BadObject`; and so do a tree with nodes at a path of 100 components, and a tree
+/// with a file whose blobs haven't its size. A snapshot of a version that isn't known ends it as `Version`.
 #[derive(Drop)]
 pub struct Restore {
     opening: Opening<RestoreJob>,

@@ -1,0 +1,273 @@
+-- What is known from one request of a backup to the next.
+use Rattle.std.proofs.Common.{arith, ◌≡◌, ◌≢◌, ◌<◌, ◌≤◌, ◌+◌, ◌↔◌, ◌++◌, ◌∷◌, [], ℕ, Bool, true, false, cond, List, length, slice_get, Option, Some, None, refl, sym, ap, subst, inl, inr, ◌⊎◌, ◌∙◌, Contains}
+use Rattle.std.proofs.lemmas.List.{append-nil}
+use Rattle.repo_name.specs.declared.kinds.Kind.{Kind}
+use Rattle.repo_name.specs.declared.names.Name.{Name}
+use Rattle.repo_name.specs.declared.rows.LockRow.{LockRow}
+use Rattle.repo_name.specs.declared.tokens.Token.{Token}
+use Rattle.repo_wire.specs.declared.messages.Ask.{Ask}
+use Rattle.repo_wire.specs.declared.messages.Code.{Code}
+use Rattle.repo_wire.specs.declared.messages.Request.{Request}
+use Rattle.repo_wire.specs.declared.messages.Say.{Say}
+use Rattle.repo_index.specs.IndexText.{facts_in, IsIndexText}
+use Rattle.repo_index.specs.Lookups.{HasSame}
+use Rattle.repo_index.specs.declared.facts.Fact.{Fact}
+use Rattle.repo_index.specs.declared.facts.PackFacts.{PackFacts}
+use Rattle.repo_tree.specs.ConfigText.{IsConfigText}
+use Rattle.repo_tree.specs.declared.configs.Config.{Config}
+use Rattle.repo_tree.specs.declared.entries.Entry.{Entry}
+use Rattle.repo_session.specs.Catalogs.{IsCatalog, AreIndexed}
+use Rattle.repo_session.specs.Ends.{IsUnwelcome}
+use Rattle.repo_session.specs.Openings.{IsWork, IsStart, StandsAt, Stands}
+use Rattle.repo_session.specs.Order.{Task, May, opened, IsWorking}
+use Rattle.repo_session.specs.Traces.{Exchange, Trace, Exchanged, object_put, objects_put, ReadFact}
+use Rattle.repo_session.specs.declared.lines.Line.{Line}
+use Rattle.repo_session.specs.declared.outcomes.Outcome.{Outcome}
+use Rattle.repo_backup.specs.BackupStates.{Indexes, AreListed, IsNew, HasBegun, AtWork, KnowsBackup, MayGoOn, GoesOnFrom, PutsPack, PutsIndex}
+use Rattle.repo_backup.specs.Backing.{Put, items_of, Backs}
+use Rattle.repo_backup.specs.Folders.{Folder, entries_of, IsCutBy}
+use Rattle.repo_backup.specs.Plans.{IsLawful, steps_of}
+use Rattle.repo_backup.specs.Rules.{IsMade}
+use Rattle.repo_backup.specs.Stages.{walked, handed_in, IsPlanned, IsBegun, KeepsCounts, StaysReady, BeginsAgain}
+use Rattle.repo_backup.specs.declared.backing.Backing.{Backing}
+use Rattle.repo_backup.specs.declared.stages.Stage.{Stage}
+use Rattle.repo_backup.specs.declared.steps.Step.{Step}
+use Rattle.repo_backup.proofs.Puts.{objects_put_other, is_made_later}
+use Rattle.repo_backup.proofs.Recutting.{recut}
+use Rattle.repo_backup.proofs.Ruling.{begin_backs, pack_done, index_done}
+use Rattle.repo_backup.proofs.Staging.{walked_of}
+
+pub done_live : Say.Done ≢ Say.Refused Code.Dead
+done_live p = absurd (cc)
+
+-- ---- at the start
+
+not_after : (task : Task) (token : Token) (text : List ℕ) (later : Trace) → [] ≡ later ++ opened task token text → ⊥
+not_after task token text [] p = absurd (cc)
+not_after task token text (e ∷ later) p = absurd (cc)
+
+not_working : (task : Task) (token : Token) → IsWorking task token [] → ⊥
+not_working task token w = let o = w.1 in not_after task token o.text o.later o.since
+
+module _ (entries : List Entry) (i : Indexes) (stage : Stage) where
+  pub knows_at_start : (task : Task) (ask : Ask) → IsNew i stage → May task [] ask → KnowsBackup entries i stage ask []
+  knows_at_start task Ask.Ticket f may = f
+  knows_at_start task (Ask.Lock row) f may = f
+  knows_at_start task Ask.Config f may = f
+  knows_at_start task (Ask.List j after) f may = absurd (not_working task may.0.0 may.0.1)
+  knows_at_start task (Ask.Get j n) f may = absurd (not_working task may.0.0 may.0.1)
+  knows_at_start task (Ask.Range pack offset len) f may = absurd (not_working task may.0.0 may.0.1)
+  knows_at_start task (Ask.Put t j n x) f may = absurd (not_working task t may.0)
+  knows_at_start task (Ask.Delete t j n) f may = absurd (not_working task t may.0)
+  knows_at_start task (Ask.Unlock t) f may = tt
+  knows_at_start task (Ask.Refresh t time) f may = tt
+  knows_at_start task Ask.Locks f may = tt
+
+  new_of : (ask : Ask) (es : Trace) → IsStart ask → KnowsBackup entries i stage ask es → IsNew i stage
+  new_of Ask.Ticket es s k = k
+  new_of (Ask.Lock row) es s k = k
+  new_of Ask.Config es s k = k
+  new_of (Ask.List j after) es s k = absurd s
+  new_of (Ask.Get j n) es s k = absurd s
+  new_of (Ask.Range pack offset len) es s k = absurd s
+  new_of (Ask.Put t j n x) es s k = absurd s
+  new_of (Ask.Delete t j n) es s k = absurd s
+  new_of (Ask.Unlock t) es s k = absurd s
+  new_of (Ask.Refresh t time) es s k = absurd s
+  new_of Ask.Locks es s k = absurd s
+
+  -- where the opening went on by itself
+  pub knows_moved : (asked ask : Ask) (es fs : Trace) → ¬ IsWork ask → (IsStart ask → IsStart asked) → KnowsBackup entries i stage asked es → KnowsBackup entries i stage ask fs
+  knows_moved asked Ask.Ticket es fs w s k = new_of asked es (s tt) k
+  knows_moved asked (Ask.Lock row) es fs w s k = new_of asked es (s tt) k
+  knows_moved asked Ask.Config es fs w s k = new_of asked es (s tt) k
+  knows_moved asked (Ask.List j after) es fs w s k = absurd (w tt)
+  knows_moved asked (Ask.Get j n) es fs w s k = absurd (w tt)
+  knows_moved asked (Ask.Range pack offset len) es fs w s k = absurd (w tt)
+  knows_moved asked (Ask.Put t j n x) es fs w s k = absurd (w tt)
+  knows_moved asked (Ask.Delete t j n) es fs w s k = absurd (w tt)
+  knows_moved asked (Ask.Unlock t) es fs w s k = tt
+  knows_moved asked (Ask.Refresh t time) es fs w s k = tt
+  knows_moved asked Ask.Locks es fs w s k = tt
+
+  -- what is pending of the backup's own work is a page, an index or a put
+  pub other_work : (ask : Ask) (es : Trace) → IsWork ask → KnowsBackup entries i stage ask es → ((kind : Kind) (after : Option Name) → ask ≢ Ask.List kind after) → ((kind : Kind) (n : Name) → ask ≢ Ask.Get kind n)
+      → ((token : Token) (kind : Kind) (n : Name) (x : List ℕ) → ask ≢ Ask.Put token kind n x) → ⊥
+  other_work (Ask.List j after) es w k no_page no_get no_put = no_page j after refl
+  other_work (Ask.Get j n) es w k no_page no_get no_put = no_get j n refl
+  other_work (Ask.Range pack offset len) es w k no_page no_get no_put = k
+  other_work (Ask.Put t j n x) es w k no_page no_get no_put = no_put t j n x refl
+  other_work (Ask.Delete t j n) es w k no_page no_get no_put = k
+  other_work Ask.Ticket es w k no_page no_get no_put = w
+  other_work (Ask.Lock row) es w k no_page no_get no_put = w
+  other_work Ask.Config es w k no_page no_get no_put = w
+  other_work (Ask.Unlock t) es w k no_page no_get no_put = w
+  other_work (Ask.Refresh t time) es w k no_page no_get no_put = w
+  other_work Ask.Locks es w k no_page no_get no_put = w
+
+module _ (task : Task) (Allows : Trace → Ask → Type 0) (Gives : Trace → Exchange → Type 0) (Own : Trace → Outcome → Type 0) (lock : Option LockRow) (token : Token) (line : Line) where
+  settled_by : (outcome : Option Outcome) → Stands task Allows Own lock token line None outcome [] → outcome ≢ None
+  settled_by None s p = not_working task token s.working
+  settled_by (Some o) s p = absurd (cc)
+
+  -- where nothing is pending at the start there is an outcome
+  pub settled_at_start : StandsAt task Allows Gives Own lock token line [] → line.next ≡ None → line.outcome ≢ None
+  settled_at_start f none = settled_by line.outcome (subst (λ n. Stands task Allows Own lock token line n line.outcome []) none f.stands)
+
+-- ---- the config
+
+handed_planned : (stage : Stage) (steps : List Step) → IsPlanned stage steps → handed_in stage ≡ walked [] steps
+handed_planned (Stage.Planned own) steps h = ap (λ ss. walked [] ss) h
+handed_planned (Stage.Working b) steps h = absurd h
+
+-- what is handed in is the folder's entries
+pub handed_folder : (stage : Stage) (folder : Folder) → IsPlanned stage (steps_of folder) → handed_in stage ≡ entries_of [] folder
+handed_folder stage folder h = handed_planned stage (steps_of folder) h ∙ walked_of folder
+
+nothing_put : (task : Task) (token : Token) (text : List ℕ) (k : Kind) → objects_put k (opened task token text) ≡ []
+nothing_put task token text k = refl
+
+newest : Trace → Ask
+newest [] = Ask.Ticket
+newest (e ∷ es) = e.ask
+
+-- the reply that opened a job was to the request for the config
+pub config_asked : (task : Task) (token : Token) (text : List ℕ) (e : Exchange) (es : Trace) → e ∷ es ≡ opened task token text → e.ask ≡ Ask.Config
+unfolding newest
+config_asked task token text e es p = ap newest p
+
+-- the work begins
+pub opens : (task : Task) (token : Token) (text : List ℕ) (config : Config) (stage : Stage) (folder : Folder) (b : Backing) (es : Trace) → es ≡ opened task token text → IsConfigText text config → IsLawful folder
+    → IsPlanned stage (steps_of folder) → IsBegun config.params (steps_of folder) b → HasBegun (handed_in stage) b es
+opens task token text config stage folder b es whole reads lawful planned begun =
+    let cut = recut config.params folder reads.allowed.0 lawful in
+    record {
+      folder = cut.0;
+      made = record {
+        text = text;
+        config = config;
+        read = subst (λ fs. Exchanged fs Ask.Config (Say.Bytes text)) (sym whole) (inl (refl, refl));
+        reads = reads;
+        cut = record { holds = cut.4 [] ∙ sym (handed_folder stage folder planned); cut = cut.1 };
+      };
+      lawful = cut.2;
+      params = config.params;
+      cut = cut.1;
+      begun = subst (λ ss. IsBegun config.params ss b) (sym cut.3) begun;
+      none_put = λ k. ap (λ fs. objects_put k fs) whole ∙ nothing_put task token text k;
+    }
+
+-- ---- with nothing put
+
+-- a request that puts nothing
+pub begun_later : (entries : List Entry) (b : Backing) (e : Exchange) (es : Trace) → ((k : Kind) → object_put k e.ask ≡ []) → HasBegun entries b es → HasBegun entries b (e ∷ es)
+begun_later entries b e es none h = record {
+  folder = h.folder;
+  made = is_made_later entries e es h.folder h.made;
+  lawful = h.lawful;
+  params = h.params;
+  cut = h.cut;
+  begun = h.begun;
+  none_put = λ k. objects_put_other k e es (none k) ∙ h.none_put k;
+}
+
+none_waiting : (waiting : List PackFacts) → waiting ≡ [] → length (facts_in waiting) < 20000
+none_waiting waiting h = let n : length (facts_in waiting) ≡ 0 = ap (λ ws. length (facts_in ws)) h in omega (arith, n)
+
+-- where every index was read, the work may go on
+pub begun_goes : (entries : List Entry) (facts : List Fact) (b : Backing) (es : Trace) → HasBegun entries b es → AreIndexed es → ((fact : Fact) → Contains facts fact ↔ ReadFact es fact) → MayGoOn entries facts false b es
+begun_goes entries facts b es h indexed gives = record {
+  folder = h.folder;
+  puts = [];
+  backs = subst (λ ws. Backs entries facts ws b.blobs b.bytes h.folder [] [] es) (sym h.begun.none_waits)
+      (begin_backs entries facts b.blobs b.bytes h.folder es h.made indexed gives h.none_put h.begun.no_blobs h.begun.no_bytes);
+  work = ([], h.begun.work facts h.folder h.lawful h.cut refl);
+  room = none_waiting b.waiting h.begun.none_waits;
+}
+
+-- the work is begun anew
+pub begun_again : (entries : List Entry) (known : List Fact) (b d : Backing) (es : Trace) → BeginsAgain known b d → HasBegun entries b es → HasBegun entries d es
+begun_again entries known b d es a h =
+    let work = h.begun.work known h.folder h.lawful h.cut refl in
+    let m = a.stays.stays h.folder [] [] work in
+    let steps : a.middle.work.walk.steps.items ≡ steps_of h.folder = a.stays.counts.steps ∙ h.begun.steps_are in
+    record {
+      folder = h.folder;
+      made = h.made;
+      lawful = h.lawful;
+      params = a.middle.work.walk.params;
+      cut = m.0.1.walkable.cut;
+      begun = subst (λ ss. IsBegun a.middle.work.walk.params ss d) steps a.begun;
+      none_put = h.none_put;
+    }
+
+-- the same facts
+pub catalog_same : (kind : Kind) (names : List Name) (read : ℕ) (facts facts' : List Fact) (whole : Bool) (es : Trace) → HasSame facts facts' → IsCatalog kind names read facts whole es → IsCatalog kind names read facts' whole es
+catalog_same kind names read facts facts' whole es same h = record {
+  of_indexes = h.of_indexes;
+  rolled = h.rolled;
+  indexes = h.indexes;
+  gives = λ fact. (λ has. (h.gives fact).0 ((same fact).0 has), λ is. (same fact).1 ((h.gives fact).1 is));
+}
+
+-- ---- puts
+
+-- the put of a pack is done
+pub pack_goes : (entries : List Entry) (facts : List Fact) (b : Backing) (token : Token) (n : Name) (x : List ℕ) (e : Exchange) (es : Trace) (h : PutsPack entries facts b n x es) → e.ask ≡ Ask.Put token Kind.Pack n x → e.say ≡ Say.Done
+    → Backs entries facts b.waiting b.blobs b.bytes h.folder (h.puts ++ h.put ∷ []) [] (e ∷ es)
+pack_goes entries facts b token n x e es h q s =
+    let same = sym h.pack_is in
+    let ask : e.ask ≡ Ask.Put token Kind.Pack h.put.pack.name h.put.pack.bytes = q ∙ ap (λ o. Ask.Put token Kind.Pack o.name o.bytes) same in
+    pack_done entries facts b.waiting b.blobs b.bytes h.folder h.puts h.put token e es h.backs ask s
+
+-- and the work may go on where fewer than 20,000 facts wait
+pub pack_room : (entries : List Entry) (facts : List Fact) (b : Backing) (token : Token) (n : Name) (x : List ℕ) (e : Exchange) (es : Trace) → PutsPack entries facts b n x es → e.ask ≡ Ask.Put token Kind.Pack n x → e.say ≡ Say.Done
+    → length (facts_in b.waiting) < 20000 → MayGoOn entries facts false b (e ∷ es)
+pack_room entries facts b token n x e es h q s room = record { folder = h.folder; puts = h.puts ++ h.put ∷ []; backs = pack_goes entries facts b token n x e es h q s; work = h.work; room = room }
+
+-- the put of an index is done
+pub index_room : (entries : List Entry) (facts : List Fact) (b : Backing) (token : Token) (n : Name) (x : List ℕ) (e : Exchange) (es : Trace) → PutsIndex entries facts b x es → e.ask ≡ Ask.Put token Kind.Index n x → e.say ≡ Say.Done
+    → MayGoOn entries facts true b (e ∷ es)
+index_room entries facts b token n x e es h q s = record {
+  folder = h.folder;
+  puts = h.puts;
+  backs = index_done entries facts b.waiting b.blobs b.bytes h.folder h.puts token n x e es h.backs h.reads q s;
+  work = h.work;
+  room = omega arith;
+}
+
+-- some of the work was done, and nothing was sent
+pub pack_stays : (entries : List Entry) (facts : List Fact) (b c : Backing) (n : Name) (x : List ℕ) (es : Trace) → StaysReady facts b c → PutsPack entries facts b n x es → PutsPack entries facts c n x es
+pack_stays entries facts b c n x es s h =
+    let m = s.stays h.folder (items_of (h.puts ++ h.put ∷ [])) h.work.0 h.work.1 in
+    record {
+      folder = h.folder;
+      puts = h.puts;
+      put = h.put;
+      backs = subst (λ ws. Backs entries facts ws c.blobs c.bytes h.folder h.puts (h.put ∷ []) es) (sym m.1)
+          (subst (λ k. Backs entries facts b.waiting c.blobs k h.folder h.puts (h.put ∷ []) es) (sym s.counts.bytes) (subst (λ k. Backs entries facts b.waiting k b.bytes h.folder h.puts (h.put ∷ []) es) (sym s.counts.blobs) h.backs));
+      pack_is = h.pack_is;
+      work = m.0;
+      few = subst (λ ws. length (facts_in ws) ≤ 24095) (sym m.1) h.few;
+    }
+
+pub index_stays : (entries : List Entry) (facts : List Fact) (b c : Backing) (x : List ℕ) (es : Trace) → StaysReady facts b c → PutsIndex entries facts b x es → PutsIndex entries facts c x es
+index_stays entries facts b c x es s h =
+    let m = s.stays h.folder (items_of h.puts) h.work.0 h.work.1 in
+    let R : List PackFacts → Type 0 = λ ws. Backs entries facts ws c.blobs c.bytes h.folder h.puts [] es in
+    record {
+      folder = h.folder;
+      puts = h.puts;
+      backs = subst R (sym m.1) (subst (λ k. Backs entries facts b.waiting c.blobs k h.folder h.puts [] es) (sym s.counts.bytes) (subst (λ k. Backs entries facts b.waiting k b.bytes h.folder h.puts [] es) (sym s.counts.blobs) h.backs));
+      reads = subst (λ ws. IsIndexText x ws) (sym m.1) h.reads;
+      work = m.0;
+    }
+
+-- a reply to a put that isn't done
+pub unwelcome_put : (token : Token) (k : Kind) (n : Name) (x : List ℕ) (say : Say) → say ≢ Say.Done → IsUnwelcome (Ask.Put token k n x) say
+unwelcome_put token k n x (Say.Token t) h = λ y. y
+unwelcome_put token k n x Say.Done h = absurd (h refl)
+unwelcome_put token k n x (Say.Names more names) h = λ y. y
+unwelcome_put token k n x (Say.Bytes y) h = λ z. z
+unwelcome_put token k n x (Say.LockList rows) h = λ y. y
+unwelcome_put token k n x (Say.Refused code) h = tt

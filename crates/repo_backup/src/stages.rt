@@ -1,0 +1,143 @@
+//! How far a backup is: its steps are planned, or the work goes on over them.
+
+ghost use Rattle.std.specs.Prelude.{◌≡◌, ◌≤◌, ◌-◌, ◌^◌, ◌↔◌, List, length, min, Some, IsTrue, IfOk, OnErr};
+ghost use Rattle.std.specs.List.{sum_by};
+ghost use Rattle.repo_pack.specs.declared.writers.Sealed.{Sealed};
+ghost use Rattle.repo_index.specs.IndexText.{facts_in};
+ghost use Rattle.repo_backup.specs.Stages.{handed_in, IsPlanned, IsBegun, GoesReady, StaysReady, TakesPack};
+ghost use Rattle.repo_backup.specs.declared.backing.Backing.{Backing};
+ghost use Rattle.repo_backup.specs.declared.steps.Step.{Step};
+ghost use Rattle.repo_backup.specs.declared.stages.Stage.{Stage};
+
+use crate::backing::{Backing, Next};
+use crate::steps::Step;
+use crate::targets::Target;
+use crate::works::Work;
+use repo_index::{Lookup, PackFacts};
+use repo_pack::{Place, Sealed};
+use repo_session::Job;
+use repo_tree::Config;
+use std::alloc::{AllocError, Global};
+use std::mem;
+
+/// How far a backup is. Its steps stay the same throughout.
+#[derive(Drop)]
+pub enum Stage {
+    /// The config isn't known yet; these steps are to be walked.
+    Planned(Vec<Step>),
+    /// The work over the steps goes on.
+    Working(Backing),
+}
+
+/// Whether these packs have 20,000 facts or more.
+fn is_many(packs: &[PackFacts]) -> bool
+    ensures { IsTrue result ↔ (20_000 ≤ length (facts_in packs.now)) }
+{
+    let mut count: usize = 0;
+    for pack in packs {
+        count = count.saturating_add(pack.facts.as_slice().len());
+    }
+    count >= 20_000
+}
+
+/// How many bytes lie at these places: the greatest number, where there are more.
+fn bytes_at(places: &[Place]) -> u64
+    ensures { result ≡ min (sum_by (λ place. place.length) places.now) (2 ^ 64 - 1) }
+{
+    let mut bytes: u64 = 0;
+    for place in places {
+        bytes = bytes.saturating_add(u64::from(place.length));
+    }
+    bytes
+}
+
+impl Job for Stage {
+    ghost use Rattle.repo_backup.specs.Rules.{Allows, GivesNothing, Ends};
+    ghost use Rattle.repo_backup.specs.Stages.{handed_in};
+
+    ghost allows = { λ j es ask. Allows (handed_in j) es ask };
+
+    ghost gives = { λ j es e. GivesNothing (handed_in j) es e };
+
+    ghost concludes = { λ j es o. Ends (handed_in j) es o };
+}
+
+impl Stage {
+    /// Begins the work over the planned steps, by a config. It takes no memory.
+    pub fn begin(&mut self, alloc: Global, config: Config)
+        ensures begun { (steps : List Step) → IsPlanned self.old steps → (b : Backing) × (self.new ≡ Stage.Working b) × IsBegun config.params steps b }
+        ensures handed { handed_in self.new ≡ handed_in self.old }
+    {
+        let Stage::Planned(steps) = self else {
+            return;
+        };
+        let steps = mem::replace(steps, Vec::new(alloc));
+        let target = Target::of(config.target.clamp(1_024, 16_777_216) as u32);
+        let work = Work::new(alloc, config.params, target, steps);
+        *self = Stage::Working(Backing::new(alloc, work));
+    }
+
+    /// Begins the work anew, over the same steps. It takes no memory.
+    pub fn begin_again(&mut self, alloc: Global)
+        ensures begun { (b : Backing) → self.old ≡ Stage.Working b → (c : Backing) × (self.new ≡ Stage.Working c) × IsBegun b.work.walk.params b.work.walk.steps.items c }
+        ensures handed { handed_in self.new ≡ handed_in self.old }
+    {
+        let Stage::Working(backing) = self else {
+            return;
+        };
+        let params = backing.work.walk.params;
+        let target = backing.work.packing.target;
+        let steps = mem::replace(&mut backing.work.walk.steps, Vec::new(alloc));
+        let work = Work::new(alloc, params, target, steps);
+        *self = Stage::Working(Backing::new(alloc, work));
+    }
+
+    /// Goes on until it is known what is to be sent next: see `Backing::ready`.
+    pub fn ready(&mut self, lookup: &Lookup, anew: bool) -> Result<Next, AllocError>
+        ensures ok { IfOk result (λ next. (b : Backing) → self.old ≡ Stage.Working b → (c : Backing) × (self.new ≡ Stage.Working c) × GoesReady lookup.now anew b next c) }
+        ensures err { OnErr result ((b : Backing) → self.old ≡ Stage.Working b → (c : Backing) × (self.new ≡ Stage.Working c) × StaysReady lookup.now b c) }
+        ensures handed { handed_in self.new ≡ handed_in self.old }
+    {
+        match self {
+            Stage::Planned(_) => Ok(Next::Nothing),
+            Stage::Working(backing) => backing.ready(lookup, anew),
+        }
+    }
+
+    /// Whether 20,000 facts or more wait to be indexed.
+    pub fn is_full(&self) -> bool
+        ensures { (b : Backing) → self.now ≡ Stage.Working b → IsTrue result ↔ (20_000 ≤ length (facts_in b.waiting)) }
+    {
+        match self {
+            Stage::Planned(_) => false,
+            Stage::Working(backing) => is_many(backing.waiting.packs()),
+        }
+    }
+
+    /// Takes the sealed pack out, to be sent: its blobs and their bytes are counted.
+    pub fn take_pack(&mut self) -> Option<Sealed>
+        ensures taken { (b : Backing) (sealed : Sealed) → self.old ≡ Stage.Working b → b.work.packing.sealed ≡ Some sealed → (result ≡ Some sealed) × ((c : Backing) × (self.new ≡ Stage.Working c) × TakesPack sealed b c) }
+        ensures handed { handed_in self.new ≡ handed_in self.old }
+    {
+        let Stage::Working(backing) = self else {
+            return None;
+        };
+        let Some(sealed) = backing.work.packing.sealed.take() else {
+            return None;
+        };
+        let places = sealed.places.as_slice();
+        backing.blobs = backing.blobs.saturating_add(places.len() as u64);
+        backing.bytes = backing.bytes.saturating_add(bytes_at(places));
+        Some(sealed)
+    }
+
+    /// How many blobs were counted, and how many bytes.
+    pub fn counts(&self) -> (u64, u64)
+        ensures { (b : Backing) → self.now ≡ Stage.Working b → (result.0 ≡ b.blobs) × (result.1 ≡ b.bytes) }
+    {
+        match self {
+            Stage::Planned(_) => (0, 0),
+            Stage::Working(backing) => (backing.blobs, backing.bytes),
+        }
+    }
+}
