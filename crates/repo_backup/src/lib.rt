@@ -1,17 +1,20 @@
-//! The parts of a backup: what it makes of the entries handed in, between two replies of a store.
+//! Backup of entries into a store.
 //!
-//! The entries are checked, and laid out as the steps of a walk through their folder. The walk cuts files into chunks
-//! and makes the trees of directories; each of these blobs is added to a pack, unless an index gives it or it was
-//! added before. Once a pack is due, or all is made, it is known what is to be sent next.
+//! A [`Backup`] is a client of repo_session. The entries handed in are checked, and laid out as the steps of a walk
+//! through their folder. Once the store's indexes were read, the walk cuts files into chunks and makes the trees of
+//! directories; each of these blobs is added to a pack, unless an index gives it or it was added before. Packs are put
+//! as they are due, an index whenever 20,000 blobs or more wait for one and at the end, and the snapshot last.
 //!
-//! Promised: entries are refused for the first fault of the first one that has one; each blob added is one of the
-//! folder's, once; where all is made, each of the folder's blobs is known or was sent, and the root's tree has the name
-//! told. Not promised: anything of a store. The client that sends what these parts make isn't here yet.
+//! Promised: entries are refused for the first fault of the first one that has one; each pack, index and snapshot that
+//! is put is one that the rule of a backup allows after the exchanges before it, whoever answers; `Stored` comes only
+//! once the snapshot's put is done, with the counts of what was put. Not promised: that a store answers, or that a
+//! backup ends well.
 //!
 //! The definitions stand in `specs/`: `Handed` (which entries may be handed in), `Folders` (a folder, its entries, nodes
-//! and blobs), `Plans` and `Walking` (its steps), `Chunks`, `Blobs`, `Packings` and `Listed` (the packs), `Works` and
-//! `Advancing` (where the work stands), `Readying` (what is sent next), `Rules` (what a backup may put, and how it may
-//! end), `Backing` (what it knows of its trace).
+//! and blobs), `Rules` (what a backup may put, and how it may end); and what is known on the way: `Plans` and `Walking`
+//! (a folder's steps), `Chunks`, `Blobs`, `Packings` and `Listed` (the packs), `Works` and `Advancing` (where the work
+//! stands), `Readying` (what is sent next), `Backing` (what is known of the trace), `Stages`, `BackupStates`, `Backups`
+//! and `BackupObedience` (where the client stands).
 #![tactic(auto)]
 
 mod added;
