@@ -19,6 +19,8 @@
 
 mod added;
 mod backing;
+#[cfg(test)]
+mod backup_tests;
 mod backups;
 mod checks;
 mod chunks;
