@@ -53,7 +53,6 @@ enum Stepped {
 pub struct Work {
     pub walk: Walk,
     pub packing: Packing,
-    target: Target,
     alloc: Global,
 }
 
@@ -74,7 +73,6 @@ impl Work {
                 file: None,
             },
             packing: Packing::new(alloc, target),
-            target,
             alloc,
         }
     }
@@ -89,7 +87,7 @@ impl Work {
         if self.packing.sealed.is_some() {
             return Ok(Progress::Pack);
         }
-        while !self.is_due() {
+        while !self.packing.writer.is_due() {
             match self.step(lookup)? {
                 Stepped::On => {}
                 Stepped::Made(root) => return self.end(root),
@@ -98,22 +96,6 @@ impl Work {
         }
         self.packing.seal()?;
         Ok(Progress::Pack)
-    }
-
-    /// Whether the pack that is being written is to be sealed. One with no blob is begun again, and isn't.
-    fn is_due(&mut self) -> bool
-        ensures due { OnTrue result (1 ≤ length self.new.packing.writer.items) }
-        ensures room { OnFalse result (IsOpen self.new.packing.writer) }
-        ensures items { self.new.packing.writer.items ≡ self.old.packing.writer.items }
-        ensures sealed { self.new.packing.sealed ≡ self.old.packing.sealed }
-        ensures added { self.new.packing.added ≡ self.old.packing.added }
-        ensures walk { self.new.walk ≡ self.old.walk }
-    {
-        if self.packing.writer.is_empty() {
-            self.packing.writer = self.target.writer(self.alloc);
-            return false;
-        }
-        self.packing.writer.is_due()
     }
 
     /// Seals the last pack, where it has a blob. It fails for memory alone, and then nothing changed.

@@ -130,9 +130,11 @@ impl PackWriter {
         self.rows.is_empty()
     }
 
-    /// Whether the blobs' bytes reach the target, or there are 4,096 blobs. Then it takes no more.
+    /// Whether the blobs' bytes reach the target, or there are 4,096 blobs. Then it takes no more, and there is a
+    /// blob.
     pub fn is_due(&self) -> bool
-        ensures { IsTrue result ↔ IsDue self.now }
+        ensures due { IsTrue result ↔ IsDue self.now }
+        ensures some { IsTrue result → 1 ≤ length self.now.items }
     {
         self.blobs.len() >= self.target as usize || self.rows.len() >= COUNT_LIMIT
     }
