@@ -8,3 +8,11 @@ pub mod Rolling
 pub mod Receiving
 pub mod Cataloguing
 pub mod Counting
+pub mod Growing
+pub mod Wholeness
+pub mod Calm
+pub mod Causes
+pub mod Containing
+pub mod Concluding
+pub mod Enumerating
+pub mod Unchanging

@@ -231,7 +231,7 @@ module _ (task : Task) (Allows : Trace → Ask → Type 0) (Gives : Trace → Ex
     },
   )
 
-  holds_of : (es : Trace) → IsWorking task token es → Holds task token es
+  pub holds_of : (es : Trace) → IsWorking task token es → Holds task token es
   holds_of es w =
       let e : Exchange = record { ask = Ask.Config; say = Say.Bytes w.1.text; emitted = [] } in
       record {

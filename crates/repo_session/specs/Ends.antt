@@ -13,14 +13,12 @@ use Rattle.repo_index.specs.declared.facts.Fact.{Fact}
 use Rattle.repo_index.specs.declared.facts.PackFacts.{PackFacts}
 use Rattle.repo_index.specs.IndexText.{IsIndexText}
 use Rattle.repo_tree.specs.declared.faults.TextError.{TextError}
-use Rattle.repo_tree.specs.declared.nodes.Node.{Node}
 use Rattle.repo_tree.specs.ConfigText.{ConfigFault}
 use Rattle.repo_tree.specs.SnapshotText.{SnapshotFault}
-use Rattle.repo_tree.specs.TreeText.{IsTreeText}
 use Rattle.repo_store.specs.Pages.{Ascends}
 use Rattle.repo_session.specs.declared.outcomes.End.{End}
 use Rattle.repo_session.specs.declared.outcomes.Outcome.{Outcome}
-use Rattle.repo_session.specs.Traces.{Trace, ReadFact, IsGiven, IsAllRead}
+use Rattle.repo_session.specs.Traces.{Trace, ReadFact}
 
 -- what an object of a kind is called
 abbrev pub thing_of : Kind → Thing
@@ -43,10 +41,6 @@ AsksFor (Ask.Get k n) thing name = (thing ≡ thing_of k) × (name ≡ n)
 AsksFor (Ask.Range pack offset len) thing name = (thing ≡ Thing.Pack) × (name ≡ pack)
 AsksFor _ thing name = ⊥
 
--- every index was read, and none gives the blob
-abbrev pub IsUnindexed : Trace → Thing → Name → Type 0
-IsUnindexed es thing name = (k : BlobKind) × (thing ≡ blob_thing k) × IsAllRead Kind.Index es × ¬ IsGiven es k name
-
 -- a refusal that has no end of its own
 abbrev pub IsPlainRefusal : Ask → Code → Type 0
 IsPlainRefusal (Ask.Lock row) code = (code ≢ Code.Dead) × (code ≢ Code.Busy)
@@ -60,14 +54,9 @@ IsUnreadable Kind.Pack x = ⊥
 IsUnreadable Kind.Index x = (packs : List PackFacts) → ¬ IsIndexText x packs
 IsUnreadable Kind.Snapshot x = (fault : TextError) × SnapshotFault x fault × (fault ≢ TextError.Version) × (fault ≢ TextError.Memory)
 
--- the blob's bytes can't be read as one of its kind
-abbrev pub IsUnreadableBlob : BlobKind → List ℕ → Type 0
-IsUnreadableBlob BlobKind.Content x = ⊥
-IsUnreadableBlob BlobKind.Tree x = (nodes : List Node) → ¬ IsTreeText x nodes
-
 -- the bytes aren't those of the blob that an index promised there
 abbrev pub IsBadBlob : Fact → List ℕ → Type 0
-IsBadBlob fact x = (length x ≢ fact.place.length) ⊎ ((naming.name x ≢ fact.name) ⊎ IsUnreadableBlob fact.kind x)
+IsBadBlob fact x = (length x ≢ fact.place.length) ⊎ (naming.name x ≢ fact.name)
 
 -- what was asked for came, and is bad
 abbrev pub IsBad : Trace → Ask → Say → Thing → Name → Type 0
@@ -121,7 +110,7 @@ IsOfOtherVersion _ _ = ⊥
 abbrev pub CausedBy : Trace → Ask → Say → End → Type 0
 CausedBy es ask say End.Busy = (row : LockRow) × (ask ≡ Ask.Lock row) × (say ≡ Say.Refused Code.Busy)
 CausedBy es ask say End.Fenced = say ≡ Say.Refused Code.Dead
-CausedBy es ask say (End.Missing thing name) = (AsksFor ask thing name × (say ≡ Say.Refused Code.Missing)) ⊎ IsUnindexed es thing name
+CausedBy es ask say (End.Missing thing name) = AsksFor ask thing name × (say ≡ Say.Refused Code.Missing)
 CausedBy es ask say (End.Refused code) = (say ≡ Say.Refused code) × IsPlainRefusal ask code
 CausedBy es ask say (End.BadObject thing name) = IsBad es ask say thing name
 CausedBy es ask say End.BadReply = IsSenseless ask say

@@ -7,6 +7,7 @@ pub mod Clients
 pub mod Rebuilding
 pub mod Soundness
 pub mod Talks
+pub mod Alone
 pub mod Connections
 pub mod Laws
 pub mod Example
@@ -16,3 +17,4 @@ pub mod Rolls
 pub mod Catalogs
 pub mod Obedience
 pub mod Listings
+pub mod Results

@@ -1,6 +1,6 @@
 //! A client's end of a connection.
 
-ghost use Rattle.std.specs.Prelude.{◌≡◌, ◌<◌, ◌+◌, ◌^◌, ◌++◌, ◌↔◌, [], ℕ, List, length, IfOk, IsTrue, vec_len};
+ghost use Rattle.std.specs.Prelude.{◌≡◌, ◌<◌, ◌+◌, ◌^◌, ◌++◌, ◌↔◌, [], ℕ, List, length, IfOk, IsTrue};
 ghost use Rattle.std.specs.Io.KnownBytes.{Consumes};
 ghost use Rattle.repo_wire.specs.declared.messages.Reply.{Reply};
 ghost use Rattle.repo_wire.specs.Messages.{requests};
@@ -11,21 +11,11 @@ ghost use Rattle.repo_session.specs.Connections.{Heard, ReadsOn, HearsNext, AreP
 use crate::driving::DriveError;
 use repo_store::write_whole;
 use repo_wire::{FrameReader, Reply, Request, write_request};
-use std::alloc::{AllocError, Global};
+use std::alloc::Global;
 use std::io::{Read, Write};
 
 /// The most reads that are made.
 const READS: u64 = 1 << 48;
-
-/// How many bytes are read at once, at most.
-const PIECE: usize = 65_536;
-
-/// Room for a piece of what is read.
-pub fn room(alloc: Global) -> Result<Vec<u8>, AllocError>
-    ensures { IfOk result (λ room. vec_len room ≡ 65536) }
-{
-    vec![in alloc; 0u8; PIECE]
-}
 
 /// Whether the reply is to the request.
 pub fn answers(request: &Request, reply: &Reply) -> bool

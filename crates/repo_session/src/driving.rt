@@ -7,9 +7,9 @@ ghost use Rattle.repo_wire.specs.Stream.{FitsFrame};
 ghost use Rattle.repo_session.specs.Talks.{Said, AskGives, Drives};
 
 use crate::clients::Client;
-use crate::connections::{Connection, room};
+use crate::connections::Connection;
 use crate::emissions::Emission;
-use repo_store::Unwritten;
+use repo_store::{Unwritten, room};
 use repo_wire::{Reply, Request, WireError};
 use std::alloc::{AllocError, Global};
 use std::io::{Read, Write};
@@ -104,8 +104,9 @@ pub fn drive<C: Client, R: Read, W: Write, F: FnMut(&Emission) -> bool>(
     mut sink: F,
 ) -> Result<u64, DriveError>
     requires { F.IsAlwaysCallable sink }
-    ensures { (said : Said) × Consumes (R.remaining reader.old) (R.remaining reader.new) said.bytes
+    ensures carries { (said : Said) × Consumes (R.remaining reader.old) (R.remaining reader.new) said.bytes
         × Drives C.fits C.next client.old result client.new said (W.contents writer.old) (W.contents writer.new) }
+    ensures job { C.job client.new ≡ C.job client.old }
 {
     let mut piece = room(alloc)?;
     let mut connection = Connection::new(alloc);

@@ -3,7 +3,7 @@
 //! A [`Client`] is one job of one client: it shows the request that is pending and takes the reply to it,
 //! until it has an outcome and nothing is pending. [`drive`] carries its requests over a connection,
 //! [`lockstep`] to a shelf directly, and [`ask`] carries one request. A [`Who`] is the client's name for
-//! itself, an [`Outcome`] how the job ended, an [`Emission`] a part of what a restore gives out. An
+//! itself, an [`Outcome`] how the job ended ([`result_text`] puts it into words), an [`Emission`] a part of what a restore gives out. An
 //! [`Opening`] is the start and the end that all jobs share, a [`Roll`] the objects of one kind, page by page, a
 //! [`Catalog`] the indexes and what they give.
 //!
@@ -15,7 +15,7 @@
 //! The definitions stand in `specs/`: `Traces` (exchanges, and what they listed and read), `Order` (what may
 //! be sent after which exchanges, whatever the job), `Ends` (what each end comes from), `Clients` (what a
 //! client owes), `Openings`, `Rolls` and `Catalogs` (what the builders know of the trace), `Talks` (what the drivers
-//! do), `Rebuilding` (the entries that emissions give), `Soundness`
+//! do), `Results` (the words for outcomes), `Rebuilding` (the entries that emissions give), `Soundness`
 //! (the blobs that a store holds, and when it is sound).
 #![tactic(auto)]
 
@@ -36,6 +36,9 @@ mod listings;
 mod opening_tests;
 mod openings;
 mod outcomes;
+#[cfg(test)]
+mod result_tests;
+mod results;
 mod rolls;
 mod stepping;
 #[cfg(test)]
@@ -50,6 +53,7 @@ pub use laws::order_can_be_met;
 pub use letters::Letter;
 pub use openings::{Heard, Job, Opening};
 pub use outcomes::{End, Outcome, Snapshots};
+pub use results::result_text;
 pub use rolls::{Got, Paged, Roll};
 pub use stepping::{StepError, lockstep};
 pub use who::{Who, WhoError};

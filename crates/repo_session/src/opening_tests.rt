@@ -1,11 +1,13 @@
 //! The opening and the roll, over stored replies.
 
+use crate::catalogs::{Brought, Catalog, Indexed};
 use crate::openings::{Heard, Job, Opening};
 use crate::outcomes::{End, Outcome};
 use crate::rolls::{Got, Paged, Roll};
 use crate::who::Who;
-use repo_name::{Bytes, Instance, Kind, Name, Names, Token, name_of};
-use repo_wire::{Code, Reply, Say};
+use repo_name::{BlobKind, Bytes, Instance, Kind, Name, Names, Thing, Token, name_of};
+use repo_pack::Place;
+use repo_wire::{Ask, Code, Reply, Say};
 use std::alloc::{AllocError, Global};
 use std::test::Fail;
 
@@ -132,5 +134,130 @@ fn replies_that_end_a_job(rt: HostRuntime) -> Result<(), Fail> {
         assert_eq!(rt; end_of_job(&opening), Some(end));
         assert_eq!(rt; opening.pending().is_none(), end == End::Fenced);
     }
+    Ok(())
+}
+
+/// The index of one content blob, `abc`, at the front of a pack that is named as no bytes are.
+const INDEX: &str =
+    r#"{"packs":[{"blobs":[{"id":"ba7816bf8f01cfea414140de5dae2223b00361a396177a9cb410ff61f20015ad","length":3,"offset":0,"type":"data"}],"id":"e3b0c44298fc1c149afbf4c8996fb92427ae41e4649b934ca495991b7852b855"}],"supersedes":[]}"#;
+
+/// A text, as a store says it of an object.
+fn text_said(alloc: Global, text: &str) -> Result<Say, AllocError> {
+    Ok(Say::Bytes(Bytes::of(Vec::from_slice(alloc, text.as_bytes())?)))
+}
+
+/// A catalog of one index, whose name is that of this text, and which is asked for.
+fn one_asked(
+    alloc: Global,
+    opening: &mut Opening<Idle>,
+    text: &str,
+) -> Result<Catalog, AllocError> {
+    let mut catalog = Catalog::new(alloc);
+    catalog.roll.ask_page(opening);
+    let last = page(alloc, false, &[name_of(text.as_bytes())])?;
+    catalog.roll.take_page(&last, opening)?;
+    catalog.ask_index(opening);
+    Ok(catalog)
+}
+
+/// What is pending.
+fn asked(opening: &Opening<Idle>) -> Option<&Ask> {
+    opening.pending().map(|request| &request.ask)
+}
+
+#[test]
+fn an_index_is_asked_for_and_read(rt: HostRuntime) -> Result<(), Fail> {
+    let alloc = rt.alloc();
+    let mut opening = opened(alloc)?;
+    let mut catalog = one_asked(alloc, &mut opening, INDEX)?;
+    let wanted = Ask::Get {
+        kind: Kind::Index,
+        name: name_of(INDEX.as_bytes()),
+    };
+    assert_eq!(rt; asked(&opening), Some(&wanted));
+
+    let said = text_said(alloc, INDEX)?;
+    let (abc, pack) = (name_of(b"abc"), name_of(b""));
+    let place = Place {
+        pack,
+        offset: 0,
+        length: 3,
+    };
+    match catalog.bring_index(&said)? {
+        Brought::New(facts) => {
+            assert_eq!(rt; catalog.lookup.find(BlobKind::Content, &abc), Some(place));
+            catalog.lookup.take_back(facts.as_slice());
+        }
+        _ => assert!(rt; false, "the index was not brought"),
+    }
+    assert_eq!(rt; catalog.lookup.find(BlobKind::Content, &abc), None);
+    assert_eq!(rt; asked(&opening), Some(&wanted));
+
+    assert_eq!(rt; catalog.take_index(&said, &mut opening)?, Indexed::All);
+    assert_eq!(rt; catalog.lookup.find(BlobKind::Content, &abc), Some(place));
+    assert!(rt; opening.is_idle());
+    assert!(rt; !catalog.ask_index(&mut opening));
+    assert!(rt; opening.is_idle());
+    Ok(())
+}
+
+#[test]
+fn indexes_that_end_a_job(rt: HostRuntime) -> Result<(), Fail> {
+    let alloc = rt.alloc();
+    let named = name_of(INDEX.as_bytes());
+    for (text, said, brought, end) in [
+        (
+            INDEX,
+            text_said(alloc, "{}")?,
+            Some(named),
+            End::BadObject(Thing::Index, named),
+        ),
+        (
+            "{}",
+            text_said(alloc, "{}")?,
+            Some(name_of(b"{}")),
+            End::BadObject(Thing::Index, name_of(b"{}")),
+        ),
+        (INDEX, Say::Done, None, End::BadReply),
+        (
+            INDEX,
+            Say::Refused(Code::Missing),
+            None,
+            End::Missing(Thing::Index, named),
+        ),
+        (INDEX, Say::Refused(Code::Dead), None, End::Fenced),
+    ] {
+        let mut opening = opened(alloc)?;
+        let mut catalog = one_asked(alloc, &mut opening, text)?;
+        match catalog.bring_index(&said)? {
+            Brought::Bad(name) => assert_eq!(rt; brought, Some(name)),
+            Brought::Unwelcome => assert_eq!(rt; brought, None),
+            Brought::New(_) => assert!(rt; false, "the index was brought"),
+        }
+        assert_eq!(rt; catalog.take_index(&said, &mut opening)?, Indexed::Ended);
+        assert_eq!(rt; end_of_job(&opening), Some(end));
+        assert_eq!(rt; opening.pending().is_none(), end == End::Fenced);
+    }
+    Ok(())
+}
+
+#[test]
+fn bytes_that_are_rejected(rt: HostRuntime) -> Result<(), Fail> {
+    let alloc = rt.alloc();
+    let mut opening = opened(alloc)?;
+    let abc = name_of(b"abc");
+    opening.ask(Ask::Range {
+        pack: abc,
+        offset: 0,
+        length: 3,
+    });
+    opening.reject(Thing::Content, abc);
+    assert_eq!(rt;
+        end_of_job(&opening),
+        Some(End::BadObject(Thing::Content, abc))
+    );
+    assert_eq!(rt; asked(&opening), Some(&Ask::Unlock(Token(1))));
+    assert_eq!(rt; opening.hear(&reply(5, Say::Done))?, Heard::Taken);
+    assert!(rt; opening.pending().is_none());
     Ok(())
 }

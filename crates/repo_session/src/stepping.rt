@@ -61,6 +61,7 @@ pub fn lockstep<C: Client, S: Shelf>(
         × Steps C.fits C.next client.old result client.new talk (S.store shelf.old) (S.failed shelf.old) (S.store shelf.new) (S.failed shelf.new) out.old.items out.new.items }
     ensures went { (talk : Talk) × Went C.fits client.old talk client.new }
     ensures honest { S.honest shelf.old → S.honest shelf.new }
+    ensures job { C.job client.new ≡ C.job client.old }
 {
     for turn in 0..REQUESTS {
         let reply = match client.pending() {

@@ -6,8 +6,8 @@ use Rattle.repo_session.proofs.Connecting.{begins, consumed}
 use Rattle.repo_session.proofs.Talking.{silent, written_on, whole_of, whole_part, part_next, passed_none, heard_all, unanswered, went_nowhere, went_on, went_same}
 use Rattle.repo_session.proofs.driving.drive.Goals as goal
 
-pub returns-in_err-piece : goal.returns-in_err-piece
-returns-in_err-piece g c =
+pub returns-in_err-piece-clause-carries : goal.returns-in_err-piece-clause-carries
+returns-in_err-piece-clause-carries g c =
     let p = err_from_is_err_and c.from_residual.result c.from_residual.ensures.1 in
     let start = g.W.Write.contents c.args.writer.now in
     rw (p.1, p.2) (
@@ -22,10 +22,11 @@ loop-turn-init g c = record {
   few = lit≤ tt;
   room = c.in_ok-piece.ensures;
   sink = c.requires;
+  job = refl;
 }
 
-pub returns-in-None : goal.returns-in-None
-returns-in-None g c =
+pub returns-in-None-clause-carries : goal.returns-in-None-clause-carries
+returns-in-None-clause-carries g c =
     let i = c.loop-turn.invariant.gone in
     let none : g.C.Client.next c.loop-turn.client ≡ None = sym c.pending.ensures.next ∙ ap (option_map (λ r. r.now)) c.in-None.is in
     let said : Said = record { bytes = i.0; talk = i.1; more = [] } in
@@ -36,8 +37,8 @@ ask-requires-clause-fits g c =
     let pending : g.C.Client.next c.loop-turn.client ≡ Some c.in-Some.request.now = sym c.pending.ensures.next ∙ ap (option_map (λ r. r.now)) c.in-Some.is in
     c.pending.ensures.frame c.in-Some.request.now pending
 
-pub returns-in_err-reply-in-Some : goal.returns-in_err-reply-in-Some
-returns-in_err-reply-in-Some g c =
+pub returns-in_err-reply-in-Some-clause-carries : goal.returns-in_err-reply-in-Some-clause-carries
+returns-in_err-reply-in-Some-clause-carries g c =
     let p = err_from_is_err_and c.from_residual-in_err-reply-in-Some.result c.from_residual-in_err-reply-in-Some.ensures.1 in
     let i = c.loop-turn.invariant.gone in
     let pending : g.C.Client.next c.loop-turn.client ≡ Some c.in-Some.request.now = sym c.pending.ensures.next ∙ ap (option_map (λ r. r.now)) c.in-Some.is in
@@ -47,8 +48,8 @@ returns-in_err-reply-in-Some g c =
     (g.W.Write.contents c.loop-turn.writer) (g.W.Write.contents c.ask.new.writer) pending n.3 n.4 i.6 in
     rw (p.1, p.2) (said, consumed (g.R.Read.remaining c.args.reader.now) (g.R.Read.remaining c.loop-turn.reader) (g.R.Read.remaining c.ask.new.reader) i.0 n.0 i.2 n.1, (i.4, r.0, r.1))
 
-pub returns-in_err-take : goal.returns-in_err-take
-returns-in_err-take g c =
+pub returns-in_err-take-clause-carries : goal.returns-in_err-take-clause-carries
+returns-in_err-take-clause-carries g c =
     let p = err_from_is_err_and c.from_residual-in_err-take.result c.from_residual-in_err-take.ensures.1 in
     let i = c.loop-turn.invariant.gone in
     let pending : g.C.Client.next c.loop-turn.client ≡ Some c.in-Some.request.now = sym c.pending.ensures.next ∙ ap (option_map (λ r. r.now)) c.in-Some.is in
@@ -69,8 +70,8 @@ returns-in_err-take g c =
       ),
     )
 
-pub returns-then-not-hand_out : goal.returns-then-not-hand_out
-returns-then-not-hand_out g c =
+pub returns-then-not-hand_out-clause-carries : goal.returns-then-not-hand_out-clause-carries
+returns-then-not-hand_out-clause-carries g c =
     let i = c.loop-turn.invariant.gone in
     let pending : g.C.Client.next c.loop-turn.client ≡ Some c.in-Some.request.now = sym c.pending.ensures.next ∙ ap (option_map (λ r. r.now)) c.in-Some.is in
     let start = g.W.Write.contents c.args.writer.now in
@@ -112,18 +113,19 @@ loop-turn-preserved g c =
       few = omega (arith, c.loop-turn-test.true);
       room = c.loop-turn.invariant.room;
       sink = c.hand_out.ensures;
+      job = c.in_ok-take.ensures.job ∙ c.loop-turn.invariant.job;
     }
 
-pub returns-in-None-pending : goal.returns-in-None-pending
-returns-in-None-pending g c =
+pub returns-in-None-pending-clause-carries : goal.returns-in-None-pending-clause-carries
+returns-in-None-pending-clause-carries g c =
     let i = c.loop-turn.invariant.gone in
     let none : g.C.Client.next c.loop-turn.client ≡ None = sym c.pending-2.ensures.next ∙ ap (option_map (λ r. r.now)) c.in-None-pending.is in
     let said : Said = record { bytes = i.0; talk = i.1; more = [] } in
     let many = c.loop-turn-test.false in
     (said, i.2, (i.4, omega (arith, i.5, many, c.loop-turn.invariant.few), none, heard_all i.0 i.1 (begins i.0 (read_in i.1) c.loop-turn.connection i.3), refl, i.6))
 
-pub returns : goal.returns
-returns g c =
+pub returns-clause-carries : goal.returns-clause-carries
+returns-clause-carries g c =
     let i = c.loop-turn.invariant.gone in
     let said : Said = record { bytes = i.0; talk = i.1; more = [] } in
     let many = c.loop-turn-test.false in

@@ -11,4 +11,5 @@ invariant-loop-turn g l = record {
   few : l.turn ≤ 2 ^ 32;
   room : vec_len l.piece ≡ 65536;
   sink : goal.F-IsAlwaysCallable g l.sink;
+  job : g.C.Client.job l.client ≡ g.C.Client.job l.fn.client;
 }

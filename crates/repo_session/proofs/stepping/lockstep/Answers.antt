@@ -86,5 +86,6 @@ loop-turn-preserved g c =
         kept_on c.args.out.now.items c.loop-turn.out.items c.keep.new.out.items _ (g.C.Client.given c.take.new.self) i.4 (c.in_ok-keep.ensures.ok ∙ ap (λ x. c.loop-turn.out.items ++ x) c.emitted.ensures),
       );
       few = omega (arith, c.loop-turn-test.true);
+      job = c.in_ok-take.ensures.job ∙ c.loop-turn.invariant.job;
       honest = λ honest. c.answer-reply.ensures.honest (c.loop-turn.invariant.honest honest);
     }

@@ -8,5 +8,6 @@ invariant-loop-turn g l = record {
       × (g.S.Shelf.honest l.fn.shelf → TalkRan (g.S.Shelf.store l.fn.shelf) (g.S.Shelf.failed l.fn.shelf) talk (g.S.Shelf.store l.shelf) (g.S.Shelf.failed l.shelf))
       × (l.out.items ≡ l.fn.out.items ++ given_in talk);
   few : l.turn ≤ 2 ^ 32;
+  job : g.C.Client.job l.client ≡ g.C.Client.job l.fn.client;
   honest : g.S.Shelf.honest l.fn.shelf → g.S.Shelf.honest l.shelf;
 }
