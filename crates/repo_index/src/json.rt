@@ -1,9 +1,8 @@
 //! Bytes that are JSON, and texts that are names.
 
-ghost use Rattle.std.specs.Prelude.{◌≡◌, ◌≢◌, IfOk, IfErr, IfSome, IfNone, IsErrOf, string_bytes};
+ghost use Rattle.std.specs.Prelude.{◌≡◌, ◌≢◌, IfOk, IfErr, IfSome, IfNone, IsErrOf};
 ghost use Rattle.serde_json.specs.Data.{Data};
 ghost use Rattle.serde_json.specs.View.{view};
-ghost use Rattle.repo_name.specs.Naming.{hex_of, IsName};
 ghost use Rattle.repo_index.specs.JsonText.{IsJson};
 ghost use Rattle.repo_index.specs.IndexText.{IsId};
 ghost use Rattle.repo_index.specs.IndexFaults.{NamesNothing};
@@ -12,7 +11,7 @@ ghost use Rattle.repo_index.specs.declared.faults.IndexError.{IndexError};
 use crate::faults::IndexError;
 use repo_name::Name;
 use serde_json::Value;
-use std::alloc::{AllocError, Global};
+use std::alloc::Global;
 
 /// The value that the bytes read as.
 pub(crate) fn parse(alloc: Global, bytes: &[u8]) -> Result<Value, IndexError>
@@ -40,12 +39,4 @@ pub(crate) fn name_of(text: &str) -> Option<Name>
         return None;
     };
     Some(name)
-}
-
-/// A name's 64 digits, in lower case.
-pub(crate) fn digits_of(alloc: Global, name: Name) -> Result<String, AllocError>
-    ensures text { IfOk result (λ text. string_bytes text ≡ hex_of name) }
-    ensures named { IsName name }
-{
-    name.to_hex(alloc)
 }

@@ -11,7 +11,6 @@ ghost use Rattle.repo_index.specs.declared.faults.IndexError.{IndexError};
 use crate::facts::{Fact, PackFacts};
 use crate::faults::IndexError;
 use crate::index_text::IndexText;
-use crate::json::digits_of;
 use repo_name::BlobKind;
 use serde_json::{Value, json};
 use std::alloc::{AllocError, Global};
@@ -31,7 +30,7 @@ fn fact_value(alloc: Global, fact: Fact) -> Result<Value, AllocError>
     ensures value { IfOk result (λ v. view v ≡ fact_data fact) }
     ensures made { IsFact fact }
 {
-    let id = digits_of(alloc, fact.name)?;
+    let id = fact.name.to_hex(alloc)?;
     let id = id.as_str();
     let (length, offset) = (fact.place.length, fact.place.offset);
     let kind = type_of(fact.kind);
@@ -57,7 +56,7 @@ fn pack_value(alloc: Global, listed: &PackFacts) -> Result<Value, AllocError>
     ensures made { OnOk result (IsName listed.now.pack × All IsFact listed.now.facts) }
 {
     let blobs = facts_value(alloc, listed.facts.as_slice())?;
-    let id = digits_of(alloc, listed.pack)?;
+    let id = listed.pack.to_hex(alloc)?;
     let id = id.as_str();
     json!(in alloc; {"blobs": blobs, "id": id})
 }

@@ -13,7 +13,7 @@ use Rattle.repo_locks.specs.declared.outcomes.Grant.{Grant}
 use Rattle.repo_locks.specs.declared.outcomes.LockError.{LockError}
 use Rattle.repo_locks.specs.declared.outcomes.RefreshError.{RefreshError}
 use Rattle.repo_locks.specs.declared.outcomes.TicketError.{TicketError}
-use Rattle.repo_locks.specs.TokenMachine.{Tokens, live_as, TicketStep, LockStep, RefreshStep, UnlockStep}
+use Rattle.repo_locks.specs.TokenMachine.{Tokens, live_as, is_fresh_or_live, TicketStep, LockStep, RefreshStep, UnlockStep}
 use Rattle.repo_store.specs.declared.shelves.ShelfError.{ShelfError}
 use Rattle.repo_store.specs.declared.shelves.Slice.{Slice}
 use Rattle.repo_store.specs.Laws.{greatest_count}
@@ -191,6 +191,29 @@ Step old ask say new = Answers old ask say new ⊎ (Looks ask × Fails old (λ o
 -- the count of failures doesn't fall, and a fault is told only where it rose, or stands at its greatest
 abbrev pub SaysFault : ℕ → Say → ℕ → Type 0
 SaysFault old say new = (old ≤ new) × (say ≡ Say.Refused Code.Fault → (old < new) ⊎ (new ≡ greatest_count))
+
+-- the device isn't asked to write for this: it is only read for; or a lock is live as it is asked for, or a number to be unlocked is neither fresh nor live
+abbrev pub IsQuiet : Tokens → Ask → Type 0
+IsQuiet tokens Ask.Ticket = ⊥
+IsQuiet tokens (Ask.Lock row) = live_as tokens row.token ≡ Some row.exclusive
+IsQuiet tokens (Ask.Refresh token time) = ⊥
+IsQuiet tokens (Ask.Unlock token) = is_fresh_or_live tokens token ≡ false
+IsQuiet tokens Ask.Locks = ⊤
+IsQuiet tokens (Ask.List kind after) = ⊤
+IsQuiet tokens (Ask.Get kind name) = ⊤
+IsQuiet tokens (Ask.Range pack offset len) = ⊤
+IsQuiet tokens (Ask.Put token kind name bytes) = ⊥
+IsQuiet tokens (Ask.Delete token kind name) = ⊥
+IsQuiet tokens Ask.Config = ⊤
+
+-- it is refused, and not for the device's failure or for want of memory
+abbrev pub IsRuledOut : Say → Type 0
+IsRuledOut (Say.Token token) = ⊥
+IsRuledOut Say.Done = ⊥
+IsRuledOut (Say.Names more names) = ⊥
+IsRuledOut (Say.Bytes bytes) = ⊥
+IsRuledOut (Say.LockList rows) = ⊥
+IsRuledOut (Say.Refused code) = (code ≢ Code.Fault) × (code ≢ Code.NoMemory)
 
 -- the refusal for a call of the device that failed
 abbrev pub refusal : ShelfError → Say

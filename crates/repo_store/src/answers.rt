@@ -4,7 +4,7 @@ ghost use Rattle.std.specs.Prelude.{◌≡◌, ◌≤◌, ◌+◌};
 ghost use Rattle.repo_wire.specs.Messages.{replies, IsReply, IsSay, IsShortSay};
 ghost use Rattle.repo_wire.specs.Stream.{FitsFrame};
 ghost use Rattle.repo_store.specs.Runs.{Replies};
-ghost use Rattle.repo_store.specs.StoreMachine.{refusal, IsAnswerable, Step, SaysFault};
+ghost use Rattle.repo_store.specs.StoreMachine.{refusal, IsAnswerable, IsQuiet, IsRuledOut, Step, SaysFault};
 
 use crate::lock_answers::{
     answer_lock, answer_locks, answer_refresh, answer_ticket, answer_unlock,
@@ -34,6 +34,8 @@ fn say_to<S: Shelf>(alloc: Global, shelf: &mut S, ask: &Ask) -> Say
     ensures cause { S.honest shelf.old → SaysFault (S.failed shelf.old) result (S.failed shelf.new) }
     ensures honest { S.honest shelf.old → S.honest shelf.new }
     ensures once { S.writes shelf.new ≤ S.writes shelf.old + 1 }
+    ensures quiet { S.honest shelf.old → IsQuiet (S.store shelf.old).tokens ask.now → S.writes shelf.new ≡ S.writes shelf.old }
+    ensures ruled_out { IsRuledOut result → S.writes shelf.new ≡ S.writes shelf.old }
     ensures within { IsSay result × IsShortSay result }
 {
     match ask {
@@ -79,13 +81,16 @@ fn reply_to(instance: Instance, sequence: u64, say: Say) -> Reply
 ///
 /// Code 10 is said only where the shelf failed in this call; the store is then as before, or as after
 /// the answer that the request would have had. After every other refusal the store is as before. The
-/// shelf is asked to write at most once.
+/// shelf is asked to write at most once; and not at all for a request that only reads, a lock that is held
+/// already, an unlock that changes nothing, and where the refusal is another than 10 and 11.
 pub fn answer<S: Shelf>(alloc: Global, shelf: &mut S, request: &Request) -> Reply
     requires { IsAnswerable request.now.ask }
     ensures replies { S.honest shelf.old → Replies (S.store shelf.old) request.now result (S.store shelf.new) }
     ensures cause { S.honest shelf.old → SaysFault (S.failed shelf.old) result.say (S.failed shelf.new) }
     ensures honest { S.honest shelf.old → S.honest shelf.new }
     ensures once { S.writes shelf.new ≤ S.writes shelf.old + 1 }
+    ensures quiet { S.honest shelf.old → IsQuiet (S.store shelf.old).tokens request.now.ask → S.writes shelf.new ≡ S.writes shelf.old }
+    ensures ruled_out { IsRuledOut result.say → S.writes shelf.new ≡ S.writes shelf.old }
     ensures fits { FitsFrame replies result }
     ensures repeats { (result.instance ≡ request.now.instance) × (result.sequence ≡ request.now.sequence) }
 {

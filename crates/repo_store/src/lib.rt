@@ -41,5 +41,5 @@ pub use making::{InitError, init};
 pub use memory::MemShelf;
 pub use output::{Unwritten, write_whole};
 pub use services::Service;
-pub use serving::{ServeError, serve};
+pub use serving::{ServeError, room, serve};
 pub use shelves::{Page, Shelf, ShelfError, Slice};

@@ -4,7 +4,7 @@ ghost use Rattle.std.specs.Prelude.{◌≡◌, ◌≤◌, ◌+◌};
 ghost use Rattle.repo_name.specs.Rows.{IsHost};
 ghost use Rattle.repo_wire.specs.declared.messages.Ask.{Ask};
 ghost use Rattle.repo_wire.specs.Messages.{IsSay, IsShortSay};
-ghost use Rattle.repo_store.specs.StoreMachine.{lock_refusal, Step, SaysFault};
+ghost use Rattle.repo_store.specs.StoreMachine.{lock_refusal, IsQuiet, IsRuledOut, Step, SaysFault};
 
 use crate::answers::refusal;
 use crate::shelves::Shelf;
@@ -32,6 +32,7 @@ pub fn answer_ticket<S: Shelf>(shelf: &mut S) -> Say
     ensures cause { S.honest shelf.old → SaysFault (S.failed shelf.old) result (S.failed shelf.new) }
     ensures honest { S.honest shelf.old → S.honest shelf.new }
     ensures once { S.writes shelf.new ≤ S.writes shelf.old + 1 }
+    ensures ruled_out { IsRuledOut result → S.writes shelf.new ≡ S.writes shelf.old }
     ensures within { IsSay result × IsShortSay result }
 {
     let mut ledger = match shelf.ledger() {
@@ -56,6 +57,8 @@ pub fn answer_lock<S: Shelf>(shelf: &mut S, row: &LockRow) -> Say
     ensures cause { S.honest shelf.old → SaysFault (S.failed shelf.old) result (S.failed shelf.new) }
     ensures honest { S.honest shelf.old → S.honest shelf.new }
     ensures once { S.writes shelf.new ≤ S.writes shelf.old + 1 }
+    ensures quiet { S.honest shelf.old → IsQuiet (S.store shelf.old).tokens (Ask.Lock row.now) → S.writes shelf.new ≡ S.writes shelf.old }
+    ensures ruled_out { IsRuledOut result → S.writes shelf.new ≡ S.writes shelf.old }
     ensures within { IsSay result × IsShortSay result }
 {
     let mut ledger = match shelf.ledger() {
@@ -79,6 +82,7 @@ pub fn answer_refresh<S: Shelf>(shelf: &mut S, token: Token, time: u64) -> Say
     ensures cause { S.honest shelf.old → SaysFault (S.failed shelf.old) result (S.failed shelf.new) }
     ensures honest { S.honest shelf.old → S.honest shelf.new }
     ensures once { S.writes shelf.new ≤ S.writes shelf.old + 1 }
+    ensures ruled_out { IsRuledOut result → S.writes shelf.new ≡ S.writes shelf.old }
     ensures within { IsSay result × IsShortSay result }
 {
     let mut ledger = match shelf.ledger() {
@@ -101,6 +105,8 @@ pub fn answer_unlock<S: Shelf>(shelf: &mut S, token: Token) -> Say
     ensures cause { S.honest shelf.old → SaysFault (S.failed shelf.old) result (S.failed shelf.new) }
     ensures honest { S.honest shelf.old → S.honest shelf.new }
     ensures once { S.writes shelf.new ≤ S.writes shelf.old + 1 }
+    ensures quiet { S.honest shelf.old → IsQuiet (S.store shelf.old).tokens (Ask.Unlock token) → S.writes shelf.new ≡ S.writes shelf.old }
+    ensures ruled_out { IsRuledOut result → S.writes shelf.new ≡ S.writes shelf.old }
     ensures within { IsSay result × IsShortSay result }
 {
     let mut ledger = match shelf.ledger() {
@@ -121,7 +127,7 @@ pub fn answer_locks<S: Shelf>(alloc: Global, shelf: &mut S) -> Say
     ensures step { S.honest shelf.old → Step (S.store shelf.old) Ask.Locks result (S.store shelf.new) }
     ensures cause { S.honest shelf.old → SaysFault (S.failed shelf.old) result (S.failed shelf.new) }
     ensures honest { S.honest shelf.old → S.honest shelf.new }
-    ensures once { S.writes shelf.new ≤ S.writes shelf.old + 1 }
+    ensures quiet { S.writes shelf.new ≡ S.writes shelf.old }
     ensures within { IsSay result × IsShortSay result }
 {
     let ledger = match shelf.ledger() {

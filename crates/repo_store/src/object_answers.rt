@@ -4,7 +4,7 @@ ghost use Rattle.std.specs.Prelude.{◌≡◌, ◌≤◌, ◌+◌, length, optio
 ghost use Rattle.repo_name.specs.declared.names.Name.{Name};
 ghost use Rattle.repo_wire.specs.declared.messages.Ask.{Ask};
 ghost use Rattle.repo_wire.specs.Messages.{IsSay, IsShortSay};
-ghost use Rattle.repo_store.specs.StoreMachine.{object_limit, config_limit, range_limit, GetSays, Step, SaysFault};
+ghost use Rattle.repo_store.specs.StoreMachine.{object_limit, config_limit, range_limit, GetSays, IsRuledOut, Step, SaysFault};
 
 use crate::answers::refusal;
 use crate::shelves::{Shelf, Slice};
@@ -53,7 +53,7 @@ pub fn answer_list<S: Shelf>(shelf: &mut S, kind: Kind, after: Option<&Name>) ->
     ensures step { S.honest shelf.old → Step (S.store shelf.old) (Ask.List kind (option_map (λ name. name.now) after.entry)) result (S.store shelf.new) }
     ensures cause { S.honest shelf.old → SaysFault (S.failed shelf.old) result (S.failed shelf.new) }
     ensures honest { S.honest shelf.old → S.honest shelf.new }
-    ensures once { S.writes shelf.new ≤ S.writes shelf.old + 1 }
+    ensures quiet { S.writes shelf.new ≡ S.writes shelf.old }
     ensures within { IsSay result × IsShortSay result }
 {
     match shelf.names_after(kind, after, PAGE) {
@@ -70,7 +70,7 @@ pub fn answer_get<S: Shelf>(shelf: &mut S, kind: Kind, name: &Name) -> Say
     ensures step { S.honest shelf.old → Step (S.store shelf.old) (Ask.Get kind name.now) result (S.store shelf.new) }
     ensures cause { S.honest shelf.old → SaysFault (S.failed shelf.old) result (S.failed shelf.new) }
     ensures honest { S.honest shelf.old → S.honest shelf.new }
-    ensures once { S.writes shelf.new ≤ S.writes shelf.old + 1 }
+    ensures quiet { S.writes shelf.new ≡ S.writes shelf.old }
     ensures within { IsSay result × IsShortSay result }
 {
     match shelf.get(kind, name) {
@@ -84,7 +84,7 @@ pub fn answer_config<S: Shelf>(shelf: &mut S) -> Say
     ensures step { S.honest shelf.old → Step (S.store shelf.old) Ask.Config result (S.store shelf.new) }
     ensures cause { S.honest shelf.old → SaysFault (S.failed shelf.old) result (S.failed shelf.new) }
     ensures honest { S.honest shelf.old → S.honest shelf.new }
-    ensures once { S.writes shelf.new ≤ S.writes shelf.old + 1 }
+    ensures quiet { S.writes shelf.new ≡ S.writes shelf.old }
     ensures within { IsSay result × IsShortSay result }
 {
     match shelf.config() {
@@ -98,7 +98,7 @@ pub fn answer_range<S: Shelf>(shelf: &mut S, pack: &Name, offset: u32, length: u
     ensures step { S.honest shelf.old → Step (S.store shelf.old) (Ask.Range pack.now offset length) result (S.store shelf.new) }
     ensures cause { S.honest shelf.old → SaysFault (S.failed shelf.old) result (S.failed shelf.new) }
     ensures honest { S.honest shelf.old → S.honest shelf.new }
-    ensures once { S.writes shelf.new ≤ S.writes shelf.old + 1 }
+    ensures quiet { S.writes shelf.new ≡ S.writes shelf.old }
     ensures within { IsSay result × IsShortSay result }
 {
     if length == 0 || length > RANGE {
@@ -124,6 +124,7 @@ pub fn answer_put<S: Shelf>(
     ensures cause { S.honest shelf.old → SaysFault (S.failed shelf.old) result (S.failed shelf.new) }
     ensures honest { S.honest shelf.old → S.honest shelf.new }
     ensures once { S.writes shelf.new ≤ S.writes shelf.old + 1 }
+    ensures ruled_out { IsRuledOut result → S.writes shelf.new ≡ S.writes shelf.old }
     ensures within { IsSay result × IsShortSay result }
 {
     if bytes.len() > limit_of(kind) {
@@ -151,6 +152,7 @@ pub fn answer_delete<S: Shelf>(shelf: &mut S, token: Token, kind: Kind, name: &N
     ensures cause { S.honest shelf.old → SaysFault (S.failed shelf.old) result (S.failed shelf.new) }
     ensures honest { S.honest shelf.old → S.honest shelf.new }
     ensures once { S.writes shelf.new ≤ S.writes shelf.old + 1 }
+    ensures ruled_out { IsRuledOut result → S.writes shelf.new ≡ S.writes shelf.old }
     ensures within { IsSay result × IsShortSay result }
 {
     let ledger = match shelf.ledger() {

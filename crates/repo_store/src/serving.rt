@@ -67,8 +67,8 @@ const READS: u64 = 1 << 48;
 /// How many bytes are read at once, at most.
 const PIECE: usize = 65_536;
 
-/// Room for a piece of the input.
-fn room(alloc: Global) -> Result<Vec<u8>, AllocError>
+/// Room for a piece of what is read from a connection, of 65,536 bytes. It fails for memory alone.
+pub fn room(alloc: Global) -> Result<Vec<u8>, AllocError>
     ensures { IfOk result (λ room. vec_len room ≡ 65536) }
 {
     vec![in alloc; 0u8; PIECE]

@@ -1,6 +1,6 @@
 //! Bytes that are JSON, and the members of an object.
 
-ghost use Rattle.std.specs.Prelude.{◌≡◌, ◌≢◌, ◌<◌, ◌≤◌, ◌↔◌, ℕ, length, codes, Some, IsTrue, IfOk, IfErr, IfSome, IfNone, IsErrOf, string_bytes};
+ghost use Rattle.std.specs.Prelude.{◌≡◌, ◌≢◌, ◌<◌, ◌≤◌, ◌↔◌, ℕ, length, codes, Some, IsTrue, IfOk, IfErr, IfSome, IfNone, IsErrOf};
 ghost use Rattle.serde_json.specs.Data.{Data};
 ghost use Rattle.serde_json.specs.View.{view};
 ghost use Rattle.repo_name.specs.Naming.{hex_of, IsName};
@@ -10,7 +10,7 @@ ghost use Rattle.repo_tree.specs.JsonText.{IsJson, number_at, text_at};
 
 use repo_name::Name;
 use serde_json::Value;
-use std::alloc::{AllocError, Global};
+use std::alloc::Global;
 
 /// Why some bytes are no JSON value within a limit.
 #[derive(Clone, Copy, Debug, PartialEq, Eq)]
@@ -82,12 +82,4 @@ pub(crate) fn known_version(value: &Value) -> Option<bool>
         return None;
     };
     Some(version == 1)
-}
-
-/// A name's 64 digits, in lower case.
-pub(crate) fn digits_of(alloc: Global, name: Name) -> Result<String, AllocError>
-    ensures text { IfOk result (λ text. string_bytes text ≡ hex_of name) }
-    ensures named { IsName name }
-{
-    name.to_hex(alloc)
 }

@@ -10,7 +10,7 @@ ghost use Rattle.repo_tree.specs.declared.snapshots.Snapshot.{Snapshot};
 ghost use Rattle.repo_tree.specs.declared.faults.TextError.{TextError};
 
 use crate::faults::TextError;
-use crate::json::{digits_of, is_host, known_version, name_at, parse};
+use crate::json::{is_host, known_version, name_at, parse};
 use repo_name::{Name, Text, Token};
 use serde_json::{Value, json};
 use std::alloc::{AllocError, Global};
@@ -77,7 +77,7 @@ fn snapshot_value(alloc: Global, snapshot: &Snapshot) -> Result<Value, AllocErro
     let host = snapshot.host.as_str();
     let time = snapshot.time;
     let token = snapshot.token.0;
-    let tree = digits_of(alloc, snapshot.tree)?;
+    let tree = snapshot.tree.to_hex(alloc)?;
     let tree = tree.as_str();
     let version = snapshot.version;
     json!(in alloc; {"host": host, "time": time, "token": token, "tree": tree, "version": version})

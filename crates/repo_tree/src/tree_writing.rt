@@ -12,7 +12,6 @@ ghost use Rattle.repo_tree.specs.declared.nodes.NodeKind.TheVariants.{File, Dir}
 ghost use Rattle.repo_tree.specs.declared.faults.TreeError.{TreeError};
 
 use crate::faults::TreeError;
-use crate::json::digits_of;
 use crate::nodes::{Node, NodeKind};
 use crate::tree_reading::{FILE_END, LIMIT, admit};
 use repo_name::Name;
@@ -24,7 +23,7 @@ fn name_value(alloc: Global, name: Name) -> Result<Value, AllocError>
     ensures value { IfOk result (λ v. view v ≡ string (hex_of name)) }
     ensures named { IsName name }
 {
-    let digits = digits_of(alloc, name)?;
+    let digits = name.to_hex(alloc)?;
     Ok(Value::String(digits))
 }
 

@@ -74,6 +74,28 @@ fn packs_and_their_facts_are_in_order(rt: HostRuntime) -> Result<(), Fail> {
 }
 
 #[test]
+fn facts_that_were_new_are_taken_back(rt: HostRuntime) -> Result<(), Fail> {
+    let alloc = rt.alloc();
+    let (name, pack) = (name_of(b"abc"), Name([2; 32]));
+    let (first, second) = (content(name, pack, 0), content(name, pack, 1));
+    let mut lookup = Lookup::new(alloc);
+    let noted = lookup.add_noted(&index(alloc, pack, &[second])?)?;
+    assert_eq!(rt; noted.as_slice(), [second].as_slice());
+    let noted = lookup.add_noted(&index(alloc, pack, &[first, second, first])?)?;
+    assert_eq!(rt; noted.as_slice(), [first].as_slice());
+    assert_eq!(rt; lookup.find(BlobKind::Content, &name), Some(first.place));
+    lookup.take_back(noted.as_slice());
+    assert_eq!(rt; lookup.find(BlobKind::Content, &name), Some(second.place));
+    assert_eq!(rt; lookup.facts_of(&pack)?.as_slice(), [second].as_slice());
+    let none = lookup.add_noted(&index(alloc, pack, &[second])?)?;
+    assert_eq!(rt; none.as_slice().len(), 0);
+    lookup.take_back(&[second]);
+    assert_eq!(rt; lookup.find(BlobKind::Content, &name), None);
+    assert_eq!(rt; lookup.packs()?.as_slice().len(), 0);
+    Ok(())
+}
+
+#[test]
 fn refused_growth(rt: HostRuntime) -> Result<(), Fail> {
     let alloc = rt.alloc();
     let (name, pack) = (Name([1; 32]), Name([2; 32]));
@@ -85,6 +107,15 @@ fn refused_growth(rt: HostRuntime) -> Result<(), Fail> {
         return Ok(());
     };
     let mut lookup = Lookup::new(alloc);
+    let noted = match lookup.add_noted(&text) {
+        Ok(noted) => noted,
+        Err(_) => {
+            assert_eq!(rt; lookup.find(BlobKind::Content, &name), None);
+            lookup.add_noted(&text)?
+        }
+    };
+    assert_eq!(rt; noted.as_slice().len(), 2);
+    lookup.take_back(noted.as_slice());
     if lookup.add(&text).is_err() {
         assert_eq!(rt; lookup.find(BlobKind::Content, &name), None);
         lookup.add(&text)?;

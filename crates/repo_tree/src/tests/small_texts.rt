@@ -234,6 +234,103 @@ fn entries_have_paths(rt: HostRuntime) -> Result<(), Fail> {
     Ok(())
 }
 
+/// A read of a snapshot that is asked for again where there was no memory.
+fn surely_snapshot(alloc: Global, text: &str) -> Result<Snapshot, TextError> {
+    match Snapshot::read(alloc, text.as_bytes()) {
+        Err(TextError::Memory) => Snapshot::read(alloc, text.as_bytes()),
+        read => read,
+    }
+}
+
+/// A read of a config that is asked for again where there was no memory.
+fn surely_config(alloc: Global, text: &str) -> Result<Config, TextError> {
+    match Config::read(alloc, text.as_bytes()) {
+        Err(TextError::Memory) => Config::read(alloc, text.as_bytes()),
+        read => read,
+    }
+}
+
+// It holds where any one growth is refused, and is asked for again.
+#[test]
+fn refused_growth(rt: HostRuntime) -> Result<(), Fail> {
+    let alloc = rt.alloc();
+    let snapshot = surely_snapshot(alloc, SNAPSHOT)?;
+    let copy = match snapshot.clone() {
+        Err(_) => snapshot.clone()?,
+        Ok(copy) => copy,
+    };
+    let text = match copy.write(alloc) {
+        Err(TextError::Memory) => copy.write(alloc)?,
+        written => written?,
+    };
+    assert_eq!(rt; text.as_slice(), SNAPSHOT.as_bytes());
+
+    let mut config = surely_config(alloc, CONFIG)?;
+    let text = match config.write(alloc) {
+        Err(TextError::Memory) => config.write(alloc)?,
+        written => written?,
+    };
+    assert_eq!(rt; text.as_slice(), CONFIG.as_bytes());
+
+    // What is refused for another reason asks for no memory.
+    config.target = 1_023;
+    assert_eq!(rt; config.write(alloc).err(), Some(TextError::Params));
+    config.version = 2;
+    assert_eq!(rt; config.write(alloc).err(), Some(TextError::Version));
+    Ok(())
+}
+
+// A fault that is found before anything grows is told all the same; another may be told as want of memory, once.
+#[test]
+fn refused_growth_of_faulty_texts(rt: HostRuntime) {
+    let alloc = rt.alloc();
+    assert_eq!(rt; surely_snapshot(alloc, "{").err(), Some(TextError::Json));
+    assert_eq!(rt;
+        surely_snapshot(alloc, r#"{"version":2}"#).err(),
+        Some(TextError::Version)
+    );
+    assert_eq!(rt;
+        surely_snapshot(alloc, r#"{"version":1}"#).err(),
+        Some(TextError::Shape)
+    );
+    assert_eq!(rt; surely_config(alloc, "{").err(), Some(TextError::Json));
+    assert_eq!(rt;
+        surely_config(alloc, r#"{"version":2}"#).err(),
+        Some(TextError::Version)
+    );
+    assert_eq!(rt;
+        surely_config(alloc, r#"{"version":1}"#).err(),
+        Some(TextError::Shape)
+    );
+}
+
+// It holds where any one growth is refused, and is asked for again.
+#[test]
+fn refused_growth_of_a_copy(rt: HostRuntime) -> Result<(), Fail> {
+    let alloc = rt.alloc();
+    let mut parts = Vec::new(alloc);
+    let part = match String::from_str(alloc, "x") {
+        Err(_) => String::from_str(alloc, "x")?,
+        Ok(part) => part,
+    };
+    if parts.reserve(1).is_err() {
+        parts.reserve(1)?;
+    }
+    parts.push(Text::of(part))?;
+    let entry = Entry {
+        path: Path::of(parts),
+        what: EntryKind::File(Bytes::of(Vec::new(alloc))),
+    };
+    let copy = match entry.clone() {
+        Err(_) => entry.clone()?,
+        Ok(copy) => copy,
+    };
+    let parts = copy.path.as_slice();
+    assert_eq!(rt; parts.len(), 1);
+    assert!(rt; parts[0].as_str() == "x");
+    Ok(())
+}
+
 struct NoBlobs;
 
 impl BlobSet for NoBlobs {

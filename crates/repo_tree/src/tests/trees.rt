@@ -290,3 +290,58 @@ fn nodes_that_are_not_written(rt: HostRuntime) -> Result<(), Fail> {
     assert!(rt; matches!(write_tree(alloc, nodes.as_slice()), Err(TreeError::Shape)));
     Ok(())
 }
+
+/// A read of a tree that is asked for again where there was no memory.
+fn surely_read(alloc: Global, text: &str) -> Result<Vec<Node>, TreeError> {
+    match read_tree(alloc, text.as_bytes()) {
+        Err(TreeError::Memory) => read_tree(alloc, text.as_bytes()),
+        read => read,
+    }
+}
+
+/// A write of a tree that is asked for again where there was no memory.
+fn surely_written(alloc: Global, nodes: &[Node]) -> Result<Vec<u8>, TreeError> {
+    match write_tree(alloc, nodes) {
+        Err(TreeError::Memory) => write_tree(alloc, nodes),
+        written => written,
+    }
+}
+
+// It holds where any one growth is refused, and is asked for again.
+#[test]
+fn refused_growth(rt: HostRuntime) -> Result<(), Fail> {
+    let alloc = rt.alloc();
+    for text in [ONE_FILE, ONE_DIR, EMPTY] {
+        let nodes = surely_read(alloc, text)?;
+        let written = surely_written(alloc, nodes.as_slice())?;
+        assert_eq!(rt; written.as_slice(), text.as_bytes());
+        for node in &nodes {
+            let copy = match node.clone() {
+                Err(_) => node.clone()?,
+                Ok(copy) => copy,
+            };
+            assert!(rt; copy.name.as_str() == node.name.as_str());
+        }
+    }
+    Ok(())
+}
+
+// A fault that is found before anything grows is told all the same; another may be told as want of memory, once.
+#[test]
+fn refused_growth_of_faulty_texts(rt: HostRuntime) {
+    let alloc = rt.alloc();
+    for (text, fault) in [
+        ("{", TreeError::Json),
+        (r#"{"nodes":[0]}"#, TreeError::Shape),
+        (
+            r#"{"nodes":[{"content":[],"name":"..","size":0,"type":"file"}]}"#,
+            TreeError::BadName,
+        ),
+        (
+            r#"{"nodes":[{"content":[],"name":"a","size":0,"type":"file"},{"content":[],"name":"a","size":0,"type":"file"}]}"#,
+            TreeError::Order,
+        ),
+    ] {
+        assert_eq!(rt; surely_read(alloc, text).err(), Some(fault), "of {text}");
+    }
+}
