@@ -18,3 +18,5 @@ pub mod Staging
 pub mod Parcels
 pub mod Phases
 pub mod Keeping
+pub mod Lone
+pub mod LoneRuns

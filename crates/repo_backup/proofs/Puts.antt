@@ -14,24 +14,12 @@ use Rattle.repo_store.specs.Pages.{Has, Ascends}
 use Rattle.repo_session.specs.Catalogs.{AreIndexed}
 use Rattle.repo_session.specs.Traces.{Each, Exchange, Trace, Exchanged, Object, page_names, is_last_page, names_in, is_complete, object_put, objects_put, ReadFact}
 use Rattle.repo_session.proofs.Cataloguing.{fact_stays, fact_before}
+pub use Rattle.repo_session.proofs.Containing.{none_contained, first_contained, later_contained, contained_or, flat_contains, contains_flat}
 use Rattle.repo_session.proofs.Rolling.{same_self}
 use Rattle.repo_backup.specs.Folders.{Folder}
 use Rattle.repo_backup.specs.Rules.{PutDone, IsMade}
 
 -- ---- each of a list, and what a list contains
-
-pub none_contained : {A : Type 0} (x : A) → Contains [] x → ⊥
-none_contained x h = absurd (omega (arith, h.1))
-
-pub first_contained : {A : Type 0} (x : A) (xs : List A) → Contains (x ∷ xs) x
-first_contained x xs = (zero, omega arith, refl)
-
-pub later_contained : {A : Type 0} (y : A) (xs : List A) (x : A) → Contains xs x → Contains (y ∷ xs) x
-later_contained y xs x h = Contains-append_right (y ∷ []) xs x h
-
-pub contained_or : {A : Type 0} (y : A) (xs : List A) (x : A) → Contains (y ∷ xs) x → (y ≡ x) ⊎ Contains xs x
-contained_or y xs x (zero, within, is) = inl is
-contained_or y xs x (suc k, within, is) = inr (k, omega (arith, within), is)
 
 pub each_contained : {A : Type 0} (P : A → Type 0) (xs : List A) (x : A) → Each P xs → Contains xs x → P x
 each_contained P [] x each h = absurd (none_contained x h)
@@ -51,22 +39,6 @@ contains_map f [] x h = absurd (none_contained x h)
 contains_map f (y ∷ xs) x h = elim (contained_or y xs x h) [
   | inl same ↦ subst (λ z. Contains (f y ∷ map f xs) (f z)) same (first_contained (f y) (map f xs))
   | inr more ↦ later_contained (f y) (map f xs) (f x) (contains_map f xs x more)
-]
-
--- what lists joined contain, one of them does
-pub flat_contains : {A B : Type 0} (f : A → List B) (xs : List A) (y : B) → Contains (flat_map f xs) y → (x : A) × Contains xs x × Contains (f x) y
-flat_contains f [] y h = absurd (none_contained y h)
-flat_contains f (x ∷ xs) y h = elim (Contains-append_cases (f x) (flat_map f xs) y h) [
-  | inl here ↦ (x, first_contained x xs, here)
-  | inr more ↦ let found = flat_contains f xs y more in (found.0, later_contained x xs found.0 found.1, found.2)
-]
-
--- and the other way
-pub contains_flat : {A B : Type 0} (f : A → List B) (xs : List A) (x : A) (y : B) → Contains xs x → Contains (f x) y → Contains (flat_map f xs) y
-contains_flat f [] x y h is = absurd (none_contained x h)
-contains_flat f (z ∷ xs) x y h is = elim (contained_or z xs x h) [
-  | inl same ↦ Contains-append_left (f z) (flat_map f xs) y (subst (λ w. Contains (f w) y) (sym same) is)
-  | inr more ↦ Contains-append_right (f z) (flat_map f xs) y (contains_flat f xs x y more is)
 ]
 
 -- what a list contains stands at an index

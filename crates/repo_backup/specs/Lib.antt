@@ -16,3 +16,4 @@ pub mod Stages
 pub mod BackupStates
 pub mod Backups
 pub mod BackupObedience
+pub mod Laws

@@ -25,6 +25,7 @@ mod backups;
 mod checks;
 mod chunks;
 mod faults;
+mod laws;
 mod packing;
 #[cfg(test)]
 mod plan_tests;
@@ -40,3 +41,4 @@ mod works;
 
 pub use backups::Backup;
 pub use faults::BackupError;
+pub use laws::{backup_ends_well, backup_keeps_sound};
