@@ -1,5 +1,5 @@
 -- What is known while a snapshot is restored, over plain values.
-use Rattle.std.proofs.Common.{◌≡◌, ◌≢◌, ◌≤◌, ◌∷◌, ◌++◌, [], ℕ, Bool, true, false, List, length, Result, Ok, Err, OnErr, Option, Some, None, refl, sym, ap, subst, inl, inr, ◌⊎◌, ◌∙◌, Contains}
+use Rattle.std.proofs.Common.{◌≡◌, ◌≢◌, ◌≤◌, ◌∷◌, ◌++◌, [], ℕ, Bool, true, false, List, length, Result, Ok, Err, OnErr, Option, Some, None, refl, sym, ap, subst, inl, inr, ◌⊎◌, ◌∙◌, Contains, ⊎_elim}
 use Rattle.std.proofs.lemmas.List.{append-nil}
 use Rattle.std.proofs.lemmas.Option.{same_Some}
 use Rattle.repo_name.specs.Naming as naming
@@ -15,7 +15,7 @@ use Rattle.repo_index.specs.declared.facts.Fact.{Fact}
 use Rattle.repo_index.specs.IndexText.{fact_of}
 use Rattle.repo_index.specs.Lookups.{IsLeast, HasSame}
 use Rattle.repo_tree.specs.declared.nodes.Node.{Node}
-use Rattle.repo_tree.specs.Spelling.{Blobs, IsTree, Spells}
+use Rattle.repo_tree.specs.Spelling.{Blobs, IsTree, Spells, greatest_depth}
 use Rattle.repo_session.specs.declared.emissions.Emission.{Emission}
 use Rattle.repo_session.specs.Catalogs.{IsCatalog}
 use Rattle.repo_session.specs.Rebuilding.{rebuilt}
@@ -23,17 +23,17 @@ use Rattle.repo_restore.specs.declared.nodes.Level.{Level}
 use Rattle.repo_restore.specs.declared.walks.Turn.{Turn}
 use Rattle.repo_session.specs.declared.outcomes.End.{End}
 use Rattle.repo_session.specs.declared.outcomes.Outcome.{Outcome}
-use Rattle.repo_session.specs.Ends.{IsBad, IsBadBlob, IsUnindexed, IsCause, Concludes, IsUnwelcome, blob_thing}
+use Rattle.repo_session.specs.Ends.{IsBad, IsBadBlob, IsCause, Concludes, IsUnwelcome, blob_thing}
 use Rattle.repo_session.specs.Openings.{IsWork, IsStart, IsUnlock}
 use Rattle.repo_session.specs.Order.{Task, IsWorking as Works, May, opened}
 use Rattle.repo_session.specs.Traces.{Each, Exchange, Trace, emitted_in, page_names, is_last_page, object_got, ReadFact, IsGiven}
 use Rattle.repo_session.proofs.Cataloguing.{catalog_fresh, catalog_on}
 use Rattle.repo_session.proofs.Receiving.{all_read}
 use Rattle.repo_restore.specs.Received.{Received}
-use Rattle.repo_restore.specs.Restoring.{HasRoot, HaveLength, IsUneven, IsTooDeep, IsBadTree, MayGive, counted, RestoreConcludes}
+use Rattle.repo_restore.specs.Restoring.{HasRoot, HaveLength, Under, IsUneven, IsBadTree, IsNeeded, IsUnindexed, MayGive, counted, RestoreConcludes}
 use Rattle.repo_restore.specs.RestoreStates.{IsRangeOf, IsWalking, Progress, Indexes, IsNew, IsBefore, IsFound, KnowsRestore, IsRestoreTask, TurnIs}
 use Rattle.repo_restore.specs.declared.restores.RestoreJob.{RestoreJob}
-use Rattle.repo_restore.specs.Walking.{WalkEnds, WalkWaits, TurnGives, IsUnevenIn, IsDeepIn}
+use Rattle.repo_restore.specs.Walking.{WalkEnds, WalkWaits, TurnGives, IsUnevenIn, IsUnfitIn}
 use Rattle.repo_restore.specs.Walks.{Sums, IsNowhere}
 use Rattle.repo_restore.proofs.Starting.{not_working}
 
@@ -114,24 +114,21 @@ not_given p es kind name h none g =
     let same : g.0 ≡ fact_of kind name g.0.place = λ i. record { kind = g.2 i; name = g.3 i; place = g.0.place } in
     none g.0.place (subst (λ f. Contains p.facts f) same has)
 
-unindexed : (p : Progress) (es : Trace) (thing : Thing) (name : Name) → Indexes p true es → length p.names ≤ p.read → ((kind : BlobKind) × (thing ≡ blob_thing kind) × IsNowhere p.facts kind name) → IsUnindexed es thing name
-unindexed p es thing name h all none = (none.0, none.1, all_read Kind.Index p.names p.read es h.rolled all, not_given p es none.0 name h none.2)
-
-missing_cause : (p : Progress) (es : Trace) (thing : Thing) (name : Name) → (es ≡ [] → ⊥) → IsUnindexed es thing name → IsCause es (End.Missing thing name)
-missing_cause p [] thing name some u = absurd (some refl)
-missing_cause p (e ∷ es) thing name some u = inl (inr u)
+unindexed : (p : Progress) (es : Trace) (thing : Thing) (name : Name) → Indexes p true es → length p.names ≤ p.read → (s root : Name) → HasRoot es s root → ((kind : BlobKind) × (thing ≡ blob_thing kind) × IsNowhere p.facts kind name × IsNeeded (Received es) root kind name) → IsUnindexed es s thing name
+unindexed p es thing name h all s root found none =
+    record { kind = none.0; called = none.1; root = root; found = found; needed = none.3; indexes = all_read Kind.Index p.names p.read es h.rolled all; ungiven = not_given p es none.0 name h none.2 }
 
 lengths_of : (p : Progress) (es : Trace) (content : List Name) (total : ℕ) → Indexes p true es → Sums p.facts content total → HaveLength es content total
 lengths_of p es [] total h s = s
 lengths_of p es (n ∷ ns) total h s = (fact_of BlobKind.Content n s.0, s.1, (h.gives (fact_of BlobKind.Content n s.0)).0 s.2.among, refl, refl, lengths_of p es ns s.1 h s.3, s.4)
 
 bad_tree : (p : Progress) (s root : Name) (es : Trace) (tree : Name) → Indexes p true es → HasRoot es s root
-    → (nodes : List Node) × IsTree (Received es) tree nodes × (IsDeepIn (Received es) root tree nodes ⊎ IsUnevenIn p.facts nodes) → IsBadTree es s tree
-bad_tree p s root es tree h found b = (b.0, b.1, why b.2)
+    → (path : List (List ℕ)) × Under (Received es) root path tree × IsUnfitIn p.facts (Received es) path tree → IsBadTree es s tree
+bad_tree p s root es tree h found b = record { root = root; path = b.0; found = found; leads = b.1; unfit = ⊎_elim inl (λ n. inr (n.0, n.1, why n.0 n.2)) b.2 }
   where
-    why : IsDeepIn (Received es) root tree b.0 ⊎ IsUnevenIn p.facts b.0 → ((b.0 ≢ []) × IsTooDeep es s tree) ⊎ IsUneven es b.0
-    why (inl d) = inl (d.0, (root, d.1.0, found, d.1.1, d.1.2))
-    why (inr u) = inr (record { name = u.0; size = u.1; content = u.2; total = u.3; among = u.4; lengths = lengths_of p es u.2 u.3 h u.5; other = u.6 })
+    why : (nodes : List Node) → ((nodes ≢ []) × (greatest_depth ≤ length b.0)) ⊎ IsUnevenIn p.facts nodes → ((nodes ≢ []) × (greatest_depth ≤ length b.0)) ⊎ IsUneven es nodes
+    why nodes (inl d) = inl d
+    why nodes (inr u) = inr (record { name = u.0; size = u.1; content = u.2; total = u.3; among = u.4; lengths = lengths_of p es u.2 u.3 h u.5; other = u.6 })
 
 not_empty : (task : Task) (token : Token) (es : Trace) → Works task token es → es ≡ [] → ⊥
 not_empty task token es w e = not_working task token (subst (λ fs. Works task token fs) e w)
@@ -139,7 +136,7 @@ not_empty task token es w e = not_working task token (subst (λ fs. Works task t
 -- a walk's end is one that a restore may have
 pub walk_concludes : (p : Progress) (s root : Name) (es : Trace) (end : End) (task : Task) (token : Token) → Works task token es → Indexes p true es → length p.names ≤ p.read → HasRoot es s root → WalkEnds p.facts (Received es) root end
     → Concludes (RestoreConcludes s) es (Outcome.Ended end)
-walk_concludes p s root es (End.Missing thing name) task token w h all found e = inl (missing_cause p es thing name (not_empty task token es w) (unindexed p es thing name h all e))
+walk_concludes p s root es (End.Missing thing name) task token w h all found e = inr (unindexed p es thing name h all s root found e)
 walk_concludes p s root es (End.BadObject thing tree) task token w h all found e =
     subst (λ t. Concludes (RestoreConcludes s) es (Outcome.Ended (End.BadObject t tree))) (sym e.0) (inr (bad_tree p s root es tree h found e.1))
 walk_concludes p s root es End.Busy task token w h all found e = absurd e
@@ -261,7 +258,7 @@ range_of s p fact pack offset len es k wanted =
 
 pub bad_bytes : (fact : Fact) (bytes : List ℕ) → (length bytes ≢ fact.place.length) ⊎ (naming.name bytes ≢ fact.name) → IsBadBlob fact bytes
 bad_bytes fact bytes (inl long) = inl long
-bad_bytes fact bytes (inr named) = inr (inl named)
+bad_bytes fact bytes (inr named) = inr named
 
 pub none_wanted : (wanted : Option Fact) (fact : Fact) → wanted ≡ None → wanted ≡ Some fact → ⊥
 none_wanted wanted fact p q = absurd (cc)

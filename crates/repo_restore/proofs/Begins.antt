@@ -16,11 +16,11 @@ use Rattle.repo_session.specs.Traces.{Each}
 use Rattle.repo_session.proofs.Receiving.{each_both}
 use Rattle.repo_restore.specs.declared.nodes.Begun.{Begun}
 use Rattle.repo_restore.specs.declared.nodes.Level.{Level}
-use Rattle.repo_restore.specs.Restoring.{IsNodeAt, MayGive}
+use Rattle.repo_restore.specs.Restoring.{Under, IsNodeAt, MayGive}
 use Rattle.repo_restore.specs.Walking.{NodeBegins, StandsIn, WaitsAs, WaitsIn, WalkEnds}
 use Rattle.repo_restore.specs.Walks.{IsNowhere, IsWriting, Sums, AtLevel, AtOpen}
 use Rattle.repo_restore.proofs.Rebuilds.{rebuilt_both, writing_new}
-use Rattle.repo_restore.proofs.Trees.{contains_got, node_at, open_more, open_all, close_level}
+use Rattle.repo_restore.proofs.Trees.{contains_got, node_at, open_more, open_all, close_level, under_more}
 
 split : (old mid new last : List Emission) → new ≡ mid ++ last → old ++ new ≡ (old ++ mid) ++ last
 split old mid new last p = ap (λ m. old ++ m) p ∙ sym (append_assoc old mid last)
@@ -52,18 +52,18 @@ step_waits facts B root tree path (NodeKind.File size content) old mid new fact 
     )
 
 -- a node that can't be given out
-step_ends : (facts : List Fact) (B : Blobs) (root tree : Name) (path : List (List ℕ)) (name : List ℕ) (what : NodeKind) (nodes : List Node) (mid new : List Emission) (end : End) → IsNodeAt B root path what → IsTree B tree nodes
+step_ends : (facts : List Fact) (B : Blobs) (root tree : Name) (path : List (List ℕ)) (name : List ℕ) (what : NodeKind) (nodes : List Node) (mid new : List Emission) (end : End) (above : List (List ℕ)) → Under B root above tree → path ≡ above ++ name ∷ [] → IsNodeAt B root path what → IsTree B tree nodes
     → Contains nodes (record { name = name; what = what }) → NodeBegins facts tree path what mid new (Begun.Ended end) → Each (MayGive B root) mid → WalkEnds facts B root end × Each (MayGive B root) new
-step_ends facts B root tree path name (NodeKind.Dir subtree) nodes mid new end at read among h given =
+step_ends facts B root tree path name (NodeKind.Dir subtree) nodes mid new end above under is at read among h given =
     let last : List Emission = Emission.Dir path ∷ [] in (
-      subst (λ x. WalkEnds facts B root x) (sym h.0) (BlobKind.Tree, refl, h.1),
+      subst (λ x. WalkEnds facts B root x) (sym h.0) (BlobKind.Tree, refl, h.1, (above ++ name ∷ [], under_more B root above tree nodes name subtree under read among)),
       subst (λ e. Each (MayGive B root) e) (sym h.2) (each_both (MayGive B root) mid last given ((subtree, at), tt)),
     )
-step_ends facts B root tree path name (NodeKind.File size content) nodes mid new end at read among h given = (why h.1, subst (λ e. Each (MayGive B root) e) (sym h.0) given)
+step_ends facts B root tree path name (NodeKind.File size content) nodes mid new end above under is at read among h given = (why h.1, subst (λ e. Each (MayGive B root) e) (sym h.0) given)
   where
-    why : ((n : Name) × (end ≡ End.Missing Thing.Content n) × IsNowhere facts BlobKind.Content n) ⊎ ((end ≡ End.BadObject Thing.Tree tree) × ((total : ℕ) × Sums facts content total × (total ≢ size))) → WalkEnds facts B root end
-    why (inl m) = subst (λ x. WalkEnds facts B root x) (sym m.1) (BlobKind.Content, refl, m.2)
-    why (inr u) = subst (λ x. WalkEnds facts B root x) (sym u.0) (refl, (nodes, read, inr (name, size, content, u.1.0, among, u.1.1, u.1.2)))
+    why : ((n : Name) × (end ≡ End.Missing Thing.Content n) × Contains content n × IsNowhere facts BlobKind.Content n) ⊎ ((end ≡ End.BadObject Thing.Tree tree) × ((total : ℕ) × Sums facts content total × (total ≢ size))) → WalkEnds facts B root end
+    why (inl m) = subst (λ x. WalkEnds facts B root x) (sym m.1) (BlobKind.Content, refl, m.3, (above, tree, nodes, name, size, content, under, read, among, m.2))
+    why (inr u) = subst (λ x. WalkEnds facts B root x) (sym u.0) (refl, (above, under, inr (nodes, read, inr (name, size, content, u.1.0, among, u.1.1, u.1.2))))
 
 module _ (facts : List Fact) (B : Blobs) (root : Name) (level : Level) (at : ℕ) (before : List Entry) (old mid new : List Emission) (node : Node) where
   pub begun_done : StandsIn B root level at before old mid → slice_get level.nodes.items at ≡ Some node → NodeBegins facts level.tree (level.path ++ node.name ∷ []) node.what mid new Begun.Done → StandsIn B root level (at + 1) before old new
@@ -85,7 +85,7 @@ module _ (facts : List Fact) (B : Blobs) (root : Name) (level : Level) (at : ℕ
   pub begun_ends : (end : End) → StandsIn B root level at before old mid → slice_get level.nodes.items at ≡ Some node → NodeBegins facts level.tree (level.path ++ node.name ∷ []) node.what mid new (Begun.Ended end)
       → WalkEnds facts B root end × Each (MayGive B root) new
   begun_ends end h p b =
-      step_ends facts B root level.tree (level.path ++ node.name ∷ []) node.name node.what level.nodes.items mid new end (node_at B root level.tree level.path level.nodes.items at at h.inside node h.opened p)
+      step_ends facts B root level.tree (level.path ++ node.name ∷ []) node.name node.what level.nodes.items mid new end level.path h.opened.under refl (node_at B root level.tree level.path level.nodes.items at at h.inside node h.opened p)
       h.opened.read (contains_got level.nodes.items at node p) b h.given
 
 -- past the last node of a level

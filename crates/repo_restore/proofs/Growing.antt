@@ -24,7 +24,7 @@ received_grows e es kind bytes h = record { fact = h.fact; given = fact_stays e 
 tree_grows : (B C : Blobs) → Grows B C → (t : Name) (nodes : List Node) → IsTree B t nodes → IsTree C t nodes
 tree_grows B C grows t nodes h = record { text = h.text; among = grows BlobKind.Tree h.text h.among; named = h.named; reads = h.reads }
 
-under_grows : (B C : Blobs) → Grows B C → (root : Name) (path : List (List ℕ)) (tree : Name) → Under B root path tree → Under C root path tree
+pub under_grows : (B C : Blobs) → Grows B C → (root : Name) (path : List (List ℕ)) (tree : Name) → Under B root path tree → Under C root path tree
 under_grows B C grows root [] tree h = h
 under_grows B C grows root (n ∷ path) tree h = (h.0, h.1, tree_grows B C grows root h.0 h.2, h.3, under_grows B C grows h.1 path tree h.4)
 

@@ -7,3 +7,5 @@ pub mod Begins
 pub mod Passing
 pub mod Growing
 pub mod Advancing
+pub mod RestoreRuns
+pub mod StoredRuns

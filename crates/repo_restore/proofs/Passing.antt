@@ -18,7 +18,7 @@ use Rattle.repo_session.specs.Traces.{Each}
 use Rattle.repo_restore.specs.declared.nodes.Begun.{Begun}
 use Rattle.repo_restore.specs.declared.nodes.Level.{Level}
 use Rattle.repo_restore.specs.Nodes.{WaitsFor, BlobFollows}
-use Rattle.repo_restore.specs.Restoring.{Under, MayGive, counted}
+use Rattle.repo_restore.specs.Restoring.{Under, IsNeeded, MayGive, counted}
 use Rattle.repo_restore.specs.Walking.{WaitsIn, WaitsAs, with_begun, IsNextPath, FileWaits, TreeWaits, WaitsByKind, WalkWaits, WalkEnds}
 use Rattle.repo_restore.specs.Walks.{IsOpen, IsBegun, IsFile, IsWriting, Leads, AtLevel, AtOpen, Sums}
 use Rattle.repo_restore.proofs.Rebuilds.{rebuilt_length, writing_more, writing_done}
@@ -255,7 +255,11 @@ module _ (facts : List Fact) (B : Blobs) (root : Name) (levels : List Level) (se
       )
 
   -- it is in no index
-  pub blob_ends : (end : End) → B BlobKind.Content bytes → out ≡ [] → mid ≡ out ++ Emission.Piece bytes ∷ [] → BlobFollows facts content next mid new (Begun.Ended end) → WalkEnds facts B root end × Each (MayGive B root) new
-  blob_ends end among none m b =
+  pub blob_ends : (h : FileWaits facts B root levels sent fact old) → content ≡ h.content → (end : End) → B BlobKind.Content bytes → out ≡ [] → mid ≡ out ++ Emission.Piece bytes ∷ [] → BlobFollows facts content next mid new (Begun.Ended end) → WalkEnds facts B root end × Each (MayGive B root) new
+  blob_ends h same end among none m b =
       let given : new ≡ Emission.Piece bytes ∷ [] = b.4 ∙ pieced none m in
-      (subst (λ x. WalkEnds facts B root x) (sym b.1) (BlobKind.Content, refl, b.3), subst (λ e. Each (MayGive B root) e) (sym given) (among, tt))
+      let node_is : h.node ≡ record { name = h.node.name; what = NodeKind.File h.size h.content } = λ i. record { name = h.node.name; what = h.file i } in
+      let file = subst (λ (n : Node). Contains h.level.nodes.items n) node_is (contains_got h.level.nodes.items h.begun.at h.node h.begun.node_is) in
+      let blob = subst (λ (ns : List Name). Contains ns b.0) same (contains_got content next b.0 b.2) in
+      let needed : IsNeeded B root BlobKind.Content b.0 = (h.level.path, h.level.tree, h.level.nodes.items, h.node.name, h.size, h.content, h.begun.opened.under, h.begun.opened.read, file, blob) in
+      (subst (λ x. WalkEnds facts B root x) (sym b.1) (BlobKind.Content, refl, b.3, needed), subst (λ e. Each (MayGive B root) e) (sym given) (among, tt))

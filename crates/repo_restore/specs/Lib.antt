@@ -9,3 +9,4 @@ pub mod Nodes
 pub mod Walking
 pub mod RestoreStates
 pub mod RestoreObedience
+pub mod Laws

@@ -1,5 +1,5 @@
 -- What beginning a node gives.
-use Rattle.std.specs.Prelude.{◌≡◌, ◌≢◌, ◌⊎◌, ◌++◌, ◌∷◌, [], ℕ, List, slice_get, Some, None}
+use Rattle.std.specs.Prelude.{◌≡◌, ◌≢◌, ◌⊎◌, ◌++◌, ◌∷◌, [], ℕ, List, slice_get, Some, None, Contains}
 use Rattle.repo_name.specs.declared.kinds.BlobKind.{BlobKind}
 use Rattle.repo_name.specs.declared.kinds.Thing.{Thing}
 use Rattle.repo_name.specs.declared.names.Name.{Name}
@@ -31,4 +31,4 @@ abbrev pub FileBegins : List Fact → Name → List (List ℕ) → ℕ → List 
 FileBegins facts tree path size content old new Begun.Done = (content ≡ []) × (size ≡ 0) × (new ≡ old ++ Emission.File path ∷ Emission.Close ∷ [])
 FileBegins facts tree path size content old new (Begun.Waits fact) = (slice_get content 0 ≡ Some fact.name) × WaitsFor facts BlobKind.Content fact.name fact × Sums facts content size × (new ≡ old ++ Emission.File path ∷ [])
 FileBegins facts tree path size content old new (Begun.Ended end) = (new ≡ old)
-    × (((name : Name) × (end ≡ End.Missing Thing.Content name) × IsNowhere facts BlobKind.Content name) ⊎ ((end ≡ End.BadObject Thing.Tree tree) × ((total : ℕ) × Sums facts content total × (total ≢ size))))
+    × (((name : Name) × (end ≡ End.Missing Thing.Content name) × Contains content name × IsNowhere facts BlobKind.Content name) ⊎ ((end ≡ End.BadObject Thing.Tree tree) × ((total : ℕ) × Sums facts content total × (total ≢ size))))

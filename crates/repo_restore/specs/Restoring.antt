@@ -1,5 +1,6 @@
 -- What a restore may ask, give out and tell.
 use Rattle.std.specs.Prelude.{◌≡◌, ◌≢◌, ◌≤◌, ◌⊎◌, ◌+◌, ◌-◌, ◌^◌, ◌++◌, ◌∷◌, [], ⊤, ℕ, false, List, length, min, Some, Contains}
+use Rattle.repo_name.specs.Naming as naming
 use Rattle.repo_name.specs.declared.kinds.BlobKind.{BlobKind}
 use Rattle.repo_name.specs.declared.kinds.Kind.{Kind}
 use Rattle.repo_name.specs.declared.kinds.Thing.{Thing}
@@ -10,14 +11,16 @@ use Rattle.repo_tree.specs.declared.nodes.Node.{Node}
 use Rattle.repo_tree.specs.declared.nodes.NodeKind.{NodeKind}
 use Rattle.repo_tree.specs.declared.snapshots.Snapshot.{Snapshot}
 use Rattle.repo_tree.specs.SnapshotText.{IsSnapshotText}
+use Rattle.repo_tree.specs.TreeText.{IsTreeText}
 use Rattle.repo_tree.specs.Spelling.{Blobs, IsTree, Spells, greatest_depth}
 use Rattle.repo_session.specs.declared.emissions.Emission.{Emission}
 use Rattle.repo_session.specs.declared.outcomes.End.{End}
 use Rattle.repo_session.specs.declared.outcomes.Outcome.{Outcome}
 use Rattle.repo_session.specs.Askers.{Asker}
+use Rattle.repo_session.specs.Ends.{blob_thing}
 use Rattle.repo_session.specs.Order.{Task}
 use Rattle.repo_session.specs.Rebuilding.{rebuilt}
-use Rattle.repo_session.specs.Traces.{Each, Exchange, Trace, emitted_in, IsRead, ReadFact}
+use Rattle.repo_session.specs.Traces.{Each, Exchange, Trace, emitted_in, IsRead, ReadFact, IsGiven, IsAllRead}
 use Rattle.repo_restore.specs.Received.{Received}
 
 -- who restores, and which snapshot
@@ -37,6 +40,12 @@ HasRoot es name root = (x : List ℕ) × (snapshot : Snapshot) × IsRead es Kind
 abbrev pub Under : Blobs → Name → List (List ℕ) → Name → Type 0
 Under B root [] tree = tree ≡ root
 Under B root (name ∷ path) tree = (nodes : List Node) × (subtree : Name) × IsTree B root nodes × Contains nodes (record { name = name; what = NodeKind.Dir subtree }) × Under B subtree path tree
+
+-- a blob that the tree needs: the tree to which a path leads, or a content blob of a file there
+abbrev pub IsNeeded : Blobs → Name → BlobKind → Name → Type 0
+IsNeeded B root BlobKind.Tree name = (path : List (List ℕ)) × Under B root path name
+IsNeeded B root BlobKind.Content name = (path : List (List ℕ)) × (tree : Name) × (nodes : List Node) × (file : List ℕ) × (size : ℕ) × (content : List Name) × Under B root path tree × IsTree B tree nodes
+    × Contains nodes (record { name = file; what = NodeKind.File size content }) × Contains content name
 
 -- what stands at a path: a tree to which the path leads has a node of its last name
 pub record IsNodeAt (B : Blobs) (root : Name) (path : List (List ℕ)) (what : NodeKind) : Type 0 where
@@ -75,13 +84,28 @@ pub record IsUneven (es : Trace) (nodes : List Node) : Type 0 where
   pub lengths : HaveLength es content total
   pub other : total ≢ size
 
--- the tree stands where no nodes may be
-abbrev pub IsTooDeep : Trace → Name → Name → Type 0
-IsTooDeep es snapshot tree = (root : Name) × (path : List (List ℕ)) × HasRoot es snapshot root × (greatest_depth ≤ length path) × Under (Received es) root path tree
+-- bytes under the tree's name that are no tree's text
+abbrev pub IsNoTree : Blobs → Name → Type 0
+IsNoTree B tree = (x : List ℕ) × B BlobKind.Tree x × (naming.name x ≡ tree) × ((nodes : List Node) → ¬ IsTreeText x nodes)
 
--- a tree that was received and can't be restored: it has nodes too deep, or a file whose blobs haven't its size
-abbrev pub IsBadTree : Trace → Name → Name → Type 0
-IsBadTree es snapshot tree = (nodes : List Node) × IsTree (Received es) tree nodes × (((nodes ≢ []) × IsTooDeep es snapshot tree) ⊎ IsUneven es nodes)
+-- a tree to which a path leads, that was received and can't be restored: its bytes are no tree's text, or it has nodes where none may be, or a file
+-- whose blobs haven't its size
+pub record IsBadTree (es : Trace) (snapshot tree : Name) : Type 0 where
+  pub root : Name
+  pub path : List (List ℕ)
+  pub found : HasRoot es snapshot root
+  pub leads : Under (Received es) root path tree
+  pub unfit : IsNoTree (Received es) tree ⊎ ((nodes : List Node) × IsTree (Received es) tree nodes × (((nodes ≢ []) × (greatest_depth ≤ length path)) ⊎ IsUneven es nodes))
+
+-- every index was read, and none gives a blob that the snapshot needs
+pub record IsUnindexed (es : Trace) (snapshot : Name) (thing : Thing) (name : Name) : Type 0 where
+  pub kind : BlobKind
+  pub called : thing ≡ blob_thing kind
+  pub root : Name
+  pub found : HasRoot es snapshot root
+  pub needed : IsNeeded (Received es) root kind name
+  pub indexes : IsAllRead Kind.Index es
+  pub ungiven : ¬ IsGiven es kind name
 
 -- what was given out is what the snapshot's tree spells in the blobs that were received
 abbrev pub IsRestored : Trace → Name → ℕ → Type 0
@@ -91,12 +115,18 @@ IsRestored es snapshot entries = (root : Name) × HasRoot es snapshot root × Sp
 abbrev pub RestoreAllows : Name → Trace → Ask → Type 0
 RestoreAllows snapshot es ask = ⊥
 
--- each part given out is one that may be
-abbrev pub RestoreGives : Name → Trace → Exchange → Type 0
-RestoreGives snapshot es e = (root : Name) × HasRoot es snapshot root × Each (MayGive (Received (e ∷ es)) root) e.emitted
+-- a blob is asked for
+abbrev pub IsForBlob : Ask → Type 0
+IsForBlob (Ask.Range pack offset len) = ⊤
+IsForBlob _ = ⊥
 
--- it is told that all was given out only where it was
+-- something is given out on a blob alone, and each part is one that may be
+abbrev pub RestoreGives : Name → Trace → Exchange → Type 0
+RestoreGives snapshot es e = IsForBlob e.ask × (root : Name) × HasRoot es snapshot root × Each (MayGive (Received (e ∷ es)) root) e.emitted
+
+-- it is told that all was given out only where it was, and of a blob or a tree that it needs that it isn't there or is bad only where that is so
 abbrev pub RestoreConcludes : Name → Trace → Outcome → Type 0
 RestoreConcludes snapshot es (Outcome.Complete entries) = IsRestored es snapshot entries
 RestoreConcludes snapshot es (Outcome.Ended (End.BadObject Thing.Tree tree)) = IsBadTree es snapshot tree
+RestoreConcludes snapshot es (Outcome.Ended (End.Missing thing name)) = IsUnindexed es snapshot thing name
 RestoreConcludes snapshot es _ = ⊥

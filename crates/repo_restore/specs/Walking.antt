@@ -19,7 +19,7 @@ use Rattle.repo_restore.specs.declared.walks.Turn.{Turn}
 use Rattle.repo_restore.specs.declared.walks.Walk.{Walk}
 use Rattle.repo_index.specs.Lookups.{IsLeast}
 use Rattle.repo_restore.specs.Nodes.{WaitsFor, DirBegins, FileBegins}
-use Rattle.repo_restore.specs.Restoring.{Under, MayGive, counted}
+use Rattle.repo_restore.specs.Restoring.{Under, IsNeeded, IsNoTree, MayGive, counted}
 use Rattle.repo_restore.specs.Walks.{Sums, IsNowhere, IsOpen, IsBegun, IsFile, Leads, IsWriting}
 
 -- what beginning a node gives
@@ -54,14 +54,14 @@ pub record WaitsIn (facts : List Fact) (B : Blobs) (root : Name) (level : Level)
 abbrev pub IsUnevenIn : List Fact → List Node → Type 0
 IsUnevenIn facts nodes = (name : List ℕ) × (size : ℕ) × (content : List Name) × (total : ℕ) × Contains nodes (record { name = name; what = NodeKind.File size content }) × Sums facts content total × (total ≢ size)
 
--- nodes where none may be
-abbrev pub IsDeepIn : Blobs → Name → Name → List Node → Type 0
-IsDeepIn B root tree nodes = (nodes ≢ []) × ((path : List (List ℕ)) × (greatest_depth ≤ length path) × Under B root path tree)
+-- why the tree to which a path leads can't be restored: its bytes are no tree's text, or it has nodes where none may be, or a file whose blobs haven't its size
+abbrev pub IsUnfitIn : List Fact → Blobs → List (List ℕ) → Name → Type 0
+IsUnfitIn facts B path tree = IsNoTree B tree ⊎ ((nodes : List Node) × IsTree B tree nodes × (((nodes ≢ []) × (greatest_depth ≤ length path)) ⊎ IsUnevenIn facts nodes))
 
 -- why a walk ends
 abbrev pub WalkEnds : List Fact → Blobs → Name → End → Type 0
-WalkEnds facts B root (End.Missing thing name) = (kind : BlobKind) × (thing ≡ blob_thing kind) × IsNowhere facts kind name
-WalkEnds facts B root (End.BadObject thing tree) = (thing ≡ Thing.Tree) × ((nodes : List Node) × IsTree B tree nodes × (IsDeepIn B root tree nodes ⊎ IsUnevenIn facts nodes))
+WalkEnds facts B root (End.Missing thing name) = (kind : BlobKind) × (thing ≡ blob_thing kind) × IsNowhere facts kind name × IsNeeded B root kind name
+WalkEnds facts B root (End.BadObject thing tree) = (thing ≡ Thing.Tree) × ((path : List (List ℕ)) × Under B root path tree × IsUnfitIn facts B path tree)
 WalkEnds facts B root _ = ⊥
 
 -- what beginning a level's next nodes gives

@@ -33,7 +33,7 @@ IsNowhere facts kind name = (place : Place) → ¬ Contains facts (fact_of kind 
 -- what looking up a file's blobs gives
 abbrev pub Files : List Fact → ℕ → List Name → Filed → Type 0
 Files facts size content Filed.Even = Sums facts content size
-Files facts size content (Filed.Missing name) = IsNowhere facts BlobKind.Content name
+Files facts size content (Filed.Missing name) = Contains content name × IsNowhere facts BlobKind.Content name
 Files facts size content Filed.Uneven = (total : ℕ) × Sums facts content total × (total ≢ size)
 
 -- a directory's tree was received, and what its first nodes spell is known

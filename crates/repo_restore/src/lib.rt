@@ -16,6 +16,7 @@
 //! and `Walking` (where a walk over trees stands, and what its steps give), `RestoreStates`.
 #![tactic(auto)]
 
+mod laws;
 #[cfg(test)]
 mod listing_tests;
 mod listings;
@@ -23,8 +24,14 @@ mod nodes;
 #[cfg(test)]
 mod restore_tests;
 mod restores;
+#[cfg(test)]
+mod round_trip_tests;
 mod steps;
 mod walks;
 
+pub use laws::{
+    list_changes_nothing, list_ends_well, restore_changes_nothing, restore_ends_well,
+    restored_is_handed,
+};
 pub use listings::SnapshotList;
 pub use restores::Restore;

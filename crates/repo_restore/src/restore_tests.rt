@@ -307,11 +307,17 @@ fn a_blob_of_other_bytes(rt: HostRuntime) -> Result<(), Fail> {
 }
 
 #[test]
-fn a_tree_that_is_no_tree(rt: HostRuntime) -> Result<(), Fail> {
-    let mut blobs = Blobs::new(rt.alloc());
-    let no_tree = blobs.add(BlobKind::Tree, b"[]")?;
-    let (ended, _) = blobs.restored(no_tree)?;
-    assert_eq!(rt; ended, Err(End::BadObject(Thing::Tree, no_tree)));
+fn trees_that_are_no_trees(rt: HostRuntime) -> Result<(), Fail> {
+    for text in [
+        "[]",
+        r#"{"nodes":[{"content":[],"name":"..","size":0,"type":"file"}]}"#,
+    ] {
+        let mut blobs = Blobs::new(rt.alloc());
+        let no_tree = blobs.add(BlobKind::Tree, text.as_bytes())?;
+        let (ended, told) = blobs.restored(no_tree)?;
+        assert_eq!(rt; ended, Err(End::BadObject(Thing::Tree, no_tree)));
+        assert_eq!(rt; told.as_str(), "");
+    }
     Ok(())
 }
 

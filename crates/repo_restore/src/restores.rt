@@ -24,7 +24,9 @@ use crate::walks::{Turn, Walk};
 use repo_index::Fact;
 use repo_name::{BlobKind, Kind, Name, Thing, name_of};
 use repo_pack::Place;
-use repo_session::{Catalog, Client, Emission, Heard, Indexed, Job, Opening, Outcome, Paged, Who};
+use repo_session::{
+    Catalog, Client, Emission, End, Heard, Indexed, Job, Opening, Outcome, Paged, Who,
+};
 use repo_tree::{Snapshot, TreeError, read_tree};
 use repo_wire::{Ask, Reply, Request, Say};
 use std::alloc::{AllocError, Global};
@@ -296,8 +298,9 @@ impl Restore {
             Ok(nodes) => nodes,
             Err(error) => {
                 check_fault(error)?;
+                self.opening.answered();
                 self.given.clear();
-                self.opening.reject(Thing::Tree, tree);
+                self.go_on(Turn::Ended(End::BadObject(Thing::Tree, tree)));
                 return Ok(());
             }
         };

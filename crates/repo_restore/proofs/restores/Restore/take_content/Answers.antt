@@ -8,7 +8,7 @@ use Rattle.repo_session.specs.Traces.{Exchange, Trace, emitted_in}
 use Rattle.repo_session.proofs.Receiving.{bytes_not_dead}
 use Rattle.repo_restore.specs.declared.restores.RestoreJob.{RestoreJob}
 use Rattle.repo_restore.specs.Received.{Received}
-use Rattle.repo_restore.specs.Restoring.{HasRoot, RestoreGives}
+use Rattle.repo_restore.specs.Restoring.{HasRoot, IsForBlob, RestoreGives}
 use Rattle.repo_restore.specs.RestoreStates.{Progress, progress_of, StandsRestore}
 use Rattle.repo_restore.proofs.Advancing.{task_kept, turn_is, turn_gave, range_taken}
 use Rattle.repo_restore.proofs.restores.Restore.take_content.Goals as goal
@@ -31,7 +31,7 @@ returns-clause-ok c = λ fact ask of kind wanted long named r es p q f.
     let W : Ask → Type 0 = λ x. IsWork x in
     let G : BlobKind → Type 0 = λ k. Received fs k bytes in
     let turns = c.in_ok-turn.ensures.ok fs t.root fact (emitted_in es) t.waits kind (subst G kind (t.got named)) named long c.new-out.ensures.items in
-    let gives : RestoreGives s es e = (t.root, t.found, turn_gave a.facts (Received fs) t.root walk.levels.items walk.sent walk.entries (emitted_in es) out c.in_ok-turn.turn turns) in
+    let gives : RestoreGives s es e = (subst IsForBlob (sym (q ∙ of)) tt, t.root, t.found, turn_gave a.facts (Received fs) t.root walk.levels.items walk.sent walk.entries (emitted_in es) out c.in_ok-turn.turn turns) in
     let ready = c.answered.ensures.ready r say out es p (subst W (sym (q ∙ of)) tt) (bytes_not_dead bytes say refl) (inr gives) f.fits in
     let J : RestoreJob → Type 0 = λ j. HasRoot fs j.snapshot t.root in
     let fits = c.go_on.ensures.fits fs (record {

@@ -1,4 +1,4 @@
-use Rattle.std.proofs.Common.{◌≡◌, ◌≢◌, ◌≤◌, ◌<◌, ◌⊎◌, ◌++◌, ◌∷◌, [], ℕ, List, length, refl, sym, subst, inl, ◌∙◌}
+use Rattle.std.proofs.Common.{◌≡◌, ◌≢◌, ◌≤◌, ◌<◌, ◌⊎◌, ◌++◌, ◌∷◌, [], ℕ, List, length, refl, sym, subst, inl, inr, ◌∙◌}
 use Rattle.repo_name.specs.declared.kinds.BlobKind.{BlobKind}
 use Rattle.repo_name.specs.declared.names.Name.{Name}
 use Rattle.repo_tree.specs.declared.nodes.Node.{Node}
@@ -26,7 +26,7 @@ returns-then-is_too_deep-clause-ok c = λ gs root fact old h k n t none.
     let N : List Node → Type 0 = λ ns. ns ≢ [] in
     let U : Name → Type 0 = λ m. Under (Received gs) root tree.0 m in
     let E : List Emission → Type 0 = λ e. Each (MayGive (Received gs) root) e in
-    ((refl, (c.args.nodes.items, t, inl (subst N c.as_slice.ensures.value deep.1, (tree.0, subst D at deep.0, subst U n tree.2)))), subst E (sym none) tt)
+    ((refl, (tree.0, subst U n tree.2, inr (c.args.nodes.items, t, inl (subst N c.as_slice.ensures.value deep.1, subst D at deep.0)))), subst E (sym none) tt)
 
 pub returns-in-Ok-clause-ok : goal.returns-in-Ok-clause-ok
 returns-in-Ok-clause-ok c = λ gs root fact old h k n t none.

@@ -63,9 +63,18 @@ returns-in-Waits-clause-ok c = λ gs root fact old h k among named long none.
 
 pub returns-in-Ended-clause-ok : goal.returns-in-Ended-clause-ok
 returns-in-Ended-clause-ok c = λ gs root fact old h k among named long none.
+    let w = c.args.self.now in
+    let levels = w.levels.items in
+    let facts = c.args.lookup.now in
     let out = c.args.out.now.items in
     let mid = c.push.new.self.items in
+    let new = c.next_blob.new.out.items in
+    let content = c.open_content-content.result.now in
+    let next = c.one_more-sent.result in
     let bytes = c.args.bytes.now in
+    let both = file_waits facts (Received gs) root levels w.sent w.entries fact old out mid new content next bytes h k in
+    let f = both.0 in
+    let same = c.open_content-content.ensures f.above f.level f.node f.size f.content (c.as_slice.ensures.value ∙ f.levels_are) (f.begun.at, f.begun.counts, f.begun.node_is) f.file in
     let m : mid ≡ out ++ Emission.Piece bytes ∷ [] = c.in_ok-push.ensures.items ∙ ap (λ b. out ++ Emission.Piece b ∷ []) c.in_ok-piece.ensures in
     let b = rw c.in-Ended.is at c.in_ok-next_blob.ensures in
-    blob_ends c.args.lookup.now (Received gs) root c.args.self.now.levels.items c.args.self.now.sent c.args.self.now.entries fact old out mid c.next_blob.new.out.items c.open_content-content.result.now c.one_more-sent.result bytes c.in-Ended.end among none m b
+    blob_ends facts (Received gs) root levels w.sent w.entries fact old out mid new content next bytes f same c.in-Ended.end among none m b

@@ -1,0 +1,161 @@
+-- What a restore gives out of a snapshot that a backup reported as stored.
+use Rattle.std.proofs.Common.{◌≡◌, ◌⊎◌, ◌++◌, ◌∷◌, [], ℕ, List, length, Option, Some, None, refl, sym, ap, subst, inl, inr, ⊎_elim, append-nil, ◌∙◌, Contains}
+use Rattle.std.proofs.lemmas.Option.{same_Some}
+use Rattle.repo_name.specs.Naming as naming
+use Rattle.repo_name.specs.declared.kinds.BlobKind.{BlobKind}
+use Rattle.repo_name.specs.declared.kinds.Kind.{Kind}
+use Rattle.repo_name.specs.declared.names.Name.{Name}
+use Rattle.repo_name.specs.declared.tokens.Token.{Token}
+use Rattle.repo_wire.specs.declared.messages.Ask.{Ask}
+use Rattle.repo_wire.specs.declared.messages.Request.{Request}
+use Rattle.repo_wire.specs.declared.messages.Say.{Say}
+use Rattle.repo_pack.specs.PackLayout.{item_of}
+use Rattle.repo_tree.specs.Laws.{Agree}
+use Rattle.repo_tree.specs.Spelling.{Blobs, Spells}
+use Rattle.repo_tree.specs.SnapshotText.{IsSnapshotText}
+use Rattle.repo_tree.specs.declared.entries.Entry.{Entry}
+use Rattle.repo_tree.specs.declared.snapshots.Snapshot.{Snapshot}
+use Rattle.repo_tree.proofs.SnapshotLemmas.{snapshot_texts_one}
+use Rattle.repo_tree.proofs.SpellingLemmas.{spells_once}
+use Rattle.repo_store.specs.Stores.{Store, Objects}
+use Rattle.repo_session.specs.declared.emissions.Emission.{Emission}
+use Rattle.repo_session.specs.declared.outcomes.Outcome.{Outcome}
+use Rattle.repo_session.specs.Alone.{WasThere, IsSent, IsSpoken, NoClash}
+use Rattle.repo_session.specs.Askers.{Asker}
+use Rattle.repo_session.specs.Clients.{exchange}
+use Rattle.repo_session.specs.Ends.{before_unlock, without_unlock}
+use Rattle.repo_session.specs.Order.{IsPermitted, Obeys}
+use Rattle.repo_session.specs.Rebuilding.{rebuilt}
+use Rattle.repo_session.specs.Talks.{Turn, Talk, trace_of}
+use Rattle.repo_session.specs.Traces.{Exchange, Trace, Exchanged, WasAsked, emitted_in}
+use Rattle.repo_session.proofs.Concluding.{was_put}
+use Rattle.repo_session.proofs.Growing.{Led, led, Shares}
+use Rattle.repo_session.proofs.Unchanging.{same_run, shares_run}
+use Rattle.repo_backup.specs.BackupStates.{backup_task}
+use Rattle.repo_backup.specs.Folders.{Folder, blobs_of}
+use Rattle.repo_backup.specs.Laws.{IsMadeOf}
+use Rattle.repo_backup.specs.Rules.{IsMade, SnapshotRule, Allows, GivesNothing}
+use Rattle.repo_backup.proofs.Lone.{was_asked}
+use Rattle.repo_backup.proofs.LoneRuns.{lone, covers_all}
+use Rattle.repo_backup.proofs.Puts.{is_made_later}
+use Rattle.repo_restore.specs.Laws.{RestoredIsHanded}
+use Rattle.repo_restore.specs.Received.{Received}
+use Rattle.repo_restore.specs.Restoring.{Wish, restore_task, IsForBlob, IsRestored, RestoreAllows, RestoreGives}
+
+-- the rule under which a snapshot was put, and what is made by then
+pub record PutThen (entries : List Entry) (es : Trace) (token : Token) (x : List ℕ) : Type 0 where
+  pub older : Trace
+  pub rule : SnapshotRule entries older token x
+  pub made : (folder : Folder) → IsMade entries older folder → IsMade entries es folder
+
+put_then : (who : Asker) (entries : List Entry) (es : Trace) (token : Token) (n : Name) (x : List ℕ) → Obeys (backup_task who) (Allows entries) (GivesNothing entries) es → WasAsked es (Ask.Put token Kind.Snapshot n x)
+    → PutThen entries es token x
+put_then who entries [] token n x o h = absurd h
+put_then who entries (e ∷ es) token n x o (inl here) = record { older = es; rule = subst (λ a. IsPermitted (Allows entries) es a) here o.1; made = λ folder m. is_made_later entries e es folder m }
+put_then who entries (e ∷ es) token n x o (inr before) =
+    let p = put_then who entries es token n x o.3 before in
+    record { older = p.older; rule = p.rule; made = λ folder m. is_made_later entries e es folder (p.made folder m) }
+
+-- an exchange before the end of the lock is one of all
+exchanged_whole : (newest : Ask) (e : Exchange) (es : Trace) (ask : Ask) (say : Say) → Exchanged (without_unlock newest (e ∷ es) es) ask say → Exchanged (e ∷ es) ask say
+exchanged_whole Ask.Ticket e es ask say h = h
+exchanged_whole (Ask.Lock row) e es ask say h = h
+exchanged_whole (Ask.Refresh token time) e es ask say h = h
+exchanged_whole (Ask.Unlock token) e es ask say h = inr h
+exchanged_whole Ask.Locks e es ask say h = h
+exchanged_whole (Ask.List k after) e es ask say h = h
+exchanged_whole (Ask.Get k n) e es ask say h = h
+exchanged_whole (Ask.Range p offset len) e es ask say h = h
+exchanged_whole (Ask.Put token k n x) e es ask say h = h
+exchanged_whole (Ask.Delete token k n) e es ask say h = h
+exchanged_whole Ask.Config e es ask say h = h
+
+exchanged_before : (es : Trace) (ask : Ask) (say : Say) → Exchanged (before_unlock es) ask say → Exchanged es ask say
+exchanged_before [] ask say h = absurd h
+exchanged_before (e ∷ es) ask say h = exchanged_whole e.ask e es ask say h
+
+-- what a snapshot in the store was made from
+pub record IsMadeFrom (entries : List Entry) (es : Trace) (objects : Objects) (name : Name) : Type 0 where
+  pub text : List ℕ
+  pub token : Token
+  pub there : objects Kind.Snapshot name ≡ Some text
+  pub older : Trace
+  pub rule : SnapshotRule entries older token text
+  pub made : (folder : Folder) → IsMade entries older folder → IsMade entries es folder
+
+module _ (w : Wish) (entries : List Entry) (from mid : Store) (es : Trace) (Sent : Ask → Type 0) (clash : NoClash (IsSpoken (IsMadeOf entries es) from Sent))
+    (there : (k : Kind) (n : Name) (x : List ℕ) → mid.objects k n ≡ Some x → WasThere from Sent k x) (source : IsMadeFrom entries es mid.objects w.snapshot) where
+  -- what was received agrees with what was made
+  agrees : (talk : Talk) (to : Store) → Shares mid (trace_of talk) to → to.objects ≡ mid.objects → Agree (λ k y. Contains (blobs_of source.rule.folder) (item_of k y)) (Received (trace_of talk))
+  agrees talk to shares same k x y made r named =
+      let first : (j : Kind) (n : Name) (z : List ℕ) → to.objects j n ≡ Some z → mid.objects j n ≡ Some z = λ j n z p. sym (ap (λ (s : Objects). s j n) same) ∙ p in
+      let pack = shares.ranged r.fact.place.pack r.fact.place.offset r.fact.place.length y r.replied in
+      let index = first Kind.Index r.given.index r.given.text (shares.got Kind.Index r.given.index r.given.text r.given.read.0) in
+      clash x y (inr (inr (record { folder = source.rule.folder; kind = k; cut = source.made source.rule.folder source.rule.cut; among = made })))
+      (inr (inl (record {
+        index = r.given.text;
+        fact = r.fact;
+        pack = pack.0;
+        listed = there Kind.Index r.given.index r.given.text index;
+        says = r.given.says;
+        there = there Kind.Pack r.fact.place.pack pack.0 (first Kind.Pack r.fact.place.pack pack.0 pack.1);
+        stands = pack.2;
+      })))
+      named
+
+  -- what was given out is what was handed in
+  handed : (talk : Talk) (to : Store) (count : ℕ) → Obeys (restore_task w) (RestoreAllows w.snapshot) (RestoreGives w.snapshot) (trace_of talk) → Led mid talk to → IsRestored (trace_of talk) w.snapshot count → rebuilt (emitted_in (trace_of talk)) ≡ entries
+  handed talk to count o h r =
+      let shares = shares_run (restore_task w) (RestoreAllows w.snapshot) (RestoreGives w.snapshot) (λ fs a x. x) mid talk to o h in
+      let same = same_run (restore_task w) (RestoreAllows w.snapshot) (RestoreGives w.snapshot) (λ fs a x. x) mid talk to o h in
+      let found = r.1 in
+      let got = sym (ap (λ (s : Objects). s Kind.Snapshot w.snapshot) same) ∙ shares.got Kind.Snapshot w.snapshot found.0 found.2.0 in
+      let one : source.text ≡ found.0 = same_Some source.text found.0 (sym source.there ∙ got) in
+      let snapshot : source.rule.snapshot ≡ found.1 = snapshot_texts_one found.0 source.rule.snapshot found.1 (subst (λ (x : List ℕ). IsSnapshotText x source.rule.snapshot) one source.rule.reads) found.3 in
+      let tree : source.rule.snapshot.tree ≡ r.0 = ap (λ (s : Snapshot). s.tree) snapshot ∙ found.4 in
+      sym (spells_once (λ k y. Contains (blobs_of source.rule.folder) (item_of k y)) (Received (trace_of talk)) (agrees talk to shares same) _ r.0 [] entries (rebuilt (emitted_in (trace_of talk)))
+      (subst (λ t. Spells (λ k y. Contains (blobs_of source.rule.folder) (item_of k y)) t [] entries) tree source.rule.spells) r.2)
+
+  -- nothing is given out on the end of the lock
+  nothing_given : (e : Exchange) (fs : Trace) (token : Token) → e.ask ≡ Ask.Unlock token → (e.emitted ≡ []) ⊎ RestoreGives w.snapshot fs e → emitted_in (e ∷ fs) ≡ emitted_in fs
+  nothing_given e fs token q (inl none) = ap (λ x. emitted_in fs ++ x) none ∙ append-nil (emitted_in fs)
+  nothing_given e fs token q (inr gives) = absurd (subst IsForBlob q gives.0)
+
+  handed_by : (ask : Ask) (turn : Turn) (talk : Talk) (to : Store) (count : ℕ) → turn.request.ask ≡ ask → Obeys (restore_task w) (RestoreAllows w.snapshot) (RestoreGives w.snapshot) (trace_of (turn ∷ talk)) → Led mid (turn ∷ talk) to
+      → IsRestored (without_unlock ask (trace_of (turn ∷ talk)) (trace_of talk)) w.snapshot count → rebuilt (emitted_in (trace_of (turn ∷ talk))) ≡ entries
+  handed_by (Ask.Unlock token) turn talk to count q o h r =
+      ap (λ (x : List Emission). rebuilt x) (nothing_given (exchange turn.request turn.reply turn.emitted) (trace_of talk) token q o.2) ∙ handed talk h.0 count o.3 h.1 r
+  handed_by Ask.Ticket turn talk to count q o h r = handed (turn ∷ talk) to count o h r
+  handed_by (Ask.Lock row) turn talk to count q o h r = handed (turn ∷ talk) to count o h r
+  handed_by (Ask.Refresh token time) turn talk to count q o h r = handed (turn ∷ talk) to count o h r
+  handed_by Ask.Locks turn talk to count q o h r = handed (turn ∷ talk) to count o h r
+  handed_by (Ask.List k after) turn talk to count q o h r = handed (turn ∷ talk) to count o h r
+  handed_by (Ask.Get k n) turn talk to count q o h r = handed (turn ∷ talk) to count o h r
+  handed_by (Ask.Range p offset len) turn talk to count q o h r = handed (turn ∷ talk) to count o h r
+  handed_by (Ask.Put token k n x) turn talk to count q o h r = handed (turn ∷ talk) to count o h r
+  handed_by (Ask.Delete token k n) turn talk to count q o h r = handed (turn ∷ talk) to count o h r
+  handed_by Ask.Config turn talk to count q o h r = handed (turn ∷ talk) to count o h r
+
+  handed_all : (talk : Talk) (to : Store) (count : ℕ) → Obeys (restore_task w) (RestoreAllows w.snapshot) (RestoreGives w.snapshot) (trace_of talk) → Led mid talk to → IsRestored (before_unlock (trace_of talk)) w.snapshot count
+      → rebuilt (emitted_in (trace_of talk)) ≡ entries
+  handed_all [] to count o h r = handed [] to count o h r
+  handed_all (turn ∷ talk) to count o h r = handed_by turn.request.ask turn talk to count refl o h r
+
+pub restored_handed : RestoredIsHanded
+restored_handed who entries from mid to failed failing late last talk talk' next next' name blobs bytes count asker sound ran is apart ran' is' =
+    let es : Trace = trace_of talk in
+    let knows = lone who entries from sound (IsSent es next) (IsMadeOf entries es) apart talk mid (covers_all entries es next) is.obeys (led from talk mid ran.run) in
+    let covers = covers_all entries es next in
+    let stored = is.concluded (Outcome.Stored name blobs bytes) refl in
+    let put = stored.put in
+    let done = exchanged_before es (Ask.Put put.0 Kind.Snapshot name stored.text) Say.Done put.1 in
+    let asked = was_asked es (Ask.Put put.0 Kind.Snapshot name stored.text) Say.Done done in
+    let found = knows.shares.put put.0 Kind.Snapshot name stored.text done in
+    let there : (k : Kind) (n : Name) (x : List ℕ) → mid.objects k n ≡ Some x → WasThere from (IsSent es next) k x = λ k n x p. ⊎_elim (λ old. inl (n, old)) (λ now. inr (now.0, n, covers.sent (Ask.Put now.0 k n x) now.1)) (knows.shares.origin k n x p) in
+    let named = (was_put (backup_task who) (Allows entries) (GivesNothing entries) es put.0 Kind.Snapshot name stored.text is.obeys asked).0 in
+    let one : found.0 ≡ stored.text = apart found.0 stored.text (inl (Kind.Snapshot, there Kind.Snapshot name found.0 found.1)) (inl (Kind.Snapshot, inr (put.0, name, covers.sent (Ask.Put put.0 Kind.Snapshot name stored.text) asked)))
+    (knows.sound.named Kind.Snapshot name found.0 found.1 ∙ sym named) in
+    let then = put_then who entries es put.0 name stored.text is.obeys asked in
+    handed_all (record { who = asker; snapshot = name }) entries from mid es (IsSent es next) apart there
+    (record { text = stored.text; token = put.0; there = found.1 ∙ ap Some one; older = then.older; rule = then.rule; made = then.made })
+    talk' to count is'.obeys (led mid talk' to ran'.run) (is'.concluded (Outcome.Complete count) refl)

@@ -1,0 +1,67 @@
+-- What holds of a restore and of a list that are alone with their store, by the definitions alone.
+use Rattle.std.specs.Prelude.{◌≡◌, ◌<◌, ◌^◌, ◌-◌, [], ⊤, ℕ, List, length, Option, Some, None}
+use Rattle.repo_name.specs.declared.kinds.Kind.{Kind}
+use Rattle.repo_name.specs.declared.names.Name.{Name}
+use Rattle.repo_tree.specs.declared.entries.Entry.{Entry}
+use Rattle.repo_wire.specs.declared.messages.Code.{Code}
+use Rattle.repo_wire.specs.declared.messages.Request.{Request}
+use Rattle.repo_store.specs.Laws.{greatest_count}
+use Rattle.repo_store.specs.Stores.{Store}
+use Rattle.repo_session.specs.Alone.{IsFit, IsSent, IsSpoken, NoClash}
+use Rattle.repo_session.specs.Askers.{Asker}
+use Rattle.repo_session.specs.Clients.{IsObedient}
+use Rattle.repo_session.specs.Rebuilding.{rebuilt}
+use Rattle.repo_session.specs.Soundness.{IsSound}
+use Rattle.repo_session.specs.Talks.{Talk, trace_of, TalkRan, MayStep}
+use Rattle.repo_session.specs.Traces.{Trace, emitted_in}
+use Rattle.repo_session.specs.declared.outcomes.End.{End}
+use Rattle.repo_session.specs.declared.outcomes.Outcome.{Outcome}
+use Rattle.repo_backup.specs.Laws.{AreApart, IsBackup}
+use Rattle.repo_restore.specs.Listing.{list_task, ListAllows, ListGives, ListConcludes}
+use Rattle.repo_restore.specs.Restoring.{Wish, restore_task, RestoreAllows, RestoreGives, RestoreConcludes}
+
+-- these exchanges, what is pending and the outcome are a restore's
+abbrev pub IsRestore : Wish → Option Request → Option Outcome → Trace → Type 0
+IsRestore w next outcome es = IsObedient (restore_task w) (RestoreAllows w.snapshot) (RestoreGives w.snapshot) (RestoreConcludes w.snapshot) next outcome es
+
+-- these are a list's
+abbrev pub IsList : Asker → Option Request → Option Outcome → Trace → Type 0
+IsList who next outcome es = IsObedient (list_task who) (ListAllows who) (ListGives who) (ListConcludes who) next outcome es
+
+-- a restore of the snapshot that a backup reported as stored, alone with the store that the backup was alone with, gives out the backup's entries
+-- where it reports that it gave out all
+abbrev pub RestoredIsHanded : Type 0
+RestoredIsHanded = (who : Asker) (entries : List Entry) (from mid to : Store) (failed failing late last : ℕ) (talk talk' : Talk) (next next' : Option Request) (name : Name) (blobs bytes count : ℕ) (asker : Asker)
+    → IsSound from.objects → TalkRan from failed talk mid failing → IsBackup who entries next (Some (Outcome.Stored name blobs bytes)) (trace_of talk) → AreApart entries from (trace_of talk) next
+    → TalkRan mid late talk' to last → IsRestore (record { who = asker; snapshot = name }) next' (Some (Outcome.Complete count)) (trace_of talk')
+    → rebuilt (emitted_in (trace_of talk')) ≡ entries
+
+-- a restore, or a list, changes no object of the store, also where it is one step ahead
+abbrev pub RestoreChangesNothing : Type 0
+RestoreChangesNothing = (w : Wish) (from mid to : Store) (failed failing : ℕ) (talk : Talk) (next : Option Request) (outcome : Option Outcome)
+    → TalkRan from failed talk mid failing → MayStep mid next to → IsRestore w next outcome (trace_of talk) → to.objects ≡ from.objects
+
+abbrev pub ListChangesNothing : Type 0
+ListChangesNothing = (who : Asker) (from mid to : Store) (failed failing : ℕ) (talk : Talk) (next : Option Request) (outcome : Option Outcome)
+    → TalkRan from failed talk mid failing → MayStep mid next to → IsList who next outcome (trace_of talk) → to.objects ≡ from.objects
+
+-- a list alone with a store in which it finds all that it wants, and whose device doesn't fail, is listed at its end, or the store had no memory
+abbrev pub IsListedOrMemory : Option Outcome → Type 0
+IsListedOrMemory None = ⊥
+IsListedOrMemory (Some (Outcome.Listed rows)) = ⊤
+IsListedOrMemory (Some outcome) = outcome ≡ Outcome.Ended (End.Refused Code.NoMemory)
+
+abbrev pub ListEndsWell : Type 0
+ListEndsWell = (who : Asker) (from to : Store) (failed : ℕ) (talk : Talk) (outcome : Option Outcome)
+    → IsFit from → failed < greatest_count → TalkRan from failed talk to failed → length talk < 2 ^ 64 - 1 → IsList who None outcome (trace_of talk) → IsListedOrMemory outcome
+
+-- a restore of a snapshot that is there, alone with such a store, is complete at its end, or the store had no memory
+abbrev pub IsCompleteOrMemory : Option Outcome → Type 0
+IsCompleteOrMemory None = ⊥
+IsCompleteOrMemory (Some (Outcome.Complete count)) = ⊤
+IsCompleteOrMemory (Some outcome) = outcome ≡ Outcome.Ended (End.Refused Code.NoMemory)
+
+abbrev pub RestoreEndsWell : Type 0
+RestoreEndsWell = (w : Wish) (from to : Store) (failed : ℕ) (talk : Talk) (outcome : Option Outcome) (text : List ℕ)
+    → IsFit from → from.objects Kind.Snapshot w.snapshot ≡ Some text → failed < greatest_count → TalkRan from failed talk to failed → length talk < 2 ^ 64 - 1
+    → NoClash (IsSpoken (λ x. ⊥) from (IsSent [] None)) → IsRestore w None outcome (trace_of talk) → IsCompleteOrMemory outcome
