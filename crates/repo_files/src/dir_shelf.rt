@@ -39,18 +39,23 @@ pub struct DirShelf<R> {
 
 impl<R: Files + AllocGlobal + Clone + Drop> DirShelf<R> {
     /// The shelf in the folder of this path, which is made where it isn't there, with all that it
-    /// holds: its folders and, where none is there, a fresh ledger.
+    /// holds: its folders and, where none is there, a fresh ledger. All of it is on the disk then, its
+    /// name in the folder above too. Where it was cut off before, it is made whole.
     /// It counts no failure yet.
     pub fn create(rt: R, root: &str) -> io::Result<DirShelf<R>>
         ensures { IfOk result (λ shelf. shelf.failures ≡ 0) }
     {
         let folder = Folder::of(rt.clone()?, root)?;
-        for below in ["", TEMPORARY, PACKS, INDEXES, SNAPSHOTS] {
+        folder.make_whole()?;
+        for below in [TEMPORARY, PACKS, INDEXES, SNAPSHOTS] {
             folder.make(below)?;
         }
         for first in 0..=255u8 {
             folder.make(pack_folder(rt.alloc(), first)?.as_str())?;
         }
+        folder.sync(PACKS)?;
+        folder.sync("")?;
+        folder.clean();
         let shelf = DirShelf {
             rt,
             folder,
@@ -61,7 +66,8 @@ impl<R: Files + AllocGlobal + Clone + Drop> DirShelf<R> {
     }
 
     /// The shelf in the folder of this path, which has to be there. Nothing is made: where there is no
-    /// ledger, each call that reads it fails.
+    /// ledger, each call that reads it fails. What a write that was cut off left under `tmp/` is removed,
+    /// as far as that can be done.
     /// It counts no failure yet.
     pub fn open(rt: R, root: &str) -> io::Result<DirShelf<R>>
         ensures { IfOk result (λ shelf. shelf.failures ≡ 0) }
@@ -70,6 +76,7 @@ impl<R: Files + AllocGlobal + Clone + Drop> DirShelf<R> {
         if !folder.is_there() {
             return Err(io::Error::from(ErrorKind::NotFound));
         }
+        folder.clean();
         Ok(DirShelf {
             rt,
             folder,
@@ -107,6 +114,15 @@ impl<R: Files + AllocGlobal + Clone + Drop> DirShelf<R> {
         match self.folder.write(&paths, bytes) {
             Ok(()) => Ok(()),
             Err(_) => Err(self.fault()),
+        }
+    }
+
+    /// Makes sure that a file that is in a folder lasts: a put before may have ended between its rename
+    /// and the sync of the folder.
+    fn hold(&mut self, below: &str) -> Result<(), ShelfError> {
+        match self.folder.sync(below) {
+            Ok(()) => Ok(()),
+            Err(error) => Err(self.unread(&error)),
         }
     }
 
@@ -208,7 +224,7 @@ impl<R: Files + AllocGlobal + Clone + Drop> Shelf for DirShelf<R> {
     fn put(&mut self, kind: Kind, name: &Name, bytes: &[u8]) -> Result<(), ShelfError> {
         let (below, file) = self.place(kind, name)?;
         match self.folder.has(below.as_str(), file.as_str()) {
-            Ok(true) => Ok(()),
+            Ok(true) => self.hold(below.as_str()),
             Ok(false) => self.keep(below.as_str(), file.as_str(), bytes),
             Err(error) => Err(self.unread(&error)),
         }

@@ -65,16 +65,51 @@ impl<R: Files + AllocGlobal + Clone + Drop> Folder<R> {
 
     /// Whether it is there, as a folder.
     pub fn is_there(&self) -> bool {
-        match fs::metadata(&self.rt, self.root.as_str()) {
-            Ok(found) => found.is_dir(),
-            Err(_) => false,
+        is_folder(&self.rt, self.root.as_str())
+    }
+
+    /// Makes it, and each folder above, where they aren't there, so that they last.
+    pub fn make_whole(&self) -> io::Result<()> {
+        let root = self.root.as_str();
+        for end in 1..root.len() {
+            if let Some((above, rest)) = root.split_at_checked(end)
+                && rest.starts_with('/')
+            {
+                make_lasting(&self.rt, above)?;
+            }
+        }
+        make_lasting(&self.rt, root)
+    }
+
+    /// Makes the folder of this path in it, where it isn't there. It lasts once the one that it stands in
+    /// is synced.
+    pub fn make(&self, below: &str) -> io::Result<()> {
+        let path = self.path(below, "")?;
+        match fs::create_dir(&self.rt, path.as_str()) {
+            Err(error) if !is_folder(&self.rt, path.as_str()) => Err(error),
+            _ => Ok(()),
         }
     }
 
-    /// Makes the folder of this path in it, and each one above, where it isn't there.
-    pub fn make(&self, below: &str) -> io::Result<()> {
+    /// Syncs the folder of this path in it, so that the names in it last.
+    pub fn sync(&self, below: &str) -> io::Result<()> {
         let path = self.path(below, "")?;
-        fs::create_dir_all(&self.rt, path.as_str())
+        sync_folder(&self.rt, path.as_str())
+    }
+
+    /// Removes the files whose writing was cut off, as far as that can be done. They do no harm.
+    pub fn clean(&self) {
+        let Ok(path) = self.path(TEMPORARY, "") else {
+            return;
+        };
+        let Ok(entries) = fs::read_dir(&self.rt, path.as_str()) else {
+            return;
+        };
+        for entry in entries {
+            if let Ok(entry) = entry {
+                let _ = fs::remove_file(&self.rt, entry.path());
+            }
+        }
     }
 
     /// A file's bytes; `None` where it isn't there.
@@ -114,27 +149,30 @@ impl<R: Files + AllocGlobal + Clone + Drop> Folder<R> {
     }
 
     /// Writes a file whole: at its temporary path, synced, and then renamed into its place, whose folder
-    /// is synced.
+    /// is synced. Where it can't be written, what there is of it is removed, as far as that can be done.
     pub fn write(&self, paths: &Paths, bytes: &[u8]) -> io::Result<()> {
+        if let Err(error) = self.settle(paths, bytes) {
+            let _ = fs::remove_file(&self.rt, paths.temporary.as_str());
+            return Err(error);
+        }
+        sync_folder(&self.rt, paths.folder.as_str())
+    }
+
+    /// Writes a file at its temporary path, synced, and renames it into its place.
+    fn settle(&self, paths: &Paths, bytes: &[u8]) -> io::Result<()> {
         let mut file = fs::create(&self.rt, paths.temporary.as_str())?;
         file.write_all(bytes)?;
         file.sync_all()?;
-        fs::rename(&self.rt, paths.temporary.as_str(), paths.file.as_str())?;
-        self.sync(paths)
+        fs::rename(&self.rt, paths.temporary.as_str(), paths.file.as_str())
     }
 
-    /// Removes a file, if it is there, and syncs its folder.
+    /// Removes a file, if it is there, and syncs its folder. It is synced also where the file isn't there:
+    /// a removal before may have ended in between.
     pub fn remove(&self, paths: &Paths) -> io::Result<()> {
         match fs::remove_file(&self.rt, paths.file.as_str()) {
-            Ok(()) => self.sync(paths),
-            Err(error) if error.kind() == ErrorKind::NotFound => Ok(()),
-            Err(error) => Err(error),
+            Err(error) if error.kind() != ErrorKind::NotFound => Err(error),
+            _ => sync_folder(&self.rt, paths.folder.as_str()),
         }
-    }
-
-    /// Syncs a file's folder, so that the names in it last.
-    fn sync(&self, paths: &Paths) -> io::Result<()> {
-        File::open(&self.rt, paths.folder.as_str())?.sync_all()
     }
 
     /// Adds the names of the files in a folder that are names of objects, above the one given, if one is.
@@ -163,5 +201,40 @@ impl<R: Files + AllocGlobal + Clone + Drop> Folder<R> {
             }
         }
         Ok(())
+    }
+}
+
+/// Whether a folder of this path is there.
+fn is_folder<R: Files>(rt: &R, path: &str) -> bool {
+    match fs::metadata(rt, path) {
+        Ok(found) => found.is_dir(),
+        Err(_) => false,
+    }
+}
+
+/// Syncs a folder, so that the names in it last.
+fn sync_folder<R: Files>(rt: &R, path: &str) -> io::Result<()> {
+    File::open(rt, path)?.sync_all()
+}
+
+/// Makes a folder, where it isn't there, and syncs the one that it stands in. Where it was there already,
+/// and the one that it stands in can't be synced, that is let be.
+fn make_lasting<R: Files>(rt: &R, path: &str) -> io::Result<()> {
+    match fs::create_dir(rt, path) {
+        Ok(()) => sync_folder(rt, parent_of(path)),
+        Err(error) if !is_folder(rt, path) => Err(error),
+        Err(_) => {
+            let _ = sync_folder(rt, parent_of(path));
+            Ok(())
+        }
+    }
+}
+
+/// The path of the folder in which a path stands.
+pub fn parent_of(path: &str) -> &str {
+    match path.trim_end_matches('/').rsplit_once('/') {
+        None => ".",
+        Some(("", _)) => "/",
+        Some((parent, _)) => parent,
     }
 }

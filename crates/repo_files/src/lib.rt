@@ -1,20 +1,52 @@
-//! Files: the shelf that keeps a store in a folder.
+//! Files: a folder that is scanned for a backup, one that a restore is written into, and the shelf that
+//! keeps a store in a folder.
 //!
-//! A [`DirShelf`] keeps `config`, `ledger`, and the objects as files named by their names in lower-case
-//! hexadecimal, packs under `data/` and their first two digits, indexes under `index/`, snapshots under
-//! `snapshots/`, as restic's design document has them. A file is written under `tmp/`, synced, renamed
-//! into its place, and its folder is synced. Files of other names are passed over.
+//! [`scan`] tells what a folder holds, as a backup wants it: its files, whole, and its directories. Links,
+//! sockets and the like are left out, and listed. A [`Restorer`] writes what a restore gives out: each file
+//! under a temporary name until it is whole and on the disk. A [`DirShelf`] keeps `config`, `ledger`, and
+//! the objects as files named by their names in lower-case hexadecimal, packs under `data/` and their first
+//! two digits, indexes under `index/`, snapshots under `snapshots/`, as restic's design document has them.
+//! A file is written under `tmp/`, synced, renamed into its place, and its folder synced, before the call
+//! is acknowledged. Files of other names are passed over.
 //!
-//! Promised: no call goes wrong in memory, each ends, a slice has the asked length and a page at most
-//! the asked number of names. Not promised: what a file holds after it was written. No contract can
-//! say so of a machine, and `honest` is never claimed here: that the folder keeps what it was given is
-//! a premise of all that is proved over honest shelves. It wants a file system whose rename within a
-//! folder is atomic, and whose sync reaches the disk.
+//! Promised: no call goes wrong in memory, and each ends. A scan's entries have paths of components, each
+//! above the one before it, whatever the file system answers. A restorer writes at such paths alone, so at
+//! none with `..` in it, and takes the parts of a restore in their order. A slice has the asked length and
+//! a page at most the asked number of names.
+//!
+//! Not promised: what a file holds, before or after. No contract can say so of a machine, and `honest` is
+//! never claimed here: that the folder keeps what it was given is a premise of all that is proved over
+//! honest shelves. So no contract sees either that a link isn't followed, that a scan leaves nothing out,
+//! that a restorer replaces nothing, or that what is acknowledged lasts: tests over real folders and over a
+//! file system that stops after any call show these. It wants a file system whose rename within a folder is
+//! atomic, and whose syncs reach the disk.
+//!
+//! The definitions stand in `specs/`: `Places` (paths, and where they lie), `Scanned` (entries as a scan
+//! hands them on), `Restoring` (what a restorer takes, and where it stands).
 #![tactic(auto)]
 
+pub use dir_shelf::DirShelf;
+pub use restoring::{Restorer, RestorerError};
+pub use scanning::scan;
+pub use scans::{Scan, ScanError, Skipped};
+
+#[cfg(test)]
+mod cut_tests;
+#[cfg(test)]
+mod cutting;
 mod dir_shelf;
+mod drafts;
 mod folders;
+mod grounds;
+mod phases;
+mod places;
+mod restoring;
+#[cfg(test)]
+mod restoring_tests;
+mod scanned;
+mod scanning;
+#[cfg(test)]
+mod scanning_tests;
+mod scans;
 #[cfg(test)]
 mod tests;
-
-pub use dir_shelf::DirShelf;

@@ -1,0 +1,28 @@
+-- Entries as a scan hands them on.
+use Rattle.std.specs.Prelude.{◌≡◌, ◌-◌, ◌++◌, ◌∷◌, [], ⊤, ℕ, List, length, IfSome, slice_get}
+use Rattle.std.specs.Ordering.{nat_cmp}
+use Rattle.std.specs.declared.cmp.Ordering.{Ordering}
+use Rattle.std.specs.Cmp.Lexicographic.{slice_cmp}
+use Rattle.repo_files.specs.Places.{IsPath}
+use Rattle.repo_tree.specs.declared.entries.Entry.{Entry}
+
+-- paths are ordered by their components, and these by their bytes: a directory stands below what is in it
+abbrev pub IsBelow : List (List ℕ) → List (List ℕ) → Type 0
+IsBelow first second = slice_cmp (slice_cmp nat_cmp) first second ≡ Ordering.Less
+
+-- the path is above that of the last of these entries, if there is one
+abbrev pub StandsAfter : List Entry → List (List ℕ) → Type 0
+StandsAfter before path = IfSome (slice_get before (length before - 1)) (λ (last : Entry). IsBelow last.path path)
+
+-- the entry may come after these
+abbrev pub MayFollow : List Entry → Entry → Type 0
+MayFollow before entry = IsPath entry.path × StandsAfter before entry.path
+
+-- each of the entries may follow those before it
+abbrev pub FollowAll : List Entry → List Entry → Type 0
+FollowAll before [] = ⊤
+FollowAll before (entry ∷ entries) = MayFollow before entry × FollowAll (before ++ entry ∷ []) entries
+
+-- each entry has a path, above that of the entry before it
+abbrev pub AreScanned : List Entry → Type 0
+AreScanned entries = FollowAll [] entries

@@ -1,0 +1,58 @@
+//! Files that are written under another name until they are whole.
+
+use std::fs::{Files, OpenFile};
+use std::io::{ErrorKind, Write};
+use std::{fs, io};
+
+/// A file that is being written.
+#[derive(Drop)]
+pub struct Draft<F> {
+    pub file: F,
+    /// Where it is written.
+    pub temporary: String,
+    /// Where it is to stand.
+    pub place: String,
+}
+
+/// Adds bytes to the file. On an error it is removed.
+pub fn fill<R: Files>(
+    rt: &R,
+    mut draft: Draft<R::File>,
+    bytes: &[u8],
+) -> io::Result<Draft<R::File>> {
+    match draft.file.write_all(bytes) {
+        Ok(()) => Ok(draft),
+        Err(error) => {
+            remove(rt, draft);
+            Err(error)
+        }
+    }
+}
+
+/// Lets the file stand in its place, once all its bytes are on the disk. On an error it is removed.
+pub fn finish<R: Files>(rt: &R, draft: Draft<R::File>) -> io::Result<()> {
+    match settle(rt, &draft) {
+        Ok(()) => Ok(()),
+        Err(error) => {
+            remove(rt, draft);
+            Err(error)
+        }
+    }
+}
+
+/// Syncs the file and gives it its name, which nothing has.
+fn settle<R: Files>(rt: &R, draft: &Draft<R::File>) -> io::Result<()> {
+    draft.file.sync_all()?;
+    match fs::symlink_metadata(rt, draft.place.as_str()) {
+        Ok(_) => Err(io::Error::from(ErrorKind::AlreadyExists)),
+        Err(error) if error.kind() == ErrorKind::NotFound => {
+            fs::rename(rt, draft.temporary.as_str(), draft.place.as_str())
+        }
+        Err(error) => Err(error),
+    }
+}
+
+/// Removes the file, as far as that can be done.
+pub fn remove<R: Files>(rt: &R, draft: Draft<R::File>) {
+    let _ = fs::remove_file(rt, draft.temporary.as_str());
+}

@@ -1,0 +1,105 @@
+//! The folder that is restored into.
+
+ghost use Rattle.std.specs.Prelude.{◌≡◌, IfOk, OnOk, string_bytes};
+ghost use Rattle.repo_files.specs.Places.{IsPath, place_of};
+
+use crate::drafts::Draft;
+use crate::places::{is_path, place_below, without_slash};
+use repo_tree::Path;
+use std::alloc::{AllocError, AllocGlobal};
+use std::fs::{File, Files};
+use std::io::ErrorKind;
+use std::{fs, io};
+
+/// What a temporary name begins with; a number follows.
+const TEMPORARY: &str = "!restoring-";
+
+/// The folder that is restored into.
+#[derive(Drop)]
+pub struct Ground<R> {
+    pub rt: R,
+    /// Its path, without the `/` at its end.
+    folder: String,
+    /// The number of the next temporary name.
+    number: u64,
+}
+
+impl<R: Files + AllocGlobal + Clone + Drop> Ground<R> {
+    /// The folder of this path, where nothing is in it; else `None`. It is made where it isn't there, with
+    /// all above it.
+    pub fn of(rt: R, folder: &str) -> io::Result<Option<Ground<R>>> {
+        fs::create_dir_all(&rt, folder)?;
+        let is_empty = match fs::read_dir(&rt, folder)?.next() {
+            None => true,
+            Some(Ok(_)) => false,
+            Some(Err(error)) if error.kind() == ErrorKind::InvalidFilename => false,
+            Some(Err(error)) => return Err(error),
+        };
+        if !is_empty {
+            return Ok(None);
+        }
+        let folder = String::from_str(rt.alloc(), without_slash(folder))?;
+        Ok(Some(Ground {
+            rt,
+            folder,
+            number: 0,
+        }))
+    }
+
+    /// The place of an entry. The error tells, but for memory, that its path isn't one: it is empty, or
+    /// names `.`, `..` or something with a `/`.
+    fn place(&self, path: &Path) -> io::Result<String>
+        ensures path { OnOk result (IsPath path.now) }
+        ensures place { IfOk result (λ place. string_bytes place ≡ place_of (string_bytes self.now.folder) path.now) }
+    {
+        let path = path.as_slice();
+        if !is_path(path) {
+            return Err(io::Error::from(ErrorKind::InvalidInput));
+        }
+        Ok(place_below(self.rt.alloc(), self.folder.as_str(), path)?)
+    }
+
+    /// Makes a directory, which isn't there yet.
+    pub fn make(&self, path: &Path) -> io::Result<()>
+        ensures { OnOk result (IsPath path.now) }
+    {
+        let place = self.place(path)?;
+        fs::create_dir(&self.rt, place.as_str())
+    }
+
+    /// Begins a file, under the first temporary name that isn't taken.
+    pub fn begin(&mut self, path: &Path) -> io::Result<Draft<R::File>>
+        ensures { OnOk result (IsPath path.now) }
+    {
+        let place = self.place(path)?;
+        for number in self.number..u64::MAX {
+            self.number = number;
+            let temporary = self.temporary(place.as_str())?;
+            if temporary.as_str() == place.as_str() {
+                continue;
+            }
+            match File::create_new(&self.rt, temporary.as_str()) {
+                Ok(file) => {
+                    return Ok(Draft {
+                        file,
+                        temporary,
+                        place,
+                    });
+                }
+                Err(error) if error.kind() == ErrorKind::AlreadyExists => {}
+                Err(error) => return Err(error),
+            }
+        }
+        Err(io::Error::from(ErrorKind::AlreadyExists))
+    }
+
+    /// The temporary place beside the place of a file.
+    fn temporary(&self, place: &str) -> io::Result<String> {
+        let directory = match place.rsplit_once('/') {
+            Some((directory, _)) => directory,
+            None => "",
+        };
+        let number = self.number;
+        Ok(format!(in self.rt.alloc(); "{directory}/{TEMPORARY}{number}")?)
+    }
+}

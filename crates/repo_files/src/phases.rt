@@ -1,0 +1,25 @@
+//! What a restorer is in the midst of.
+
+use crate::drafts::Draft;
+
+/// What a restorer is in the midst of.
+#[derive(Drop)]
+pub enum Phase<F> {
+    /// No file is open.
+    Between,
+    /// A file is open.
+    InFile(Draft<F>),
+    /// It takes no more.
+    Stopped,
+}
+
+/// The same, as contracts tell it.
+#[derive(Clone, Copy, Debug, PartialEq, Eq)]
+pub enum Standing {
+    /// No file is open.
+    Between,
+    /// A file is open.
+    InFile,
+    /// It takes no more.
+    Stopped,
+}

@@ -1,0 +1,35 @@
+//! Where the entries of a folder lie in the file system.
+
+ghost use Rattle.std.specs.Prelude.{◌≡◌, ◌↔◌, IfOk, IsTrue, string_bytes};
+ghost use Rattle.repo_files.specs.Places.{IsPath, place_of};
+
+use repo_name::Text;
+use repo_tree::is_component;
+use std::alloc::{AllocError, Global};
+
+/// Whether there is a component, and each is one.
+pub fn is_path(path: &[Text]) -> bool
+    ensures { IsTrue result ↔ IsPath path.now }
+{
+    if path.is_empty() {
+        return false;
+    }
+    path.iter().all(|name| is_component(name.as_str()))
+}
+
+/// The place of a path below a folder: the folder's, then each component after a `/`.
+pub fn place_below(alloc: Global, folder: &str, path: &[Text]) -> Result<String, AllocError>
+    ensures { IfOk result (λ place. string_bytes place ≡ place_of folder.now path.now) }
+{
+    let mut place = String::from_str(alloc, folder)?;
+    for name in path {
+        place.push('/')?;
+        place.push_str(name.as_str())?;
+    }
+    Ok(place)
+}
+
+/// The place of a folder without the `/` at its end, to which the place of an entry adds one.
+pub fn without_slash(folder: &str) -> &str {
+    folder.trim_end_matches('/')
+}

@@ -1,0 +1,128 @@
+//! Writes what a restore gives out into a folder.
+
+ghost use Rattle.std.specs.Prelude.{◌≡◌, IfOk, IsTrue, IsFalse};
+ghost use Rattle.repo_files.specs.Restoring.{standing_of, Takes};
+ghost use Rattle.repo_files.specs.declared.phases.Standing.{Standing};
+
+use crate::drafts::{fill, finish, remove};
+use crate::grounds::Ground;
+use crate::phases::Phase;
+use repo_session::Emission;
+use std::alloc::{AllocError, AllocGlobal};
+use std::fs::Files;
+use std::io::ErrorKind;
+use std::marker::Model;
+use std::{io, mem};
+
+/// Writes what a restore gives out into a folder. A clause sees where it stands.
+///
+/// A file is written under a temporary name, `!restoring-` and a number, in the directory where it is to
+/// stand, is synced when it ends, and only then gets its own name. So what stands under its own name is
+/// whole, whenever the writing is cut off. A temporary file is made exclusively: where its name is taken,
+/// by an entry that was restored before, the next number is tried. It has its name only until its own
+/// file ends, so no later entry meets it. Where the writing is cut off it may stay; then it can't be taken
+/// for an entry of the snapshot, since names come ascending, and one that is below the open file's and
+/// isn't there doesn't come any more. (Of a file whose name begins with a space, `!` or a control
+/// character this isn't so, if the snapshot holds a file of that temporary name beside it.)
+///
+/// Nothing that is there is written to or replaced: each directory is made, each file is new, and no link
+/// can be on the way, as long as no other program puts one there. That a file's name lasts over a power
+/// cut isn't promised: the directories aren't synced.
+pub struct Restorer<R: Files> {
+    ground: Ground<R>,
+    phase: Phase<R::File>,
+}
+
+/// Why a folder can't be restored into.
+#[derive(Clone, Copy, Debug, PartialEq, Eq)]
+pub enum RestorerError {
+    /// It holds something already. Nothing changed.
+    NotEmpty,
+    /// It can't be made, or can't be read.
+    Unwritable,
+    /// There was no memory.
+    Memory,
+}
+
+impl<R: Files> Model for Restorer<R> {
+    ghost use Rattle.repo_files.specs.Restoring.{standing_of};
+    ghost use Rattle.repo_files.specs.declared.phases.Standing.{Standing};
+
+    ghost Value = { Standing };
+
+    ghost view = { λ r. standing_of r.phase };
+}
+
+impl<R: Files + AllocGlobal + Clone + Drop> Restorer<R> {
+    /// A restorer into the folder of this path, which is made where it isn't there, with all above it. A
+    /// link to a folder is followed.
+    pub fn new(rt: R, folder: &str) -> Result<Restorer<R>, RestorerError>
+        ensures { IfOk result (λ restorer. restorer ≡ Standing.Between) }
+    {
+        match Ground::of(rt, folder) {
+            Ok(Some(ground)) => Ok(Restorer {
+                ground,
+                phase: Phase::Between,
+            }),
+            Ok(None) => Err(RestorerError::NotEmpty),
+            Err(error) if error.kind() == ErrorKind::OutOfMemory => Err(RestorerError::Memory),
+            Err(_) => Err(RestorerError::Unwritable),
+        }
+    }
+
+    /// Writes the next part. It answers false where a file or directory can't be made or written, where a
+    /// path isn't one, and where a part doesn't belong there; nothing more is taken then. A file that is
+    /// open then is removed; what was written before it stays.
+    pub fn write(&mut self, emission: &Emission) -> bool
+        ensures taken { IsTrue result → Takes self.old emission.now self.new }
+        ensures stopped { IsFalse result → self.new ≡ Standing.Stopped }
+    {
+        let phase = mem::replace(&mut self.phase, Phase::Stopped);
+        match step(&mut self.ground, phase, emission) {
+            Ok(next) => {
+                self.phase = next;
+                true
+            }
+            Err(_) => false,
+        }
+    }
+}
+
+/// Writes a part, and tells what follows.
+fn step<R: Files + AllocGlobal + Clone + Drop>(
+    ground: &mut Ground<R>,
+    phase: Phase<R::File>,
+    emission: &Emission,
+) -> io::Result<Phase<R::File>>
+    ensures { IfOk result (λ next. Takes (standing_of phase) emission.now (standing_of next)) }
+{
+    match (phase, emission) {
+        (Phase::Between, Emission::Dir(path)) => {
+            ground.make(path)?;
+            Ok(Phase::Between)
+        }
+        (Phase::Between, Emission::File(path)) => Ok(Phase::InFile(ground.begin(path)?)),
+        (Phase::InFile(draft), Emission::Piece(bytes)) => {
+            Ok(Phase::InFile(fill(&ground.rt, draft, bytes.as_slice())?))
+        }
+        (Phase::InFile(draft), Emission::Close) => {
+            finish(&ground.rt, draft)?;
+            Ok(Phase::Between)
+        }
+        (Phase::InFile(draft), _) => {
+            remove(&ground.rt, draft);
+            Err(io::Error::from(ErrorKind::InvalidInput))
+        }
+        _ => Err(io::Error::from(ErrorKind::InvalidInput)),
+    }
+}
+
+/// A file that is open when the restorer goes is removed, as far as that can be done.
+impl<R: Files + Drop> Drop for Restorer<R> {
+    fn drop(self) {
+        let Restorer { ground, phase } = self;
+        if let Phase::InFile(draft) = phase {
+            remove(&ground.rt, draft);
+        }
+    }
+}

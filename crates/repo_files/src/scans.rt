@@ -1,0 +1,43 @@
+//! What a scan gives.
+
+use repo_tree::Entry;
+use std::alloc::AllocError;
+
+/// What a folder holds, as a backup wants it.
+#[derive(Debug, Drop)]
+pub struct Scan {
+    /// The files, whole, and the directories: ascending by the components of their paths.
+    pub entries: Vec<Entry>,
+    /// What was left out, in the order in which it was met.
+    pub skipped: Vec<Skipped>,
+}
+
+/// What was left out.
+#[derive(Debug, Drop)]
+pub enum Skipped {
+    /// Neither a directory nor a file: a link, a socket, a pipe, a device. Its path: the word given, and
+    /// below it the names joined by `/`.
+    Other(String),
+    /// An entry whose name isn't UTF-8, in the folder of this path.
+    Unnamed(String),
+}
+
+/// Why a folder wasn't scanned.
+#[derive(Debug, Drop)]
+pub enum ScanError {
+    /// The path that can't be read, or whose name no backup can hold.
+    Unreadable(String),
+    /// There was no memory.
+    Memory,
+}
+
+impl From<AllocError> for ScanError {
+    ghost use Rattle.std.specs.Prelude.{◌≡◌};
+    ghost use Rattle.repo_files.specs.declared.scans.ScanError.{ScanError};
+
+    ghost from_gives = { λ e r. r ≡ ScanError.Memory };
+
+    fn from(_: AllocError) -> ScanError {
+        ScanError::Memory
+    }
+}
