@@ -1,2 +1,4 @@
 pub mod LineLemmas
 pub mod TalkLemmas
+pub mod AskLemmas
+pub mod JobLemmas

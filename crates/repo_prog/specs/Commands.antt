@@ -8,6 +8,8 @@ use Rattle.repo_store.specs.Output.{AppendsPart}
 use Rattle.repo_store.specs.Stores.{Store}
 use Rattle.repo_tree.specs.declared.configs.Config.{Config}
 use Rattle.repo_tree.specs.ConfigText.{IsTarget, config_text}
+use Rattle.repo_name.specs.Rows.{IsHost}
+use Rattle.repo_prog.specs.declared.errands.Errand.{Errand}
 use Rattle.repo_prog.specs.declared.errors.FramesError.{FramesError}
 use Rattle.repo_prog.specs.declared.status.Status.{Status}
 use Rattle.repo_prog.specs.declared.words.Order.{Order}
@@ -19,18 +21,44 @@ abbrev pub status_code : Status → ℕ
 status_code Status.Done = 0
 status_code Status.Failed = 1
 status_code Status.Usage = 2
+status_code Status.Flawed = 3
+
+-- what a command that was begun may end with: it is done, or it failed
+abbrev pub IsEnd : Status → Type 0
+IsEnd Status.Done = ⊤
+IsEnd Status.Failed = ⊤
+IsEnd Status.Usage = ⊥
+IsEnd Status.Flawed = ⊥
+
+-- what may be kept by a command that ended so: it is done, or done but for what was left out
+abbrev pub IsKept : Status → Type 0
+IsKept Status.Done = ⊤
+IsKept Status.Flawed = ⊤
+IsKept Status.Failed = ⊥
+IsKept Status.Usage = ⊥
+
+-- an errand within its limits
+abbrev pub IsErrand : Errand → Type 0
+IsErrand (Errand.Backup host folder) = IsHost host
+IsErrand Errand.Snapshots = ⊤
+IsErrand (Errand.Restore name folder) = ⊤
+IsErrand Errand.Locks = ⊤
+IsErrand (Errand.Refresh token) = ⊤
+IsErrand (Errand.Unlock all) = ⊤
 
 -- an order within its limits
 abbrev pub IsOrder : Order → Type 0
 IsOrder Order.Frames = ⊤
 IsOrder (Order.Init folder making) = IsTarget making.target
 IsOrder (Order.Serve folder address connections) = 1 ≤ connections
+IsOrder (Order.Client address errand) = IsErrand errand
 
 -- what the command gives for this input: all that was asked, or what one of the errors leaves
 abbrev pub FramesGives : List ℕ → Option (List ℕ) → Status → Option (List ℕ) → Type 0
 FramesGives input start Status.Done contents = (n : ℕ) × Gives input start (Ok n) contents
 FramesGives input start Status.Failed contents = (error : FramesError) × Gives input start (Err error) contents
 FramesGives input start Status.Usage contents = ⊥
+FramesGives input start Status.Flawed contents = ⊥
 
 -- the line that tells a new store's instance
 abbrev pub created_line : Instance → List ℕ
@@ -45,3 +73,4 @@ abbrev pub InitGives : Config → Store → Option (List ℕ) → Status → Sto
 InitGives config old start Status.Done new contents = Makes (config_text config) old (Ok tt) new × Appends start contents (created_line config.id)
 InitGives config old start Status.Failed new contents = ((result : Result (Unit {0}) InitError) × Makes (config_text config) old result new) × AppendsPart start contents (created_line config.id)
 InitGives config old start Status.Usage new contents = ⊥
+InitGives config old start Status.Flawed new contents = ⊥

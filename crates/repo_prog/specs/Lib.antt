@@ -2,3 +2,6 @@ pub mod Commands
 pub mod FramesRun
 pub mod HexLines
 pub mod Talks
+pub mod Asking
+pub mod Tellings
+pub mod Jobs

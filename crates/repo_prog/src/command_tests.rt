@@ -45,46 +45,127 @@ fn ran(rt: HostRuntime, words: &str) -> Result<Outcome, AllocError> {
     })
 }
 
+/// Words, the status of a run on them, and what its output and its faults begin with.
+type Row = (&'static str, Status, &'static str, &'static str);
+
+const WORDS: [Row; 12] = [
+    ("vault frames", Status::Done, TOKEN, ""),
+    ("vault --help", Status::Done, "A shared, deduplicating", ""),
+    ("vault", Status::Usage, "", "error"),
+    ("vault nothing", Status::Usage, "", "error"),
+    ("vault frames more", Status::Usage, "", "error"),
+    ("vault init", Status::Usage, "", "error"),
+    ("vault init x --min 63", Status::Usage, "", "bad argument\n"),
+    (
+        "vault init x --bits 33",
+        Status::Usage,
+        "",
+        "bad argument\n",
+    ),
+    (
+        "vault init x --target 1023",
+        Status::Usage,
+        "",
+        "bad argument\n",
+    ),
+    ("vault init x --max -1", Status::Usage, "", "error"),
+    ("vault serve x", Status::Usage, "", "error"),
+    (
+        "vault serve x y --connections 0",
+        Status::Usage,
+        "",
+        "bad argument\n",
+    ),
+];
+
+const CLIENT_WORDS: [Row; 10] = [
+    ("vault --version", Status::Done, "vault 0.1.0\n", ""),
+    ("vault backup x h", Status::Usage, "", "error"),
+    // An empty word for the host.
+    ("vault backup x  p", Status::Usage, "", "bad argument\n"),
+    ("vault restore x 12 d", Status::Usage, "", "bad argument\n"),
+    ("vault refresh x", Status::Usage, "", "error"),
+    ("vault refresh x y", Status::Usage, "", "error"),
+    ("vault snapshots", Status::Usage, "", "error"),
+    ("vault locks", Status::Usage, "", "error"),
+    ("vault unlock x --all", Status::Usage, "", "error"),
+    ("vault locks nowhere", Status::Failed, "", "not reached\n"),
+];
+
+/// The first words on which the program doesn't run as their row says.
+fn other(rt: HostRuntime, rows: &[Row]) -> Result<Option<&'static str>, AllocError> {
+    for row in rows {
+        let (words, status, output, faults) = *row;
+        let ran = ran(rt, words)?;
+        let is_so = ran.status == status
+            && ran.output.starts_with(output.as_bytes())
+            && ran.faults.starts_with(faults.as_bytes())
+            && ran.faults.is_empty() == (status.code() == 0);
+        if !is_so {
+            return Ok(Some(words));
+        }
+    }
+    Ok(None)
+}
+
 #[test]
 fn words(rt: HostRuntime) -> Result<(), Fail> {
-    for (words, status, output, faults) in [
-        ("vault frames", Status::Done, TOKEN, ""),
-        ("vault --help", Status::Done, "A shared, deduplicating", ""),
-        ("vault", Status::Usage, "", "error"),
-        ("vault nothing", Status::Usage, "", "error"),
-        ("vault frames more", Status::Usage, "", "error"),
-        ("vault init", Status::Usage, "", "error"),
-        ("vault init x --min 63", Status::Usage, "", "bad argument\n"),
-        (
-            "vault init x --bits 33",
-            Status::Usage,
-            "",
-            "bad argument\n",
-        ),
-        (
-            "vault init x --target 1023",
-            Status::Usage,
-            "",
-            "bad argument\n",
-        ),
-        ("vault init x --max -1", Status::Usage, "", "error"),
-        ("vault serve x", Status::Usage, "", "error"),
-        (
-            "vault serve x y --connections 0",
-            Status::Usage,
-            "",
-            "bad argument\n",
-        ),
-    ] {
-        let ran = ran(rt, words)?;
-        assert_eq!(rt; ran.status, status, "of {words}");
-        assert!(rt; ran.output.starts_with(output.as_bytes()), "of {words}");
-        assert!(rt; ran.faults.starts_with(faults.as_bytes()), "of {words}");
-        assert_eq!(rt; ran.faults.is_empty(), status.code() == 0);
-    }
+    assert_eq!(rt; other(rt, &WORDS)?, None);
     let mut faults = Vec::new(rt.alloc());
     assert_eq!(rt; refuse_words(&mut faults).code(), 2);
     assert_eq!(rt; faults.as_slice(), b"bad argument\n".as_slice());
+    Ok(())
+}
+
+#[test]
+fn words_of_clients(rt: HostRuntime) -> Result<(), Fail> {
+    assert_eq!(rt; other(rt, &CLIENT_WORDS)?, None);
+    Ok(())
+}
+
+/// The help of each command has an example, and says what its exit statuses mean.
+#[test]
+fn helps(rt: HostRuntime) -> Result<(), Fail> {
+    for command in [
+        "frames",
+        "init",
+        "serve",
+        "backup",
+        "snapshots",
+        "restore",
+        "locks",
+        "refresh",
+        "unlock",
+    ] {
+        let words = format!(in rt.alloc(); "vault {command} --help")?;
+        let ran = ran(rt, words.as_str())?;
+        assert_eq!(rt; ran.status, Status::Done);
+        assert!(rt; ran.faults.is_empty());
+        let example = format!(in rt.alloc(); "vault {command}")?;
+        let Ok(text) = std::str::from_utf8(ran.output.as_slice()) else {
+            assert!(rt; false, "help is text");
+            return Ok(());
+        };
+        assert!(rt; text.contains("Example:"), "of {command}");
+        assert!(rt; text.contains(example.as_str()), "of {command}");
+        assert!(rt; text.contains("Exit status:"), "of {command}");
+    }
+    Ok(())
+}
+
+/// A host of 255 bytes is one, and of 256 none.
+#[test]
+fn hosts(rt: HostRuntime) -> Result<(), Fail> {
+    for (length, fault) in [(255usize, "not reached\n"), (256, "bad argument\n")] {
+        let mut words = String::from_str(rt.alloc(), "vault backup nowhere ")?;
+        for turn in 0..length {
+            words.push('h')?;
+        }
+        words.push_str(" p")?;
+        let ran = ran(rt, words.as_str())?;
+        assert_eq!(rt; ran.faults.as_slice(), fault.as_bytes());
+        assert!(rt; ran.output.is_empty());
+    }
     Ok(())
 }
 
@@ -116,9 +197,34 @@ fn a_folder_is_made_a_store_once(rt: HostRuntime) -> Result<(), Fail> {
     assert_eq!(rt; first.status, Status::Done);
     assert!(rt; first.output.starts_with(b"created "));
     assert_eq!(rt; first.output.len(), 41);
+    let id = str::from_utf8(&first.output[8..40])?;
+    let expected = format!(in rt.alloc();
+        "{{\"chunk_bits\":6,\"chunk_max\":128,\"chunk_min\":64,\"id\":\"{id}\",\"pack_target\":1024,\"version\":1}}"
+    )?;
+    let config = around(rt, "", root.as_str(), "/config")?;
+    assert_eq!(rt;
+        fs::read(&rt, config.as_str())?.as_slice(),
+        expected.as_bytes()
+    );
     let second = ran(rt, words.as_str())?;
     assert_eq!(rt; second.status, Status::Failed);
     assert_eq!(rt; second.faults.as_slice(), b"exists\n".as_slice());
+    fs::remove_dir_all(&rt, root.as_str())?;
+    Ok(())
+}
+
+#[test]
+fn a_store_is_made_without_numbers(rt: HostRuntime) -> Result<(), Fail> {
+    let root = folder(rt, "defaults")?;
+    let words = around(rt, "vault init ", root.as_str(), "")?;
+    let made = ran(rt, words.as_str())?;
+    assert_eq!(rt; made.status, Status::Done);
+    let config = around(rt, "", root.as_str(), "/config")?;
+    let text = fs::read(&rt, config.as_str())?;
+    assert!(rt;
+        text.starts_with(b"{\"chunk_bits\":20,\"chunk_max\":8388608,\"chunk_min\":524288,")
+    );
+    assert!(rt; text.ends_with(b",\"pack_target\":16777216,\"version\":1}"));
     fs::remove_dir_all(&rt, root.as_str())?;
     Ok(())
 }

@@ -5,6 +5,7 @@ ghost use Rattle.repo_prog.specs.Commands.{FramesGives, IsOrder};
 ghost use Rattle.repo_prog.specs.declared.status.Status.{Status};
 ghost use Rattle.repo_prog.specs.declared.words.Order.{Order};
 
+use crate::connecting::run_errand;
 use crate::frames_engine::frames;
 use crate::listening::serve_folder;
 use crate::making::init_folder;
@@ -15,6 +16,7 @@ use std::fs::Files;
 use std::io::{Read, Write};
 use std::net::Net;
 use std::random::RandomSource;
+use std::rt::Clock;
 
 /// `vault frames`: answers the frames of the input's lines on the output, and writes the text of the
 /// error that ended it to the faults.
@@ -52,7 +54,7 @@ fn show<W: Write, F: Write>(error: &clap::Error, output: &mut W, faults: &mut F)
 /// Does what is asked for. Of `vault frames` all is said that `frames` says; of the others, nothing that
 /// a folder or a socket would have to keep. Where it is done, no fault was told.
 pub fn perform<
-    T: Files + Net + AllocGlobal + RandomSource + Clone + Drop,
+    T: Files + Net + AllocGlobal + RandomSource + Clock + Clone + Drop,
     R: Read,
     W: Write,
     F: Write,
@@ -78,18 +80,20 @@ pub fn perform<
             output,
             faults,
         ),
+        Order::Client { address, errand } => {
+            run_errand(rt, address.as_str(), errand, output, faults)
+        }
     }
 }
 
 /// Does what the words ask for, the program's name first. Where they make no command nothing is read, and
 /// nothing is written but the fault. What words mean is `clap`'s, and no clause.
-pub fn run<T: Files + Net + AllocGlobal + RandomSource + Clone + Drop, R: Read, W: Write, F: Write>(
-    rt: &T,
-    words: &[String],
-    input: &mut R,
-    output: &mut W,
-    faults: &mut F,
-) -> Status
+pub fn run<
+    T: Files + Net + AllocGlobal + RandomSource + Clock + Clone + Drop,
+    R: Read,
+    W: Write,
+    F: Write,
+>(rt: &T, words: &[String], input: &mut R, output: &mut W, faults: &mut F) -> Status
     ensures silent { result ≡ Status.Done → faults.new ≡ faults.old }
     ensures usage { result ≡ Status.Usage → (input.new ≡ input.old) × (output.new ≡ output.old) }
 {

@@ -1,35 +1,60 @@
 //! The program's engines and commands, as functions over readers, writers and values.
 //!
 //! [`frames`] answers request frames in hexadecimal from an empty store in memory. [`init_command`] makes
-//! a store, and [`serve_connections`] serves one.
+//! a store, and [`serve_connections`] serves one. The others are a client's, over a connection: [`backup_command`],
+//! [`snapshots_command`] and [`restore_command`] bring a job to its end, [`locks_command`], [`refresh_command`] and
+//! [`unlock_command`] ask themselves. [`run_errand`] connects, and [`run`] goes by the words.
 //!
 //! Promised: what `frames` writes is the lines of the replies of a run of the store machine, from the
 //! empty store, over the requests of the stream that the input's lines spell; each of its errors comes
-//! only for its cause, after the replies to all requests before it. Not promised: what a terminal or a
+//! only for its cause, after the replies to all requests before it. A client's command that is done told no fault, and
+//! wrote the line of what it did: that of a job that went to its end by its own rules, over just the requests that were
+//! sent and the replies that were read; or of a reply. Not promised: what a terminal or a
 //! file gives or takes.
 //!
 //! The definitions stand in `specs/`: `HexLines` (lines, and the bytes that they spell), `FramesRun`
-//! (what `frames` gives), `Talks` (what holds while it runs), `Commands` (what the commands give).
+//! (what `frames` gives), `Talks` (what holds while it runs), `Commands` (what the commands give), `Tellings` (the lines
+//! of the clients' commands), `Asking` (what those do that ask), `Jobs` (what those do that bring a job to its end).
 #![tactic(auto)]
 
+mod backing;
+mod callers;
+#[cfg(test)]
+mod client_tests;
 #[cfg(test)]
 mod command_tests;
 mod commands;
+mod connecting;
+mod errands;
 mod errors;
+#[cfg(test)]
+mod folder_tests;
 mod frames_engine;
+mod help;
+#[cfg(test)]
+mod job_tests;
 mod listening;
+mod locking;
 mod making;
 mod output;
+mod restoring;
 mod status;
 mod talks;
+mod telling;
 #[cfg(test)]
 mod tests;
 mod words;
 
+pub use backing::{backup_command, backup_entries, backup_found};
+pub use callers::{Caller, caller_now};
 pub use commands::{frames_command, perform, run};
+pub use connecting::{do_errand, run_errand};
+pub use errands::Errand;
 pub use errors::FramesError;
 pub use frames_engine::frames;
 pub use listening::{serve_connections, serve_folder};
+pub use locking::{locks_command, refresh_command, unlock_command};
 pub use making::{init_command, init_folder, random_instance};
+pub use restoring::{restore_command, restore_into, snapshots_command};
 pub use status::{Status, refuse_words};
 pub use words::{Making, Order, WordsError, order_of};

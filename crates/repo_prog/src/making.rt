@@ -76,6 +76,18 @@ pub fn init_command<S: Shelf, W: Write, F: Write>(
     }
 }
 
+/// The config of a store that is made so.
+fn config_of(making: &Making, id: Instance) -> Config
+    ensures { result ≡ record { version = 1; id = id; params = making.now.params; target = making.now.target } }
+{
+    Config {
+        version: 1,
+        id,
+        params: making.params,
+        target: making.target,
+    }
+}
+
 /// `vault init`: makes a store in a folder, which is made where it isn't there. That the folder keeps it
 /// is a premise about the machine.
 pub fn init_folder<R: Files + AllocGlobal + RandomSource + Clone + Drop, W: Write, F: Write>(
@@ -96,11 +108,6 @@ pub fn init_folder<R: Files + AllocGlobal + RandomSource + Clone + Drop, W: Writ
     let Ok(mut shelf) = DirShelf::create(rt, folder) else {
         return failed(faults, &"shelf failed");
     };
-    let config = Config {
-        version: 1,
-        id,
-        params: making.params,
-        target: making.target,
-    };
+    let config = config_of(making, id);
     init_command(rt.alloc(), &mut shelf, &config, output, faults)
 }

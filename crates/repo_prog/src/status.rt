@@ -16,6 +16,8 @@ pub enum Status {
     Failed,
     /// 2: the words make no command; standard error says why.
     Usage,
+    /// 3: it did what was asked, and something wasn't as it should be, which standard error names.
+    Flawed,
 }
 
 impl Status {
@@ -27,6 +29,7 @@ impl Status {
             Status::Done => 0,
             Status::Failed => 1,
             Status::Usage => 2,
+            Status::Flawed => 3,
         }
     }
 }

@@ -1,9 +1,12 @@
 //! The words of the command line.
 
-ghost use Rattle.std.specs.Prelude.{◌≡◌, IfOk};
+ghost use Rattle.std.specs.Prelude.{◌≡◌, ◌↔◌, IfOk, IfSome, IsSome};
+ghost use Rattle.repo_chunk.specs.Parameters.{AreLawful};
 ghost use Rattle.repo_tree.specs.ConfigText.{IsTarget};
 ghost use Rattle.repo_prog.specs.Commands.{IsOrder};
 
+use crate::errands::{Errand, errand_of, with_errands};
+use crate::help::{FRAMES, INIT, SERVE};
 use clap::{Arg, ArgAction, ArgMatches, Command};
 use repo_chunk::Params;
 use std::alloc::{AllocError, Global};
@@ -32,6 +35,11 @@ pub enum Order {
         folder: String,
         address: String,
         connections: u64,
+    },
+    /// Do an errand at a server's address.
+    Client {
+        address: String,
+        errand: Errand,
     },
 }
 
@@ -68,13 +76,14 @@ fn number<'a>(alloc: Global, name: &'a str, default: &'a str) -> Result<Arg<'a>,
 }
 
 /// A word that has to be there.
-fn needed<'a>(alloc: Global, name: &'a str) -> Arg<'a> {
+pub fn needed<'a>(alloc: Global, name: &'a str) -> Arg<'a> {
     Arg::new(alloc, name).required(true).action(ArgAction::Set)
 }
 
 fn init_words<'a>(alloc: Global) -> Result<Command<'a>, AllocError> {
     Command::new(alloc, "init")
         .about("Makes a store in a folder")
+        .after_help(INIT)
         .arg(needed(alloc, "DIR"))?
         .arg(number(alloc, "min", "524288")?)?
         .arg(number(alloc, "max", "8388608")?)?
@@ -85,26 +94,36 @@ fn init_words<'a>(alloc: Global) -> Result<Command<'a>, AllocError> {
 fn serve_words<'a>(alloc: Global) -> Result<Command<'a>, AllocError> {
     Command::new(alloc, "serve")
         .about("Serves the store in a folder to one connection after another")
+        .after_help(SERVE)
         .arg(needed(alloc, "DIR"))?
         .arg(needed(alloc, "ADDR"))?
         .arg(number(alloc, "connections", "1")?)
 }
 
+/// What `vault --version` tells.
+const VERSION: &str = "0.1.0";
+
+fn frames_words<'a>(alloc: Global) -> Command<'a> {
+    let about = "Answers request frames in hexadecimal, from an empty store in memory";
+    Command::new(alloc, "frames")
+        .about(about)
+        .after_help(FRAMES)
+}
+
 /// The commands and their words.
 fn commands<'a>(alloc: Global) -> Result<Command<'a>, AllocError> {
-    let frames = Command::new(alloc, "frames").about(
-        "Answers request frames in hexadecimal, from an empty store in memory",
-    );
-    Command::new(alloc, "vault")
+    let program = Command::new(alloc, "vault")
         .about("A shared, deduplicating backup repository")
+        .version(VERSION)
         .subcommand_required(true)
-        .subcommand(frames)?
+        .subcommand(frames_words(alloc))?
         .subcommand(init_words(alloc)?)?
-        .subcommand(serve_words(alloc)?)
+        .subcommand(serve_words(alloc)?)?;
+    with_errands(alloc, program)
 }
 
 /// A number that `clap` has read.
-fn number_of(matches: &ArgMatches, name: &str) -> Result<u64, WordsError> {
+pub fn number_of(matches: &ArgMatches, name: &str) -> Result<u64, WordsError> {
     match matches.get_one::<u64>(name) {
         Some(number) => Ok(number),
         None => Err(WordsError::BadArgument),
@@ -112,11 +131,26 @@ fn number_of(matches: &ArgMatches, name: &str) -> Result<u64, WordsError> {
 }
 
 /// A word that `clap` has read.
-fn word_of(alloc: Global, matches: &ArgMatches, name: &str) -> Result<String, WordsError> {
+pub fn word_of(alloc: Global, matches: &ArgMatches, name: &str) -> Result<String, WordsError> {
     match matches.get_str(name) {
         Some(word) => Ok(String::from_str(alloc, word)?),
         None => Err(WordsError::BadArgument),
     }
+}
+
+/// How a store is made by these numbers: a chunk's least and greatest length, how many low bits end one, and the
+/// bytes of a pack. `None` where one of them is outside its limits.
+fn making_by(min: u64, max: u64, bits: u64, target: u64) -> Option<Making>
+    ensures some { IsSome result ↔ (AreLawful (record { min = min; max = max; bits = bits }) × IsTarget target) }
+    ensures value { IfSome result (λ making. making ≡ record { params = record { min = min; max = max; bits = bits }; target = target }) }
+{
+    let Ok(params) = Params::new(min, max, bits) else {
+        return None;
+    };
+    if target < 1_024 || target > 16_777_216 {
+        return None;
+    }
+    Some(Making { params, target })
 }
 
 /// How the words say that a store is made.
@@ -125,13 +159,10 @@ fn making_of(matches: &ArgMatches) -> Result<Making, WordsError>
 {
     let (min, max) = (number_of(matches, "min")?, number_of(matches, "max")?);
     let (bits, target) = (number_of(matches, "bits")?, number_of(matches, "target")?);
-    let Ok(params) = Params::new(min, max, bits) else {
-        return Err(WordsError::BadArgument);
-    };
-    if target < 1_024 || target > 16_777_216 {
-        return Err(WordsError::BadArgument);
+    match making_by(min, max, bits, target) {
+        Some(making) => Ok(making),
+        None => Err(WordsError::BadArgument),
     }
-    Ok(Making { params, target })
 }
 
 fn init_order(alloc: Global, matches: &ArgMatches) -> Result<Order, WordsError>
@@ -158,6 +189,15 @@ fn serve_order(alloc: Global, matches: &ArgMatches) -> Result<Order, WordsError>
     })
 }
 
+/// The order of the words of a command that goes to a server.
+fn client_order(alloc: Global, command: &str, words: &ArgMatches) -> Result<Order, WordsError>
+    ensures { IfOk result IsOrder }
+{
+    let errand = errand_of(alloc, command, words)?;
+    let address = word_of(alloc, words, "ADDR")?;
+    Ok(Order::Client { address, errand })
+}
+
 /// The order that the words spell, the program's name first.
 pub fn order_of(alloc: Global, words: &[String]) -> Result<Order, WordsError>
     ensures { IfOk result IsOrder }
@@ -168,6 +208,7 @@ pub fn order_of(alloc: Global, words: &[String]) -> Result<Order, WordsError>
         Some(("frames", _)) => Ok(Order::Frames),
         Some(("init", words)) => init_order(alloc, words),
         Some(("serve", words)) => serve_order(alloc, words),
-        _ => Err(WordsError::BadArgument),
+        Some((command, words)) => client_order(alloc, command, words),
+        None => Err(WordsError::BadArgument),
     }
 }

@@ -1,0 +1,87 @@
+-- A job that was brought to its end.
+use Rattle.std.proofs.Common.{◌≡◌, ◌++◌, [], ℕ, List, Option, Some, None, Ok, ap, subst, ◌∙◌}
+use Rattle.std.proofs.lemmas.List.{append-nil}
+use Rattle.std.specs.Io.KnownBytes.{Consumes}
+use Rattle.repo_wire.specs.declared.messages.Ask.{Ask}
+use Rattle.repo_wire.specs.declared.messages.Request.{Request}
+use Rattle.repo_session.specs.declared.outcomes.Outcome.{Outcome}
+use Rattle.repo_session.specs.Clients.{IsObedient}
+use Rattle.repo_session.specs.Order.{Task}
+use Rattle.repo_session.specs.Talks.{Said, Drives, trace_of}
+use Rattle.repo_session.specs.Traces.{Exchange, Trace}
+use Rattle.repo_session.specs.Askers.{Asker, asker}
+use Rattle.repo_name.specs.declared.names.Name.{Name}
+use Rattle.repo_tree.specs.declared.entries.Entry.{Entry}
+use Rattle.repo_tree.specs.declared.snapshots.Snapshot.{Snapshot}
+use Rattle.repo_backup.specs.BackupObedience.{backup_obeys}
+use Rattle.repo_backup.specs.BackupStates as backing
+use Rattle.repo_backup.specs.Backups.{Handing, FitsBackup}
+use Rattle.repo_backup.specs.Rules as backup
+use Rattle.repo_backup.specs.Stages.{handed_in}
+use Rattle.repo_backup.specs.declared.backups.Backup.{Backup}
+use Rattle.repo_restore.specs.Listing.{list_task, ListAllows, ListGives, ListConcludes}
+use Rattle.repo_restore.specs.ListObedience.{list_obeys}
+use Rattle.repo_restore.specs.ListStates.{FitsList, who_of}
+use Rattle.repo_restore.specs.RestoreObedience.{wish_of, restore_obeys}
+use Rattle.repo_restore.specs.RestoreStates.{FitsRestore}
+use Rattle.repo_restore.specs.Restoring.{Wish, restore_task, RestoreAllows, RestoreGives, RestoreConcludes}
+use Rattle.repo_restore.specs.declared.listings.SnapshotList.{SnapshotList}
+use Rattle.repo_restore.specs.declared.restores.Restore.{Restore}
+use Rattle.repo_prog.specs.Asking.{streams}
+use Rattle.repo_prog.specs.Jobs.{Ended, Lists, Restores, Stores, vault_asker, vault_wish}
+use Rattle.repo_prog.specs.declared.callers.Caller.{Caller}
+
+ended : {C : Type 0} (Fits : C → Trace → Type 0) (next : C → Option Request) (old new : C) (n : ℕ) (said : Said) (a b start contents shown now : Option (List ℕ))
+    (task : Task) (Allows : Trace → Ask → Type 0) (Gives : Trace → Exchange → Type 0) (Own : Trace → Outcome → Type 0) (reached : Option Outcome) (outcome : Outcome)
+    → Fits old [] → Consumes a b said.bytes → Drives Fits next old (Ok n) new said start contents
+    → ((es : Trace) → Fits new es → IsObedient task Allows Gives Own (next new) reached es) → reached ≡ Some outcome
+    → Ended task Allows Gives Own outcome (streams a start shown) (streams b contents now)
+ended Fits next old new n said a b start contents shown now task Allows Gives Own reached outcome fits read d obeys is =
+    let es : Trace = trace_of said.talk in
+    let here : Fits new es = subst (λ x. Fits new x) (append-nil es) (d.0.fits [] fits) in
+    let P : Option Request → Type 0 = λ x. IsObedient task Allows Gives Own x reached es in
+    let Q : Option Outcome → Type 0 = λ x. IsObedient task Allows Gives Own None x es in
+    record { said = said; read = read; heard = d.3; turns = d.0.turns; sent = d.5; obeyed = subst Q is (subst P d.2 (obeys es here)) }
+
+-- a list of snapshots
+pub listed : (caller : Caller) (old new : SnapshotList) (n : ℕ) (said : Said) (a b start contents shown now : Option (List ℕ)) (rows : List (Name × Snapshot))
+    → FitsList old [] → who_of new.opening ≡ vault_asker caller → Consumes a b said.bytes → Drives FitsList (λ (l : SnapshotList). l.opening.line.next) old (Ok n) new said start contents
+    → new.opening.line.outcome ≡ Some (Outcome.Listed rows) → Lists caller rows (streams a start shown) (streams b contents now)
+listed caller old new n said a b start contents shown now rows fits who read d is =
+    let P : Trace → Asker → Type 0 = λ es w. IsObedient (list_task w) (ListAllows w) (ListGives w) (ListConcludes w) new.opening.line.next new.opening.line.outcome es in
+    let w : Asker = vault_asker caller in
+    ended FitsList (λ (l : SnapshotList). l.opening.line.next) old new n said a b start contents shown now (list_task w) (ListAllows w) (ListGives w) (ListConcludes w)
+    new.opening.line.outcome (Outcome.Listed rows) fits read d (λ es f. subst (P es) who (list_obeys new es f)) is
+
+-- a restore
+pub restored : (caller : Caller) (name : Name) (old new : Restore) (n : ℕ) (said : Said) (a b start contents shown now : Option (List ℕ)) (entries : ℕ)
+    → FitsRestore old [] → wish_of new ≡ vault_wish caller name → Consumes a b said.bytes → Drives FitsRestore (λ (r : Restore). r.opening.line.next) old (Ok n) new said start contents
+    → new.opening.line.outcome ≡ Some (Outcome.Complete entries) → Restores caller name entries (streams a start shown) (streams b contents now)
+restored caller name old new n said a b start contents shown now entries fits wish read d is =
+    let P : Trace → Wish → Type 0 = λ es w. IsObedient (restore_task w) (RestoreAllows w.snapshot) (RestoreGives w.snapshot) (RestoreConcludes w.snapshot) new.opening.line.next new.opening.line.outcome es in
+    ended FitsRestore (λ (r : Restore). r.opening.line.next) old new n said a b start contents shown now (restore_task (vault_wish caller name)) (RestoreAllows name) (RestoreGives name) (RestoreConcludes name)
+    new.opening.line.outcome (Outcome.Complete entries) fits read d (λ es f. subst (P es) wish (restore_obeys new es f)) is
+
+-- what a restore was made for
+pub same_wish : (r : Restore) (caller : Caller) (name : Name) → who_of r.opening ≡ vault_asker caller → r.opening.job.snapshot ≡ name → wish_of r ≡ vault_wish caller name
+same_wish r caller name who snapshot = λ i. record { who = who i; snapshot = snapshot i }
+
+-- what a backup was made for
+abbrev pub handing_of : Backup → Handing
+handing_of b = record { who = backing.who_of b.opening; entries = handed_in b.opening.job }
+
+abbrev pub handing : Caller → List ℕ → List Entry → Handing
+handing caller host entries = record { who = asker caller.instance host caller.time; entries = entries }
+
+pub same_handing : (b : Backup) (caller : Caller) (host : List ℕ) (entries : List Entry) → backing.who_of b.opening ≡ asker caller.instance host caller.time → handed_in b.opening.job ≡ entries
+    → handing_of b ≡ handing caller host entries
+same_handing b caller host entries who handed = λ i. record { who = who i; entries = handed i }
+
+-- a backup
+pub stored : (caller : Caller) (host : List ℕ) (entries : List Entry) (old new : Backup) (n : ℕ) (said : Said) (a b start contents shown now : Option (List ℕ)) (name : Name) (blobs bytes : ℕ)
+    → FitsBackup old [] → handing_of new ≡ handing caller host entries → Consumes a b said.bytes → Drives FitsBackup (λ (c : Backup). c.opening.line.next) old (Ok n) new said start contents
+    → new.opening.line.outcome ≡ Some (Outcome.Stored name blobs bytes) → Stores caller host entries name blobs bytes (streams a start shown) (streams b contents now)
+stored caller host entries old new n said a b start contents shown now name blobs bytes fits job read d is =
+    let P : Trace → Handing → Type 0 = λ es j. IsObedient (backing.backup_task j.who) (backup.Allows j.entries) (backup.GivesNothing j.entries) (backup.Ends j.entries) new.opening.line.next new.opening.line.outcome es in
+    ended FitsBackup (λ (c : Backup). c.opening.line.next) old new n said a b start contents shown now (backing.backup_task (asker caller.instance host caller.time)) (backup.Allows entries) (backup.GivesNothing entries) (backup.Ends entries)
+    new.opening.line.outcome (Outcome.Stored name blobs bytes) fits read d (λ es f. subst (P es) job (backup_obeys new es f)) is

@@ -1,0 +1,76 @@
+-- The lines that the commands of clients write.
+use Rattle.std.specs.Prelude.{◌≡◌, ◌++◌, ⊤, ℕ, Bool, true, false, List, codes, decimal, Option, Some, None}
+use Rattle.std.specs.Io.KnownBytes.{Appends}
+use Rattle.std.specs.List.{flat_map}
+use Rattle.repo_name.specs.Naming.{hex_of}
+use Rattle.repo_name.specs.declared.names.Name.{Name}
+use Rattle.repo_name.specs.declared.rows.LockRow.{LockRow}
+use Rattle.repo_name.specs.declared.tokens.Token.{Token}
+use Rattle.repo_tree.specs.declared.snapshots.Snapshot.{Snapshot}
+use Rattle.repo_wire.specs.declared.messages.Say.{Say}
+use Rattle.repo_store.specs.Output.{AppendsPart}
+use Rattle.repo_prog.specs.declared.status.Status.{Status}
+
+-- what a lock is called
+abbrev pub lock_word : Bool → List ℕ
+lock_word true = codes "exclusive"
+lock_word false = codes "shared"
+
+-- a live lock: its token, which sort it is, its time and its host
+abbrev pub lock_line : LockRow → List ℕ
+lock_line row = decimal row.token.0 ++ (codes " " ++ (lock_word row.exclusive ++ (codes " " ++ (decimal row.time ++ (codes " " ++ (row.host ++ codes "\n"))))))
+
+-- live locks, a line each
+abbrev pub lock_lines : List LockRow → List ℕ
+lock_lines rows = flat_map lock_line rows
+
+-- a snapshot: its name, its time and its host
+abbrev pub snapshot_line : Name × Snapshot → List ℕ
+snapshot_line row = hex_of row.0 ++ (codes " " ++ (decimal row.1.time ++ (codes " " ++ (row.1.host ++ codes "\n"))))
+
+-- snapshots, a line each
+abbrev pub snapshot_lines : List (Name × Snapshot) → List ℕ
+snapshot_lines rows = flat_map snapshot_line rows
+
+-- a snapshot was stored: its name, and the blobs and bytes that weren't there
+abbrev pub stored_line : Name → ℕ → ℕ → List ℕ
+stored_line name blobs bytes = codes "stored " ++ (hex_of name ++ (codes " " ++ (decimal blobs ++ (codes " " ++ (decimal bytes ++ codes "\n")))))
+
+-- a snapshot was restored: so many directories and files
+abbrev pub complete_line : ℕ → List ℕ
+complete_line entries = codes "complete " ++ (decimal entries ++ codes "\n")
+
+-- a lock has a new time
+abbrev pub refreshed_line : List ℕ
+refreshed_line = codes "refreshed\n"
+
+-- a lock was removed
+abbrev pub removed_line : Token → List ℕ
+removed_line token = codes "removed " ++ (decimal token.0 ++ codes "\n")
+
+-- what a status says of the output: done, the text was written; failed, some first part of it
+abbrev pub Shows : List ℕ → Status → Option (List ℕ) → Option (List ℕ) → Type 0
+Shows text Status.Done start contents = Appends start contents text
+Shows text Status.Failed start contents = AppendsPart start contents text
+Shows text Status.Flawed start contents = ⊥
+Shows text Status.Usage start contents = ⊥
+
+-- the same, where there may be nothing to write: then it failed, and nothing was written
+abbrev pub Tells : Option (List ℕ) → Status → Option (List ℕ) → Option (List ℕ) → Type 0
+Tells (Some text) status start contents = Shows text status start contents
+Tells None status start contents = (status ≡ Status.Failed) × (contents ≡ start)
+
+-- what a reply tells of the live locks
+abbrev pub locks_told : Say → Option (List ℕ)
+locks_told (Say.LockList rows) = Some (lock_lines rows)
+locks_told _ = None
+
+-- what a reply tells of a refresh
+abbrev pub refresh_told : Say → Option (List ℕ)
+refresh_told Say.Done = Some refreshed_line
+refresh_told _ = None
+
+-- what a reply tells of the removal of a lock
+abbrev pub removal_told : Token → Say → Option (List ℕ)
+removal_told token Say.Done = Some (removed_line token)
+removal_told token _ = None

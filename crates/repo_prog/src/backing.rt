@@ -1,0 +1,172 @@
+//! `vault backup`.
+
+ghost use Rattle.std.specs.Prelude.{◌≡◌, ◌≢◌, [], ℕ, List, Some, option_map};
+ghost use Rattle.std.specs.Io.KnownBytes.{Appends};
+ghost use Rattle.repo_name.specs.Rows.{IsHost};
+ghost use Rattle.repo_name.specs.declared.names.Name.{Name};
+ghost use Rattle.repo_session.specs.declared.outcomes.Outcome.{Outcome};
+ghost use Rattle.repo_tree.specs.declared.entries.Entry.{Entry};
+ghost use Rattle.repo_prog.specs.Asking.{streams};
+ghost use Rattle.repo_prog.specs.Commands.{IsEnd, IsKept};
+ghost use Rattle.repo_prog.specs.Jobs.{Stores};
+ghost use Rattle.repo_prog.specs.Tellings.{stored_line};
+ghost use Rattle.repo_prog.specs.declared.status.Status.{Status};
+
+use crate::callers::Caller;
+use crate::status::{Status, failed, tell};
+use crate::telling::{show, stored_line, unfinished};
+use repo_backup::{Backup, BackupError};
+use repo_files::{Scan, ScanError, Skipped, scan};
+use repo_session::{Client, DriveError, Outcome, drive};
+use repo_tree::Entry;
+use std::alloc::{AllocGlobal, Global};
+use std::fs::Files;
+use std::io::{Read, Write};
+
+/// Tells what a scan left out, a line each.
+fn tell_skipped<F: Write>(skipped: &[Skipped], faults: &mut F) {
+    for left in skipped {
+        match left {
+            Skipped::Other(path) => tell(faults, &format_args!("skipped {path}")),
+            Skipped::Unnamed(folder) => {
+                tell(faults, &format_args!("skipped an entry in {folder}"));
+            }
+        }
+    }
+}
+
+/// Tells why entries can't be backed up.
+fn not_begun<F: Write>(error: BackupError, faults: &mut F) -> Status
+    ensures { result ≡ Status.Failed }
+{
+    match error {
+        BackupError::BadPath => failed(faults, &"start refused 1"),
+        BackupError::Order => failed(faults, &"start refused 2"),
+        BackupError::TooDeep => failed(faults, &"start refused 3"),
+        BackupError::TooLarge => failed(faults, &"start refused 4"),
+        BackupError::Memory => failed(faults, &DriveError::Memory),
+    }
+}
+
+/// Writes the line of a snapshot that was stored, or tells how the job ended else.
+fn show_stored<O: Write, F: Write>(
+    alloc: Global,
+    outcome: Option<&Outcome>,
+    output: &mut O,
+    faults: &mut F,
+) -> Status
+    ensures stored { result ≡ Status.Done → (name : Name) × (blobs : ℕ) × (bytes : ℕ) × (option_map (λ o. o.now) outcome.entry ≡ Some (Outcome.Stored name blobs bytes)) × Appends (O.contents output.old) (O.contents output.new) (stored_line name blobs bytes) }
+    ensures silent { result ≡ Status.Done → faults.new ≡ faults.old }
+    ensures status { IsEnd result }
+{
+    let Some(Outcome::Stored { name, blobs, bytes }) = outcome else {
+        return unfinished(alloc, outcome, faults);
+    };
+    match stored_line(alloc, name, *blobs, *bytes) {
+        Ok(line) => show(line.as_str(), output, faults),
+        Err(_) => failed(faults, &DriveError::Memory),
+    }
+}
+
+/// Backs up entries under the name of a machine.
+pub fn backup_entries<R: Read, W: Write, O: Write, F: Write>(
+    alloc: Global,
+    caller: &Caller,
+    host: &str,
+    entries: Vec<Entry>,
+    reader: &mut R,
+    writer: &mut W,
+    output: &mut O,
+    faults: &mut F,
+) -> Status
+    requires { IsHost host.now }
+    ensures stored { result ≡ Status.Done → (name : Name) × (blobs : ℕ) × (bytes : ℕ) × Stores caller.now host.now entries.items name blobs bytes (streams (R.remaining reader.old) (W.contents writer.old) (O.contents output.old)) (streams (R.remaining reader.new) (W.contents writer.new) (O.contents output.new)) × Appends (O.contents output.old) (O.contents output.new) (stored_line name blobs bytes) }
+    ensures silent { result ≡ Status.Done → faults.new ≡ faults.old }
+    ensures status { IsEnd result }
+{
+    let Ok(who) = caller.who(alloc, host) else {
+        return failed(faults, &DriveError::Memory);
+    };
+    let mut backup = match Backup::new(alloc, who, entries) {
+        Ok(backup) => backup,
+        Err(error) => return not_begun(error, faults),
+    };
+    match drive(alloc, &mut backup, reader, writer, |_| true) {
+        Ok(_) => show_stored(alloc, backup.outcome(), output, faults),
+        Err(error) => failed(faults, &error),
+    }
+}
+
+/// The status of a backup that left entries out.
+fn flawed(status: Status) -> Status
+    ensures done { status ≡ Status.Done → result ≡ Status.Flawed }
+    ensures same { status ≢ Status.Done → result ≡ status }
+{
+    match status {
+        Status::Done => Status::Flawed,
+        other => other,
+    }
+}
+
+/// Backs up what a scan found. Where the scan left something out that is told first, and the status of a backup that
+/// is done is `Flawed`.
+pub fn backup_found<R: Read, W: Write, O: Write, F: Write>(
+    alloc: Global,
+    caller: &Caller,
+    host: &str,
+    found: Scan,
+    reader: &mut R,
+    writer: &mut W,
+    output: &mut O,
+    faults: &mut F,
+) -> Status
+    requires { IsHost host.now }
+    ensures stored { IsKept result → (name : Name) × (blobs : ℕ) × (bytes : ℕ) × Stores caller.now host.now found.entries.items name blobs bytes (streams (R.remaining reader.old) (W.contents writer.old) (O.contents output.old)) (streams (R.remaining reader.new) (W.contents writer.new) (O.contents output.new)) × Appends (O.contents output.old) (O.contents output.new) (stored_line name blobs bytes) }
+    ensures whole { result ≡ Status.Done → found.skipped.items ≡ [] }
+    ensures flawed { result ≡ Status.Flawed → found.skipped.items ≢ [] }
+    ensures silent { result ≡ Status.Done → faults.new ≡ faults.old }
+    ensures status { result ≢ Status.Usage }
+{
+    let Scan { entries, skipped } = found;
+    if skipped.is_empty() {
+        return backup_entries(alloc, caller, host, entries, reader, writer, output, faults);
+    }
+    tell_skipped(skipped.as_slice(), faults);
+    let status = backup_entries(alloc, caller, host, entries, reader, writer, output, faults);
+    flawed(status)
+}
+
+/// `vault backup`: scans a folder whole, and then stores what it found. A folder that can't be read whole is told as
+/// `unreadable` with the path, and nothing is sent.
+///
+/// That the entries are what the folder holds is no clause, since no contract sees a file.
+pub fn backup_command<T: Files + AllocGlobal + Clone + Drop, R: Read, W: Write, O: Write, F: Write>(
+    rt: &T,
+    caller: &Caller,
+    host: &str,
+    folder: &str,
+    reader: &mut R,
+    writer: &mut W,
+    output: &mut O,
+    faults: &mut F,
+) -> Status
+    requires { IsHost host.now }
+    ensures stored { IsKept result → (entries : List Entry) × (name : Name) × (blobs : ℕ) × (bytes : ℕ) × Stores caller.now host.now entries name blobs bytes (streams (R.remaining reader.old) (W.contents writer.old) (O.contents output.old)) (streams (R.remaining reader.new) (W.contents writer.new) (O.contents output.new)) × Appends (O.contents output.old) (O.contents output.new) (stored_line name blobs bytes) }
+    ensures silent { result ≡ Status.Done → faults.new ≡ faults.old }
+    ensures status { result ≢ Status.Usage }
+{
+    match scan(rt, folder) {
+        Ok(found) => backup_found(
+            rt.alloc(),
+            caller,
+            host,
+            found,
+            reader,
+            writer,
+            output,
+            faults,
+        ),
+        Err(ScanError::Unreadable(path)) => failed(faults, &format_args!("unreadable {path}")),
+        Err(ScanError::Memory) => failed(faults, &DriveError::Memory),
+    }
+}

@@ -1,0 +1,135 @@
+//! The words of what a client asks of a server.
+
+ghost use Rattle.std.specs.Prelude.{◌↔◌, IfOk, IsTrue};
+ghost use Rattle.repo_name.specs.Rows.{IsHost};
+ghost use Rattle.repo_prog.specs.Commands.{IsErrand};
+
+use crate::help::{BACKUP, LOCKS, REFRESH, RESTORE, SNAPSHOTS, UNLOCK};
+use crate::words::{WordsError, needed, number_of, word_of};
+use clap::{Arg, ArgAction, ArgMatches, Command};
+use repo_name::{Name, Text, Token};
+use std::alloc::{AllocError, Global};
+
+/// What a client asks of a server.
+#[derive(Debug, Drop)]
+pub enum Errand {
+    /// Store what a folder holds, under the name of a machine, 1 to 255 bytes.
+    Backup { host: Text, folder: String },
+    /// List the snapshots.
+    Snapshots,
+    /// Restore a snapshot into a folder.
+    Restore { name: Name, folder: String },
+    /// List the live locks.
+    Locks,
+    /// Give a token's lock a new time.
+    Refresh(Token),
+    /// Remove the stale locks, or all.
+    Unlock { all: bool },
+}
+
+/// A command that goes to a server's address.
+fn errand_words<'a>(
+    alloc: Global,
+    name: &'a str,
+    about: &'a str,
+    help: &'a str,
+) -> Result<Command<'a>, AllocError> {
+    Command::new(alloc, name)
+        .about(about)
+        .after_help(help)
+        .arg(needed(alloc, "ADDR"))
+}
+
+fn backup_words<'a>(alloc: Global) -> Result<Command<'a>, AllocError> {
+    let about = "Stores what a folder holds as a snapshot";
+    errand_words(alloc, "backup", about, BACKUP)?
+        .arg(needed(alloc, "HOST"))?
+        .arg(needed(alloc, "PATH"))
+}
+
+fn restore_words<'a>(alloc: Global) -> Result<Command<'a>, AllocError> {
+    let about = "Restores a snapshot into an empty folder";
+    errand_words(alloc, "restore", about, RESTORE)?
+        .arg(needed(alloc, "NAME"))?
+        .arg(needed(alloc, "DIR"))
+}
+
+fn refresh_words<'a>(alloc: Global) -> Result<Command<'a>, AllocError> {
+    let about = "Gives a live lock this moment as its time";
+    let token = needed(alloc, "TOKEN").value_parser(clap::value_parser!(u64));
+    errand_words(alloc, "refresh", about, REFRESH)?.arg(token)
+}
+
+fn unlock_words<'a>(alloc: Global) -> Result<Command<'a>, AllocError> {
+    let about = "Removes stale locks, or all";
+    let all = Arg::new(alloc, "remove-all")
+        .long("remove-all")
+        .action(ArgAction::SetTrue);
+    errand_words(alloc, "unlock", about, UNLOCK)?.arg(all)
+}
+
+/// The commands that go to a server, added to those of the program.
+pub fn with_errands<'a>(alloc: Global, program: Command<'a>) -> Result<Command<'a>, AllocError> {
+    let snapshots = errand_words(alloc, "snapshots", "Lists the snapshots", SNAPSHOTS)?;
+    let locks = errand_words(alloc, "locks", "Lists the live locks", LOCKS)?;
+    program
+        .subcommand(backup_words(alloc)?)?
+        .subcommand(snapshots)?
+        .subcommand(restore_words(alloc)?)?
+        .subcommand(locks)?
+        .subcommand(refresh_words(alloc)?)?
+        .subcommand(unlock_words(alloc)?)
+}
+
+/// Whether the word may name a machine.
+fn is_host(word: &str) -> bool
+    ensures { IsTrue result ↔ IsHost word.now }
+{
+    !word.is_empty() && word.len() <= 255
+}
+
+fn backup_errand(alloc: Global, words: &ArgMatches) -> Result<Errand, WordsError>
+    ensures { IfOk result IsErrand }
+{
+    let host = word_of(alloc, words, "HOST")?;
+    if !is_host(host.as_str()) {
+        return Err(WordsError::BadArgument);
+    }
+    let folder = word_of(alloc, words, "PATH")?;
+    Ok(Errand::Backup {
+        host: Text::of(host),
+        folder,
+    })
+}
+
+fn restore_errand(alloc: Global, words: &ArgMatches) -> Result<Errand, WordsError>
+    ensures { IfOk result IsErrand }
+{
+    let word = word_of(alloc, words, "NAME")?;
+    let Ok(name) = Name::from_hex(word.as_str()) else {
+        return Err(WordsError::BadArgument);
+    };
+    let folder = word_of(alloc, words, "DIR")?;
+    Ok(Errand::Restore { name, folder })
+}
+
+/// What the words of one of these commands ask for.
+pub fn errand_of(alloc: Global, command: &str, words: &ArgMatches) -> Result<Errand, WordsError>
+    ensures { IfOk result IsErrand }
+{
+    match command {
+        "backup" => backup_errand(alloc, words),
+        "snapshots" => Ok(Errand::Snapshots),
+        "restore" => restore_errand(alloc, words),
+        "locks" => Ok(Errand::Locks),
+        "refresh" => {
+            let number = number_of(words, "TOKEN")?;
+            Ok(Errand::Refresh(Token(number)))
+        }
+        "unlock" => {
+            let all = words.get_flag("remove-all");
+            Ok(Errand::Unlock { all })
+        }
+        _ => Err(WordsError::BadArgument),
+    }
+}

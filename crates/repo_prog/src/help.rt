@@ -1,0 +1,96 @@
+//! What the help of each command says below its words.
+
+/// Below the help of `vault frames`.
+pub const FRAMES: &str = "\
+Example:
+  echo 0000001901010101010101010101010101010101010000000000000001 | vault frames
+
+Exit status:
+  0  every request was answered
+  1  it ended with a fault, whose text is on standard error
+  2  the words make no command";
+
+/// Below the help of `vault init`.
+pub const INIT: &str = "\
+Example:
+  vault init store
+
+Exit status:
+  0  the store is made, and its instance printed
+  1  it isn't, and standard error says why
+  2  the words make no command, or a number is outside its limits";
+
+/// Below the help of `vault serve`.
+pub const SERVE: &str = "\
+Example:
+  vault serve store 127.0.0.1:7070 --connections 1000
+
+Exit status:
+  0  every connection was served to its end
+  1  one ended with an error, or nothing could be served; standard error says why
+  2  the words make no command";
+
+/// Below the help of `vault backup`.
+pub const BACKUP: &str = "\
+Example:
+  vault backup 127.0.0.1:7070 laptop photos
+
+Exit status:
+  0  the snapshot is stored
+  1  it isn't, and standard error says why
+  2  the words make no command
+  3  the snapshot is stored, without the entries that standard error names";
+
+/// Below the help of `vault snapshots`.
+pub const SNAPSHOTS: &str = "\
+Example:
+  vault snapshots 127.0.0.1:7070
+
+Exit status:
+  0  each snapshot is printed: its name, its time in seconds since 1970, its host
+  1  they couldn't be listed, and standard error says why
+  2  the words make no command";
+
+/// Below the help of `vault restore`.
+pub const RESTORE: &str = "\
+Example:
+  vault restore 127.0.0.1:7070 NAME photos-again
+where NAME is the 64 digits that `backup` and `snapshots` print.
+
+Exit status:
+  0  all of the snapshot is restored
+  1  it isn't, and standard error says why; what was written so far stays
+  2  the words make no command, or NAME is no name";
+
+/// Below the help of `vault locks`.
+pub const LOCKS: &str = "\
+Example:
+  vault locks 127.0.0.1:7070
+
+Exit status:
+  0  each live lock is printed: its token, `shared` or `exclusive`, its time, its host
+  1  they couldn't be listed, and standard error says why
+  2  the words make no command";
+
+/// Below the help of `vault refresh`.
+pub const REFRESH: &str = "\
+Example:
+  vault refresh 127.0.0.1:7070 7
+
+Exit status:
+  0  the lock has this moment as its time
+  1  it hasn't, and standard error says why
+  2  the words make no command";
+
+/// Below the help of `vault unlock`.
+pub const UNLOCK: &str = "\
+Without --remove-all the locks are removed whose time lies more than 30 minutes back.
+A client whose lock is removed can change nothing from then on.
+
+Example:
+  vault unlock 127.0.0.1:7070
+
+Exit status:
+  0  each of these locks is removed, and its token printed
+  1  one couldn't be, and standard error says why
+  2  the words make no command";

@@ -1,0 +1,225 @@
+//! `vault locks`, `vault refresh` and `vault unlock`.
+
+ghost use Rattle.std.specs.Prelude.{◌≡◌, ◌<◌, ◌+◌, ◌^◌, ℕ, List, Some, length, IfOk};
+ghost use Rattle.repo_wire.specs.declared.messages.Ask.{Ask};
+ghost use Rattle.repo_wire.specs.Messages.{IsAsk, IsShortAsk};
+ghost use Rattle.repo_locks.specs.TokenMachine.{tokens_of};
+ghost use Rattle.repo_prog.specs.Asking.{streams, request_of, chosen, Asked, AreRemoved, Removes, Unlocks};
+ghost use Rattle.repo_prog.specs.Commands.{IsEnd};
+ghost use Rattle.repo_prog.specs.Tellings.{locks_told, refresh_told, removal_told, Tells};
+ghost use Rattle.repo_prog.specs.declared.status.Status.{Status};
+
+use crate::callers::Caller;
+use crate::status::{Status, failed};
+use crate::telling::{lock_lines, removed_line, show, unwelcome};
+use repo_locks::stale;
+use repo_name::{LockRow, Token};
+use repo_session::{DriveError, ask};
+use repo_wire::{Ask, Say};
+use std::alloc::{AllocError, Global};
+use std::io::{Read, Write};
+
+/// Writes the live locks of a reply, or tells of a reply that has none.
+fn show_locks<O: Write, F: Write>(
+    alloc: Global,
+    say: &Say,
+    output: &mut O,
+    faults: &mut F,
+) -> Status
+    ensures tells { Tells (locks_told say.now) result (O.contents output.old) (O.contents output.new) }
+    ensures silent { result ≡ Status.Done → faults.new ≡ faults.old }
+    ensures status { IsEnd result }
+{
+    let Say::LockList(rows) = say else {
+        return unwelcome(say, faults);
+    };
+    match lock_lines(alloc, rows.as_slice()) {
+        Ok(lines) => show(lines.as_str(), output, faults),
+        Err(_) => failed(faults, &DriveError::Memory),
+    }
+}
+
+/// `vault locks`: lists the live locks, a line each.
+pub fn locks_command<R: Read, W: Write, O: Write, F: Write>(
+    alloc: Global,
+    caller: &Caller,
+    reader: &mut R,
+    writer: &mut W,
+    output: &mut O,
+    faults: &mut F,
+) -> Status
+    ensures asked { Asked (request_of caller.now 1 Ask.Locks) locks_told (streams (R.remaining reader.old) (W.contents writer.old) (O.contents output.old)) result (streams (R.remaining reader.new) (W.contents writer.new) (O.contents output.new)) }
+    ensures silent { result ≡ Status.Done → faults.new ≡ faults.old }
+    ensures status { IsEnd result }
+{
+    match ask(alloc, reader, writer, &caller.request(1, Ask::Locks)) {
+        Ok(reply) => show_locks(alloc, &reply.say, output, faults),
+        Err(error) => failed(faults, &error),
+    }
+}
+
+/// Tells that a lock has a new time, or of a reply that says something else.
+fn show_refresh<O: Write, F: Write>(say: &Say, output: &mut O, faults: &mut F) -> Status
+    ensures tells { Tells (refresh_told say.now) result (O.contents output.old) (O.contents output.new) }
+    ensures silent { result ≡ Status.Done → faults.new ≡ faults.old }
+    ensures status { IsEnd result }
+{
+    match say {
+        Say::Done => show("refreshed\n", output, faults),
+        _ => unwelcome(say, faults),
+    }
+}
+
+/// What asks for a later time of a token's lock.
+fn refresh_of(token: Token, time: u64) -> Ask
+    ensures value { result ≡ Ask.Refresh token time }
+    ensures within { IsAsk result × IsShortAsk result }
+{
+    Ask::Refresh { token, time }
+}
+
+/// `vault refresh`: gives a token's live lock this moment as its time.
+pub fn refresh_command<R: Read, W: Write, O: Write, F: Write>(
+    alloc: Global,
+    caller: &Caller,
+    token: Token,
+    reader: &mut R,
+    writer: &mut W,
+    output: &mut O,
+    faults: &mut F,
+) -> Status
+    ensures asked { Asked (request_of caller.now 1 (Ask.Refresh token caller.now.time)) refresh_told (streams (R.remaining reader.old) (W.contents writer.old) (O.contents output.old)) result (streams (R.remaining reader.new) (W.contents writer.new) (O.contents output.new)) }
+    ensures silent { result ≡ Status.Done → faults.new ≡ faults.old }
+    ensures status { IsEnd result }
+{
+    let refresh = refresh_of(token, caller.time);
+    match ask(alloc, reader, writer, &caller.request(1, refresh)) {
+        Ok(reply) => show_refresh(&reply.say, output, faults),
+        Err(error) => failed(faults, &error),
+    }
+}
+
+/// Tells that a lock was removed, or of a reply that says something else.
+fn show_removal<O: Write, F: Write>(
+    alloc: Global,
+    token: Token,
+    say: &Say,
+    output: &mut O,
+    faults: &mut F,
+) -> Status
+    ensures tells { Tells (removal_told token say.now) result (O.contents output.old) (O.contents output.new) }
+    ensures silent { result ≡ Status.Done → faults.new ≡ faults.old }
+    ensures status { IsEnd result }
+{
+    match say {
+        Say::Done => match removed_line(alloc, token) {
+            Ok(line) => show(line.as_str(), output, faults),
+            Err(_) => failed(faults, &DriveError::Memory),
+        },
+        _ => unwelcome(say, faults),
+    }
+}
+
+/// Removes the lock of a token, by the request of this number, and tells that it is done.
+fn remove_lock<R: Read, W: Write, O: Write, F: Write>(
+    alloc: Global,
+    caller: &Caller,
+    sequence: u64,
+    token: Token,
+    reader: &mut R,
+    writer: &mut W,
+    output: &mut O,
+    faults: &mut F,
+) -> Status
+    ensures asked { Asked (request_of caller.now sequence (Ask.Unlock token)) (removal_told token) (streams (R.remaining reader.old) (W.contents writer.old) (O.contents output.old)) result (streams (R.remaining reader.new) (W.contents writer.new) (O.contents output.new)) }
+    ensures silent { result ≡ Status.Done → faults.new ≡ faults.old }
+    ensures status { IsEnd result }
+{
+    let request = caller.request(sequence, Ask::Unlock(token));
+    match ask(alloc, reader, writer, &request) {
+        Ok(reply) => show_removal(alloc, token, &reply.say, output, faults),
+        Err(error) => failed(faults, &error),
+    }
+}
+
+/// Removes locks one after another, from the request of number 2 on, and tells each as it is done. The first one
+/// that isn't done ends it.
+fn remove_locks<R: Read, W: Write, O: Write, F: Write>(
+    alloc: Global,
+    caller: &Caller,
+    tokens: &[Token],
+    reader: &mut R,
+    writer: &mut W,
+    output: &mut O,
+    faults: &mut F,
+) -> Status
+    requires few { length tokens.now < 2 ^ 62 }
+    ensures removes { Removes caller.now tokens.now (streams (R.remaining reader.old) (W.contents writer.old) (O.contents output.old)) result (streams (R.remaining reader.new) (W.contents writer.new) (O.contents output.new)) }
+    ensures silent { result ≡ Status.Done → faults.new ≡ faults.old }
+    ensures status { IsEnd result }
+{
+    let mut sequence = 2;
+    for token in tokens {
+        match remove_lock(
+            alloc, caller, sequence, *token, reader, writer, output, faults,
+        ) {
+            Status::Done => sequence += 1,
+            other => return other,
+        }
+    }
+    Status::Done
+}
+
+/// The tokens of all locks.
+fn all_tokens(alloc: Global, rows: &[LockRow]) -> Result<Vec<Token>, AllocError>
+    ensures { IfOk result (λ tokens. tokens.items ≡ tokens_of rows.now) }
+{
+    rows.iter().map(|row| row.token).collect(alloc)
+}
+
+/// The tokens of the locks that are to be removed: of all, or of the stale ones.
+fn chosen(alloc: Global, rows: &[LockRow], now: u64, all: bool) -> Result<Vec<Token>, AllocError>
+    ensures { IfOk result (λ tokens. tokens.items ≡ chosen all now rows.now) }
+{
+    if all {
+        all_tokens(alloc, rows)
+    } else {
+        stale(alloc, rows, now)
+    }
+}
+
+/// `vault unlock`: removes the stale locks, or all, and tells each as it is done. What a client does afterwards
+/// whose lock was removed is refused.
+pub fn unlock_command<R: Read, W: Write, O: Write, F: Write>(
+    alloc: Global,
+    caller: &Caller,
+    all: bool,
+    reader: &mut R,
+    writer: &mut W,
+    output: &mut O,
+    faults: &mut F,
+) -> Status
+    ensures unlocks { Unlocks caller.now all (streams (R.remaining reader.old) (W.contents writer.old) (O.contents output.old)) result (streams (R.remaining reader.new) (W.contents writer.new) (O.contents output.new)) }
+    ensures silent { result ≡ Status.Done → faults.new ≡ faults.old }
+    ensures status { IsEnd result }
+{
+    let reply = match ask(alloc, reader, writer, &caller.request(1, Ask::Locks)) {
+        Ok(reply) => reply,
+        Err(error) => return failed(faults, &error),
+    };
+    let Say::LockList(rows) = &reply.say else {
+        return unwelcome(&reply.say, faults);
+    };
+    match chosen(alloc, rows.as_slice(), caller.time, all) {
+        Ok(tokens) => remove_locks(
+            alloc,
+            caller,
+            tokens.as_slice(),
+            reader,
+            writer,
+            output,
+            faults,
+        ),
+        Err(_) => failed(faults, &DriveError::Memory),
+    }
+}

@@ -1,0 +1,164 @@
+//! `vault snapshots` and `vault restore`.
+
+ghost use Rattle.std.specs.Prelude.{◌≡◌, ℕ, List, Some, option_map};
+ghost use Rattle.std.specs.Io.KnownBytes.{Appends};
+ghost use Rattle.repo_name.specs.declared.names.Name.{Name};
+ghost use Rattle.repo_tree.specs.declared.snapshots.Snapshot.{Snapshot};
+ghost use Rattle.repo_session.specs.declared.outcomes.Outcome.{Outcome};
+ghost use Rattle.repo_prog.specs.Asking.{streams};
+ghost use Rattle.repo_prog.specs.Commands.{IsEnd};
+ghost use Rattle.repo_prog.specs.Jobs.{Lists, Restores};
+ghost use Rattle.repo_prog.specs.Tellings.{snapshot_lines, complete_line};
+ghost use Rattle.repo_prog.specs.declared.status.Status.{Status};
+
+use crate::callers::{Caller, HOST};
+use crate::status::{Status, failed};
+use crate::telling::{complete_line, show, snapshot_lines, unfinished};
+use repo_files::{Restorer, RestorerError};
+use repo_name::Name;
+use repo_restore::{Restore, SnapshotList};
+use repo_session::{Client, DriveError, Emission, Outcome, drive};
+use std::alloc::{AllocGlobal, Global};
+use std::fs::Files;
+use std::io::{Read, Write};
+
+/// Writes the lines of a list of snapshots, or tells how the job ended else.
+fn show_list<O: Write, F: Write>(
+    alloc: Global,
+    outcome: Option<&Outcome>,
+    output: &mut O,
+    faults: &mut F,
+) -> Status
+    ensures listed { result ≡ Status.Done → (rows : List (Name × Snapshot)) × (option_map (λ o. o.now) outcome.entry ≡ Some (Outcome.Listed rows)) × Appends (O.contents output.old) (O.contents output.new) (snapshot_lines rows) }
+    ensures silent { result ≡ Status.Done → faults.new ≡ faults.old }
+    ensures status { IsEnd result }
+{
+    let Some(Outcome::Listed(snapshots)) = outcome else {
+        return unfinished(alloc, outcome, faults);
+    };
+    match snapshot_lines(alloc, snapshots.as_slice()) {
+        Ok(lines) => show(lines.as_str(), output, faults),
+        Err(_) => failed(faults, &DriveError::Memory),
+    }
+}
+
+/// `vault snapshots`: lists the snapshots, a line each, ascending by name.
+pub fn snapshots_command<R: Read, W: Write, O: Write, F: Write>(
+    alloc: Global,
+    caller: &Caller,
+    reader: &mut R,
+    writer: &mut W,
+    output: &mut O,
+    faults: &mut F,
+) -> Status
+    ensures listed { result ≡ Status.Done → (rows : List (Name × Snapshot)) × Lists caller.now rows (streams (R.remaining reader.old) (W.contents writer.old) (O.contents output.old)) (streams (R.remaining reader.new) (W.contents writer.new) (O.contents output.new)) × Appends (O.contents output.old) (O.contents output.new) (snapshot_lines rows) }
+    ensures silent { result ≡ Status.Done → faults.new ≡ faults.old }
+    ensures status { IsEnd result }
+{
+    let Ok(who) = caller.who(alloc, HOST) else {
+        return failed(faults, &DriveError::Memory);
+    };
+    let mut list = SnapshotList::new(alloc, who);
+    match drive(alloc, &mut list, reader, writer, |_| true) {
+        Ok(_) => show_list(alloc, list.outcome(), output, faults),
+        Err(error) => failed(faults, &error),
+    }
+}
+
+/// Writes the line of a restore that is complete, or tells how the job ended else.
+fn show_restored<O: Write, F: Write>(
+    alloc: Global,
+    outcome: Option<&Outcome>,
+    output: &mut O,
+    faults: &mut F,
+) -> Status
+    ensures restored { result ≡ Status.Done → (entries : ℕ) × (option_map (λ o. o.now) outcome.entry ≡ Some (Outcome.Complete entries)) × Appends (O.contents output.old) (O.contents output.new) (complete_line entries) }
+    ensures silent { result ≡ Status.Done → faults.new ≡ faults.old }
+    ensures status { IsEnd result }
+{
+    let Some(Outcome::Complete { entries }) = outcome else {
+        return unfinished(alloc, outcome, faults);
+    };
+    match complete_line(alloc, *entries) {
+        Ok(line) => show(line.as_str(), output, faults),
+        Err(_) => failed(faults, &DriveError::Memory),
+    }
+}
+
+/// Restores a snapshot, and hands what is given out to a sink.
+pub fn restore_into<R: Read, W: Write, S: FnMut(&Emission) -> bool, O: Write, F: Write>(
+    alloc: Global,
+    caller: &Caller,
+    name: Name,
+    sink: S,
+    reader: &mut R,
+    writer: &mut W,
+    output: &mut O,
+    faults: &mut F,
+) -> Status
+    requires { S.IsAlwaysCallable sink }
+    ensures restored { result ≡ Status.Done → (entries : ℕ) × Restores caller.now name entries (streams (R.remaining reader.old) (W.contents writer.old) (O.contents output.old)) (streams (R.remaining reader.new) (W.contents writer.new) (O.contents output.new)) × Appends (O.contents output.old) (O.contents output.new) (complete_line entries) }
+    ensures silent { result ≡ Status.Done → faults.new ≡ faults.old }
+    ensures status { IsEnd result }
+{
+    let Ok(who) = caller.who(alloc, HOST) else {
+        return failed(faults, &DriveError::Memory);
+    };
+    let mut restore = Restore::new(alloc, who, name);
+    match drive(alloc, &mut restore, reader, writer, sink) {
+        Ok(_) => show_restored(alloc, restore.outcome(), output, faults),
+        Err(error) => failed(faults, &error),
+    }
+}
+
+/// Tells why a folder can't be restored into.
+fn not_begun<F: Write>(error: RestorerError, faults: &mut F) -> Status
+    ensures { result ≡ Status.Failed }
+{
+    match error {
+        RestorerError::NotEmpty => failed(faults, &"target not empty"),
+        RestorerError::Unwritable => failed(faults, &DriveError::Sink),
+        RestorerError::Memory => failed(faults, &DriveError::Memory),
+    }
+}
+
+/// `vault restore`: restores a snapshot into a folder, which is made where it isn't there and has to be empty. What
+/// was written before an end stays.
+///
+/// That the folder then holds what was given out is no clause, since no contract sees a file.
+pub fn restore_command<
+    T: Files + AllocGlobal + Clone + Drop,
+    R: Read,
+    W: Write,
+    O: Write,
+    F: Write,
+>(
+    rt: &T,
+    caller: &Caller,
+    name: Name,
+    folder: &str,
+    reader: &mut R,
+    writer: &mut W,
+    output: &mut O,
+    faults: &mut F,
+) -> Status
+    ensures restored { result ≡ Status.Done → (entries : ℕ) × Restores caller.now name entries (streams (R.remaining reader.old) (W.contents writer.old) (O.contents output.old)) (streams (R.remaining reader.new) (W.contents writer.new) (O.contents output.new)) × Appends (O.contents output.old) (O.contents output.new) (complete_line entries) }
+    ensures silent { result ≡ Status.Done → faults.new ≡ faults.old }
+    ensures status { IsEnd result }
+{
+    let mut restorer = match Restorer::new(rt, folder) {
+        Ok(restorer) => restorer,
+        Err(error) => return not_begun(error, faults),
+    };
+    let sink = |emission: &Emission| restorer.write(emission);
+    restore_into(
+        rt.alloc(),
+        caller,
+        name,
+        sink,
+        reader,
+        writer,
+        output,
+        faults,
+    )
+}

@@ -1,0 +1,122 @@
+//! What the commands of clients write, and how they tell why they ended.
+
+ghost use Rattle.std.specs.Prelude.{◌≡◌, IfOk, string_bytes};
+ghost use Rattle.repo_prog.specs.Commands.{IsEnd};
+ghost use Rattle.repo_prog.specs.Tellings.{lock_word, lock_line, lock_lines, snapshot_line, snapshot_lines, stored_line, complete_line, removed_line, Shows};
+ghost use Rattle.repo_prog.specs.declared.status.Status.{Status};
+
+use crate::status::{Status, failed};
+use repo_name::{LockRow, Name, Token};
+use repo_session::{DriveError, Outcome, result_text};
+use repo_store::write_whole;
+use repo_tree::Snapshot;
+use repo_wire::Say;
+use std::alloc::{AllocError, Global};
+use std::io::Write;
+
+/// What a lock is called.
+fn lock_word(exclusive: bool) -> &'static str
+    ensures { result.now ≡ lock_word exclusive }
+{
+    if exclusive { "exclusive" } else { "shared" }
+}
+
+/// The line of a live lock.
+fn lock_line(alloc: Global, row: &LockRow) -> Result<String, AllocError>
+    ensures { IfOk result (λ line. string_bytes line ≡ lock_line row.now) }
+{
+    let (token, time) = (row.token.0, row.time);
+    let (word, host) = (lock_word(row.exclusive), row.host.as_str());
+    format!(in alloc; "{token} {word} {time} {host}\n")
+}
+
+/// The lines of live locks.
+pub fn lock_lines(alloc: Global, rows: &[LockRow]) -> Result<String, AllocError>
+    ensures { IfOk result (λ lines. string_bytes lines ≡ lock_lines rows.now) }
+{
+    let mut lines = String::new(alloc);
+    for row in rows {
+        let line = lock_line(alloc, row)?;
+        lines.push_str(line.as_str())?;
+    }
+    Ok(lines)
+}
+
+/// The line of a snapshot.
+fn snapshot_line(alloc: Global, row: &(Name, Snapshot)) -> Result<String, AllocError>
+    ensures { IfOk result (λ line. string_bytes line ≡ snapshot_line row.now) }
+{
+    let name = row.0.to_hex(alloc)?;
+    let (time, host) = (row.1.time, row.1.host.as_str());
+    format!(in alloc; "{name} {time} {host}\n")
+}
+
+/// The lines of snapshots.
+pub fn snapshot_lines(alloc: Global, rows: &[(Name, Snapshot)]) -> Result<String, AllocError>
+    ensures { IfOk result (λ lines. string_bytes lines ≡ snapshot_lines rows.now) }
+{
+    let mut lines = String::new(alloc);
+    for row in rows {
+        let line = snapshot_line(alloc, row)?;
+        lines.push_str(line.as_str())?;
+    }
+    Ok(lines)
+}
+
+/// The line of a backup that stored a snapshot.
+pub fn stored_line(alloc: Global, name: &Name, blobs: u64, bytes: u64) -> Result<String, AllocError>
+    ensures { IfOk result (λ line. string_bytes line ≡ stored_line name.now blobs bytes) }
+{
+    let name = name.to_hex(alloc)?;
+    format!(in alloc; "stored {name} {blobs} {bytes}\n")
+}
+
+/// The line of a restore that is complete.
+pub fn complete_line(alloc: Global, entries: u64) -> Result<String, AllocError>
+    ensures { IfOk result (λ line. string_bytes line ≡ complete_line entries) }
+{
+    format!(in alloc; "complete {entries}\n")
+}
+
+/// The line of a lock that was removed.
+pub fn removed_line(alloc: Global, token: Token) -> Result<String, AllocError>
+    ensures { IfOk result (λ line. string_bytes line ≡ removed_line token) }
+{
+    let number = token.0;
+    format!(in alloc; "removed {number}\n")
+}
+
+/// Writes a text on the output.
+pub fn show<O: Write, F: Write>(text: &str, output: &mut O, faults: &mut F) -> Status
+    ensures shows { Shows text.now result (O.contents output.old) (O.contents output.new) }
+    ensures silent { result ≡ Status.Done → faults.new ≡ faults.old }
+    ensures status { IsEnd result }
+{
+    match write_whole(output, text.as_bytes()) {
+        Ok(()) => Status::Done,
+        Err(error) => failed(faults, &error),
+    }
+}
+
+/// Tells of a reply that isn't what was asked for.
+pub fn unwelcome<F: Write>(say: &Say, faults: &mut F) -> Status
+    ensures { result ≡ Status.Failed }
+{
+    match say {
+        Say::Refused(code) => {
+            let number = code.number();
+            failed(faults, &format_args!("refused {number}"))
+        }
+        _ => failed(faults, &"badreply"),
+    }
+}
+
+/// Tells how a job ended that didn't do what it was for.
+pub fn unfinished<F: Write>(alloc: Global, outcome: Option<&Outcome>, faults: &mut F) -> Status
+    ensures { result ≡ Status.Failed }
+{
+    match result_text(alloc, outcome, false) {
+        Ok(text) => failed(faults, &text),
+        Err(_) => failed(faults, &DriveError::Memory),
+    }
+}
