@@ -3,12 +3,14 @@
 #![tactic(auto)]
 
 use anyhow::{Result, bail};
+use backups::{backed_up, restored};
 use chunk::{chunked, random_bytes};
 use repo_name::{BlobKind, Name, name_of};
 use repo_pack::{PackError, PackView, PackWriter};
 use std::alloc::{AllocError, Global};
 use streams::streamed;
 
+mod backups;
 mod chunk;
 mod streams;
 
@@ -34,6 +36,10 @@ enum Kernel {
     Random,
     /// The lengths of the chunks of random bytes.
     Chunk,
+    /// A backup of a file of random bytes into a shelf in memory.
+    Backup,
+    /// The same, and a restore of it.
+    Restore,
 }
 
 /// So many bytes, with no long run of equal ones.
@@ -78,6 +84,8 @@ fn digest_of(alloc: Global, kernel: Kernel, size: usize) -> Result<Name> {
             Ok(name_of(&bytes[bytes.len().saturating_sub(64)..]))
         }
         Kernel::Chunk => chunked(alloc, &random_bytes(alloc, size)?),
+        Kernel::Backup => backed_up(alloc, size),
+        Kernel::Restore => restored(alloc, size),
     }
 }
 
@@ -89,6 +97,8 @@ fn run(rt: &HostRuntime, kernel: Kernel, size: usize) -> Result<()> {
         Kernel::Frames => "frames",
         Kernel::Random => "random",
         Kernel::Chunk => "chunk",
+        Kernel::Backup => "backup",
+        Kernel::Restore => "restore",
     };
     println!(rt; "{word} {size} {digest}")?;
     Ok(())
@@ -102,7 +112,9 @@ fn main(rt: HostRuntime) -> Result<()> {
             run(&rt, Kernel::Pack, TINY)?;
             run(&rt, Kernel::Frames, TINY)?;
             run(&rt, Kernel::Random, TINY)?;
-            run(&rt, Kernel::Chunk, TINY)
+            run(&rt, Kernel::Chunk, TINY)?;
+            run(&rt, Kernel::Backup, TINY)?;
+            run(&rt, Kernel::Restore, TINY)
         }
         [_, kernel, size] => {
             let size: usize = size.as_str().parse()?;
@@ -112,6 +124,8 @@ fn main(rt: HostRuntime) -> Result<()> {
                 "frames" => run(&rt, Kernel::Frames, size),
                 "random" => run(&rt, Kernel::Random, size),
                 "chunk" => run(&rt, Kernel::Chunk, size),
+                "backup" => run(&rt, Kernel::Backup, size),
+                "restore" => run(&rt, Kernel::Restore, size),
                 _ => bail!("no such kernel"),
             }
         }

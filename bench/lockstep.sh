@@ -1,0 +1,18 @@
+#!/usr/bin/env bash
+# Times a backup of 64 MiB of random bytes from memory into a shelf in memory, and a restore of it, from outside, and the
+# parts that it is made of: making the bytes, cutting them, and naming them once. The least of five runs counts. Usage: bench/lockstep.sh
+set -euo pipefail
+here="$(cd "$(dirname "$0")" && pwd)"
+. "$here/least.sh"
+cd "$here/../crates/bench"
+rt run >/dev/null 2>&1
+size=67108864
+
+random=$(least out/bench random "$size")
+echo "making 64 MiB of random bytes: $random ms"
+echo "cutting them: $(($(least out/bench chunk "$size") - random)) ms"
+echo "the name of 64 MiB: $(least out/bench name "$size") ms"
+backup=$(least out/bench backup "$size")
+echo "backup of 64 MiB: $((backup - random)) ms, $((size / 1000 / (backup - random))) MB/s"
+restore=$(least out/bench restore "$size")
+echo "restore of it: $((restore - backup)) ms, $((size / 1000 / (restore - backup))) MB/s"
