@@ -1,0 +1,14 @@
+#!/usr/bin/env bash
+# Tells each module of definitions that docs/DEFINITIONS.md doesn't name. Usage: scripts/definitions.sh
+set -euo pipefail
+cd "$(dirname "$0")/.."
+status=0
+for file in crates/*/specs/*.antt; do
+    crate=$(basename "$(dirname "$(dirname "$file")")")
+    module=$(basename "$file" .antt)
+    if [[ $module != Lib ]] && ! grep -oE "\`$crate: [^|]*" docs/DEFINITIONS.md | grep -qE "[\` ]$module[\`.]"; then
+        echo "$crate: $module has no line"
+        status=1
+    fi
+done
+exit $status
