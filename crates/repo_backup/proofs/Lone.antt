@@ -40,13 +40,15 @@ was_asked [] ask say h = absurd h
 was_asked (e ∷ es) ask say (inl h) = inl h.0
 was_asked (e ∷ es) ask say (inr h) = inr (was_asked es ask say h)
 
--- blobs held in objects that were all there or put agree
+-- blobs held in objects that were all there or put may be spoken of
+held_spoken : (from : Store) (Sent : Ask → Type 0) (Made : List ℕ → Type 0) (objects : Objects) → ((k : Kind) (n : Name) (x : List ℕ) → objects k n ≡ Some x → WasThere from Sent k x)
+    → (k : BlobKind) (x : List ℕ) → IsHeld objects k x → IsSpoken Made from Sent x
+held_spoken from Sent Made objects there k x h = inr (inl (record { index = h.text; fact = h.fact; pack = h.pack; listed = there Kind.Index h.index h.text h.listed; says = h.says; there = there Kind.Pack h.fact.place.pack h.pack h.there; stands = h.stands }))
+
+-- and agree
 pub held_agree : (from : Store) (Sent : Ask → Type 0) (Made : List ℕ → Type 0) → NoClash (IsSpoken Made from Sent) → (objects : Objects) → ((k : Kind) (n : Name) (x : List ℕ) → objects k n ≡ Some x → WasThere from Sent k x)
     → Agree (IsHeld objects) (IsHeld objects)
-held_agree from Sent Made clash objects there k x y a b same = clash x y (spoken k x a) (spoken k y b) same
-  where
-    spoken : (k : BlobKind) (x : List ℕ) → IsHeld objects k x → IsSpoken Made from Sent x
-    spoken k x h = inr (inl (record { index = h.text; fact = h.fact; pack = h.pack; listed = there Kind.Index h.index h.text h.listed; says = h.says; there = there Kind.Pack h.fact.place.pack h.pack h.there; stands = h.stands }))
+held_agree from Sent Made clash objects there k x y a b same = clash x y (held_spoken from Sent Made objects there k x a) (held_spoken from Sent Made objects there k y b) same
 
 module _ (entries : List Entry) (from old : Store) (es : Trace) (Sent : Ask → Type 0) (Made : List ℕ → Type 0)
     (sent : (ask : Ask) → WasAsked es ask → Sent ask)
@@ -104,15 +106,12 @@ module _ (entries : List Entry) (from old : Store) (es : Trace) (Sent : Ask → 
 
   -- ---- a snapshot that may be put
 
-  held_spoken : (k : BlobKind) (x : List ℕ) → IsHeld old.objects k x → IsSpoken Made from Sent x
-  held_spoken k x h = inr (inl (record { index = h.text; fact = h.fact; pack = h.pack; listed = there Kind.Index h.index h.text h.listed; says = h.says; there = there Kind.Pack h.fact.place.pack h.pack h.there; stands = h.stands }))
-
   -- a made blob whose pair an index that is there gives is held
   made_is_held : (folder : Folder) (k : BlobKind) (y : List ℕ) (index : Name) (text : List ℕ) (fact : Fact) → IsMade entries es folder → Contains (blobs_of folder) (item_of k y) → old.objects Kind.Index index ≡ Some text → Says text fact
       → fact.kind ≡ k → fact.name ≡ naming.name y → IsHeld old.objects k y
   made_is_held folder k y index text fact cut among listed says kind name =
       let h = given_held old.objects sound index text fact listed says in
-      let same : h.bytes ≡ y = clash h.bytes y (held_spoken fact.kind h.bytes h.held) (inr (inr (made folder k y cut among))) (h.named ∙ name) in
+      let same : h.bytes ≡ y = clash h.bytes y (held_spoken from Sent Made old.objects there fact.kind h.bytes h.held) (inr (inr (made folder k y cut among))) (h.named ∙ name) in
       subst (λ j. IsHeld old.objects j y) kind (subst (λ b. IsHeld old.objects fact.kind b) same h.held)
 
   given_is_held : (folder : Folder) (k : BlobKind) (y : List ℕ) → IsMade entries es folder → Contains (blobs_of folder) (item_of k y) → IsGiven es k (naming.name y) ⊎ IsIndexed es k (naming.name y) → IsHeld old.objects k y

@@ -30,10 +30,6 @@ pub use restoring::{Restorer, RestorerError};
 pub use scanning::scan;
 pub use scans::{Scan, ScanError, Skipped};
 
-#[cfg(test)]
-mod cut_tests;
-#[cfg(test)]
-mod cutting;
 mod dir_shelf;
 mod drafts;
 mod folders;
@@ -41,12 +37,6 @@ mod grounds;
 mod phases;
 mod places;
 mod restoring;
-#[cfg(test)]
-mod restoring_tests;
 mod scanned;
 mod scanning;
-#[cfg(test)]
-mod scanning_tests;
 mod scans;
-#[cfg(test)]
-mod tests;

@@ -30,13 +30,13 @@ use Rattle.repo_session.specs.declared.outcomes.End.{End}
 use Rattle.repo_session.specs.declared.outcomes.Outcome.{Outcome}
 use Rattle.repo_session.specs.Alone.{IsFit, EndsWell}
 use Rattle.repo_session.specs.Askers.{Asker}
-use Rattle.repo_session.specs.Ends.{before_unlock, without_unlock}
+use Rattle.repo_session.specs.Ends.{before_unlock}
 use Rattle.repo_session.specs.Order.{Task, Obeys}
 use Rattle.repo_session.specs.Soundness.{IsHeld, IsSound}
 use Rattle.repo_session.specs.Talks.{Talk, trace_of}
 use Rattle.repo_session.specs.Traces.{Exchange, Trace, ReadFact, IsGiven, emitted_in}
 use Rattle.repo_session.proofs.Causes.{range_length}
-use Rattle.repo_session.proofs.Concluding.{calm_of, ends_well}
+use Rattle.repo_session.proofs.Concluding.{calm_of, either, ends_well}
 use Rattle.repo_session.proofs.Containing.{none_contained, contained_or}
 use Rattle.repo_session.proofs.Enumerating.{HasThroughout, all_listed}
 use Rattle.repo_session.proofs.Growing.{Led, Shares, led}
@@ -268,20 +268,6 @@ module _ (w : Wish) (from : Store) (sound : IsSound from.objects) (agree : Agree
   own_well (Outcome.Ended End.BadReply) own = absurd own
   own_well (Outcome.Ended End.Version) own = absurd own
   own_well (Outcome.Ended End.DirectoryTooLarge) own = absurd own
-
--- what holds of the exchanges without the end of the lock holds of all, or of all but the newest
-either : (P : Trace → Type 0) (ask : Ask) (whole older : Trace) → P (without_unlock ask whole older) → P whole ⊎ P older
-either P Ask.Ticket whole older h = inl h
-either P (Ask.Lock row) whole older h = inl h
-either P (Ask.Refresh token time) whole older h = inl h
-either P (Ask.Unlock token) whole older h = inr h
-either P Ask.Locks whole older h = inl h
-either P (Ask.List k after) whole older h = inl h
-either P (Ask.Get k n) whole older h = inl h
-either P (Ask.Range p offset len) whole older h = inl h
-either P (Ask.Put token k n x) whole older h = inl h
-either P (Ask.Delete token k n) whole older h = inl h
-either P Ask.Config whole older h = inl h
 
 own_before : (w : Wish) (from : Store) → IsSound from.objects → Agree (IsHeld from.objects) (IsHeld from.objects) → (talk : Talk) (to : Store) → Obeys (restore_task w) (RestoreAllows w.snapshot) (RestoreGives w.snapshot) (trace_of talk) → Led from talk to
     → (outcome : Outcome) → RestoreConcludes w.snapshot (before_unlock (trace_of talk)) outcome → IsCompleteOrMemory (Some outcome)

@@ -28,7 +28,7 @@ use Rattle.repo_session.specs.Order.{IsPermitted, Obeys}
 use Rattle.repo_session.specs.Rebuilding.{rebuilt}
 use Rattle.repo_session.specs.Talks.{Turn, Talk, trace_of}
 use Rattle.repo_session.specs.Traces.{Exchange, Trace, Exchanged, WasAsked, emitted_in}
-use Rattle.repo_session.proofs.Concluding.{was_put}
+use Rattle.repo_session.proofs.Concluding.{either, was_put}
 use Rattle.repo_session.proofs.Growing.{Led, led, Shares}
 use Rattle.repo_session.proofs.Unchanging.{same_run, shares_run}
 use Rattle.repo_backup.specs.BackupStates.{backup_task}
@@ -57,22 +57,9 @@ put_then who entries (e ∷ es) token n x o (inr before) =
     record { older = p.older; rule = p.rule; made = λ folder m. is_made_later entries e es folder (p.made folder m) }
 
 -- an exchange before the end of the lock is one of all
-exchanged_whole : (newest : Ask) (e : Exchange) (es : Trace) (ask : Ask) (say : Say) → Exchanged (without_unlock newest (e ∷ es) es) ask say → Exchanged (e ∷ es) ask say
-exchanged_whole Ask.Ticket e es ask say h = h
-exchanged_whole (Ask.Lock row) e es ask say h = h
-exchanged_whole (Ask.Refresh token time) e es ask say h = h
-exchanged_whole (Ask.Unlock token) e es ask say h = inr h
-exchanged_whole Ask.Locks e es ask say h = h
-exchanged_whole (Ask.List k after) e es ask say h = h
-exchanged_whole (Ask.Get k n) e es ask say h = h
-exchanged_whole (Ask.Range p offset len) e es ask say h = h
-exchanged_whole (Ask.Put token k n x) e es ask say h = h
-exchanged_whole (Ask.Delete token k n) e es ask say h = h
-exchanged_whole Ask.Config e es ask say h = h
-
 exchanged_before : (es : Trace) (ask : Ask) (say : Say) → Exchanged (before_unlock es) ask say → Exchanged es ask say
 exchanged_before [] ask say h = absurd h
-exchanged_before (e ∷ es) ask say h = exchanged_whole e.ask e es ask say h
+exchanged_before (e ∷ es) ask say h = ⊎_elim (λ whole. whole) (λ older. inr older) (either (λ t. Exchanged t ask say) e.ask (e ∷ es) es h)
 
 -- what a snapshot in the store was made from
 pub record IsMadeFrom (entries : List Entry) (es : Trace) (objects : Objects) (name : Name) : Type 0 where

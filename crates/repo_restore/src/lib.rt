@@ -17,15 +17,9 @@
 #![tactic(auto)]
 
 mod laws;
-#[cfg(test)]
-mod listing_tests;
 mod listings;
 mod nodes;
-#[cfg(test)]
-mod restore_tests;
 mod restores;
-#[cfg(test)]
-mod round_trip_tests;
 mod steps;
 mod walks;
 

@@ -30,7 +30,7 @@ use Rattle.repo_store.specs.Stores.{Store}
 use Rattle.repo_session.specs.Ends.{PageRises}
 use Rattle.repo_session.specs.Order.{Task, May, ticketed, locked, lock_row, Holds, IsWorking, AreHeld}
 use Rattle.repo_session.specs.Traces.{Exchange, Trace}
-use Rattle.repo_session.proofs.Growing.{IsNoDelete, answered, range_same}
+use Rattle.repo_session.proofs.Growing.{IsNoDelete, answered, no_done, range_same}
 use Rattle.repo_session.proofs.Opens.{holds_of}
 
 -- ---- what is known of the tokens
@@ -223,9 +223,6 @@ lock_live old row (Err LockError.Memory) new say free step says is none = absurd
 token_told : (say : Say) (token : Token) → say ≡ Say.Token token → (code : Code) → say ≢ Say.Refused code
 token_told say token h code g = absurd (cc)
 
-done_told : (say : Say) → say ≡ Say.Done → (code : Code) → say ≢ Say.Refused code
-done_told say h code g = absurd (cc)
-
 module _ (task : Task) (es : Trace) (old : Store) (e : Exchange) (new : Store) (plain : IsNoDelete e.ask) (may : May task es e.ask) (step : Step old e.ask e.say new) (stands : Stands task es old.tokens) where
   first_fresh : (token : Token) → e ∷ es ≡ ticketed token → (new.tokens.live ≡ []) × (is_fresh new.tokens token ≡ true)
   first_fresh token h =
@@ -240,7 +237,7 @@ module _ (task : Task) (es : Trace) (old : Store) (e : Exchange) (new : Store) (
   now_live token newest older =
       let ask : e.ask ≡ Ask.Lock (lock_row task token) = ap (λ (x : Exchange). x.ask) newest in
       let say : e.say ≡ Say.Done = ap (λ (x : Exchange). x.say) newest in
-      let a : Answers old (Ask.Lock (lock_row task token)) e.say new = subst (λ q. Answers old q e.say new) ask (answered old e.ask e.say new (done_told e.say say) step) in
+      let a : Answers old (Ask.Lock (lock_row task token)) e.say new = subst (λ q. Answers old q e.say new) ask (answered old e.ask e.say new (no_done e.say say) step) in
       subst (λ (l : Tokens). live_as l token ≢ None) (sym a.saves.2) (lock_live old.tokens (lock_row task token) a.result a.tokens e.say (stands.fresh token older).0 a.step a.says say)
 
   still_live : (token : Token) (later : Trace) → e ∷ es ≡ later ++ locked task token → AreHeld later → live_as new.tokens token ≢ None

@@ -26,7 +26,7 @@ use Rattle.repo_session.specs.Ends.{IsUnreadable, IsBad, IsBadBlob, IsSenseless,
 use Rattle.repo_session.specs.Soundness.{IsSound}
 use Rattle.repo_session.specs.Traces.{Exchange, Trace, Exchanged, ReadFact}
 use Rattle.repo_session.proofs.Calm.{Right}
-use Rattle.repo_session.proofs.Growing.{Shares}
+use Rattle.repo_session.proofs.Growing.{Shares, bytes_same}
 use Rattle.repo_session.proofs.Wholeness.{given_held}
 
 -- ---- no memory
@@ -160,9 +160,6 @@ module _ (store : Store) (from : Store) (es : Trace) (e : Exchange) (sound : IsS
       let bytes : held.bytes ≡ x = same_Some held.bytes x (sym there_is ∙ stands) in
       ⊎_elim (λ other. other (range_length pack offset len x stands ∙ sym lengths)) (λ other. other (sym (ap naming.name bytes) ∙ held.named)) bad
 
-  bytes_once : (say : Say) (x y : List ℕ) → say ≡ Say.Bytes x → say ≡ Say.Bytes y → x ≡ y
-  bytes_once say x y h g = cc
-
   not_bad : (ask : Ask) (thing : Thing) (name : Name) → e.ask ≡ ask → Right store ask e.say → IsBad (e ∷ es) ask e.say thing name → ⊥
   not_bad Ask.Ticket thing name q r h = h
   not_bad (Ask.Lock row) thing name q r h = h
@@ -171,11 +168,11 @@ module _ (store : Store) (from : Store) (es : Trace) (e : Exchange) (sound : IsS
   not_bad Ask.Locks thing name q r h = h
   not_bad (Ask.List k after) thing name q r h = h
   not_bad (Ask.Get k n) thing name q r h =
-      let same : r.0 ≡ h.0 = bytes_once e.say r.0 h.0 r.2 h.1 in
+      let same : r.0 ≡ h.0 = bytes_same e.say r.0 h.0 r.2 h.1 in
       let there : store.objects k n ≡ Some h.0 = r.1 ∙ ap Some same in
       ⊎_elim (λ other. other (sound.named k n h.0 there)) (λ other. readable store.objects k n h.0 sound there other) h.4
   not_bad (Ask.Range p offset len) thing name q r h =
-      let same : r.1 ≡ h.0 = bytes_once e.say r.1 h.0 r.4 h.2 in
+      let same : r.1 ≡ h.0 = bytes_same e.say r.1 h.0 r.4 h.2 in
       range_good p offset len r.0 h.0 h.1 q r.2 (r.3 ∙ ap Some same) h.3 h.4 h.5 h.6 h.9
   not_bad (Ask.Put token k n x) thing name q r h = h
   not_bad (Ask.Delete token k n) thing name q r h = h

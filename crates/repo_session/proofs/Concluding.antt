@@ -41,6 +41,20 @@ use Rattle.repo_session.proofs.Containing.{flat_contains}
 use Rattle.repo_session.proofs.Growing.{Led, IsNoDelete, Shares, shares_nothing, shares_more}
 use Rattle.repo_session.proofs.Wholeness.{given_held}
 
+-- what holds of the exchanges without the end of the lock holds of all, or of all but the newest
+pub either : (P : Trace → Type 0) (ask : Ask) (whole older : Trace) → P (without_unlock ask whole older) → P whole ⊎ P older
+either P Ask.Ticket whole older h = inl h
+either P (Ask.Lock row) whole older h = inl h
+either P (Ask.Refresh token time) whole older h = inl h
+either P (Ask.Unlock token) whole older h = inr h
+either P Ask.Locks whole older h = inl h
+either P (Ask.List k after) whole older h = inl h
+either P (Ask.Get k n) whole older h = inl h
+either P (Ask.Range p offset len) whole older h = inl h
+either P (Ask.Put token k n x) whole older h = inl h
+either P (Ask.Delete token k n) whole older h = inl h
+either P Ask.Config whole older h = inl h
+
 -- the job's rule allows no delete
 abbrev pub DeletesNothing : (Trace → Ask → Type 0) → Type 0
 DeletesNothing Allows = (es : Trace) (token : Token) (k : Kind) (n : Name) → Allows es (Ask.Delete token k n) → ⊥
@@ -190,25 +204,12 @@ module _ (task : Task) (Allows : Trace → Ask → Type 0) (Gives : Trace → Ex
   end_of_talk (turn ∷ talk) to end h o sound calm few cause = end_here turn talk to end h o sound calm few cause
 
   -- or by the one before the end of the lock
-  by_ask : (ask : Ask) (whole older : Trace) (end : End) → IsCause (without_unlock ask whole older) end → IsCause whole end ⊎ IsCause older end
-  by_ask Ask.Ticket whole older end h = inl h
-  by_ask (Ask.Lock row) whole older end h = inl h
-  by_ask (Ask.Refresh token time) whole older end h = inl h
-  by_ask (Ask.Unlock token) whole older end h = inr h
-  by_ask Ask.Locks whole older end h = inl h
-  by_ask (Ask.List k after) whole older end h = inl h
-  by_ask (Ask.Get k n) whole older end h = inl h
-  by_ask (Ask.Range p offset len) whole older end h = inl h
-  by_ask (Ask.Put token k n x) whole older end h = inl h
-  by_ask (Ask.Delete token k n) whole older end h = inl h
-  by_ask Ask.Config whole older end h = inl h
-
   end_before : (talk : Talk) (to : Store) (end : End) → Led from talk to → Obeys task Allows Gives (trace_of talk) → IsSoundThroughout from talk → IsCalm talk → length talk < 2 ^ 64 - 1
       → IsCause (before_unlock (trace_of talk)) end → end ≡ End.Refused Code.NoMemory
   end_before [] to end h o sound calm few cause = absurd cause
   end_before (turn ∷ talk) to end h o sound calm few cause =
       ⊎_elim (λ newest. end_here turn talk to end h o sound calm few newest) (λ before. end_of_talk talk h.0 end h.1 o.3 sound.1 calm.1 (omega (arith, few)) before)
-      (by_ask turn.request.ask (trace_of (turn ∷ talk)) (trace_of talk) end cause)
+      (either (λ es. IsCause es end) turn.request.ask (trace_of (turn ∷ talk)) (trace_of talk) cause)
 
   concluded_well : (es : Trace) (outcome : Outcome) → Concludes Own es outcome → ((end : End) → IsCause es end → end ≡ End.Refused Code.NoMemory) → (outcome ≡ Outcome.Ended (End.Refused Code.NoMemory)) ⊎ Own es outcome
   concluded_well es (Outcome.Stored name blobs bytes) h only = inr h

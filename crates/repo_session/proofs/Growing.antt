@@ -146,7 +146,7 @@ answered old ask say new plain (inl h) = h
 answered old ask say new plain (inr (looks, inl (fault, h))) = absurd (plain Code.Fault fault)
 answered old ask say new plain (inr (looks, inr h)) = absurd (plain Code.NoMemory h.0)
 
-no_done : (say : Say) → say ≡ Say.Done → IsNoRefusal say
+pub no_done : (say : Say) → say ≡ Say.Done → IsNoRefusal say
 no_done say h code g = absurd (cc)
 
 no_bytes : (say : Say) (x : List ℕ) → say ≡ Say.Bytes x → IsNoRefusal say
@@ -161,7 +161,7 @@ put_there old t k n x say new s (inr (inl h)) = absurd (no_done say s Code.Dead 
 put_there old t k n x say new s (inr (inr (inl h))) = absurd (no_done say s Code.NameMismatch h.3)
 put_there old t k n x say new s (inr (inr (inr h))) = h.4.0.here
 
-bytes_same : (say : Say) (x y : List ℕ) → say ≡ Say.Bytes x → say ≡ Say.Bytes y → x ≡ y
+pub bytes_same : (say : Say) (x y : List ℕ) → say ≡ Say.Bytes x → say ≡ Say.Bytes y → x ≡ y
 bytes_same say x y h g = cc
 
 got_there : (limit : ℕ) (o : Option (List ℕ)) (say : Say) (x : List ℕ) → say ≡ Say.Bytes x → GetSays limit o say → o ≡ Some x

@@ -27,11 +27,7 @@ mod object_answers;
 mod output;
 mod services;
 mod serving;
-#[cfg(test)]
-mod serving_tests;
 mod shelves;
-#[cfg(test)]
-mod tests;
 
 pub use answers::answer;
 pub use faults::{Fail, FaultShelf};

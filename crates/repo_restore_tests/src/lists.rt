@@ -1,7 +1,7 @@
 //! Lists of snapshots, over a shelf in memory and over stored replies.
 
-use crate::listings::SnapshotList;
 use repo_name::{Bytes, Instance, Kind, Name, Names, Text, Thing, Token, name_of};
+use repo_restore::SnapshotList;
 use repo_session::{Client, End, Outcome, Who, drive, lockstep};
 use repo_store::{MemShelf, Shelf};
 use repo_tree::Snapshot;

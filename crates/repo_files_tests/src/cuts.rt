@@ -1,9 +1,8 @@
 //! A shelf whose machine stops after any of its calls.
 
 use crate::cutting::{Cut, Fuse, Step, What};
-use crate::dir_shelf::DirShelf;
-use crate::folders::parent_of;
-use crate::tests::{below, folder};
+use crate::shelves::{below, folder};
+use repo_files::DirShelf;
 use repo_locks::Ledger;
 use repo_name::{Bytes, Kind, Name, Token, name_of};
 use repo_store::{Shelf, ShelfError};
@@ -221,6 +220,14 @@ fn a_making_that_stops_is_made_whole(rt: HostRuntime) -> Result<(), Fail> {
         }
     }
     Ok(())
+}
+
+/// The path of the folder in which a path stands.
+fn parent_of(path: &str) -> &str {
+    match path.rsplit_once('/') {
+        Some((parent, _)) => parent,
+        None => ".",
+    }
 }
 
 /// Whether a path lies in the folder of files that are being written.

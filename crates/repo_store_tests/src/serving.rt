@@ -1,8 +1,6 @@
 //! Serving a connection over a shelf in memory.
 
-use crate::memory::MemShelf;
-use crate::output::{Unwritten, write_whole};
-use crate::serving::{ServeError, serve};
+use repo_store::{MemShelf, ServeError, Unwritten, serve, write_whole};
 use std::alloc::{AllocError, Global};
 use std::io;
 use std::io::{Read, Write};

@@ -1,9 +1,9 @@
 //! Restores of snapshots, from a shelf in memory.
 
-use crate::restores::Restore;
 use repo_index::{Fact, Facts, IndexText, PackFacts};
 use repo_name::{BlobKind, Instance, Kind, Name, Names, Text, Thing, Token, name_of};
 use repo_pack::Place;
+use repo_restore::Restore;
 use repo_session::{Client, Emission, End, Outcome, Who, lockstep};
 use repo_store::{MemShelf, Shelf};
 use repo_tree::{Node, NodeKind, Path, Snapshot, write_tree};

@@ -1,6 +1,6 @@
 //! A shelf in a real folder.
 
-use crate::dir_shelf::DirShelf;
+use repo_files::DirShelf;
 use repo_locks::Ledger;
 use repo_name::{Bytes, Kind, Name, Token, name_of};
 use repo_store::{Shelf, ShelfError, Slice};

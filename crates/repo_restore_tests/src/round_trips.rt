@@ -1,8 +1,8 @@
 //! What was backed up is restored, and what a store answers wrong isn't given out.
 
-use crate::restores::Restore;
 use repo_backup::Backup;
 use repo_name::{Bytes, Instance, Kind, Name, Names, Text, Thing, Token, name_of};
+use repo_restore::Restore;
 use repo_session::{Client, Emission, End, Outcome, Who, drive, lockstep};
 use repo_store::{MemShelf, Shelf};
 use repo_tree::{Entry, EntryKind, Path};

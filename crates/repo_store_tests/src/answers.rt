@@ -4,13 +4,11 @@ ghost use Rattle.std.specs.Prelude.{IfOk};
 ghost use Rattle.repo_name.specs.Rows.{IsHost};
 ghost use Rattle.repo_store.specs.StoreMachine.{IsAnswerable};
 
-use crate::answers::answer;
-use crate::faults::{Fail, FaultShelf};
-use crate::making::{InitError, init};
-use crate::memory::MemShelf;
-use crate::shelves::{Page, Shelf, ShelfError, Slice};
 use repo_chunk::Params;
 use repo_name::{Bytes, Instance, Kind, LockRow, LockRows, Name, Names, Text, Token, name_of};
+use repo_store::{
+    Fail, FaultShelf, InitError, MemShelf, Page, Shelf, ShelfError, Slice, answer, init,
+};
 use repo_tree::Config;
 use repo_wire::{Ask, Code, Request, Say};
 use std::alloc::{AllocError, Global};

@@ -1,9 +1,8 @@
 //! What a scan finds in a real folder.
 
 use crate::cutting::{Cut, Fuse, Trick};
-use crate::scanning::scan;
-use crate::scans::{Scan, ScanError, Skipped};
-use crate::tests::{below, folder};
+use crate::shelves::{below, folder};
+use repo_files::{Scan, ScanError, Skipped, scan};
 use repo_tree::{Entry, EntryKind};
 use std::alloc::{AllocError, AllocGlobal, Global};
 use std::fs::Files;

@@ -1,8 +1,8 @@
 //! What a restorer writes into a real folder.
 
 use crate::cutting::{Cut, Fuse, Step, What};
-use crate::restoring::{Restorer, RestorerError};
-use crate::tests::{below, folder};
+use crate::shelves::{below, folder};
+use repo_files::{Restorer, RestorerError};
 use repo_name::{Bytes, Text};
 use repo_session::Emission;
 use repo_tree::Path;
