@@ -7,7 +7,6 @@ use Rattle.repo_backup.specs.Folders.{Folder, nothing, file_then, dir_then, join
 use Rattle.repo_backup.specs.Plans.{IsWithinDepth, AreTreeTextsBelow, AreTreeTexts}
 use Rattle.repo_backup.proofs.PathOrder.{Names}
 use Rattle.repo_tree.specs.Spelling.{Blobs, IsTree, Joined, NodesSpell, SpellsTo, Spells, dir_entry, file_entry, greatest_depth}
-use Rattle.repo_tree.specs.TreeText.{IsTreeText}
 use Rattle.repo_tree.specs.TreeWriting.{tree_text}
 
 -- a set of blobs has each of these items

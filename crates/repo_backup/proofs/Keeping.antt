@@ -10,17 +10,16 @@ use Rattle.repo_wire.specs.declared.messages.Code.{Code}
 use Rattle.repo_wire.specs.declared.messages.Request.{Request}
 use Rattle.repo_wire.specs.declared.messages.Say.{Say}
 use Rattle.repo_tree.specs.declared.entries.Entry.{Entry}
-use Rattle.repo_session.specs.Openings.{task_of}
 use Rattle.repo_session.specs.Ends.{PageRises}
 use Rattle.repo_session.specs.Order.{last_of}
 use Rattle.repo_session.specs.Rolls.{IsRolled}
-use Rattle.repo_session.specs.Traces.{Exchange, Trace, object_put, page_names, is_last_page, is_complete, names_in}
+use Rattle.repo_session.specs.Traces.{Exchange, Trace, object_put, page_names, is_last_page, is_complete}
 use Rattle.repo_session.proofs.Cataloguing.{catalog_paged, are_indexed}
 use Rattle.repo_session.proofs.Rolling.{page_last}
 use Rattle.repo_session.specs.declared.openings.Opening.{Opening}
 use Rattle.repo_backup.specs.BackupStates.{Indexes, KnowsBackup, StandsBackup, IsBackupTask, KeepsLine, AtWork, PutsPack, PutsIndex, HasBegun, AreListed, MayGoOn}
 use Rattle.repo_backup.specs.Backups.{BackupReplied, ListsNone}
-use Rattle.repo_backup.specs.Stages.{handed_in, StaysReady, BeginsAgain}
+use Rattle.repo_backup.specs.Stages.{handed_in, StaysReady}
 use Rattle.repo_backup.specs.declared.backing.Backing.{Backing}
 use Rattle.repo_backup.specs.declared.backups.Backup.{Backup}
 use Rattle.repo_backup.specs.declared.stages.Stage.{Stage}

@@ -1,6 +1,6 @@
 -- A backup alone with its store leaves it sound.
-use Rattle.std.proofs.Common.{◌≡◌, ◌≢◌, ◌⊎◌, ◌++◌, ◌∷◌, [], ℕ, List, length, slice_get, Option, Some, None, refl, sym, ap, subst, inl, inr, ⊎_elim, ◌∙◌, Contains}
-use Rattle.std.proofs.lemmas.Option.{same_Some, none-some}
+use Rattle.std.proofs.Common.{◌≡◌, ◌⊎◌, ◌∷◌, [], ℕ, List, length, Some, refl, sym, ap, subst, inl, inr, ⊎_elim, ◌∙◌, Contains}
+use Rattle.std.proofs.lemmas.Option.{same_Some}
 use Rattle.std.proofs.lemmas.List.Elements.{All-contains}
 use Rattle.std.specs.Prelude.{All}
 use Rattle.repo_name.specs.Naming as naming
@@ -13,25 +13,23 @@ use Rattle.repo_wire.specs.declared.messages.Say.{Say}
 use Rattle.repo_pack.specs.PackLayout.{Item, item_of, IsTruePack, IsWithin}
 use Rattle.repo_pack.proofs.Packs.{packs_one}
 use Rattle.repo_index.specs.Exactness.{AreFactsAt}
-use Rattle.repo_index.specs.IndexText.{IsIndexText, facts_in, Says}
+use Rattle.repo_index.specs.IndexText.{Says}
 use Rattle.repo_index.specs.IndexWriting.{AreLawful}
 use Rattle.repo_index.specs.declared.facts.Fact.{Fact}
 use Rattle.repo_index.specs.declared.facts.PackFacts.{PackFacts}
 use Rattle.repo_index.proofs.ExactLemmas.{each_listed_exact}
 use Rattle.repo_index.proofs.OneLemmas.{index_texts_lawful}
 use Rattle.repo_tree.specs.Laws.{Agree}
-use Rattle.repo_tree.specs.Spelling.{Spells}
 use Rattle.repo_tree.specs.declared.entries.Entry.{Entry}
 use Rattle.repo_store.specs.StoreMachine.{Step}
 use Rattle.repo_store.specs.Stores.{Store, Objects}
-use Rattle.repo_session.specs.Alone.{WasThere, IsPart, IsSpoken, NoClash}
-use Rattle.repo_session.specs.Order.{Task, May, IsPermitted, Obeys}
+use Rattle.repo_session.specs.Alone.{WasThere, IsSpoken, NoClash}
+use Rattle.repo_session.specs.Order.{IsPermitted}
 use Rattle.repo_session.specs.Soundness.{IsHeld, IsExactPack, IsSoundIndex, IsSoundSnapshot, IsSound}
 use Rattle.repo_session.specs.Traces.{Exchange, Trace, Exchanged, WasAsked, IsGiven}
-use Rattle.repo_session.proofs.Concluding.{DeletesNothing}
 use Rattle.repo_session.proofs.Containing.{flat_contains}
-use Rattle.repo_session.proofs.Growing.{Shares, Puts, Goes, IsNoDelete, step_goes}
-use Rattle.repo_session.proofs.Wholeness.{held_stays, index_stays, snapshot_sound, snapshot_stays, given_held}
+use Rattle.repo_session.proofs.Growing.{Shares, Puts, IsNoDelete, step_goes}
+use Rattle.repo_session.proofs.Wholeness.{index_stays, snapshot_sound, snapshot_stays, given_held}
 use Rattle.repo_backup.specs.Folders.{Folder, blobs_of}
 use Rattle.repo_backup.specs.Rules.{PutDone, IsMade, IsIndexed, IsListedPack, PackRule, IndexRule, SnapshotRule, Allows}
 

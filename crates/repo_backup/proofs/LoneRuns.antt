@@ -1,5 +1,5 @@
 -- The laws of a backup that is alone with its store.
-use Rattle.std.proofs.Common.{◌≡◌, ◌⊎◌, ◌∷◌, [], ℕ, List, length, Option, Some, None, refl, sym, subst, inl, inr, ⊎_elim, Contains}
+use Rattle.std.proofs.Common.{◌≡◌, ◌⊎◌, ◌∷◌, [], ℕ, List, Option, Some, None, refl, sym, subst, inl, inr, ⊎_elim, Contains}
 use Rattle.repo_name.specs.declared.kinds.BlobKind.{BlobKind}
 use Rattle.repo_pack.specs.PackLayout.{item_of}
 use Rattle.repo_tree.specs.declared.entries.Entry.{Entry}
@@ -10,10 +10,10 @@ use Rattle.repo_store.specs.StoreMachine.{Step}
 use Rattle.repo_store.specs.Stores.{Store}
 use Rattle.repo_session.specs.Alone.{IsSent, IsSpoken, NoClash}
 use Rattle.repo_session.specs.Askers.{Asker}
-use Rattle.repo_session.specs.Clients.{exchange, IsNext}
+use Rattle.repo_session.specs.Clients.{exchange}
 use Rattle.repo_session.specs.Order.{IsPermitted, Obeys}
 use Rattle.repo_session.specs.Soundness.{IsSound}
-use Rattle.repo_session.specs.Talks.{Talk, trace_of, MayStep}
+use Rattle.repo_session.specs.Talks.{Talk, trace_of}
 use Rattle.repo_session.specs.Traces.{Exchange, Trace, WasAsked}
 use Rattle.repo_session.proofs.Concluding.{DeletesNothing, IsSoundThroughout, no_delete, was_put, calm_of, ends_well}
 use Rattle.repo_session.proofs.Growing.{Led, Shares, led, shares_nothing, shares_more}

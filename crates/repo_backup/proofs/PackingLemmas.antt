@@ -1,13 +1,11 @@
 -- Blobs that are noted, and what one more makes of the packs.
-use Rattle.std.proofs.Common.{arith, ◌≡◌, ◌≢◌, ◌↔◌, ◌++◌, ◌∷◌, [], ℕ, List, length, Option, Some, None, Result, Ok, Err, OnOk, OnErr, IfNone, refl, sym, ap, subst, inl, inr, ◌⊎◌, ◌∙◌, Contains, append_assoc}
+use Rattle.std.proofs.Common.{arith, ◌≡◌, ◌↔◌, ◌++◌, ◌∷◌, [], List, Option, Some, None, Result, Ok, Err, OnOk, OnErr, IfNone, sym, ap, subst, inl, inr, ◌⊎◌, ◌∙◌, Contains}
 use Rattle.std.proofs.lemmas.List.Elements.{Contains-append_left, Contains-append_right, Contains-append_cases, Contains-push, Contains-push_cases}
 use Rattle.repo_name.specs.NameMaps.{Inserted, Dropped}
 use Rattle.repo_name.specs.declared.kinds.BlobKind.{BlobKind}
 use Rattle.repo_name.specs.declared.names.Name.{Name}
 use Rattle.repo_pack.specs.PackLayout.{Item}
-use Rattle.repo_pack.specs.declared.places.Place.{Place}
-use Rattle.repo_index.specs.declared.facts.Fact.{Fact}
-use Rattle.repo_backup.specs.Blobs.{HasItem, AreOnce, HasFact}
+use Rattle.repo_backup.specs.Blobs.{HasItem, AreOnce}
 use Rattle.repo_session.specs.Traces.{Each}
 
 pub on_ok : {A E : Type 0} (r : Result A E) (P Q : Type 0) → (P → Q) → OnOk r P → OnOk r Q

@@ -1,5 +1,5 @@
 -- What is sent next, over plain values.
-use Rattle.std.proofs.Common.{arith, ◌≡◌, ◌≢◌, ◌<◌, ◌≤◌, ◌+◌, ◌-◌, ◌^◌, ◌↔◌, ◌++◌, ◌∷◌, [], ℕ, Bool, true, false, suc, min, cond, List, length, map, slice_get, get_or, Option, Some, None, Result, Ok, Err, OnOk, OnErr, IfOk, refl, sym, ap, subst, inl, inr, ◌⊎◌, ◌∙◌, Contains, append_assoc, length-append}
+use Rattle.std.proofs.Common.{arith, ◌≡◌, ◌≢◌, ◌<◌, ◌+◌, ◌-◌, ◌^◌, ◌++◌, ◌∷◌, [], ℕ, Bool, false, suc, min, cond, List, length, map, slice_get, get_or, Option, Some, None, refl, sym, ap, subst, inl, inr, ◌∙◌, Contains, append_assoc}
 use Rattle.std.specs.List.{All, flat_map, sum_by}
 use Rattle.std.proofs.lemmas.List.{append-nil}
 use Rattle.std.proofs.lemmas.List.Elements.{All-nil, All-cons, Contains-append_left, Contains-append_right}
@@ -7,49 +7,44 @@ use Rattle.std.proofs.lemmas.List.Sums.{sum_by-cons}
 use Rattle.std.proofs.lemmas.Option.{same_Some, slice_get-get_or, get_or_from_slice_get}
 use Rattle.repo_name.specs.Naming as naming
 use Rattle.repo_name.specs.Rows.{IsHost}
-use Rattle.repo_name.specs.declared.kinds.Kind.{Kind}
 use Rattle.repo_name.specs.declared.names.Name.{Name}
-use Rattle.repo_name.specs.declared.rows.LockRow.{LockRow}
 use Rattle.repo_name.specs.declared.tokens.Token.{Token}
 use Rattle.repo_wire.specs.declared.messages.Ask.{Ask}
-use Rattle.repo_wire.specs.declared.messages.Request.{Request}
 use Rattle.repo_wire.specs.declared.messages.Say.{Say}
 use Rattle.repo_pack.specs.PackLayout.{Item, IsWithin, offset_of}
 use Rattle.repo_pack.specs.PackWriting.{ArePlaces, place_of}
 use Rattle.repo_pack.specs.declared.places.Place.{Place}
 use Rattle.repo_pack.specs.declared.writers.Sealed.{Sealed}
 use Rattle.repo_index.specs.Exactness.{fact_at, AreFactsAt}
-use Rattle.repo_index.specs.IndexText.{facts_in, IsIndexText}
+use Rattle.repo_index.specs.IndexText.{facts_in}
 use Rattle.repo_index.specs.IndexWriting.{AreLawful, AreFew}
 use Rattle.repo_index.specs.declared.facts.Fact.{Fact}
 use Rattle.repo_index.specs.declared.facts.PackFacts.{PackFacts}
 use Rattle.repo_tree.specs.SnapshotText.{IsSnapshotText}
 use Rattle.repo_tree.specs.declared.entries.Entry.{Entry}
-use Rattle.repo_session.specs.Order.{Task, opened, locked, lock_row, IsWorking}
+use Rattle.repo_session.specs.Order.{Task, opened, lock_row, IsWorking}
 use Rattle.repo_session.specs.Askers.{Asker}
 use Rattle.repo_session.specs.Openings.{task_of, Pends, IsUnlock, StandsAt, ReadyAt}
-use Rattle.repo_session.specs.Traces.{Each, Exchange, Trace, Exchanged, Object}
+use Rattle.repo_session.specs.Traces.{Each, Exchange, Trace, Exchanged}
 use Rattle.repo_session.specs.declared.openings.Opening.{Opening}
-use Rattle.repo_session.proofs.Receiving.{each_more}
 use Rattle.repo_backup.specs.Backing.{Put, IsPut, items_of, bytes_of, Listing, Backs}
-use Rattle.repo_backup.specs.BackupStates.{FewWait, IsAtWork, PutsPack, PutsIndex, PutsSnapshot, IsPackNext, IsIndexNext, IsSnapshotNext, IsNext, IsIndexOf, IsParcelOf, MayGoOn, Indexes, KnowsBackup, IsBackupTask, StandsBackup, BackupReady, BackupFits, snapshot_of}
-use Rattle.repo_backup.specs.Blobs.{HasItem, AreOnce, HasFact}
-use Rattle.repo_backup.specs.Folders.{Folder, blobs_of}
+use Rattle.repo_backup.specs.BackupStates.{FewWait, PutsPack, IsPackNext, IsNext, IsIndexOf, IsParcelOf, MayGoOn, Indexes, KnowsBackup, IsBackupTask, StandsBackup, BackupReady, BackupFits, snapshot_of}
+use Rattle.repo_backup.specs.Blobs.{AreOnce, HasFact}
+use Rattle.repo_backup.specs.Folders.{Folder}
 use Rattle.repo_backup.specs.Listed.{IsListed}
-use Rattle.repo_backup.specs.Packings.{IsSealed, IsSealedOf, IsPacking, IsCovered, Notes, all_items}
-use Rattle.repo_backup.specs.Readying.{IsPackReady, IsAllDone, Readies}
-use Rattle.repo_backup.specs.Rules.{Allows, GivesNothing, Ends, PackRule, IndexRule, SnapshotRule, IsTooLarge}
+use Rattle.repo_backup.specs.Packings.{IsSealed, IsCovered, Notes, all_items}
+use Rattle.repo_backup.specs.Readying.{IsPackReady, Readies}
+use Rattle.repo_backup.specs.Rules.{Allows, GivesNothing, Ends, PackRule}
 use Rattle.repo_backup.specs.Stages.{handed_in, KeepsCounts, GoesReady, StaysReady, TakesPack}
 use Rattle.repo_backup.specs.Works.{IsWork, IsWalkable, IsWalking}
 use Rattle.repo_backup.specs.declared.backing.Backing.{Backing}
 use Rattle.repo_backup.specs.declared.backing.Next.{Next}
-use Rattle.repo_backup.specs.declared.packing.Packing.{Packing}
 use Rattle.repo_backup.specs.declared.sending.Parcel.{Parcel}
 use Rattle.repo_backup.specs.declared.stages.Stage.{Stage}
 use Rattle.repo_backup.specs.declared.works.Work.{Work}
 use Rattle.repo_backup.proofs.PackingLemmas.{has_before}
-use Rattle.repo_backup.proofs.Puts.{none_contained, first_contained, later_contained, each_contained, map_contains}
-use Rattle.repo_backup.proofs.Ruling.{pack_rule, pack_sent, index_rule, snapshot_rule, too_large}
+use Rattle.repo_backup.proofs.Puts.{first_contained, later_contained, each_contained, map_contains}
+use Rattle.repo_backup.proofs.Ruling.{pack_rule, pack_sent, too_large}
 use Rattle.repo_backup.proofs.Staging.{facts_push}
 
 -- ---- lists

@@ -1,13 +1,11 @@
 -- What is known from one request of a backup to the next.
-use Rattle.std.proofs.Common.{arith, ◌≡◌, ◌≢◌, ◌<◌, ◌≤◌, ◌+◌, ◌↔◌, ◌++◌, ◌∷◌, [], ℕ, Bool, true, false, cond, List, length, slice_get, Option, Some, None, refl, sym, ap, subst, inl, inr, ◌⊎◌, ◌∙◌, Contains}
-use Rattle.std.proofs.lemmas.List.{append-nil}
+use Rattle.std.proofs.Common.{arith, ◌≡◌, ◌≢◌, ◌<◌, ◌≤◌, ◌+◌, ◌↔◌, ◌++◌, ◌∷◌, [], ℕ, Bool, true, false, List, length, Option, Some, None, refl, sym, ap, subst, inl, ◌∙◌, Contains}
 use Rattle.repo_name.specs.declared.kinds.Kind.{Kind}
 use Rattle.repo_name.specs.declared.names.Name.{Name}
 use Rattle.repo_name.specs.declared.rows.LockRow.{LockRow}
 use Rattle.repo_name.specs.declared.tokens.Token.{Token}
 use Rattle.repo_wire.specs.declared.messages.Ask.{Ask}
 use Rattle.repo_wire.specs.declared.messages.Code.{Code}
-use Rattle.repo_wire.specs.declared.messages.Request.{Request}
 use Rattle.repo_wire.specs.declared.messages.Say.{Say}
 use Rattle.repo_index.specs.IndexText.{facts_in, IsIndexText}
 use Rattle.repo_index.specs.Lookups.{HasSame}
@@ -23,12 +21,11 @@ use Rattle.repo_session.specs.Order.{Task, May, opened, IsWorking}
 use Rattle.repo_session.specs.Traces.{Exchange, Trace, Exchanged, object_put, objects_put, ReadFact}
 use Rattle.repo_session.specs.declared.lines.Line.{Line}
 use Rattle.repo_session.specs.declared.outcomes.Outcome.{Outcome}
-use Rattle.repo_backup.specs.BackupStates.{Indexes, AreListed, IsNew, HasBegun, AtWork, KnowsBackup, MayGoOn, GoesOnFrom, PutsPack, PutsIndex}
+use Rattle.repo_backup.specs.BackupStates.{Indexes, IsNew, HasBegun, KnowsBackup, MayGoOn, PutsPack, PutsIndex}
 use Rattle.repo_backup.specs.Backing.{Put, items_of, Backs}
-use Rattle.repo_backup.specs.Folders.{Folder, entries_of, IsCutBy}
+use Rattle.repo_backup.specs.Folders.{Folder, entries_of}
 use Rattle.repo_backup.specs.Plans.{IsLawful, steps_of}
-use Rattle.repo_backup.specs.Rules.{IsMade}
-use Rattle.repo_backup.specs.Stages.{walked, handed_in, IsPlanned, IsBegun, KeepsCounts, StaysReady, BeginsAgain}
+use Rattle.repo_backup.specs.Stages.{walked, handed_in, IsPlanned, IsBegun, StaysReady, BeginsAgain}
 use Rattle.repo_backup.specs.declared.backing.Backing.{Backing}
 use Rattle.repo_backup.specs.declared.stages.Stage.{Stage}
 use Rattle.repo_backup.specs.declared.steps.Step.{Step}

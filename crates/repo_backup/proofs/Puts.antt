@@ -1,8 +1,6 @@
 -- Objects that were put, the blobs of packs, and what one more put makes of a trace.
-use Rattle.std.proofs.Common.{arith, ◌≡◌, ◌++◌, ◌∷◌, [], ℕ, zero, suc, true, false, List, map, cond, slice_get, Option, Some, None, refl, sym, ap, subst, inl, inr, ◌⊎◌, ◌∙◌, Contains}
-use Rattle.std.specs.List.{flat_map}
+use Rattle.std.proofs.Common.{◌≡◌, ◌++◌, ◌∷◌, [], ℕ, zero, suc, true, false, List, map, cond, slice_get, Option, Some, None, sym, ap, subst, inl, inr, ◌∙◌, Contains}
 use Rattle.std.proofs.lemmas.List.{append-nil}
-use Rattle.std.proofs.lemmas.List.Elements.{Contains-append_left, Contains-append_right, Contains-append_cases}
 use Rattle.repo_name.specs.declared.kinds.Kind.{Kind}
 use Rattle.repo_name.specs.declared.names.Name.{Name}
 use Rattle.repo_name.specs.declared.tokens.Token.{Token}

@@ -6,7 +6,6 @@ use Rattle.std.proofs.Math.Seq.{take-suc}
 use Rattle.repo_index.specs.IndexText.{facts_in}
 use Rattle.repo_index.specs.declared.facts.PackFacts.{PackFacts}
 use Rattle.repo_tree.specs.Spelling.{dir_entry, file_entry}
-use Rattle.repo_tree.specs.declared.entries.Entry.{Entry}
 use Rattle.repo_chunk.specs.Parameters.{Parameters}
 use Rattle.repo_index.specs.declared.facts.Fact.{Fact}
 use Rattle.repo_backup.specs.Folders.{Folder, nothing, file_then, dir_then, joined, entries_of, IsCutBy}

@@ -1,5 +1,5 @@
 -- What a backup knows of its trace once every index was read.
-use Rattle.std.specs.Prelude.{◌≡◌, ◌≤◌, ◌↔◌, ◌++◌, [], ℕ, List, length, map, Contains}
+use Rattle.std.specs.Prelude.{◌≡◌, ◌↔◌, ◌++◌, [], ℕ, List, length, map, Contains}
 use Rattle.std.specs.List.{All, flat_map, sum_by}
 use Rattle.repo_name.specs.Naming as naming
 use Rattle.repo_name.specs.declared.kinds.Kind.{Kind}
@@ -7,7 +7,7 @@ use Rattle.repo_pack.specs.PackLayout.{Item, IsTruePack, IsWithin}
 use Rattle.repo_index.specs.declared.facts.Fact.{Fact}
 use Rattle.repo_index.specs.declared.facts.PackFacts.{PackFacts}
 use Rattle.repo_index.specs.Exactness.{AreFactsAt}
-use Rattle.repo_index.specs.IndexText.{IsIndexText, facts_in}
+use Rattle.repo_index.specs.IndexText.{IsIndexText}
 use Rattle.repo_tree.specs.declared.entries.Entry.{Entry}
 use Rattle.repo_session.specs.Catalogs.{AreIndexed}
 use Rattle.repo_session.specs.Traces.{Each, Trace, Object, objects_put, ReadFact}

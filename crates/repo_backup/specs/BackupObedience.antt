@@ -1,5 +1,5 @@
 -- A backup is obedient.
-use Rattle.std.proofs.Common.{sym, subst}
+use Rattle.std.proofs.Common.{subst}
 use Rattle.repo_session.specs.Clients.{IsObedient}
 use Rattle.repo_session.specs.Obedience.{opening_obeys}
 use Rattle.repo_session.specs.Openings.{task_of}

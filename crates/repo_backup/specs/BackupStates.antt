@@ -1,5 +1,5 @@
 -- What is known while a backup is made.
-use Rattle.std.specs.Prelude.{◌≡◌, ◌≢◌, ◌≤◌, ◌<◌, ◌++◌, ◌∷◌, [], ⊤, ℕ, Bool, true, false, cond, List, length, slice_get, Option, Some, None}
+use Rattle.std.specs.Prelude.{◌≡◌, ◌≢◌, ◌≤◌, ◌<◌, ◌++◌, ◌∷◌, [], ⊤, ℕ, Bool, true, false, cond, List, length, slice_get, Some, None}
 use Rattle.repo_name.specs.Naming as naming
 use Rattle.repo_name.specs.Rows.{IsHost}
 use Rattle.repo_name.specs.declared.kinds.Kind.{Kind}
@@ -8,7 +8,6 @@ use Rattle.repo_name.specs.declared.tokens.Token.{Token}
 use Rattle.repo_chunk.specs.Parameters.{Parameters}
 use Rattle.repo_wire.specs.declared.messages.Ask.{Ask}
 use Rattle.repo_wire.specs.declared.messages.Request.{Request}
-use Rattle.repo_wire.specs.declared.messages.Say.{Say}
 use Rattle.repo_pack.specs.PackLayout.{Item}
 use Rattle.repo_pack.specs.declared.writers.Sealed.{Sealed}
 use Rattle.repo_index.specs.IndexText.{IsIndexText, facts_in}
@@ -22,7 +21,7 @@ use Rattle.repo_session.specs.Askers.{Asker, asker}
 use Rattle.repo_session.specs.Catalogs.{IsCatalog}
 use Rattle.repo_session.specs.Openings.{Fits, IsReady, task_of}
 use Rattle.repo_session.specs.Order.{Task}
-use Rattle.repo_session.specs.Traces.{Trace, Object, objects_put}
+use Rattle.repo_session.specs.Traces.{Trace, objects_put}
 use Rattle.repo_session.specs.declared.catalogs.Catalog.{Catalog}
 use Rattle.repo_session.specs.declared.openings.Opening.{Opening}
 use Rattle.repo_backup.specs.Backing.{Put, items_of, Backs}

@@ -1,5 +1,5 @@
 -- A backup, and what its calls do.
-use Rattle.std.specs.Prelude.{◌≡◌, ◌≢◌, ◌≤◌, ◌<◌, ◌+◌, ◌↔◌, ◌∷◌, [], ⊤, ℕ, true, false, List, length, slice_get, Option, Some, None}
+use Rattle.std.specs.Prelude.{◌≡◌, ◌<◌, ◌+◌, ◌∷◌, [], ℕ, false, List, length, slice_get, Some, None}
 use Rattle.repo_name.specs.Naming as naming
 use Rattle.repo_name.specs.declared.kinds.Kind.{Kind}
 use Rattle.repo_name.specs.declared.names.Name.{Name}
@@ -14,7 +14,7 @@ use Rattle.repo_tree.specs.declared.configs.Config.{Config}
 use Rattle.repo_tree.specs.declared.entries.Entry.{Entry}
 use Rattle.repo_session.specs.Askers.{Asker}
 use Rattle.repo_session.specs.Openings.{IsOpened}
-use Rattle.repo_session.specs.Traces.{Trace, objects_put}
+use Rattle.repo_session.specs.Traces.{Trace}
 use Rattle.repo_backup.specs.BackupStates.{Indexes, indexes_of, IsNew, StandsBackup, IsIdleBackup, KeepsLine}
 use Rattle.repo_backup.specs.Stages.{BeginsAgain}
 use Rattle.repo_backup.specs.declared.backing.Backing.{Backing}

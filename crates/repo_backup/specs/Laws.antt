@@ -1,5 +1,5 @@
 -- What holds of a backup that is alone with its store, by the definitions alone.
-use Rattle.std.specs.Prelude.{◌≡◌, ◌<◌, ◌^◌, ◌-◌, ℕ, List, length, Option, None, Contains}
+use Rattle.std.specs.Prelude.{◌<◌, ◌^◌, ◌-◌, ℕ, List, length, Option, None, Contains}
 use Rattle.repo_name.specs.declared.kinds.BlobKind.{BlobKind}
 use Rattle.repo_pack.specs.PackLayout.{item_of}
 use Rattle.repo_tree.specs.declared.entries.Entry.{Entry}

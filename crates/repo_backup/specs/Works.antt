@@ -1,14 +1,13 @@
 -- A walk through a folder that makes its blobs in order, and adds them to packs.
-use Rattle.std.specs.Prelude.{◌≡◌, ◌≢◌, ◌<◌, ◌++◌, ◌∷◌, [], ⊤, ℕ, List, length, map, drop, Option, Some, None, Contains}
+use Rattle.std.specs.Prelude.{◌≡◌, ◌≢◌, ◌<◌, ◌++◌, ◌∷◌, [], ℕ, List, length, map, drop, Option, Some, None, Contains}
 use Rattle.repo_name.specs.Naming as naming
 use Rattle.repo_name.specs.declared.kinds.BlobKind.TheVariants.{Content, Tree}
-use Rattle.repo_name.specs.declared.names.Name.{Name}
 use Rattle.repo_pack.specs.PackLayout.{Item, item_of}
 use Rattle.repo_index.specs.declared.facts.Fact.{Fact}
 use Rattle.repo_tree.specs.TreeWriting.{tree_text}
 use Rattle.repo_tree.specs.declared.nodes.Node.{Node}
-use Rattle.repo_tree.specs.declared.nodes.NodeKind.TheVariants.{File, Dir}
-use Rattle.repo_backup.specs.Folders.{Folder, nothing, file_then, dir_then, joined, nodes_of, tree_of, blobs_below, blobs_of, IsCutBy}
+use Rattle.repo_tree.specs.declared.nodes.NodeKind.TheVariants.{File}
+use Rattle.repo_backup.specs.Folders.{Folder, nothing, file_then, dir_then, joined, nodes_of, blobs_below, blobs_of, IsCutBy}
 use Rattle.repo_backup.specs.Packings.{IsPacking, IsCovered, all_items}
 use Rattle.repo_backup.specs.Plans.{steps_of, IsLawful, AreTreeTextsBelow, AreTreeTexts}
 use Rattle.repo_backup.specs.declared.steps.Step.{Step}

@@ -17,7 +17,7 @@ use Rattle.repo_pack.specs.PackWriting.{place_of}
 use Rattle.repo_pack.proofs.Offsets.{offset_of-cons}
 use Rattle.repo_pack.proofs.ViewLemmas.{found_at}
 use Rattle.repo_index.specs.IndexText.{fact_of, facts_in}
-use Rattle.repo_index.specs.Exactness.{fact_at, AreFactsAt, IsExactFor}
+use Rattle.repo_index.specs.Exactness.{AreFactsAt, IsExactFor}
 use Rattle.repo_index.specs.Lookups.{Joins, AreFactsOf}
 use Rattle.repo_index.specs.Order.{kind_cmp, place_first, place_first_total, names_total}
 use Rattle.repo_index.specs.declared.facts.Fact.{Fact}

@@ -1,12 +1,11 @@
-use Rattle.std.proofs.Common.{◌≡◌, ◌≢◌, ◌≤◌, ◌<◌, ◌+◌, ◌^◌, ◌++◌, ◌∷◌, [], ℕ, List, Option, Some, None, Result, Ok, Err, OnOk, length, refl, sym, ap, subst, arith, inl, append_assoc, length-append, ◌∙◌}
+use Rattle.std.proofs.Common.{◌≡◌, ◌+◌, ◌++◌, ◌∷◌, [], ℕ, List, Option, Some, None, Result, Ok, Err, OnOk, length, refl, sym, ap, subst, inl, append_assoc, ◌∙◌}
 use Rattle.std.specs.Prelude.{ok_or}
-use Rattle.hex.specs.Hex.{decode_of}
 use Rattle.repo_wire.specs.Stream.{Waits}
 use Rattle.repo_store.specs.declared.forms.ServiceError.{ServiceError}
 use Rattle.repo_store.specs.declared.memory.MemShelf.{MemShelf}
 use Rattle.repo_store.specs.declared.services.Service.{Service}
 use Rattle.repo_store.specs.Memory.{store_of}
-use Rattle.repo_store.specs.Services.{nothing, with_bytes, Has, Rests, Ends, EndsBy, AnswersAll, Finishes}
+use Rattle.repo_store.specs.Services.{nothing, Rests, Ends, EndsBy, AnswersAll, Finishes}
 use Rattle.repo_store.specs.Serving.{Past, seen}
 use Rattle.repo_store.specs.Stores.{Store, empty}
 use Rattle.repo_store.proofs.ServiceLemmas.{whole_served, all_served}
@@ -16,7 +15,7 @@ use Rattle.repo_prog.specs.declared.talks.Talk.{Talk}
 use Rattle.repo_prog.specs.FramesRun.{AllTold, SomeTold, Gives}
 use Rattle.repo_prog.specs.HexLines.{AreLines, IsLine, Spell, hex_line, line_feed}
 use Rattle.repo_prog.specs.Talks.{Talks, TalksInside, LineGives, BytesGive, EndGives, frames_error}
-use Rattle.repo_prog.proofs.LineLemmas.{spell_more, line_more}
+use Rattle.repo_prog.proofs.LineLemmas.{line_more}
 
 -- all lines of the replies so far were written
 pub all_told : (start : Option (List ℕ)) (talk : Talk) (lines : List (List ℕ)) (past : Past) (contents : Option (List ℕ)) → Talks start talk lines past contents

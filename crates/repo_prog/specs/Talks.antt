@@ -1,4 +1,4 @@
-use Rattle.std.specs.Prelude.{◌≡◌, ◌<◌, ◌++◌, ◌∷◌, [], ℕ, List, length, Option, Some, Result, Ok, Err, Bool, true, false}
+use Rattle.std.specs.Prelude.{◌≡◌, ◌<◌, ◌++◌, [], ℕ, List, length, Option, Some, Result, Ok, Err, Bool, true, false}
 use Rattle.repo_store.specs.declared.forms.ServiceError.{ServiceError}
 use Rattle.repo_store.specs.Memory.{store_of}
 use Rattle.repo_store.specs.Services.{Rests}

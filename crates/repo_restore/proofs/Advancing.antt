@@ -15,7 +15,7 @@ use Rattle.repo_index.specs.declared.facts.Fact.{Fact}
 use Rattle.repo_index.specs.IndexText.{fact_of}
 use Rattle.repo_index.specs.Lookups.{IsLeast, HasSame}
 use Rattle.repo_tree.specs.declared.nodes.Node.{Node}
-use Rattle.repo_tree.specs.Spelling.{Blobs, IsTree, Spells, greatest_depth}
+use Rattle.repo_tree.specs.Spelling.{Blobs, Spells, greatest_depth}
 use Rattle.repo_session.specs.declared.emissions.Emission.{Emission}
 use Rattle.repo_session.specs.Catalogs.{IsCatalog}
 use Rattle.repo_session.specs.Rebuilding.{rebuilt}
@@ -23,9 +23,9 @@ use Rattle.repo_restore.specs.declared.nodes.Level.{Level}
 use Rattle.repo_restore.specs.declared.walks.Turn.{Turn}
 use Rattle.repo_session.specs.declared.outcomes.End.{End}
 use Rattle.repo_session.specs.declared.outcomes.Outcome.{Outcome}
-use Rattle.repo_session.specs.Ends.{IsBad, IsBadBlob, IsCause, Concludes, IsUnwelcome, blob_thing}
+use Rattle.repo_session.specs.Ends.{IsBad, IsBadBlob, Concludes, IsUnwelcome, blob_thing}
 use Rattle.repo_session.specs.Openings.{IsWork, IsStart, IsUnlock}
-use Rattle.repo_session.specs.Order.{Task, IsWorking as Works, May, opened}
+use Rattle.repo_session.specs.Order.{Task, May, opened}
 use Rattle.repo_session.specs.Traces.{Each, Exchange, Trace, emitted_in, page_names, is_last_page, object_got, ReadFact, IsGiven}
 use Rattle.repo_session.proofs.Cataloguing.{catalog_fresh, catalog_on}
 use Rattle.repo_session.proofs.Receiving.{all_read}

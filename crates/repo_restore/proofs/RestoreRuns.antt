@@ -1,22 +1,18 @@
 -- The laws of a restore and of a list that are alone with their store.
-use Rattle.std.specs.Prelude.{⊤}
-use Rattle.std.proofs.Common.{arith, ◌≡◌, ◌≢◌, ◌⊎◌, ◌≤◌, ◌+◌, ◌-◌, ◌++◌, ◌∷◌, [], ℕ, zero, suc, true, List, length, Option, Some, None, refl, sym, ap, subst, inl, inr, ⊎_elim, length-append, ◌∙◌, Contains}
-use Rattle.std.proofs.lemmas.Option.{same_Some, none-some}
+use Rattle.std.proofs.Common.{arith, ◌≡◌, ◌≢◌, ◌⊎◌, ◌≤◌, ◌+◌, ◌-◌, ◌++◌, ◌∷◌, [], ℕ, zero, suc, List, length, Option, Some, None, refl, sym, ap, subst, inl, inr, ⊎_elim, length-append, ◌∙◌, Contains}
+use Rattle.std.proofs.lemmas.Option.{same_Some}
 use Rattle.repo_name.specs.Naming as naming
 use Rattle.repo_name.specs.Ranges.{range}
 use Rattle.repo_name.specs.declared.kinds.BlobKind.{BlobKind}
 use Rattle.repo_name.specs.declared.kinds.Kind.{Kind}
 use Rattle.repo_name.specs.declared.kinds.Thing.{Thing}
 use Rattle.repo_name.specs.declared.names.Name.{Name}
-use Rattle.repo_name.specs.declared.tokens.Token.{Token}
 use Rattle.repo_wire.specs.declared.messages.Ask.{Ask}
 use Rattle.repo_wire.specs.declared.messages.Code.{Code}
-use Rattle.repo_wire.specs.declared.messages.Request.{Request}
 use Rattle.repo_wire.specs.declared.messages.Say.{Say}
 use Rattle.repo_index.specs.IndexText.{Says}
 use Rattle.repo_index.specs.declared.facts.Fact.{Fact}
 use Rattle.repo_tree.specs.Laws.{Agree}
-use Rattle.repo_tree.specs.SnapshotText.{IsSnapshotText}
 use Rattle.repo_tree.specs.Spelling.{Blobs, IsTree, Joined, NodeSpells, NodesSpell, SpellsTo, Spells, greatest_depth}
 use Rattle.repo_tree.specs.TreeText.{IsTreeText}
 use Rattle.repo_tree.specs.declared.entries.Entry.{Entry}
@@ -28,22 +24,22 @@ use Rattle.repo_tree.proofs.TreeLemmas.{tree_texts_one}
 use Rattle.repo_store.specs.Stores.{Store, Objects}
 use Rattle.repo_session.specs.declared.outcomes.End.{End}
 use Rattle.repo_session.specs.declared.outcomes.Outcome.{Outcome}
-use Rattle.repo_session.specs.Alone.{IsFit, EndsWell}
+use Rattle.repo_session.specs.Alone.{EndsWell}
 use Rattle.repo_session.specs.Askers.{Asker}
 use Rattle.repo_session.specs.Ends.{before_unlock}
-use Rattle.repo_session.specs.Order.{Task, Obeys}
+use Rattle.repo_session.specs.Order.{Obeys}
 use Rattle.repo_session.specs.Soundness.{IsHeld, IsSound}
 use Rattle.repo_session.specs.Talks.{Talk, trace_of}
-use Rattle.repo_session.specs.Traces.{Exchange, Trace, ReadFact, IsGiven, emitted_in}
+use Rattle.repo_session.specs.Traces.{Trace, ReadFact}
 use Rattle.repo_session.proofs.Causes.{range_length}
 use Rattle.repo_session.proofs.Concluding.{calm_of, either, ends_well}
 use Rattle.repo_session.proofs.Containing.{none_contained, contained_or}
-use Rattle.repo_session.proofs.Enumerating.{HasThroughout, all_listed}
+use Rattle.repo_session.proofs.Enumerating.{all_listed}
 use Rattle.repo_session.proofs.Growing.{Led, Shares, led}
 use Rattle.repo_session.proofs.Unchanging.{AllowsNothing, same_run, same_after, same_throughout, shares_run, sound_throughout}
 use Rattle.repo_session.proofs.Wholeness.{given_held}
 use Rattle.repo_backup.proofs.Lone.{held_agree}
-use Rattle.repo_restore.specs.Laws.{IsRestore, IsList, RestoreChangesNothing, ListChangesNothing, IsListedOrMemory, ListEndsWell, IsCompleteOrMemory, RestoreEndsWell}
+use Rattle.repo_restore.specs.Laws.{IsList, RestoreChangesNothing, ListChangesNothing, IsListedOrMemory, ListEndsWell, IsCompleteOrMemory, RestoreEndsWell}
 use Rattle.repo_restore.specs.Listing.{list_task, ListAllows, ListGives, ListConcludes}
 use Rattle.repo_restore.specs.Received.{Received}
 use Rattle.repo_restore.specs.Restoring.{Wish, restore_task, HasRoot, Under, IsNeeded, HaveLength, IsUneven, IsNoTree, IsBadTree, IsUnindexed, RestoreAllows, RestoreGives, RestoreConcludes}

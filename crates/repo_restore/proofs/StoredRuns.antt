@@ -1,17 +1,15 @@
 -- What a restore gives out of a snapshot that a backup reported as stored.
-use Rattle.std.proofs.Common.{◌≡◌, ◌⊎◌, ◌++◌, ◌∷◌, [], ℕ, List, length, Option, Some, None, refl, sym, ap, subst, inl, inr, ⊎_elim, append-nil, ◌∙◌, Contains}
+use Rattle.std.proofs.Common.{◌≡◌, ◌⊎◌, ◌++◌, ◌∷◌, [], ℕ, List, length, Some, refl, sym, ap, subst, inl, inr, ⊎_elim, append-nil, ◌∙◌, Contains}
 use Rattle.std.proofs.lemmas.Option.{same_Some}
 use Rattle.repo_name.specs.Naming as naming
-use Rattle.repo_name.specs.declared.kinds.BlobKind.{BlobKind}
 use Rattle.repo_name.specs.declared.kinds.Kind.{Kind}
 use Rattle.repo_name.specs.declared.names.Name.{Name}
 use Rattle.repo_name.specs.declared.tokens.Token.{Token}
 use Rattle.repo_wire.specs.declared.messages.Ask.{Ask}
-use Rattle.repo_wire.specs.declared.messages.Request.{Request}
 use Rattle.repo_wire.specs.declared.messages.Say.{Say}
 use Rattle.repo_pack.specs.PackLayout.{item_of}
 use Rattle.repo_tree.specs.Laws.{Agree}
-use Rattle.repo_tree.specs.Spelling.{Blobs, Spells}
+use Rattle.repo_tree.specs.Spelling.{Spells}
 use Rattle.repo_tree.specs.SnapshotText.{IsSnapshotText}
 use Rattle.repo_tree.specs.declared.entries.Entry.{Entry}
 use Rattle.repo_tree.specs.declared.snapshots.Snapshot.{Snapshot}

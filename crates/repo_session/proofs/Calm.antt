@@ -1,12 +1,11 @@
 -- What a store says to a client that is alone with it, and which ends that leaves.
 use Rattle.std.specs.Prelude.{⊤, nat_lt}
-use Rattle.std.proofs.Common.{arith, ◌+◌, length-append, eqb, ◌≡◌, ◌≢◌, ◌⊎◌, ◌≤◌, ◌<◌, ◌++◌, ◌∷◌, ◌^◌, ◌-◌, [], ℕ, Bool, true, false, List, length, Option, Some, None, Result, Ok, Err, refl, sym, ap, subst, inl, inr, ⊎_elim, ◌∙◌}
+use Rattle.std.proofs.Common.{arith, ◌+◌, length-append, eqb, ◌≡◌, ◌≢◌, ◌⊎◌, ◌≤◌, ◌<◌, ◌++◌, ◌∷◌, ◌-◌, [], ℕ, Bool, true, false, List, length, Option, Some, None, Result, Ok, Err, refl, sym, ap, subst, inl, inr, ◌∙◌}
 use Rattle.std.proofs.lemmas.Bool.{cases_Bool, eqb-false}
 use Rattle.std.proofs.lemmas.Option.{same_Some, none-some}
 use Rattle.repo_name.specs.Naming as naming
 use Rattle.repo_name.specs.Ranges.{range}
 use Rattle.repo_name.specs.declared.kinds.Kind.{Kind}
-use Rattle.repo_name.specs.declared.kinds.Thing.{Thing}
 use Rattle.repo_name.specs.declared.names.Name.{Name}
 use Rattle.repo_name.specs.declared.rows.LockRow.{LockRow}
 use Rattle.repo_name.specs.declared.tokens.Token.{Token}
@@ -14,18 +13,15 @@ use Rattle.repo_wire.specs.declared.messages.Ask.{Ask}
 use Rattle.repo_wire.specs.declared.messages.Code.{Code}
 use Rattle.repo_wire.specs.declared.messages.Say.{Say}
 use Rattle.repo_wire.specs.Messages.{page_limit}
-use Rattle.repo_index.specs.declared.facts.Fact.{Fact}
 use Rattle.repo_locks.specs.declared.outcomes.Grant.{Grant}
 use Rattle.repo_locks.specs.declared.outcomes.LockError.{LockError}
 use Rattle.repo_locks.specs.declared.outcomes.TicketError.{TicketError}
 use Rattle.repo_locks.specs.TokenMachine.{Tokens, live_as, is_fresh, is_among, is_busy, kind_among, has_exclusive, with_room, last_number, LockStep, TicketStep}
 use Rattle.repo_locks.proofs.Changed.{kind_among-with_row_same}
 use Rattle.repo_tree.specs.declared.configs.Config.{Config}
-use Rattle.repo_tree.specs.ConfigText.{IsConfigText}
 use Rattle.repo_store.specs.declared.shelves.Slice.{Slice}
-use Rattle.repo_store.specs.Pages.{Has, Ascends, IsPage}
 use Rattle.repo_store.specs.Slices.{IsSlice}
-use Rattle.repo_store.specs.StoreMachine.{object_limit, config_limit, range_limit, IsRangeLength, Answers, Fails, Step, GetSays, RangeAnswer, PutAnswer, SliceSays, TicketAnswer, LockAnswer, TicketSays, LockSays}
+use Rattle.repo_store.specs.StoreMachine.{object_limit, config_limit, IsRangeLength, Answers, Step, GetSays, RangeAnswer, PutAnswer, SliceSays, TicketSays, LockSays}
 use Rattle.repo_store.specs.Stores.{Store}
 use Rattle.repo_session.specs.Ends.{PageRises}
 use Rattle.repo_session.specs.Order.{Task, May, ticketed, locked, lock_row, Holds, IsWorking, AreHeld}

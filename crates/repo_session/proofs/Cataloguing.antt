@@ -1,5 +1,5 @@
 -- What one more index makes of a catalog.
-use Rattle.std.proofs.Common.{arith, ◌≡◌, ◌≢◌, ◌≤◌, ◌+◌, ◌↔◌, ◌++◌, ◌∷◌, [], ℕ, Bool, true, false, List, length, map, cond, slice_get, Option, Some, None, refl, sym, ap, subst, inl, inr, ◌⊎◌, ◌∙◌, Contains}
+use Rattle.std.proofs.Common.{arith, ◌≡◌, ◌≢◌, ◌≤◌, ◌+◌, ◌++◌, ◌∷◌, [], ℕ, Bool, true, false, List, length, map, cond, slice_get, Option, Some, None, refl, sym, ap, subst, inl, inr, ◌⊎◌, ◌∙◌, Contains}
 use Rattle.repo_name.specs.Naming as naming
 use Rattle.repo_name.specs.declared.kinds.Kind.{Kind}
 use Rattle.repo_name.specs.declared.names.Name.{Name}
@@ -8,18 +8,17 @@ use Rattle.std.proofs.lemmas.List.{append-nil}
 use Rattle.repo_store.specs.Pages.{Ascends}
 use Rattle.repo_session.specs.Order.{Task, opened}
 use Rattle.repo_wire.specs.declared.messages.Ask.{Ask}
-use Rattle.repo_wire.specs.declared.messages.Code.{Code}
 use Rattle.repo_wire.specs.declared.messages.Request.{Request}
 use Rattle.repo_wire.specs.declared.messages.Say.{Say}
 use Rattle.repo_index.specs.declared.facts.Fact.{Fact}
 use Rattle.repo_index.specs.declared.facts.PackFacts.{PackFacts}
-use Rattle.repo_index.specs.IndexText.{IsIndexText, facts_in, Says}
+use Rattle.repo_index.specs.IndexText.{IsIndexText, facts_in}
 use Rattle.repo_index.specs.Lookups.{Joins}
 use Rattle.repo_index.proofs.OneLemmas.{index_texts_one}
 use Rattle.repo_session.specs.declared.emissions.Emission.{Emission}
 use Rattle.repo_session.specs.Catalogs.{AreIndexed, IsIndexObject, IsCatalog}
 use Rattle.repo_session.specs.Rolls.{IsNamed, IsRolled}
-use Rattle.repo_session.specs.Traces.{Each, Exchange, Trace, Exchanged, Object, page_names, is_last_page, names_in, is_complete, object_got, objects_in, IsRead, ReadFact, IsListed}
+use Rattle.repo_session.specs.Traces.{Each, Exchange, Trace, Exchanged, Object, page_names, is_last_page, names_in, is_complete, object_got, objects_in, ReadFact}
 use Rattle.repo_session.proofs.Rolling.{object_read}
 use Rattle.repo_session.proofs.Receiving.{each_both, each_listed, is_listed}
 

@@ -1,6 +1,5 @@
 -- Of the ends that a job shares with all others, a client alone with its store comes to one: the store has no memory.
-use Rattle.std.specs.Prelude.{⊤}
-use Rattle.std.proofs.Common.{arith, leb, length-drop, length-take-le, ◌≡◌, ◌≢◌, ◌⊎◌, ◌≤◌, ◌+◌, ◌∷◌, ◌^◌, ◌-◌, [], ℕ, Bool, true, false, List, length, take, drop, Option, Some, None, refl, sym, ap, subst, inl, inr, ⊎_elim, ◌∙◌}
+use Rattle.std.proofs.Common.{arith, leb, length-drop, length-take-le, ◌≡◌, ◌≢◌, ◌⊎◌, ◌≤◌, ◌+◌, ◌∷◌, ◌-◌, ℕ, Bool, true, List, length, take, drop, Some, refl, sym, ap, subst, inl, inr, ⊎_elim, ◌∙◌}
 use Rattle.std.proofs.lemmas.Bool.{cases_Bool, leb-true}
 use Rattle.std.proofs.lemmas.Option.{same_Some, none-some}
 use Rattle.repo_chunk.specs.Parameters.{AreLawful}
@@ -13,16 +12,14 @@ use Rattle.repo_wire.specs.declared.messages.Ask.{Ask}
 use Rattle.repo_wire.specs.declared.messages.Code.{Code}
 use Rattle.repo_wire.specs.declared.messages.Say.{Say}
 use Rattle.repo_index.specs.declared.facts.Fact.{Fact}
-use Rattle.repo_index.specs.declared.facts.PackFacts.{PackFacts}
 use Rattle.repo_tree.specs.declared.configs.Config.{Config}
 use Rattle.repo_tree.specs.declared.faults.TextError.{TextError}
 use Rattle.repo_tree.specs.declared.snapshots.Snapshot.{Snapshot}
 use Rattle.repo_tree.specs.ConfigText.{IsConfigText, HasConfig, AreAllowed, IsTarget, ConfigFault}
-use Rattle.repo_tree.specs.JsonText.{IsJson}
 use Rattle.repo_tree.specs.SnapshotText.{IsSnapshotText, HasSnapshot, SnapshotFault}
 use Rattle.repo_store.specs.Stores.{Store, Objects}
 use Rattle.repo_session.specs.declared.outcomes.End.{End}
-use Rattle.repo_session.specs.Ends.{IsUnreadable, IsBad, IsBadBlob, IsSenseless, IsOfOtherVersion, CausedBy, PageRises, Suits}
+use Rattle.repo_session.specs.Ends.{IsUnreadable, IsBad, IsBadBlob, IsSenseless, IsOfOtherVersion, CausedBy, Suits}
 use Rattle.repo_session.specs.Soundness.{IsSound}
 use Rattle.repo_session.specs.Traces.{Exchange, Trace, Exchanged, ReadFact}
 use Rattle.repo_session.proofs.Calm.{Right}

@@ -1,6 +1,6 @@
 -- How a client ends that is alone with its store, and deletes nothing.
 use Rattle.std.specs.Prelude.{⊤, All}
-use Rattle.std.proofs.Common.{arith, ◌≡◌, ◌≢◌, ◌⊎◌, ◌≤◌, ◌<◌, ◌+◌, ◌++◌, ◌∷◌, ◌^◌, ◌-◌, [], ℕ, Bool, true, false, List, length, map, Option, Some, None, refl, sym, ap, subst, inl, inr, ⊎_elim, length-append, ◌∙◌, Contains}
+use Rattle.std.proofs.Common.{arith, ◌≡◌, ◌≢◌, ◌⊎◌, ◌≤◌, ◌<◌, ◌+◌, ◌++◌, ◌∷◌, ◌^◌, ◌-◌, [], ℕ, List, length, map, Option, Some, None, refl, sym, ap, subst, inl, inr, ⊎_elim, length-append, ◌∙◌, Contains}
 use Rattle.std.proofs.lemmas.Option.{same_Some, none-some}
 use Rattle.std.proofs.lemmas.List.{length-map}
 use Rattle.std.proofs.lemmas.List.Elements.{All-contains}
@@ -12,30 +12,27 @@ use Rattle.repo_name.specs.declared.tokens.Token.{Token}
 use Rattle.repo_wire.specs.declared.messages.Ask.{Ask}
 use Rattle.repo_wire.specs.declared.messages.Code.{Code}
 use Rattle.repo_wire.specs.declared.messages.Reply.{Reply}
-use Rattle.repo_wire.specs.declared.messages.Request.{Request}
 use Rattle.repo_wire.specs.declared.messages.Say.{Say}
 use Rattle.repo_pack.specs.PackLayout.{IsWithin}
-use Rattle.repo_index.specs.IndexText.{Says, facts_in}
+use Rattle.repo_index.specs.IndexText.{facts_in}
 use Rattle.repo_index.specs.IndexWriting.{AreLawful}
 use Rattle.repo_index.specs.declared.facts.Fact.{Fact}
 use Rattle.repo_index.specs.declared.facts.PackFacts.{PackFacts}
 use Rattle.repo_index.proofs.OneLemmas.{index_texts_lawful}
 use Rattle.repo_store.specs.Laws.{greatest_count}
-use Rattle.repo_store.specs.Runs.{Replies, Run}
 use Rattle.repo_store.specs.Serving.{TellsFault, HaveCause}
-use Rattle.repo_store.specs.StoreMachine.{object_limit, config_limit, IsRangeLength, Step}
+use Rattle.repo_store.specs.StoreMachine.{object_limit, IsRangeLength}
 use Rattle.repo_store.specs.Stores.{Store}
-use Rattle.repo_session.specs.declared.emissions.Emission.{Emission}
 use Rattle.repo_session.specs.declared.outcomes.End.{End}
 use Rattle.repo_session.specs.declared.outcomes.Outcome.{Outcome}
 use Rattle.repo_session.specs.Alone.{IsFit, HasAsked, EndsWell}
 use Rattle.repo_session.specs.Clients.{exchange, IsObedient}
-use Rattle.repo_session.specs.Ends.{CausedBy, IsCause, IsSpent, Concludes, before_unlock, without_unlock}
-use Rattle.repo_session.specs.Order.{Task, May, MayGet, MayRange, IsPermitted, Obeys, ticketed, locked, Holds}
+use Rattle.repo_session.specs.Ends.{IsCause, Concludes, before_unlock, without_unlock}
+use Rattle.repo_session.specs.Order.{Task, May, MayGet, MayRange, IsPermitted, Obeys, locked}
 use Rattle.repo_session.specs.Soundness.{IsSound}
 use Rattle.repo_session.specs.Talks.{Turn, Talk, trace_of, taken_in}
 use Rattle.repo_session.specs.Traces.{Exchange, Trace, WasAsked}
-use Rattle.repo_session.proofs.Calm.{Stands, IsThere, Right, right_step, stands_more}
+use Rattle.repo_session.proofs.Calm.{Stands, IsThere, right_step, stands_more}
 use Rattle.repo_session.proofs.Causes.{only_memory}
 use Rattle.repo_session.proofs.Containing.{flat_contains}
 use Rattle.repo_session.proofs.Growing.{Led, IsNoDelete, Shares, shares_nothing, shares_more}

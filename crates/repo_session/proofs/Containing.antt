@@ -1,5 +1,5 @@
 -- What lists contain.
-use Rattle.std.proofs.Common.{arith, ◌≡◌, ◌++◌, ◌∷◌, [], ℕ, zero, suc, List, refl, sym, subst, inl, inr, ◌⊎◌, Contains}
+use Rattle.std.proofs.Common.{arith, ◌≡◌, ◌∷◌, [], zero, suc, List, refl, sym, subst, inl, inr, ◌⊎◌, Contains}
 use Rattle.std.specs.List.{flat_map}
 use Rattle.std.proofs.lemmas.List.Elements.{Contains-append_left, Contains-append_right, Contains-append_cases}
 

@@ -1,7 +1,6 @@
 -- What a listing to its end has of a store that doesn't change.
-use Rattle.std.proofs.Common.{arith, ◌≡◌, ◌≢◌, ◌⊎◌, ◌≤◌, ◌<◌, ◌++◌, ◌∷◌, ◌-◌, [], ℕ, zero, suc, Bool, true, false, List, length, cond, slice_get, Option, Some, None, refl, sym, ap, subst, inl, inr, ⊎_elim, length-append, append-nil, ◌∙◌}
+use Rattle.std.proofs.Common.{arith, ◌≡◌, ◌≢◌, ◌⊎◌, ◌++◌, ◌∷◌, ◌-◌, [], ℕ, suc, Bool, true, false, List, length, cond, slice_get, Option, Some, refl, sym, ap, subst, inl, inr, ⊎_elim, append-nil, ◌∙◌}
 use Rattle.std.proofs.lemmas.Option.{same_Some, none-some}
-use Rattle.repo_name.specs.Naming.{Before}
 use Rattle.repo_name.specs.declared.kinds.Kind.{Kind}
 use Rattle.repo_name.specs.declared.names.Name.{Name}
 use Rattle.repo_wire.specs.declared.messages.Ask.{Ask}

@@ -1,6 +1,5 @@
 -- What a client alone and its store have in common, where nothing is deleted.
-use Rattle.std.proofs.Common.{◌≡◌, ◌≢◌, ◌⊎◌, ◌≤◌, ◌<◌, ◌++◌, ◌∷◌, [], ℕ, Bool, true, false, List, length, cond, Option, Some, None, refl, sym, ap, subst, inl, inr, ⊎_elim, ◌∙◌}
-use Rattle.std.proofs.lemmas.Option.{same_Some, none-some}
+use Rattle.std.proofs.Common.{◌≡◌, ◌≢◌, ◌⊎◌, ◌≤◌, ◌++◌, ◌∷◌, [], ℕ, Bool, true, false, List, length, cond, Option, Some, None, refl, sym, ap, subst, inl, inr, ⊎_elim, ◌∙◌}
 use Rattle.repo_name.specs.Naming as naming
 use Rattle.repo_name.specs.Ranges.{range}
 use Rattle.repo_name.specs.declared.kinds.Kind.{Kind}
@@ -11,12 +10,11 @@ use Rattle.repo_wire.specs.declared.messages.Code.{Code}
 use Rattle.repo_wire.specs.declared.messages.Reply.{Reply}
 use Rattle.repo_wire.specs.declared.messages.Request.{Request}
 use Rattle.repo_wire.specs.declared.messages.Say.{Say}
-use Rattle.repo_wire.specs.Messages.{page_limit}
 use Rattle.repo_store.specs.declared.shelves.Slice.{Slice}
-use Rattle.repo_store.specs.Pages.{Has, IsPage}
+use Rattle.repo_store.specs.Pages.{Has}
 use Rattle.repo_store.specs.Runs.{Replies, Run}
 use Rattle.repo_store.specs.Slices.{IsSlice}
-use Rattle.repo_store.specs.StoreMachine.{object_limit, Answers, Fails, Step, Looks, GetSays, RangeAnswer, PutAnswer, SliceSays}
+use Rattle.repo_store.specs.StoreMachine.{object_limit, Answers, Step, GetSays, RangeAnswer, PutAnswer, SliceSays}
 use Rattle.repo_store.specs.Stores.{Store, Objects, Added}
 use Rattle.repo_session.specs.declared.emissions.Emission.{Emission}
 use Rattle.repo_session.specs.Talks.{Talk, sent_in, taken_in}

@@ -1,5 +1,5 @@
 -- What a store holds, and stays sound by, as objects are added to it.
-use Rattle.std.proofs.Common.{◌≡◌, ◌⊎◌, [], ℕ, List, length, slice_get, Option, Some, refl, sym, ap, subst, inl, inr, ◌∙◌, Contains}
+use Rattle.std.proofs.Common.{◌≡◌, [], ℕ, List, length, slice_get, Some, refl, sym, ap, subst, ◌∙◌, Contains}
 use Rattle.std.proofs.lemmas.Option.{slice_get_within, get_or_from_slice_get}
 use Rattle.std.specs.List.{All}
 use Rattle.repo_name.specs.Naming as naming
@@ -11,17 +11,17 @@ use Rattle.repo_pack.specs.PackLayout.{Item, IsTruePack, IsNamed, offset_of}
 use Rattle.repo_pack.proofs.Offsets.{range_is}
 use Rattle.repo_index.specs.declared.facts.Fact.{Fact}
 use Rattle.repo_index.specs.declared.facts.PackFacts.{PackFacts}
-use Rattle.repo_index.specs.Exactness.{IsExactFor, fact_at}
-use Rattle.repo_index.specs.IndexText.{IsIndexText, facts_in, Says}
+use Rattle.repo_index.specs.Exactness.{IsExactFor}
+use Rattle.repo_index.specs.IndexText.{facts_in, Says}
 use Rattle.repo_index.proofs.OneLemmas.{index_texts_one}
 use Rattle.repo_tree.specs.Laws.{Agree}
-use Rattle.repo_tree.specs.Spelling.{Blobs, Spells, Reach}
+use Rattle.repo_tree.specs.Spelling.{Blobs, Spells}
 use Rattle.repo_tree.specs.SnapshotText.{IsSnapshotText}
 use Rattle.repo_tree.specs.declared.entries.Entry.{Entry}
 use Rattle.repo_tree.specs.declared.snapshots.Snapshot.{Snapshot}
 use Rattle.repo_tree.proofs.SpellingLemmas.{spells_move, reached}
 use Rattle.repo_store.specs.Stores.{Objects}
-use Rattle.repo_session.specs.Soundness.{IsHeld, IsWhole, IsExactPack, IsSoundIndex, IsSoundSnapshot, IsSound}
+use Rattle.repo_session.specs.Soundness.{IsHeld, IsExactPack, IsSoundIndex, IsSoundSnapshot, IsSound}
 
 -- all objects of the one are among those of the other
 abbrev pub Among : Objects → Objects → Type 0

@@ -1,5 +1,5 @@
 -- One client alone with its store.
-use Rattle.std.specs.Prelude.{◌≡◌, ◌≢◌, ◌⊎◌, ◌≤◌, ◌<◌, [], ⊤, ℕ, List, length, Option, Some, None}
+use Rattle.std.specs.Prelude.{◌≡◌, ◌⊎◌, ◌≤◌, ◌<◌, [], ⊤, ℕ, List, length, Option, Some, None}
 use Rattle.repo_name.specs.Naming as naming
 use Rattle.repo_name.specs.Ranges.{range}
 use Rattle.repo_name.specs.declared.kinds.Kind.{Kind}
@@ -18,7 +18,6 @@ use Rattle.repo_store.specs.Stores.{Store}
 use Rattle.repo_session.specs.declared.outcomes.End.{End}
 use Rattle.repo_session.specs.declared.outcomes.Outcome.{Outcome}
 use Rattle.repo_session.specs.Ends.{before_unlock}
-use Rattle.repo_session.specs.Order.{Task}
 use Rattle.repo_session.specs.Soundness.{IsSound}
 use Rattle.repo_session.specs.Traces.{Trace, WasAsked}
 

@@ -1,5 +1,5 @@
 -- What a catalog of a store's indexes knows of the trace.
-use Rattle.std.specs.Prelude.{◌≡◌, ◌≢◌, ◌⊎◌, ◌≤◌, ◌↔◌, ◌∷◌, [], ℕ, Bool, true, false, List, length, slice_get, Option, Some, None, Result, Ok, Err, Contains}
+use Rattle.std.specs.Prelude.{◌≡◌, ◌≢◌, ◌⊎◌, ◌≤◌, ◌↔◌, ◌∷◌, [], ℕ, Bool, true, List, length, slice_get, Some, None, Result, Ok, Err, Contains}
 use Rattle.repo_name.specs.declared.kinds.Kind.{Kind}
 use Rattle.repo_name.specs.declared.names.Name.{Name}
 use Rattle.repo_wire.specs.declared.messages.Ask.{Ask}

@@ -1,6 +1,5 @@
 use Rattle.std.proofs.Common.{◌≡◌, ◌+◌, take}
 use Rattle.repo_prog.specs.Asking.{streams, AreRemoved}
-use Rattle.repo_prog.specs.declared.status.Status.{Status}
 use Rattle.repo_prog.proofs.locking.remove_locks.Given as goal
 
 abbrev pub invariant-loop-token : goal.invariant-loop-token

@@ -1,8 +1,6 @@
-use Rattle.std.proofs.Common.{◌≡◌, ◌++◌, ◌∷◌, [], List, Option, Some, ap, subst, sym, ◌∙◌}
+use Rattle.std.proofs.Common.{◌≡◌, ap, subst, sym, ◌∙◌}
 use Rattle.repo_name.specs.NameMaps.{found}
 use Rattle.repo_name.specs.declared.kinds.BlobKind.{BlobKind}
-use Rattle.repo_name.specs.declared.names.Name.{Name}
-use Rattle.repo_pack.specs.PackLayout.{Item}
 use Rattle.repo_backup.specs.Packings.{Notes}
 use Rattle.repo_backup.proofs.PackingLemmas.{on_ok, on_err, NotesOf, noted_more, noted_other, content_no_tree}
 use Rattle.repo_backup.proofs.added.Added.insert.Goals as goal

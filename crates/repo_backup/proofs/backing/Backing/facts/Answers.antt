@@ -1,5 +1,5 @@
-use Rattle.std.proofs.Common.{◌≡◌, List, Option, refl, sym, subst, ◌∙◌}
-use Rattle.repo_pack.specs.PackLayout.{Item, IsPack}
+use Rattle.std.proofs.Common.{◌≡◌, Option, refl, subst}
+use Rattle.repo_pack.specs.PackLayout.{IsPack}
 use Rattle.repo_pack.specs.declared.writers.Sealed.{Sealed}
 use Rattle.repo_pack.proofs.Packs.{packs_one}
 use Rattle.repo_index.specs.Exactness.{AreFactsAt}

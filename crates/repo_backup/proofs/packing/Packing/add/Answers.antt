@@ -1,8 +1,5 @@
-use Rattle.std.proofs.Common.{rules, ◌≡◌, ◌++◌, ◌∷◌, [], List, None, refl, ap, subst, sym, inr, ◌∙◌, append_assoc}
+use Rattle.std.proofs.Common.{rules, ◌≡◌, ◌++◌, ◌∷◌, [], None, refl, ap, subst, sym, inr, ◌∙◌, append_assoc}
 use Rattle.repo_pack.specs.PackLayout.{Item, item_of}
-use Rattle.repo_pack.specs.PackWriting.{Packing}
-use Rattle.repo_pack.specs.declared.places.Place.{Place}
-use Rattle.repo_index.specs.IndexText.{fact_of}
 use Rattle.repo_backup.specs.Blobs.{HasItem, AreOnce, HasFact}
 use Rattle.repo_backup.specs.Packings.{Notes, all_items}
 use Rattle.repo_session.specs.Traces.{Each}

@@ -1,4 +1,4 @@
-use Rattle.std.proofs.Common.{rules, ◌≡◌, ◌<◌, ◌++◌, ◌∷◌, [], length, arith}
+use Rattle.std.proofs.Common.{rules, ◌≡◌, ◌<◌, length, arith}
 use Rattle.repo_index.proofs.ViewLemmas.{offset_fits, first_none, first_more, first_all}
 use Rattle.repo_index.proofs.facts.PackFacts.of_pack.Goals as goal
 

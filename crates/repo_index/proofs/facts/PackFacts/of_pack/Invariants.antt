@@ -1,5 +1,4 @@
 -- The facts so far are those of the first blobs.
-use Rattle.std.proofs.Common.{◌≤◌, length}
 use Rattle.repo_index.proofs.ViewLemmas.{AreFirst}
 use Rattle.repo_index.proofs.facts.PackFacts.of_pack.Given as goal
 

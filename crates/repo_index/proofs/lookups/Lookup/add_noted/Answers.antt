@@ -1,4 +1,4 @@
-use Rattle.std.proofs.Common.{List, [], subst, sym}
+use Rattle.std.proofs.Common.{List, subst, sym}
 use Rattle.repo_index.specs.IndexText.{facts_in}
 use Rattle.repo_index.specs.Lookups.{Joins, Grew}
 use Rattle.repo_index.specs.declared.facts.Fact.{Fact}

@@ -1,5 +1,4 @@
-use Rattle.std.proofs.Common.{rules, ◌≡◌, ◌++◌, ◌∷◌, [], List}
-use Rattle.repo_index.specs.Lookups.{Grew}
+use Rattle.std.proofs.Common.{rules, ◌≡◌, ◌++◌, ◌∷◌, []}
 use Rattle.repo_index.proofs.LookupLemmas.{grew_new}
 use Rattle.repo_index.proofs.lookups.Lookup.note_fact.Goals as goal
 

@@ -1,4 +1,4 @@
-use Rattle.std.proofs.Common.{◌≡◌, ◌++◌, ◌∷◌, [], List, ℕ, length, ap, sym, subst, eq-eqb, ◌∙◌}
+use Rattle.std.proofs.Common.{◌≡◌, ◌++◌, ◌∷◌, [], List, ℕ, length, ap, subst, eq-eqb, ◌∙◌}
 use Rattle.std.proofs.lemmas.List.{append-nil}
 use Rattle.repo_prog.specs.HexLines.{AreLines}
 use Rattle.repo_prog.proofs.LineLemmas.{last_line}

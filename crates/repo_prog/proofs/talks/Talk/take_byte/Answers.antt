@@ -1,4 +1,4 @@
-use Rattle.std.proofs.Common.{◌++◌, ◌∷◌, [], List, ℕ, refl, subst}
+use Rattle.std.proofs.Common.{◌++◌, ◌∷◌, [], ℕ, refl, subst}
 use Rattle.repo_prog.specs.HexLines.{AreLines}
 use Rattle.repo_prog.proofs.LineLemmas.{line_ended}
 use Rattle.repo_prog.proofs.TalkLemmas.{ended_goes, byte_taken, memory_told}
