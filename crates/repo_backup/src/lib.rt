@@ -25,11 +25,15 @@ mod backups;
 mod checks;
 mod chunks;
 mod faults;
+#[cfg(test)]
+mod large_tests;
 mod laws;
 mod packing;
 #[cfg(test)]
 mod plan_tests;
 mod plans;
+#[cfg(test)]
+mod refusal_tests;
 mod sending;
 mod stages;
 mod steps;

@@ -35,7 +35,7 @@ fn entry(alloc: Global, text: &str) -> Result<Entry, AllocError> {
 }
 
 /// The entries of some texts.
-fn entries(alloc: Global, texts: &[&str]) -> Result<Vec<Entry>, AllocError> {
+pub fn entries(alloc: Global, texts: &[&str]) -> Result<Vec<Entry>, AllocError> {
     let mut entries = Vec::new(alloc);
     for text in texts {
         entries.push(entry(alloc, text)?)?;
@@ -44,7 +44,7 @@ fn entries(alloc: Global, texts: &[&str]) -> Result<Vec<Entry>, AllocError> {
 }
 
 /// Directories, each in the one before it, this deep.
-fn nested(alloc: Global, depth: usize) -> Result<Vec<Entry>, AllocError> {
+pub fn nested(alloc: Global, depth: usize) -> Result<Vec<Entry>, AllocError> {
     let mut entries = Vec::new(alloc);
     let mut text = String::new(alloc);
     for _ in 0..depth {
