@@ -83,7 +83,8 @@ fn store_says(alloc: Global) -> Result<Vec<Say>, AllocError> {
     Ok(says)
 }
 
-/// Takes a reply, and once more where there was no memory: what is pending stays until then.
+/// Takes a reply, and once more where there was no memory. It says whether a request was still pending then, and no
+/// outcome was there.
 fn surely_take(backup: &mut Backup, reply: &Reply) -> Result<bool, AllocError> {
     if backup.take(reply).is_ok() {
         return Ok(true);
@@ -101,7 +102,8 @@ fn counts(backup: &Backup) -> Option<(u64, u64)> {
     }
 }
 
-// It holds where any one growth is refused: the reply is then taken again. The tree of 17 files has 12 bytes, 17 times 119, and 16 commas.
+// It holds where any one growth is refused: the reply is then taken again. The tree of 17 files has 12 bytes, 17 times
+// 119, and 16 commas.
 #[test]
 fn refused_growth(rt: HostRuntime) -> Result<(), Fail> {
     let alloc = rt.alloc();
