@@ -9,8 +9,7 @@ use Rattle.repo_index.specs.declared.facts.Fact.{Fact}
 use Rattle.repo_tree.specs.TreeText.{IsTreeText}
 use Rattle.repo_tree.specs.TreeWriting.{tree_text}
 use Rattle.repo_backup.specs.Folders.{Folder, nothing, tree_of, blobs_below, blobs_of, IsCutBy}
-use Rattle.repo_backup.specs.Blobs.{AreOnce, HasFact}
-use Rattle.repo_backup.specs.Packings.{Notes, IsPacking, IsSealed, IsCovered, Gains, all_items}
+use Rattle.repo_backup.specs.Packings.{IsPacking, IsSealed, IsCovered, Gains, all_items}
 use Rattle.repo_backup.specs.Plans.{IsLawful, steps_of}
 use Rattle.repo_backup.specs.Works.{IsWalkable, IsWalking, IsWork, with_next, IsCutting}
 use Rattle.repo_backup.specs.Advancing.{next_step, Stays, IsMade}
@@ -193,19 +192,6 @@ begun_work w known folder lawful cut steps at nodes node above file packing item
   };
   covered = tt;
 }
-
--- a pack that is begun again with the same items
-pub begun_again : (w v : Work) (known : List Fact) (folder : Folder) (sent sealed : List Item) → v.walk ≡ w.walk → v.packing.writer.items ≡ w.packing.writer.items → v.packing.sealed ≡ w.packing.sealed
-    → v.packing.added ≡ w.packing.added → IsWork w known folder sent sealed → IsWork v known folder sent sealed
-begun_again w v known folder sent sealed walk items is_sealed added h =
-    let all : all_items sent sealed w.packing ≡ all_items sent sealed v.packing = ap (λ l. (sent ++ sealed) ++ l) (sym items) in
-    let packing : IsPacking v.packing known sent sealed = record {
-      sealed_is = subst (λ o. IsSealed o sealed) (sym is_sealed) h.packing.sealed_is;
-      noted = subst (λ a. Notes a (all_items sent sealed v.packing)) (sym added) (subst (λ l. Notes w.packing.added l) all h.packing.noted);
-      once = subst (λ l. AreOnce l) all h.packing.once;
-      unknown = subst (λ l. Each (λ item. ¬ HasFact known item.kind item.name) l) all h.packing.unknown;
-    } in
-    stays_packed w v known folder sent sealed walk packing items h
 
 pub any_err : {A E : Type 0} (r : Result A E) (P : Type 0) → P → OnErr r P
 any_err (Ok x) P p = tt

@@ -11,7 +11,6 @@ use Rattle.repo_wire.specs.declared.messages.Ask.{Ask}
 use Rattle.repo_wire.specs.declared.messages.Say.{Say}
 use Rattle.repo_tree.specs.declared.snapshots.Snapshot.{Snapshot}
 use Rattle.repo_tree.specs.SnapshotText.{IsSnapshotText}
-use Rattle.repo_session.specs.Ends.{IsUnwelcome}
 use Rattle.repo_session.specs.Openings.{IsWork, IsStart, IsUnlock}
 use Rattle.repo_session.specs.Order.{Task, May}
 use Rattle.repo_session.specs.Rolls.{IsRolled}
@@ -117,15 +116,6 @@ rows_are_listing names read rows es all rolled h = record {
   names = h.named ∙ take_all read names all ∙ sym rolled.listed;
   each = h.each;
 }
-
--- a reply to the request for an object that has no bytes
-pub unwelcome_object : (k : Kind) (n : Name) (say : Say) → ((x : List ℕ) → say ≢ Say.Bytes x) → IsUnwelcome (Ask.Get k n) say
-unwelcome_object k n (Say.Token token) h = λ x. x
-unwelcome_object k n Say.Done h = λ x. x
-unwelcome_object k n (Say.Names more names) h = λ x. x
-unwelcome_object k n (Say.Bytes x) h = absurd (h x refl)
-unwelcome_object k n (Say.LockList rows) h = λ x. x
-unwelcome_object k n (Say.Refused code) h = tt
 
 -- the object that is asked for is the roll's next
 pub no_bytes : (names : List Name) (read : ℕ) (n : Name) (say : Say) → slice_get names read ≡ Some n → (slice_get names read ≡ None) ⊎ ((x : List ℕ) → say ≢ Say.Bytes x) → (x : List ℕ) → say ≢ Say.Bytes x

@@ -13,7 +13,8 @@ use Rattle.repo_session.specs.Openings.{IsWork}
 use Rattle.repo_session.specs.Order.{Task}
 use Rattle.repo_session.specs.Traces.{Trace}
 use Rattle.repo_restore.specs.ListStates.{KnowsList, IsListTask, FitsList}
-use Rattle.repo_restore.proofs.Rows.{knows_at_end, no_bytes, unwelcome_object, on_ok}
+use Rattle.repo_session.proofs.Receiving.{unwelcome_get}
+use Rattle.repo_restore.proofs.Rows.{knows_at_end, no_bytes, on_ok}
 use Rattle.repo_restore.proofs.listings.SnapshotList.take_object.Goals as goal
 
 said_live : (x : List ℕ) (say : Say) → say ≡ Say.Bytes x → say ≢ Say.Refused Code.Dead
@@ -71,7 +72,7 @@ returns-in-Unwelcome-clause-ok c = λ kind m r es p q f.
     record {
       task = subst T (sym c.turn_away.ensures.kept.task) f.task;
       of_kind = f.of_kind;
-      fits = c.turn_away.ensures.fits r es p (subst W (sym q) tt) (subst U (sym q) (unwelcome_object kind m say (no_bytes l.roll.names.items l.roll.read m say k.3 c.in-Unwelcome.ensures))) f.fits;
+      fits = c.turn_away.ensures.fits r es p (subst W (sym q) tt) (subst U (sym q) (unwelcome_get kind m say (no_bytes l.roll.names.items l.roll.read m say k.3 c.in-Unwelcome.ensures))) f.fits;
       settled = left.settled;
       knows = λ s t. knows_at_end _ _ _ s.ask _ (left.next s t);
     }
