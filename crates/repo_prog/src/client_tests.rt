@@ -1,85 +1,21 @@
-//! The clients' commands, over stored replies.
+//! The commands that ask a server for one thing at a time, over stored replies.
 
 use crate::callers::Caller;
+use crate::command_tests::words_run;
+use crate::fixtures::{CALLER, Run, Shut};
 use crate::locking::{locks_command, refresh_command, unlock_command};
-use crate::status::Status;
+use crate::replies::{Slow, frames};
 use repo_name::{Instance, LockRow, LockRows, Text, Token};
-use repo_wire::{Code, Reply, Say, write_reply};
+use repo_wire::{Code, Say};
 use std::alloc::{AllocError, Global};
-use std::io;
-use std::io::{Read, Write};
+use std::net::TcpListener;
 use std::test::Fail;
 
-const CALLER: Caller = Caller {
-    instance: Instance([1; 16]),
-    time: 5,
-};
-
-/// The same one at a later moment.
+/// The caller at a later moment.
 const LATER: Caller = Caller {
     instance: Instance([1; 16]),
     time: 10_000,
 };
-
-/// The frames of the replies to requests numbered from 1 on.
-pub fn frames(alloc: Global, says: Vec<Say>) -> Result<Vec<u8>, AllocError> {
-    let mut frames = Vec::new(alloc);
-    let mut sequence = 0u64;
-    for say in says {
-        sequence = sequence.saturating_add(1);
-        let reply = Reply {
-            instance: CALLER.instance,
-            sequence,
-            say,
-        };
-        if reply.fits() {
-            write_reply(&reply, &mut frames)?;
-        }
-    }
-    Ok(frames)
-}
-
-/// Gives one byte at a read.
-#[derive(Drop)]
-pub struct Slow<'a> {
-    pub left: &'a [u8],
-}
-
-impl Read for Slow<'_> {
-    fn read(&mut self, buf: &mut [u8]) -> io::Result<usize> {
-        match (self.left, buf) {
-            ([first, rest @ ..], [place, ..]) => {
-                *place = *first;
-                self.left = rest;
-                Ok(1)
-            }
-            _ => Ok(0),
-        }
-    }
-}
-
-/// Can't be written to.
-#[derive(Drop)]
-struct Shut;
-
-impl Write for Shut {
-    fn write(&mut self, _buf: &[u8]) -> io::Result<usize> {
-        Err(io::Error::from(io::ErrorKind::BrokenPipe))
-    }
-
-    fn flush(&mut self) -> io::Result<()> {
-        Ok(())
-    }
-}
-
-/// What a command gave: its status, what it sent, its output and its faults.
-#[derive(Drop)]
-struct Run {
-    status: Status,
-    sent: Vec<u8>,
-    output: Vec<u8>,
-    faults: Vec<u8>,
-}
 
 /// Which command is run.
 #[derive(Clone, Copy)]
@@ -92,21 +28,15 @@ enum Asks {
 /// Runs one of the commands over these bytes.
 fn ran(alloc: Global, asks: &Asks, replies: &[u8]) -> Run {
     let mut reader = Slow { left: replies };
-    let mut sent = Vec::new(alloc);
-    let (mut output, mut faults) = (Vec::new(alloc), Vec::new(alloc));
-    let (o, f) = (&mut output, &mut faults);
-    let (r, w) = (&mut reader, &mut sent);
-    let status = match asks {
+    let mut run = Run::new(alloc);
+    let (o, f) = (&mut run.output, &mut run.faults);
+    let (r, w) = (&mut reader, &mut run.sent);
+    run.status = match asks {
         Asks::Locks => locks_command(alloc, &CALLER, r, w, o, f),
         Asks::Refresh => refresh_command(alloc, &CALLER, Token(7), r, w, o, f),
         Asks::Unlock(all) => unlock_command(alloc, &LATER, *all, r, w, o, f),
     };
-    Run {
-        status,
-        sent,
-        output,
-        faults,
-    }
+    run
 }
 
 /// The frame of one reply.
@@ -121,39 +51,54 @@ const LISTED: &str =
 
 const LIST: &str = "0000001905010101010101010101010101010101010000000000000001";
 
+/// What a command tells over these bytes.
+fn told(alloc: Global, asks: &Asks, replies: &[u8]) -> Result<String, AllocError> {
+    ran(alloc, asks, replies).told(alloc)
+}
+
 // One live lock: token 1, exclusive, time 5, host `a`.
 #[test]
 fn live_locks_are_listed(rt: HostRuntime) -> Result<(), Fail> {
     let alloc = rt.alloc();
     let reply = hex::decode(alloc, LISTED)?;
     let run = ran(alloc, &Asks::Locks, reply.as_slice());
-    assert_eq!(rt; run.status, Status::Done);
-    assert_eq!(rt; run.output.as_slice(), b"1 exclusive 5 a\n".as_slice());
-    assert!(rt; run.faults.is_empty());
+    assert_eq!(rt; run.told(alloc)?.as_str(), "0|1 exclusive 5 a\n|");
     assert_eq!(rt; run.sent.as_slice(), hex::decode(alloc, LIST)?.as_slice());
-    let mut output = Vec::new(alloc);
-    let mut faults = Vec::new(alloc);
-    let status = locks_command(
+    let two = removals(alloc, Vec::new(alloc))?;
+    let shared = told(alloc, &Asks::Locks, two.as_slice())?;
+    assert_eq!(rt; shared.as_str(), "0|1 shared 8200 a\n2 shared 8199 a\n|");
+    Ok(())
+}
+
+#[test]
+fn locks_that_cannot_be_asked_for_or_shown(rt: HostRuntime) -> Result<(), Fail> {
+    let alloc = rt.alloc();
+    let reply = hex::decode(alloc, LISTED)?;
+    let (mut input, mut again) = (reply.as_slice(), reply.as_slice());
+    let (mut taken, mut faults) = (Vec::new(alloc), Vec::new(alloc));
+    let unsent = locks_command(
         alloc,
         &CALLER,
-        &mut reply.as_slice(),
+        &mut input,
         &mut Shut,
-        &mut output,
+        &mut taken,
         &mut faults,
     );
-    assert_eq!(rt; status, Status::Failed);
-    assert_eq!(rt; faults.as_slice(), b"write failed\n".as_slice());
-    faults.clear();
-    let status = locks_command(
+    assert_eq!(rt; unsent.code(), 1);
+    assert!(rt; taken.is_empty());
+    let unshown = locks_command(
         alloc,
         &CALLER,
-        &mut reply.as_slice(),
-        &mut output,
+        &mut again,
+        &mut taken,
         &mut Shut,
         &mut faults,
     );
-    assert_eq!(rt; status, Status::Failed);
-    assert_eq!(rt; faults.as_slice(), b"write failed\n".as_slice());
+    assert_eq!(rt; unshown.code(), 1);
+    assert_eq!(rt;
+        faults.as_slice(),
+        b"write failed\nwrite failed\n".as_slice()
+    );
     Ok(())
 }
 
@@ -161,39 +106,40 @@ fn live_locks_are_listed(rt: HostRuntime) -> Result<(), Fail> {
 fn a_lock_is_refreshed(rt: HostRuntime) -> Result<(), Fail> {
     let alloc = rt.alloc();
     let run = ran(alloc, &Asks::Refresh, alone(alloc, Say::Done)?.as_slice());
-    assert_eq!(rt; run.status, Status::Done);
-    assert_eq!(rt; run.output.as_slice(), b"refreshed\n".as_slice());
+    assert_eq!(rt; run.told(alloc)?.as_str(), "0|refreshed\n|");
     let asked =
         "000000290301010101010101010101010101010101000000000000000100000000000000070000000000000005";
     assert_eq!(rt; run.sent.as_slice(), hex::decode(alloc, asked)?.as_slice());
     Ok(())
 }
 
-/// What ends each of these commands in the same way: replies, and the text.
-#[test]
-fn answers_that_are_none(rt: HostRuntime) -> Result<(), Fail> {
-    let alloc = rt.alloc();
+/// Whether each of these commands tells the same over these bytes.
+fn all_tell(alloc: Global, replies: &[u8], text: &str) -> Result<bool, AllocError> {
     for asks in [
         Asks::Locks,
         Asks::Refresh,
         Asks::Unlock(false),
         Asks::Unlock(true),
     ] {
-        let refused = alone(alloc, Say::Refused(Code::Fault))?;
-        let other = alone(alloc, Say::Token(Token(1)))?;
-        for (replies, text) in [
-            (refused.as_slice(), "refused 10\n"),
-            (other.as_slice(), "badreply\n"),
-            ([].as_slice(), "read failed\n"),
-            ([0, 0, 0, 25, 130].as_slice(), "read failed\n"),
-            ([0, 0, 0, 24].as_slice(), "malformed\n"),
-        ] {
-            let run = ran(alloc, &asks, replies);
-            assert_eq!(rt; run.status, Status::Failed, "of {text}");
-            assert_eq!(rt; run.faults.as_slice(), text.as_bytes());
-            assert!(rt; run.output.is_empty());
+        if told(alloc, &asks, replies)?.as_str() != text {
+            return Ok(false);
         }
     }
+    Ok(true)
+}
+
+#[test]
+fn answers_that_are_none(rt: HostRuntime) -> Result<(), Fail> {
+    let alloc = rt.alloc();
+    let refused = alone(alloc, Say::Refused(Code::Fault))?;
+    assert!(rt; all_tell(alloc, refused.as_slice(), "1||refused 10\n")?);
+    let dead = alone(alloc, Say::Refused(Code::Dead))?;
+    assert!(rt; all_tell(alloc, dead.as_slice(), "1||refused 2\n")?);
+    let other = alone(alloc, Say::Token(Token(1)))?;
+    assert!(rt; all_tell(alloc, other.as_slice(), "1||badreply\n")?);
+    assert!(rt; all_tell(alloc, [].as_slice(), "1||read failed\n")?);
+    assert!(rt; all_tell(alloc, [0, 0, 0, 25, 130].as_slice(), "1||read failed\n")?);
+    assert!(rt; all_tell(alloc, [0, 0, 0, 24].as_slice(), "1||malformed\n")?);
     Ok(())
 }
 
@@ -223,20 +169,32 @@ fn removals(alloc: Global, says: Vec<Say>) -> Result<Vec<u8>, AllocError> {
 fn locks_are_removed_and_told_one_by_one(rt: HostRuntime) -> Result<(), Fail> {
     let alloc = rt.alloc();
     let one = removals(alloc, vec![in alloc; Say::Done]?)?;
-    let run = ran(alloc, &Asks::Unlock(false), one.as_slice());
-    assert_eq!(rt; run.status, Status::Done);
-    assert_eq!(rt; run.output.as_slice(), b"removed 2\n".as_slice());
-    let both = removals(alloc, vec![in alloc; Say::Done, Say::Done]?)?;
-    let run = ran(alloc, &Asks::Unlock(true), both.as_slice());
-    assert_eq!(rt; run.status, Status::Done);
-    assert_eq!(rt; run.output.as_slice(), b"removed 1\nremoved 2\n".as_slice());
+    let stale = told(alloc, &Asks::Unlock(false), one.as_slice())?;
+    assert_eq!(rt; stale.as_str(), "0|removed 2\n|");
+    let two = removals(alloc, vec![in alloc; Say::Done, Say::Done]?)?;
+    let both = told(alloc, &Asks::Unlock(true), two.as_slice())?;
+    assert_eq!(rt; both.as_str(), "0|removed 1\nremoved 2\n|");
+    Ok(())
+}
+
+#[test]
+fn a_removal_that_fails_ends_it(rt: HostRuntime) -> Result<(), Fail> {
+    let alloc = rt.alloc();
     let broken = removals(alloc, vec![in alloc; Say::Done, Say::Refused(Code::Fault)]?)?;
-    let run = ran(alloc, &Asks::Unlock(true), broken.as_slice());
-    assert_eq!(rt; run.status, Status::Failed);
-    assert_eq!(rt; run.output.as_slice(), b"removed 1\n".as_slice());
-    assert_eq!(rt; run.faults.as_slice(), b"refused 10\n".as_slice());
-    let run = ran(alloc, &Asks::Unlock(true), one.as_slice());
-    assert_eq!(rt; run.output.as_slice(), b"removed 1\n".as_slice());
-    assert_eq!(rt; run.faults.as_slice(), b"read failed\n".as_slice());
+    let refused = told(alloc, &Asks::Unlock(true), broken.as_slice())?;
+    assert_eq!(rt; refused.as_str(), "1|removed 1\n|refused 10\n");
+    let one = removals(alloc, vec![in alloc; Say::Done]?)?;
+    let cut = told(alloc, &Asks::Unlock(true), one.as_slice())?;
+    assert_eq!(rt; cut.as_str(), "1|removed 1\n|read failed\n");
+    Ok(())
+}
+
+#[test]
+fn an_address_at_which_nobody_listens(rt: HostRuntime) -> Result<(), Fail> {
+    let free = TcpListener::bind(&rt, "127.0.0.1:0")?;
+    let words = format!(in rt.alloc(); "vault locks {}", free.local_addr()?)?;
+    drop(free);
+    let ended = words_run(rt, words.as_str())?.told(rt.alloc())?;
+    assert_eq!(rt; ended.as_str(), "1||not reached\n");
     Ok(())
 }

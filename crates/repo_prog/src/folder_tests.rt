@@ -1,39 +1,16 @@
 //! A folder that is scanned, stored in a store on disk, and restored into another.
 
+use crate::fixtures::{below, fresh, kept, small_config};
 use repo_backup::Backup;
-use repo_chunk::Params;
 use repo_files::{DirShelf, Restorer, ScanError, scan};
 use repo_name::{Instance, Name};
 use repo_restore::Restore;
 use repo_session::{Client, Emission, Outcome, Who, lockstep};
 use repo_store::{Shelf, init};
-use repo_tree::{Config, Entry, EntryKind};
+use repo_tree::{Entry, EntryKind};
 use std::alloc::{AllocError, Global};
 use std::test::Fail;
-use std::{env, fs, io};
-
-/// What a call gives whose error fails the test.
-fn kept<T: Drop, E: Drop>(answer: Result<T, E>) -> Result<T, AllocError> {
-    match answer {
-        Ok(value) => Ok(value),
-        Err(_) => Err(AllocError),
-    }
-}
-
-/// A folder of this test's own, which isn't there yet.
-fn fresh(rt: HostRuntime, test: &str) -> io::Result<String> {
-    let mut path = String::from_str(rt.alloc(), env::temp_dir(&rt)?.as_str())?;
-    path.push_str("/jibrekt-")?;
-    path.push_str(test)?;
-    if fs::exists(&rt, path.as_str())? {
-        fs::remove_dir_all(&rt, path.as_str())?;
-    }
-    Ok(path)
-}
-
-fn below(alloc: Global, folder: &str, path: &str) -> Result<String, AllocError> {
-    format!(in alloc; "{folder}/{path}")
-}
+use std::{fs, io};
 
 /// Directories, deep ones and empty ones.
 const FOLDERS: [&str; 6] = ["a", "a/b", "a/b/c d", "a/b/c d/e", "empty", "Grüße"];
@@ -133,12 +110,7 @@ fn a_folder_stored_and_restored_is_the_same(rt: HostRuntime) -> Result<(), Fail>
     let (from, to) = (fresh(rt, "folder-from")?, fresh(rt, "folder-to")?);
     let root = fresh(rt, "folder-store")?;
     make(rt, from.as_str())?;
-    let config = Config {
-        version: 1,
-        id: Instance([0; 16]),
-        params: kept(Params::new(64, 128, 6))?,
-        target: 1024,
-    };
+    let config = small_config(Instance([0; 16]))?;
     let mut shelf = DirShelf::create(rt, root.as_str())?;
     kept(init(alloc, &mut shelf, &config))?;
     let (entries, wanted) = held(rt, from.as_str())?;

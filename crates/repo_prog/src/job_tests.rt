@@ -1,182 +1,164 @@
-//! The commands that bring a job to its end, over stored replies.
+//! The jobs of backups and of lists, over stored replies.
 
 use crate::backing::{backup_entries, backup_found};
-use crate::callers::Caller;
-use crate::client_tests::{Slow, frames};
-use crate::restoring::{restore_into, snapshots_command};
-use crate::status::Status;
+use crate::fixtures::{CALLER, Run, Shut};
+use crate::replies::{Slow, TREE, bytes, frames, granted, name_text, names, opened, snapshot};
+use crate::restoring::snapshots_command;
 use repo_files::{Scan, Skipped};
-use repo_name::{Bytes, Instance, Name, Names, Text, Token, name_of};
-use repo_session::Emission;
+use repo_name::{Text, Token, name_of};
 use repo_tree::{Entry, EntryKind, Path};
 use repo_wire::{Code, Say};
 use std::alloc::{AllocError, Global};
 use std::test::Fail;
 
-const CALLER: Caller = Caller {
-    instance: Instance([1; 16]),
-    time: 5,
-};
-
-const CONFIG: &str =
-    r#"{"chunk_bits":6,"chunk_max":128,"chunk_min":64,"id":"00000000000000000000000000000000","pack_target":1024,"version":1}"#;
-
 const OTHER_CONFIG: &str =
     r#"{"chunk_bits":6,"chunk_max":128,"chunk_min":64,"id":"00000000000000000000000000000000","pack_target":1024,"version":9}"#;
 
-/// The empty tree, of 12 bytes.
-const TREE: &str = r#"{"nodes":[]}"#;
-
-fn bytes(alloc: Global, text: &str) -> Result<Say, AllocError> {
-    Ok(Say::Bytes(Bytes::of(text.as_bytes().to_vec(alloc)?)))
-}
-
-fn names(alloc: Global, names: &[Name]) -> Result<Say, AllocError> {
-    Ok(Say::Names {
-        more: false,
-        names: Names::of(names.to_vec(alloc)?),
-    })
-}
-
-/// The replies of a store to the start of a job: a token, the lock, the config.
-fn opened(alloc: Global) -> Result<Vec<Say>, AllocError> {
-    let mut says = Vec::new(alloc);
-    says.push(Say::Token(Token(1)))?;
-    says.push(Say::Done)?;
-    says.push(bytes(alloc, CONFIG)?)?;
-    Ok(says)
-}
-
-/// The snapshot of the empty tree by host `a` at moment 5, under token 1.
-fn snapshot(alloc: Global) -> Result<String, AllocError> {
-    let tree = name_of(TREE.as_bytes()).to_hex(alloc)?;
-    format!(in alloc; "{{\"host\":\"a\",\"time\":5,\"token\":1,\"tree\":\"{tree}\",\"version\":1}}")
-}
-
-fn name_text(alloc: Global, text: &str) -> Result<String, AllocError> {
-    name_of(text.as_bytes()).to_hex(alloc)
-}
-
-/// A status, what was written on the output, and what of faults.
-#[derive(Drop)]
-struct Run {
-    status: Status,
-    output: Vec<u8>,
-    faults: Vec<u8>,
-}
-
-/// A backup of these entries, over the replies.
-fn backed_up(alloc: Global, entries: Vec<Entry>, says: Vec<Say>) -> Result<Run, AllocError> {
+/// A backup of what a scan found, over the replies: what it told.
+fn found_backed_up(alloc: Global, found: Scan, says: Vec<Say>) -> Result<String, AllocError> {
     let replies = frames(alloc, says)?;
-    let mut reader = Slow {
-        left: replies.as_slice(),
-    };
-    let mut sent = Vec::new(alloc);
-    let (mut output, mut faults) = (Vec::new(alloc), Vec::new(alloc));
-    let status = backup_entries(
-        alloc,
-        &CALLER,
-        "a",
-        entries,
-        &mut reader,
-        &mut sent,
-        &mut output,
-        &mut faults,
-    );
-    Ok(Run {
-        status,
-        output,
-        faults,
-    })
-}
-
-/// The replies to a backup of nothing: no index is there; the pack, the index, the snapshot and the unlock are done.
-fn kept(alloc: Global) -> Result<Vec<Say>, AllocError> {
-    let mut says = opened(alloc)?;
-    says.push(names(alloc, &[])?)?;
-    for turn in 0..4 {
-        says.push(Say::Done)?;
-    }
-    Ok(says)
-}
-
-#[test]
-fn a_backup_tells_the_snapshots_name(rt: HostRuntime) -> Result<(), Fail> {
-    let alloc = rt.alloc();
-    let run = backed_up(alloc, Vec::new(alloc), kept(alloc)?)?;
-    assert_eq!(rt; run.status, Status::Done);
-    assert!(rt; run.faults.is_empty());
-    let name = name_text(alloc, snapshot(alloc)?.as_str())?;
-    let line = format!(in alloc; "stored {name} 1 12\n")?;
-    assert_eq!(rt; run.output.as_slice(), line.as_str().as_bytes());
-    Ok(())
-}
-
-#[test]
-fn a_backup_of_all_but_some_is_flawed(rt: HostRuntime) -> Result<(), Fail> {
-    let alloc = rt.alloc();
-    let mut skipped = Vec::new(alloc);
-    skipped.push(Skipped::Other(String::from_str(alloc, "p/link")?))?;
-    skipped.push(Skipped::Unnamed(String::from_str(alloc, "p/d")?))?;
-    let found = Scan {
-        entries: Vec::new(alloc),
-        skipped,
-    };
-    let replies = frames(alloc, kept(alloc)?)?;
-    let mut sent = Vec::new(alloc);
-    let (mut output, mut faults) = (Vec::new(alloc), Vec::new(alloc));
-    let status = backup_found(
+    let mut run = Run::new(alloc);
+    run.status = backup_found(
         alloc,
         &CALLER,
         "a",
         found,
         &mut replies.as_slice(),
-        &mut sent,
-        &mut output,
-        &mut faults,
+        &mut run.sent,
+        &mut run.output,
+        &mut run.faults,
     );
-    assert_eq!(rt; status, Status::Flawed);
-    assert_eq!(rt; status.code(), 3);
-    assert_eq!(rt;
-        faults.as_slice(),
-        b"skipped p/link\nskipped an entry in p/d\n".as_slice()
+    run.told(alloc)
+}
+
+/// A backup of these entries, over the replies, which come byte by byte: what it told.
+fn backed_up(alloc: Global, entries: Vec<Entry>, says: Vec<Say>) -> Result<String, AllocError> {
+    let replies = frames(alloc, says)?;
+    let mut reader = Slow {
+        left: replies.as_slice(),
+    };
+    let mut run = Run::new(alloc);
+    run.status = backup_entries(
+        alloc,
+        &CALLER,
+        "a",
+        entries,
+        &mut reader,
+        &mut run.sent,
+        &mut run.output,
+        &mut run.faults,
     );
-    assert!(rt; output.starts_with(b"stored "));
+    run.told(alloc)
+}
+
+/// The line of a backup that stored the empty tree and nothing else.
+fn stored(alloc: Global) -> Result<String, AllocError> {
+    let name = name_text(alloc, snapshot(alloc, TREE)?.as_str())?;
+    format!(in alloc; "stored {name} 1 12\n")
+}
+
+// Done are the pack, the index, the snapshot and the unlock.
+#[test]
+fn a_backup_tells_the_snapshots_name(rt: HostRuntime) -> Result<(), Fail> {
+    let alloc = rt.alloc();
+    let told = backed_up(alloc, Vec::new(alloc), granted(alloc, 4)?)?;
+    let wanted = format!(in alloc; "0|{}|", stored(alloc)?)?;
+    assert_eq!(rt; told.as_str(), wanted.as_str());
     Ok(())
 }
 
-/// Replies that end a backup before it stored, and the text.
+/// A scan that found nothing, and left two entries out.
+fn skipping(alloc: Global) -> Result<Scan, AllocError> {
+    let mut skipped = Vec::new(alloc);
+    skipped.push(Skipped::Other(String::from_str(alloc, "p/link")?))?;
+    skipped.push(Skipped::Unnamed(String::from_str(alloc, "p/d")?))?;
+    Ok(Scan {
+        entries: Vec::new(alloc),
+        skipped,
+    })
+}
+
 #[test]
-fn ends_of_backups(rt: HostRuntime) -> Result<(), Fail> {
+fn a_backup_of_all_but_some_is_flawed(rt: HostRuntime) -> Result<(), Fail> {
     let alloc = rt.alloc();
-    let token = Say::Token(Token(1));
-    let mut fenced = opened(alloc)?;
-    fenced.push(Say::Refused(Code::Dead))?;
-    let mut full = opened(alloc)?;
-    full.push(names(alloc, &[])?)?;
+    let told = found_backed_up(alloc, skipping(alloc)?, granted(alloc, 4)?)?;
+    let wanted = format!(in alloc;
+        "3|{}|skipped p/link\nskipped an entry in p/d\n",
+        stored(alloc)?
+    )?;
+    assert_eq!(rt; told.as_str(), wanted.as_str());
+    Ok(())
+}
+
+#[test]
+fn a_backup_that_skips_and_does_not_store_has_failed(rt: HostRuntime) -> Result<(), Fail> {
+    let alloc = rt.alloc();
+    let busy = vec![in alloc; Say::Token(Token(1)), Say::Refused(Code::Busy)]?;
+    let told = found_backed_up(alloc, skipping(alloc)?, busy)?;
+    let wanted = "1||skipped p/link\nskipped an entry in p/d\nbusy\n";
+    assert_eq!(rt; told.as_str(), wanted);
+    Ok(())
+}
+
+/// What a backup of nothing tells over the replies that open a job, and this one.
+fn told_at(alloc: Global, say: Say) -> Result<String, AllocError> {
+    let mut says = opened(alloc)?;
+    says.push(say)?;
+    says.push(Say::Done)?;
+    backed_up(alloc, Vec::new(alloc), says)
+}
+
+/// What a backup of nothing tells that is given a token, a lock, and this for the config.
+fn told_config(alloc: Global, say: Say) -> Result<String, AllocError> {
+    let says = vec![in alloc; Say::Token(Token(1)), Say::Done, say, Say::Done]?;
+    backed_up(alloc, Vec::new(alloc), says)
+}
+
+/// What a backup of nothing tells over just these replies.
+fn told_over(alloc: Global, says: Vec<Say>) -> Result<String, AllocError> {
+    backed_up(alloc, Vec::new(alloc), says)
+}
+
+#[test]
+fn backups_that_are_not_let_in(rt: HostRuntime) -> Result<(), Fail> {
+    let alloc = rt.alloc();
+    let busy = vec![in alloc; Say::Token(Token(1)), Say::Refused(Code::Busy)]?;
+    assert_eq!(rt;
+        told_over(alloc, Vec::new(alloc))?.as_str(),
+        "1||read failed\n"
+    );
+    assert_eq!(rt;
+        told_over(alloc, vec![in alloc; Say::Done]?)?.as_str(),
+        "1||badreply\n"
+    );
+    assert_eq!(rt; told_over(alloc, busy)?.as_str(), "1||busy\n");
+    Ok(())
+}
+
+// Code 5 is that of what isn't there: the folder that is served is no store.
+#[test]
+fn backups_that_get_no_config(rt: HostRuntime) -> Result<(), Fail> {
+    let alloc = rt.alloc();
+    let other = bytes(alloc, OTHER_CONFIG)?;
+    assert_eq!(rt; told_config(alloc, other)?.as_str(), "1||version\n");
+    assert_eq!(rt;
+        told_config(alloc, bytes(alloc, TREE)?)?.as_str(),
+        "1||badreply\n"
+    );
+    let none = Say::Refused(Code::Missing);
+    assert_eq!(rt; told_config(alloc, none)?.as_str(), "1||refused 5\n");
+    Ok(())
+}
+
+#[test]
+fn backups_that_are_refused_later(rt: HostRuntime) -> Result<(), Fail> {
+    let alloc = rt.alloc();
+    let dead = Say::Refused(Code::Dead);
+    assert_eq!(rt; told_at(alloc, dead)?.as_str(), "1||fenced\n");
+    let mut full = granted(alloc, 0)?;
     full.push(Say::Refused(Code::Fault))?;
     full.push(Say::Done)?;
-    for (says, text) in [
-        (Vec::new(alloc), "read failed\n"),
-        (vec![in alloc; Say::Done]?, "badreply\n"),
-        (vec![in alloc; token, Say::Refused(Code::Busy)]?, "busy\n"),
-        (fenced, "fenced\n"),
-        (full, "refused 10\n"),
-        (
-            vec![in alloc;
-                Say::Token(Token(1)),
-                Say::Done,
-                bytes(alloc, OTHER_CONFIG)?,
-                Say::Done,
-            ]?,
-            "version\n",
-        ),
-    ] {
-        let run = backed_up(alloc, Vec::new(alloc), says)?;
-        assert_eq!(rt; run.status, Status::Failed, "of {text}");
-        assert_eq!(rt; run.faults.as_slice(), text.as_bytes(), "of {text}");
-        assert!(rt; run.output.is_empty(), "of {text}");
-    }
+    assert_eq!(rt; told_over(alloc, full)?.as_str(), "1||refused 10\n");
     Ok(())
 }
 
@@ -200,111 +182,118 @@ fn nested(alloc: Global, depth: usize) -> Result<Vec<Entry>, AllocError> {
 #[test]
 fn a_folder_that_is_too_deep_is_refused(rt: HostRuntime) -> Result<(), Fail> {
     let alloc = rt.alloc();
-    let run = backed_up(alloc, nested(alloc, 101)?, Vec::new(alloc))?;
-    assert_eq!(rt; run.status, Status::Failed);
-    assert_eq!(rt; run.faults.as_slice(), b"start refused 3\n".as_slice());
+    let told = backed_up(alloc, nested(alloc, 101)?, Vec::new(alloc))?;
+    assert_eq!(rt; told.as_str(), "1||start refused 3\n");
     Ok(())
+}
+
+/// Empty directories beside one another, so many, whose names have 255 bytes.
+fn crowd(alloc: Global, count: u64) -> Result<Vec<Entry>, AllocError> {
+    let mut entries = Vec::new(alloc);
+    for number in 0..count {
+        let name = Text::of(format!(in alloc; "{number:0255}")?);
+        entries.push(Entry {
+            path: Path::of(vec![in alloc; name]?),
+            what: EntryKind::Dir,
+        })?;
+    }
+    Ok(entries)
+}
+
+// A node takes 9 + 255 + 13 + 64 + 14 bytes and a comma, so 8,388,608 bytes hold 23,563 of them at most.
+#[test]
+fn a_folder_with_too_many_names_is_refused(rt: HostRuntime) -> Result<(), Fail> {
+    let alloc = rt.alloc();
+    let told = backed_up(alloc, crowd(alloc, 23_564)?, granted(alloc, 1)?)?;
+    assert_eq!(rt; told.as_str(), "1||directory too large\n");
+    Ok(())
+}
+
+/// A list of the snapshots over these bytes: what it told.
+fn listed(alloc: Global, replies: &[u8]) -> Result<String, AllocError> {
+    let mut run = Run::new(alloc);
+    run.status = snapshots_command(
+        alloc,
+        &CALLER,
+        &mut Slow { left: replies },
+        &mut run.sent,
+        &mut run.output,
+        &mut run.faults,
+    );
+    run.told(alloc)
+}
+
+/// The replies to a list of one snapshot, which has these bytes.
+fn one_snapshot(alloc: Global, text: &str) -> Result<Vec<u8>, AllocError> {
+    let mut says = opened(alloc)?;
+    says.push(names(alloc, &[name_of(text.as_bytes())])?)?;
+    says.push(bytes(alloc, text)?)?;
+    says.push(Say::Done)?;
+    frames(alloc, says)
 }
 
 #[test]
 fn snapshots_are_listed(rt: HostRuntime) -> Result<(), Fail> {
     let alloc = rt.alloc();
-    let text = snapshot(alloc)?;
-    let name = name_of(text.as_bytes());
-    let mut says = opened(alloc)?;
-    says.push(names(alloc, &[name])?)?;
-    says.push(bytes(alloc, text.as_str())?)?;
-    says.push(Say::Done)?;
-    let replies = frames(alloc, says)?;
-    let mut sent = Vec::new(alloc);
-    let (mut output, mut faults) = (Vec::new(alloc), Vec::new(alloc));
-    let mut input = replies.as_slice();
-    let status = snapshots_command(
-        alloc,
-        &CALLER,
-        &mut input,
-        &mut sent,
-        &mut output,
-        &mut faults,
+    let text = snapshot(alloc, TREE)?;
+    let replies = one_snapshot(alloc, text.as_str())?;
+    let name = name_text(alloc, text.as_str())?;
+    let wanted = format!(in alloc; "0|{name} 5 a\n|")?;
+    assert_eq!(rt;
+        listed(alloc, replies.as_slice())?.as_str(),
+        wanted.as_str()
     );
-    assert_eq!(rt; status, Status::Done);
-    let digits = name.to_hex(alloc)?;
-    let line = format!(in alloc; "{digits} 5 a\n")?;
-    assert_eq!(rt; output.as_slice(), line.as_str().as_bytes());
-    output.clear();
-    let mut input = [].as_slice();
-    let status = snapshots_command(
-        alloc,
-        &CALLER,
-        &mut input,
-        &mut sent,
-        &mut output,
-        &mut faults,
-    );
-    assert_eq!(rt; status, Status::Failed);
-    assert_eq!(rt; faults.as_slice(), b"read failed\n".as_slice());
-    assert!(rt; output.is_empty());
     Ok(())
 }
 
-/// A restore over these replies, whose sink takes everything.
-fn restored(alloc: Global, name: Name, says: Vec<Say>) -> Result<Run, AllocError> {
-    let replies = frames(alloc, says)?;
-    let mut sent = Vec::new(alloc);
-    let (mut output, mut faults) = (Vec::new(alloc), Vec::new(alloc));
-    let status = restore_into(
-        alloc,
-        &CALLER,
-        name,
-        |_: &Emission| true,
-        &mut replies.as_slice(),
-        &mut sent,
-        &mut output,
-        &mut faults,
-    );
-    Ok(Run {
-        status,
-        output,
-        faults,
-    })
-}
+/// A snapshot of the empty tree, as a later program may write it.
+const LATER_SNAPSHOT: &str =
+    r#"{"host":"a","time":5,"token":1,"tree":"e3b0c44298fc1c149afbf4c8996fb92427ae41e4649b934ca495991b7852b855","version":9}"#;
 
 #[test]
-fn a_snapshot_is_restored(rt: HostRuntime) -> Result<(), Fail> {
+fn lists_that_are_none(rt: HostRuntime) -> Result<(), Fail> {
     let alloc = rt.alloc();
-    let text = snapshot(alloc)?;
-    let name = name_of(text.as_bytes());
-    let tree = name_text(alloc, TREE)?;
-    let index = format!(in alloc;
-        "{{\"packs\":[{{\"blobs\":[{{\"id\":\"{tree}\",\"length\":12,\"offset\":0,\"type\":\"tree\"}}],\"id\":\"{tree}\"}}]}}"
-    )?;
-    let mut says = opened(alloc)?;
-    says.push(bytes(alloc, text.as_str())?)?;
-    says.push(names(alloc, &[name_of(index.as_bytes())])?)?;
-    says.push(bytes(alloc, index.as_str())?)?;
-    says.push(bytes(alloc, TREE)?)?;
-    says.push(Say::Done)?;
-    let run = restored(alloc, name, says)?;
-    assert_eq!(rt; run.status, Status::Done);
-    assert_eq!(rt; run.output.as_slice(), b"complete 0\n".as_slice());
-    assert!(rt; run.faults.is_empty());
+    assert_eq!(rt; listed(alloc, [].as_slice())?.as_str(), "1||read failed\n");
+    let cut = [0, 0, 0, 24];
+    assert_eq!(rt; listed(alloc, cut.as_slice())?.as_str(), "1||malformed\n");
+    let later = one_snapshot(alloc, LATER_SNAPSHOT)?;
+    assert_eq!(rt; listed(alloc, later.as_slice())?.as_str(), "1||version\n");
+    let other = one_snapshot(alloc, TREE)?;
+    assert_eq!(rt;
+        listed(alloc, other.as_slice())?.as_str(),
+        "1||bad snapshot\n"
+    );
     Ok(())
 }
 
 #[test]
-fn a_snapshot_that_is_not_there(rt: HostRuntime) -> Result<(), Fail> {
+fn a_list_that_cannot_be_sent_or_shown(rt: HostRuntime) -> Result<(), Fail> {
     let alloc = rt.alloc();
-    let name = Name([7; 32]);
-    let mut says = opened(alloc)?;
-    says.push(Say::Refused(Code::Missing))?;
-    says.push(Say::Done)?;
-    let run = restored(alloc, name, says)?;
-    assert_eq!(rt; run.status, Status::Failed);
-    assert_eq!(rt; run.faults.as_slice(), b"missing snapshot\n".as_slice());
-    let mut says = opened(alloc)?;
-    says.push(bytes(alloc, TREE)?)?;
-    says.push(Say::Done)?;
-    let run = restored(alloc, name, says)?;
-    assert_eq!(rt; run.faults.as_slice(), b"bad snapshot\n".as_slice());
+    let replies = one_snapshot(alloc, snapshot(alloc, TREE)?.as_str())?;
+    let (mut input, mut again) = (replies.as_slice(), replies.as_slice());
+    let (mut taken, mut faults) = (Vec::new(alloc), Vec::new(alloc));
+    let unsent = snapshots_command(
+        alloc,
+        &CALLER,
+        &mut input,
+        &mut Shut,
+        &mut taken,
+        &mut faults,
+    );
+    assert_eq!(rt; unsent.code(), 1);
+    assert!(rt; taken.is_empty());
+    let unshown = snapshots_command(
+        alloc,
+        &CALLER,
+        &mut again,
+        &mut taken,
+        &mut Shut,
+        &mut faults,
+    );
+    assert_eq!(rt; unshown.code(), 1);
+    assert_eq!(rt;
+        faults.as_slice(),
+        b"write failed\nwrite failed\n".as_slice()
+    );
     Ok(())
 }

@@ -28,6 +28,10 @@ mod connecting;
 mod errands;
 mod errors;
 #[cfg(test)]
+mod fixtures;
+#[cfg(test)]
+mod folder_command_tests;
+#[cfg(test)]
 mod folder_tests;
 mod frames_engine;
 mod help;
@@ -37,7 +41,13 @@ mod listening;
 mod locking;
 mod making;
 mod output;
+#[cfg(test)]
+mod replies;
+#[cfg(test)]
+mod restore_tests;
 mod restoring;
+#[cfg(test)]
+mod serving_tests;
 mod status;
 mod talks;
 mod telling;

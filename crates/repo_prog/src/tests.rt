@@ -93,20 +93,25 @@ fn given(alloc: Global, text: &str) -> Result<(Result<u64, FramesError>, Vec<u8>
     Ok((ended, output))
 }
 
-#[test]
-fn tickets_locks_and_dead_tokens(rt: HostRuntime) -> Result<(), Fail> {
-    let alloc = rt.alloc();
-    let mut asked = String::new(alloc);
-    let mut wanted = String::new(alloc);
-    for (request, reply) in TALK {
+/// The lines of requests, and those of their replies.
+fn lines(alloc: Global, talk: &[(&str, &str)]) -> Result<(String, String), AllocError> {
+    let (mut asked, mut wanted) = (String::new(alloc), String::new(alloc));
+    for pair in talk {
+        let (request, reply) = *pair;
         asked.push_str(request)?;
         asked.push('\n')?;
         wanted.push_str(reply)?;
         wanted.push('\n')?;
     }
-    let (ended, output) = given(alloc, asked.as_str())?;
-    assert_eq!(rt; ended, Ok(TALK.len() as u64));
-    assert_eq!(rt; output.as_slice(), wanted.as_str().as_bytes());
+    Ok((asked, wanted))
+}
+
+#[test]
+fn tickets_locks_and_dead_tokens(rt: HostRuntime) -> Result<(), Fail> {
+    let (asked, wanted) = lines(rt.alloc(), &TALK)?;
+    let (ended, output) = given(rt.alloc(), asked.as_str())?;
+    assert_eq!(rt; ended, Ok(16));
+    assert_eq!(rt; output.as_slice(), wanted.as_bytes());
     Ok(())
 }
 
@@ -354,18 +359,10 @@ const STORED: [(&str, &str); 9] = [
 
 #[test]
 fn an_object_put_is_given_back(rt: HostRuntime) -> Result<(), Fail> {
-    let alloc = rt.alloc();
-    let mut asked = String::new(alloc);
-    let mut wanted = String::new(alloc);
-    for (request, reply) in STORED {
-        asked.push_str(request)?;
-        asked.push('\n')?;
-        wanted.push_str(reply)?;
-        wanted.push('\n')?;
-    }
-    let (ended, output) = given(alloc, asked.as_str())?;
-    assert_eq!(rt; ended, Ok(STORED.len() as u64));
-    assert_eq!(rt; output.as_slice(), wanted.as_str().as_bytes());
+    let (asked, wanted) = lines(rt.alloc(), &STORED)?;
+    let (ended, output) = given(rt.alloc(), asked.as_str())?;
+    assert_eq!(rt; ended, Ok(9));
+    assert_eq!(rt; output.as_slice(), wanted.as_bytes());
     Ok(())
 }
 
