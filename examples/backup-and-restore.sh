@@ -7,25 +7,8 @@
 set -euo pipefail
 folder=
 [ $# -eq 0 ] || folder=$(cd "$1" && pwd)
-cd "$(dirname "$0")/../crates/vault"
-address=127.0.0.1:${PORT:-7071}
-work=$(mktemp -d)
-server=
-end() {
-    [ -z "$server" ] || kill "$server" 2>/dev/null || true
-    rm -rf "$work"
-}
-trap end EXIT
-
-# Waits until the server says that it listens.
-listening() {
-    for _ in $(seq 100); do
-        grep -qs listening "$work/server" && return
-        sleep 0.1
-    done
-    echo "the server doesn't listen:" "$(cat "$work/server")" >&2
-    return 1
-}
+# shellcheck source=examples/serving.sh
+source "$(dirname "$0")/serving.sh" "${PORT:-7071}"
 
 if [ -z "$folder" ]; then
     folder=$work/photos
@@ -37,15 +20,9 @@ if [ -z "$folder" ]; then
     head -c 3000000 /dev/urandom >"$folder/large"
 fi
 
-echo "== build (the first time this proves all of it)"
-rt run -- --version >"$work/built" 2>&1 || { cat "$work/built" >&2; exit 1; }
-vault=$PWD/out/vault
-
 echo "== vault init"
 "$vault" init "$work/store"
-"$vault" serve "$work/store" "$address" --connections 4 >"$work/server" 2>&1 &
-server=$!
-listening
+serve 4
 
 echo "== vault backup $address laptop $folder"
 stored=$("$vault" backup "$address" laptop "$folder") || [ $? -eq 3 ]

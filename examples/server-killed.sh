@@ -5,37 +5,13 @@
 # Usage: examples/server-killed.sh. The port is 7072, or PORT. All that it makes lies in a temporary folder,
 # which is removed at the end.
 set -euo pipefail
-cd "$(dirname "$0")/../crates/vault"
-address=127.0.0.1:${PORT:-7072}
-work=$(mktemp -d)
-server=
-end() {
-    [ -z "$server" ] || kill "$server" 2>/dev/null || true
-    rm -rf "$work"
-}
-trap end EXIT
-
-# Serves the store, for as many connections as wanted, and waits until the server listens.
-serve() {
-    : >"$work/server"
-    "$vault" serve "$work/store" "$address" --connections "$1" >"$work/server" 2>&1 &
-    server=$!
-    for _ in $(seq 100); do
-        grep -qs listening "$work/server" && return
-        sleep 0.1
-    done
-    echo "the server doesn't listen:" "$(cat "$work/server")" >&2
-    return 1
-}
+# shellcheck source=examples/serving.sh
+source "$(dirname "$0")/serving.sh" "${PORT:-7072}"
 
 # How many packs are in the store.
 packs() {
     find "$work/store/data" -type f | wc -l
 }
-
-echo "== build (the first time this proves all of it)"
-rt run -- --version >"$work/built" 2>&1 || { cat "$work/built" >&2; exit 1; }
-vault=$PWD/out/vault
 
 mkdir -p "$work/laptop/letters" "$work/desktop/films"
 head -c 20000000 /dev/urandom >"$work/laptop/letters/all"
