@@ -2,7 +2,7 @@
 
 use crate::fixtures::{CALLER, Run};
 use crate::replies::{
-    FILE_TREE, TREE, bytes, frames, index, indexed, item, one_file, opened, snapshot,
+    FILE_TREE, TREE, bytes, frames, index, indexed, item, names, one_file, opened, snapshot,
 };
 use crate::restoring::restore_into;
 use repo_name::name_of;
@@ -81,6 +81,26 @@ fn a_snapshot_that_is_not_there(rt: HostRuntime) -> Result<(), Fail> {
     Ok(())
 }
 
+/// What a restore tells that is given this for its one index.
+fn told_index(alloc: Global, say: Say) -> Result<String, AllocError> {
+    let mut says = opened(alloc)?;
+    says.push(bytes(alloc, snapshot(alloc, TREE)?.as_str())?)?;
+    says.push(names(alloc, &[name_of(b"index")])?)?;
+    says.push(say)?;
+    says.push(Say::Done)?;
+    restored(alloc, TREE, says, true)
+}
+
+#[test]
+fn an_index_that_is_not_there(rt: HostRuntime) -> Result<(), Fail> {
+    let alloc = rt.alloc();
+    let missing = told_index(alloc, Say::Refused(Code::Missing))?;
+    assert_eq!(rt; missing.as_str(), "1||missing index\n");
+    let bad = told_index(alloc, bytes(alloc, "index")?)?;
+    assert_eq!(rt; bad.as_str(), "1||bad index\n");
+    Ok(())
+}
+
 /// What a restore of a tree tells that is given this index and, for the tree, this.
 fn told_tree(alloc: Global, tree: &str, index: &str, say: Say) -> Result<String, AllocError> {
     let mut says = indexed(alloc, tree, index)?;
@@ -102,10 +122,8 @@ fn blobs_in_no_index(rt: HostRuntime) -> Result<(), Fail> {
 }
 
 #[test]
-fn objects_that_are_bad(rt: HostRuntime) -> Result<(), Fail> {
+fn blobs_that_are_bad(rt: HostRuntime) -> Result<(), Fail> {
     let alloc = rt.alloc();
-    let index = told_tree(alloc, TREE, TREE, Say::Done)?;
-    assert_eq!(rt; index.as_str(), "1||bad index\n");
     let place = tree_index(alloc, TREE)?;
     let tree = told_tree(alloc, TREE, place.as_str(), bytes(alloc, "another tree")?)?;
     assert_eq!(rt; tree.as_str(), "1||bad tree\n");
