@@ -19,40 +19,20 @@
 
 mod backing;
 mod callers;
-#[cfg(test)]
-mod client_tests;
-#[cfg(test)]
-mod command_tests;
 mod commands;
 mod connecting;
 mod errands;
 mod errors;
-#[cfg(test)]
-mod fixtures;
-#[cfg(test)]
-mod folder_command_tests;
-#[cfg(test)]
-mod folder_tests;
 mod frames_engine;
 mod help;
-#[cfg(test)]
-mod job_tests;
 mod listening;
 mod locking;
 mod making;
 mod output;
-#[cfg(test)]
-mod replies;
-#[cfg(test)]
-mod restore_tests;
 mod restoring;
-#[cfg(test)]
-mod serving_tests;
 mod status;
 mod talks;
 mod telling;
-#[cfg(test)]
-mod tests;
 mod words;
 
 pub use backing::{backup_command, backup_entries, backup_found};

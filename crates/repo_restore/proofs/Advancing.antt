@@ -25,7 +25,7 @@ use Rattle.repo_session.specs.declared.outcomes.End.{End}
 use Rattle.repo_session.specs.declared.outcomes.Outcome.{Outcome}
 use Rattle.repo_session.specs.Ends.{IsBad, IsBadBlob, Concludes, IsUnwelcome, blob_thing}
 use Rattle.repo_session.specs.Openings.{IsWork, IsStart, IsUnlock}
-use Rattle.repo_session.specs.Order.{Task, May, opened}
+use Rattle.repo_session.specs.Order.{Task, IsWorking as Works, May, opened}
 use Rattle.repo_session.specs.Traces.{Each, Exchange, Trace, emitted_in, page_names, is_last_page, object_got, ReadFact, IsGiven}
 use Rattle.repo_session.proofs.Cataloguing.{catalog_fresh, catalog_on}
 use Rattle.repo_session.proofs.Receiving.{all_read}

@@ -1,11 +1,9 @@
 //! Stores that are made and served: the commands on a folder, and on a socket.
 
-use crate::command_tests::{TICKET, TOKEN, words_run};
+use crate::commands::{TICKET, TOKEN, words_run};
 use crate::fixtures::{Run, Shut, below, fresh, small_config};
-use crate::listening::{serve_connections, serve_folder};
-use crate::making::init_command;
-use crate::status::Status;
 use repo_name::Instance;
+use repo_prog::{Status, init_command, serve_connections, serve_folder};
 use repo_store::{FaultShelf, MemShelf, Shelf};
 use std::alloc::{AllocError, Global};
 use std::io::{Read, Write};

@@ -1,9 +1,6 @@
 //! The engine and the commands on whole inputs.
 
-use crate::commands::frames_command;
-use crate::errors::FramesError;
-use crate::frames_engine::frames;
-use crate::status::Status;
+use repo_prog::{FramesError, Status, frames, frames_command};
 use repo_wire::Fault;
 use std::alloc::{AllocError, Global};
 use std::io;

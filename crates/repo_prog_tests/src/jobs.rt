@@ -1,11 +1,10 @@
 //! The jobs of backups and of lists, over stored replies.
 
-use crate::backing::{backup_entries, backup_found};
 use crate::fixtures::{CALLER, Run, Shut};
 use crate::replies::{Slow, TREE, bytes, frames, granted, name_text, names, opened, snapshot};
-use crate::restoring::snapshots_command;
 use repo_files::{Scan, Skipped};
 use repo_name::{Text, Token, name_of};
+use repo_prog::{backup_entries, backup_found, snapshots_command};
 use repo_tree::{Entry, EntryKind, Path};
 use repo_wire::{Code, Say};
 use std::alloc::{AllocError, Global};

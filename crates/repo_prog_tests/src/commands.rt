@@ -1,12 +1,11 @@
 //! The words of the command line.
 
-use crate::commands::run;
-use crate::errors::FramesError;
 use crate::fixtures::Run;
-use crate::status::{Status, failed, refuse_words};
+use repo_prog::{FramesError, Status, refuse_words, run};
 use repo_session::DriveError;
 use repo_store::{InitError, ServeError};
-use std::alloc::AllocError;
+use std::alloc::{AllocError, Global};
+use std::fmt;
 use std::test::Fail;
 
 // A ticket with sequence 1, and its reply.
@@ -172,41 +171,59 @@ fn hosts(rt: HostRuntime) -> Result<(), Fail> {
     Ok(())
 }
 
+/// The lines of some errors.
+fn lines<E: fmt::Display>(alloc: Global, errors: &[E]) -> Result<String, AllocError> {
+    let mut lines = String::new(alloc);
+    for error in errors {
+        let line = format!(in alloc; "{error}\n")?;
+        lines.push_str(line.as_str())?;
+    }
+    Ok(lines)
+}
+
 #[test]
-fn texts_of_errors(rt: HostRuntime) {
-    let mut faults = Vec::new(rt.alloc());
-    for error in [ServeError::Read, ServeError::Write, ServeError::Malformed] {
-        assert_eq!(rt; failed(&mut faults, &error), Status::Failed);
-    }
-    for error in [ServeError::Limit, ServeError::Memory] {
-        assert_eq!(rt; failed(&mut faults, &error), Status::Failed);
-    }
-    for error in [
+fn texts_of_errors(rt: HostRuntime) -> Result<(), Fail> {
+    let serving = [
+        ServeError::Read,
+        ServeError::Write,
+        ServeError::Malformed,
+        ServeError::Limit,
+        ServeError::Memory,
+    ];
+    let told = lines(rt.alloc(), &serving)?;
+    assert_eq!(rt;
+        told.as_str(),
+        "read failed\nwrite failed\nmalformed\nlimit\nout of memory\n"
+    );
+    let framing = [
         FramesError::Read,
         FramesError::Write,
         FramesError::Limit,
         FramesError::Memory,
-    ] {
-        assert_eq!(rt; failed(&mut faults, &error), Status::Failed);
-    }
-    for error in [InitError::Exists, InitError::Fault, InitError::Memory] {
-        assert_eq!(rt; failed(&mut faults, &error), Status::Failed);
-    }
-    let texts = "read failed\nwrite failed\nmalformed\nlimit\nout of memory\n\
-                 read failed\nwrite failed\nlimit\nout of memory\n\
-                 exists\nshelf failed\nout of memory\n";
-    assert_eq!(rt; faults.as_slice(), texts.as_bytes());
+    ];
+    let told = lines(rt.alloc(), &framing)?;
+    assert_eq!(rt;
+        told.as_str(),
+        "read failed\nwrite failed\nlimit\nout of memory\n"
+    );
+    let making = [InitError::Exists, InitError::Fault, InitError::Memory];
+    let told = lines(rt.alloc(), &making)?;
+    assert_eq!(rt; told.as_str(), "exists\nshelf failed\nout of memory\n");
+    Ok(())
 }
 
 #[test]
-fn texts_of_drivers_errors(rt: HostRuntime) {
-    let mut faults = Vec::new(rt.alloc());
-    for error in [DriveError::Read, DriveError::Write, DriveError::Malformed] {
-        assert_eq!(rt; failed(&mut faults, &error), Status::Failed);
-    }
-    for error in [DriveError::Limit, DriveError::Memory, DriveError::Sink] {
-        assert_eq!(rt; failed(&mut faults, &error), Status::Failed);
-    }
+fn texts_of_drivers_errors(rt: HostRuntime) -> Result<(), Fail> {
+    let driving = [
+        DriveError::Read,
+        DriveError::Write,
+        DriveError::Malformed,
+        DriveError::Limit,
+        DriveError::Memory,
+        DriveError::Sink,
+    ];
+    let told = lines(rt.alloc(), &driving)?;
     let texts = "read failed\nwrite failed\nmalformed\nlimit\nout of memory\nstopped\n";
-    assert_eq!(rt; faults.as_slice(), texts.as_bytes());
+    assert_eq!(rt; told.as_str(), texts);
+    Ok(())
 }

@@ -1,11 +1,10 @@
 //! The commands that ask a server for one thing at a time, over stored replies.
 
-use crate::callers::Caller;
-use crate::command_tests::words_run;
+use crate::commands::words_run;
 use crate::fixtures::{CALLER, Run, Shut};
-use crate::locking::{locks_command, refresh_command, unlock_command};
 use crate::replies::{Slow, frames};
 use repo_name::{Instance, LockRow, LockRows, Text, Token};
+use repo_prog::{Caller, locks_command, refresh_command, unlock_command};
 use repo_wire::{Code, Say};
 use std::alloc::{AllocError, Global};
 use std::net::TcpListener;

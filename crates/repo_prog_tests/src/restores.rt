@@ -4,8 +4,8 @@ use crate::fixtures::{CALLER, Run};
 use crate::replies::{
     FILE_TREE, TREE, bytes, frames, index, indexed, item, names, one_file, opened, snapshot,
 };
-use crate::restoring::restore_into;
 use repo_name::name_of;
+use repo_prog::restore_into;
 use repo_session::Emission;
 use repo_wire::{Code, Say};
 use std::alloc::{AllocError, Global};

@@ -1,13 +1,12 @@
 //! The commands of backups and restores on real folders, over stored replies.
 
-use crate::backing::backup_command;
-use crate::command_tests::words_run;
+use crate::commands::words_run;
 use crate::fixtures::{CALLER, Run, below, fresh};
 use crate::replies::{
     FILE_TREE, TREE, bytes, frames, granted, index, indexed, item, name_text, one_file, snapshot,
 };
-use crate::restoring::restore_command;
 use repo_name::name_of;
+use repo_prog::{backup_command, restore_command};
 use std::alloc::{AllocError, Global};
 use std::io::Read;
 use std::net::TcpListener;

@@ -3,10 +3,9 @@
 ghost use Rattle.std.specs.Prelude.{◌≡◌, IfOk};
 ghost use Rattle.repo_tree.specs.ConfigText.{IsTarget};
 
-use crate::callers::Caller;
-use crate::status::Status;
 use repo_chunk::Params;
 use repo_name::Instance;
+use repo_prog::{Caller, Status};
 use repo_tree::Config;
 use std::alloc::{AllocError, Global};
 use std::io::Write;
