@@ -20,7 +20,7 @@ vault=$PWD/out/vault
 
 # So many bytes that look random, the same for the same seed.
 random_bytes() {
-    openssl enc -aes-256-ctr -nosalt -pbkdf2 -pass "pass:$1" -in /dev/zero 2>/dev/null | head -c "$2"
+    { openssl enc -aes-256-ctr -nosalt -pbkdf2 -pass "pass:$1" -in /dev/zero 2>/dev/null || true; } | head -c "$2"
 }
 
 # Times a command, in FILE: wall seconds, its processor seconds in user and system mode, and KiB resident at most.
