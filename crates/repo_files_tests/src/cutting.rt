@@ -56,7 +56,7 @@ pub struct Fuse {
 
 impl Fuse {
     /// So many calls are passed on.
-    pub fn new(alloc: Global, left: u64) -> Fuse {
+    pub(crate) fn new(alloc: Global, left: u64) -> Fuse {
         Fuse {
             trick: Trick::None,
             left: Cell::new(left),
@@ -66,7 +66,7 @@ impl Fuse {
     }
 
     /// All calls are passed on, by a file system that plays a trick.
-    pub fn playing(alloc: Global, trick: Trick) -> Fuse {
+    pub(crate) fn playing(alloc: Global, trick: Trick) -> Fuse {
         Fuse {
             trick,
             left: Cell::new(u64::MAX),
@@ -94,7 +94,7 @@ impl Fuse {
     }
 
     /// The calls since the last time.
-    pub fn steps(&self) -> Vec<Step> {
+    pub(crate) fn steps(&self) -> Vec<Step> {
         let none = Vec::new(self.alloc);
         match self.steps.try_borrow_mut() {
             Ok(mut steps) => mem::replace(&mut steps, none),
@@ -112,7 +112,7 @@ pub struct Cut<'a, R> {
 
 impl<'a, R> Cut<'a, R> {
     /// This file system, until the fuse has burnt down.
-    pub fn new(inner: R, fuse: &'a Fuse) -> Cut<'a, R> {
+    pub(crate) fn new(inner: R, fuse: &'a Fuse) -> Cut<'a, R> {
         Cut { inner, fuse }
     }
 }

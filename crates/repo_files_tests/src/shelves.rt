@@ -9,7 +9,7 @@ use std::test::Fail;
 use std::{env, fs, io};
 
 /// A folder of this test's own, which isn't there yet.
-pub fn folder(rt: HostRuntime, test: &str) -> io::Result<String> {
+pub(crate) fn folder(rt: HostRuntime, test: &str) -> io::Result<String> {
     let mut path = String::from_str(rt.alloc(), env::temp_dir(&rt)?.as_str())?;
     path.push_str("/jibrekt-")?;
     path.push_str(test)?;
@@ -20,7 +20,7 @@ pub fn folder(rt: HostRuntime, test: &str) -> io::Result<String> {
 }
 
 /// The path of a file in a folder.
-pub fn below(alloc: Global, folder: &str, file: &str) -> Result<String, AllocError> {
+pub(crate) fn below(alloc: Global, folder: &str, file: &str) -> Result<String, AllocError> {
     let mut path = String::from_str(alloc, folder)?;
     path.push('/')?;
     path.push_str(file)?;

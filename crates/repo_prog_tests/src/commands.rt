@@ -15,7 +15,7 @@ pub const TOKEN: &str =
     "00000021810101010101010101010101010101010100000000000000010000000000000001";
 
 /// Runs the program with these words, which have spaces between them, on the ticket as its input.
-pub fn words_run(rt: HostRuntime, words: &str) -> Result<Run, AllocError> {
+pub(crate) fn words_run(rt: HostRuntime, words: &str) -> Result<Run, AllocError> {
     let alloc = rt.alloc();
     let mut given = Vec::new(alloc);
     for word in words.split(' ') {

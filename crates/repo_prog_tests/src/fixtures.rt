@@ -27,7 +27,7 @@ pub struct Run {
 
 impl Run {
     /// A run that gave nothing yet.
-    pub fn new(alloc: Global) -> Run {
+    pub(crate) fn new(alloc: Global) -> Run {
         Run {
             status: Status::Done,
             sent: Vec::new(alloc),
@@ -37,7 +37,7 @@ impl Run {
     }
 
     /// The exit status, the output and the faults, with `|` between them.
-    pub fn told(&self, alloc: Global) -> Result<String, AllocError> {
+    pub(crate) fn told(&self, alloc: Global) -> Result<String, AllocError> {
         let code = self.status.code();
         let output = text_of(self.output.as_slice());
         let faults = text_of(self.faults.as_slice());
@@ -64,7 +64,7 @@ impl Write for Shut {
 }
 
 /// What a call gives whose error fails the test.
-pub fn kept<T: Drop, E: Drop>(answer: Result<T, E>) -> Result<T, AllocError> {
+pub(crate) fn kept<T: Drop, E: Drop>(answer: Result<T, E>) -> Result<T, AllocError> {
     match answer {
         Ok(value) => Ok(value),
         Err(_) => Err(AllocError),
@@ -72,7 +72,7 @@ pub fn kept<T: Drop, E: Drop>(answer: Result<T, E>) -> Result<T, AllocError> {
 }
 
 /// The config of a store of small chunks and packs.
-pub fn small_config(id: Instance) -> Result<Config, AllocError>
+pub(crate) fn small_config(id: Instance) -> Result<Config, AllocError>
     ensures version { IfOk result (λ config. config.version ≡ 1) }
     ensures target { IfOk result (λ config. IsTarget config.target) }
 {
@@ -86,7 +86,7 @@ pub fn small_config(id: Instance) -> Result<Config, AllocError>
 }
 
 /// The path of a folder of a test's own, which isn't there yet. No other crate's tests use it.
-pub fn fresh(rt: HostRuntime, test: &str) -> io::Result<String> {
+pub(crate) fn fresh(rt: HostRuntime, test: &str) -> io::Result<String> {
     let mut path = String::from_str(rt.alloc(), env::temp_dir(&rt)?.as_str())?;
     path.push_str("/jibrekt-prog-")?;
     path.push_str(test)?;
@@ -97,6 +97,6 @@ pub fn fresh(rt: HostRuntime, test: &str) -> io::Result<String> {
 }
 
 /// A path below a folder.
-pub fn below(alloc: Global, folder: &str, path: &str) -> Result<String, AllocError> {
+pub(crate) fn below(alloc: Global, folder: &str, path: &str) -> Result<String, AllocError> {
     format!(in alloc; "{folder}/{path}")
 }
