@@ -48,7 +48,7 @@ void *realloc(void *block, size_t size) {
 C
 
 program=$PWD/out/$1_tests
-for test in $("$program" --list | grep -o '[a-z_:]*refused_growth'); do
+for test in $("$program" --list | grep -o '[a-z_:]*refused_growth[a-z_]*'); do
     for at in $(seq "$most"); do
         rm -f "$work/refused"
         if ! REFUSE=$at REFUSED=$work/refused LD_PRELOAD=$work/refuse.so "$program" "$test" >"$work/told" 2>&1; then
