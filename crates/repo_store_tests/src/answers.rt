@@ -26,6 +26,16 @@ fn lock(alloc: Global, token: u64, exclusive: bool) -> Result<Ask, AllocError>
     }))
 }
 
+/// The row of a shared lock of a token, at the time 5 by the host `a`.
+pub(crate) fn row(alloc: Global, token: u64) -> Result<LockRow, AllocError> {
+    Ok(LockRow {
+        token: Token(token),
+        exclusive: false,
+        time: 5,
+        host: one_letter(alloc)?,
+    })
+}
+
 fn one_letter(alloc: Global) -> Result<Text, AllocError>
     ensures { IfOk result IsHost }
 {
@@ -33,7 +43,7 @@ fn one_letter(alloc: Global) -> Result<Text, AllocError>
 }
 
 /// What a shelf's store says to what is asked.
-fn said<S: Shelf>(alloc: Global, shelf: &mut S, ask: Ask) -> Say
+pub(crate) fn said<S: Shelf>(alloc: Global, shelf: &mut S, ask: Ask) -> Say
     requires { IsAnswerable ask }
 {
     let instance = Instance([7; 16]);
@@ -57,7 +67,7 @@ fn says<S: Shelf>(alloc: Global, shelf: &mut S, ask: Ask, wanted: Say) -> bool
 }
 
 /// Some bytes in a payload.
-fn bytes_of(alloc: Global, bytes: &[u8]) -> Result<Bytes, AllocError> {
+pub(crate) fn bytes_of(alloc: Global, bytes: &[u8]) -> Result<Bytes, AllocError> {
     Ok(Bytes::of(bytes.to_vec(alloc)?))
 }
 
@@ -76,7 +86,7 @@ fn put(alloc: Global, token: u64, kind: Kind, name: Name, bytes: &[u8]) -> Resul
 }
 
 /// A page of names.
-fn page(alloc: Global, names: &[Name], more: bool) -> Result<Say, AllocError> {
+pub(crate) fn page(alloc: Global, names: &[Name], more: bool) -> Result<Say, AllocError> {
     Ok(Say::Names {
         more,
         names: Names::of(names.to_vec(alloc)?),
@@ -110,14 +120,8 @@ fn locks_and_dead_tokens(rt: HostRuntime) -> Result<(), TestFail> {
     assert!(rt; says(alloc, &mut shelf, Ask::Unlock(Token(1)), Say::Done));
     let again = lock(alloc, 1, false)?;
     assert!(rt; says(alloc, &mut shelf, again, Say::Refused(Code::Dead)));
-    let row = LockRow {
-        token: Token(2),
-        exclusive: false,
-        time: 5,
-        host: one_letter(alloc)?,
-    };
     let mut rows = Vec::new(alloc);
-    rows.push(row)?;
+    rows.push(row(alloc, 2)?)?;
     let listed = Say::LockList(LockRows::of(rows));
     assert!(rt; says(alloc, &mut shelf, Ask::Locks, listed));
     assert_eq!(rt; shelf.failures(), 0);
@@ -345,7 +349,7 @@ fn a_reply_repeats_instance_and_sequence(rt: HostRuntime) {
 }
 
 /// What is asked in the table of failures, by its number.
-fn asked(alloc: Global, number: u64) -> Result<Ask, AllocError>
+pub(crate) fn asked(alloc: Global, number: u64) -> Result<Ask, AllocError>
     ensures { IfOk result (λ ask. IsAnswerable ask) }
 {
     let (token, kind, name) = (Token(1), Kind::Pack, name_of(b"abc"));
@@ -486,20 +490,21 @@ fn a_shelf_that_can_fail_answers(rt: HostRuntime) -> Result<(), TestFail> {
     Ok(())
 }
 
+/// A config of small chunks and packs.
+pub(crate) fn config_of() -> Result<Config, TestFail> {
+    Ok(Config {
+        version: 1,
+        id: Instance([0; 16]),
+        params: Params::new(64, 128, 6)?,
+        target: 1024,
+    })
+}
+
 #[test]
 fn a_config_is_kept_once(rt: HostRuntime) -> Result<(), TestFail> {
     let alloc = rt.alloc();
     let mut shelf = MemShelf::new(alloc);
-    let Ok(params) = Params::new(64, 128, 6) else {
-        assert!(rt; false, "these are lawful");
-        return Ok(());
-    };
-    let config = Config {
-        version: 1,
-        id: Instance([0; 16]),
-        params,
-        target: 1024,
-    };
+    let config = config_of()?;
     assert_eq!(rt; init(alloc, &mut shelf, &config), Ok(()));
     assert_eq!(rt; init(alloc, &mut shelf, &config), Err(InitError::Exists));
     let text = "{\"chunk_bits\":6,\"chunk_max\":128,\"chunk_min\":64,\
@@ -507,20 +512,4 @@ fn a_config_is_kept_once(rt: HostRuntime) -> Result<(), TestFail> {
     let given = Say::Bytes(bytes_of(alloc, text.as_bytes())?);
     assert!(rt; says(alloc, &mut shelf, Ask::Config, given));
     Ok(())
-}
-
-// Run by a script with each allocation refused in turn: the answer is then the refusal for memory, nothing
-// changed, and the same request succeeds afterwards.
-#[test]
-fn refused_growth(rt: HostRuntime) {
-    let alloc = rt.alloc();
-    let mut shelf = MemShelf::new(alloc);
-    for _ in 0..3 {
-        let say = said(alloc, &mut shelf, Ask::Ticket);
-        if say != Say::Token(Token(1)) {
-            assert_eq!(rt; say, Say::Refused(Code::NoMemory));
-            assert!(rt; says(alloc, &mut shelf, Ask::Ticket, Say::Token(Token(1))));
-        }
-        shelf = MemShelf::new(alloc);
-    }
 }

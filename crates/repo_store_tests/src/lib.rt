@@ -6,4 +6,6 @@
 #[cfg(test)]
 mod answers;
 #[cfg(test)]
+mod growth;
+#[cfg(test)]
 mod serving;
