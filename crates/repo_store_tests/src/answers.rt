@@ -1,8 +1,9 @@
 //! Answers over shelves in memory, some of which fail as they are told.
 
-ghost use Rattle.std.specs.Prelude.{IfOk};
+ghost use Rattle.std.specs.Prelude.{◌≡◌, IfOk};
 ghost use Rattle.repo_name.specs.Rows.{IsHost};
 ghost use Rattle.repo_store.specs.StoreMachine.{IsAnswerable};
+ghost use Rattle.repo_tree.specs.ConfigText.{IsTarget};
 
 use repo_chunk::Params;
 use repo_name::{Bytes, Instance, Kind, LockRow, LockRows, Name, Names, Text, Token, name_of};
@@ -491,20 +492,23 @@ fn a_shelf_that_can_fail_answers(rt: HostRuntime) -> Result<(), TestFail> {
 }
 
 /// A config of small chunks and packs.
-pub(crate) fn config_of() -> Result<Config, TestFail> {
-    Ok(Config {
+pub(crate) fn config_of(params: Params) -> Config
+    ensures version { result.version ≡ 1 }
+    ensures target { IsTarget result.target }
+{
+    Config {
         version: 1,
         id: Instance([0; 16]),
-        params: Params::new(64, 128, 6)?,
+        params,
         target: 1024,
-    })
+    }
 }
 
 #[test]
 fn a_config_is_kept_once(rt: HostRuntime) -> Result<(), TestFail> {
     let alloc = rt.alloc();
     let mut shelf = MemShelf::new(alloc);
-    let config = config_of()?;
+    let config = config_of(Params::new(64, 128, 6)?);
     assert_eq!(rt; init(alloc, &mut shelf, &config), Ok(()));
     assert_eq!(rt; init(alloc, &mut shelf, &config), Err(InitError::Exists));
     let text = "{\"chunk_bits\":6,\"chunk_max\":128,\"chunk_min\":64,\

@@ -5,6 +5,7 @@ ghost use Rattle.std.specs.Prelude.{IfOk};
 ghost use Rattle.repo_store.specs.StoreMachine.{IsAnswerable};
 
 use crate::answers::{asked, bytes_of, config_of, page, row, said};
+use repo_chunk::Params;
 use repo_locks::Ledger;
 use repo_name::{Kind, LockRows, Token, name_of};
 use repo_store::{InitError, MemShelf, ServeError, Shelf, init, serve};
@@ -102,7 +103,7 @@ fn refused_growth_of_each_ask(rt: HostRuntime) -> Result<(), Fail> {
 fn refused_growth_of_a_new_store(rt: HostRuntime) -> Result<(), Fail> {
     let alloc = rt.alloc();
     let mut shelf = MemShelf::new(alloc);
-    let config = config_of()?;
+    let config = config_of(Params::new(64, 128, 6)?);
     if let Err(error) = init(alloc, &mut shelf, &config) {
         assert_eq!(rt; error, InitError::Memory);
         assert_eq!(rt; init(alloc, &mut shelf, &config), Ok(()));
