@@ -18,7 +18,7 @@ const LATER: Caller = Caller {
 
 /// Which command is run.
 #[derive(Clone, Copy)]
-enum Asks {
+pub enum Asks {
     Locks,
     Refresh,
     Unlock(bool),
@@ -39,19 +39,19 @@ fn ran(alloc: Global, asks: &Asks, replies: &[u8]) -> Run {
 }
 
 /// The frame of one reply.
-fn alone(alloc: Global, say: Say) -> Result<Vec<u8>, AllocError> {
+pub(crate) fn alone(alloc: Global, say: Say) -> Result<Vec<u8>, AllocError> {
     let mut says = Vec::new(alloc);
     says.push(say)?;
     frames(alloc, says)
 }
 
-const LISTED: &str =
+pub const LISTED: &str =
     "0000002e85010101010101010101010101010101010000000000000001000100000000000000010100000000000000050161";
 
 const LIST: &str = "0000001905010101010101010101010101010101010000000000000001";
 
 /// What a command tells over these bytes.
-fn told(alloc: Global, asks: &Asks, replies: &[u8]) -> Result<String, AllocError> {
+pub(crate) fn told(alloc: Global, asks: &Asks, replies: &[u8]) -> Result<String, AllocError> {
     ran(alloc, asks, replies).told(alloc)
 }
 

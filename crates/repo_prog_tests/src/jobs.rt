@@ -31,7 +31,11 @@ fn found_backed_up(alloc: Global, found: Scan, says: Vec<Say>) -> Result<String,
 }
 
 /// A backup of these entries, over the replies, which come byte by byte: what it told.
-fn backed_up(alloc: Global, entries: Vec<Entry>, says: Vec<Say>) -> Result<String, AllocError> {
+pub(crate) fn backed_up(
+    alloc: Global,
+    entries: Vec<Entry>,
+    says: Vec<Say>,
+) -> Result<String, AllocError> {
     let replies = frames(alloc, says)?;
     let mut reader = Slow {
         left: replies.as_slice(),
@@ -51,7 +55,7 @@ fn backed_up(alloc: Global, entries: Vec<Entry>, says: Vec<Say>) -> Result<Strin
 }
 
 /// The line of a backup that stored the empty tree and nothing else.
-fn stored(alloc: Global) -> Result<String, AllocError> {
+pub(crate) fn stored(alloc: Global) -> Result<String, AllocError> {
     let name = name_text(alloc, snapshot(alloc, TREE)?.as_str())?;
     format!(in alloc; "stored {name} 1 12\n")
 }

@@ -17,6 +17,8 @@ mod folders;
 #[cfg(test)]
 mod frames;
 #[cfg(test)]
+mod growth;
+#[cfg(test)]
 mod jobs;
 #[cfg(test)]
 mod replies;

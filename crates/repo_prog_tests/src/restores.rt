@@ -12,7 +12,12 @@ use std::alloc::{AllocError, Global};
 use std::test::Fail;
 
 /// A restore of the snapshot of a tree over these replies, whose sink takes all, or nothing: what it told.
-fn restored(alloc: Global, tree: &str, says: Vec<Say>, takes: bool) -> Result<String, AllocError> {
+pub(crate) fn restored(
+    alloc: Global,
+    tree: &str,
+    says: Vec<Say>,
+    takes: bool,
+) -> Result<String, AllocError> {
     let replies = frames(alloc, says)?;
     let name = name_of(snapshot(alloc, tree)?.as_bytes());
     let mut run = Run::new(alloc);
