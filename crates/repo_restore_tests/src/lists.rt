@@ -72,22 +72,18 @@ fn end_of(list: &SnapshotList) -> Option<End> {
     }
 }
 
-/// The list of a shelf with so many snapshots: whether it has as many rows, each of them the snapshot of its
-/// name, and rising.
-fn lists_all(alloc: Global, count: u64) -> Result<bool, AllocError> {
+/// A shelf with so many snapshots.
+fn shelf_of(alloc: Global, count: u64) -> Result<MemShelf, AllocError> {
     let mut shelf = new_shelf(alloc)?;
     for time in 0..count {
         let text = text_at(alloc, time)?;
         kept(shelf.put(Kind::Snapshot, &name_of(text.as_slice()), text.as_slice()))?;
     }
-    let mut list = new_list(alloc)?;
-    let mut out = Vec::new(alloc);
-    if lockstep(alloc, &mut list, &mut shelf, &mut out).is_err() {
-        return Ok(false);
-    }
-    let Some(rows) = rows_of(&list) else {
-        return Ok(false);
-    };
+    Ok(shelf)
+}
+
+/// Whether each row is the snapshot of its name, and they rise.
+fn are_rising(alloc: Global, rows: &[(Name, Snapshot)]) -> Result<bool, AllocError> {
     let mut last = None;
     for (name, snapshot) in rows {
         let text = text_at(alloc, snapshot.time)?;
@@ -96,7 +92,18 @@ fn lists_all(alloc: Global, count: u64) -> Result<bool, AllocError> {
         }
         last = Some(*name);
     }
-    Ok(rows.len() as u64 == count && out.is_empty())
+    Ok(true)
+}
+
+/// Whether the list of a shelf with so many snapshots has as many rows, each of them the snapshot of its name, and
+/// rising.
+fn lists_all(alloc: Global, count: u64) -> Result<bool, AllocError> {
+    let mut shelf = shelf_of(alloc, count)?;
+    let mut list = new_list(alloc)?;
+    let mut out = Vec::new(alloc);
+    kept(lockstep(alloc, &mut list, &mut shelf, &mut out))?;
+    let rows = rows_of(&list).unwrap_or(&[]);
+    Ok(rows.len() as u64 == count && out.is_empty() && are_rising(alloc, rows)?)
 }
 
 /// The payload of some bytes.
@@ -162,33 +169,33 @@ fn lists_of_no_one_and_many_snapshots(rt: HostRuntime) -> Result<(), Fail> {
     Ok(())
 }
 
-#[test]
-fn a_list_that_is_kept_out(rt: HostRuntime) -> Result<(), Fail> {
-    let alloc = rt.alloc();
+/// The replies to a ticket and a lock, with one of another sequence between them.
+fn busy(alloc: Global) -> Result<Vec<u8>, AllocError> {
     let mut says = Vec::new(alloc);
     says.push((1, Say::Token(Token(1))))?;
     says.push((9, Say::Done))?;
     says.push((2, Say::Refused(Code::Busy)))?;
-    let replies = frames(alloc, says)?;
+    frames(alloc, says)
+}
+
+// A ticket, and a shared lock under the token 1, at the time 5, by the host `a`.
+const ASKED: [u8; 77] = [
+    0, 0, 0, 0x19, 1, 1, 1, 1, 1, 1, 1, 1, 1, 1, 1, 1, 1, 1, 1, 1, 1, 0, 0, 0, 0, 0, 0, 0, 1, 0, 0,
+    0, 0x2c, 2, 1, 1, 1, 1, 1, 1, 1, 1, 1, 1, 1, 1, 1, 1, 1, 1, 0, 0, 0, 0, 0, 0, 0, 2, 0, 0, 0, 0,
+    0, 0, 0, 1, 0, 0, 0, 0, 0, 0, 0, 0, 5, 1, 0x61,
+];
+
+#[test]
+fn a_list_that_is_kept_out(rt: HostRuntime) -> Result<(), Fail> {
+    let alloc = rt.alloc();
+    let replies = busy(alloc)?;
     let mut list = new_list(alloc)?;
     let mut written = Vec::new(alloc);
-    let driven = drive(
-        alloc,
-        &mut list,
-        &mut replies.as_slice(),
-        &mut written,
-        |_| true,
-    );
+    let mut input = replies.as_slice();
+    let driven = drive(alloc, &mut list, &mut input, &mut written, |_| true);
     assert_eq!(rt; driven, Ok(2));
     assert_eq!(rt; end_of(&list), Some(End::Busy));
-    let mut wanted = Vec::new(alloc);
-    wanted.extend_from_slice(&[0, 0, 0, 0x19, 1])?;
-    wanted.extend_from_slice(&[1; 16])?;
-    wanted.extend_from_slice(&[0, 0, 0, 0, 0, 0, 0, 1, 0, 0, 0, 0x2c, 2])?;
-    wanted.extend_from_slice(&[1; 16])?;
-    wanted.extend_from_slice(&[0, 0, 0, 0, 0, 0, 0, 2, 0, 0, 0, 0, 0, 0, 0, 1])?;
-    wanted.extend_from_slice(&[0, 0, 0, 0, 0, 0, 0, 0, 5, 1, 0x61])?;
-    assert_eq!(rt; written.as_slice(), wanted.as_slice());
+    assert_eq!(rt; written.as_slice(), ASKED.as_slice());
     Ok(())
 }
 

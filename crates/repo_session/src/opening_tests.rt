@@ -93,47 +93,77 @@ fn a_job_is_opened_and_ended(rt: HostRuntime) -> Result<(), Fail> {
     Ok(())
 }
 
+/// What a page of one name brings to a roll.
+fn paged(
+    alloc: Global,
+    roll: &mut Roll,
+    opening: &mut Opening<Idle>,
+    more: bool,
+    name: Name,
+) -> Result<Paged, AllocError> {
+    let said = page(alloc, more, &[name])?;
+    roll.take_page(&said, opening)
+}
+
 #[test]
-fn pages_and_objects(rt: HostRuntime) -> Result<(), Fail> {
+fn a_roll_of_two_pages(rt: HostRuntime) -> Result<(), Fail> {
     let alloc = rt.alloc();
-    let (abc, empty) = (name_of(b"abc"), name_of(b""));
     let mut opening = opened(alloc)?;
     let mut roll = Roll::new(alloc, Kind::Index);
     roll.ask_page(&mut opening);
-    let first = page(alloc, true, &[abc])?;
-    assert_eq!(rt; roll.take_page(&first, &mut opening)?, Paged::More);
-    let last = page(alloc, false, &[empty])?;
-    assert_eq!(rt; roll.take_page(&last, &mut opening)?, Paged::Last);
+    let first = paged(alloc, &mut roll, &mut opening, true, name_of(b"abc"))?;
+    assert_eq!(rt; first, Paged::More);
+    let last = paged(alloc, &mut roll, &mut opening, false, name_of(b""))?;
+    assert_eq!(rt; last, Paged::Last);
     assert!(rt; roll.ask_object(&mut opening));
-    let said = Say::Bytes(Bytes::of(Vec::from_slice(alloc, b"abc")?));
+    assert_eq!(rt; roll.next_name(), Some(name_of(b"abc")));
+    roll.note_read();
+    assert_eq!(rt; roll.next_name(), Some(name_of(b"")));
+    Ok(())
+}
+
+/// A roll of one name, that of `abc`.
+fn roll_of_one(alloc: Global) -> Result<Roll, Fail> {
+    let mut opening = opened(alloc)?;
+    let mut roll = Roll::new(alloc, Kind::Index);
+    roll.ask_page(&mut opening);
+    paged(alloc, &mut roll, &mut opening, false, name_of(b"abc"))?;
+    Ok(roll)
+}
+
+#[test]
+fn objects_and_their_names(rt: HostRuntime) -> Result<(), Fail> {
+    let roll = roll_of_one(rt.alloc())?;
+    let said = text_said(rt.alloc(), "abc")?;
     assert!(rt; matches!(roll.object(&said), Got::Named(_, _)));
-    let other = Say::Bytes(Bytes::of(Vec::from_slice(alloc, b"abd")?));
+    let other = text_said(rt.alloc(), "abd")?;
     assert!(rt; matches!(roll.object(&other), Got::Misnamed(_)));
     assert!(rt; matches!(roll.object(&Say::Done), Got::Unwelcome));
-    opening.answered();
-    roll.note_read();
-    assert_eq!(rt; roll.next_name(), Some(empty));
     Ok(())
+}
+
+/// How a job ends whose page is this, and whether nothing is pending then.
+fn ended_at_page(alloc: Global, say: Say) -> Result<(Option<End>, bool), Fail> {
+    let mut opening = opened(alloc)?;
+    let mut roll = Roll::new(alloc, Kind::Index);
+    roll.ask_page(&mut opening);
+    roll.take_page(&say, &mut opening)?;
+    Ok((end_of_job(&opening), opening.pending().is_none()))
 }
 
 #[test]
 fn replies_that_end_a_job(rt: HostRuntime) -> Result<(), Fail> {
     let alloc = rt.alloc();
-    let (abc, empty) = (name_of(b"abc"), name_of(b""));
-    for (say, end) in [
-        (page(alloc, false, &[empty, abc])?, End::BadReply),
-        (page(alloc, true, &[])?, End::BadReply),
-        (Say::Done, End::BadReply),
-        (Say::Refused(Code::Dead), End::Fenced),
-        (Say::Refused(Code::Fault), End::Refused(Code::Fault)),
-    ] {
-        let mut opening = opened(alloc)?;
-        let mut roll = Roll::new(alloc, Kind::Index);
-        roll.ask_page(&mut opening);
-        assert_eq!(rt; roll.take_page(&say, &mut opening)?, Paged::Ended);
-        assert_eq!(rt; end_of_job(&opening), Some(end));
-        assert_eq!(rt; opening.pending().is_none(), end == End::Fenced);
-    }
+    let bad = (Some(End::BadReply), false);
+    let falling = page(alloc, false, &[name_of(b""), name_of(b"abc")])?;
+    assert_eq!(rt; ended_at_page(alloc, falling)?, bad);
+    let empty = page(alloc, true, &[])?;
+    assert_eq!(rt; ended_at_page(alloc, empty)?, bad);
+    assert_eq!(rt; ended_at_page(alloc, Say::Done)?, bad);
+    let dead = Say::Refused(Code::Dead);
+    assert_eq!(rt; ended_at_page(alloc, dead)?, (Some(End::Fenced), true));
+    let (fault, refused) = (Say::Refused(Code::Fault), End::Refused(Code::Fault));
+    assert_eq!(rt; ended_at_page(alloc, fault)?, (Some(refused), false));
     Ok(())
 }
 
