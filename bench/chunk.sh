@@ -4,10 +4,8 @@
 # the digest of the lengths has to be the same. The library is the Debian package golang-github-restic-chunker-dev,
 # to be built with golang-go. Usage: bench/chunk.sh
 set -euo pipefail
-here="$(cd "$(dirname "$0")" && pwd)"
-. "$here/least.sh"
-cd "$here/../crates/bench"
-rt run >/dev/null 2>&1
+. "$(dirname "$0")/least.sh"
+here=$PWD/../../bench
 size=268435456
 
 made=$(least out/bench random "$size")

@@ -1,4 +1,7 @@
-# What the scripts beside it share. To be sourced.
+# What the scripts beside it share that time the kernels: it builds bench, goes to its folder, and gives them `least`. To be
+# sourced.
+cd "$(dirname "${BASH_SOURCE[0]}")/../crates/bench"
+rt run >/dev/null 2>&1
 
 # Milliseconds of the fastest of five runs of a command.
 least() {

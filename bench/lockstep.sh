@@ -2,10 +2,7 @@
 # Times a backup of 64 MiB of random bytes from memory into a shelf in memory, and a restore of it, from outside, and the
 # parts that it is made of: making the bytes, cutting them, and naming them once. The least of five runs counts. Usage: bench/lockstep.sh
 set -euo pipefail
-here="$(cd "$(dirname "$0")" && pwd)"
-. "$here/least.sh"
-cd "$here/../crates/bench"
-rt run >/dev/null 2>&1
+. "$(dirname "$0")/least.sh"
 size=67108864
 
 random=$(least out/bench random "$size")

@@ -2,10 +2,7 @@
 # Times the kernels of the crate bench at 16 MiB, from outside, and openssl's SHA-256 of as many bytes
 # beside them. The least of five runs counts. Usage: bench/run.sh
 set -euo pipefail
-here="$(cd "$(dirname "$0")" && pwd)"
-. "$here/least.sh"
-cd "$here/../crates/bench"
-rt run >/dev/null 2>&1
+. "$(dirname "$0")/least.sh"
 size=16777216
 
 bytes=$(mktemp)
