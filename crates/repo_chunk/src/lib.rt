@@ -24,5 +24,3 @@ mod rabin;
 mod rolling;
 mod runs;
 mod tables;
-#[cfg(test)]
-mod tests;

@@ -27,6 +27,4 @@ pub mod laws;
 mod lookups;
 mod pack_facts;
 mod reading;
-#[cfg(test)]
-mod tests;
 mod writing;

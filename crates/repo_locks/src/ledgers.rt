@@ -15,7 +15,7 @@ use crate::searches::{
     bring_up, has_exclusive, is_among, kind_among, leave_out, leave_out_rows, place_of,
 };
 use crate::writing::{append_fresh, append_live, append_number};
-use repo_name::{LockRow, Text, Token};
+use repo_name::{LockRow, LockRows, Text, Token};
 use std::alloc::{AllocError, Global};
 use std::marker::Model;
 
@@ -192,12 +192,12 @@ impl Ledger {
         true
     }
 
-    /// The rows of the live numbers, ascending by token.
-    pub fn locks(&self) -> &[LockRow]
-        ensures rows { result.now ≡ self.now.live }
+    /// The rows of the live numbers, ascending by token: a list of their own. It fails for memory alone.
+    pub fn locks(&self, alloc: Global) -> Result<LockRows, AllocError>
+        ensures rows { IfOk result (λ rows. rows ≡ self.now.live) }
         ensures lawful { IsLedger self.now }
     {
-        &self.live
+        Ok(LockRows::of(self.live.to_vec(alloc)?))
     }
 
     /// An equal ledger. It fails for memory alone.

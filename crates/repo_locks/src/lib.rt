@@ -20,8 +20,6 @@ mod limits;
 mod outcomes;
 mod reading;
 mod searches;
-#[cfg(test)]
-mod tests;
 mod writing;
 
 pub use ages::stale;

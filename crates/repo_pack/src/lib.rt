@@ -25,6 +25,3 @@ pub use laws::{packs_are_one, ranges_are_items};
 pub use places::{Entry, Place};
 pub use views::PackView;
 pub use writers::{PackWriter, Sealed, Unsealed};
-
-#[cfg(test)]
-mod tests;

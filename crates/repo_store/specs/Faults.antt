@@ -2,7 +2,7 @@ use Rattle.std.specs.Prelude.{◌≡◌, ◌-◌, ◌+◌, ◌^◌, ◌==◌, mi
 use Rattle.repo_store.specs.declared.faults.Armed.{Armed}
 use Rattle.repo_store.specs.declared.faults.Fail.{Fail}
 use Rattle.repo_store.specs.declared.shelves.ShelfError.{ShelfError}
-use Rattle.repo_store.specs.Laws.{Writes}
+use Rattle.repo_store.specs.Laws.{Writes, HasCause}
 use Rattle.repo_store.specs.Stores.{Store}
 
 -- whether a reading call is the armed one
@@ -30,9 +30,11 @@ abbrev pub told_after : Result (Unit {0}) ShelfError → Result (Unit {0}) Shelf
 told_after (Ok done) = Err ShelfError.Fault
 told_after (Err error) = Err error
 
--- an armed call whose change is made, on the inner shelf
-abbrev pub WritesThenFails : (Store → Store → Type 0) → Store → Result (Unit {0}) ShelfError → Store → Type 0
-WritesThenFails W old result new = (inner : Result (Unit {0}) ShelfError) × Writes W old inner new × (result ≡ told_after inner)
+-- an armed call whose change is made, on the inner shelf, with its count of failures before and after:
+-- what the inner shelf answered is by its laws, so a fault is told only where it made the change whole or
+-- counted a failure of its own
+abbrev pub WritesThenFails : (Store → Store → Type 0) → Store → ℕ → Result (Unit {0}) ShelfError → Store → ℕ → Type 0
+WritesThenFails W old failed result new failing = (inner : Result (Unit {0}) ShelfError) × Writes W old inner new × HasCause failed inner failing × (result ≡ told_after inner)
 
 -- the inner shelf's failures and its own, together
 abbrev pub count_of : ℕ → ℕ → ℕ

@@ -186,7 +186,7 @@ impl<S: Shelf> Shelf for FaultShelf<S> {
         ensures cause { S.honest self.old.inner → HasCause (count_of (S.failed self.old.inner) self.old.count) result (count_of (S.failed self.new.inner) self.new.count) }
         ensures honest { S.honest self.old.inner → S.honest self.new.inner }
         ensures once { S.writes self.new.inner ≤ S.writes self.old.inner + 1 }
-        ensures applied { fails_writing self.old.armed ≡ Some true → S.honest self.old.inner → WritesThenFails (PutsObject kind name.now bytes.now) (S.store self.old.inner) result (S.store self.new.inner) }
+        ensures applied { fails_writing self.old.armed ≡ Some true → S.honest self.old.inner → WritesThenFails (PutsObject kind name.now bytes.now) (S.store self.old.inner) (S.failed self.old.inner) result (S.store self.new.inner) (S.failed self.new.inner) }
         ensures unapplied { fails_writing self.old.armed ≡ Some false → IsErrOf result ShelfError.Fault × (self.new.inner ≡ self.old.inner) }
         ensures spent { fails_writing self.old.armed ≢ None → self.new.armed ≡ Armed.Nothing }
         ensures other { fails_writing self.old.armed ≡ None → (self.new.armed ≡ one_less self.old.armed) × (self.new.count ≡ self.old.count) }
@@ -207,7 +207,7 @@ impl<S: Shelf> Shelf for FaultShelf<S> {
         ensures cause { S.honest self.old.inner → HasCause (count_of (S.failed self.old.inner) self.old.count) result (count_of (S.failed self.new.inner) self.new.count) }
         ensures honest { S.honest self.old.inner → S.honest self.new.inner }
         ensures once { S.writes self.new.inner ≤ S.writes self.old.inner + 1 }
-        ensures applied { fails_writing self.old.armed ≡ Some true → S.honest self.old.inner → WritesThenFails (RemovesObject kind name.now) (S.store self.old.inner) result (S.store self.new.inner) }
+        ensures applied { fails_writing self.old.armed ≡ Some true → S.honest self.old.inner → WritesThenFails (RemovesObject kind name.now) (S.store self.old.inner) (S.failed self.old.inner) result (S.store self.new.inner) (S.failed self.new.inner) }
         ensures unapplied { fails_writing self.old.armed ≡ Some false → IsErrOf result ShelfError.Fault × (self.new.inner ≡ self.old.inner) }
         ensures spent { fails_writing self.old.armed ≢ None → self.new.armed ≡ Armed.Nothing }
         ensures other { fails_writing self.old.armed ≡ None → (self.new.armed ≡ one_less self.old.armed) × (self.new.count ≡ self.old.count) }
@@ -265,7 +265,7 @@ impl<S: Shelf> Shelf for FaultShelf<S> {
         ensures cause { S.honest self.old.inner → HasCause (count_of (S.failed self.old.inner) self.old.count) result (count_of (S.failed self.new.inner) self.new.count) }
         ensures honest { S.honest self.old.inner → S.honest self.new.inner }
         ensures once { S.writes self.new.inner ≤ S.writes self.old.inner + 1 }
-        ensures applied { fails_writing self.old.armed ≡ Some true → S.honest self.old.inner → WritesThenFails (SavesTokens ledger.now) (S.store self.old.inner) result (S.store self.new.inner) }
+        ensures applied { fails_writing self.old.armed ≡ Some true → S.honest self.old.inner → WritesThenFails (SavesTokens ledger.now) (S.store self.old.inner) (S.failed self.old.inner) result (S.store self.new.inner) (S.failed self.new.inner) }
         ensures unapplied { fails_writing self.old.armed ≡ Some false → IsErrOf result ShelfError.Fault × (self.new.inner ≡ self.old.inner) }
         ensures spent { fails_writing self.old.armed ≢ None → self.new.armed ≡ Armed.Nothing }
         ensures other { fails_writing self.old.armed ≡ None → (self.new.armed ≡ one_less self.old.armed) × (self.new.count ≡ self.old.count) }
@@ -301,7 +301,7 @@ impl<S: Shelf> Shelf for FaultShelf<S> {
         ensures cause { S.honest self.old.inner → HasCause (count_of (S.failed self.old.inner) self.old.count) result (count_of (S.failed self.new.inner) self.new.count) }
         ensures honest { S.honest self.old.inner → S.honest self.new.inner }
         ensures once { S.writes self.new.inner ≤ S.writes self.old.inner + 1 }
-        ensures applied { fails_writing self.old.armed ≡ Some true → S.honest self.old.inner → WritesThenFails (SavesConfig bytes.now) (S.store self.old.inner) result (S.store self.new.inner) }
+        ensures applied { fails_writing self.old.armed ≡ Some true → S.honest self.old.inner → WritesThenFails (SavesConfig bytes.now) (S.store self.old.inner) (S.failed self.old.inner) result (S.store self.new.inner) (S.failed self.new.inner) }
         ensures unapplied { fails_writing self.old.armed ≡ Some false → IsErrOf result ShelfError.Fault × (self.new.inner ≡ self.old.inner) }
         ensures spent { fails_writing self.old.armed ≢ None → self.new.armed ≡ Armed.Nothing }
         ensures other { fails_writing self.old.armed ≡ None → (self.new.armed ≡ one_less self.old.armed) × (self.new.count ≡ self.old.count) }

@@ -9,7 +9,7 @@ ghost use Rattle.repo_store.specs.StoreMachine.{lock_refusal, IsQuiet, IsRuledOu
 use crate::answers::refusal;
 use crate::shelves::Shelf;
 use repo_locks::{Grant, LockError, RefreshError, TicketError};
-use repo_name::{LockRow, LockRows, Token};
+use repo_name::{LockRow, Token};
 use repo_wire::{Code, Say};
 use std::alloc::Global;
 
@@ -134,8 +134,8 @@ pub fn answer_locks<S: Shelf>(alloc: Global, shelf: &mut S) -> Say
         Ok(ledger) => ledger,
         Err(error) => return refusal(error),
     };
-    match ledger.locks().to_vec(alloc) {
-        Ok(rows) => Say::LockList(LockRows::of(rows)),
+    match ledger.locks(alloc) {
+        Ok(rows) => Say::LockList(rows),
         Err(_) => Say::Refused(Code::NoMemory),
     }
 }

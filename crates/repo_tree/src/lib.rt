@@ -32,7 +32,5 @@ pub mod laws;
 mod nodes;
 mod paths;
 mod snapshots;
-#[cfg(test)]
-mod tests;
 mod tree_reading;
 mod tree_writing;
