@@ -28,25 +28,11 @@ use Rattle.repo_session.specs.Order.{IsPermitted}
 use Rattle.repo_session.specs.Soundness.{IsHeld, IsExactPack, IsSoundIndex, IsSoundSnapshot, IsSound}
 use Rattle.repo_session.specs.Traces.{Exchange, Trace, Exchanged, WasAsked, IsGiven}
 use Rattle.repo_session.proofs.Containing.{flat_contains}
+use Rattle.repo_session.proofs.Spoken.{was_asked, held_spoken, held_agree}
 use Rattle.repo_session.proofs.Growing.{Shares, Puts, IsNoDelete, step_goes}
 use Rattle.repo_session.proofs.Wholeness.{index_stays, snapshot_sound, snapshot_stays, given_held}
 use Rattle.repo_backup.specs.Folders.{Folder, blobs_of}
 use Rattle.repo_backup.specs.Rules.{PutDone, IsMade, IsIndexed, IsListedPack, PackRule, IndexRule, SnapshotRule, Allows}
-
-pub was_asked : (es : Trace) (ask : Ask) (say : Say) → Exchanged es ask say → WasAsked es ask
-was_asked [] ask say h = absurd h
-was_asked (e ∷ es) ask say (inl h) = inl h.0
-was_asked (e ∷ es) ask say (inr h) = inr (was_asked es ask say h)
-
--- blobs held in objects that were all there or put may be spoken of
-held_spoken : (from : Store) (Sent : Ask → Type 0) (Made : List ℕ → Type 0) (objects : Objects) → ((k : Kind) (n : Name) (x : List ℕ) → objects k n ≡ Some x → WasThere from Sent k x)
-    → (k : BlobKind) (x : List ℕ) → IsHeld objects k x → IsSpoken Made from Sent x
-held_spoken from Sent Made objects there k x h = inr (inl (record { index = h.text; fact = h.fact; pack = h.pack; listed = there Kind.Index h.index h.text h.listed; says = h.says; there = there Kind.Pack h.fact.place.pack h.pack h.there; stands = h.stands }))
-
--- and agree
-pub held_agree : (from : Store) (Sent : Ask → Type 0) (Made : List ℕ → Type 0) → NoClash (IsSpoken Made from Sent) → (objects : Objects) → ((k : Kind) (n : Name) (x : List ℕ) → objects k n ≡ Some x → WasThere from Sent k x)
-    → Agree (IsHeld objects) (IsHeld objects)
-held_agree from Sent Made clash objects there k x y a b same = clash x y (held_spoken from Sent Made objects there k x a) (held_spoken from Sent Made objects there k y b) same
 
 module _ (entries : List Entry) (from old : Store) (es : Trace) (Sent : Ask → Type 0) (Made : List ℕ → Type 0)
     (sent : (ask : Ask) → WasAsked es ask → Sent ask)
@@ -109,7 +95,7 @@ module _ (entries : List Entry) (from old : Store) (es : Trace) (Sent : Ask → 
       → fact.kind ≡ k → fact.name ≡ naming.name y → IsHeld old.objects k y
   made_is_held folder k y index text fact cut among listed says kind name =
       let h = given_held old.objects sound index text fact listed says in
-      let same : h.bytes ≡ y = clash h.bytes y (held_spoken from Sent Made old.objects there fact.kind h.bytes h.held) (inr (inr (made folder k y cut among))) (h.named ∙ name) in
+      let same : h.bytes ≡ y = clash h.bytes y (held_spoken from Sent Made old.objects there sound.named fact.kind h.bytes h.held) (inr (inr (made folder k y cut among))) (h.named ∙ name) in
       subst (λ j. IsHeld old.objects j y) kind (subst (λ b. IsHeld old.objects fact.kind b) same h.held)
 
   given_is_held : (folder : Folder) (k : BlobKind) (y : List ℕ) → IsMade entries es folder → Contains (blobs_of folder) (item_of k y) → IsGiven es k (naming.name y) ⊎ IsIndexed es k (naming.name y) → IsHeld old.objects k y
@@ -118,7 +104,7 @@ module _ (entries : List Entry) (from old : Store) (es : Trace) (Sent : Ask → 
 
   snapshot_is_sound : (token : Token) (x : List ℕ) → SnapshotRule entries es token x → IsSoundSnapshot old.objects x
   snapshot_is_sound token x r =
-      snapshot_sound old.objects (held_agree from Sent Made clash old.objects there) x r.snapshot entries (λ k y. Contains (blobs_of r.folder) (item_of k y)) r.reads r.spells
+      snapshot_sound old.objects (held_agree from Sent Made clash old.objects there sound.named) x r.snapshot entries (λ k y. Contains (blobs_of r.folder) (item_of k y)) r.reads r.spells
       (λ k y among. given_is_held r.folder k y r.cut among (r.given (item_of k y) among))
 
   -- ---- one step
@@ -137,12 +123,15 @@ module _ (entries : List Entry) (from old : Store) (es : Trace) (Sent : Ask → 
       rule_at : (k : Kind) (x : List ℕ) → k ≡ p.kind → x ≡ p.bytes → IsPermitted (Allows entries) es (Ask.Put p.token k p.name x)
       rule_at k x kind bytes = subst (λ j. IsPermitted (Allows entries) es (Ask.Put p.token j p.name x)) (sym kind) (subst (λ y. IsPermitted (Allows entries) es (Ask.Put p.token p.kind p.name y)) (sym bytes) rule)
 
+      named_now : (k : Kind) (n : Name) (x : List ℕ) → new.objects k n ≡ Some x → naming.name x ≡ n
+      named_now k n x h = ⊎_elim (λ before. sound.named k n x before) (λ this. ap naming.name this.2 ∙ (p.named ∙ sym this.1)) (p.added.only k n x h)
+
       agree_now : Agree (IsHeld new.objects) (IsHeld new.objects)
-      agree_now = held_agree from Sent Made clash new.objects there_now
+      agree_now = held_agree from Sent Made clash new.objects there_now named_now
 
       put_keeps_sound : IsSound new.objects
       put_keeps_sound = record {
-        named = λ k n x h. ⊎_elim (λ before. sound.named k n x before) (λ this. ap naming.name this.2 ∙ (p.named ∙ sym this.1)) (p.added.only k n x h);
+        named = named_now;
         packs = λ n x h. ⊎_elim (λ before. sound.packs n x before) (λ this. let r : PackRule entries es x = rule_at Kind.Pack x this.0 this.2 in (r.items, r.pack)) (p.added.only Kind.Pack n x h);
         indexes = λ n x h. index_stays old.objects new.objects more x (⊎_elim (λ before. sound.indexes n x before) (λ this. index_is_sound x (rule_at Kind.Index x this.0 this.2)) (p.added.only Kind.Index n x h));
         snapshots = λ n x h. snapshot_stays old.objects new.objects more agree_now x

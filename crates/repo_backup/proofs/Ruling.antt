@@ -106,6 +106,7 @@ module _ (entries : List Entry) (known : List Fact) where
       → AreOnce (items_of puts ++ items) → Each (λ i. ¬ HasFact known i.kind i.name) items → ((item : Item) → Contains items item → Contains (blobs_of folder) item) → PackRule entries es x
   pack_rule waiting blobs bytes folder puts es x items b pack once unknown made = record {
     indexes = b.indexed;
+    first = b.none;
     items = items;
     pack = pack;
     folder = folder;
@@ -221,6 +222,7 @@ module _ (entries : List Entry) (known : List Fact) where
   pub index_rule : (waiting : List PackFacts) (blobs bytes : ℕ) (folder : Folder) (puts : List Put) (es : Trace) (x : List ℕ) → Backs entries known waiting blobs bytes folder puts [] es → IsIndexText x waiting → IndexRule es x
   index_rule waiting blobs bytes folder puts es x b reads = record {
     indexes = b.indexed;
+    first = b.none;
     packs = waiting;
     reads = reads;
     each = λ listed among.

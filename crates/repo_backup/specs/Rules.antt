@@ -57,9 +57,10 @@ pub record IsMade (entries : List Entry) (es : Trace) (folder : Folder) : Type 0
   pub reads : IsConfigText text config
   pub cut : IsFolderOf config.params entries folder
 
--- a pack may be put: every index was read; it is a true pack, of blobs made of the entries, each once, which no index read gives, and no pack put before has
+-- a pack may be put: every index was read, and no snapshot put; it is a true pack, of blobs made of the entries, each once, which no index read gives, and no pack put before has
 pub record PackRule (entries : List Entry) (es : Trace) (x : List ℕ) : Type 0 where
   pub indexes : AreIndexed es
+  pub first : objects_put Kind.Snapshot es ≡ []
   pub items : List Item
   pub pack : IsTruePack x items
   pub folder : Folder
@@ -77,9 +78,10 @@ pub record IsListedPack (es : Trace) (listed : PackFacts) : Type 0 where
   pub holds : IsTruePack bytes items
   pub exact : AreFactsAt listed.pack items listed.facts
 
--- an index may be put: every index was read; it reads, and each pack that it lists was put, that is done, and it is listed with exactly its blobs
+-- an index may be put: every index was read, and no snapshot put; it reads, and each pack that it lists was put, that is done, and it is listed with exactly its blobs
 pub record IndexRule (es : Trace) (x : List ℕ) : Type 0 where
   pub indexes : AreIndexed es
+  pub first : objects_put Kind.Snapshot es ≡ []
   pub packs : List PackFacts
   pub reads : IsIndexText x packs
   pub each : (listed : PackFacts) → Contains packs listed → IsListedPack es listed

@@ -15,7 +15,7 @@ ghost use Rattle.repo_wire.specs.declared.messages.Say.{Say};
 ghost use Rattle.repo_session.specs.Clients.{IsSteady};
 ghost use Rattle.repo_session.specs.Openings.{IsWork};
 ghost use Rattle.repo_session.specs.Traces.{Trace};
-ghost use Rattle.repo_backup.specs.Handed.{IsRefusal};
+ghost use Rattle.repo_backup.specs.Handed.{IsRefusal, AreHanded};
 ghost use Rattle.repo_backup.specs.Stages.{handed_in};
 ghost use Rattle.repo_backup.specs.BackupStates.{KeepsBackup, who_of};
 ghost use Rattle.repo_backup.specs.Backups.{FitsBackup, BackupReplied, BackupStays, ListsNone, IsOpenedNext, IsBrought, IsMoreBrought, GivesBack};
@@ -50,6 +50,7 @@ impl Backup {
         ensures handed { IfOk result (λ backup. handed_in backup.opening.job ≡ entries.items) }
         ensures who { IfOk result (λ backup. who_of backup.opening ≡ who) }
         ensures refused { IfErr result (IsRefusal entries.items) }
+        ensures lawful { IfOk result (λ _. AreHanded entries.items) }
     {
         check(entries.as_slice())?;
         let steps = plan(alloc, entries)?;

@@ -19,28 +19,18 @@
 
 mod added;
 mod backing;
-#[cfg(test)]
-mod backup_tests;
 mod backups;
 mod checks;
 mod chunks;
 mod faults;
-#[cfg(test)]
-mod large_tests;
 mod laws;
 mod packing;
-#[cfg(test)]
-mod plan_tests;
 mod plans;
-#[cfg(test)]
-mod refusal_tests;
 mod sending;
 mod stages;
 mod steps;
 mod targets;
 mod walks;
-#[cfg(test)]
-mod work_tests;
 mod works;
 
 pub use backups::Backup;

@@ -18,7 +18,9 @@ use Rattle.repo_tree.specs.declared.nodes.Node.{Node}
 use Rattle.repo_tree.specs.Spelling.{Blobs, Spells, greatest_depth}
 use Rattle.repo_session.specs.declared.emissions.Emission.{Emission}
 use Rattle.repo_session.specs.Catalogs.{IsCatalog}
-use Rattle.repo_session.specs.Rebuilding.{rebuilt}
+use Rattle.repo_session.specs.Rebuilding.{rebuilt, Follow}
+use Rattle.repo_restore.specs.Flowing.{is_open, TurnFlows}
+use Rattle.repo_restore.proofs.Flows.{follow_both}
 use Rattle.repo_restore.specs.declared.nodes.Level.{Level}
 use Rattle.repo_restore.specs.declared.walks.Turn.{Turn}
 use Rattle.repo_session.specs.declared.outcomes.End.{End}
@@ -190,10 +192,18 @@ same_indexes kind names read facts more whole es same h = record {
 }
 
 -- what comes next of a walk, over the trace
-pub turn_is : (p : Progress) (root : Name) (es : Trace) (old out : List Emission) (turn : Turn) → emitted_in es ≡ old ++ out → TurnGives p.facts (Received es) root p.levels p.sent p.entries old out turn → TurnIs p root es turn
-turn_is p root es old out (Turn.Ask fact) e h = subst (λ x. WalkWaits p.facts (Received es) root p.levels p.sent p.entries fact x) (sym e) h.0
-turn_is p root es old out (Turn.Complete count) e h = (subst (λ x. Spells (Received es) root [] (rebuilt x)) (sym e) h.0, subst (λ x. count ≡ counted (length (rebuilt x))) (sym e) h.1)
-turn_is p root es old out (Turn.Ended end) e h = h.0
+pub turn_is : (p : Progress) (root : Name) (es : Trace) (old out : List Emission) (turn : Turn) (begun : Bool) → emitted_in es ≡ old ++ out → TurnGives p.facts (Received es) root p.levels p.sent p.entries old out turn
+    → Follow false old begun → TurnFlows begun out turn → TurnIs p root es turn
+turn_is p root es old out (Turn.Ask fact) begun e h f g = (subst (λ x. WalkWaits p.facts (Received es) root p.levels p.sent p.entries fact x) (sym e) h.0, subst (λ x. Follow false x (is_open fact.kind)) (sym e) (follow_both false begun (is_open fact.kind) old out f g))
+turn_is p root es old out (Turn.Complete count) begun e h f g =
+    (subst (λ x. Spells (Received es) root [] (rebuilt x)) (sym e) h.0, subst (λ x. count ≡ counted (length (rebuilt x))) (sym e) h.1, subst (λ x. Follow false x false) (sym e) (follow_both false begun false old out f g))
+turn_is p root es old out (Turn.Ended end) begun e h f g = h.0
+
+-- what was given out stands in order
+pub turn_flowed : (old out : List Emission) (turn : Turn) (begun : Bool) → Follow false old begun → TurnFlows begun out turn → (after : Bool) × Follow false (old ++ out) after
+turn_flowed old out (Turn.Ask fact) begun f g = (is_open fact.kind, follow_both false begun (is_open fact.kind) old out f g)
+turn_flowed old out (Turn.Complete count) begun f g = (false, follow_both false begun false old out f g)
+turn_flowed old out (Turn.Ended end) begun f g = (g.0, follow_both false begun g.0 old out f g.1)
 
 pub turn_gave : (facts : List Fact) (B : Blobs) (root : Name) (levels : List Level) (sent entries : ℕ) (old out : List Emission) (turn : Turn) → TurnGives facts B root levels sent entries old out turn → Each (MayGive B root) out
 turn_gave facts B root levels sent entries old out (Turn.Ask fact) h = h.1
@@ -218,6 +228,7 @@ pub record RangeTaken (s : Name) (p : Progress) (fact : Fact) (ask : Ask) (bytes
   pub given : ReadFact (record { ask = ask; say = Say.Bytes bytes; emitted = emitted } ∷ es) fact
   pub waits : WalkWaits p.facts (Received (record { ask = ask; say = Say.Bytes bytes; emitted = emitted } ∷ es)) root p.levels p.sent p.entries fact (emitted_in es)
   pub got : naming.name bytes ≡ fact.name → Received (record { ask = ask; say = Say.Bytes bytes; emitted = emitted } ∷ es) fact.kind bytes
+  pub flows : Follow false (emitted_in es) (is_open fact.kind)
 
 pub range_taken : (s : Name) (p : Progress) (fact : Fact) (asked ask : Ask) (bytes : List ℕ) (emitted : List Emission) (es : Trace) → IsRangeOf fact ask → asked ≡ ask → p.wanted ≡ Some fact → KnowsRestore s p asked es
     → RangeTaken s p fact asked bytes emitted es
@@ -238,6 +249,7 @@ range_taken s p fact asked ask bytes emitted es of is wanted known =
       given = subst (λ f. ReadFact (e ∷ es) f) same given;
       waits = subst (λ f. WalkWaits p.facts (Received (e ∷ es)) k.root p.levels p.sent p.entries f (emitted_in es)) same waits;
       got = λ named. record { fact = fact; given = subst (λ f. ReadFact (e ∷ es) f) same given; of_kind = refl; replied = inl (q, refl); named = named };
+      flows = subst (λ f. Follow false (emitted_in es) (is_open f.kind)) same k.flows;
     }
 
 -- the bytes aren't those that were promised

@@ -2,10 +2,10 @@ pub mod Starting
 pub mod Rows
 pub mod Summing
 pub mod Rebuilds
+pub mod Flows
 pub mod Trees
 pub mod Begins
 pub mod Passing
 pub mod Growing
 pub mod Advancing
 pub mod RestoreRuns
-pub mod StoredRuns

@@ -38,7 +38,7 @@ use Rattle.repo_session.proofs.Enumerating.{all_listed}
 use Rattle.repo_session.proofs.Growing.{Led, Shares, led}
 use Rattle.repo_session.proofs.Unchanging.{AllowsNothing, same_run, same_after, same_throughout, shares_run, sound_throughout}
 use Rattle.repo_session.proofs.Wholeness.{given_held}
-use Rattle.repo_backup.proofs.Lone.{held_agree}
+use Rattle.repo_session.proofs.Spoken.{held_agree}
 use Rattle.repo_restore.specs.Laws.{IsList, RestoreChangesNothing, ListChangesNothing, IsListedOrMemory, ListEndsWell, IsCompleteOrMemory, RestoreEndsWell}
 use Rattle.repo_restore.specs.Listing.{list_task, ListAllows, ListGives, ListConcludes}
 use Rattle.repo_restore.specs.Received.{Received}
@@ -282,7 +282,7 @@ restore_well w es (Some outcome) own h = ⊎_elim (memory_well outcome) (own out
 pub restore_ends : RestoreEndsWell
 restore_ends w from to failed talk outcome text fit there low ran few clash is =
     let h = led from talk to ran.run in
-    let agree = held_agree from (λ ask. ⊥) (λ x. ⊥) clash from.objects (λ k n x p. inl (n, p)) in
+    let agree = held_agree from (λ ask. ⊥) (λ x. ⊥) clash from.objects (λ k n x p. inl (n, p)) fit.sound.named in
     restore_well w (trace_of talk) outcome (own_before w from fit.sound agree talk to is.obeys h)
     (ends_well (restore_task w) (RestoreAllows w.snapshot) (RestoreGives w.snapshot) (RestoreConcludes w.snapshot) (λ es t k n x. x) from fit (text, there) talk to outcome is h
     (sound_throughout (restore_task w) (RestoreAllows w.snapshot) (RestoreGives w.snapshot) (restore_never w.snapshot) from talk fit.sound is.obeys) (calm_of failed talk low ran.cause) few)

@@ -16,7 +16,6 @@ use Rattle.repo_session.specs.Talks.{Talk, trace_of, TalkRan, MayStep}
 use Rattle.repo_session.specs.Traces.{Trace, emitted_in}
 use Rattle.repo_session.specs.declared.outcomes.End.{End}
 use Rattle.repo_session.specs.declared.outcomes.Outcome.{Outcome}
-use Rattle.repo_backup.specs.Laws.{AreApart, IsBackup}
 use Rattle.repo_restore.specs.Listing.{list_task, ListAllows, ListGives, ListConcludes}
 use Rattle.repo_restore.specs.Restoring.{Wish, restore_task, RestoreAllows, RestoreGives, RestoreConcludes}
 
@@ -27,14 +26,6 @@ IsRestore w next outcome es = IsObedient (restore_task w) (RestoreAllows w.snaps
 -- these are a list's
 abbrev pub IsList : Asker → Option Request → Option Outcome → Trace → Type 0
 IsList who next outcome es = IsObedient (list_task who) (ListAllows who) (ListGives who) (ListConcludes who) next outcome es
-
--- a restore of the snapshot that a backup reported as stored, alone with the store that the backup was alone with, gives out the backup's entries
--- where it reports that it gave out all
-abbrev pub RestoredIsHanded : Type 0
-RestoredIsHanded = (who : Asker) (entries : List Entry) (from mid to : Store) (failed failing late last : ℕ) (talk talk' : Talk) (next next' : Option Request) (name : Name) (blobs bytes count : ℕ) (asker : Asker)
-    → IsSound from.objects → TalkRan from failed talk mid failing → IsBackup who entries next (Some (Outcome.Stored name blobs bytes)) (trace_of talk) → AreApart entries from (trace_of talk) next
-    → TalkRan mid late talk' to last → IsRestore (record { who = asker; snapshot = name }) next' (Some (Outcome.Complete count)) (trace_of talk')
-    → rebuilt (emitted_in (trace_of talk')) ≡ entries
 
 -- a restore, or a list, changes no object of the store, also where it is one step ahead
 abbrev pub RestoreChangesNothing : Type 0

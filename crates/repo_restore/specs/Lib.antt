@@ -6,6 +6,7 @@ pub mod Received
 pub mod Restoring
 pub mod Walks
 pub mod Nodes
+pub mod Flowing
 pub mod Walking
 pub mod RestoreStates
 pub mod RestoreObedience

@@ -12,7 +12,8 @@ use Rattle.repo_session.specs.declared.openings.Opening.{Opening}
 use Rattle.repo_session.specs.Catalogs.{IsCatalog}
 use Rattle.repo_session.specs.Openings.{Fits, IsReady, task_of}
 use Rattle.repo_session.specs.Order.{Task}
-use Rattle.repo_session.specs.Rebuilding.{rebuilt}
+use Rattle.repo_session.specs.Rebuilding.{rebuilt, Follow, AreWhole}
+use Rattle.repo_restore.specs.Flowing.{is_open}
 use Rattle.repo_session.specs.Traces.{Trace, emitted_in}
 use Rattle.repo_restore.specs.declared.nodes.Level.{Level}
 use Rattle.repo_restore.specs.declared.restores.Restore.{Restore}
@@ -76,6 +77,7 @@ pub record IsWalking (snapshot : Name) (p : Progress) (pack : Name) (offset len 
   pub indexes : Indexes p true es
   pub all : length p.names ≤ p.read
   pub waits : WalkWaits p.facts (Received es) root p.levels p.sent p.entries fact (emitted_in es)
+  pub flows : Follow false (emitted_in es) (is_open fact.kind)
 
 -- what is known where this is pending
 abbrev pub KnowsRestore : Name → Progress → Ask → Trace → Type 0
@@ -144,8 +146,8 @@ pub record IsIndexNext (c : Restore) (es : Trace) : Type 0 where
 
 -- what is known by what comes next of the walk
 abbrev pub TurnIs : Progress → Name → Trace → Turn → Type 0
-TurnIs p root es (Turn.Ask fact) = WalkWaits p.facts (Received es) root p.levels p.sent p.entries fact (emitted_in es)
-TurnIs p root es (Turn.Complete count) = Spells (Received es) root [] (rebuilt (emitted_in es)) × (count ≡ counted (length (rebuilt (emitted_in es))))
+TurnIs p root es (Turn.Ask fact) = WalkWaits p.facts (Received es) root p.levels p.sent p.entries fact (emitted_in es) × Follow false (emitted_in es) (is_open fact.kind)
+TurnIs p root es (Turn.Complete count) = Spells (Received es) root [] (rebuilt (emitted_in es)) × (count ≡ counted (length (rebuilt (emitted_in es)))) × AreWhole (emitted_in es)
 TurnIs p root es (Turn.Ended end) = WalkEnds p.facts (Received es) root end
 
 -- and the walk goes on so

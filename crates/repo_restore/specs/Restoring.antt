@@ -1,5 +1,5 @@
 -- What a restore may ask, give out and tell.
-use Rattle.std.specs.Prelude.{◌≡◌, ◌≢◌, ◌≤◌, ◌⊎◌, ◌+◌, ◌-◌, ◌^◌, ◌++◌, ◌∷◌, [], ⊤, ℕ, false, List, length, min, Some, Contains}
+use Rattle.std.specs.Prelude.{◌≡◌, ◌≢◌, ◌≤◌, ◌⊎◌, ◌+◌, ◌-◌, ◌^◌, ◌++◌, ◌∷◌, [], ⊤, ℕ, Bool, false, List, length, min, Some, Contains}
 use Rattle.repo_name.specs.Naming as naming
 use Rattle.repo_name.specs.declared.kinds.BlobKind.{BlobKind}
 use Rattle.repo_name.specs.declared.kinds.Kind.{Kind}
@@ -19,7 +19,7 @@ use Rattle.repo_session.specs.declared.outcomes.Outcome.{Outcome}
 use Rattle.repo_session.specs.Askers.{Asker}
 use Rattle.repo_session.specs.Ends.{blob_thing}
 use Rattle.repo_session.specs.Order.{Task}
-use Rattle.repo_session.specs.Rebuilding.{rebuilt}
+use Rattle.repo_session.specs.Rebuilding.{rebuilt, Follow, AreWhole}
 use Rattle.repo_session.specs.Traces.{Each, Exchange, Trace, emitted_in, IsRead, ReadFact, IsGiven, IsAllRead}
 use Rattle.repo_restore.specs.Received.{Received}
 
@@ -107,9 +107,9 @@ pub record IsUnindexed (es : Trace) (snapshot : Name) (thing : Thing) (name : Na
   pub indexes : IsAllRead Kind.Index es
   pub ungiven : ¬ IsGiven es kind name
 
--- what was given out is what the snapshot's tree spells in the blobs that were received
+-- what was given out is directories and whole files, and what the snapshot's tree spells in the blobs that were received
 abbrev pub IsRestored : Trace → Name → ℕ → Type 0
-IsRestored es snapshot entries = (root : Name) × HasRoot es snapshot root × Spells (Received es) root [] (rebuilt (emitted_in es)) × (entries ≡ counted (length (rebuilt (emitted_in es))))
+IsRestored es snapshot entries = (root : Name) × HasRoot es snapshot root × Spells (Received es) root [] (rebuilt (emitted_in es)) × (entries ≡ counted (length (rebuilt (emitted_in es)))) × AreWhole (emitted_in es)
 
 -- nothing is put or deleted
 abbrev pub RestoreAllows : Name → Trace → Ask → Type 0
@@ -120,9 +120,9 @@ abbrev pub IsForBlob : Ask → Type 0
 IsForBlob (Ask.Range pack offset len) = ⊤
 IsForBlob _ = ⊥
 
--- something is given out on a blob alone, and each part is one that may be
+-- something is given out on a blob alone; each part is one that may be, and all that was given out so far stands in order
 abbrev pub RestoreGives : Name → Trace → Exchange → Type 0
-RestoreGives snapshot es e = IsForBlob e.ask × (root : Name) × HasRoot es snapshot root × Each (MayGive (Received (e ∷ es)) root) e.emitted
+RestoreGives snapshot es e = IsForBlob e.ask × (root : Name) × HasRoot es snapshot root × Each (MayGive (Received (e ∷ es)) root) e.emitted × ((after : Bool) × Follow false (emitted_in (e ∷ es)) after)
 
 -- it is told that all was given out only where it was, and of a blob or a tree that it needs that it isn't there or is bad only where that is so
 abbrev pub RestoreConcludes : Name → Trace → Outcome → Type 0

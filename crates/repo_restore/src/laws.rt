@@ -1,7 +1,7 @@
 //! What holds of a restore and of a list that are alone with their store, by the definitions alone. Each
 //! function is empty, and its contract is the law.
 
-ghost use Rattle.repo_restore.specs.Laws.{RestoreChangesNothing, ListChangesNothing, ListEndsWell, RestoreEndsWell, RestoredIsHanded};
+ghost use Rattle.repo_restore.specs.Laws.{RestoreChangesNothing, ListChangesNothing, ListEndsWell, RestoreEndsWell};
 
 /// A restore changes no object of its store, also where the store has gone one step further than it.
 pub fn restore_changes_nothing()
@@ -23,10 +23,4 @@ pub fn list_ends_well()
 /// had no memory.
 pub fn restore_ends_well()
     ensures { RestoreEndsWell }
-{}
-
-/// A restore of the snapshot that a backup reported as stored, after it and alone with the same store, gives out
-/// the entries that were handed to the backup, where it reports that it gave out all.
-pub fn restored_is_handed()
-    ensures { RestoredIsHanded }
 {}

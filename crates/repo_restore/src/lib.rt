@@ -25,7 +25,6 @@ mod walks;
 
 pub use laws::{
     list_changes_nothing, list_ends_well, restore_changes_nothing, restore_ends_well,
-    restored_is_handed,
 };
 pub use listings::SnapshotList;
 pub use restores::Restore;

@@ -1,12 +1,13 @@
 //! The steps of a walk over open directories.
 
-ghost use Rattle.std.specs.Prelude.{◌≡◌, ◌+◌, ◌++◌, ◌∷◌, [], ℕ, List, length, slice_get, Some, IfOk};
+ghost use Rattle.std.specs.Prelude.{◌≡◌, ◌+◌, ◌++◌, ◌∷◌, [], ℕ, List, Bool, false, length, slice_get, Some, IfOk};
 ghost use Rattle.repo_name.specs.declared.names.Name.{Name};
 ghost use Rattle.repo_tree.specs.declared.entries.Entry.{Entry};
 ghost use Rattle.repo_session.specs.declared.emissions.Emission.{Emission};
-ghost use Rattle.repo_session.specs.Rebuilding.{rebuilt};
+ghost use Rattle.repo_session.specs.Rebuilding.{rebuilt, Follow};
 ghost use Rattle.repo_session.specs.Traces.{Each, Trace};
 ghost use Rattle.repo_restore.specs.declared.nodes.Level.{Level};
+ghost use Rattle.repo_restore.specs.Flowing.{FlowsTo};
 ghost use Rattle.repo_restore.specs.Received.{Received};
 ghost use Rattle.repo_restore.specs.Restoring.{MayGive, counted};
 ghost use Rattle.repo_restore.specs.Walking.{NodeBegins, StandsIn, NextBegins, StopsAt};
@@ -88,8 +89,9 @@ fn begin_next(
     begun: usize,
     out: &mut Vec<Emission>,
 ) -> Result<Next, AllocError>
-    ensures { IfOk result (λ next. (gs : Trace) (root : Name) (before : List Entry) (old : List Emission) → StandsIn (Received gs) root level.now begun before old out.old.items
+    ensures begins { IfOk result (λ next. (gs : Trace) (root : Name) (before : List Entry) (old : List Emission) → StandsIn (Received gs) root level.now begun before old out.old.items
         → NextBegins lookup.now (Received gs) root level.now before old out.new.items next.begun next.what) }
+    ensures flows { IfOk result (λ next. (before : Bool) → Follow before out.old.items false → FlowsTo before out.new.items next.what) }
 {
     for at in begun..level.nodes.len() {
         match begin_node(alloc, lookup, level, &level.nodes[at], out)? {
@@ -135,8 +137,9 @@ pub fn go_on(
     begun: usize,
     out: &mut Vec<Emission>,
 ) -> Result<Stop, AllocError>
-    ensures { IfOk result (λ stop. (gs : Trace) (root : Name) (old : List Emission) → AtOpen (Received gs) root levels.now (length levels.now) begun (rebuilt (old ++ out.old.items)) → Each (MayGive (Received gs) root) out.old.items
+    ensures stops { IfOk result (λ stop. (gs : Trace) (root : Name) (old : List Emission) → AtOpen (Received gs) root levels.now (length levels.now) begun (rebuilt (old ++ out.old.items)) → Each (MayGive (Received gs) root) out.old.items
         → StopsAt lookup.now (Received gs) root levels.now old out.new.items stop.depth stop.begun stop.what) }
+    ensures flows { IfOk result (λ stop. (before : Bool) → Follow before out.old.items false → FlowsTo before out.new.items stop.what) }
 {
     let mut begun = begun;
     for up in 0..levels.len() {

@@ -1,6 +1,6 @@
 //! A walk over the trees of a snapshot, node by node.
 
-ghost use Rattle.std.specs.Prelude.{◌≡◌, ◌≢◌, ◌⊎◌, ◌≤◌, ◌<◌, ◌+◌, ◌++◌, ◌∷◌, [], ℕ, List, length, take, slice_get, Some, option_map, IfOk, OnErr, IsTrue, IsFalse};
+ghost use Rattle.std.specs.Prelude.{◌≡◌, ◌≢◌, ◌⊎◌, ◌≤◌, ◌<◌, ◌+◌, ◌++◌, ◌∷◌, [], ℕ, List, Bool, true, false, length, take, slice_get, Some, option_map, IfOk, OnErr, IsTrue, IsFalse};
 ghost use Rattle.repo_name.specs.Naming as naming;
 ghost use Rattle.repo_name.specs.declared.kinds.BlobKind.{BlobKind};
 ghost use Rattle.repo_name.specs.declared.names.Name.{Name};
@@ -12,6 +12,7 @@ ghost use Rattle.repo_session.specs.declared.emissions.Emission.{Emission};
 ghost use Rattle.repo_session.specs.Rebuilding.{rebuilt};
 ghost use Rattle.repo_session.specs.Traces.{Each, Trace};
 ghost use Rattle.repo_restore.specs.declared.nodes.Level.{Level};
+ghost use Rattle.repo_restore.specs.Flowing.{FlowsTo, TurnFlows};
 ghost use Rattle.repo_restore.specs.Received.{Received};
 ghost use Rattle.repo_restore.specs.Restoring.{MayGive, counted};
 ghost use Rattle.repo_restore.specs.Walking.{StopsAt, with_begun, Waits, Turns, HasBegun, IsNextPath};
@@ -143,7 +144,8 @@ impl Walk {
 
     /// Looks up the tree of the root. It takes no memory.
     pub fn start(&self, lookup: &Lookup, root: Name) -> Turn
-        ensures { (gs : Trace) → self.now.levels.items ≡ [] → self.now.entries ≡ 0 → Turns lookup.now (Received gs) root self.now [] [] result }
+        ensures turns { (gs : Trace) → self.now.levels.items ≡ [] → self.now.entries ≡ 0 → Turns lookup.now (Received gs) root self.now [] [] result }
+        ensures flows { TurnFlows false [] result }
     {
         match lookup.find(BlobKind::Tree, &root) {
             Some(place) => Turn::Ask(Fact {
@@ -157,8 +159,9 @@ impl Walk {
 
     /// Stops where the steps did.
     fn stop_at(&mut self, stop: Stop, out: &[Emission]) -> Turn
-        ensures { (facts : List Fact) (gs : Trace) (root : Name) (old : List Emission) → StopsAt facts (Received gs) root self.old.levels.items old out.now stop.depth stop.begun stop.what
+        ensures turns { (facts : List Fact) (gs : Trace) (root : Name) (old : List Emission) → StopsAt facts (Received gs) root self.old.levels.items old out.now stop.depth stop.begun stop.what
             → self.old.entries ≡ counted (length (rebuilt old)) → Turns facts (Received gs) root self.new old out.now result }
+        ensures flows { (before : Bool) → FlowsTo before out.now stop.what → TurnFlows before out.now result }
     {
         let entries = self.entries.saturating_add(count_entries(out));
         match stop.what {
@@ -196,6 +199,7 @@ impl Walk {
     ) -> Result<Turn, AllocError>
         ensures ok { IfOk result (λ turn. (gs : Trace) (root : Name) (fact : Fact) (old : List Emission) → Waits lookup.now (Received gs) root self.old fact old → fact.kind ≡ BlobKind.Tree → fact.name ≡ tree
             → IsTree (Received gs) tree nodes.items → out.old.items ≡ [] → Turns lookup.now (Received gs) root self.new old out.new.items turn) }
+        ensures flows { IfOk result (λ turn. out.old.items ≡ [] → TurnFlows false out.new.items turn) }
         ensures levels { OnErr result (self.new.levels.items ≡ self.old.levels.items) }
         ensures sent { OnErr result (self.new.sent ≡ self.old.sent) }
         ensures entries { OnErr result (self.new.entries ≡ self.old.entries) }
@@ -228,6 +232,7 @@ impl Walk {
     ) -> Result<Turn, AllocError>
         ensures ok { IfOk result (λ turn. (gs : Trace) (root : Name) (fact : Fact) (old : List Emission) → Waits lookup.now (Received gs) root self.old fact old → fact.kind ≡ BlobKind.Content
             → Received gs BlobKind.Content bytes.now → naming.name bytes.now ≡ fact.name → length bytes.now ≡ fact.place.length → out.old.items ≡ [] → Turns lookup.now (Received gs) root self.new old out.new.items turn) }
+        ensures flows { IfOk result (λ turn. out.old.items ≡ [] → TurnFlows true out.new.items turn) }
         ensures levels { OnErr result (self.new.levels.items ≡ self.old.levels.items) }
         ensures sent { OnErr result (self.new.sent ≡ self.old.sent) }
         ensures entries { OnErr result (self.new.entries ≡ self.old.entries) }

@@ -7,9 +7,9 @@ pub mod Hearing
 pub mod Rolling
 pub mod Receiving
 pub mod Cataloguing
-pub mod Counting
 pub mod Growing
 pub mod Wholeness
+pub mod Spoken
 pub mod Calm
 pub mod Causes
 pub mod Containing

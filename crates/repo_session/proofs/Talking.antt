@@ -2,7 +2,7 @@
 use Rattle.std.proofs.Common.{◌≡◌, ◌<◌, ◌+◌, ◌++◌, ◌∷◌, [], ℕ, List, Option, Some, None, Result, Ok, Err, length, take, refl, sym, ap, subst, arith, inl, inr, append_assoc, get_or, suc, ◌∙◌}
 use Rattle.std.specs.Io.KnownBytes.{Appends, Consumes}
 use Rattle.std.proofs.KnownBytes.{Appends-trans, Appends-nil}
-use Rattle.std.proofs.Math.Seq.{take-length, take-append_seam, take-append-add, take-suc}
+use Rattle.std.proofs.Math.Seq.{take-length, take-append-add, take-suc}
 use Rattle.std.proofs.lemmas.List.{append-nil}
 use Rattle.std.proofs.lemmas.List.Concat.{flat_map-append}
 use Rattle.repo_wire.specs.declared.messages.Ask.{Ask}
@@ -20,7 +20,7 @@ use Rattle.repo_session.specs.declared.driving.DriveError.{DriveError}
 use Rattle.repo_session.specs.declared.emissions.Emission.{Emission}
 use Rattle.repo_session.specs.Clients.{Answers, exchange}
 use Rattle.repo_session.specs.Connections.{BeginsWith, Asks}
-use Rattle.repo_session.specs.Talks.{Turn, Talk, IsTurn, trace_of, sent_in, taken_in, read_in, frames_of, Went, Said, IsHeard, WritesPart, ArePassed, with_next, DriveCause, TalkRan, MayStep, AskGives}
+use Rattle.repo_session.specs.Talks.{Turn, Talk, IsTurn, trace_of, sent_in, taken_in, read_in, frames_of, Went, Said, IsHeard, WritesPart, ArePassed, DriveCause, TalkRan, MayStep, AskGives}
 use Rattle.repo_session.specs.Traces.{Each, Trace}
 use Rattle.repo_session.proofs.Connecting.{begins}
 
@@ -34,28 +34,23 @@ written_on a b c sent request p q = subst (λ x. Appends a c x) (sym (frames_on 
 
 -- a request that was written in part
 pub written_part : (a b c : Option (List ℕ)) (sent : List Request) (request : Request) (k : ℕ) → Appends a b (frames_of sent) → Appends b c (take k (frame (request_body request)))
-    → WritesPart a (sent ++ request ∷ []) c
-written_part a b c sent request k p q =
-    let front = frames_of sent in
-    let body = frame (request_body request) in
-    let same : front ++ take k body ≡ take (length front + k) (frames_of (sent ++ request ∷ [])) = sym (take-append-add front body k) ∙ ap (take (length front + k)) (sym (frames_on sent request)) in
-    (length front + k, subst (λ x. Appends a c x) same (Appends-trans a b c front (take k body) p q))
+    → WritesPart a sent (Some request) c
+written_part a b c sent request k p q = (k, Appends-trans a b c (frames_of sent) (take k (frame (request_body request))) p q)
 
 -- the requests that were sent, and the one that is pending
-pub part_next : (a c : Option (List ℕ)) (sent : List Request) (request : Request) (next : Option Request) → next ≡ Some request → WritesPart a (sent ++ request ∷ []) c → WritesPart a (with_next sent next) c
-part_next a c sent request next same p = subst (λ n. WritesPart a (with_next sent n) c) (sym same) p
+pub part_next : (a c : Option (List ℕ)) (sent : List Request) (request : Request) (next : Option Request) → next ≡ Some request → WritesPart a sent (Some request) c → WritesPart a sent next c
+part_next a c sent request next same p = subst (λ n. WritesPart a sent n c) (sym same) p
 
--- all that was sent, whatever is pending
-pub whole_part : (a b : Option (List ℕ)) (sent : List Request) (next : Option Request) → Appends a b (frames_of sent) → WritesPart a (with_next sent next) b
-whole_part a b sent None p = (length (frames_of sent), subst (λ x. Appends a b x) (sym (take-length (frames_of sent))) p)
-whole_part a b sent (Some request) p =
-    let front = frames_of sent in
-    let same : front ≡ take (length front) (frames_of (sent ++ request ∷ [])) = sym (ap (take (length front)) (frames_on sent request) ∙ take-append_seam front (frame (request_body request))) in
-    (length front, subst (λ x. Appends a b x) same p)
+-- all that was sent, and nothing of what is pending
+pub whole_part : (a b : Option (List ℕ)) (sent : List Request) (next : Option Request) → Appends a b (frames_of sent) → WritesPart a sent next b
+whole_part a b sent next p = (0, subst (λ x. Appends a b x) (sym (append-nil (frames_of sent))) p)
 
--- all of some requests
-pub whole_of : (a b : Option (List ℕ)) (sent : List Request) → Appends a b (frames_of sent) → WritesPart a sent b
-whole_of a b sent p = (length (frames_of sent), subst (λ x. Appends a b x) (sym (take-length (frames_of sent))) p)
+-- all that was sent, and all of what is pending
+pub whole_next : (a b : Option (List ℕ)) (sent : List Request) (request : Request) → Appends a b (frames_of (sent ++ request ∷ [])) → WritesPart a sent (Some request) b
+whole_next a b sent request p =
+    let body = frame (request_body request) in
+    let same : frames_of (sent ++ request ∷ []) ≡ frames_of sent ++ take (length body) body = frames_on sent request ∙ ap (λ x. frames_of sent ++ x) (sym (take-length body)) in
+    (length body, subst (λ x. Appends a b x) same p)
 
 -- no turn
 pub went_nowhere : {C : Type 0} (Fits : C → Trace → Type 0) (client : C) → Went Fits client [] client
@@ -72,7 +67,7 @@ heard_all bytes talk h = subst (λ x. BeginsWith bytes x) (sym (append-nil (read
 -- why a request wasn't answered
 pub unanswered : (error : DriveError) (request : Request) (bytes : List ℕ) (talk : Talk) (passed : List Reply) (new : Connection) (next : Option Request) (a b c : Option (List ℕ))
     → next ≡ Some request → ArePassed (Some request) passed → Asks request (Err error) bytes (read_in talk) passed new b c → Appends a b (frames_of (sent_in talk))
-    → DriveCause error (record { bytes = bytes; talk = talk; more = passed }) next × WritesPart a (with_next (sent_in talk) next) c
+    → DriveCause error (record { bytes = bytes; talk = talk; more = passed }) next × WritesPart a (sent_in talk) next c
 unanswered error request bytes talk passed new next a b c same h asks w =
     let r = at error asks in
     (subst (λ n. DriveCause error (record { bytes = bytes; talk = talk; more = passed }) n) (sym same) r.0, part_next a c (sent_in talk) request next same (written_part a b c (sent_in talk) request r.1.0 w r.1.1))

@@ -47,7 +47,7 @@ IsSent es (Some request) ask = (request.ask ≡ ask) ⊎ WasAsked es ask
 abbrev pub WasThere : Store → (Ask → Type 0) → Kind → List ℕ → Type 0
 WasThere from Sent k x = ((n : Name) × (from.objects k n ≡ Some x)) ⊎ ((token : Token) × (n : Name) × Sent (Ask.Put token k n x))
 
--- such an index gives a place at which such a pack has these bytes
+-- such an index gives a place at which such a pack, of the name that is given, has these bytes
 pub record IsPart (from : Store) (Sent : Ask → Type 0) (x : List ℕ) : Type 0 where
   pub index : List ℕ
   pub fact : Fact
@@ -55,6 +55,7 @@ pub record IsPart (from : Store) (Sent : Ask → Type 0) (x : List ℕ) : Type 0
   pub listed : WasThere from Sent Kind.Index index
   pub says : Says index fact
   pub there : WasThere from Sent Kind.Pack pack
+  pub named : naming.name pack ≡ fact.place.pack
   pub stands : range pack fact.place.offset fact.place.length ≡ Some x
 
 -- the byte lists of which no two may have one name: objects, blobs in packs, and what the client made of what it was handed

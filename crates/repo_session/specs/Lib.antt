@@ -10,11 +10,9 @@ pub mod Talks
 pub mod Alone
 pub mod Connections
 pub mod Laws
-pub mod Example
 pub mod Lines
 pub mod Openings
 pub mod Rolls
 pub mod Catalogs
 pub mod Obedience
-pub mod Listings
 pub mod Results

@@ -77,19 +77,19 @@ pub record Said : Type 0 where
 abbrev pub IsHeard : Said → Type 0
 IsHeard said = (rest : List ℕ) × AreFrames replies said.bytes (read_in said.talk ++ said.more) rest
 
--- some first part of the frames of the requests was written
-abbrev pub WritesPart : Option (List ℕ) → List Request → Option (List ℕ) → Type 0
-WritesPart start requests contents = (k : ℕ) × Appends start contents (take k (frames_of requests))
+-- the frame of the request that is pending
+abbrev pub pending_frame : Option Request → List ℕ
+pending_frame None = []
+pending_frame (Some request) = frame (request_body request)
+
+-- the frames of the requests sent were written, and some first part of the pending one's
+abbrev pub WritesPart : Option (List ℕ) → List Request → Option Request → Option (List ℕ) → Type 0
+WritesPart start sent next contents = (k : ℕ) × Appends start contents (frames_of sent ++ take k (pending_frame next))
 
 -- where a request is pending, the replies after the turns aren't to it
 abbrev pub ArePassed : Option Request → List Reply → Type 0
 ArePassed None more = ⊤
 ArePassed (Some request) more = Each (λ reply. ¬ Answers request reply) more
-
--- the requests of the talk, and the one that is pending
-abbrev pub with_next : List Request → Option Request → List Request
-with_next requests None = requests
-with_next requests (Some request) = requests ++ request ∷ []
 
 -- what an error of a driver comes for, where this request is pending
 abbrev pub DriveCause : DriveError → Said → Option Request → Type 0
@@ -101,18 +101,18 @@ DriveCause DriveError.Memory said next = IsHeard said
 DriveCause DriveError.Sink said next = IsHeard said × (said.more ≡ [])
 
 -- what driving a client gives: on Ok all requests were sent and answered, and nothing is pending; on an error the same of some first ones,
--- and the one that is pending may have been written in part
+-- and of the one that is pending some first part may have been written
 abbrev pub Drives : {C : Type 0} → (C → Trace → Type 0) → (C → Option Request) → C → Result ℕ DriveError → C → Said → Option (List ℕ) → Option (List ℕ) → Type 0
 Drives Fits next old (Ok n) new said start contents =
     Went Fits old said.talk new × (n ≡ length said.talk) × (next new ≡ None) × IsHeard said × (said.more ≡ []) × Appends start contents (frames_of (sent_in said.talk))
 Drives Fits next old (Err error) new said start contents =
-    Went Fits old said.talk new × DriveCause error said (next new) × WritesPart start (with_next (sent_in said.talk) (next new)) contents
+    Went Fits old said.talk new × DriveCause error said (next new) × WritesPart start (sent_in said.talk) (next new) contents
 
 -- what asking one request gives
 abbrev pub AskGives : Request → Result Reply DriveError → Said → Option (List ℕ) → Option (List ℕ) → Type 0
 AskGives request (Ok reply) said start contents = (passed : List Reply) × (said.talk ≡ record { request = request; passed = passed; reply = reply; emitted = [] } ∷ [])
     × Each IsTurn said.talk × IsHeard said × (said.more ≡ []) × Appends start contents (frames_of (request ∷ []))
-AskGives request (Err error) said start contents = (said.talk ≡ []) × DriveCause error said (Some request) × WritesPart start (request ∷ []) contents
+AskGives request (Err error) said start contents = (said.talk ≡ []) × DriveCause error said (Some request) × WritesPart start [] (Some request) contents
 
 -- ---- against a shelf
 

@@ -28,21 +28,11 @@ mod ends;
 mod laws;
 mod letters;
 mod lines;
-#[cfg(test)]
-mod listing_tests;
-#[cfg(test)]
-mod listings;
-#[cfg(test)]
-mod opening_tests;
 mod openings;
 mod outcomes;
-#[cfg(test)]
-mod result_tests;
 mod results;
 mod rolls;
 mod stepping;
-#[cfg(test)]
-mod tests;
 mod who;
 
 pub use catalogs::{Brought, Catalog, Indexed};

@@ -1,6 +1,6 @@
 //! The driver of a client against a shelf directly.
 
-ghost use Rattle.std.specs.Prelude.{◌≡◌, ◌≤◌, ◌++◌, ℕ, List, length, take, OnOk, OnErr};
+ghost use Rattle.std.specs.Prelude.{◌≡◌, ◌≤◌, ◌^◌, ◌++◌, ℕ, List, length, take, OnOk, OnErr, IfOk};
 ghost use Rattle.repo_session.specs.Talks.{Talk, Went, Steps};
 
 use crate::clients::Client;
@@ -47,7 +47,7 @@ fn keep(emitted: &[Emission], out: &mut Vec<Emission>) -> Result<(), AllocError>
 }
 
 /// Answers a client's requests from a shelf, one after another, until nothing is pending. It appends what
-/// the client gave out, and gives the number of requests.
+/// the client gave out, and gives the number of requests, at most 2^32.
 ///
 /// Without memory the store may have made one step more than the client has taken, and `out` holds some
 /// first part of what was given out.
@@ -60,6 +60,7 @@ pub fn lockstep<C: Client, S: Shelf>(
     ensures steps { S.honest shelf.old → (talk : Talk)
         × Steps C.fits C.next client.old result client.new talk (S.store shelf.old) (S.failed shelf.old) (S.store shelf.new) (S.failed shelf.new) out.old.items out.new.items }
     ensures went { (talk : Talk) × Went C.fits client.old talk client.new }
+    ensures few { IfOk result (λ n. n ≤ 2 ^ 32) }
     ensures honest { S.honest shelf.old → S.honest shelf.new }
     ensures job { C.job client.new ≡ C.job client.old }
 {

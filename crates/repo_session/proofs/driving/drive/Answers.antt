@@ -3,7 +3,7 @@ use Rattle.std.proofs.KnownBytes.{Consumes-nil, Appends-nil}
 use Rattle.std.proofs.lemmas.Result.{err_from_is_err_and}
 use Rattle.repo_session.specs.Talks.{Turn, Talk, IsTurn, Said, read_in, sent_in}
 use Rattle.repo_session.proofs.Connecting.{begins, consumed}
-use Rattle.repo_session.proofs.Talking.{silent, written_on, whole_of, whole_part, part_next, passed_none, heard_all, unanswered, went_nowhere, went_on, went_same}
+use Rattle.repo_session.proofs.Talking.{silent, written_on, whole_next, whole_part, part_next, passed_none, heard_all, unanswered, went_nowhere, went_on, went_same}
 use Rattle.repo_session.proofs.driving.drive.Goals as goal
 
 pub returns-in_err-piece-clause-carries : goal.returns-in_err-piece-clause-carries
@@ -66,7 +66,7 @@ returns-in_err-take-clause-carries g c =
       (
         went_same g.C.Client.fits c.args.client.now c.loop-turn.client c.take.new.self i.1 i.4 c.in_err-take.ensures.fits,
         begins (i.0 ++ n.0) (read_in i.1 ++ more) c.ask.new.self n.4.0.1,
-        part_next start end (sent_in i.1) c.in-Some.request.now (g.C.Client.next c.take.new.self) still (whole_of start end (sent_in i.1 ++ c.in-Some.request.now ∷ []) written),
+        part_next start end (sent_in i.1) c.in-Some.request.now (g.C.Client.next c.take.new.self) still (whole_next start end (sent_in i.1) c.in-Some.request.now written),
       ),
     )
 

@@ -1,4 +1,4 @@
-use Rattle.std.proofs.Common.{◌≡◌, [], sym, subst, ◌∙◌}
+use Rattle.std.proofs.Common.{◌≡◌, [], false, refl, sym, subst, ◌∙◌}
 use Rattle.std.proofs.lemmas.Option.{same_Some}
 use Rattle.repo_name.specs.declared.names.Name.{Name}
 use Rattle.repo_restore.specs.Restoring.{HasRoot}
@@ -18,5 +18,5 @@ returns-in-Some-clause-fits c = λ es h all.
       found = subst R same h.found.found;
       indexes = h.indexes;
       all = all;
-      turns = turn_is p c.in-Some.tree es [] [] c.start-turn.result h.found.before.nothing (c.start-turn.ensures es h.found.before.no_levels h.found.before.no_entries);
+      turns = turn_is p c.in-Some.tree es [] [] c.start-turn.result false h.found.before.nothing (c.start-turn.ensures.turns es h.found.before.no_levels h.found.before.no_entries) refl c.start-turn.ensures.flows;
     })

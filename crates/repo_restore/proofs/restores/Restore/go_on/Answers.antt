@@ -27,8 +27,8 @@ returns-in-Ask-clause-fits c = λ es h.
     let K : Ask → Type 0 = λ a. KnowsRestore new.job.snapshot q a es in
     let J : RestoreJob → Type 0 = λ j. KnowsRestore j.snapshot q range es in
     let pends = sent_pends E o.line new.line c.range_ask.result c.ask.ensures.sent is in
-    let may : May (task_of o) es range = ((o.token, h.idle.ready.idle.working), (fact, fact_read p es fact h.indexes waits.least, refl, refl, refl)) in
-    let known : KnowsRestore o.job.snapshot q range es = record { root = h.root; found = h.found; fact = fact; wanted_is = refl; pack_is = refl; offset_is = refl; length_is = refl; indexes = h.indexes; all = h.all; waits = waits } in
+    let may : May (task_of o) es range = ((o.token, h.idle.ready.idle.working), (fact, fact_read p es fact h.indexes waits.0.least, refl, refl, refl)) in
+    let known : KnowsRestore o.job.snapshot q range es = record { root = h.root; found = h.found; fact = fact; wanted_is = refl; pack_is = refl; offset_is = refl; length_is = refl; indexes = h.indexes; all = h.all; waits = waits.0; flows = waits.1 } in
     record {
       task = task_kept o.job new.job (task_of o) (task_of new) c.ask.ensures.kept.job c.ask.ensures.kept.task h.idle.task;
       fits = c.ask.ensures.fits es h.idle.ready (subst W (sym is) tt) (subst M (sym is) may) (subst P (sym is) tt);

@@ -1,16 +1,17 @@
-use Rattle.std.proofs.Common.{◌≡◌, ◌≢◌, ◌≤◌, ◌<◌, ◌⊎◌, ◌++◌, ◌∷◌, [], ℕ, List, length, refl, sym, subst, inl, inr, ◌∙◌}
+use Rattle.std.proofs.Common.{false, ◌≡◌, ◌≢◌, ◌≤◌, ◌<◌, ◌⊎◌, ◌++◌, ◌∷◌, [], ℕ, List, length, refl, sym, subst, inl, inr, ◌∙◌}
 use Rattle.repo_name.specs.declared.kinds.BlobKind.{BlobKind}
 use Rattle.repo_name.specs.declared.names.Name.{Name}
 use Rattle.repo_tree.specs.declared.nodes.Node.{Node}
 use Rattle.repo_tree.specs.Spelling.{IsTree, greatest_depth}
 use Rattle.repo_session.specs.declared.emissions.Emission.{Emission}
-use Rattle.repo_session.specs.Rebuilding.{rebuilt}
 use Rattle.repo_session.specs.Traces.{Each}
 use Rattle.repo_restore.specs.declared.nodes.Level.{Level}
 use Rattle.repo_restore.specs.Received.{Received}
 use Rattle.repo_restore.specs.Restoring.{Under, MayGive}
 use Rattle.repo_restore.specs.Walking.{WaitsByKind, StopsAt, Turns}
 use Rattle.repo_restore.specs.Walks.{AtOpen}
+use Rattle.repo_session.specs.Rebuilding.{rebuilt, Follow}
+use Rattle.repo_restore.specs.Flowing.{FlowsTo, TurnFlows}
 use Rattle.repo_restore.proofs.Passing.{path_is, entered}
 use Rattle.repo_restore.proofs.walks.Walk.enter.Goals as goal
 
@@ -44,10 +45,22 @@ returns-in-Ok-clause-ok c = λ gs root fact old h k n t none.
     let A : List Level → Type 0 = λ ls. AtOpen (Received gs) root ls (length ls) 0 (rebuilt (old ++ [])) in
     let O : List Emission → Type 0 = λ e. AtOpen (Received gs) root c.as_slice-2.result.now (length c.as_slice-2.result.now) 0 (rebuilt (old ++ e)) in
     let E : List Emission → Type 0 = λ e. Each (MayGive (Received gs) root) e in
-    let stops = c.in-Ok.ensures gs root old (subst O (sym none) (subst A (sym same) start)) (subst E (sym none) tt) in
+    let stops = c.in-Ok.ensures.stops gs root old (subst O (sym none) (subst A (sym same) start)) (subst E (sym none) tt) in
     let out = c.go_on.new.out.items in
     let stop = c.in-Ok.stop in
     let F : List Level → Type 0 = λ ls. StopsAt c.args.lookup.now (Received gs) root ls old out stop.depth stop.begun stop.what in
     let G : List Emission → Type 0 = λ e. StopsAt c.args.lookup.now (Received gs) root c.push.new.self.items old e stop.depth stop.begun stop.what in
     let R : List Emission → Type 0 = λ e. Turns c.args.lookup.now (Received gs) root c.stop_at.new.self old e c.stop_at.result in
-    subst R c.as_slice-in-Ok.ensures.value (c.stop_at.ensures c.args.lookup.now gs root old (subst G (sym c.as_slice-in-Ok.ensures.value) (subst F c.as_slice-2.ensures.value stops)) h.count)
+    subst R c.as_slice-in-Ok.ensures.value (c.stop_at.ensures.turns c.args.lookup.now gs root old (subst G (sym c.as_slice-in-Ok.ensures.value) (subst F c.as_slice-2.ensures.value stops)) h.count)
+
+pub returns-then-is_too_deep-clause-flows : goal.returns-then-is_too_deep-clause-flows
+returns-then-is_too_deep-clause-flows c = λ none. (false, let F : List Emission → Type 0 = λ e. Follow false e false in subst F (sym none) refl)
+
+pub returns-in-Ok-clause-flows : goal.returns-in-Ok-clause-flows
+returns-in-Ok-clause-flows c = λ none.
+    let F : List Emission → Type 0 = λ e. Follow false e false in
+    let next = c.in-Ok.ensures.flows false (subst F (sym none) refl) in
+    let stop = c.in-Ok.stop in
+    let G : List Emission → Type 0 = λ e. FlowsTo false e stop.what in
+    let R : List Emission → Type 0 = λ e. TurnFlows false e c.stop_at.result in
+    subst R c.as_slice-in-Ok.ensures.value (c.stop_at.ensures.flows false (subst G (sym c.as_slice-in-Ok.ensures.value) next))

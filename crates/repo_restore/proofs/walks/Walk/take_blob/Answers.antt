@@ -1,4 +1,4 @@
-use Rattle.std.proofs.Common.{◌≡◌, ◌<◌, ◌++◌, ◌∷◌, [], ℕ, List, length, sym, ap, subst, ◌∙◌}
+use Rattle.std.proofs.Common.{true, ◌≡◌, ◌<◌, ◌++◌, ◌∷◌, [], ℕ, List, length, sym, ap, subst, ◌∙◌}
 use Rattle.std.proofs.lemmas.Option.{slice_get_within}
 use Rattle.repo_name.specs.declared.names.Name.{Name}
 use Rattle.repo_session.specs.declared.emissions.Emission.{Emission}
@@ -7,6 +7,9 @@ use Rattle.repo_restore.specs.declared.nodes.Level.{Level}
 use Rattle.repo_restore.specs.Received.{Received}
 use Rattle.repo_restore.specs.Walking.{StopsAt, Turns}
 use Rattle.repo_restore.specs.Walks.{AtOpen}
+use Rattle.repo_restore.specs.Flowing.{FlowsTo, TurnFlows}
+use Rattle.repo_restore.specs.declared.nodes.Begun.{Begun}
+use Rattle.repo_restore.proofs.Flows.{piece_flows}
 use Rattle.repo_restore.proofs.Passing.{file_waits, blob_last, blob_more, blob_ends}
 use Rattle.repo_restore.proofs.walks.Walk.take_blob.Goals as goal
 
@@ -33,13 +36,13 @@ returns-in_ok-stop-in-Done-clause-ok c = λ gs root fact old h k among named lon
     let slice = c.as_slice-in-Done-2.result.now in
     let N : ℕ → Type 0 = λ n. AtOpen (Received gs) root levels (length levels) n (rebuilt (old ++ new)) in
     let A : List Level → Type 0 = λ ls. AtOpen (Received gs) root ls (length ls) c.innermost_begun-begun.result (rebuilt (old ++ new)) in
-    let stops = c.in_ok-stop-in-Done.ensures gs root old (subst A (sym c.as_slice-in-Done-2.ensures.value) (subst N (sym begun) last.0)) last.1 in
+    let stops = c.in_ok-stop-in-Done.ensures.stops gs root old (subst A (sym c.as_slice-in-Done-2.ensures.value) (subst N (sym begun) last.0)) last.1 in
     let out' = c.go_on.new.out.items in
     let stop = c.in_ok-stop-in-Done.stop in
     let F : List Level → Type 0 = λ ls. StopsAt facts (Received gs) root ls old out' stop.depth stop.begun stop.what in
     let G : List Emission → Type 0 = λ e. StopsAt facts (Received gs) root levels old e stop.depth stop.begun stop.what in
     let R : List Emission → Type 0 = λ e. Turns facts (Received gs) root c.stop_at.new.self old e c.stop_at.result in
-    subst R c.as_slice-in-Done-3.ensures.value (c.stop_at.ensures facts gs root old (subst G (sym c.as_slice-in-Done-3.ensures.value) (subst F c.as_slice-in-Done-2.ensures.value stops)) h.count)
+    subst R c.as_slice-in-Done-3.ensures.value (c.stop_at.ensures.turns facts gs root old (subst G (sym c.as_slice-in-Done-3.ensures.value) (subst F c.as_slice-in-Done-2.ensures.value stops)) h.count)
 
 pub returns-in-Waits-clause-ok : goal.returns-in-Waits-clause-ok
 returns-in-Waits-clause-ok c = λ gs root fact old h k among named long none.
@@ -78,3 +81,21 @@ returns-in-Ended-clause-ok c = λ gs root fact old h k among named long none.
     let m : mid ≡ out ++ Emission.Piece bytes ∷ [] = c.in_ok-push.ensures.items ∙ ap (λ b. out ++ Emission.Piece b ∷ []) c.in_ok-piece.ensures in
     let b = rw c.in-Ended.is at c.in_ok-next_blob.ensures in
     blob_ends facts (Received gs) root levels w.sent w.entries fact old out mid new content next bytes f same c.in-Ended.end among none m b
+
+pub returns-in_ok-stop-in-Done-clause-flows : goal.returns-in_ok-stop-in-Done-clause-flows
+returns-in_ok-stop-in-Done-clause-flows c = λ none.
+    let m = c.in_ok-push.ensures.items in
+    let piece = piece_flows c.args.lookup.now c.open_content-content.result.now c.one_more-sent.result c.in_ok-piece.piece c.args.out.now.items c.push.new.self.items c.next_blob.new.out.items Begun.Done none m (rw c.in-Done.is at c.in_ok-next_blob.ensures) in
+    let next = c.in_ok-stop-in-Done.ensures.flows true piece in
+    let stop = c.in_ok-stop-in-Done.stop in
+    let G : List Emission → Type 0 = λ e. FlowsTo true e stop.what in
+    let R : List Emission → Type 0 = λ e. TurnFlows true e c.stop_at.result in
+    subst R c.as_slice-in-Done-3.ensures.value (c.stop_at.ensures.flows true (subst G (sym c.as_slice-in-Done-3.ensures.value) next))
+
+pub returns-in-Waits-clause-flows : goal.returns-in-Waits-clause-flows
+returns-in-Waits-clause-flows c = λ none.
+    piece_flows c.args.lookup.now c.open_content-content.result.now c.one_more-sent.result c.in_ok-piece.piece c.args.out.now.items c.push.new.self.items c.next_blob.new.out.items (Begun.Waits c.in-Waits.fact) none c.in_ok-push.ensures.items (rw c.in-Waits.is at c.in_ok-next_blob.ensures)
+
+pub returns-in-Ended-clause-flows : goal.returns-in-Ended-clause-flows
+returns-in-Ended-clause-flows c = λ none.
+    piece_flows c.args.lookup.now c.open_content-content.result.now c.one_more-sent.result c.in_ok-piece.piece c.args.out.now.items c.push.new.self.items c.next_blob.new.out.items (Begun.Ended c.in-Ended.end) none c.in_ok-push.ensures.items (rw c.in-Ended.is at c.in_ok-next_blob.ensures)

@@ -33,10 +33,10 @@ use Rattle.repo_backup.specs.BackupStates.{backup_task}
 use Rattle.repo_backup.specs.Folders.{Folder, blobs_of}
 use Rattle.repo_backup.specs.Laws.{IsMadeOf}
 use Rattle.repo_backup.specs.Rules.{IsMade, SnapshotRule, Allows, GivesNothing}
-use Rattle.repo_backup.proofs.Lone.{was_asked}
+use Rattle.repo_session.proofs.Spoken.{was_asked}
 use Rattle.repo_backup.proofs.LoneRuns.{lone, covers_all}
 use Rattle.repo_backup.proofs.Puts.{is_made_later}
-use Rattle.repo_restore.specs.Laws.{RestoredIsHanded}
+use Rattle.repo_laws.specs.Laws.{RestoredIsHanded}
 use Rattle.repo_restore.specs.Received.{Received}
 use Rattle.repo_restore.specs.Restoring.{Wish, restore_task, IsForBlob, IsRestored, RestoreAllows, RestoreGives}
 
@@ -69,7 +69,7 @@ pub record IsMadeFrom (entries : List Entry) (es : Trace) (objects : Objects) (n
   pub made : (folder : Folder) → IsMade entries older folder → IsMade entries es folder
 
 module _ (w : Wish) (entries : List Entry) (from mid : Store) (es : Trace) (Sent : Ask → Type 0) (clash : NoClash (IsSpoken (IsMadeOf entries es) from Sent))
-    (there : (k : Kind) (n : Name) (x : List ℕ) → mid.objects k n ≡ Some x → WasThere from Sent k x) (source : IsMadeFrom entries es mid.objects w.snapshot) where
+    (there : (k : Kind) (n : Name) (x : List ℕ) → mid.objects k n ≡ Some x → WasThere from Sent k x) (names : (k : Kind) (n : Name) (x : List ℕ) → mid.objects k n ≡ Some x → naming.name x ≡ n) (source : IsMadeFrom entries es mid.objects w.snapshot) where
   -- what was received agrees with what was made
   agrees : (talk : Talk) (to : Store) → Shares mid (trace_of talk) to → to.objects ≡ mid.objects → Agree (λ k y. Contains (blobs_of source.rule.folder) (item_of k y)) (Received (trace_of talk))
   agrees talk to shares same k x y made r named =
@@ -84,6 +84,7 @@ module _ (w : Wish) (entries : List Entry) (from mid : Store) (es : Trace) (Sent
         listed = there Kind.Index r.given.index r.given.text index;
         says = r.given.says;
         there = there Kind.Pack r.fact.place.pack pack.0 (first Kind.Pack r.fact.place.pack pack.0 pack.1);
+        named = names Kind.Pack r.fact.place.pack pack.0 (first Kind.Pack r.fact.place.pack pack.0 pack.1);
         stands = pack.2;
       })))
       named
@@ -141,6 +142,6 @@ restored_handed who entries from mid to failed failing late last talk talk' next
     let one : found.0 ≡ stored.text = apart found.0 stored.text (inl (Kind.Snapshot, there Kind.Snapshot name found.0 found.1)) (inl (Kind.Snapshot, inr (put.0, name, covers.sent (Ask.Put put.0 Kind.Snapshot name stored.text) asked)))
     (knows.sound.named Kind.Snapshot name found.0 found.1 ∙ sym named) in
     let then = put_then who entries es put.0 name stored.text is.obeys asked in
-    handed_all (record { who = asker; snapshot = name }) entries from mid es (IsSent es next) apart there
+    handed_all (record { who = asker; snapshot = name }) entries from mid es (IsSent es next) apart there knows.sound.named
     (record { text = stored.text; token = put.0; there = found.1 ∙ ap Some one; older = then.older; rule = then.rule; made = then.made })
     talk' to count is'.obeys (led mid talk' to ran'.run) (is'.concluded (Outcome.Complete count) refl)

@@ -1,0 +1,22 @@
+-- What holds of a backup and a restore, one after the other alone with their store.
+use Rattle.std.specs.Prelude.{◌≡◌, ℕ, List, Option, Some}
+use Rattle.repo_name.specs.declared.names.Name.{Name}
+use Rattle.repo_tree.specs.declared.entries.Entry.{Entry}
+use Rattle.repo_wire.specs.declared.messages.Request.{Request}
+use Rattle.repo_store.specs.Stores.{Store}
+use Rattle.repo_session.specs.Askers.{Asker}
+use Rattle.repo_session.specs.Rebuilding.{rebuilt}
+use Rattle.repo_session.specs.Soundness.{IsSound}
+use Rattle.repo_session.specs.Talks.{Talk, trace_of, TalkRan}
+use Rattle.repo_session.specs.Traces.{emitted_in}
+use Rattle.repo_session.specs.declared.outcomes.Outcome.{Outcome}
+use Rattle.repo_backup.specs.Laws.{AreApart, IsBackup}
+use Rattle.repo_restore.specs.Laws.{IsRestore}
+
+-- a restore of the snapshot that a backup reported as stored, alone with the store that the backup was alone with, gives out the backup's entries
+-- where it reports that it gave out all
+abbrev pub RestoredIsHanded : Type 0
+RestoredIsHanded = (who : Asker) (entries : List Entry) (from mid to : Store) (failed failing late last : ℕ) (talk talk' : Talk) (next next' : Option Request) (name : Name) (blobs bytes count : ℕ) (asker : Asker)
+    → IsSound from.objects → TalkRan from failed talk mid failing → IsBackup who entries next (Some (Outcome.Stored name blobs bytes)) (trace_of talk) → AreApart entries from (trace_of talk) next
+    → TalkRan mid late talk' to last → IsRestore (record { who = asker; snapshot = name }) next' (Some (Outcome.Complete count)) (trace_of talk')
+    → rebuilt (emitted_in (trace_of talk')) ≡ entries

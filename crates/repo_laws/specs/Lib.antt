@@ -1,0 +1,2 @@
+-- The laws that this crate proves.
+pub mod Laws
