@@ -4,7 +4,9 @@ ghost use Rattle.std.specs.Prelude.{◌≡◌, ◌≤◌, length, All, IfOk};
 ghost use Rattle.repo_name.specs.Naming.{IsName};
 ghost use Rattle.repo_store.specs.Slices.{HasLength};
 
-use crate::folders::{Folder, Paths, TEMPORARY};
+use crate::folders::{Folder, Paths};
+use crate::holding::HoldFile;
+use crate::own_names::{CONFIG, FOLDERS, INDEXES, LEDGER, PACKS, SNAPSHOTS};
 use repo_locks::{Ledger, LedgerError};
 use repo_name::{Bytes, Kind, Name, Names};
 use repo_store::{Page, Shelf, ShelfError, Slice};
@@ -13,75 +15,97 @@ use std::fs::Files;
 use std::io;
 use std::io::ErrorKind;
 
-/// The folder of packs, which has one for each first byte of a name.
-const PACKS: &str = "data";
-
-/// The folders of indexes and of snapshots.
-const INDEXES: &str = "index";
-
-const SNAPSHOTS: &str = "snapshots";
-
-/// The file of the ledger, and the one of the config.
-const LEDGER: &str = "ledger";
-
-const CONFIG: &str = "config";
-
-/// A shelf that keeps a store in a folder. One program at a time may write there.
+/// A shelf that keeps a store in a folder. It holds the folder until it is dropped: no other shelf is opened
+/// there meanwhile, by this program or another.
 ///
 /// Nothing is proved of what its files hold: it is never claimed to be honest, so what is proved over
 /// honest shelves takes the machine's honesty as a premise.
-#[derive(Debug, Drop)]
-pub struct DirShelf<R> {
+#[derive(Drop)]
+pub struct DirShelf<R: Files> {
     rt: R,
     folder: Folder<R>,
+    /// The file by which the folder is held.
+    held: R::File,
     failures: u64,
+}
+
+/// Whether a folder has a config, whatever it holds.
+pub fn has_config<R: Files + AllocGlobal + Clone + Drop>(rt: &R, root: &str) -> io::Result<bool> {
+    Folder::of(rt.clone()?, root)?.has_config()
 }
 
 impl<R: Files + AllocGlobal + Clone + Drop> DirShelf<R> {
     /// The shelf in the folder of this path, which is made where it isn't there, with all that it
     /// holds: its folders and, where none is there, a fresh ledger. All of it is on the disk then, its
-    /// name in the folder above too. Where it was cut off before, it is made whole.
+    /// name in the folder above too. Where it was cut off before, it is made whole. What else is in the folder
+    /// stays as it is.
+    ///
+    /// Nothing is made where there is a config, or something of somebody else's at a name that is a store's
+    /// own: then the error is of the kind `AlreadyExists`. Where another shelf holds the folder, it is of the
+    /// kind `WouldBlock`.
     /// It counts no failure yet.
     pub fn create(rt: R, root: &str) -> io::Result<DirShelf<R>>
+    where
+        R::File: HoldFile,
         ensures { IfOk result (λ shelf. shelf.failures ≡ 0) }
     {
         let folder = Folder::of(rt.clone()?, root)?;
+        if folder.has_config()? || !folder.is_free()? {
+            return Err(io::Error::from(ErrorKind::AlreadyExists));
+        }
         folder.make_whole()?;
-        for below in [TEMPORARY, PACKS, INDEXES, SNAPSHOTS] {
-            folder.make(below)?;
-        }
-        for first in 0..=255u8 {
-            folder.make(pack_folder(rt.alloc(), first)?.as_str())?;
-        }
-        folder.sync(PACKS)?;
-        folder.sync("")?;
-        folder.clean();
+        let held = folder.hold()?;
         let shelf = DirShelf {
             rt,
             folder,
+            held,
             failures: 0,
         };
+        shelf.make_folders()?;
         shelf.begin_ledger()?;
         Ok(shelf)
     }
 
-    /// The shelf in the folder of this path, which has to be there. Nothing is made: where there is no
-    /// ledger, each call that reads it fails. What a write that was cut off left under `tmp/` is removed,
-    /// as far as that can be done.
+    /// The shelf in the folder of this path, which has to be a store: its config or its ledger is there. Else
+    /// the error is of the kind `NotFound`; where another shelf holds the folder, of the kind `WouldBlock`.
+    /// Nothing but the file by which it is held is made, and nothing is removed: where there is no ledger, each
+    /// call that reads it fails.
     /// It counts no failure yet.
     pub fn open(rt: R, root: &str) -> io::Result<DirShelf<R>>
+    where
+        R::File: HoldFile,
         ensures { IfOk result (λ shelf. shelf.failures ≡ 0) }
     {
         let folder = Folder::of(rt.clone()?, root)?;
-        if !folder.is_there() {
+        if !folder.is_store()? {
             return Err(io::Error::from(ErrorKind::NotFound));
         }
-        folder.clean();
+        let held = folder.hold()?;
         Ok(DirShelf {
             rt,
             folder,
+            held,
             failures: 0,
         })
+    }
+
+    /// Removes what writes that were cut off left under `tmp/`, as far as that can be done: files of the names
+    /// that a shelf gives while it writes, and no others.
+    pub fn clean(&self) {
+        self.folder.clean();
+    }
+
+    /// Makes its folders where they aren't there, so that they last.
+    fn make_folders(&self) -> io::Result<()> {
+        for below in FOLDERS {
+            self.folder.make(below)?;
+        }
+        for first in 0..=255u8 {
+            self.folder
+                .make(pack_folder(self.rt.alloc(), first)?.as_str())?;
+        }
+        self.folder.sync(PACKS)?;
+        self.folder.sync("")
     }
 
     /// Keeps a fresh ledger where there is none.

@@ -3,6 +3,8 @@
 ghost use Rattle.std.specs.Prelude.{◌≡◌, IfOk};
 ghost use Rattle.repo_store.specs.Slices.{HasLength};
 
+use crate::own_names::TEMPORARY;
+use crate::parts::{is_part, part_of};
 use repo_name::{Bytes, Name};
 use repo_store::Slice;
 use std::alloc::{AllocError, AllocGlobal};
@@ -10,13 +12,10 @@ use std::fs::{File, Files, OpenFile};
 use std::io::{ErrorKind, Read, Seek, SeekFrom, Write};
 use std::{fs, io};
 
-/// The folder of files that are being written.
-pub const TEMPORARY: &str = "tmp";
-
 /// A folder, by its path.
 #[derive(Debug, Drop)]
 pub struct Folder<R> {
-    rt: R,
+    pub rt: R,
     root: String,
 }
 
@@ -36,8 +35,9 @@ impl Paths {
         below: &str,
         name: &str,
     ) -> Result<Paths, AllocError> {
+        let part = part_of(folder.rt.alloc(), name)?;
         Ok(Paths {
-            temporary: folder.path(TEMPORARY, name)?,
+            temporary: folder.path(TEMPORARY, part.as_str())?,
             folder: folder.path(below, "")?,
             file: folder.path(below, name)?,
         })
@@ -61,11 +61,6 @@ impl<R: Files + AllocGlobal + Clone + Drop> Folder<R> {
             }
         }
         Ok(path)
-    }
-
-    /// Whether it is there, as a folder.
-    pub fn is_there(&self) -> bool {
-        is_folder(&self.rt, self.root.as_str())
     }
 
     /// Makes it, and each folder above, where they aren't there, so that they last.
@@ -106,7 +101,9 @@ impl<R: Files + AllocGlobal + Clone + Drop> Folder<R> {
             return;
         };
         for entry in entries {
-            if let Ok(entry) = entry {
+            if let Ok(entry) = entry
+                && is_part(entry.file_name())
+            {
                 let _ = fs::remove_file(&self.rt, entry.path());
             }
         }

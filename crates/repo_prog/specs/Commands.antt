@@ -1,4 +1,6 @@
-use Rattle.std.specs.Prelude.{◌≤◌, ◌++◌, ◌∷◌, [], ⊤, ℕ, List, Option, Result, Ok, Err, codes}
+use Rattle.std.specs.Prelude.{◌<◌, ◌≤◌, ◌++◌, ◌∷◌, [], ⊤, ℕ, List, Option, Some, None, Result, Ok, Err, codes}
+use Rattle.std.specs.Duration.{as_nanos}
+use Rattle.std.specs.declared.time.Duration.{Duration}
 use Rattle.std.specs.Io.KnownBytes.{Appends}
 use Rattle.hex.specs.Hex.{encode_lower}
 use Rattle.repo_name.specs.declared.names.Instance.{Instance}
@@ -46,11 +48,16 @@ IsErrand Errand.Locks = ⊤
 IsErrand (Errand.Refresh token) = ⊤
 IsErrand (Errand.Unlock all) = ⊤
 
+-- a time after which an idle connection ends, if there is one: it isn't 0
+abbrev pub IsIdle : Option Duration → Type 0
+IsIdle None = ⊤
+IsIdle (Some time) = 0 < as_nanos time
+
 -- an order within its limits
 abbrev pub IsOrder : Order → Type 0
 IsOrder Order.Frames = ⊤
 IsOrder (Order.Init folder making) = IsTarget making.target
-IsOrder (Order.Serve folder address connections) = 1 ≤ connections
+IsOrder (Order.Serve folder address connections idle) = (1 ≤ connections) × IsIdle idle
 IsOrder (Order.Client address errand) = IsErrand errand
 
 -- what the command gives for this input: all that was asked, or what one of the errors leaves

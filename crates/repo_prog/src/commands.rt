@@ -11,6 +11,7 @@ use crate::listening::serve_folder;
 use crate::making::init_folder;
 use crate::status::{Status, failed, refuse_words};
 use crate::words::{Order, WordsError, order_of};
+use repo_files::HoldFile;
 use std::alloc::{AllocGlobal, Global};
 use std::fs::Files;
 use std::io::{Read, Write};
@@ -59,6 +60,8 @@ pub fn perform<
     W: Write,
     F: Write,
 >(rt: &T, order: &Order, input: &mut R, output: &mut W, faults: &mut F) -> Status
+where
+    T::File: HoldFile,
     requires { IsOrder order.now }
     ensures silent { result ≡ Status.Done → faults.new ≡ faults.old }
     ensures status { result ≢ Status.Usage }
@@ -72,11 +75,13 @@ pub fn perform<
             folder,
             address,
             connections,
+            idle,
         } => serve_folder(
             rt,
             folder.as_str(),
             address.as_str(),
             *connections,
+            *idle,
             output,
             faults,
         ),
@@ -94,6 +99,8 @@ pub fn run<
     W: Write,
     F: Write,
 >(rt: &T, words: &[String], input: &mut R, output: &mut W, faults: &mut F) -> Status
+where
+    T::File: HoldFile,
     ensures silent { result ≡ Status.Done → faults.new ≡ faults.old }
     ensures usage { result ≡ Status.Usage → (input.new ≡ input.old) × (output.new ≡ output.old) }
 {

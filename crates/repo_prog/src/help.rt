@@ -17,11 +17,14 @@ Example:
 
 Exit status:
   0  the store is made, and its instance printed
-  1  it isn't, and standard error says why
+  1  it isn't, and standard error says why; what was in the folder stays as it was
   2  the words make no command, or a number is outside its limits";
 
 /// Below the help of `vault serve`.
 pub const SERVE: &str = "\
+A connection on which nothing comes for so many seconds, or that takes nothing of what is written to it, is
+ended, and the next one is served. With 0 none is.
+
 Example:
   vault serve store 127.0.0.1:7070 --connections 1000
 

@@ -7,23 +7,36 @@ ghost use Rattle.repo_prog.specs.Commands.{listening_line};
 ghost use Rattle.repo_prog.specs.declared.status.Status.{Status};
 
 use crate::status::{Status, failed};
-use repo_files::DirShelf;
+use repo_files::{DirShelf, HoldFile};
 use repo_store::{ServeError, Shelf, serve, write_whole};
 use std::alloc::{AllocGlobal, Global};
 use std::fs::Files;
+use std::io;
 use std::io::{Read, Write};
 use std::net::{Net, OpenListener, OpenStream, TcpListener};
+use std::time::Duration;
+
+/// The reading end of a connection. Where there is a time for `idle`, each read and each write of the connection
+/// fails that waits for longer.
+fn reader_of<T: OpenStream + Drop>(stream: &T, idle: Option<Duration>) -> io::Result<T> {
+    if idle.is_some() {
+        stream.set_read_timeout(idle)?;
+        stream.set_write_timeout(idle)?;
+    }
+    stream.try_clone()
+}
 
 /// Serves one connection, from its first request to its end.
 fn serve_stream<T: Read + Write + OpenStream + Drop, S: Shelf>(
     alloc: Global,
     mut stream: T,
+    idle: Option<Duration>,
     shelf: &mut S,
 ) -> Result<u64, ServeError>
     ensures runs { S.honest shelf.old → Ran (S.store shelf.old) (S.failed shelf.old) (S.store shelf.new) (S.failed shelf.new) }
     ensures honest { S.honest shelf.old → S.honest shelf.new }
 {
-    let Ok(mut reader) = stream.try_clone() else {
+    let Ok(mut reader) = reader_of(&stream, idle) else {
         return Err(ServeError::Read);
     };
     serve(alloc, &mut reader, &mut stream, shelf)
@@ -33,6 +46,7 @@ fn serve_stream<T: Read + Write + OpenStream + Drop, S: Shelf>(
 fn serve_next<L: OpenListener, S: Shelf>(
     alloc: Global,
     listener: &L,
+    idle: Option<Duration>,
     shelf: &mut S,
 ) -> Result<u64, ServeError>
 where
@@ -41,7 +55,7 @@ where
     ensures honest { S.honest shelf.old → S.honest shelf.new }
 {
     match listener.accept() {
-        Ok((stream, _)) => serve_stream(alloc, stream, shelf),
+        Ok((stream, _)) => serve_stream(alloc, stream, idle, shelf),
         Err(_) => Err(ServeError::Read),
     }
 }
@@ -60,7 +74,9 @@ fn status_after<F: Write>(status: Status, served: Result<u64, ServeError>, fault
 
 /// Takes so many connections of a bound listener, one after another, and serves each. Where one ends by
 /// an error its text is told, the next is served, and the status at the end is `Failed`. A connection
-/// that can't be taken counts, with the text `read failed`.
+/// that can't be taken counts, with the text `read failed`. With a time for `idle`, a connection on which
+/// nothing comes for so long ends with `read failed`, and one that takes nothing of what is written for so long
+/// with `write failed`.
 ///
 /// Whatever the connections bring, the shelf is where a run of the machine leads. That as many are taken
 /// as was said is no clause, since a listener tells no contract what it took.
@@ -68,6 +84,7 @@ pub fn serve_connections<L: OpenListener, S: Shelf, F: Write>(
     alloc: Global,
     listener: &L,
     connections: u64,
+    idle: Option<Duration>,
     shelf: &mut S,
     faults: &mut F,
 ) -> Status
@@ -80,23 +97,28 @@ where
 {
     let mut status = Status::Done;
     for turn in 0..connections {
-        let served = serve_next(alloc, listener, shelf);
+        let served = serve_next(alloc, listener, idle, shelf);
         status = status_after(status, served, faults);
     }
     status
 }
 
-/// `vault serve`: opens the store in a folder, binds the address, writes `listening` on a line, and
-/// serves so many connections. A folder that can't be opened is told as `shelf failed`, an address as `not
-/// reached`, a line that can't be written as `write failed`; then nothing is served.
+/// `vault serve`: opens the store in a folder, which it holds until it ends, binds the address, writes
+/// `listening` on a line, and serves so many connections, each of which ends once it is idle for so long.
+/// A folder that can't be opened, is no store, or is held by another server is told as `shelf failed`, an
+/// address as `not reached`, a line that can't be written as `write failed`; then nothing is served. What
+/// writes that were cut off left is removed once the address is bound.
 pub fn serve_folder<R: Files + Net + AllocGlobal + Clone + Drop, W: Write, F: Write>(
     rt: &R,
     folder: &str,
     address: &str,
     connections: u64,
+    idle: Option<Duration>,
     output: &mut W,
     faults: &mut F,
 ) -> Status
+where
+    R::File: HoldFile,
     ensures silent { result ≡ Status.Done → faults.new ≡ faults.old }
     ensures status { result ≢ Status.Usage }
     ensures written { result ≡ Status.Done → Appends (W.contents output.old) (W.contents output.new) listening_line }
@@ -107,8 +129,9 @@ pub fn serve_folder<R: Files + Net + AllocGlobal + Clone + Drop, W: Write, F: Wr
     let Ok(listener) = TcpListener::bind(rt, address) else {
         return failed(faults, &"not reached");
     };
+    shelf.clean();
     if write_whole(output, b"listening\n").is_err() || output.flush().is_err() {
         return failed(faults, &"write failed");
     }
-    serve_connections(rt.alloc(), &listener, connections, &mut shelf, faults)
+    serve_connections(rt.alloc(), &listener, connections, idle, &mut shelf, faults)
 }

@@ -12,7 +12,7 @@ use crate::status::{Status, failed};
 use crate::words::Making;
 use rand::rngs::SysRng;
 use rand_core::TryRng;
-use repo_files::DirShelf;
+use repo_files::{DirShelf, HoldFile, has_config};
 use repo_name::Instance;
 use repo_store::{InitError, Shelf, init, write_whole};
 use repo_tree::Config;
@@ -88,8 +88,10 @@ fn config_of(making: &Making, id: Instance) -> Config
     }
 }
 
-/// `vault init`: makes a store in a folder, which is made where it isn't there. That the folder keeps it
-/// is a premise about the machine.
+/// `vault init`: makes a store in a folder, which is made where it isn't there. What is in it stays as it is:
+/// where it has a config that is told as `exists`, and where something else has one of a store's own names, or
+/// another program holds the folder, as `shelf failed`. That the folder keeps the store is a premise about the
+/// machine.
 pub fn init_folder<R: Files + AllocGlobal + RandomSource + Clone + Drop, W: Write, F: Write>(
     rt: &R,
     folder: &str,
@@ -97,6 +99,8 @@ pub fn init_folder<R: Files + AllocGlobal + RandomSource + Clone + Drop, W: Writ
     output: &mut W,
     faults: &mut F,
 ) -> Status
+where
+    R::File: HoldFile,
     requires { IsTarget making.now.target }
     ensures silent { result ≡ Status.Done → faults.new ≡ faults.old }
     ensures status { result ≢ Status.Usage }
@@ -105,6 +109,9 @@ pub fn init_folder<R: Files + AllocGlobal + RandomSource + Clone + Drop, W: Writ
     let Ok(id) = random_instance(rt) else {
         return failed(faults, &"read failed");
     };
+    if let Ok(true) = has_config(rt, folder) {
+        return failed(faults, &InitError::Exists);
+    }
     let Ok(mut shelf) = DirShelf::create(rt, folder) else {
         return failed(faults, &"shelf failed");
     };

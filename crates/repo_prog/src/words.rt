@@ -1,6 +1,7 @@
 //! The words of the command line.
 
-ghost use Rattle.std.specs.Prelude.{◌≡◌, ◌↔◌, IfOk, IfSome, IsSome};
+ghost use Rattle.std.specs.Prelude.{◌≡◌, ◌↔◌, ◌*◌, IfOk, IfSome, IsNone, IsSome};
+ghost use Rattle.std.specs.Duration.{as_nanos};
 ghost use Rattle.repo_chunk.specs.Parameters.{AreLawful};
 ghost use Rattle.repo_tree.specs.ConfigText.{IsTarget};
 ghost use Rattle.repo_prog.specs.Commands.{IsOrder};
@@ -10,6 +11,7 @@ use crate::help::{FRAMES, INIT, SERVE};
 use clap::{Arg, ArgAction, ArgMatches, Command};
 use repo_chunk::Params;
 use std::alloc::{AllocError, Global};
+use std::time::Duration;
 
 /// How a store is made.
 #[derive(Clone, Copy, Debug, PartialEq, Eq)]
@@ -30,11 +32,13 @@ pub enum Order {
         folder: String,
         making: Making,
     },
-    /// Serve so many connections to an address, one after another, from the store in a folder.
+    /// Serve so many connections to an address, one after another, from the store in a folder. One that is idle
+    /// for longer than this ends; `None`: none does.
     Serve {
         folder: String,
         address: String,
         connections: u64,
+        idle: Option<Duration>,
     },
     /// Do an errand at a server's address.
     Client {
@@ -92,12 +96,14 @@ fn init_words<'a>(alloc: Global) -> Result<Command<'a>, AllocError> {
 }
 
 fn serve_words<'a>(alloc: Global) -> Result<Command<'a>, AllocError> {
+    let idle = number(alloc, "idle", "21600")?.value_name("SECONDS");
     Command::new(alloc, "serve")
         .about("Serves the store in a folder to one connection after another")
         .after_help(SERVE)
         .arg(needed(alloc, "DIR"))?
         .arg(needed(alloc, "ADDR"))?
-        .arg(number(alloc, "connections", "1")?)
+        .arg(number(alloc, "connections", "1")?)?
+        .arg(idle)
 }
 
 /// What `vault --version` tells.
@@ -173,6 +179,17 @@ fn init_order(alloc: Global, matches: &ArgMatches) -> Result<Order, WordsError>
     Ok(Order::Init { folder, making })
 }
 
+/// The time after which an idle connection ends, by a number of seconds: 0 makes none.
+fn idle_of(seconds: u64) -> Option<Duration>
+    ensures none { IsNone result ↔ (seconds ≡ 0) }
+    ensures some { IfSome result (λ time. as_nanos time ≡ seconds * 1_000_000_000) }
+{
+    if seconds == 0 {
+        return None;
+    }
+    Some(Duration::from_secs(seconds))
+}
+
 fn serve_order(alloc: Global, matches: &ArgMatches) -> Result<Order, WordsError>
     ensures { IfOk result IsOrder }
 {
@@ -182,10 +199,12 @@ fn serve_order(alloc: Global, matches: &ArgMatches) -> Result<Order, WordsError>
     if connections == 0 {
         return Err(WordsError::BadArgument);
     }
+    let idle = idle_of(number_of(matches, "idle")?);
     Ok(Order::Serve {
         folder,
         address,
         connections,
+        idle,
     })
 }
 

@@ -1,0 +1,132 @@
+//! What a folder has at the names that are a store's own, before anything is made or removed there.
+
+use crate::folders::Folder;
+use crate::holding::HoldFile;
+use crate::own_names::{CONFIG, FOLDERS, LEDGER, LOCK, TEMPORARY};
+use crate::parts::is_part;
+use std::alloc::{AllocError, AllocGlobal};
+use std::fs::{Files, OpenOptions};
+use std::io::ErrorKind;
+use std::{fs, io};
+
+/// What has a name. A link is neither a file nor a folder.
+#[derive(Clone, Copy, PartialEq, Eq)]
+enum Sort {
+    Nothing,
+    File,
+    Folder,
+    Other,
+}
+
+impl<R: Files + AllocGlobal + Clone + Drop> Folder<R> {
+    /// Whether it is a store: it has a config or a ledger, as a file.
+    pub fn is_store(&self) -> io::Result<bool> {
+        Ok(self.has_file(CONFIG)? || self.has_file(LEDGER)?)
+    }
+
+    /// Whether anything has the name of the config.
+    pub fn has_config(&self) -> io::Result<bool> {
+        Ok(self.sort_of(CONFIG)? != Sort::Nothing)
+    }
+
+    /// Whether nothing of somebody else's has one of a store's own names: there is a ledger already, or each
+    /// name has nothing, or what a making that was cut off can have left.
+    pub fn is_free(&self) -> io::Result<bool> {
+        match self.sort_of(LEDGER)? {
+            Sort::File => return Ok(true),
+            Sort::Nothing => {}
+            _ => return Ok(false),
+        }
+        if !matches!(self.sort_of(LOCK)?, Sort::Nothing | Sort::File) {
+            return Ok(false);
+        }
+        for below in FOLDERS {
+            if !self.is_free_folder(below)? {
+                return Ok(false);
+            }
+        }
+        Ok(true)
+    }
+
+    /// Holds the folder by its file `lock`, which is made where it isn't there, and never replaced.
+    pub fn hold(&self) -> io::Result<R::File>
+    where
+        R::File: HoldFile,
+    {
+        let path = self.path("", LOCK)?;
+        let file = OpenOptions::new()
+            .read(true)
+            .write(true)
+            .create(true)
+            .open(&self.rt, path.as_str())?;
+        file.try_hold()?;
+        Ok(file)
+    }
+
+    /// Whether a file has this name, or a link to one.
+    fn has_file(&self, name: &str) -> io::Result<bool> {
+        let path = self.path("", name)?;
+        match fs::metadata(&self.rt, path.as_str()) {
+            Ok(found) => Ok(found.is_file()),
+            Err(error) if error.kind() == ErrorKind::NotFound => Ok(false),
+            Err(error) => Err(error),
+        }
+    }
+
+    /// What has this name.
+    fn sort_of(&self, name: &str) -> io::Result<Sort> {
+        let path = self.path("", name)?;
+        match fs::symlink_metadata(&self.rt, path.as_str()) {
+            Ok(found) if found.is_file() => Ok(Sort::File),
+            Ok(found) if found.is_dir() => Ok(Sort::Folder),
+            Ok(_) => Ok(Sort::Other),
+            Err(error) if error.kind() == ErrorKind::NotFound => Ok(Sort::Nothing),
+            Err(error) => Err(error),
+        }
+    }
+
+    /// Whether nothing has the name of one of a store's folders, or a folder that has no file in it.
+    fn is_free_folder(&self, below: &str) -> io::Result<bool> {
+        match self.sort_of(below)? {
+            Sort::Nothing => Ok(true),
+            Sort::Folder => self.has_no_file(below),
+            _ => Ok(false),
+        }
+    }
+
+    /// Whether a folder has nothing in it but folders, however deep, and what was being written.
+    fn has_no_file(&self, below: &str) -> io::Result<bool> {
+        let mut waiting = Vec::new(self.rt.alloc());
+        waiting.push(String::from_str(self.rt.alloc(), below)?)?;
+        for _ in 0..u64::MAX {
+            let Some(below) = waiting.pop() else {
+                return Ok(true);
+            };
+            if !self.add_folders(below.as_str(), &mut waiting)? {
+                return Ok(false);
+            }
+        }
+        Ok(false)
+    }
+
+    /// Adds the folders in a folder; whether nothing else is in it but what was being written.
+    fn add_folders(&self, below: &str, folders: &mut Vec<String>) -> io::Result<bool> {
+        let path = self.path(below, "")?;
+        for entry in fs::read_dir(&self.rt, path.as_str())? {
+            let entry = entry?;
+            let name = entry.file_name();
+            let found = entry.file_type()?;
+            if found.is_dir() {
+                folders.push(self.child(below, name)?)?;
+            } else if !found.is_file() || below != TEMPORARY || !is_part(name) {
+                return Ok(false);
+            }
+        }
+        Ok(true)
+    }
+
+    /// The path of an entry of a folder, below this one.
+    fn child(&self, below: &str, name: &str) -> Result<String, AllocError> {
+        format!(in self.rt.alloc(); "{below}/{name}")
+    }
+}
