@@ -1,6 +1,7 @@
 #!/usr/bin/env bash
 # Two machines back up into one store, and the server is killed in the middle of a backup and started again.
-# The backup is run again; then all that was stored is restored, and compared.
+# The backup is run again; then all that was stored is restored, and compared. While a server runs, a second one on
+# the same folder is refused; after the kill nothing stands in the way of the next.
 #
 # Usage: examples/server-killed.sh. The port is 7072, or PORT. All that it makes lies in a temporary folder,
 # which is removed at the end.
@@ -22,6 +23,13 @@ head -c 40000000 /dev/urandom >"$work/desktop/films/two"
 echo "== a store with packs of 1 MiB, so that a backup takes many steps"
 "$vault" init "$work/store" --min 65536 --max 1048576 --bits 17 --target 1048576
 serve 100
+
+echo "== a second server on the same folder is refused"
+status=0
+"$vault" serve "$work/store" 127.0.0.1:0 >"$work/second" 2>&1 || status=$?
+echo "it ended with status $status and the text: $(cat "$work/second")"
+[ "$status" -eq 1 ]
+[ "$(cat "$work/second")" = "shelf failed" ]
 
 echo "== the laptop backs up"
 laptop=$("$vault" backup "$address" laptop "$work/laptop")

@@ -27,7 +27,7 @@ serve() {
     return 1
 }
 
-echo "== build (the first time this proves all of it)"
+echo "== build (the first time this proves all of it: some 40 minutes)"
 crate=$(cd "$(dirname "${BASH_SOURCE[0]}")/../crates/vault" && pwd)
 (cd "$crate" && rt run -- --version) >"$work/built" 2>&1 || { cat "$work/built" >&2; exit 1; }
 vault=$crate/out/vault

@@ -4,7 +4,7 @@
 # memory, and no other.
 #
 # The tests are the proved program that `rt test` builds. The requests are counted, and one of them refused, by a
-# small library that stands before malloc and realloc. Usage: scripts/refused-growth.sh CRATE [MOST]. No more than
+# small library that stands before malloc and realloc (refuse.c). Usage: scripts/refused-growth.sh CRATE [MOST]. No more than
 # MOST requests (20000) of one test are refused.
 set -euo pipefail
 most=${2:-20000}
@@ -13,39 +13,7 @@ work=$(mktemp -d)
 trap 'rm -rf "$work"' EXIT
 rt test >"$work/tests" 2>&1 || { tail -n 5 "$work/tests" >&2; exit 1; }
 
-gcc -shared -fPIC -O1 -o "$work/refuse.so" -xc - <<'C'
-#define _GNU_SOURCE
-#include <dlfcn.h>
-#include <stdlib.h>
-#include <unistd.h>
-
-static long left = -1;
-
-/* Whether this request is the one to refuse. A file of the name in REFUSED tells that it was made. */
-static int is_refused(void) {
-    if (left < 0) {
-        const char *at = getenv("REFUSE");
-        left = at ? atol(at) : 0;
-    }
-    if (left == 0 || --left > 0) {
-        return 0;
-    }
-    symlink("refused", getenv("REFUSED"));
-    return 1;
-}
-
-void *malloc(size_t size) {
-    static void *(*next)(size_t);
-    if (!next) next = (void *(*)(size_t))dlsym(RTLD_NEXT, "malloc");
-    return is_refused() ? NULL : next(size);
-}
-
-void *realloc(void *block, size_t size) {
-    static void *(*next)(void *, size_t);
-    if (!next) next = (void *(*)(void *, size_t))dlsym(RTLD_NEXT, "realloc");
-    return is_refused() ? NULL : next(block, size);
-}
-C
+gcc -shared -fPIC -O1 -o "$work/refuse.so" ../../scripts/refuse.c
 
 program=$PWD/out/$1_tests
 for test in $("$program" --list | grep -o '[a-z_:]*refused_growth[a-z_]*'); do

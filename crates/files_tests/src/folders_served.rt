@@ -1,0 +1,240 @@
+//! Folders that are served, over sockets, and the words that serve them.
+
+use crate::runs::{Run, TICKET, TOKEN, words_of};
+use crate::sockets::{DEVICE, SECOND, answer, client};
+use crate::yards::Yard;
+use repo_prog::{Order, order_of, serve_folder};
+use std::alloc::{AllocError, Global};
+use std::io;
+use std::io::Write;
+use std::net::{OpenListener, Shutdown, SocketAddr, TcpListener, TcpStream};
+use std::test::Fail;
+use std::time::Duration;
+
+/// An output that calls back: when it is told that the server listens, it connects to it and asks.
+#[derive(Drop)]
+struct Caller {
+    rt: HostRuntime,
+    address: SocketAddr,
+    asks: Vec<u8>,
+    /// It asks no more.
+    is_last: bool,
+    told: Vec<u8>,
+    client: Option<TcpStream>,
+}
+
+impl Caller {
+    /// A caller that asks with these bytes, at a port that was free.
+    fn new(rt: HostRuntime, asks: Vec<u8>, is_last: bool) -> io::Result<Caller> {
+        let free = TcpListener::bind(&rt, "127.0.0.1:0")?;
+        Ok(Caller {
+            rt,
+            address: free.local_addr()?,
+            asks,
+            is_last,
+            told: Vec::new(rt.alloc()),
+            client: None,
+        })
+    }
+
+    /// Connects, and asks.
+    fn calls(&mut self) -> io::Result<()> {
+        let client = client(self.rt, self.address, self.asks.as_slice())?;
+        if self.is_last {
+            client.shutdown(Shutdown::Write)?;
+        }
+        self.client = Some(client);
+        Ok(())
+    }
+
+    /// What it was answered, in hexadecimal.
+    fn answer(&mut self) -> io::Result<String> {
+        let alloc = self.rt.alloc();
+        match &mut self.client {
+            Some(client) => answer(alloc, client),
+            None => Ok(String::new(alloc)),
+        }
+    }
+}
+
+impl Write for Caller {
+    fn write(&mut self, buf: &[u8]) -> io::Result<usize> {
+        if self.client.is_none() {
+            self.calls()?;
+        }
+        self.told.extend_from_slice(buf)?;
+        Ok(buf.len())
+    }
+
+    fn flush(&mut self) -> io::Result<()> {
+        Ok(())
+    }
+}
+
+/// Serves a folder to one caller: what the server told, and the reply in hexadecimal.
+fn served(caller: &mut Caller, root: &str, idle: Option<Duration>) -> io::Result<String> {
+    let alloc = caller.rt.alloc();
+    let place = format!(in alloc; "{}", caller.address)?;
+    let mut run = Run::new(alloc);
+    let rt = caller.rt;
+    run.status = serve_folder(&rt, root, place.as_str(), 1, idle, caller, &mut run.faults);
+    run.output.extend_from_slice(caller.told.as_slice())?;
+    with_answer(&run, caller)
+}
+
+/// What a run told, and what a caller was answered.
+fn with_answer(run: &Run, caller: &mut Caller) -> io::Result<String> {
+    let alloc = caller.rt.alloc();
+    let mut text = run.told(alloc)?;
+    text.push_str(caller.answer()?.as_str())?;
+    Ok(text)
+}
+
+/// The caller of these bytes in hexadecimal.
+fn asking(rt: HostRuntime, digits: &str, is_last: bool) -> io::Result<Caller> {
+    match hex::decode(rt.alloc(), digits) {
+        Ok(asks) => Caller::new(rt, asks, is_last),
+        Err(_) => Err(io::Error::from(io::ErrorKind::InvalidInput)),
+    }
+}
+
+/// After how long the words end an idle connection; `None` where they make no command.
+fn idle_of(alloc: Global, words: &str) -> Result<Option<Option<Duration>>, AllocError> {
+    let words = words_of(alloc, words)?;
+    match order_of(alloc, words.as_slice()) {
+        Ok(Order::Serve { idle, .. }) => Ok(Some(idle)),
+        _ => Ok(None),
+    }
+}
+
+/// Listens at a free port of the loopback, and gives it as a word.
+fn taken_port(rt: HostRuntime) -> io::Result<(TcpListener, String)> {
+    let taken = TcpListener::bind(&rt, "127.0.0.1:0")?;
+    let word = format!(in rt.alloc(); " {}", taken.local_addr()?)?;
+    Ok((taken, word))
+}
+
+impl Yard {
+    /// The folder is served to one client: what is told, and the reply.
+    fn serves(&mut self, digits: &str, told: &str, reply: &str) {
+        self.serves_within(digits, true, None, told, reply);
+    }
+
+    /// The same, where the client asks no more or stays, and is idle for no longer than this.
+    fn serves_within(
+        &mut self,
+        digits: &str,
+        is_last: bool,
+        idle: Option<Duration>,
+        told: &str,
+        reply: &str,
+    ) {
+        let served = match asking(self.rt, digits, is_last) {
+            Ok(mut caller) => served(&mut caller, self.root.as_str(), idle),
+            Err(error) => Err(error),
+        };
+        let is_so = match served {
+            Ok(text) => text.as_str().strip_prefix(told) == Some(reply),
+            Err(_) => false,
+        };
+        self.count(is_so);
+    }
+
+    /// An address at which somebody listens isn't listened to.
+    fn serves_nowhere(&mut self) {
+        match taken_port(self.rt) {
+            Ok((_taken, word)) => self.tells("vault serve ", word.as_str(), "1||not reached\n"),
+            Err(_) => self.count(false),
+        }
+    }
+
+    /// The words after those that every server has end an idle connection after so long.
+    fn idles(&mut self, words: &str, wanted: Option<Option<Duration>>) {
+        let is_so = matches!(idle_of(self.rt.alloc(), words), Ok(idle) if idle == wanted);
+        self.count(is_so);
+    }
+}
+
+// The second ticket is token 2, since the folder kept the first.
+#[test]
+fn a_folder_is_served(rt: HostRuntime) -> Result<(), Fail> {
+    let mut yard = Yard::store(rt, "served")?;
+    yard.serves(TICKET, "0|listening\n|", TOKEN);
+    yard.serves(TICKET, "0|listening\n|", SECOND);
+    assert_eq!(rt; yard.end(), 0);
+    Ok(())
+}
+
+#[test]
+fn a_folder_is_served_to_who_makes_no_sense(rt: HostRuntime) -> Result<(), Fail> {
+    let mut yard = Yard::store(rt, "no-sense")?;
+    yard.serves("00000018", "1|listening\n|malformed\n", "");
+    yard.serves("0000", "1|listening\n|malformed\n", "");
+    assert_eq!(rt; yard.end(), 0);
+    Ok(())
+}
+
+// A ledger that makes no sense, and one that isn't there: code 10.
+#[test]
+fn a_store_without_its_ledger_is_served(rt: HostRuntime) -> Result<(), Fail> {
+    let mut yard = Yard::store(rt, "no-ledger")?;
+    yard.writes("ledger", "no ledger");
+    yard.serves(TICKET, "0|listening\n|", DEVICE);
+    yard.has("ledger", "no ledger");
+    yard.removes("ledger");
+    yard.serves(TICKET, "0|listening\n|", DEVICE);
+    yard.lacks("ledger");
+    assert_eq!(rt; yard.end(), 0);
+    Ok(())
+}
+
+#[test]
+fn a_silent_client_of_a_folder_is_ended(rt: HostRuntime) -> Result<(), Fail> {
+    let mut yard = Yard::store(rt, "silent")?;
+    let idle = Some(Duration::from_millis(200));
+    yard.serves_within("", false, idle, "1|listening\n|read failed\n", "");
+    yard.serves_within(TICKET, false, idle, "1|listening\n|read failed\n", TOKEN);
+    yard.serves_within(TICKET, true, idle, "0|listening\n|", SECOND);
+    assert_eq!(rt; yard.end(), 0);
+    Ok(())
+}
+
+// A word that is no address, and an address at which another one listens.
+#[test]
+fn addresses_that_cannot_be_listened_to(rt: HostRuntime) -> Result<(), Fail> {
+    let mut yard = Yard::store(rt, "addresses")?;
+    yard.tells("vault serve ", " nowhere", "1||not reached\n");
+    yard.serves_nowhere();
+    assert_eq!(rt; yard.end(), 0);
+    Ok(())
+}
+
+// A file in a folder's place, and a folder that isn't there.
+#[test]
+fn folders_that_are_none(rt: HostRuntime) -> Result<(), Fail> {
+    let mut yard = Yard::store(rt, "none")?;
+    yard.tells("vault init ", "/config", "1||shelf failed\n");
+    yard.tells("vault serve ", "/config 127.0.0.1:0", "1||shelf failed\n");
+    yard.tells("vault serve ", "/away 127.0.0.1:0", "1||shelf failed\n");
+    yard.lacks("away");
+    assert_eq!(rt; yard.end(), 0);
+    Ok(())
+}
+
+#[test]
+fn words_tell_how_long_a_connection_may_idle(rt: HostRuntime) -> Result<(), Fail> {
+    let mut yard = Yard::empty(rt, "idle-words")?;
+    yard.idles("vault serve x y", Some(Some(Duration::from_secs(21_600))));
+    yard.idles("vault serve x y --idle 0", Some(None));
+    yard.idles(
+        "vault serve x y --idle 1",
+        Some(Some(Duration::from_secs(1))),
+    );
+    let greatest = Some(Some(Duration::from_secs(u64::MAX)));
+    yard.idles("vault serve x y --idle 18446744073709551615", greatest);
+    yard.idles("vault serve x y --idle 18446744073709551616", None);
+    yard.idles("vault serve x y --idle -1", None);
+    yard.idles("vault serve x y --idle soon", None);
+    assert_eq!(rt; yard.end(), 0);
+    Ok(())
+}

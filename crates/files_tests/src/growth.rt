@@ -1,0 +1,136 @@
+//! Commands for which there is no memory at some moment. The tests hold whichever one growth is refused: a command is then
+//! done all the same, or it has failed and told why.
+
+use crate::replies::{
+    FILE_TREE, Slow, TREE, bytes, frames, granted, name_text, one_file, snapshot,
+};
+use crate::runs::{CALLER, Run};
+use repo_name::{Token, name_of};
+use repo_prog::{
+    FramesError, backup_entries, frames as answer_frames, locks_command, refresh_command,
+    restore_into,
+};
+use repo_session::Emission;
+use repo_wire::Say;
+use std::alloc::{AllocError, Global};
+use std::io;
+use std::io::Write;
+
+/// The reply to `locks` that has one live lock: token 1, exclusive, time 5, host `a`.
+const LISTED: &str =
+    "0000002e85010101010101010101010101010101010000000000000001000100000000000000010100000000000000050161";
+
+/// Whether a command told this, or failed and told why. Where the test's own texts get no memory, nothing is run.
+fn is_told(told: Result<String, AllocError>, wanted: &str) -> bool {
+    let Ok(told) = told else {
+        return true;
+    };
+    let fault = told.as_str().strip_prefix("1||").unwrap_or("");
+    told.as_str() == wanted || !fault.is_empty()
+}
+
+/// What `locks` tells of one lock.
+fn listed(alloc: Global) -> Result<String, AllocError> {
+    let Ok(reply) = hex::decode(alloc, LISTED) else {
+        return Err(AllocError);
+    };
+    let mut reader = Slow {
+        left: reply.as_slice(),
+    };
+    let mut run = Run::new(alloc);
+    let (w, o, f) = (&mut run.sent, &mut run.output, &mut run.faults);
+    run.status = locks_command(alloc, &CALLER, &mut reader, w, o, f);
+    run.told(alloc)
+}
+
+/// What `refresh` tells where it is done.
+fn refreshed(alloc: Global) -> Result<String, AllocError> {
+    let mut says = Vec::new(alloc);
+    says.push(Say::Done)?;
+    let replies = frames(alloc, says)?;
+    let mut reader = Slow {
+        left: replies.as_slice(),
+    };
+    let mut run = Run::new(alloc);
+    let (w, o, f) = (&mut run.sent, &mut run.output, &mut run.faults);
+    run.status = refresh_command(alloc, &CALLER, Token(7), &mut reader, w, o, f);
+    run.told(alloc)
+}
+
+/// What a backup of nothing tells.
+fn backed_up(alloc: Global) -> Result<String, AllocError> {
+    let replies = frames(alloc, granted(alloc, 4)?)?;
+    let mut reader = Slow {
+        left: replies.as_slice(),
+    };
+    let mut run = Run::new(alloc);
+    let (w, o, f) = (&mut run.sent, &mut run.output, &mut run.faults);
+    let nothing = Vec::new(alloc);
+    run.status = backup_entries(alloc, &CALLER, "a", nothing, &mut reader, w, o, f);
+    run.told(alloc)
+}
+
+/// Whether it is as it has to be.
+fn is_stored(alloc: Global) -> Result<bool, AllocError> {
+    let name = name_text(alloc, snapshot(alloc, TREE)?.as_str())?;
+    let wanted = format!(in alloc; "0|stored {name} 1 12\n|")?;
+    Ok(is_told(backed_up(alloc), wanted.as_str()))
+}
+
+/// What a restore of one file tells.
+fn given_out(alloc: Global) -> Result<String, AllocError> {
+    let says = one_file(alloc, bytes(alloc, "abc")?)?;
+    let replies = frames(alloc, says)?;
+    let name = name_of(snapshot(alloc, FILE_TREE)?.as_bytes());
+    let mut reader = replies.as_slice();
+    let mut run = Run::new(alloc);
+    let (w, o, f) = (&mut run.sent, &mut run.output, &mut run.faults);
+    let takes = |_: &Emission| true;
+    run.status = restore_into(alloc, &CALLER, name, takes, &mut reader, w, o, f);
+    run.told(alloc)
+}
+
+/// How many commands didn't tell what they have to.
+fn differing(alloc: Global) -> u64 {
+    let mut differ = 0u64;
+    for is_so in [
+        is_told(listed(alloc), "0|1 exclusive 5 a\n|"),
+        is_told(refreshed(alloc), "0|refreshed\n|"),
+        is_stored(alloc).unwrap_or(true),
+        is_told(given_out(alloc), "0|complete 1\n|"),
+    ] {
+        if !is_so {
+            differ = differ.saturating_add(1);
+        }
+    }
+    differ
+}
+
+#[test]
+fn refused_growth_of_commands(rt: HostRuntime) {
+    assert_eq!(rt; differing(rt.alloc()), 0);
+}
+
+/// Takes all, and keeps nothing.
+#[derive(Drop)]
+struct Pit;
+
+impl Write for Pit {
+    fn write(&mut self, buf: &[u8]) -> io::Result<usize> {
+        Ok(buf.len())
+    }
+
+    fn flush(&mut self) -> io::Result<()> {
+        Ok(())
+    }
+}
+
+// Two requests: a ticket, and its shared lock. Where a growth is refused the answer is the one for memory, and no other.
+#[test]
+fn refused_growth_of_frames(rt: HostRuntime) {
+    let requests =
+        "00000019010101010101010101010101010101010100000000000000010000002c0201010101010101010101010101010101000000000000000200000000000000010100000000000000050161";
+    let mut input = requests.as_bytes();
+    let ended = answer_frames(rt.alloc(), &mut input, &mut Pit);
+    assert!(rt; ended == Ok(2) || ended == Err(FramesError::Memory));
+}

@@ -1,0 +1,173 @@
+//! What is asked of a store in the tests, and the shelf that it is asked of.
+
+ghost use Rattle.std.specs.Prelude.{IfOk};
+ghost use Rattle.repo_name.specs.Rows.{IsHost};
+ghost use Rattle.repo_store.specs.StoreMachine.{IsAnswerable};
+
+use repo_locks::Ledger;
+use repo_name::{Bytes, Instance, Kind, LockRow, Text, Token, name_of};
+use repo_store::{MemShelf, Shelf, answer};
+use repo_wire::{Ask, Request, Say};
+use std::alloc::{AllocError, Global};
+
+/// What is asked, of a store that keeps a config, a live lock 1, a fresh number 2 and, where the ask wants it so, the
+/// pack `abc`.
+#[derive(Clone, Copy)]
+pub enum Case {
+    Ticket,
+    Lock,
+    Refresh,
+    Unlock,
+    PutOfANewName,
+    PutOfANameThatIsThere,
+    DeleteOfWhatIsThere,
+    DeleteOfNothing,
+    Locks,
+    List,
+    Get,
+    Range,
+    Config,
+}
+
+pub const CASES: [Case; 13] = [
+    Case::Ticket,
+    Case::Lock,
+    Case::Refresh,
+    Case::Unlock,
+    Case::PutOfANewName,
+    Case::PutOfANameThatIsThere,
+    Case::DeleteOfWhatIsThere,
+    Case::DeleteOfNothing,
+    Case::Locks,
+    Case::List,
+    Case::Get,
+    Case::Range,
+    Case::Config,
+];
+
+impl Case {
+    /// Whether the store has the pack `abc` before the ask.
+    pub fn has_the_pack(self) -> bool {
+        !matches!(self, Case::PutOfANewName | Case::DeleteOfNothing)
+    }
+
+    /// Whether the live lock is exclusive, which a deletion wants.
+    pub fn is_exclusive(self) -> bool {
+        matches!(self, Case::DeleteOfWhatIsThere | Case::DeleteOfNothing)
+    }
+
+    /// Whether the ask makes a writing call; each of them makes a reading call too.
+    pub fn writes(self) -> bool {
+        !matches!(
+            self,
+            Case::Locks | Case::List | Case::Get | Case::Range | Case::Config
+        )
+    }
+}
+
+/// A lock's host.
+fn host(alloc: Global) -> Result<Text, AllocError>
+    ensures { IfOk result IsHost }
+{
+    Ok(Text::of(String::from_str(alloc, "a")?))
+}
+
+/// The row of a shared lock, at the time 5.
+pub fn row(alloc: Global, token: u64) -> Result<LockRow, AllocError>
+    ensures { IfOk result (λ row. IsHost row.host) }
+{
+    Ok(LockRow {
+        token: Token(token),
+        exclusive: false,
+        time: 5,
+        host: host(alloc)?,
+    })
+}
+
+/// The ask that puts the pack `abc`.
+fn put(alloc: Global) -> Result<Ask, AllocError>
+    ensures { IfOk result IsAnswerable }
+{
+    Ok(Ask::Put {
+        token: Token(1),
+        kind: Kind::Pack,
+        name: name_of(b"abc"),
+        bytes: Bytes::of(b"abc".to_vec(alloc)?),
+    })
+}
+
+/// What is asked.
+pub fn ask_of(alloc: Global, case: Case) -> Result<Ask, AllocError>
+    ensures { IfOk result IsAnswerable }
+{
+    let (token, kind, name) = (Token(1), Kind::Pack, name_of(b"abc"));
+    Ok(match case {
+        Case::Ticket => Ask::Ticket,
+        Case::Lock => Ask::Lock(row(alloc, 2)?),
+        Case::Refresh => Ask::Refresh { token, time: 9 },
+        Case::Unlock => Ask::Unlock(token),
+        Case::PutOfANewName | Case::PutOfANameThatIsThere => put(alloc)?,
+        Case::DeleteOfWhatIsThere | Case::DeleteOfNothing => Ask::Delete { token, kind, name },
+        Case::Locks => Ask::Locks,
+        Case::List => Ask::List { kind, after: None },
+        Case::Get => Ask::Get { kind, name },
+        Case::Range => Ask::Range {
+            pack: name,
+            offset: 0,
+            length: 1,
+        },
+        Case::Config => Ask::Config,
+    })
+}
+
+/// What a store says.
+pub fn said<S: Shelf>(alloc: Global, shelf: &mut S, ask: Ask) -> Say
+    requires { IsAnswerable ask }
+{
+    let instance = Instance([7; 16]);
+    let sequence = 4;
+    answer(
+        alloc,
+        shelf,
+        &Request {
+            instance,
+            sequence,
+            ask,
+        },
+    )
+    .say
+}
+
+/// What a call gives whose error tells of memory alone here.
+pub fn kept<T: Drop, E: Drop>(answer: Result<T, E>) -> Result<T, AllocError> {
+    match answer {
+        Ok(value) => Ok(value),
+        Err(_) => Err(AllocError),
+    }
+}
+
+/// The ledger before the ask.
+fn ledger(alloc: Global, case: Case) -> Result<Ledger, AllocError> {
+    let mut ledger = Ledger::new(alloc);
+    kept(ledger.ticket())?;
+    kept(ledger.lock(Token(1), case.is_exclusive(), 5, "a"))?;
+    kept(ledger.ticket())?;
+    Ok(ledger)
+}
+
+/// Puts the pack `abc`, where the ask wants it there.
+fn put_the_pack(shelf: &mut MemShelf, case: Case) -> Result<(), AllocError> {
+    if case.has_the_pack() {
+        kept(shelf.put(Kind::Pack, &name_of(b"abc"), b"abc"))?;
+    }
+    Ok(())
+}
+
+/// A shelf of which this is asked.
+pub fn ready(alloc: Global, case: Case) -> Result<MemShelf, AllocError> {
+    let mut shelf = MemShelf::new(alloc);
+    kept(shelf.save_ledger(&ledger(alloc, case)?))?;
+    put_the_pack(&mut shelf, case)?;
+    kept(shelf.save_config(b"{}"))?;
+    Ok(shelf)
+}

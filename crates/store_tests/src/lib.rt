@@ -1,0 +1,16 @@
+//! Tests of repo_store: what no clause says of its calls, over shelves in memory that may fail as they are told, and over
+//! connections in memory. What the store answers to frames is shown by the stored output of `vault` instead.
+//!
+//! Each test is a straight list of steps that count what isn't as wanted, with one assertion at its end: so its proof is cheap.
+#![tactic(auto)]
+
+#[cfg(test)]
+mod asks;
+#[cfg(test)]
+mod connections;
+#[cfg(test)]
+mod failures;
+#[cfg(test)]
+mod growth;
+#[cfg(test)]
+mod limits;

@@ -1,0 +1,231 @@
+"""The commands of clients over what a server says: their status, what they send, show and tell."""
+
+from dataclasses import dataclass, field
+
+from frames import REPLIES, REQUESTS, Malformed, Message, Stream
+from jobs import Backup, Client, List, Restore, StartRefused
+
+INSTANCE = bytes([1]) * 16
+STALE = 1_800
+
+
+class Failed(Exception):
+    """A command that ends without completing, and its text."""
+
+
+@dataclass
+class Server:
+    """What a server says, and how a command's streams behave."""
+    replies: bytes = b""
+    sent_room: int | None = None
+    output_room: int | None = None
+    stop: int | None = None
+    time: int = 5
+
+
+@dataclass
+class Run:
+    """What came of a command."""
+    status: int = 0
+    sent: bytes = b""
+    given: list = field(default_factory=list)
+    output: bytes = b""
+    faults: str = ""
+
+
+def written(taken, room, data):
+    """What a writer took, and whether it took all."""
+    if room is None or len(taken) + len(data) <= room:
+        return taken + data, True
+    return taken + data[:room - len(taken)], False
+
+
+class Talk:
+    """A connection: requests are sent, and the replies to them read. Others are passed over."""
+
+    def __init__(self, server, run):
+        self.server, self.run = server, run
+        self.stream = Stream(server.replies, REPLIES)
+
+    def send(self, request):
+        self.run.sent, whole = written(self.run.sent, self.server.sent_room, request.frame())
+        if not whole:
+            raise Failed("write failed")
+
+    def hear(self, request):
+        while True:
+            try:
+                reply = self.stream.next()
+            except Malformed:
+                raise Failed("malformed")
+            if reply is None:
+                raise Failed("read failed")
+            if (reply.instance, reply.sequence) == (request.instance, request.sequence):
+                return reply
+
+    def ask(self, sequence, ask):
+        """What is said to one ask, by which the command stands or falls."""
+        request = Message(INSTANCE, sequence, ask)
+        self.send(request)
+        return self.hear(request).what
+
+    def drive(self, client):
+        """Brings a client to its end."""
+        while client.pending:
+            request = client.pending
+            self.send(request)
+            client.take(self.hear(request))
+            for part in client.emitted:
+                if len(self.run.given) == self.server.stop:
+                    raise Failed("stopped")
+                self.run.given.append(part)
+        return client.outcome
+
+    def show(self, text):
+        self.run.output, whole = written(self.run.output, self.server.output_room, text.encode())
+        if not whole:
+            raise Failed("write failed")
+
+
+def unwelcome(say):
+    return Failed(f"refused {say[1]}" if say[0] == "refused" else "badreply")
+
+
+def rows_of(say):
+    if say[0] != "rows":
+        raise unwelcome(say)
+    return say[1]
+
+
+def done(say):
+    if say != ("done",):
+        raise unwelcome(say)
+
+
+def locks(talk):
+    lines = ""
+    for token, exclusive, time, host in rows_of(talk.ask(1, ("locks",))):
+        lines += f"{token} {'exclusive' if exclusive else 'shared'} {time} {host}\n"
+    talk.show(lines)
+
+
+def refresh(talk, token):
+    done(talk.ask(1, ("refresh", token, talk.server.time)))
+    talk.show("refreshed\n")
+
+
+def unlock(talk, everything):
+    now = talk.server.time
+    rows = rows_of(talk.ask(1, ("locks",)))
+    chosen = [row[0] for row in rows if everything or now > row[2] and now - row[2] > STALE]
+    for sequence, token in enumerate(chosen, 2):
+        done(talk.ask(sequence, ("unlock", token)))
+        talk.show(f"removed {token}\n")
+
+
+def job(talk, core, host):
+    outcome = talk.drive(Client(core, INSTANCE, host, talk.server.time))
+    word = outcome.text.split(" ")[0]
+    if word not in ("stored", "complete", "listed"):
+        raise Failed(outcome.text)
+    return outcome
+
+
+def snapshots(talk):
+    rows = job(talk, List(), "vault").rows
+    talk.show("".join(f"{name.hex()} {time} {host}\n" for name, host, time, _ in rows))
+
+
+def restore(talk, name):
+    talk.show(job(talk, Restore(name), "vault").text + "\n")
+
+
+def backup(talk, host, entries, skipped):
+    for text in skipped:
+        talk.run.faults += f"skipped {text}\n"
+    try:
+        core = Backup(entries)
+    except StartRefused as refused:
+        raise Failed(f"start refused {refused.args[0]}")
+    outcome = job(talk, core, host)
+    _, blobs, count = outcome.text.split(" ")
+    talk.show(f"stored {outcome.name.hex()} {blobs} {count}\n")
+    if skipped:
+        talk.run.status = 3
+
+
+def run(command, server, *words):
+    """What comes of a command."""
+    ran = Run()
+    try:
+        command(Talk(server, ran), *words)
+    except Failed as failed:
+        ran.status = 1
+        ran.faults += f"{failed}\n"
+    return ran
+
+
+def served(store, data, broken=False, room=None):
+    """What a connection's bytes are answered with, and how its service ends."""
+    stream, replies, count = Stream(data, REQUESTS), b"", 0
+    while True:
+        try:
+            request = stream.next()
+        except Malformed:
+            return replies, "malformed"
+        if request is None:
+            break
+        reply = Message(request.instance, request.sequence, store.answer(request.what))
+        replies, whole = written(replies, room, reply.frame())
+        if not whole:
+            return replies, "write failed"
+        count += 1
+    if broken:
+        return replies, "read failed"
+    return replies, "malformed" if stream.data else str(count)
+
+
+class Lines:
+    """`vault frames`: lines of digits, whose bytes are a stream of requests."""
+
+    def __init__(self, store, room):
+        self.store, self.room, self.output, self.data = store, room, b"", b""
+
+    def take(self, number, line):
+        """Answers the requests that are whole with this line."""
+        if len(line) % 2 or any(digit not in "0123456789abcdefABCDEF" for digit in line):
+            raise Failed(f"line {number}: not hexadecimal")
+        stream = Stream(self.data + bytes.fromhex(line), REQUESTS)
+        try:
+            while request := stream.next():
+                self.show(Message(request.instance, request.sequence, self.store.answer(request.what)))
+        except Malformed as fault:
+            raise Failed(f"malformed: {fault}")
+        self.data = stream.data
+
+    def show(self, reply):
+        self.output, whole = written(self.output, self.room, reply.frame().hex().encode() + b"\n")
+        if not whole:
+            raise Failed("write failed")
+
+    def run(self, text, broken):
+        lines = text.split("\n")
+        last = lines.pop()
+        for number, line in enumerate(lines, 1):
+            self.take(number, line)
+        if broken:
+            raise Failed("read failed")
+        if last:
+            self.take(len(lines) + 1, last)
+        if self.data:
+            raise Failed("end of input inside a frame")
+
+
+def framed(store, text, broken=False, room=None):
+    """What `vault frames` gives on a text: its status, its lines, its fault."""
+    lines = Lines(store, room)
+    try:
+        lines.run(text, broken)
+        return 0, lines.output.decode(), ""
+    except Failed as failed:
+        return 1, lines.output.decode(), f"{failed}\n"

@@ -1,0 +1,304 @@
+"""The clients: a backup, a restore and a list of snapshots, as what each asks after which replies."""
+
+from dataclasses import dataclass
+
+from chunks import chunks
+from frames import Message
+from store import BLOB_LARGEST, name_of
+from texts import (OtherVersion, Unreadable, dir_node, file_node, index_text, is_component, pack_of, read_config,
+                   read_index, read_snapshot, read_tree, snapshot_text, tree_text)
+
+DEEPEST = 100
+INDEX_BLOBS = 20_000
+PACK_BLOBS = 4_096
+
+
+@dataclass
+class Outcome:
+    """How a job ended: its words, and what they are about."""
+    text: str
+    name: bytes | None = None
+    rows: list | None = None
+
+
+class End(Exception):
+    """A job that didn't do what it was for."""
+
+    def __init__(self, text, name=None):
+        super().__init__(text)
+        self.outcome = Outcome(text, name)
+
+
+class StartRefused(Exception):
+    """Entries that no backup takes, and the number of the reason."""
+
+
+def refusal(ask, code):
+    """The end that a refusal is a cause of."""
+    if code == 2:
+        return End("fenced")
+    if code == 3 and ask[0] == "lock":
+        return End("busy")
+    if code == 5 and ask[0] == "get":
+        return End("missing " + ask[1], ask[2])
+    if code == 5 and ask[0] == "range":
+        return End("missing pack", ask[1])
+    return End(f"refused {code}")
+
+
+def asked(ask, sort):
+    """Asks, and gives what is said, which has to be of a sort."""
+    say = yield ask
+    if say[0] == "refused":
+        raise refusal(ask, say[1])
+    if say[0] != sort:
+        raise End("badreply")
+    return say[1:]
+
+
+def listed(kind):
+    """All names of a kind, page by page."""
+    names, after = [], None
+    while True:
+        more, page = yield from asked(("list", kind, after), "names")
+        for name in page:
+            if after is not None and name <= after:
+                raise End("badreply")
+            after = name
+        if more and not page:
+            raise End("badreply")
+        names += page
+        if not more:
+            return names
+
+
+def got(kind, name, read):
+    """An object that is read whole."""
+    data, = yield from asked(("get", kind, name), "bytes")
+    try:
+        if name_of(data) != name:
+            raise Unreadable("another name")
+        return read(data)
+    except OtherVersion:
+        raise End("version")
+    except Unreadable:
+        raise End("bad " + kind, name)
+
+
+def facts_of_indexes():
+    """The facts of all indexes."""
+    facts = []
+    for name in (yield from listed("index")):
+        facts += yield from got("index", name, read_index)
+    return facts
+
+
+def config_read():
+    data, = yield from asked(("config",), "bytes")
+    try:
+        return read_config(data)
+    except OtherVersion:
+        raise End("version")
+    except Unreadable:
+        raise End("badreply")
+
+
+class Client:
+    """One job of one client: what is pending, how it ended, what the last reply gave out."""
+
+    def __init__(self, job, instance, host, time):
+        self.job, self.instance, self.host, self.time = job, instance, host, time
+        self.sequence, self.pending, self.outcome, self.emitted = 0, None, None, []
+        self.steps = self.run()
+        self.send(next(self.steps))
+
+    def send(self, ask):
+        self.sequence += 1
+        self.pending = Message(self.instance, self.sequence, ask)
+
+    def take(self, reply):
+        """Takes a reply. One that isn't to the pending request changes nothing."""
+        if (reply.instance, reply.sequence) != (self.instance, self.sequence) or not self.pending:
+            return
+        self.emitted = []
+        try:
+            self.send(self.steps.send(reply.what))
+        except StopIteration:
+            self.pending = None
+
+    def run(self):
+        """All that it asks, from its ticket to its unlock."""
+        try:
+            self.token, = yield from asked(("ticket",), "token")
+            yield from asked(("lock", self.token, False, self.time, self.host), "done")
+        except End as end:
+            self.outcome = end.outcome
+            return
+        try:
+            self.config = yield from config_read()
+            self.outcome = yield from self.job.run(self)
+        except End as end:
+            self.outcome = end.outcome
+            if end.outcome.text == "fenced":
+                return
+        yield ("unlock", self.token)
+
+
+class List:
+    """A list of the snapshots."""
+    role = "list"
+
+    def run(self, client):
+        rows = []
+        for name in (yield from listed("snapshot")):
+            host, time, token, _ = yield from got("snapshot", name, read_snapshot)
+            rows.append((name, host, time, token))
+        return Outcome(f"listed {len(rows)}", rows=rows)
+
+
+class Restore:
+    """A restore of one snapshot."""
+    role = "restore"
+
+    def __init__(self, snapshot):
+        self.snapshot, self.entries = snapshot, 0
+
+    def run(self, client):
+        self.client = client
+        _, _, _, root = yield from got("snapshot", self.snapshot, read_snapshot)
+        self.places = {}
+        for kind, name, place in (yield from facts_of_indexes()):
+            self.places[kind, name] = min(place, self.places.get((kind, name), place))
+        yield from self.walk(root, [])
+        return Outcome(f"complete {self.entries}")
+
+    def place(self, kind, name):
+        if (kind, name) not in self.places:
+            raise End("missing " + kind, name)
+        return self.places[kind, name]
+
+    def blob(self, kind, name):
+        """A blob's bytes, from its place."""
+        place = self.place(kind, name)
+        data, = yield from asked(("range", *place), "bytes")
+        if len(data) != place[2] or name_of(data) != name:
+            raise End("bad " + kind, name)
+        return data
+
+    def emit(self, word, what=None):
+        self.client.emitted.append((word, what))
+
+    def walk(self, tree, path):
+        """A directory: its tree whole, and then node by node."""
+        data = yield from self.blob("tree", tree)
+        try:
+            nodes = read_tree(data)
+        except Unreadable:
+            raise End("bad tree", tree)
+        if nodes and len(path) == DEEPEST:
+            raise End("bad tree", tree)
+        for node in nodes:
+            below = path + [node["name"]]
+            if node["type"] == "file":
+                yield from self.file(node, tree, below)
+            else:
+                self.entries += 1
+                self.emit("dir", "/".join(below))
+                yield from self.walk(bytes.fromhex(node["subtree"]), below)
+
+    def file(self, node, tree, path):
+        content = [bytes.fromhex(name) for name in node["content"]]
+        if sum([self.place("content", name)[2] for name in content]) != node["size"]:
+            raise End("bad tree", tree)
+        self.entries += 1
+        self.emit("file", "/".join(path))
+        for name in content:
+            self.emit("piece", (yield from self.blob("content", name)))
+        self.emit("close")
+
+
+def check_entries(entries):
+    """Refuses entries, one by one: (path, None) for a directory, (path, bytes) for a file."""
+    before, dirs = None, {()}
+    for path, data in entries:
+        if not path or not all(is_component(name) for name in path):
+            raise StartRefused(1)
+        key = [name.encode() for name in path]
+        if before is not None and key <= before or tuple(path[:-1]) not in dirs:
+            raise StartRefused(2)
+        if len(path) > DEEPEST:
+            raise StartRefused(3)
+        before = key
+        if data is None:
+            dirs.add(tuple(path))
+
+
+class Backup:
+    """A backup of entries, each (path, None) or (path, bytes)."""
+    role = "backup"
+
+    def __init__(self, entries):
+        check_entries(entries)
+        self.below = {}
+        for path, data in entries:
+            self.below.setdefault(tuple(path[:-1]), []).append((path, data))
+        self.blobs, self.bytes = 0, 0
+        self.open, self.waiting = [], []
+
+    def run(self, client):
+        self.client = client
+        self.known = {(kind, name) for kind, name, _ in (yield from facts_of_indexes())}
+        root = yield from self.directory([])
+        if self.open:
+            yield from self.put_pack()
+        if self.waiting:
+            yield from self.put_index()
+        text = snapshot_text(client.host, client.time, client.token, root)
+        yield from self.put("snapshot", text)
+        return Outcome(f"stored {self.blobs} {self.bytes}", name_of(text))
+
+    def put(self, kind, data):
+        yield from asked(("put", self.client.token, kind, name_of(data), data), "done")
+
+    def put_pack(self):
+        data, places = pack_of(self.open)
+        yield from self.put("pack", data)
+        self.waiting.append((name_of(data), places))
+        self.blobs += len(self.open)
+        self.bytes += sum(len(blob) for _, blob in self.open)
+        self.open = []
+        if sum(len(places) for _, places in self.waiting) >= INDEX_BLOBS:
+            yield from self.put_index()
+
+    def put_index(self):
+        yield from self.put("index", index_text(self.waiting))
+        self.waiting = []
+
+    def add(self, kind, data):
+        """Adds a blob that isn't there, and puts the pack where it is due."""
+        name = name_of(data)
+        if (kind, name) not in self.known:
+            self.known.add((kind, name))
+            self.open.append((kind, data))
+            if sum(len(blob) for _, blob in self.open) >= self.client.config[3] or len(self.open) == PACK_BLOBS:
+                yield from self.put_pack()
+        return name
+
+    def directory(self, path):
+        """Adds what is below a directory, and then its tree."""
+        nodes = []
+        for below, data in self.below.get(tuple(path), []):
+            if data is None:
+                nodes.append(dir_node(below[-1], (yield from self.directory(below))))
+            else:
+                nodes.append((yield from self.file(below[-1], data)))
+        text = tree_text(nodes)
+        if len(text) > BLOB_LARGEST:
+            raise End("directory too large")
+        return (yield from self.add("tree", text))
+
+    def file(self, name, data):
+        content = []
+        for chunk in chunks(data, *self.client.config[:3]):
+            content.append((yield from self.add("content", chunk)))
+        return file_node(name, len(data), content)

@@ -1,0 +1,104 @@
+"""Values that the rules spell out: the reference has to have them before it writes anything."""
+
+from chunks import chunks, remainder
+from commands import INSTANCE
+from frames import Message
+from jobs import Backup, Client, Restore, StartRefused
+from store import Ledger, Store, name_of
+from texts import (Unreadable, config_text, file_node, index_text, pack_of, read_index, read_snapshot, read_tree, snapshot_text,
+                   tree_text)
+
+A = "ba7816bf8f01cfea414140de5dae2223b00361a396177a9cb410ff61f20015ad"
+E = "e3b0c44298fc1c149afbf4c8996fb92427ae41e4649b934ca495991b7852b855"
+ABC = name_of(b"abc")
+
+
+def lengths(data, *rule):
+    return [len(chunk) for chunk in chunks(data, *rule)]
+
+
+def check_chunks():
+    assert remainder(bytes(57) + b"\x20" + bytes(6)) == 0x1DA3358B4DC173
+    assert remainder(bytes(57) + b"\x40" + bytes(6)) == 0x06E55E9DD64395
+    assert remainder(bytes(63) + b"\1") == 1 and remainder(bytes(62) + b"\1\x40") == 0x140
+    assert lengths(bytes(200), 64, 128, 6) == [64, 64, 64, 8]
+    assert lengths(b"", 64, 128, 6) == [] and lengths(bytes(63), 64, 128, 6) == [63]
+    assert lengths(bytes(63) + b"\1\x40", 64, 128, 6) == [65]
+    assert lengths(bytes(63) + b"\1" * 4, 64, 66, 6) == [66, 1]
+
+
+def check_frames():
+    def is_frame(what, sequence, digits):
+        assert Message(INSTANCE, sequence, what).frame().hex() == digits.replace("I", "01" * 16).replace(" ", "")
+    is_frame(("ticket",), 1, "00000019 01 I 0000000000000001")
+    is_frame(("token", 1), 1, "00000021 81 I 0000000000000001 0000000000000001")
+    is_frame(("lock", 1, False, 5, "a"), 2, "0000002c 02 I 0000000000000002 0000000000000001 00 0000000000000005 01 61")
+    is_frame(("put", 1, "snapshot", ABC, b"abc"), 3, f"00000045 09 I 0000000000000003 0000000000000001 02 {A} 616263")
+    is_frame(("get", "snapshot", ABC), 4, f"0000003a 07 I 0000000000000004 02 {A}")
+    is_frame(("bytes", b"abc"), 4, "0000001c 84 I 0000000000000004 616263")
+
+
+def check_texts():
+    assert ABC.hex() == A and name_of(b"").hex() == E
+    assert pack_of([("content", b"abc")])[0].hex() == "616263" + "00" + "03000000" + A + "25000000"
+    index = (f'{{"packs":[{{"blobs":[{{"id":"{A}","length":3,"offset":0,"type":"data"}}],"id":"{E}"}}],"supersedes":[]}}').encode()
+    assert index_text([(name_of(b""), [("content", ABC, 0, 3)])]) == index
+    assert read_index(index) == [("content", ABC, (name_of(b""), 0, 3))]
+    tree = f'{{"nodes":[{{"content":["{A}"],"name":"x","size":3,"type":"file"}}]}}'.encode()
+    assert tree_text([file_node("x", 3, [ABC])]) == tree and len(tree) == 126 and tree_text([]) == b'{"nodes":[]}'
+    snapshot = f'{{"host":"a","time":5,"token":1,"tree":"{E}","version":1}}'.encode()
+    assert snapshot_text("a", 5, 1, name_of(b"")) == snapshot and read_snapshot(snapshot) == ("a", 5, 1, name_of(b""))
+    assert config_text() == (b'{"chunk_bits":6,"chunk_max":128,"chunk_min":64,"id":"00000000000000000000000000000000",'
+                             b'"pack_target":1024,"version":1}')
+    for text in (b'{"nodes":[{"content":[],"name":"..","size":0,"type":"file"}]}', b"{", b'{"nodes":0}'):
+        try:
+            read_tree(text)
+        except Unreadable:
+            continue
+        raise AssertionError(text)
+
+
+def finish(store, client):
+    """A lone client's result."""
+    while client.pending:
+        request = client.pending
+        client.take(Message(request.instance, request.sequence, store.answer(request.what)))
+    return client.outcome
+
+
+def new_store():
+    store = Store()
+    store.config = config_text()
+    return store
+
+
+def check_jobs():
+    for entries, stored, complete in (
+            ([], "stored 1 12", "complete 0"), ([(["a"], b""), (["b"], None)], "stored 2 175", "complete 2"),
+            ([(["d"], None), (["f"], b'{"nodes":[]}')], "stored 3 254", "complete 2")):
+        store = new_store()
+        backup = finish(store, Client(Backup(entries), INSTANCE, "a", 5))
+        assert backup.text == stored
+        assert finish(store, Client(Restore(backup.name), INSTANCE, "play", 0)).text == complete
+    store = new_store()
+    results = [finish(store, Client(Backup([(["x"], b"abc")]), INSTANCE, host, 1)).text for host in "ab"]
+    assert results == ["stored 2 129", "stored 0 0"]
+    assert [len(store.objects[kind]) for kind in ("pack", "index", "snapshot")] == [1, 1, 2]
+    for reason, paths in ((2, ["b", "a"]), (2, ["d/x"]), (1, [".."])):
+        try:
+            Backup([(path.split("/"), b"") for path in paths])
+        except StartRefused as refused:
+            assert refused.args == (reason,)
+            continue
+        raise AssertionError(paths)
+
+
+def check_tokens():
+    ledger = Ledger()
+    assert [ledger.ticket() for _ in range(1_025)] == list(range(1, 1_026))
+    assert 1 not in ledger.fresh and 2 in ledger.fresh
+
+
+def check():
+    for part in (check_chunks, check_frames, check_texts, check_jobs, check_tokens):
+        part()

@@ -1,0 +1,198 @@
+#!/usr/bin/env python3
+"""Tries edits that the prover has to refuse, many at a time.
+
+Usage: scripts/more-edits.py [--gate] [--alone] [CRATE..]
+
+Of each crate (all without a word) it tries the edits in more-edits/CRATE and, with --gate, those in crates/CRATE/must-fail too.
+Edits that turn functions of their own go into one check together. An open goal at a line of an edited function comes from that
+function's own edit, since what is proved of a function stands on the contracts of those that it calls, and no edit changes a
+contract. An edit that shows no such goal, since only a proof file reports an error, is tried alone, as the gate tries its edits;
+with --alone all are.
+
+It works on a copy of the repository, with the libraries that were built here (rt lib in each crate below).
+The last line is 'N refused, M not'.
+"""
+import difflib
+import os
+import re
+import shutil
+import subprocess
+import sys
+import tempfile
+
+import kit
+
+rt = kit.load()
+ROOT = os.path.dirname(os.path.dirname(os.path.abspath(__file__)))
+FUNCTION = re.compile(r"^ *(?:pub(?:\(crate\))? )?fn (\w+)")
+PLACE = re.compile(r"^(?:note: )?(?:\./)?(\S+?):(\d+):\d+: (.*)$")
+NAMES_ALONE = re.compile(r"^(?:note: )?(\./)?proofs/.*(has no field|is not in scope|has no `|was not admitted)")
+
+
+def function_at(lines, index):
+    """The place of the function in which a line stands: the line of its name; None above the first."""
+    return next((at for at in range(min(index, len(lines) - 1), -1, -1) if FUNCTION.match(lines[at])), None)
+
+
+class Copy:
+    """A crate in a copy of the repository, with edits applied to it."""
+
+    def __init__(self, top, crate):
+        self.folder = f"{top}/crates/{crate}"
+        self.base = {}
+
+    def texts(self, edit):
+        """The texts that an edit makes of those that stand there."""
+        with open(edit, encoding="utf-8") as it:
+            texts, why = rt.edited(it.read(), self.folder)
+        if why:
+            raise ValueError(f"{label(edit)}: {why}")
+        return texts
+
+    def apply(self, edit):
+        for file, text in self.texts(edit).items():
+            with open(f"{self.folder}/{file}", encoding="utf-8") as it:
+                self.base.setdefault(file, it.read())
+            with open(f"{self.folder}/{file}", "w", encoding="utf-8") as it:
+                it.write(text)
+
+    def restore(self):
+        for file, text in self.base.items():
+            with open(f"{self.folder}/{file}", "w", encoding="utf-8") as it:
+                it.write(text)
+        self.base = {}
+
+    def lines(self, file):
+        with open(f"{self.folder}/{file}", encoding="utf-8") as it:
+            return it.read().split("\n")
+
+    def turned(self, edit):
+        """The functions that an edit turns: their files, and the lines of their names."""
+        found = set()
+        for file, text in self.texts(edit).items():
+            old, new = self.lines(file), text.split("\n")
+            for tag, start, end, _, _ in difflib.SequenceMatcher(None, old, new, False).get_opcodes():
+                if tag != "equal":
+                    found |= {(file, old[at] if (at := function_at(old, index)) is not None else None) for index in range(start, max(end, start + 1))}
+        return found
+
+    def check(self):
+        """The exit status and the lines of a check."""
+        how = {"cwd": self.folder, "stdin": subprocess.DEVNULL, "stdout": subprocess.PIPE, "stderr": subprocess.STDOUT, "text": True, "errors": "replace"}
+        ran = subprocess.run(["rt", "check", "--jobs", "2"], **how)
+        return ran.returncode, ran.stdout.rstrip("\n").split("\n")
+
+
+def label(edit):
+    return os.path.relpath(edit, ROOT).removesuffix(".edit")
+
+
+def is_local(turned):
+    """Whether all that an edit turns are functions of src/."""
+    return all(name and file.startswith("src/") for file, name in turned)
+
+
+def groups(copy, edits):
+    """The edits, in groups in which each function is turned by one edit at most; what turns anything else comes alone."""
+    made, held = [], []
+    for edit in edits:
+        turned = copy.turned(edit)
+        at = next((at for at, names in enumerate(held) if is_local(turned) and is_local(names) and not names & turned), None)
+        if at is None:
+            made.append([edit])
+            held.append(turned)
+        else:
+            made[at].append(edit)
+            held[at] |= turned
+    return made
+
+
+def own_goal(copy, turned, told):
+    """The first report at a line of a function that was turned."""
+    for line in told:
+        at = PLACE.match(line)
+        if at and at[1].startswith("src/"):
+            lines = copy.lines(at[1])
+            found = function_at(lines, int(at[2]) - 1)
+            if found is not None and (at[1], lines[found]) in turned:
+                return at[3][:110]
+    return None
+
+
+def is_refused(told):
+    return any(line.startswith("logic=not-proved") for line in told)
+
+
+def tried_alone(copy, edit):
+    """Whether the prover refuses the crate with this edit, and what it says."""
+    copy.apply(edit)
+    status, told = copy.check()
+    copy.restore()
+    if status == 0:
+        return False, "the crate is still proved"
+    if not is_refused(told):
+        return False, f"it did not reach the prover: {told[-1][:110]}"
+    reports = [line for line in told if PLACE.match(line) and ": note: " not in line]
+    return True, next((line[:110] for line in reports if not NAMES_ALONE.match(line)), "only a proof file names what it took away")
+
+
+def applied(copy, edit):
+    """Applies an edit beside others, where its texts still stand there once."""
+    try:
+        copy.apply(edit)
+    except ValueError:
+        return False
+    return True
+
+
+def tried_together(copy, group):
+    """For each edit of a group, the open goal of its own, if one is seen."""
+    turned = [copy.turned(edit) for edit in group]
+    stand = [applied(copy, edit) for edit in group]
+    status, told = copy.check()
+    goals = [own_goal(copy, it, told) if stands and status and is_refused(told) else None for it, stands in zip(turned, stand)]
+    copy.restore()
+    return zip(group, goals)
+
+
+def tried(copy, edits, alone):
+    """What came of each edit of a crate."""
+    for group in groups(copy, edits):
+        together = [(edit, None) for edit in group] if alone or len(group) == 1 else tried_together(copy, group)
+        for edit, goal in together:
+            yield edit, *((True, goal) if goal else tried_alone(copy, edit))
+
+
+def edits_of(crate, with_gate):
+    folders = [f"{ROOT}/more-edits/{crate}"] + ([f"{ROOT}/crates/{crate}/must-fail"] if with_gate else [])
+    return [f"{folder}/{name}" for folder in folders if os.path.isdir(folder) for name in sorted(os.listdir(folder))]
+
+
+def copied(top, crates):
+    """Copies the repository, with its built libraries, and what was proved of the crates whose edits are tried."""
+    files = subprocess.run(["git", "ls-files", "-z"], cwd=ROOT, capture_output=True, check=True).stdout
+    for name in filter(None, files.decode().split("\0")):
+        os.makedirs(os.path.dirname(f"{top}/{name}"), exist_ok=True)
+        shutil.copy2(f"{ROOT}/{name}", f"{top}/{name}")
+    kept = [f"{crate}/out/rlib" for crate in os.listdir(f"{ROOT}/crates")] + [f"{crate}/out/incremental" for crate in crates]
+    for folder in kept:
+        if os.path.isdir(f"{ROOT}/crates/{folder}"):
+            shutil.copytree(f"{ROOT}/crates/{folder}", f"{top}/crates/{folder}")
+    os.makedirs(f"{top}/.git/info", exist_ok=True)
+
+
+def main(words):
+    crates = [word for word in words if not word.startswith("--")] or sorted(os.listdir(f"{ROOT}/more-edits"))
+    refused = failed = 0
+    with tempfile.TemporaryDirectory(prefix="edits-") as top:
+        copied(top, crates)
+        for crate in crates:
+            for edit, is_well, why in tried(Copy(top, crate), edits_of(crate, "--gate" in words), "--alone" in words):
+                refused, failed = refused + is_well, failed + (not is_well)
+                print(f"{'refused' if is_well else 'NOT REFUSED'} {label(edit)}: {why}", flush=True)
+    print(f"{refused} refused, {failed} not")
+    return 1 if failed else 0
+
+
+if __name__ == "__main__":
+    sys.exit(main(sys.argv[1:]))
