@@ -23,8 +23,6 @@ mod restores;
 mod steps;
 mod walks;
 
-pub use laws::{
-    list_changes_nothing, list_ends_well, restore_changes_nothing, restore_ends_well,
-};
+pub use laws::{list_changes_nothing, list_ends_well, restore_changes_nothing, restore_ends_well};
 pub use listings::SnapshotList;
 pub use restores::Restore;
