@@ -1,9 +1,7 @@
 //! Commands for which there is no memory at some moment. The tests hold whichever one growth is refused: a command is then
 //! done all the same, or it has failed and told why.
 
-use crate::replies::{
-    FILE_TREE, Slow, TREE, bytes, frames, granted, name_text, one_file, snapshot,
-};
+use crate::replies::{FILE_TREE, TREE, bytes, frames, granted, name_text, one_file, snapshot};
 use crate::runs::{CALLER, Run};
 use repo_name::{Token, name_of};
 use repo_prog::{
@@ -14,7 +12,26 @@ use repo_session::Emission;
 use repo_wire::Say;
 use std::alloc::{AllocError, Global};
 use std::io;
-use std::io::Write;
+use std::io::{Read, Write};
+
+/// Gives one byte at a read.
+#[derive(Drop)]
+struct Slow<'a> {
+    left: &'a [u8],
+}
+
+impl Read for Slow<'_> {
+    fn read(&mut self, buf: &mut [u8]) -> io::Result<usize> {
+        match (self.left, buf) {
+            ([first, rest @ ..], [place, ..]) => {
+                *place = *first;
+                self.left = rest;
+                Ok(1)
+            }
+            _ => Ok(0),
+        }
+    }
+}
 
 /// The reply to `locks` that has one live lock: token 1, exclusive, time 5, host `a`.
 const LISTED: &str =
