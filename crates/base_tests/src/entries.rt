@@ -2,7 +2,7 @@
 
 use crate::trials::Trial;
 use repo_name::{Bytes, Text};
-use repo_tree::{Entry, EntryKind, Path};
+use repo_tree::{Entry, EntryKind, Path, is_below, is_path};
 use std::alloc::{AllocError, Global};
 
 /// The path of these components.
@@ -64,6 +64,27 @@ impl Trial {
     }
 }
 
+impl Trial {
+    /// A path of these components is one, or isn't.
+    fn is_one(&mut self, parts: &[&str], wanted: bool) {
+        match path(self.alloc, parts) {
+            Ok(path) => self.count(is_path(path.as_slice()) == wanted),
+            Err(_) => self.count(false),
+        }
+    }
+
+    /// The first path is below the second, or isn't.
+    fn stands_below(&mut self, first: &[&str], second: &[&str], wanted: bool) {
+        let Ok(first) = path(self.alloc, first) else {
+            return self.count(false);
+        };
+        match path(self.alloc, second) {
+            Ok(second) => self.count(is_below(first.as_slice(), second.as_slice()) == wanted),
+            Err(_) => self.count(false),
+        }
+    }
+}
+
 #[test]
 fn entries_have_paths(rt: HostRuntime) {
     let mut trial = Trial::new(rt.alloc());
@@ -76,5 +97,28 @@ fn entries_have_paths(rt: HostRuntime) {
 fn refused_growth_of_a_copy(rt: HostRuntime) {
     let mut trial = Trial::of_refusals(rt.alloc());
     trial.copies_entry(&["x"]);
+    trial.end(&rt);
+}
+
+#[test]
+fn paths_have_components(rt: HostRuntime) {
+    let mut trial = Trial::new(rt.alloc());
+    trial.is_one(&["d", "x"], true);
+    trial.is_one(&[], false);
+    trial.is_one(&["d", ".."], false);
+    trial.is_one(&["d/x"], false);
+    trial.end(&rt);
+}
+
+// A directory is below what is in it, and that below whatever comes after the directory: `a/b` below `a!`, though not as texts.
+#[test]
+fn paths_go_by_their_components(rt: HostRuntime) {
+    let mut trial = Trial::new(rt.alloc());
+    trial.stands_below(&["a"], &["a", "b"], true);
+    trial.stands_below(&["a", "b"], &["a!"], true);
+    trial.stands_below(&["a!"], &["a", "b"], false);
+    trial.stands_below(&["a", "b"], &["a"], false);
+    trial.stands_below(&["a"], &["a"], false);
+    trial.stands_below(&["B"], &["a"], true);
     trial.end(&rt);
 }

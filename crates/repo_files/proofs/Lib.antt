@@ -1,1 +1,1 @@
-mod PathOrder
+mod Following

@@ -1,10 +1,5 @@
 -- Where the entries of a folder lie in the file system.
-use Rattle.std.specs.Prelude.{◌≢◌, ◌++◌, ◌∷◌, [], ℕ, List, All, flat_map}
-use Rattle.repo_tree.specs.Components.{IsComponent}
-
--- a path: one component or more
-abbrev pub IsPath : List (List ℕ) → Type 0
-IsPath path = (path ≢ []) × All IsComponent path
+use Rattle.std.specs.Prelude.{◌++◌, ◌∷◌, ℕ, List, flat_map}
 
 -- a component after a `/`
 abbrev pub step_of : List ℕ → List ℕ

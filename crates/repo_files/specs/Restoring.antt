@@ -1,6 +1,6 @@
 -- What a restorer takes.
 use Rattle.std.specs.Prelude.{◌≡◌, ⊤, Bool, true, false}
-use Rattle.repo_files.specs.Places.{IsPath}
+use Rattle.repo_tree.specs.Paths.{IsPath}
 use Rattle.repo_files.specs.declared.phases.Standing.{Standing}
 use Rattle.repo_files.specs.declared.phases.Phase.{Phase}
 use Rattle.repo_files.specs.declared.phases.Phase.TheVariants as phase

@@ -1,14 +1,7 @@
 -- Entries as a scan hands them on.
-use Rattle.std.specs.Prelude.{◌≡◌, ◌-◌, ◌++◌, ◌∷◌, [], ⊤, ℕ, List, length, IfSome, slice_get}
-use Rattle.std.specs.Ordering.{nat_cmp}
-use Rattle.std.specs.declared.cmp.Ordering.{Ordering}
-use Rattle.std.specs.Cmp.Lexicographic.{slice_cmp}
-use Rattle.repo_files.specs.Places.{IsPath}
+use Rattle.std.specs.Prelude.{◌-◌, ◌++◌, ◌∷◌, [], ⊤, ℕ, List, length, IfSome, slice_get}
+use Rattle.repo_tree.specs.Paths.{IsPath, IsBelow}
 use Rattle.repo_tree.specs.declared.entries.Entry.{Entry}
-
--- paths are ordered by their components, and these by their bytes: a directory stands below what is in it
-abbrev pub IsBelow : List (List ℕ) → List (List ℕ) → Type 0
-IsBelow first second = slice_cmp (slice_cmp nat_cmp) first second ≡ Ordering.Less
 
 -- the path is above that of the last of these entries, if there is one
 abbrev pub StandsAfter : List Entry → List (List ℕ) → Type 0

@@ -1,11 +1,12 @@
 //! The folder that is restored into.
 
 ghost use Rattle.std.specs.Prelude.{◌≡◌, IfOk, OnOk, string_bytes};
-ghost use Rattle.repo_files.specs.Places.{IsPath, place_of};
+ghost use Rattle.repo_files.specs.Places.{place_of};
+ghost use Rattle.repo_tree.specs.Paths.{IsPath};
 
 use crate::drafts::Draft;
-use crate::places::{is_path, place_below, without_slash};
-use repo_tree::Path;
+use crate::places::{place_below, without_slash};
+use repo_tree::{Path, is_path};
 use std::alloc::{AllocError, AllocGlobal};
 use std::fs::{File, Files};
 use std::io::ErrorKind;

@@ -1,21 +1,10 @@
 //! Where the entries of a folder lie in the file system.
 
-ghost use Rattle.std.specs.Prelude.{◌≡◌, ◌↔◌, IfOk, IsTrue, string_bytes};
-ghost use Rattle.repo_files.specs.Places.{IsPath, place_of};
+ghost use Rattle.std.specs.Prelude.{◌≡◌, IfOk, string_bytes};
+ghost use Rattle.repo_files.specs.Places.{place_of};
 
 use repo_name::Text;
-use repo_tree::is_component;
 use std::alloc::{AllocError, Global};
-
-/// Whether there is a component, and each is one.
-pub fn is_path(path: &[Text]) -> bool
-    ensures { IsTrue result ↔ IsPath path.now }
-{
-    if path.is_empty() {
-        return false;
-    }
-    path.iter().all(|name| is_component(name.as_str()))
-}
 
 /// The place of a path below a folder: the folder's, then each component after a `/`.
 pub fn place_below(alloc: Global, folder: &str, path: &[Text]) -> Result<String, AllocError>

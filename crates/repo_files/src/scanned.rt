@@ -1,29 +1,9 @@
 //! Whether entries stand as a scan hands them on.
 
 ghost use Rattle.std.specs.Prelude.{◌↔◌, IsTrue};
-ghost use Rattle.repo_files.specs.Scanned.{IsBelow, MayFollow, AreScanned};
+ghost use Rattle.repo_files.specs.Scanned.{MayFollow, AreScanned};
 
-use crate::places::is_path;
-use repo_name::Text;
-use repo_tree::Entry;
-use std::cmp::Ordering;
-
-/// Whether a path is below another, by their components, and these by their bytes.
-fn is_below(first: &[Text], second: &[Text]) -> bool
-    ensures { IsTrue result ↔ IsBelow first.now second.now }
-{
-    for (i, name) in first.iter().enumerate() {
-        if i >= second.len() {
-            return false;
-        }
-        match name.as_str().cmp(second[i].as_str()) {
-            Ordering::Less => return true,
-            Ordering::Greater => return false,
-            Ordering::Equal => {}
-        }
-    }
-    first.len() < second.len()
-}
+use repo_tree::{Entry, is_below, is_path};
 
 /// Whether an entry may come after these.
 fn may_follow(before: &[Entry], entry: &Entry) -> bool

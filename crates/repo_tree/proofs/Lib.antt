@@ -7,3 +7,4 @@ pub mod ConfigLemmas
 pub mod ItemLemmas
 pub mod OrderLemmas
 pub mod WritingLemmas
+pub mod PathOrder

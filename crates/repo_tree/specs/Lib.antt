@@ -9,3 +9,4 @@ pub mod TreeWriting
 pub mod Named
 pub mod Spelling
 pub mod Laws
+pub mod Paths

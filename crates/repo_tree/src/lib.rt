@@ -18,7 +18,7 @@ pub use configs::Config;
 pub use entries::{Entry, EntryKind};
 pub use faults::{TextError, TreeError};
 pub use nodes::{Node, NodeKind};
-pub use paths::Path;
+pub use paths::{Path, is_below, is_path};
 pub use snapshots::Snapshot;
 pub use tree_reading::read_tree;
 pub use tree_writing::write_tree;

@@ -1,4 +1,4 @@
-use Rattle.repo_files.proofs.PathOrder.{scanned_more}
+use Rattle.repo_files.proofs.Following.{scanned_more}
 use Rattle.repo_files.proofs.scanned.are_scanned.Goals as goal
 
 pub loop-i-preserved : goal.loop-i-preserved
