@@ -1,6 +1,6 @@
 -- What a store says to a client that is alone with it, and which ends that leaves.
 use Rattle.std.specs.Prelude.{⊤, nat_lt}
-use Rattle.std.proofs.Common.{arith, ◌+◌, length-append, eqb, ◌≡◌, ◌≢◌, ◌⊎◌, ◌≤◌, ◌<◌, ◌++◌, ◌∷◌, ◌-◌, [], ℕ, Bool, true, false, List, length, Option, Some, None, Result, Ok, Err, refl, sym, ap, subst, inl, inr, ◌∙◌}
+use Rattle.std.proofs.Common.{arith, ◌+◌, length-append, eqb, ◌≡◌, ◌≢◌, ◌⊎◌, ◌≤◌, ◌<◌, ◌++◌, ◌∷◌, [], ℕ, Bool, true, false, List, length, Option, Some, None, Result, Ok, Err, refl, sym, ap, subst, inl, inr, ◌∙◌}
 use Rattle.std.proofs.lemmas.Bool.{cases_Bool, eqb-false}
 use Rattle.std.proofs.lemmas.Option.{same_Some, none-some}
 use Rattle.repo_name.specs.Naming as naming
@@ -18,16 +18,15 @@ use Rattle.repo_locks.specs.declared.outcomes.LockError.{LockError}
 use Rattle.repo_locks.specs.declared.outcomes.TicketError.{TicketError}
 use Rattle.repo_locks.specs.TokenMachine.{Tokens, live_as, is_fresh, is_among, is_busy, kind_among, has_exclusive, with_room, last_number, LockStep, TicketStep}
 use Rattle.repo_locks.proofs.Changed.{kind_among-with_row_same}
-use Rattle.repo_tree.specs.declared.configs.Config.{Config}
 use Rattle.repo_store.specs.declared.shelves.Slice.{Slice}
 use Rattle.repo_store.specs.Slices.{IsSlice}
 use Rattle.repo_store.specs.StoreMachine.{object_limit, config_limit, IsRangeLength, Answers, Step, GetSays, RangeAnswer, PutAnswer, SliceSays, TicketSays, LockSays}
 use Rattle.repo_store.specs.Stores.{Store}
 use Rattle.repo_session.specs.Ends.{PageRises}
 use Rattle.repo_session.specs.Order.{Task, May, ticketed, locked, lock_row, Holds, IsWorking, AreHeld}
-use Rattle.repo_session.specs.Traces.{Exchange, Trace}
+use Rattle.repo_session.specs.Traces.{Exchange, Trace, silent}
 use Rattle.repo_session.proofs.Growing.{IsNoDelete, answered, no_done, range_same}
-use Rattle.repo_session.proofs.Opens.{holds_of}
+use Rattle.repo_session.proofs.Holding.{holds_of}
 
 -- ---- what is known of the tokens
 
@@ -38,7 +37,7 @@ pub record Stands (task : Task) (es : Trace) (tokens : Tokens) : Type 0 where
   pub held : (token : Token) → Holds task token es → live_as tokens token ≢ None
 
 holding : (task : Task) (es : Trace) (token : Token) → IsWorking task token es → Holds task token es
-holding task es token w = holds_of task (λ fs a. ⊥) (λ fs e. ⊥) (λ fs o. ⊥) None token es w
+holding task es token w = holds_of task token es w
 
 -- ---- what the store says, but for its want of memory
 
@@ -222,14 +221,14 @@ token_told say token h code g = absurd (cc)
 module _ (task : Task) (es : Trace) (old : Store) (e : Exchange) (new : Store) (plain : IsNoDelete e.ask) (may : May task es e.ask) (step : Step old e.ask e.say new) (stands : Stands task es old.tokens) where
   first_fresh : (token : Token) → e ∷ es ≡ ticketed token → (new.tokens.live ≡ []) × (is_fresh new.tokens token ≡ true)
   first_fresh token h =
-      let newest : e ≡ record { ask = Ask.Ticket; say = Say.Token token; emitted = [] } = cc in
+      let newest : e ≡ silent Ask.Ticket (Say.Token token) = cc in
       let none : es ≡ [] = cc in
       let ask : e.ask ≡ Ask.Ticket = ap (λ (x : Exchange). x.ask) newest in
       let say : e.say ≡ Say.Token token = ap (λ (x : Exchange). x.say) newest in
       let a : Answers old Ask.Ticket e.say new = subst (λ q. Answers old q e.say new) ask (answered old e.ask e.say new (token_told e.say token say) step) in
       subst (λ (l : Tokens). (l.live ≡ []) × (is_fresh l token ≡ true)) (sym a.saves.2) (ticket_fresh old.tokens a.result a.tokens token e.say (stands.first none).0 a.step a.says say)
 
-  now_live : (token : Token) → e ≡ record { ask = Ask.Lock (lock_row task token); say = Say.Done; emitted = [] } → es ≡ ticketed token → live_as new.tokens token ≢ None
+  now_live : (token : Token) → e ≡ silent (Ask.Lock (lock_row task token)) Say.Done → es ≡ ticketed token → live_as new.tokens token ≢ None
   now_live token newest older =
       let ask : e.ask ≡ Ask.Lock (lock_row task token) = ap (λ (x : Exchange). x.ask) newest in
       let say : e.say ≡ Say.Done = ap (λ (x : Exchange). x.say) newest in

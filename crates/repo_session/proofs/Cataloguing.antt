@@ -1,11 +1,10 @@
 -- What one more index makes of a catalog.
-use Rattle.std.proofs.Common.{arith, ◌≡◌, ◌≢◌, ◌≤◌, ◌+◌, ◌++◌, ◌∷◌, [], ℕ, Bool, true, false, List, length, map, cond, slice_get, Option, Some, None, refl, sym, ap, subst, inl, inr, ◌⊎◌, ◌∙◌, Contains}
+use Rattle.std.proofs.Common.{arith, ◌≡◌, ◌≢◌, ◌≤◌, ◌+◌, ◌++◌, ◌∷◌, [], ℕ, Bool, true, false, List, length, map, slice_get, Option, Some, refl, sym, ap, subst, inl, inr, ◌⊎◌, ◌∙◌, Contains}
 use Rattle.repo_name.specs.Naming as naming
 use Rattle.repo_name.specs.declared.kinds.Kind.{Kind}
 use Rattle.repo_name.specs.declared.names.Name.{Name}
 use Rattle.repo_name.specs.declared.tokens.Token.{Token}
 use Rattle.std.proofs.lemmas.List.{append-nil}
-use Rattle.repo_store.specs.Pages.{Ascends}
 use Rattle.repo_session.specs.Order.{Task, opened}
 use Rattle.repo_wire.specs.declared.messages.Ask.{Ask}
 use Rattle.repo_wire.specs.declared.messages.Request.{Request}
@@ -18,8 +17,8 @@ use Rattle.repo_index.proofs.OneLemmas.{index_texts_one}
 use Rattle.repo_session.specs.declared.emissions.Emission.{Emission}
 use Rattle.repo_session.specs.Catalogs.{AreIndexed, IsIndexObject, IsCatalog}
 use Rattle.repo_session.specs.Rolls.{IsNamed, IsRolled}
-use Rattle.repo_session.specs.Traces.{Each, Exchange, Trace, Exchanged, Object, page_names, is_last_page, names_in, is_complete, object_got, objects_in, ReadFact}
-use Rattle.repo_session.proofs.Rolling.{object_read}
+use Rattle.repo_session.specs.Traces.{Each, Exchange, Trace, Exchanged, Object, page_names, is_last_page, object_got, objects_in, ReadFact, giving}
+use Rattle.repo_session.proofs.Rolling.{object_read, opened_rolled, paged_on}
 use Rattle.repo_session.proofs.Receiving.{each_both, each_listed, is_listed}
 
 -- a fact read earlier
@@ -36,15 +35,15 @@ fact_before e es fact none h = here h.read.0
 
 -- the index brings its facts
 fact_new : (n : Name) (x : List ℕ) (emitted : List Emission) (packs : List PackFacts) (es : Trace) (fact : Fact) → naming.name x ≡ n → IsIndexText x packs → Contains (facts_in packs) fact
-    → ReadFact (record { ask = Ask.Get Kind.Index n; say = Say.Bytes x; emitted = emitted } ∷ es) fact
+    → ReadFact (giving (Ask.Get Kind.Index n) (Say.Bytes x) emitted ∷ es) fact
 fact_new n x emitted packs es fact named text among = record { index = n; text = x; read = (inl (refl, refl), named); says = record { packs = packs; text = text; among = among } }
 
 -- and no others
 fact_split : (n : Name) (x : List ℕ) (emitted : List Emission) (packs : List PackFacts) (es : Trace) (fact : Fact) → IsIndexText x packs
-    → ReadFact (record { ask = Ask.Get Kind.Index n; say = Say.Bytes x; emitted = emitted } ∷ es) fact → ReadFact es fact ⊎ Contains (facts_in packs) fact
+    → ReadFact (giving (Ask.Get Kind.Index n) (Say.Bytes x) emitted ∷ es) fact → ReadFact es fact ⊎ Contains (facts_in packs) fact
 fact_split n x emitted packs es fact text h = here h.read.0
   where
-    here : Exchanged (record { ask = Ask.Get Kind.Index n; say = Say.Bytes x; emitted = emitted } ∷ es) (Ask.Get Kind.Index h.index) (Say.Bytes h.text) → ReadFact es fact ⊎ Contains (facts_in packs) fact
+    here : Exchanged (giving (Ask.Get Kind.Index n) (Say.Bytes x) emitted ∷ es) (Ask.Get Kind.Index h.index) (Say.Bytes h.text) → ReadFact es fact ⊎ Contains (facts_in packs) fact
     here (inl now) =
         let said : Say.Bytes x ≡ Say.Bytes h.text = now.1 in
         let same : x ≡ h.text = cc in
@@ -52,17 +51,17 @@ fact_split n x emitted packs es fact text h = here h.read.0
         inr (subst (λ ps. Contains (facts_in ps) fact) one h.says.among)
     here (inr before) = inl (record { index = h.index; text = h.text; read = (before, h.read.1); says = h.says })
 
-index_literal : (kind : Kind) (names : List Name) (read : ℕ) (n : Name) (x : List ℕ) (packs : List PackFacts) (facts facts' : List Fact) (emitted : List Emission) (es : Trace)
+pub index_literal : (kind : Kind) (names : List Name) (read : ℕ) (n : Name) (x : List ℕ) (packs : List PackFacts) (facts facts' : List Fact) (emitted : List Emission) (es : Trace)
     → slice_get names read ≡ Some n → naming.name x ≡ n → IsIndexText x packs → Joins facts (facts_in packs) facts' → IsCatalog kind names read facts true es
-    → IsRolled Kind.Index names (read + 1) true (record { ask = Ask.Get Kind.Index n; say = Say.Bytes x; emitted = emitted } ∷ es)
-    → IsCatalog kind names (read + 1) facts' true (record { ask = Ask.Get Kind.Index n; say = Say.Bytes x; emitted = emitted } ∷ es)
+    → IsRolled Kind.Index names (read + 1) true (giving (Ask.Get Kind.Index n) (Say.Bytes x) emitted ∷ es)
+    → IsCatalog kind names (read + 1) facts' true (giving (Ask.Get Kind.Index n) (Say.Bytes x) emitted ∷ es)
 index_literal kind names read n x packs facts facts' emitted es p named text joins h rolled = record {
   of_indexes = h.of_indexes;
   rolled = rolled;
   indexes = each_both IsIndexObject (objects_in Kind.Index es) (record { name = n; bytes = x } ∷ []) h.indexes ((packs, text), tt);
   gives = λ fact. (
     λ has. elim ((joins fact).0 has) [
-      | inl old ↦ fact_stays (record { ask = Ask.Get Kind.Index n; say = Say.Bytes x; emitted = emitted }) es fact ((h.gives fact).0 old)
+      | inl old ↦ fact_stays (giving (Ask.Get Kind.Index n) (Say.Bytes x) emitted) es fact ((h.gives fact).0 old)
       | inr new ↦ fact_new n x emitted packs es fact named text new
     ],
     λ is. elim (fact_split n x emitted packs es fact text is) [
@@ -75,13 +74,13 @@ index_literal kind names read n x packs facts facts' emitted es p named text joi
 -- one more index
 pub index_read : (r : Request) (kind : Kind) (names : List Name) (read read' : ℕ) (n : Name) (x : List ℕ) (say : Say) (packs : List PackFacts) (facts facts' : List Fact) (emitted : List Emission) (es : Trace)
     → r.ask ≡ Ask.Get Kind.Index n → say ≡ Say.Bytes x → slice_get names read ≡ Some n → naming.name x ≡ n → IsIndexText x packs → Joins facts (facts_in packs) facts' → read' ≡ read + 1
-    → IsCatalog kind names read facts true es → IsCatalog kind names read' facts' true (record { ask = r.ask; say = say; emitted = emitted } ∷ es)
+    → IsCatalog kind names read facts true es → IsCatalog kind names read' facts' true (giving r.ask say emitted ∷ es)
 index_read r kind names read read' n x say packs facts facts' emitted es q s p named text joins more h =
     let rolled = object_read r Kind.Index names read n x (Say.Bytes x) emitted es q refl p named h.rolled in
-    let R : Ask → Type 0 = λ a. IsRolled Kind.Index names (read + 1) true (record { ask = a; say = Say.Bytes x; emitted = emitted } ∷ es) in
-    let C : Ask → Type 0 = λ a. IsCatalog kind names read' facts' true (record { ask = a; say = say; emitted = emitted } ∷ es) in
-    let D : Say → Type 0 = λ z. IsCatalog kind names read' facts' true (record { ask = Ask.Get Kind.Index n; say = z; emitted = emitted } ∷ es) in
-    let N : ℕ → Type 0 = λ i. IsCatalog kind names i facts' true (record { ask = Ask.Get Kind.Index n; say = Say.Bytes x; emitted = emitted } ∷ es) in
+    let R : Ask → Type 0 = λ a. IsRolled Kind.Index names (read + 1) true (giving a (Say.Bytes x) emitted ∷ es) in
+    let C : Ask → Type 0 = λ a. IsCatalog kind names read' facts' true (giving a say emitted ∷ es) in
+    let D : Say → Type 0 = λ z. IsCatalog kind names read' facts' true (giving (Ask.Get Kind.Index n) z emitted ∷ es) in
+    let N : ℕ → Type 0 = λ i. IsCatalog kind names i facts' true (giving (Ask.Get Kind.Index n) (Say.Bytes x) emitted ∷ es) in
     subst C (sym q) (subst D (sym s) (subst N (sym more)
     (index_literal kind names read n x packs facts facts' emitted es p named text joins h (subst R q rolled))))
 
@@ -104,20 +103,13 @@ catalog_as kind kind' names names' read facts whole es p q h =
 pub rolled_on : (k : Kind) (e : Exchange) (names : List Name) (read : ℕ) (whole : Bool) (es : Trace) → page_names k e.ask e.say ≡ [] → is_last_page k e.ask e.say ≡ false → object_got k e.ask e.say ≡ []
     → ((after : Option Name) → e.ask ≢ Ask.List k after) → IsRolled k names read whole es → IsRolled k names read whole (e ∷ es)
 rolled_on k e names read whole es p q o n h =
-    let listed : names_in k (e ∷ es) ≡ names_in k es = ap (λ x. names_in k es ++ x) p ∙ append-nil (names_in k es) in
     let objects : objects_in k (e ∷ es) ≡ objects_in k es = ap (λ x. objects_in k es ++ x) o ∙ append-nil (objects_in k es) in
     record {
-      listed = listed ∙ h.listed;
-      complete = ap (λ c. cond c true (is_complete k es)) q ∙ h.complete;
-      rise = record { ascend = subst (λ ns. Ascends None ns) (sym listed) h.rise.ascend; moves = λ after m. not_moved after m };
+      paged = paged_on k e names whole es p q n h.paged;
       within = h.within;
       received = ap (λ l. map (λ (x : Object). x.name) l) objects ∙ h.received;
       named = subst (λ l. Each IsNamed l) (sym objects) h.named;
     }
-  where
-    not_moved : (after : Option Name) → Exchanged (e ∷ es) (Ask.List k after) (Say.Names true []) → ⊥
-    not_moved after (inl now) = n after now.0
-    not_moved after (inr before) = h.rise.moves after before
 
 -- an exchange that is of no account to a catalog: neither a page nor an index
 pub catalog_on : (e : Exchange) (kind : Kind) (names : List Name) (read : ℕ) (facts : List Fact) (whole : Bool) (es : Trace) → page_names Kind.Index e.ask e.say ≡ [] → is_last_page Kind.Index e.ask e.say ≡ false
@@ -133,14 +125,12 @@ catalog_on e kind names read facts whole es p q o n none h =
     }
 
 -- one more page
-pub catalog_paged : (r : Request) (say : Say) (after : Option Name) (kind : Kind) (names names' : List Name) (read : ℕ) (facts : List Fact) (whole : Bool) (es : Trace) → r.ask ≡ Ask.List Kind.Index after
-    → IsRolled Kind.Index names' read whole (record { ask = r.ask; say = say; emitted = [] } ∷ es) → IsCatalog kind names read facts false es
-    → IsCatalog kind names' read facts whole (record { ask = r.ask; say = say; emitted = [] } ∷ es)
-catalog_paged r say after kind names names' read facts whole es q rolled h =
-    let e : Exchange = record { ask = r.ask; say = say; emitted = [] } in
-    let got : object_got Kind.Index r.ask say ≡ [] = ap (λ a. object_got Kind.Index a say) q in
+pub catalog_paged : (e : Exchange) (after : Option Name) (kind : Kind) (names names' : List Name) (read read' : ℕ) (facts : List Fact) (whole : Bool) (es : Trace) → e.ask ≡ Ask.List Kind.Index after
+    → IsRolled Kind.Index names' read' whole (e ∷ es) → IsCatalog kind names read facts false es → IsCatalog kind names' read' facts whole (e ∷ es)
+catalog_paged e after kind names names' read read' facts whole es q rolled h =
+    let got : object_got Kind.Index e.ask e.say ≡ [] = ap (λ a. object_got Kind.Index a e.say) q in
     let objects : objects_in Kind.Index (e ∷ es) ≡ objects_in Kind.Index es = ap (λ x. objects_in Kind.Index es ++ x) got ∙ append-nil (objects_in Kind.Index es) in
-    let none : (n : Name) (x : List ℕ) → r.ask ≡ Ask.Get Kind.Index n → say ≡ Say.Bytes x → ⊥ = λ n x a s. (let w : Ask.List Kind.Index after ≡ Ask.Get Kind.Index n = sym q ∙ a in absurd (cc)) in
+    let none : (n : Name) (x : List ℕ) → e.ask ≡ Ask.Get Kind.Index n → e.say ≡ Say.Bytes x → ⊥ = λ n x a s. (let w : Ask.List Kind.Index after ≡ Ask.Get Kind.Index n = sym q ∙ a in absurd (cc)) in
     record {
       of_indexes = h.of_indexes;
       rolled = rolled;
@@ -155,17 +145,11 @@ catalog_fresh task token text kind names read facts es k n r f o =
     subst (λ fs. IsCatalog kind names read facts false fs) (sym o) (subst (λ fs. IsCatalog kind names read fs false (opened task token text)) (sym f)
     (subst (λ i. IsCatalog kind names i [] false (opened task token text)) (sym r) (subst (λ ns. IsCatalog kind ns 0 [] false (opened task token text)) (sym n) (record {
       of_indexes = k;
-      rolled = record { listed = refl; complete = refl; rise = record { ascend = tt; moves = λ after m. none_listed after m }; within = omega arith; received = refl; named = tt };
+      rolled = opened_rolled Kind.Index task token text;
       indexes = tt;
       gives = λ fact. (λ has. absurd (omega (arith, has.1)), λ is. absurd (none_read is.index is.text is.read.0));
     }))))
   where
-    none_listed : (after : Option Name) → Exchanged (opened task token text) (Ask.List Kind.Index after) (Say.Names true []) → ⊥
-    none_listed after (inl m) = let q = m.0 in absurd (cc)
-    none_listed after (inr (inl m)) = let q = m.0 in absurd (cc)
-    none_listed after (inr (inr (inl m))) = let q = m.0 in absurd (cc)
-    none_listed after (inr (inr (inr m))) = absurd m
-
     none_read : (n : Name) (x : List ℕ) → Exchanged (opened task token text) (Ask.Get Kind.Index n) (Say.Bytes x) → ⊥
     none_read n x (inl m) = let q = m.0 in absurd (cc)
     none_read n x (inr (inl m)) = let q = m.0 in absurd (cc)

@@ -1,5 +1,5 @@
 -- Of the ends that a job shares with all others, a client alone with its store comes to one: the store has no memory.
-use Rattle.std.proofs.Common.{arith, leb, length-drop, length-take-le, ◌≡◌, ◌≢◌, ◌⊎◌, ◌≤◌, ◌+◌, ◌∷◌, ◌-◌, ℕ, Bool, true, List, length, take, drop, Some, refl, sym, ap, subst, inl, inr, ⊎_elim, ◌∙◌}
+use Rattle.std.proofs.Common.{arith, leb, length-drop, length-take-le, ◌≡◌, ◌≢◌, ◌⊎◌, ◌≤◌, ◌+◌, ◌∷◌, ℕ, List, length, take, drop, Some, refl, sym, ap, subst, inl, inr, ⊎_elim, ◌∙◌}
 use Rattle.std.proofs.lemmas.Bool.{cases_Bool, leb-true}
 use Rattle.std.proofs.lemmas.Option.{same_Some, none-some}
 use Rattle.repo_chunk.specs.Parameters.{AreLawful}

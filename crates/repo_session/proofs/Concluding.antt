@@ -1,6 +1,6 @@
 -- How a client ends that is alone with its store, and deletes nothing.
 use Rattle.std.specs.Prelude.{⊤, All}
-use Rattle.std.proofs.Common.{arith, ◌≡◌, ◌≢◌, ◌⊎◌, ◌≤◌, ◌<◌, ◌+◌, ◌++◌, ◌∷◌, ◌^◌, ◌-◌, [], ℕ, List, length, map, Option, Some, None, refl, sym, ap, subst, inl, inr, ⊎_elim, length-append, ◌∙◌, Contains}
+use Rattle.std.proofs.Common.{arith, ◌≡◌, ◌≢◌, ◌⊎◌, ◌≤◌, ◌<◌, ◌+◌, ◌++◌, ◌∷◌, ◌^◌, ◌-◌, [], ℕ, List, length, Option, Some, None, refl, sym, ap, subst, inl, inr, ⊎_elim, length-append, ◌∙◌, Contains}
 use Rattle.std.proofs.lemmas.Option.{same_Some, none-some}
 use Rattle.std.proofs.lemmas.List.{length-map}
 use Rattle.std.proofs.lemmas.List.Elements.{All-contains}
@@ -57,7 +57,7 @@ abbrev pub DeletesNothing : (Trace → Ask → Type 0) → Type 0
 DeletesNothing Allows = (es : Trace) (token : Token) (k : Kind) (n : Name) → Allows es (Ask.Delete token k n) → ⊥
 
 pub no_delete : (Allows : Trace → Ask → Type 0) → DeletesNothing Allows → (es : Trace) (ask : Ask) → IsPermitted Allows es ask → IsNoDelete ask
-no_delete Allows never es ask h token k n q = never es token k n (subst (λ a. IsPermitted Allows es a) q h)
+no_delete Allows never es ask h token k n q = never es token k n (subst (λ a. IsPermitted Allows es a) q h tt)
 
 -- what was put has its name, and is within its limit
 pub was_put : (task : Task) (Allows : Trace → Ask → Type 0) (Gives : Trace → Exchange → Type 0) (es : Trace) (token : Token) (k : Kind) (n : Name) (x : List ℕ) → Obeys task Allows Gives es → WasAsked es (Ask.Put token k n x)
@@ -212,6 +212,10 @@ module _ (task : Task) (Allows : Trace → Ask → Type 0) (Gives : Trace → Ex
   concluded_well es (Outcome.Stored name blobs bytes) h only = inr h
   concluded_well es (Outcome.Complete entries) h only = inr h
   concluded_well es (Outcome.Listed snapshots) h only = inr h
+  concluded_well es (Outcome.Forgotten names) h only = inr h
+  concluded_well es (Outcome.Pruned packs bytes) h only = inr h
+  concluded_well es (Outcome.Clean snapshots indexes packs blobs) h only = inr h
+  concluded_well es (Outcome.Faults faults) h only = inr h
   concluded_well es (Outcome.Ended end) (inl cause) only = inl (ap Outcome.Ended (only end cause))
   concluded_well es (Outcome.Ended end) (inr own) only = inr own
 

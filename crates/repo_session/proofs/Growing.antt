@@ -18,7 +18,7 @@ use Rattle.repo_store.specs.StoreMachine.{object_limit, Answers, Step, GetSays, 
 use Rattle.repo_store.specs.Stores.{Store, Objects, Added}
 use Rattle.repo_session.specs.declared.emissions.Emission.{Emission}
 use Rattle.repo_session.specs.Talks.{Talk, sent_in, taken_in}
-use Rattle.repo_session.specs.Traces.{Exchange, Trace, Exchanged, WasAsked, Lists, names_in, page_names, same_kind}
+use Rattle.repo_session.specs.Traces.{Trace, Exchanged, WasAsked, Lists, names_in, page_names, same_kind, giving}
 use Rattle.repo_session.proofs.Receiving.{kinds_same}
 
 -- ---- a run, step by step
@@ -285,7 +285,7 @@ module _ (from old new : Store) (es : Trace) (ask : Ask) (say : Say) (emitted : 
       let p = page_there old ask say new k n step (on_page k n ask say g) in
       (p.0, stays old ask new goes k n p.0 p.1)
 
-  pub shares_more : Shares from (record { ask = ask; say = say; emitted = emitted } ∷ es) new
+  pub shares_more : Shares from (giving ask say emitted ∷ es) new
   shares_more = record {
     kept = λ k n x g. stays old ask new goes k n x (h.kept k n x g);
     origin = λ k n x g. ⊎_elim (λ b. ⊎_elim inl (λ p. inr (p.0, inr p.1)) (h.origin k n x b)) (λ p. inr (p.0, inl p.1)) (comes old ask new goes k n x g);

@@ -2,8 +2,7 @@ pub mod Connecting
 pub mod Talking
 pub mod Meeting
 pub mod Ending
-pub mod Opens
-pub mod Hearing
+pub mod Holding
 pub mod Rolling
 pub mod Receiving
 pub mod Cataloguing
@@ -16,3 +15,7 @@ pub mod Containing
 pub mod Concluding
 pub mod Enumerating
 pub mod Unchanging
+pub mod Sessioning
+pub mod Indexing
+pub mod Listing
+pub mod Changing

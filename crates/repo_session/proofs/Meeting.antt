@@ -10,7 +10,7 @@ use Rattle.repo_tree.specs.declared.configs.Config.{Config}
 use Rattle.repo_tree.specs.ConfigText.{IsConfigText}
 use Rattle.repo_session.specs.Laws.{OrderCanBeMet}
 use Rattle.repo_session.specs.Order.{Task, opened, IsOpen, IsNextPage}
-use Rattle.repo_session.specs.Traces.{Exchanged}
+use Rattle.repo_session.specs.Traces.{Exchanged, silent}
 
 no_page : (task : Task) (token : Token) (text : List ℕ) (k : Kind) (after : Option Name) → Exchanged (opened task token text) (Ask.List k after) (Say.Names true []) → ⊥
 no_page task token text k after (inl h) = let a = h.0 in absurd (cc)
@@ -39,11 +39,16 @@ list_no_unlock k after token h = absurd (cc)
 pub order_met : OrderCanBeMet
 order_met task token text config k h = (
   record {
-    later = record { ask = Ask.List k None; say = Say.Names false []; emitted = [] } ∷ record { ask = Ask.Config; say = Say.Bytes text; emitted = [] } ∷ [];
+    later = silent (Ask.List k None) (Say.Names false []) ∷ silent Ask.Config (Say.Bytes text) ∷ [];
     since = refl;
     held = record { unfenced = (names_no_refusal, (bytes_no_refusal text, tt)); unended = (list_no_unlock k None, (config_no_unlock, tt)) };
   },
-  tt,
+  λ w. absurd w,
   inl refl,
-  (((token, (config, opened_now task token text config h)), first_page task token text k), tt, inl refl, ((token, refl), tt, inl refl, ((token, refl, refl), tt, inl refl, (refl, tt, inl refl, tt)))),
+  (
+    ((token, (config, opened_now task token text config h)), first_page task token text k),
+    (λ w. tt),
+    inl refl,
+    ((token, refl), (λ w. absurd w), inl refl, ((token, refl, refl), (λ w. absurd w), inl refl, (refl, (λ w. absurd w), inl refl, tt))),
+  ),
 )

@@ -1,17 +1,16 @@
 -- What was received of a kind's objects.
 use Rattle.std.specs.Prelude.{⊤}
-use Rattle.std.proofs.Common.{◌≡◌, ◌≢◌, ◌≤◌, ◌++◌, ◌∷◌, [], ℕ, Bool, true, false, List, length, map, take, cond, refl, sym, ap, subst, inl, inr, ◌⊎◌, ◌∙◌}
+use Rattle.std.proofs.Common.{◌≡◌, ◌≢◌, ◌≤◌, ◌++◌, ◌∷◌, [], ℕ, Bool, true, false, List, length, map, cond, refl, sym, ap, subst, inl, inr, ◌⊎◌, ◌∙◌}
 use Rattle.std.proofs.Math.Seq.{take_all}
 use Rattle.repo_name.specs.declared.kinds.Kind.{Kind}
 use Rattle.repo_name.specs.declared.names.Name.{Name}
 use Rattle.repo_name.specs.Naming as naming
 use Rattle.repo_wire.specs.declared.messages.Ask.{Ask}
-use Rattle.repo_wire.specs.declared.messages.Code.{Code}
 use Rattle.repo_wire.specs.declared.messages.Say.{Say}
 use Rattle.repo_store.specs.Pages.{Has}
 use Rattle.repo_session.specs.Ends.{thing_of, IsBad, IsUnreadable, IsUnwelcome}
 use Rattle.repo_session.specs.Rolls.{IsNamed, IsRolled}
-use Rattle.repo_session.specs.Traces.{Each, Exchange, Trace, Exchanged, Object, same_kind, object_got, objects_in, Lists, IsRead, IsListed, IsAllRead}
+use Rattle.repo_session.specs.Traces.{Each, Trace, Exchanged, Object, same_kind, object_got, objects_in, Lists, IsRead, IsListed, IsAllRead}
 
 pub kinds_same : (j k : Kind) → same_kind j k ≡ true → j ≡ k
 kinds_same Kind.Pack Kind.Pack h = refl
@@ -93,7 +92,7 @@ each_listed P k names read es h all each n listed =
     let Q : Object → Type 0 = λ o. (Exchanged es (Ask.Get k o.name) (Say.Bytes o.bytes) × IsNamed o) × P o in
     let qs : Each Q (objects_in k es) = each_pair (λ o. Exchanged es (Ask.Get k o.name) (Say.Bytes o.bytes) × IsNamed o) P (objects_in k es)
     (each_pair (λ o. Exchanged es (Ask.Get k o.name) (Say.Bytes o.bytes)) IsNamed (objects_in k es) (each_got k es) h.named) each in
-    let has : Has (map (λ (o : Object). o.name) (objects_in k es)) n = subst (λ ns. Has ns n) (h.listed ∙ sym (all_names k names read es h all)) listed in
+    let has : Has (map (λ (o : Object). o.name) (objects_in k es)) n = subst (λ ns. Has ns n) (h.paged.listed ∙ sym (all_names k names read es h all)) listed in
     let found = pick Q (objects_in k es) n has qs in
     let R : Name → Type 0 = λ m. Exchanged es (Ask.Get k m) (Say.Bytes found.0.bytes) in
     let S : Name → Type 0 = λ m. P (record { name = m; bytes = found.0.bytes }) in
@@ -101,7 +100,7 @@ each_listed P k names read es h all each n listed =
 
 -- the kind is listed to its end
 pub is_listed : (k : Kind) (names : List Name) (read : ℕ) (es : Trace) → IsRolled k names read true es → IsListed k es
-is_listed k names read es h = record { complete = h.complete; rise = h.rise }
+is_listed k names read es h = record { complete = h.paged.complete; rise = h.paged.rise }
 
 -- each that was listed was read
 pub all_read : (k : Kind) (names : List Name) (read : ℕ) (es : Trace) → IsRolled k names read true es → length names ≤ read → IsAllRead k es
@@ -118,9 +117,6 @@ all_read k names read es h all = record {
     each_true (o ∷ os) = (tt, each_true os)
 
 -- ---- replies that end a job
-
-pub bytes_not_dead : (x : List ℕ) (say : Say) → say ≡ Say.Bytes x → say ≢ Say.Refused Code.Dead
-bytes_not_dead x say p q = absurd (cc)
 
 pub unwelcome_get : (k : Kind) (n : Name) (say : Say) → ((x : List ℕ) → say ≢ Say.Bytes x) → IsUnwelcome (Ask.Get k n) say
 unwelcome_get k n (Say.Token token) h = λ x. x

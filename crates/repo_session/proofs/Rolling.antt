@@ -6,22 +6,16 @@ use Rattle.std.proofs.Math.Seq.{take-suc}
 use Rattle.repo_name.specs.Naming as naming
 use Rattle.repo_name.specs.declared.kinds.Kind.{Kind}
 use Rattle.repo_name.specs.declared.names.Name.{Name}
-use Rattle.repo_name.specs.declared.rows.LockRow.{LockRow}
 use Rattle.repo_name.specs.declared.tokens.Token.{Token}
 use Rattle.repo_wire.specs.declared.messages.Ask.{Ask}
 use Rattle.repo_wire.specs.declared.messages.Request.{Request}
 use Rattle.repo_wire.specs.declared.messages.Say.{Say}
 use Rattle.repo_store.specs.Pages.{Has, Ascends}
 use Rattle.repo_session.specs.declared.emissions.Emission.{Emission}
-use Rattle.repo_session.specs.declared.lines.Line.{Line}
-use Rattle.repo_session.specs.declared.outcomes.End.{End}
-use Rattle.repo_session.specs.declared.outcomes.Outcome.{Outcome}
-use Rattle.repo_session.specs.Ends.{Concludes, IsSenseless, IsUnwelcome, PageRises}
-use Rattle.repo_session.specs.Openings.{StandsAt}
-use Rattle.repo_session.specs.Order.{Task, last_of, IsWorking, May}
-use Rattle.repo_session.specs.Rolls.{IsNamed, IsRolled}
-use Rattle.repo_session.specs.Traces.{Each, Exchange, Trace, Exchanged, Object, same_kind, is_last_page, names_in, objects_in}
-use Rattle.repo_session.proofs.Opens.{told_of}
+use Rattle.repo_session.specs.Ends.{IsUnwelcome, PageRises}
+use Rattle.repo_session.specs.Order.{Task, opened, last_of, IsWorking, May}
+use Rattle.repo_session.specs.Rolls.{IsNamed, IsPaged, IsRolled}
+use Rattle.repo_session.specs.Traces.{Each, Exchange, Trace, Exchanged, Object, same_kind, page_names, is_last_page, names_in, is_complete, objects_in, giving}
 
 pub unwelcome_page : (k : Kind) (after : Option Name) (say : Say) → ((more : Bool) (names : List Name) → say ≢ Say.Names more names) → IsUnwelcome (Ask.List k after) say
 unwelcome_page k after (Say.Token token) h = λ x. x
@@ -61,21 +55,6 @@ ascends_on after (n ∷ ns) page h p = (h.0, ascends_on (Some n) ns page h.1 p)
 ascends_more : (ns page : List Name) → Ascends None ns → Ascends (last_of ns) page → Ascends None (ns ++ page)
 ascends_more ns page h p = ascends_on None ns page h (subst (λ a. Ascends a page) (last_of_is ns) p)
 
--- the page of the pending request comes after the last name so far
-pub page_after : (task : Task) (Allows : Trace → Ask → Type 0) (Gives : Trace → Exchange → Type 0) (Own : Trace → Outcome → Type 0) (lock : Option LockRow) (token : Token) (line : Line) (r : Request) (k : Kind)
-    (after : Option Name) (names : List Name) (read : ℕ) (whole : Bool) (es : Trace) → line.next ≡ Some r → r.ask ≡ Ask.List k after → StandsAt task Allows Gives Own lock token line es → IsRolled k names read whole es
-    → after ≡ last_of names
-page_after task Allows Gives Own lock token line r k after names read whole es p q f h =
-    let may : May task es (Ask.List k after) = subst (λ a. May task es a) q (told_of task Allows Gives Own lock token line r es p f).next.may in
-    may.1.last ∙ ap last_of h.listed
-
--- a page that doesn't rise makes no sense
-pub bad_page : (Own : Trace → Outcome → Type 0) (r : Request) (k : Kind) (after : Option Name) (names page : List Name) (more : Bool) (say : Say) (emitted : List Emission) (es : Trace) → r.ask ≡ Ask.List k after
-    → say ≡ Say.Names more page → after ≡ last_of names → ¬ PageRises (last_of names) more page → Concludes Own (record { ask = r.ask; say = say; emitted = emitted } ∷ es) (Outcome.Ended End.BadReply)
-bad_page Own r k after names page more say emitted es q s at bad =
-    let here : IsSenseless (Ask.List k after) (Say.Names more page) = λ x. bad (subst (λ a. PageRises a more page) at x) in
-    inl (inl (subst (λ a. IsSenseless a say) (sym q) (subst (λ z. IsSenseless (Ask.List k after) z) (sym s) here)))
-
 not_moved : (e : Exchange) (es : Trace) (k : Kind) (page : List Name) (more : Bool) → e.say ≡ Say.Names more page → (more ≡ true → page ≢ []) → ((a : Option Name) → ¬ Exchanged es (Ask.List k a) (Say.Names true []))
     → (a : Option Name) → ¬ Exchanged (e ∷ es) (Ask.List k a) (Say.Names true [])
 not_moved e es k page more s some h a (inl x) =
@@ -86,36 +65,57 @@ not_moved e es k page more s some h a (inl x) =
 not_moved e es k page more s some h a (inr x) = h a x
 
 -- one more page
-page_literal : (k : Kind) (after : Option Name) (names page : List Name) (read : ℕ) (more : Bool) (whole : Bool) (emitted : List Emission) (es : Trace)
-    → cond (is_last_page k (Ask.List k after) (Say.Names more page)) true false ≡ whole → PageRises (last_of names) more page → IsRolled k names read false es
-    → IsRolled k (names ++ page) read whole (record { ask = Ask.List k after; say = Say.Names more page; emitted = emitted } ∷ es)
-page_literal k after names page read more whole emitted es w rises h =
+pub paged_more : (k : Kind) (after : Option Name) (names page : List Name) (more whole : Bool) (emitted : List Emission) (es : Trace) → cond (is_last_page k (Ask.List k after) (Say.Names more page)) true false ≡ whole
+    → PageRises (last_of names) more page → IsPaged k names false es → IsPaged k (names ++ page) whole (giving (Ask.List k after) (Say.Names more page) emitted ∷ es)
+paged_more k after names page more whole emitted es w rises h =
     let listed : names_in k es ++ cond (same_kind k k) page [] ≡ names ++ page = ap (λ c. names_in k es ++ cond c page []) (same_self k) ∙ ap (λ x. x ++ page) h.listed in
     record {
       listed = listed;
       complete = ap (λ c. cond (is_last_page k (Ask.List k after) (Say.Names more page)) true c) h.complete ∙ w;
       rise = record {
         ascend = subst (λ x. Ascends None x) (sym listed) (ascends_more names page (subst (λ x. Ascends None x) h.listed h.rise.ascend) rises.0);
-        moves = not_moved (record { ask = Ask.List k after; say = Say.Names more page; emitted = emitted }) es k page more refl rises.1 h.rise.moves;
+        moves = not_moved (giving (Ask.List k after) (Say.Names more page) emitted) es k page more refl rises.1 h.rise.moves;
       };
-      within = omega (arith, h.within, length-append names page);
-      received = ap (λ os. map (λ (o : Object). o.name) os) (append-nil (objects_in k es)) ∙ h.received ∙ sym (take-append-le read names page h.within);
-      named = subst (λ os. Each IsNamed os) (sym (append-nil (objects_in k es))) h.named;
     }
 
+pub page_literal : (k : Kind) (after : Option Name) (names page : List Name) (read : ℕ) (more : Bool) (whole : Bool) (emitted : List Emission) (es : Trace)
+    → cond (is_last_page k (Ask.List k after) (Say.Names more page)) true false ≡ whole → PageRises (last_of names) more page → IsRolled k names read false es
+    → IsRolled k (names ++ page) read whole (giving (Ask.List k after) (Say.Names more page) emitted ∷ es)
+page_literal k after names page read more whole emitted es w rises h = record {
+  paged = paged_more k after names page more whole emitted es w rises h.paged;
+  within = omega (arith, h.within, length-append names page);
+  received = ap (λ os. map (λ (o : Object). o.name) os) (append-nil (objects_in k es)) ∙ h.received ∙ sym (take-append-le read names page h.within);
+  named = subst (λ os. Each IsNamed os) (sym (append-nil (objects_in k es))) h.named;
+}
+
+-- an exchange that is no page of the kind
+pub paged_on : (k : Kind) (e : Exchange) (names : List Name) (whole : Bool) (es : Trace) → page_names k e.ask e.say ≡ [] → is_last_page k e.ask e.say ≡ false → ((after : Option Name) → e.ask ≢ Ask.List k after)
+    → IsPaged k names whole es → IsPaged k names whole (e ∷ es)
+paged_on k e names whole es p q n h =
+    let listed : names_in k (e ∷ es) ≡ names_in k es = ap (λ x. names_in k es ++ x) p ∙ append-nil (names_in k es) in
+    record {
+      listed = listed ∙ h.listed;
+      complete = ap (λ c. cond c true (is_complete k es)) q ∙ h.complete;
+      rise = record { ascend = subst (λ ns. Ascends None ns) (sym listed) h.rise.ascend; moves = λ after m. not_asked after m };
+    }
+  where
+    not_asked : (after : Option Name) → Exchanged (e ∷ es) (Ask.List k after) (Say.Names true []) → ⊥
+    not_asked after (inl now) = n after now.0
+    not_asked after (inr before) = h.rise.moves after before
+
 pub page_more : (r : Request) (k : Kind) (after : Option Name) (names page both : List Name) (read : ℕ) (say : Say) (emitted : List Emission) (es : Trace) → r.ask ≡ Ask.List k after → say ≡ Say.Names true page
-    → both ≡ names ++ page → PageRises (last_of names) true page → IsRolled k names read false es → IsRolled k both read false (record { ask = r.ask; say = say; emitted = emitted } ∷ es)
+    → both ≡ names ++ page → PageRises (last_of names) true page → IsRolled k names read false es → IsRolled k both read false (giving r.ask say emitted ∷ es)
 page_more r k after names page both read say emitted es q s b rises h =
-    subst (λ x. IsRolled k x read false (record { ask = r.ask; say = say; emitted = emitted } ∷ es)) (sym b)
-    (subst (λ a. IsRolled k (names ++ page) read false (record { ask = a; say = say; emitted = emitted } ∷ es)) (sym q)
-    (subst (λ z. IsRolled k (names ++ page) read false (record { ask = Ask.List k after; say = z; emitted = emitted } ∷ es)) (sym s) (page_literal k after names page read true false emitted es refl rises h)))
+    subst (λ x. IsRolled k x read false (giving r.ask say emitted ∷ es)) (sym b)
+    (subst (λ a. IsRolled k (names ++ page) read false (giving a say emitted ∷ es)) (sym q)
+    (subst (λ z. IsRolled k (names ++ page) read false (giving (Ask.List k after) z emitted ∷ es)) (sym s) (page_literal k after names page read true false emitted es refl rises h)))
 
 pub page_last : (r : Request) (k : Kind) (after : Option Name) (names page both : List Name) (read : ℕ) (say : Say) (emitted : List Emission) (es : Trace) → r.ask ≡ Ask.List k after → say ≡ Say.Names false page
-    → both ≡ names ++ page → PageRises (last_of names) false page → IsRolled k names read false es → IsRolled k both read true (record { ask = r.ask; say = say; emitted = emitted } ∷ es)
+    → both ≡ names ++ page → PageRises (last_of names) false page → IsRolled k names read false es → IsRolled k both read true (giving r.ask say emitted ∷ es)
 page_last r k after names page both read say emitted es q s b rises h =
-    subst (λ x. IsRolled k x read true (record { ask = r.ask; say = say; emitted = emitted } ∷ es)) (sym b)
-    (subst (λ a. IsRolled k (names ++ page) read true (record { ask = a; say = say; emitted = emitted } ∷ es)) (sym q)
-    (subst (λ z. IsRolled k (names ++ page) read true (record { ask = Ask.List k after; say = z; emitted = emitted } ∷ es)) (sym s)
+    subst (λ x. IsRolled k x read true (giving r.ask say emitted ∷ es)) (sym b)
+    (subst (λ a. IsRolled k (names ++ page) read true (giving a say emitted ∷ es)) (sym q)
+    (subst (λ z. IsRolled k (names ++ page) read true (giving (Ask.List k after) z emitted ∷ es)) (sym s)
     (page_literal k after names page read false true emitted es (ap (λ c. cond c true false) (same_self k)) rises h)))
 
 -- ---- objects
@@ -133,10 +133,10 @@ got_past (m ∷ ns) (suc i) p = let h = got_past ns i p in omega (arith, h)
 -- a listed name may be got
 pub may_get : (task : Task) (token : Token) (k : Kind) (names : List Name) (read : ℕ) (n : Name) (es : Trace) → IsWorking task token es → IsRolled k names read true es → slice_get names read ≡ Some n
     → May task es (Ask.Get k n)
-may_get task token k names read n es w h p = ((token, w), inl (h.rise, subst (λ x. Has x n) (sym h.listed) (has_got names read n p)))
+may_get task token k names read n es w h p = ((token, w), inl (h.paged.rise, subst (λ x. Has x n) (sym h.paged.listed) (has_got names read n p)))
 
-object_literal : (k : Kind) (names : List Name) (read : ℕ) (n : Name) (x : List ℕ) (emitted : List Emission) (es : Trace) → slice_get names read ≡ Some n → naming.name x ≡ n → IsRolled k names read true es
-    → IsRolled k names (read + 1) true (record { ask = Ask.Get k n; say = Say.Bytes x; emitted = emitted } ∷ es)
+pub object_literal : (k : Kind) (names : List Name) (read : ℕ) (n : Name) (x : List ℕ) (emitted : List Emission) (es : Trace) → slice_get names read ≡ Some n → naming.name x ≡ n → IsRolled k names read true es
+    → IsRolled k names (read + 1) true (giving (Ask.Get k n) (Say.Bytes x) emitted ∷ es)
 object_literal k names read n x emitted es p named h =
     let o : Object = record { name = n; bytes = x } in
     let os : List Object = objects_in k es in
@@ -144,9 +144,7 @@ object_literal k names read n x emitted es p named h =
     let within = slice_get_within names read n p in
     let more : take (read + 1) names ≡ take read names ++ n ∷ [] = one_more read n p within in
     record {
-      listed = append-nil (names_in k es) ∙ h.listed;
-      complete = h.complete;
-      rise = record { ascend = subst (λ ns. Ascends None ns) (sym (append-nil (names_in k es))) h.rise.ascend; moves = λ a m. not_asked a m };
+      paged = paged_on k (giving (Ask.Get k n) (Say.Bytes x) emitted) names true es refl refl (λ after same. absurd (cc)) h.paged;
       within = omega (arith, within);
       received = ap (λ l. map (λ (o : Object). o.name) l) got ∙ map_end (λ (o : Object). o.name) os o ∙ ap (λ l. l ++ n ∷ []) h.received ∙ sym more;
       named = subst (λ l. Each IsNamed l) (sym got) (each_more os o h.named named);
@@ -165,13 +163,28 @@ object_literal k names read n x emitted es p named h =
     each_more [] o h q = (q, tt)
     each_more (a ∷ l) o h q = (h.0, each_more l o h.1 q)
 
-    not_asked : (a : Option Name) → Exchanged (record { ask = Ask.Get k n; say = Say.Bytes x; emitted = emitted } ∷ es) (Ask.List k a) (Say.Names true []) → ⊥
-    not_asked a (inl m) = let q = m.0 in absurd (cc)
-    not_asked a (inr m) = h.rise.moves a m
-
 -- one more object
 pub object_read : (r : Request) (k : Kind) (names : List Name) (read : ℕ) (n : Name) (x : List ℕ) (say : Say) (emitted : List Emission) (es : Trace) → r.ask ≡ Ask.Get k n → say ≡ Say.Bytes x
-    → slice_get names read ≡ Some n → naming.name x ≡ n → IsRolled k names read true es → IsRolled k names (read + 1) true (record { ask = r.ask; say = say; emitted = emitted } ∷ es)
+    → slice_get names read ≡ Some n → naming.name x ≡ n → IsRolled k names read true es → IsRolled k names (read + 1) true (giving r.ask say emitted ∷ es)
 object_read r k names read n x say emitted es q s p named h =
-    subst (λ a. IsRolled k names (read + 1) true (record { ask = a; say = say; emitted = emitted } ∷ es)) (sym q)
-    (subst (λ z. IsRolled k names (read + 1) true (record { ask = Ask.Get k n; say = z; emitted = emitted } ∷ es)) (sym s) (object_literal k names read n x emitted es p named h))
+    subst (λ a. IsRolled k names (read + 1) true (giving a say emitted ∷ es)) (sym q)
+    (subst (λ z. IsRolled k names (read + 1) true (giving (Ask.Get k n) z emitted ∷ es)) (sym s) (object_literal k names read n x emitted es p named h))
+
+-- a job that begins has listed nothing
+pub opened_rolled : (k : Kind) (task : Task) (token : Token) (text : List ℕ) → IsRolled k [] 0 false (opened task token text)
+opened_rolled k task token text = record {
+  paged = record { listed = refl; complete = refl; rise = record { ascend = tt; moves = λ after m. not_listed after m } };
+  within = omega arith;
+  received = refl;
+  named = tt;
+}
+  where
+    not_listed : (after : Option Name) → Exchanged (opened task token text) (Ask.List k after) (Say.Names true []) → ⊥
+    not_listed after (inl m) = let q = m.0 in absurd (cc)
+    not_listed after (inr (inl m)) = let q = m.0 in absurd (cc)
+    not_listed after (inr (inr (inl m))) = let q = m.0 in absurd (cc)
+    not_listed after (inr (inr (inr m))) = absurd m
+
+-- the next page may be asked for
+pub may_page : (task : Task) (token : Token) (k : Kind) (names : List Name) (read : ℕ) (es : Trace) → IsWorking task token es → IsRolled k names read false es → May task es (Ask.List k (last_of names))
+may_page task token k names read es w h = ((token, w), record { rise = h.paged.rise; incomplete = h.paged.complete; last = ap last_of (sym h.paged.listed) })

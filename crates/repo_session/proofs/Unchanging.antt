@@ -1,5 +1,5 @@
 -- A job that may neither put nor delete, alone with its store.
-use Rattle.std.proofs.Common.{◌≡◌, ◌⊎◌, ◌∷◌, [], Option, Some, None, refl, sym, ap, subst, inl, inr, ⊎_elim, ◌∙◌}
+use Rattle.std.proofs.Common.{◌≡◌, ◌∷◌, [], Option, Some, None, refl, sym, ap, subst, inl, inr, ⊎_elim, ◌∙◌}
 use Rattle.repo_wire.specs.declared.messages.Ask.{Ask}
 use Rattle.repo_wire.specs.declared.messages.Request.{Request}
 use Rattle.repo_wire.specs.declared.messages.Say.{Say}
@@ -7,7 +7,7 @@ use Rattle.repo_store.specs.StoreMachine.{Step}
 use Rattle.repo_store.specs.Stores.{Store}
 use Rattle.repo_session.specs.declared.outcomes.Outcome.{Outcome}
 use Rattle.repo_session.specs.Clients.{IsObedient}
-use Rattle.repo_session.specs.Order.{Task, IsPermitted, Obeys}
+use Rattle.repo_session.specs.Order.{Task, IsReading, IsPermitted, Obeys}
 use Rattle.repo_session.specs.Soundness.{IsSound}
 use Rattle.repo_session.specs.Talks.{Talk, trace_of, MayStep}
 use Rattle.repo_session.specs.Traces.{Exchange, Trace}
@@ -15,18 +15,18 @@ use Rattle.repo_session.proofs.Concluding.{IsSoundThroughout}
 use Rattle.repo_session.proofs.Enumerating.{HasThroughout}
 use Rattle.repo_session.proofs.Growing.{Led, IsNoDelete, Shares, step_goes, shares_nothing, shares_more}
 
--- the job's rule allows nothing
-abbrev pub AllowsNothing : (Trace → Ask → Type 0) → Type 0
-AllowsNothing Allows = (es : Trace) (ask : Ask) → Allows es ask → ⊥
+-- the job's rule allows what reads alone
+abbrev pub OnlyReads : (Trace → Ask → Type 0) → Type 0
+OnlyReads Allows = (es : Trace) (ask : Ask) → Allows es ask → IsReading ask
 
-module _ (task : Task) (Allows : Trace → Ask → Type 0) (Gives : Trace → Exchange → Type 0) (never : AllowsNothing Allows) where
+module _ (task : Task) (Allows : Trace → Ask → Type 0) (Gives : Trace → Exchange → Type 0) (never : OnlyReads Allows) where
   no_delete_now : (es : Trace) (ask : Ask) → IsPermitted Allows es ask → IsNoDelete ask
-  no_delete_now es ask h token k n q = never es (Ask.Delete token k n) (subst (λ a. IsPermitted Allows es a) q h)
+  no_delete_now es ask h token k n q = never es (Ask.Delete token k n) (subst (λ a. IsPermitted Allows es a) q h tt)
 
   pub same_step : (es : Trace) (old : Store) (ask : Ask) (say : Say) (new : Store) → IsPermitted Allows es ask → Step old ask say new → new.objects ≡ old.objects
   same_step es old ask say new permitted step = elim (step_goes old ask say new (no_delete_now es ask permitted) step) [
     | inl same ↦ same
-    | inr p ↦ absurd (never es (Ask.Put p.token p.kind p.name p.bytes) (subst (λ a. IsPermitted Allows es a) p.asked permitted))
+    | inr p ↦ absurd (never es (Ask.Put p.token p.kind p.name p.bytes) (subst (λ a. IsPermitted Allows es a) p.asked permitted tt))
   ]
 
   pub same_run : (from : Store) (talk : Talk) (to : Store) → Obeys task Allows Gives (trace_of talk) → Led from talk to → to.objects ≡ from.objects
@@ -49,7 +49,7 @@ module _ (task : Task) (Allows : Trace → Ask → Type 0) (Gives : Trace → Ex
   sound_throughout from (turn ∷ talk) sound o = ((λ to h. subst IsSound (sym (same_run from (turn ∷ talk) to o h)) sound), sound_throughout from talk sound o.3)
 
 -- what the exchanges of a job that deletes nothing tell of the store
-pub shares_run : (task : Task) (Allows : Trace → Ask → Type 0) (Gives : Trace → Exchange → Type 0) → AllowsNothing Allows → (from : Store) (talk : Talk) (to : Store) → Obeys task Allows Gives (trace_of talk) → Led from talk to
+pub shares_run : (task : Task) (Allows : Trace → Ask → Type 0) (Gives : Trace → Exchange → Type 0) → OnlyReads Allows → (from : Store) (talk : Talk) (to : Store) → Obeys task Allows Gives (trace_of talk) → Led from talk to
     → Shares from (trace_of talk) to
 shares_run task Allows Gives never from [] to o h = subst (λ s. Shares from [] s) (sym h) (shares_nothing from)
 shares_run task Allows Gives never from (turn ∷ talk) to o h =

@@ -1,9 +1,7 @@
 -- What a catalog of a store's indexes knows of the trace.
-use Rattle.std.specs.Prelude.{◌≡◌, ◌≢◌, ◌⊎◌, ◌≤◌, ◌↔◌, ◌∷◌, [], ℕ, Bool, true, List, length, slice_get, Some, None, Result, Ok, Err, Contains}
+use Rattle.std.specs.Prelude.{◌≡◌, ◌≢◌, ◌⊎◌, ◌≤◌, ◌↔◌, ℕ, Bool, List, length, slice_get, Some, None, Result, Ok, Err, Contains}
 use Rattle.repo_name.specs.declared.kinds.Kind.{Kind}
 use Rattle.repo_name.specs.declared.names.Name.{Name}
-use Rattle.repo_wire.specs.declared.messages.Ask.{Ask}
-use Rattle.repo_wire.specs.declared.messages.Request.{Request}
 use Rattle.repo_wire.specs.declared.messages.Say.{Say}
 use Rattle.repo_index.specs.declared.facts.Fact.{Fact}
 use Rattle.repo_index.specs.declared.facts.PackFacts.{PackFacts}
@@ -13,12 +11,8 @@ use Rattle.repo_index.specs.Lookups.{Joins, Grew, HasSame}
 use Rattle.repo_session.specs.Ends.{IsUnreadable}
 use Rattle.repo_session.specs.declared.catalogs.Brought.{Brought}
 use Rattle.repo_session.specs.declared.catalogs.Catalog.{Catalog}
-use Rattle.repo_session.specs.declared.catalogs.Indexed.{Indexed}
-use Rattle.repo_session.specs.declared.openings.Opening.{Opening}
-use Rattle.repo_session.specs.declared.outcomes.Outcome.{Outcome}
-use Rattle.repo_session.specs.Openings.{Fits, IsReady, IsUnlock, Pends}
 use Rattle.repo_session.specs.Rolls.{IsRolled}
-use Rattle.repo_session.specs.Traces.{Each, Exchange, Trace, Object, objects_in, IsListed, Lists, IsRead, ReadFact}
+use Rattle.repo_session.specs.Traces.{Each, Trace, Object, objects_in, IsListed, Lists, IsRead, ReadFact}
 
 -- the indexes are listed to their end, and each one listed was read, and reads
 pub record AreIndexed (es : Trace) : Type 0 where
@@ -42,10 +36,6 @@ pub record IsCatalog (kind : Kind) (names : List Name) (read : ℕ) (facts : Lis
 abbrev pub Catalogs : Catalog → Bool → Trace → Type 0
 Catalogs c whole es = IsCatalog c.roll.kind c.roll.names.items c.roll.read c.lookup whole es
 
--- a request for the next index that wasn't read
-abbrev pub IsIndexAsk : Catalog → Ask → Type 0
-IsIndexAsk c ask = (n : Name) × (ask ≡ Ask.Get Kind.Index n) × (slice_get c.roll.names.items c.roll.read ≡ Some n)
-
 -- all that was listed was read
 abbrev pub IsAll : Catalog → Type 0
 IsAll c = length c.roll.names.items ≤ c.roll.read
@@ -57,13 +47,3 @@ BringsIndex c say (Ok (Brought.New noted)) c' = (n : Name) × (x : List ℕ) × 
 BringsIndex c say (Ok (Brought.Bad n)) c' = (c' ≡ c) × (slice_get c.roll.names.items c.roll.read ≡ Some n) × ((x : List ℕ) × (say ≡ Say.Bytes x) × ((naming.name x ≢ n) ⊎ IsUnreadable Kind.Index x))
 BringsIndex c say (Ok Brought.Unwelcome) c' = (c' ≡ c) × ((slice_get c.roll.names.items c.roll.read ≡ None) ⊎ ((x : List ℕ) → say ≢ Say.Bytes x))
 BringsIndex c say (Err e) c' = HasSame c.lookup c'.lookup
-
--- what taking the next index gives: the job ended; or the one after it was asked for; or it was the last, and nothing is pending
-abbrev pub IndexGives : {J E : Type 0} → (J → Trace → Ask → Type 0) → (J → Trace → Exchange → Type 0) → (J → Trace → Outcome → Type 0) → Catalog → Opening J → Say → Result Indexed E → Catalog → Opening J → Type 0
-IndexGives Allows Gives Own c old say (Ok Indexed.Ended) c' new = (r : Request) (es : Trace) → old.line.next ≡ Some r → IsIndexAsk c r.ask → Fits Allows Gives Own old es → Catalogs c true es
-    → Fits Allows Gives Own new (record { ask = r.ask; say = say; emitted = [] } ∷ es) × Pends IsUnlock new.line
-IndexGives Allows Gives Own c old say (Ok Indexed.More) c' new = (r : Request) (es : Trace) → old.line.next ≡ Some r → IsIndexAsk c r.ask → Fits Allows Gives Own old es → Catalogs c true es
-    → Fits Allows Gives Own new (record { ask = r.ask; say = say; emitted = [] } ∷ es) × Catalogs c' true (record { ask = r.ask; say = say; emitted = [] } ∷ es) × Pends (IsIndexAsk c') new.line
-IndexGives Allows Gives Own c old say (Ok Indexed.All) c' new = (r : Request) (es : Trace) → old.line.next ≡ Some r → IsIndexAsk c r.ask → Fits Allows Gives Own old es → Catalogs c true es
-    → IsReady Allows Gives new (record { ask = r.ask; say = say; emitted = [] } ∷ es) × Catalogs c' true (record { ask = r.ask; say = say; emitted = [] } ∷ es) × IsAll c'
-IndexGives Allows Gives Own c old say (Err e) c' new = (new ≡ old) × (c'.roll ≡ c.roll) × HasSame c.lookup c'.lookup

@@ -1,13 +1,14 @@
 -- What a client owes.
 use Rattle.std.specs.Prelude.{◌≡◌, ◌≢◌, ◌+◌, ⊤, List, length, Option, Some, None}
+use Rattle.repo_name.specs.declared.tokens.Token.{Token}
 use Rattle.repo_wire.specs.declared.messages.Ask.{Ask}
 use Rattle.repo_wire.specs.declared.messages.Reply.{Reply}
 use Rattle.repo_wire.specs.declared.messages.Request.{Request}
 use Rattle.repo_session.specs.declared.emissions.Emission.{Emission}
 use Rattle.repo_session.specs.declared.outcomes.Outcome.{Outcome}
-use Rattle.repo_session.specs.Ends.{Concludes, before_unlock}
-use Rattle.repo_session.specs.Order.{Task, May, IsPermitted, Obeys}
-use Rattle.repo_session.specs.Traces.{Exchange, Trace}
+use Rattle.repo_session.specs.Ends.{Concludes, IsSpent, before_unlock}
+use Rattle.repo_session.specs.Order.{Task, IsUnlock, Holds, May, IsPermitted, Obeys}
+use Rattle.repo_session.specs.Traces.{Exchange, Trace, giving}
 
 -- the reply is to this request
 abbrev pub Answers : Request → Reply → Type 0
@@ -20,7 +21,7 @@ AnswersNext (Some request) reply = Answers request reply
 
 -- the exchange of a request and its reply, on which this was given out
 abbrev pub exchange : Request → Reply → List Emission → Exchange
-exchange request reply emitted = record { ask = request.ask; say = reply.say; emitted = emitted }
+exchange request reply emitted = giving request.ask reply.say emitted
 
 -- the next request: the client's own, with the number after those of the exchanges, and one that they allow
 pub record IsNext (task : Task) (Allows : Trace → Ask → Type 0) (es : Trace) (request : Request) : Type 0 where
@@ -29,14 +30,18 @@ pub record IsNext (task : Task) (Allows : Trace → Ask → Type 0) (es : Trace)
   pub may : May task es request.ask
   pub permitted : IsPermitted Allows es request.ask
 
--- a client that stands where a trace leaves it: the trace obeys the order and the job's rule, and so does what is pending; where nothing is,
--- there is an outcome; and an outcome comes only where it may
+-- a client that stands where a trace leaves it: the trace obeys the order and the job's rule, and so does what is pending; where nothing is, there
+-- is an outcome, and no lock is held unless the numbers are spent; an outcome comes only where it may, and stands beside no pending request but the
+-- unlock, which has one beside it
 pub record IsObedient (task : Task) (Allows : Trace → Ask → Type 0) (Gives : Trace → Exchange → Type 0) (Own : Trace → Outcome → Type 0)
     (next : Option Request) (outcome : Option Outcome) (es : Trace) : Type 0 where
   pub obeys : Obeys task Allows Gives es
   pub pending : (request : Request) → next ≡ Some request → IsNext task Allows es request
   pub settled : next ≡ None → outcome ≢ None
   pub concluded : (o : Outcome) → outcome ≡ Some o → Concludes Own (before_unlock es) o
+  pub released : next ≡ None → outcome ≢ None → (token : Token) → Holds task token es → IsSpent es
+  pub beside : (request : Request) → next ≡ Some request → outcome ≢ None → IsUnlock request.ask
+  pub ending : (request : Request) → next ≡ Some request → IsUnlock request.ask → outcome ≢ None
 
 -- a request whose reply is taken without memory, whatever it says
 abbrev pub IsSteady : Ask → Type 0

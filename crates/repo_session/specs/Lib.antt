@@ -11,8 +11,12 @@ pub mod Alone
 pub mod Connections
 pub mod Laws
 pub mod Lines
-pub mod Openings
 pub mod Rolls
 pub mod Catalogs
 pub mod Obedience
 pub mod Results
+pub mod Jobs
+pub mod Sessions
+pub mod Readings
+pub mod Listings
+pub mod Changes

@@ -1,4 +1,4 @@
--- An opening is obedient.
+-- A session owes what a client owes.
 use Rattle.std.specs.Prelude.{◌≡◌, ◌≢◌, ◌∷◌, ◌++◌, [], Option, Some, None}
 use Rattle.std.proofs.Common.{refl, sym, subst}
 use Rattle.repo_name.specs.declared.rows.LockRow.{LockRow}
@@ -7,11 +7,16 @@ use Rattle.repo_wire.specs.declared.messages.Ask.{Ask}
 use Rattle.repo_wire.specs.declared.messages.Request.{Request}
 use Rattle.repo_session.specs.declared.lines.Line.{Line}
 use Rattle.repo_session.specs.declared.outcomes.Outcome.{Outcome}
+use Rattle.repo_session.specs.declared.sessions.Session.{Session}
+use Rattle.repo_session.specs.Askers.{Holding}
 use Rattle.repo_session.specs.Clients.{IsNext, IsObedient}
-use Rattle.repo_session.specs.Ends.{Concludes, without_unlock, before_unlock}
-use Rattle.repo_session.specs.Openings.{StandsAt, Stands, StandsBeside}
-use Rattle.repo_session.specs.Order.{Task, locked, IsNoUnlock, Holds, May}
+use Rattle.repo_session.specs.Ends.{Concludes, IsSpent, without_unlock, before_unlock}
+use Rattle.repo_session.specs.Jobs.{Rule, task_under}
+use Rattle.repo_session.specs.Order.{Task, locked, IsNoUnlock, IsUnlock, Holds, May}
+use Rattle.repo_session.specs.Sessions.{KnowsAt, Stands, SessionAt, FitsSession}
 use Rattle.repo_session.specs.Traces.{Each, Exchange, Trace}
+
+-- ---- traces without the end of the lock
 
 whole_of : (ask : Ask) (whole older : Trace) → ((token : Token) → ask ≢ Ask.Unlock token) → without_unlock ask whole older ≡ whole
 whole_of Ask.Ticket whole older h = refl
@@ -35,43 +40,91 @@ whole_held task token [] h = refl
 whole_held task token (e ∷ later) h = still_whole e (later ++ locked task token) h.0
 
 -- where the lock is held its end isn't the newest exchange
-holds_whole : (task : Task) (token : Token) (es : Trace) → Holds task token es → before_unlock es ≡ es
+pub holds_whole : (task : Task) (token : Token) (es : Trace) → Holds task token es → before_unlock es ≡ es
 holds_whole task token es h = subst (λ fs. before_unlock fs ≡ fs) (sym h.since) (whole_held task token h.later h.held.unended)
 
-beside_concludes : (task : Task) (Own : Trace → Outcome → Type 0) (ask : Ask) (outcome : Option Outcome) (es : Trace) (o : Outcome) → May task es ask → StandsBeside Own ask outcome es → outcome ≡ Some o
-    → Concludes Own (before_unlock es) o
-beside_concludes task Own (Ask.Unlock token) outcome es o may b p =
-    let same : b.0 ≡ o = cc (b.1, p) in
-    subst (λ fs. Concludes Own fs o) (sym (holds_whole task token es may)) (subst (λ x. Concludes Own es x) same b.2)
-beside_concludes task Own Ask.Ticket outcome es o may b p = absurd (cc)
-beside_concludes task Own (Ask.Lock row) outcome es o may b p = absurd (cc)
-beside_concludes task Own (Ask.Refresh token time) outcome es o may b p = absurd (cc)
-beside_concludes task Own Ask.Locks outcome es o may b p = absurd (cc)
-beside_concludes task Own (Ask.List k after) outcome es o may b p = absurd (cc)
-beside_concludes task Own (Ask.Get k n) outcome es o may b p = absurd (cc)
-beside_concludes task Own (Ask.Range pack offset len) outcome es o may b p = absurd (cc)
-beside_concludes task Own (Ask.Put token k n x) outcome es o may b p = absurd (cc)
-beside_concludes task Own (Ask.Delete token k n) outcome es o may b p = absurd (cc)
-beside_concludes task Own Ask.Config outcome es o may b p = absurd (cc)
+-- ---- where a session stands
 
-concludes_at : (task : Task) (Allows : Trace → Ask → Type 0) (Own : Trace → Outcome → Type 0) (lock : Option LockRow) (token : Token) (line : Line) (next : Option Request) (outcome : Option Outcome) (es : Trace)
-    (o : Outcome) → line.outcome ≡ outcome → Stands task Allows Own lock token line next outcome es → outcome ≡ Some o → Concludes Own (before_unlock es) o
-concludes_at task Allows Own lock token line None None es o same s p = absurd (cc)
-concludes_at task Allows Own lock token line None (Some x) es o same s p = let q : x ≡ o = cc in subst (λ y. Concludes Own (before_unlock es) y) q s
-concludes_at task Allows Own lock token line (Some r) outcome es o same s p =
-    beside_concludes task Own r.ask line.outcome es o s.next.may s.beside (subst (λ y. y ≡ Some o) (sym same) p)
+module _ (rule : Rule) (holding : Holding) (lock : Option LockRow) (Fresh : Type 0) (Knows : Ask → Trace → Type 0) where
+  -- an outcome stands beside a pending unlock, and beside no other request
+  pub beside_unlock : (ask : Ask) (outcome : Option Outcome) (es : Trace) → KnowsAt rule holding lock Fresh Knows outcome ask es → outcome ≢ None → IsUnlock ask
+  beside_unlock (Ask.Unlock t) outcome es k n = tt
+  beside_unlock Ask.Ticket outcome es k n = absurd (n k.1)
+  beside_unlock (Ask.Lock row) outcome es k n = absurd (n k.1)
+  beside_unlock (Ask.Refresh t time) outcome es k n = absurd k
+  beside_unlock Ask.Locks outcome es k n = absurd k
+  beside_unlock Ask.Config outcome es k n = absurd (n k.1)
+  beside_unlock (Ask.List j after) outcome es k n = absurd (n k.1)
+  beside_unlock (Ask.Get j m) outcome es k n = absurd (n k.1)
+  beside_unlock (Ask.Range pack offset len) outcome es k n = absurd (n k.1)
+  beside_unlock (Ask.Put t j m x) outcome es k n = absurd (n k.1)
+  beside_unlock (Ask.Delete t j m) outcome es k n = absurd (n k.1)
 
-pending_at : (task : Task) (Allows : Trace → Ask → Type 0) (Own : Trace → Outcome → Type 0) (lock : Option LockRow) (token : Token) (line : Line) (next : Option Request) (outcome : Option Outcome) (es : Trace)
-    (r : Request) → Stands task Allows Own lock token line next outcome es → next ≡ Some r → IsNext task Allows es r
-pending_at task Allows Own lock token line None outcome es r s p = absurd (cc)
-pending_at task Allows Own lock token line (Some q) outcome es r s p = let same : q ≡ r = cc in subst (λ x. IsNext task Allows es x) same s.next
+  ends_beside : (ask : Ask) (o : Outcome) (es : Trace) → May (task_under rule holding.who) es ask → KnowsAt rule holding lock Fresh Knows (Some o) ask es → IsUnlock ask → Concludes rule.concludes (before_unlock es) o
+  ends_beside (Ask.Unlock t) o es may k u =
+      let same : k.0 ≡ o = let p = k.1 in cc in
+      subst (λ x. Concludes rule.concludes (before_unlock es) x) same (subst (λ fs. Concludes rule.concludes fs k.0) (sym (holds_whole (task_under rule holding.who) t es may)) k.2)
+  ends_beside Ask.Ticket o es may k u = absurd u
+  ends_beside (Ask.Lock row) o es may k u = absurd u
+  ends_beside (Ask.Refresh t time) o es may k u = absurd u
+  ends_beside Ask.Locks o es may k u = absurd u
+  ends_beside Ask.Config o es may k u = absurd u
+  ends_beside (Ask.List j after) o es may k u = absurd u
+  ends_beside (Ask.Get j m) o es may k u = absurd u
+  ends_beside (Ask.Range pack offset len) o es may k u = absurd u
+  ends_beside (Ask.Put t j m x) o es may k u = absurd u
+  ends_beside (Ask.Delete t j m) o es may k u = absurd u
 
--- an opening at the end of a trace, which has an outcome where nothing is pending, is obedient
-pub opening_obeys : (task : Task) (Allows : Trace → Ask → Type 0) (Gives : Trace → Exchange → Type 0) (Own : Trace → Outcome → Type 0) (lock : Option LockRow) (token : Token) (line : Line) (es : Trace)
-    → StandsAt task Allows Gives Own lock token line es → (line.next ≡ None → line.outcome ≢ None) → IsObedient task Allows Gives Own line.next line.outcome es
-opening_obeys task Allows Gives Own lock token line es f s = record {
-  obeys = f.obeys;
-  pending = λ r p. pending_at task Allows Own lock token line line.next line.outcome es r f.stands p;
-  settled = s;
-  concluded = λ o p. concludes_at task Allows Own lock token line line.next line.outcome es o refl f.stands p;
-}
+  pending_is : (line : Line) (next : Option Request) (es : Trace) (r : Request) → Stands rule holding lock Fresh Knows line next es → next ≡ Some r → IsNext (task_under rule holding.who) rule.allows es r
+  pending_is line None es r s p = absurd (cc)
+  pending_is line (Some q) es r s p = let same : q ≡ r = cc in subst (λ x. IsNext (task_under rule holding.who) rule.allows es x) same s.next
+
+  settles : (line : Line) (next : Option Request) (es : Trace) → Stands rule holding lock Fresh Knows line next es → next ≡ None → line.outcome ≢ None
+  settles line None es s p none = let there = s.there in absurd (cc)
+  settles line (Some q) es s p none = absurd (cc)
+
+  concludes_at : (line : Line) (next : Option Request) (es : Trace) (o : Outcome) → Stands rule holding lock Fresh Knows line next es → line.outcome ≡ Some o → Concludes rule.concludes (before_unlock es) o
+  concludes_at line None es o s p = let there = s.there in let same : s.outcome ≡ o = cc in subst (λ x. Concludes rule.concludes (before_unlock es) x) same s.concluded
+  concludes_at line (Some q) es o s p =
+      let k = s.knows in
+      ends_beside q.ask o es s.next.may (subst (λ x. KnowsAt rule holding lock Fresh Knows x q.ask es) p k) (beside_unlock q.ask line.outcome es k (λ none. absurd (cc)))
+
+  unlock_there : (ask : Ask) (outcome : Option Outcome) (es : Trace) → KnowsAt rule holding lock Fresh Knows outcome ask es → IsUnlock ask → outcome ≢ None
+  unlock_there (Ask.Unlock t) outcome es k u none = let there = k.1 in absurd (cc)
+  unlock_there Ask.Ticket outcome es k u none = u
+  unlock_there (Ask.Lock row) outcome es k u none = u
+  unlock_there (Ask.Refresh t time) outcome es k u none = u
+  unlock_there Ask.Locks outcome es k u none = u
+  unlock_there Ask.Config outcome es k u none = u
+  unlock_there (Ask.List j after) outcome es k u none = u
+  unlock_there (Ask.Get j m) outcome es k u none = u
+  unlock_there (Ask.Range pack offset len) outcome es k u none = u
+  unlock_there (Ask.Put t j m x) outcome es k u none = u
+  unlock_there (Ask.Delete t j m) outcome es k u none = u
+
+  is_released : (line : Line) (next : Option Request) (es : Trace) → Stands rule holding lock Fresh Knows line next es → next ≡ None → (token : Token) → Holds (task_under rule holding.who) token es → IsSpent es
+  is_released line None es s p token h = s.released token h
+  is_released line (Some q) es s p token h = absurd (cc)
+
+  stands_beside : (line : Line) (next : Option Request) (es : Trace) (r : Request) → Stands rule holding lock Fresh Knows line next es → next ≡ Some r → line.outcome ≢ None → IsUnlock r.ask
+  stands_beside line None es r s p n = absurd (cc)
+  stands_beside line (Some q) es r s p n = let same : q ≡ r = cc in subst (λ x. IsUnlock x.ask) same (beside_unlock q.ask line.outcome es s.knows n)
+
+  is_ending : (line : Line) (next : Option Request) (es : Trace) (r : Request) → Stands rule holding lock Fresh Knows line next es → next ≡ Some r → IsUnlock r.ask → line.outcome ≢ None
+  is_ending line None es r s p u = absurd (cc)
+  is_ending line (Some q) es r s p u = let same : r ≡ q = cc in unlock_there q.ask line.outcome es s.knows (subst (λ x. IsUnlock x.ask) same u)
+
+  pub obeys_at : (line : Line) (es : Trace) → SessionAt rule holding lock Fresh Knows line es → IsObedient (task_under rule holding.who) rule.allows rule.gives rule.concludes line.next line.outcome es
+  obeys_at line es s = record {
+    obeys = s.obeys;
+    pending = λ r p. pending_is line line.next es r s.stands p;
+    settled = settles line line.next es s.stands;
+    concluded = λ o p. concludes_at line line.next es o s.stands p;
+    released = λ p n token h. is_released line line.next es s.stands p token h;
+    beside = λ r p n. stands_beside line line.next es r s.stands p n;
+    ending = λ r p u. is_ending line line.next es r s.stands p u;
+  }
+
+pub session_obeys : {J H : Type 0} (handed : J → H) (rule : H → Rule) (fresh : J → Type 0) (knows : J → Ask → Trace → Type 0) (s : Session J) (es : Trace) → FitsSession handed rule fresh knows s es
+    → IsObedient (task_under (rule (handed s.job)) s.head.holder.who) (rule (handed s.job)).allows (rule (handed s.job)).gives (rule (handed s.job)).concludes s.head.line.next s.head.line.outcome es
+session_obeys handed rule fresh knows s es f = obeys_at (rule (handed s.job)) s.head.holder s.head.lock (fresh s.job) (knows s.job) s.head.line es f

@@ -13,7 +13,7 @@ use Rattle.repo_tree.specs.declared.configs.Config.{Config}
 use Rattle.repo_tree.specs.ConfigText.{IsConfigText}
 use Rattle.repo_store.specs.StoreMachine.{object_limit}
 use Rattle.repo_session.specs.Askers.{Asker, row_of}
-use Rattle.repo_session.specs.Traces.{Each, Exchange, Trace, names_in, is_complete, Rise, Lists, ReadFact}
+use Rattle.repo_session.specs.Traces.{Each, Exchange, Trace, names_in, is_complete, Rise, Lists, ReadFact, silent}
 
 -- who does a job, under which kind of lock, and which snapshot it may get without having listed it
 pub record Task : Type 0 where
@@ -27,15 +27,15 @@ lock_row task token = row_of token task.exclusive task.who.time task.who.host
 
 -- only the ticket was asked for, and given
 abbrev pub ticketed : Token → Trace
-ticketed token = record { ask = Ask.Ticket; say = Say.Token token; emitted = [] } ∷ []
+ticketed token = silent Ask.Ticket (Say.Token token) ∷ []
 
 -- and then only the lock with that ticket, which was granted
 abbrev pub locked : Task → Token → Trace
-locked task token = record { ask = Ask.Lock (lock_row task token); say = Say.Done; emitted = [] } ∷ ticketed token
+locked task token = silent (Ask.Lock (lock_row task token)) Say.Done ∷ ticketed token
 
 -- and then only the config, which was given
 abbrev pub opened : Task → Token → List ℕ → Trace
-opened task token text = record { ask = Ask.Config; say = Say.Bytes text; emitted = [] } ∷ locked task token
+opened task token text = silent Ask.Config (Say.Bytes text) ∷ locked task token
 
 -- no reply told that the token is dead
 abbrev pub IsUnfenced : Exchange → Type 0
@@ -100,11 +100,30 @@ May task es (Ask.Unlock token) = Holds task token es
 May task es (Ask.Refresh token time) = ⊥
 May task es Ask.Locks = ⊥
 
--- the job's own rule, which is on what is put and deleted alone
+-- a request of the job's own work, after the config
+abbrev pub IsWork : Ask → Type 0
+IsWork (Ask.List k after) = ⊤
+IsWork (Ask.Get k n) = ⊤
+IsWork (Ask.Range pack offset len) = ⊤
+IsWork (Ask.Put token k n x) = ⊤
+IsWork (Ask.Delete token k n) = ⊤
+IsWork _ = ⊥
+
+-- the end of the lock
+abbrev pub IsUnlock : Ask → Type 0
+IsUnlock (Ask.Unlock token) = ⊤
+IsUnlock _ = ⊥
+
+-- a request that reads names, an object, or a part of a pack
+abbrev pub IsReading : Ask → Type 0
+IsReading (Ask.List k after) = ⊤
+IsReading (Ask.Get k n) = ⊤
+IsReading (Ask.Range pack offset len) = ⊤
+IsReading _ = ⊥
+
+-- the job's own rule, which is on its work alone
 abbrev pub IsPermitted : (Trace → Ask → Type 0) → Trace → Ask → Type 0
-IsPermitted Allows es (Ask.Put token k n x) = Allows es (Ask.Put token k n x)
-IsPermitted Allows es (Ask.Delete token k n) = Allows es (Ask.Delete token k n)
-IsPermitted Allows es _ = ⊤
+IsPermitted Allows es ask = IsWork ask → Allows es ask
 
 -- each request was one that the exchanges before it allow, by this order and by the job's own rule, and so was what was given out
 abbrev pub Obeys : Task → (Trace → Ask → Type 0) → (Trace → Exchange → Type 0) → Trace → Type 0

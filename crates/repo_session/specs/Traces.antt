@@ -23,6 +23,14 @@ pub record Exchange : Type 0 where
   pub say : Say
   pub emitted : List Emission
 
+-- an exchange on which this was given out
+abbrev pub giving : Ask → Say → List Emission → Exchange
+giving ask say emitted = record { ask = ask; say = say; emitted = emitted }
+
+-- one on which nothing was
+abbrev pub silent : Ask → Say → Exchange
+silent ask say = giving ask say []
+
 -- a client's exchanges, the newest first
 abbrev pub Trace : Type 0
 Trace = List Exchange

@@ -2,7 +2,9 @@
 
 ghost use Rattle.std.specs.Prelude.{◌≡◌, ◌∷◌, ℕ, List, Some, OnOk, OnErr, IsOk, IfSome, Option, option_map};
 ghost use Rattle.repo_wire.specs.declared.messages.Ask.{Ask};
+ghost use Rattle.repo_wire.specs.declared.messages.Code.{Code};
 ghost use Rattle.repo_wire.specs.declared.messages.Request.{Request};
+ghost use Rattle.repo_wire.specs.declared.messages.Say.{Say};
 ghost use Rattle.repo_wire.specs.Messages.{requests};
 ghost use Rattle.repo_wire.specs.Stream.{FitsFrame};
 ghost use Rattle.repo_session.specs.declared.emissions.Emission.{Emission};
@@ -35,6 +37,8 @@ pub trait Client {
     ghost gives: { Job → Trace → Exchange → Type 0 };
     /// The outcomes that the job's own rule allows after a trace.
     ghost concludes: { Job → Trace → Outcome → Type 0 };
+    /// It takes each refusal without memory.
+    ghost calm: { Job → Type 0 };
     /// The client stands where this trace leaves it.
     ghost fits: { Self → Trace → Type 0 };
     /// The request that is pending.
@@ -53,13 +57,15 @@ pub trait Client {
     ///
     /// It fails for memory alone, and then `pending`, `outcome` and `emitted` are as before, and the reply
     /// may be taken again. No memory is asked for a reply that isn't to the pending request, nor for one to
-    /// a ticket, a lock or an unlock.
+    /// a ticket, a lock or an unlock, nor for a refusal where the job is calm. An outcome that is there stays.
     fn take(&mut self, reply: &Reply) -> Result<(), AllocError>
         ensures taken { OnOk result ((request : Request) → next self.old ≡ Some request → Answers request reply.now
             → (es : Trace) → fits self.old es → fits self.new (exchange request reply.now (given self.new) ∷ es)) }
         ensures other { ¬ AnswersNext (next self.old) reply.now → self.new ≡ self.old }
         ensures steady { ¬ AnswersNext (next self.old) reply.now → IsOk result }
         ensures sure { (request : Request) → next self.old ≡ Some request → IsSteady request.ask → IsOk result }
+        ensures calm { (code : Code) → reply.now.say ≡ Say.Refused code → calm (job self.old) → IsOk result }
+        ensures stays { (es : Trace) (outcome : Outcome) → fits self.old es → ended self.old ≡ Some outcome → ended self.new ≡ Some outcome }
         ensures fits { OnErr result ((es : Trace) → fits self.old es → fits self.new es) }
         ensures next { OnErr result (next self.new ≡ next self.old) }
         ensures ended { OnErr result (ended self.new ≡ ended self.old) }
@@ -75,7 +81,7 @@ pub trait Client {
         ensures { result.now ≡ given self.now };
 
     /// A trace at whose end the client stands obeys the common order and the job's rule; so does what is
-    /// pending; where nothing is, there is an outcome; and an outcome comes only where it may.
+    /// pending; where nothing is, there is an outcome, and the lock was ended; and an outcome comes only where it may.
     ghost obedient: { (client : Self) (es : Trace) → fits client es
         → IsObedient (task (job client)) (allows (job client)) (gives (job client)) (concludes (job client)) (next client) (ended client) es };
 }

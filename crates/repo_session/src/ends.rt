@@ -1,7 +1,11 @@
 //! Which end a reply is a cause of.
 
 ghost use Rattle.std.specs.Prelude.{◌≡◌, ℕ, List, IfOk};
+ghost use Rattle.repo_name.specs.Naming as naming;
+ghost use Rattle.repo_name.specs.declared.kinds.Kind.{Kind};
+ghost use Rattle.repo_name.specs.declared.names.Name.{Name};
 ghost use Rattle.repo_tree.specs.ConfigText.{ConfigFault};
+ghost use Rattle.repo_tree.specs.SnapshotText.{SnapshotFault};
 ghost use Rattle.repo_wire.specs.declared.messages.Ask.{Ask};
 ghost use Rattle.repo_wire.specs.declared.messages.Code.{Code};
 ghost use Rattle.repo_wire.specs.declared.messages.Say.{Say};
@@ -10,7 +14,7 @@ ghost use Rattle.repo_session.specs.Ends.{thing_of, CausedBy, IsUnwelcome};
 ghost use Rattle.repo_session.specs.Traces.{Trace};
 
 use crate::outcomes::End;
-use repo_name::{Kind, Thing};
+use repo_name::{Kind, Name, Thing};
 use repo_tree::TextError;
 use repo_wire::{Ask, Code, Say};
 use std::alloc::AllocError;
@@ -79,5 +83,17 @@ pub fn config_end(error: TextError) -> Result<End, AllocError>
         TextError::Memory => Err(AllocError),
         TextError::Version => Ok(End::Version),
         _ => Ok(End::BadReply),
+    }
+}
+
+/// The end where a snapshot's bytes, which have its name, can't be read. It fails where there was no memory to read
+/// them.
+pub fn snapshot_end(name: Name, error: TextError) -> Result<End, AllocError>
+    ensures { IfOk result (λ end. (x : List ℕ) (es : Trace) → naming.name x ≡ name → SnapshotFault x error → CausedBy es (Ask.Get Kind.Snapshot name) (Say.Bytes x) end) }
+{
+    match error {
+        TextError::Memory => Err(AllocError),
+        TextError::Version => Ok(End::Version),
+        _ => Ok(End::BadObject(Thing::Snapshot, name)),
     }
 }

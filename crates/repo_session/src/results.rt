@@ -56,6 +56,21 @@ fn outcome_text(alloc: Global, outcome: &Outcome) -> Result<String, AllocError>
             let count = snapshots.as_slice().len();
             format!(in alloc; "listed {count}")
         }
+        Outcome::Forgotten(names) => {
+            let count = names.as_slice().len();
+            format!(in alloc; "forgotten {count}")
+        }
+        Outcome::Pruned { packs, bytes } => format!(in alloc; "pruned {packs} {bytes}"),
+        Outcome::Clean {
+            snapshots,
+            indexes,
+            packs,
+            blobs,
+        } => format!(in alloc; "clean {snapshots} {indexes} {packs} {blobs}"),
+        Outcome::Faults(faults) => {
+            let count = faults.as_slice().len();
+            format!(in alloc; "faults {count}")
+        }
         Outcome::Ended(end) => end_text(alloc, *end),
     }
 }

@@ -1,30 +1,40 @@
 //! The names of one kind's objects, by pages, and which of them were read.
 
-ghost use Rattle.std.specs.Prelude.{◌≡◌, ◌≤◌, ◌<◌, ◌+◌, ◌↔◌, [], false, true, Option, length, slice_get, IsTrue, IsFalse};
+ghost use Rattle.std.specs.Prelude.{◌≡◌, ◌≤◌, ◌<◌, ◌+◌, ◌-◌, ◌↔◌, ◌∷◌, ◌++◌, [], false, true, ℕ, List, Option, None, length, slice_get, IfOk, IfSome, IsOk, OnErr, IsTrue, IsFalse};
+ghost use Rattle.repo_name.specs.Naming as naming;
+ghost use Rattle.repo_name.specs.declared.kinds.Kind.{Kind};
+ghost use Rattle.repo_name.specs.declared.names.Name.{Name};
+ghost use Rattle.repo_name.specs.declared.tokens.Token.{Token};
+ghost use Rattle.repo_wire.specs.declared.messages.Ask.{Ask};
+ghost use Rattle.repo_wire.specs.declared.messages.Code.{Code};
+ghost use Rattle.repo_wire.specs.declared.messages.Say.{Say};
 ghost use Rattle.repo_wire.specs.Messages.{IsGivenName};
 ghost use Rattle.repo_session.specs.Ends.{PageRises};
-ghost use Rattle.repo_session.specs.Openings.{Fits, IsReady, Keeps, Pends};
-ghost use Rattle.repo_session.specs.Order.{last_of};
-ghost use Rattle.repo_session.specs.Rolls.{Rolls, IsPageAsk, IsObjectAsk, PageGives, IsGot};
-ghost use Rattle.repo_session.specs.Traces.{Trace};
+ghost use Rattle.repo_session.specs.Jobs.{IsShort};
+ghost use Rattle.repo_session.specs.Order.{Task, IsWorking, May, last_of};
+ghost use Rattle.repo_session.specs.Readings.{IsDue, KnowsRoll, Pages, IsShortPaging, Brings};
+ghost use Rattle.repo_session.specs.declared.emissions.Emission.{Emission};
+ghost use Rattle.repo_session.specs.declared.rolls.Paging.{Paging};
+ghost use Rattle.repo_session.specs.Rolls.{Rolls, IsGot};
+ghost use Rattle.repo_session.specs.Traces.{Trace, giving};
 ghost use Rattle.repo_store.specs.Pages.{Above, Ascends};
 
-use crate::openings::{Job, Opening};
-use crate::outcomes::{End, Outcome};
 use repo_name::{Kind, Name, name_of};
 use repo_wire::{Ask, Say};
 use std::alloc::{AllocError, Global};
 use std::cmp::Ordering;
 
-/// What came of a page.
-#[derive(Clone, Copy, Debug, PartialEq, Eq)]
-pub enum Paged {
-    /// The job ended on it.
-    Ended,
-    /// The next page was asked for.
-    More,
-    /// It was the last: nothing is pending.
+/// What the reply to a page comes to.
+#[derive(Debug, Drop)]
+pub enum Paging {
+    /// Its names were added, more follow, and this asks for them.
+    Ask(Ask),
+    /// Its names were added, and none follow.
     Last,
+    /// It doesn't rise.
+    Senseless,
+    /// It is no page.
+    Unwelcome,
 }
 
 /// What a reply gives of an object.
@@ -99,48 +109,6 @@ impl Roll {
         last
     }
 
-    /// Asks for the next page, unless the numbers are spent.
-    pub fn ask_page<J: Job + Drop>(&self, opening: &mut Opening<J>)
-        ensures fits { (es : Trace) → IsReady J.allows J.gives opening.old es → Rolls self.now false es → Fits J.allows J.gives J.concludes opening.new es }
-        ensures pends { Pends (IsPageAsk self.now.kind) opening.new.line }
-        ensures kept { Keeps opening.old opening.new }
-    {
-        let after = self.last();
-        opening.ask(Ask::List {
-            kind: self.kind,
-            after,
-        });
-    }
-
-    /// Takes the reply to the request for a page. It fails for memory alone, and then nothing changed.
-    pub fn take_page<J: Job + Drop>(
-        &mut self,
-        say: &Say,
-        opening: &mut Opening<J>,
-    ) -> Result<Paged, AllocError>
-        ensures gives { PageGives J.allows J.gives J.concludes self.old opening.old say.now result self.new opening.new }
-        ensures kind { self.new.kind ≡ self.old.kind }
-        ensures read { self.new.read ≡ self.old.read }
-        ensures kept { Keeps opening.old opening.new }
-    {
-        let Say::Names { more, names } = say else {
-            opening.turn_away(say);
-            return Ok(Paged::Ended);
-        };
-        if !rises(self.last(), *more, names.as_slice()) {
-            opening.answered();
-            opening.finish(Outcome::Ended(End::BadReply));
-            return Ok(Paged::Ended);
-        }
-        self.names.extend_from_slice(names.as_slice())?;
-        opening.answered();
-        if *more {
-            self.ask_page(opening);
-            return Ok(Paged::More);
-        }
-        Ok(Paged::Last)
-    }
-
     /// The next name whose object wasn't read yet, if there is one.
     pub fn next_name(&self) -> Option<Name>
         ensures next { result ≡ slice_get self.now.names.items self.now.read }
@@ -153,28 +121,10 @@ impl Roll {
         next
     }
 
-    /// Asks for the next object, unless the numbers are spent. It says whether there is one to be read.
-    pub fn ask_object<J: Job + Drop>(&self, opening: &mut Opening<J>) -> bool
-        ensures more { IsTrue result → (es : Trace) → IsReady J.allows J.gives opening.old es → Rolls self.now true es → Fits J.allows J.gives J.concludes opening.new es }
-        ensures pends { IsTrue result → Pends (IsObjectAsk self.now) opening.new.line }
-        ensures all { IsFalse result → (opening.new ≡ opening.old) × (length self.now.names.items ≤ self.now.read) }
-        ensures kept { Keeps opening.old opening.new }
-    {
-        match self.next_name() {
-            Some(name) => {
-                opening.ask(Ask::Get {
-                    kind: self.kind,
-                    name,
-                });
-                true
-            }
-            None => false,
-        }
-    }
-
     /// What the reply to the request for the next object gives. It takes no memory.
     pub fn object<'a>(&self, say: &'a Say) -> Got<'a>
-        ensures { IsGot self.now say.now result }
+        ensures got { IsGot self.now say.now result }
+        ensures brings { (kind : Kind) (name : Name) (es : Trace) → KnowsRoll self.now (Ask.Get kind name) es → Brings kind name say.now result }
     {
         let Some(name) = self.next_name() else {
             return Got::Unwelcome;
@@ -193,9 +143,72 @@ impl Roll {
         ensures read { self.old.read < length self.old.names.items → self.new.read ≡ self.old.read + 1 }
         ensures names { self.new.names ≡ self.old.names }
         ensures kind { self.new.kind ≡ self.old.kind }
+        ensures rolls { (kind : Kind) (name : Name) (bytes : List ℕ) (emitted : List Emission) (es : Trace) → KnowsRoll self.old (Ask.Get kind name) es → naming.name bytes ≡ name
+            → Rolls self.new true (giving (Ask.Get kind name) (Say.Bytes bytes) emitted ∷ es) }
     {
         if self.read < self.names.len() {
             self.read += 1;
         }
+    }
+
+    /// Counts the last object as unread.
+    pub(crate) fn unread(&mut self)
+        ensures read { self.new.read ≡ self.old.read - 1 }
+        ensures names { self.new.names ≡ self.old.names }
+        ensures kind { self.new.kind ≡ self.old.kind }
+    {
+        self.read = self.read.saturating_sub(1);
+    }
+
+    /// The request for the next page.
+    pub fn page_ask(&self) -> Ask
+        ensures due { (task : Task) (token : Token) (es : Trace) → IsWorking task token es → self.now.read ≡ 0 → Rolls self.now false es → IsDue task (KnowsRoll self.now) es result }
+        ensures ask { result ≡ Ask.List self.now.kind (last_of self.now.names.items) }
+        ensures short { IsShort result }
+    {
+        let after = self.last();
+        Ask::List {
+            kind: self.kind,
+            after,
+        }
+    }
+
+    /// Takes the reply to the request for a page. It fails for memory alone, and then the names are those that were
+    /// there.
+    pub fn add_page(&mut self, say: &Say) -> Result<Paging, AllocError>
+        ensures pages { IfOk result (λ paging. (task : Task) (token : Token) (kind : Kind) (after : Option Name) (emitted : List Emission) (es : Trace)
+            → IsWorking task token (giving (Ask.List kind after) say.now emitted ∷ es) → May task es (Ask.List kind after) → KnowsRoll self.old (Ask.List kind after) es
+            → Pages task self.new paging (giving (Ask.List kind after) say.now emitted) es) }
+        ensures grows { IfOk result (λ paging. paging ≡ Paging.Last → (page : List Name) × (self.new.names.items ≡ self.old.names.items ++ page)) }
+        ensures short { IfOk result IsShortPaging }
+        ensures calm { (code : Code) → say.now ≡ Say.Refused code → IsOk result }
+        ensures err { OnErr result (self.new.names.items ≡ self.old.names.items) }
+        ensures kind { self.new.kind ≡ self.old.kind }
+        ensures read { self.new.read ≡ self.old.read }
+    {
+        let Say::Names { more, names } = say else {
+            return Ok(Paging::Unwelcome);
+        };
+        if !rises(self.last(), *more, names.as_slice()) {
+            return Ok(Paging::Senseless);
+        }
+        self.names.extend_from_slice(names.as_slice())?;
+        if *more {
+            return Ok(Paging::Ask(self.page_ask()));
+        }
+        Ok(Paging::Last)
+    }
+
+    /// The request for the next object, if there is one to be read.
+    pub fn object_ask(&self) -> Option<Ask>
+        ensures due { IfSome result (λ ask. (task : Task) (token : Token) (es : Trace) → IsWorking task token es → Rolls self.now true es → IsDue task (KnowsRoll self.now) es ask) }
+        ensures all { result ≡ None → length self.now.names.items ≤ self.now.read }
+        ensures short { IfSome result IsShort }
+    {
+        let name = self.next_name()?;
+        Some(Ask::Get {
+            kind: self.kind,
+            name,
+        })
     }
 }

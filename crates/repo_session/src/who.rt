@@ -69,6 +69,59 @@ impl Claim {
     }
 }
 
+/// Who holds the lock of a session, and by which token. A clause sees the asker and the token; the host is within its
+/// limits.
+#[derive(Drop)]
+pub struct Holder {
+    instance: Instance,
+    host: Text,
+    time: u64,
+    token: Token,
+}
+
+impl Model for Holder {
+    ghost use Rattle.repo_name.specs.Rows.{IsHost};
+    ghost use Rattle.repo_session.specs.Askers.{asker, Holding};
+
+    ghost Value = { Holding };
+
+    ghost view = { λ h. record { who = asker h.instance h.host h.time; token = h.token } };
+
+    ghost invariant = { λ h. IsHost h.host };
+}
+
+impl Holder {
+    /// The token of the lock.
+    pub fn token(&self) -> Token
+        ensures { result ≡ self.now.token }
+    {
+        self.token
+    }
+
+    /// The name of the client's machine, 1 to 255 bytes.
+    pub fn host(&self) -> &Text
+        ensures host { result.now ≡ self.now.who.host }
+        ensures within { IsHost self.now.who.host }
+    {
+        &self.host
+    }
+
+    /// The moment of the session, in seconds since 1970.
+    pub fn time(&self) -> u64
+        ensures { result ≡ self.now.who.time }
+    {
+        self.time
+    }
+
+    /// Takes the token of a ticket.
+    pub(crate) fn grant(&mut self, token: Token)
+        ensures who { self.new.who ≡ self.old.who }
+        ensures token { self.new.token ≡ token }
+    {
+        self.token = token;
+    }
+}
+
 /// Why there is no such `Who`.
 #[derive(Clone, Copy, Debug, PartialEq, Eq, Error)]
 pub enum WhoError {
@@ -124,19 +177,23 @@ impl Who {
         self.host.as_str()
     }
 
-    /// Its parts: the instance, the host, the moment, and the lock that it may ask for.
-    pub fn into_parts(self, exclusive: bool) -> (Instance, Text, u64, Claim)
-        ensures instance { result.0 ≡ self.instance }
-        ensures host { result.1 ≡ self.host }
-        ensures time { result.2 ≡ self.time }
-        ensures claim { result.3 ≡ row_of (record { 0 = 0 }) exclusive self.time self.host }
+    /// Who is to hold a lock, whose token is 0 until there is a ticket, and the lock that may be asked for.
+    pub fn into_holder(self, exclusive: bool) -> (Holder, Claim)
+        ensures who { result.0.who ≡ self }
+        ensures claim { result.1 ≡ row_of (record { 0 = 0 }) exclusive self.time self.host }
     {
         let claim = Claim {
             exclusive,
             time: self.time,
             host: self.lock_host,
         };
-        (self.instance, self.host, self.time, claim)
+        let holder = Holder {
+            instance: self.instance,
+            host: self.host,
+            time: self.time,
+            token: Token(0),
+        };
+        (holder, claim)
     }
 
     /// The moment, in seconds since 1970.

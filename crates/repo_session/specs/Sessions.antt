@@ -1,0 +1,107 @@
+-- Where a session stands, and what it does by itself.
+use Rattle.std.specs.Prelude.{◌≡◌, ◌≢◌, ◌+◌, [], Bool, true, false, cond, List, length, Option, Some, None}
+use Rattle.repo_name.specs.declared.rows.LockRow.{LockRow}
+use Rattle.repo_name.specs.declared.tokens.Token.{Token}
+use Rattle.repo_wire.specs.declared.messages.Ask.{Ask}
+use Rattle.repo_wire.specs.declared.messages.Code.{Code}
+use Rattle.repo_wire.specs.declared.messages.Request.{Request}
+use Rattle.repo_wire.specs.declared.messages.Say.{Say}
+use Rattle.repo_session.specs.declared.emissions.Emission.{Emission}
+use Rattle.repo_session.specs.declared.jobs.Step.{Step}
+use Rattle.repo_session.specs.declared.lines.Line.{Line}
+use Rattle.repo_session.specs.declared.outcomes.End.{End}
+use Rattle.repo_session.specs.declared.outcomes.Outcome.{Outcome}
+use Rattle.repo_session.specs.declared.sessions.Head.{Head}
+use Rattle.repo_session.specs.declared.sessions.Session.{Session}
+use Rattle.repo_session.specs.Askers.{Asker, Holding}
+use Rattle.repo_session.specs.Clients.{IsNext}
+use Rattle.repo_session.specs.Ends.{CausedBy, Concludes, IsSpent, IsUnwelcome, before_unlock}
+use Rattle.repo_session.specs.Jobs.{Rule, task_under}
+use Rattle.repo_session.specs.Lines.{IsSent, IsFinished, IsClosed}
+use Rattle.repo_session.specs.Order.{ticketed, locked, lock_row, Holds, IsWorking, Obeys}
+use Rattle.repo_session.specs.Traces.{Trace}
+
+-- what is known where this is pending: while the session opens, the job hasn't begun; while the job works, what it knows; at the end, the outcome
+abbrev pub KnowsAt : Rule → Holding → Option LockRow → Type 0 → (Ask → Trace → Type 0) → Option Outcome → Ask → Trace → Type 0
+KnowsAt rule holding lock Fresh Knows outcome Ask.Ticket es = Fresh × (outcome ≡ None) × (lock ≡ Some (lock_row (task_under rule holding.who) (record { 0 = 0 })))
+KnowsAt rule holding lock Fresh Knows outcome (Ask.Lock row) es = Fresh × (outcome ≡ None) × (es ≡ ticketed holding.token)
+KnowsAt rule holding lock Fresh Knows outcome Ask.Config es = Fresh × (outcome ≡ None) × (es ≡ locked (task_under rule holding.who) holding.token)
+KnowsAt rule holding lock Fresh Knows outcome (Ask.Unlock token) es = (o : Outcome) × (outcome ≡ Some o) × Concludes rule.concludes es o
+KnowsAt rule holding lock Fresh Knows outcome (Ask.Refresh token time) es = ⊥
+KnowsAt rule holding lock Fresh Knows outcome Ask.Locks es = ⊥
+KnowsAt rule holding lock Fresh Knows outcome ask es = IsWorking (task_under rule holding.who) holding.token es × (outcome ≡ None) × Knows ask es
+
+-- a request is pending
+pub record Waits (rule : Rule) (holding : Holding) (lock : Option LockRow) (Fresh : Type 0) (Knows : Ask → Trace → Type 0) (line : Line) (request : Request) (es : Trace) : Type 0 where
+  pub next : IsNext (task_under rule holding.who) rule.allows es request
+  pub counted : line.sequence ≡ length es + 1
+  pub knows : KnowsAt rule holding lock Fresh Knows line.outcome request.ask es
+
+-- nothing is pending: there is an outcome, and no lock is held unless the numbers are spent
+pub record Rests (rule : Rule) (holding : Holding) (line : Line) (es : Trace) : Type 0 where
+  pub outcome : Outcome
+  pub there : line.outcome ≡ Some outcome
+  pub concluded : Concludes rule.concludes (before_unlock es) outcome
+  pub released : (token : Token) → Holds (task_under rule holding.who) token es → IsSpent es
+
+-- by what is pending
+abbrev pub Stands : Rule → Holding → Option LockRow → Type 0 → (Ask → Trace → Type 0) → Line → Option Request → Trace → Type 0
+Stands rule holding lock Fresh Knows line (Some request) es = Waits rule holding lock Fresh Knows line request es
+Stands rule holding lock Fresh Knows line None es = Rests rule holding line es
+
+-- a session that stands where a trace leaves it
+pub record SessionAt (rule : Rule) (holding : Holding) (lock : Option LockRow) (Fresh : Type 0) (Knows : Ask → Trace → Type 0) (line : Line) (es : Trace) : Type 0 where
+  pub instance : line.instance ≡ holding.who.instance
+  pub obeys : Obeys (task_under rule holding.who) rule.allows rule.gives es
+  pub stands : Stands rule holding lock Fresh Knows line line.next es
+
+-- where the reply is a refusal, or of the wrong sort, it is a cause of this end
+abbrev pub EndsBy : Ask → Say → End → Type 0
+EndsBy ask say end = (say ≡ Say.Refused Code.Dead → end ≡ End.Fenced) × (IsUnwelcome ask say → (es : Trace) → CausedBy es ask say end)
+
+-- ---- over the code's own types
+
+-- who asks, and what the job was handed
+pub record Given (H : Type 0) : Type 0 where
+  pub who : Asker
+  pub handed : H
+
+-- what was given out on the last reply: what the job gave, where the job took it
+abbrev pub given_by : {J : Type 0} → (J → List Emission) → Session J → List Emission
+given_by given s = cond s.told (given s.job) []
+
+-- the code's session stands where the trace leaves it
+abbrev pub FitsSession : {J H : Type 0} → (J → H) → (H → Rule) → (J → Type 0) → (J → Ask → Trace → Type 0) → Session J → Trace → Type 0
+FitsSession handed rule fresh knows s es = SessionAt (rule (handed s.job)) s.head.holder s.head.lock (fresh s.job) (knows s.job) s.head.line es
+
+-- all but the line stays
+pub record KeepsLock (old new : Head) : Type 0 where
+  pub holder : new.holder ≡ old.holder
+  pub lock : new.lock ≡ old.lock
+
+-- the job ends so: with an unlock, but without one where the token is dead
+pub record Leaves (old : Head) (end : End) (new : Head) : Type 0 where
+  pub fenced : end ≡ End.Fenced → IsClosed old.line (Outcome.Ended end) new.line
+  pub other : end ≢ End.Fenced → IsFinished old.line (Outcome.Ended end) old.holder.token new.line
+
+-- what is sent on a job's step, of whose reply this would be the end
+abbrev pub Follows : Head → Step → End → Head → Type 0
+Follows old (Step.Ask ask) end new = IsSent old.line ask new.line
+Follows old (Step.Finish outcome) end new = IsFinished old.line outcome old.holder.token new.line
+Follows old Step.Away end new = Leaves old end new
+
+-- whether the job took the reply
+abbrev pub took : Step → Bool
+took Step.Away = false
+took _ = true
+
+-- ---- what a client shows of its session
+
+abbrev pub who_in : {J : Type 0} → Session J → Asker
+who_in s = s.head.holder.who
+
+abbrev pub next_in : {J : Type 0} → Session J → Option Request
+next_in s = s.head.line.next
+
+abbrev pub ended_in : {J : Type 0} → Session J → Option Outcome
+ended_in s = s.head.line.outcome
