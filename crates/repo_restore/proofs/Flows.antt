@@ -1,14 +1,12 @@
 -- The order in which parts are given out, over steps of a walk.
 use Rattle.std.proofs.Common.{◌≡◌, ◌++◌, ◌∷◌, [], ℕ, List, Bool, true, false, refl, sym, ap, subst, ◌∙◌}
-use Rattle.repo_name.specs.declared.kinds.BlobKind.{BlobKind}
 use Rattle.repo_name.specs.declared.names.Name.{Name}
 use Rattle.repo_index.specs.declared.facts.Fact.{Fact}
 use Rattle.repo_tree.specs.declared.nodes.NodeKind.{NodeKind}
 use Rattle.repo_session.specs.declared.emissions.Emission.{Emission}
 use Rattle.repo_session.specs.Rebuilding.{Follow}
 use Rattle.repo_restore.specs.declared.nodes.Begun.{Begun}
-use Rattle.repo_restore.specs.declared.walks.Turn.{Turn}
-use Rattle.repo_restore.specs.Flowing.{is_open, FlowsTo, TurnFlows}
+use Rattle.repo_restore.specs.Flowing.{is_open, FlowsTo}
 use Rattle.repo_restore.specs.Nodes.{BlobFollows}
 use Rattle.repo_restore.specs.Walking.{NodeBegins}
 

@@ -1,5 +1,3 @@
-pub mod Starting
-pub mod Rows
 pub mod Summing
 pub mod Rebuilds
 pub mod Flows

@@ -2,14 +2,11 @@
 use Rattle.std.proofs.Common.{arith, ◌≡◌, ◌≢◌, ◌⊎◌, ◌≤◌, ◌+◌, ◌-◌, ◌++◌, ◌∷◌, [], ℕ, zero, suc, List, length, Option, Some, None, refl, sym, ap, subst, inl, inr, ⊎_elim, length-append, ◌∙◌, Contains}
 use Rattle.std.proofs.lemmas.Option.{same_Some}
 use Rattle.repo_name.specs.Naming as naming
-use Rattle.repo_name.specs.Ranges.{range}
 use Rattle.repo_name.specs.declared.kinds.BlobKind.{BlobKind}
 use Rattle.repo_name.specs.declared.kinds.Kind.{Kind}
 use Rattle.repo_name.specs.declared.kinds.Thing.{Thing}
 use Rattle.repo_name.specs.declared.names.Name.{Name}
-use Rattle.repo_wire.specs.declared.messages.Ask.{Ask}
 use Rattle.repo_wire.specs.declared.messages.Code.{Code}
-use Rattle.repo_wire.specs.declared.messages.Say.{Say}
 use Rattle.repo_index.specs.IndexText.{Says}
 use Rattle.repo_index.specs.declared.facts.Fact.{Fact}
 use Rattle.repo_tree.specs.Laws.{Agree}
@@ -36,10 +33,10 @@ use Rattle.repo_session.proofs.Concluding.{calm_of, either, ends_well}
 use Rattle.repo_session.proofs.Containing.{none_contained, contained_or}
 use Rattle.repo_session.proofs.Enumerating.{all_listed}
 use Rattle.repo_session.proofs.Growing.{Led, Shares, led}
-use Rattle.repo_session.proofs.Unchanging.{AllowsNothing, same_run, same_after, same_throughout, shares_run, sound_throughout}
+use Rattle.repo_session.proofs.Unchanging.{OnlyReads, same_run, same_after, same_throughout, shares_run, sound_throughout}
 use Rattle.repo_session.proofs.Wholeness.{given_held}
 use Rattle.repo_session.proofs.Spoken.{held_agree}
-use Rattle.repo_restore.specs.Laws.{IsList, RestoreChangesNothing, ListChangesNothing, IsListedOrMemory, ListEndsWell, IsCompleteOrMemory, RestoreEndsWell}
+use Rattle.repo_restore.specs.Laws.{RestoreChangesNothing, ListChangesNothing, IsListedOrMemory, ListEndsWell, IsCompleteOrMemory, RestoreEndsWell}
 use Rattle.repo_restore.specs.Listing.{list_task, ListAllows, ListGives, ListConcludes}
 use Rattle.repo_restore.specs.Received.{Received}
 use Rattle.repo_restore.specs.Restoring.{Wish, restore_task, HasRoot, Under, IsNeeded, HaveLength, IsUneven, IsNoTree, IsBadTree, IsUnindexed, RestoreAllows, RestoreGives, RestoreConcludes}
@@ -47,10 +44,10 @@ use Rattle.repo_restore.proofs.Growing.{under_grows}
 
 -- ---- nothing changes
 
-restore_never : (snapshot : Name) → AllowsNothing (RestoreAllows snapshot)
+restore_never : (snapshot : Name) → OnlyReads (RestoreAllows snapshot)
 restore_never snapshot es ask h = h
 
-list_never : {J : Type 0} (j : J) → AllowsNothing (ListAllows j)
+list_never : {J : Type 0} (j : J) → OnlyReads (ListAllows j)
 list_never j es ask h = h
 
 pub restore_changes_nothing : RestoreChangesNothing
@@ -69,6 +66,14 @@ listed_well who es (Outcome.Stored name blobs bytes) (inl h) = h
 listed_well who es (Outcome.Stored name blobs bytes) (inr h) = absurd h
 listed_well who es (Outcome.Complete entries) (inl h) = h
 listed_well who es (Outcome.Complete entries) (inr h) = absurd h
+listed_well who es (Outcome.Forgotten names) (inl h) = h
+listed_well who es (Outcome.Forgotten names) (inr h) = absurd h
+listed_well who es (Outcome.Pruned packs bytes) (inl h) = h
+listed_well who es (Outcome.Pruned packs bytes) (inr h) = absurd h
+listed_well who es (Outcome.Clean snapshots indexes packs blobs) (inl h) = h
+listed_well who es (Outcome.Clean snapshots indexes packs blobs) (inr h) = absurd h
+listed_well who es (Outcome.Faults faults) (inl h) = h
+listed_well who es (Outcome.Faults faults) (inr h) = absurd h
 listed_well who es (Outcome.Ended end) (inl h) = h
 listed_well who es (Outcome.Ended end) (inr h) = absurd h
 
@@ -252,6 +257,10 @@ module _ (w : Wish) (from : Store) (sound : IsSound from.objects) (agree : Agree
   own_well (Outcome.Complete entries) own = tt
   own_well (Outcome.Stored name blobs bytes) own = absurd own
   own_well (Outcome.Listed rows) own = absurd own
+  own_well (Outcome.Forgotten names) own = absurd own
+  own_well (Outcome.Pruned packs bytes) own = absurd own
+  own_well (Outcome.Clean snapshots indexes packs blobs) own = absurd own
+  own_well (Outcome.Faults faults) own = absurd own
   own_well (Outcome.Ended (End.BadObject Thing.Tree tree)) own = absurd (no_bad_tree tree own)
   own_well (Outcome.Ended (End.BadObject Thing.Content name)) own = absurd own
   own_well (Outcome.Ended (End.BadObject Thing.Pack name)) own = absurd own

@@ -1,8 +1,6 @@
 -- What holds of a restore and of a list that are alone with their store, by the definitions alone.
 use Rattle.std.specs.Prelude.{◌≡◌, ◌<◌, ◌^◌, ◌-◌, [], ⊤, ℕ, List, length, Option, Some, None}
 use Rattle.repo_name.specs.declared.kinds.Kind.{Kind}
-use Rattle.repo_name.specs.declared.names.Name.{Name}
-use Rattle.repo_tree.specs.declared.entries.Entry.{Entry}
 use Rattle.repo_wire.specs.declared.messages.Code.{Code}
 use Rattle.repo_wire.specs.declared.messages.Request.{Request}
 use Rattle.repo_store.specs.Laws.{greatest_count}
@@ -10,10 +8,8 @@ use Rattle.repo_store.specs.Stores.{Store}
 use Rattle.repo_session.specs.Alone.{IsFit, IsSent, IsSpoken, NoClash}
 use Rattle.repo_session.specs.Askers.{Asker}
 use Rattle.repo_session.specs.Clients.{IsObedient}
-use Rattle.repo_session.specs.Rebuilding.{rebuilt}
-use Rattle.repo_session.specs.Soundness.{IsSound}
 use Rattle.repo_session.specs.Talks.{Talk, trace_of, TalkRan, MayStep}
-use Rattle.repo_session.specs.Traces.{Trace, emitted_in}
+use Rattle.repo_session.specs.Traces.{Trace}
 use Rattle.repo_session.specs.declared.outcomes.End.{End}
 use Rattle.repo_session.specs.declared.outcomes.Outcome.{Outcome}
 use Rattle.repo_restore.specs.Listing.{list_task, ListAllows, ListGives, ListConcludes}

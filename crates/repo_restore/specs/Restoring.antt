@@ -18,7 +18,8 @@ use Rattle.repo_session.specs.declared.outcomes.End.{End}
 use Rattle.repo_session.specs.declared.outcomes.Outcome.{Outcome}
 use Rattle.repo_session.specs.Askers.{Asker}
 use Rattle.repo_session.specs.Ends.{blob_thing}
-use Rattle.repo_session.specs.Order.{Task}
+use Rattle.repo_session.specs.Jobs.{Rule}
+use Rattle.repo_session.specs.Order.{Task, IsReading}
 use Rattle.repo_session.specs.Rebuilding.{rebuilt, Follow, AreWhole}
 use Rattle.repo_session.specs.Traces.{Each, Exchange, Trace, emitted_in, IsRead, ReadFact, IsGiven, IsAllRead}
 use Rattle.repo_restore.specs.Received.{Received}
@@ -113,7 +114,7 @@ IsRestored es snapshot entries = (root : Name) × HasRoot es snapshot root × Sp
 
 -- nothing is put or deleted
 abbrev pub RestoreAllows : Name → Trace → Ask → Type 0
-RestoreAllows snapshot es ask = ⊥
+RestoreAllows snapshot es ask = IsReading ask
 
 -- a blob is asked for
 abbrev pub IsForBlob : Ask → Type 0
@@ -130,3 +131,7 @@ RestoreConcludes snapshot es (Outcome.Complete entries) = IsRestored es snapshot
 RestoreConcludes snapshot es (Outcome.Ended (End.BadObject Thing.Tree tree)) = IsBadTree es snapshot tree
 RestoreConcludes snapshot es (Outcome.Ended (End.Missing thing name)) = IsUnindexed es snapshot thing name
 RestoreConcludes snapshot es _ = ⊥
+
+-- its rule, as a job's
+abbrev pub restore_rule : Name → Rule
+restore_rule snapshot = record { exclusive = false; snapshot = Some snapshot; calm = ⊤; allows = RestoreAllows snapshot; gives = RestoreGives snapshot; concludes = RestoreConcludes snapshot }

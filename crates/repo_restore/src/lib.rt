@@ -2,7 +2,7 @@
 //!
 //! A [`SnapshotList`] is a client that lists the store's snapshots and reads each of them. A [`Restore`] is one
 //! that gives out the directories and files of a snapshot, in order, a file by pieces: it reads the snapshot and
-//! the indexes, and walks over the trees, depth first.
+//! the indexes, and walks over the trees, depth first. Each is a session around a job of its own.
 //!
 //! Promised: both are clients of repo_session, so each request was one that the exchanges before it allow, whoever
 //! answers. `Listed` comes only where the snapshots were listed to their end, and gives each of them, in order, as

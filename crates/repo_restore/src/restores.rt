@@ -1,68 +1,53 @@
 //! The restore of a snapshot.
 
-ghost use Rattle.std.specs.Prelude.{◌≡◌, ◌≢◌, ◌≤◌, ◌∷◌, [], ℕ, List, length, Option, Some, None, option_map, ◌↔◌, ◌⊎◌, IfOk, OnOk, OnErr, IsOk, IsTrue, IsFalse};
+ghost use Rattle.std.specs.Prelude.{◌≡◌, ◌≢◌, ◌∷◌, [], length, ◌↔◌, ◌⊎◌, IfOk, OnErr, IsOk, IsTrue, IsFalse};
 ghost use Rattle.repo_name.specs.Naming as naming;
+ghost use Rattle.repo_name.specs.declared.kinds.BlobKind.{BlobKind};
 ghost use Rattle.repo_name.specs.declared.kinds.Kind.{Kind};
 ghost use Rattle.repo_name.specs.declared.names.Name.{Name};
+ghost use Rattle.repo_name.specs.declared.tokens.Token.{Token};
 ghost use Rattle.repo_wire.specs.declared.messages.Ask.{Ask};
-ghost use Rattle.repo_wire.specs.declared.messages.Request.{Request};
+ghost use Rattle.repo_wire.specs.declared.messages.Code.{Code};
 ghost use Rattle.repo_wire.specs.declared.messages.Say.{Say};
-ghost use Rattle.repo_index.specs.declared.facts.Fact.{Fact};
-ghost use Rattle.repo_name.specs.declared.kinds.BlobKind.{BlobKind};
-ghost use Rattle.repo_tree.specs.declared.faults.TreeError.{TreeError};
-ghost use Rattle.repo_wire.specs.Messages.{IsAsk, IsShortAsk};
 ghost use Rattle.repo_session.specs.declared.emissions.Emission.{Emission};
-ghost use Rattle.repo_session.specs.Clients.{IsSteady};
+ghost use Rattle.repo_session.specs.Askers.{Asker};
 ghost use Rattle.repo_session.specs.Ends.{blob_thing};
-ghost use Rattle.repo_session.specs.Openings.{IsWork, Keeps};
-ghost use Rattle.repo_session.specs.Traces.{Trace};
-ghost use Rattle.repo_restore.specs.ListStates.{who_of};
-ghost use Rattle.repo_restore.specs.RestoreStates.{IsRangeOf, FitsRestore, RestoreReplied, RestoreStays, IsSnapshotNext, IsIndexNext, IsTurnNext};
+ghost use Rattle.repo_session.specs.Jobs.{task_under, GivesBy, IsShort, IsShortStep, MayStep};
+ghost use Rattle.repo_session.specs.Order.{IsWorking};
+ghost use Rattle.repo_session.specs.Traces.{Exchange, Trace};
+ghost use Rattle.repo_restore.specs.Restoring.{restore_rule};
+ghost use Rattle.repo_restore.specs.RestoreObedience.{wish_of};
+ghost use Rattle.repo_restore.specs.RestoreStates.{FitsRestore, IsNew, IsTurnNext, KnowsRestore, RestoreReplied, RestoreStays};
 
-use crate::listings::snapshot_end;
 use crate::walks::{Turn, Walk};
 use repo_index::Fact;
 use repo_name::{BlobKind, Kind, Name, Thing, name_of};
 use repo_pack::Place;
 use repo_session::{
-    Catalog, Client, Emission, End, Heard, Indexed, Job, Opening, Outcome, Paged, Who,
+    Catalog, Client, Emission, End, Holder, Job, Outcome, Reading, Session, Step, Who, snapshot_end,
 };
-use repo_tree::{Snapshot, TreeError, read_tree};
+use repo_tree::{Config, Snapshot};
 use repo_wire::{Ask, Reply, Request, Say};
 use std::alloc::{AllocError, Global};
 
-/// What a restore's own rule allows, by the snapshot that it restores: see `Restoring` in `specs/`.
+/// How far a restore has come.
+#[derive(Clone, Copy)]
+enum Stage {
+    /// The snapshot is asked for.
+    Snapshot,
+    /// The snapshot's tree has this name, and the indexes are being read.
+    Indexes(Name),
+    /// The walk waits for the blob of this fact.
+    Walk(Fact),
+}
+
+/// The snapshot that is restored, and how far that has come.
 #[derive(Drop)]
 struct RestoreJob {
     snapshot: Name,
-}
-
-impl Job for RestoreJob {
-    ghost use Rattle.repo_restore.specs.Restoring.{RestoreAllows, RestoreGives, RestoreConcludes};
-
-    ghost allows = { λ j. RestoreAllows j.snapshot };
-
-    ghost gives = { λ j. RestoreGives j.snapshot };
-
-    ghost concludes = { λ j. RestoreConcludes j.snapshot };
-}
-
-/// A client that restores a snapshot: it gives out the directories and files that the snapshot's tree spells, in
-/// order, a file by pieces. Its outcome is `Complete` where all was given out.
-///
-/// A blob in no index ends it as `Missing`: a file's blobs are all looked up before anything of the file is given
-/// out, a directory's tree right after the directory. Bytes of another name, of another length than their place's,
-/// or that can't be read end it as `BadObject`; and so do a tree with nodes at a path of 100 components, and a tree
-/// with a file whose blobs haven't its size. A snapshot of a version that isn't known ends it as `Version`.
-#[derive(Drop)]
-pub struct Restore {
-    opening: Opening<RestoreJob>,
+    stage: Stage,
     catalog: Catalog,
-    /// The snapshot's tree, once it was read.
-    tree: Option<Name>,
     walk: Walk,
-    /// The blob that is asked for.
-    wanted: Option<Fact>,
     given: Vec<Emission>,
     alloc: Global,
 }
@@ -70,7 +55,7 @@ pub struct Restore {
 /// The request for an object.
 fn get_ask(kind: Kind, name: Name) -> Ask
     ensures ask { result ≡ Ask.Get kind name }
-    ensures fits { IsAsk result × IsShortAsk result }
+    ensures short { IsShort result }
 {
     name.to_bytes();
     Ask::Get { kind, name }
@@ -79,7 +64,7 @@ fn get_ask(kind: Kind, name: Name) -> Ask
 /// The request for what lies at a place.
 fn range_ask(place: Place) -> Ask
     ensures ask { result ≡ Ask.Range place.pack place.offset place.length }
-    ensures fits { IsAsk result × IsShortAsk result }
+    ensures short { IsShort result }
 {
     place.pack.to_bytes();
     Ask::Range {
@@ -107,16 +92,6 @@ fn is_blob(bytes: &[u8], fact: Fact) -> bool
     is_named(bytes, fact.name)
 }
 
-/// Fails where there was no memory to read a tree: else its bytes are at fault.
-fn check_fault(error: TreeError) -> Result<(), AllocError>
-    ensures { OnOk result (error ≢ TreeError.Memory) }
-{
-    match error {
-        TreeError::Memory => Err(AllocError),
-        _ => Ok(()),
-    }
-}
-
 /// What a blob of a kind is called.
 fn blob_thing(kind: BlobKind) -> Thing
     ensures { result ≡ blob_thing kind }
@@ -127,248 +102,187 @@ fn blob_thing(kind: BlobKind) -> Thing
     }
 }
 
-impl Restore {
-    /// A restore of the snapshot of this name, whose ticket is pending. It takes no memory.
-    pub fn new(alloc: Global, who: Who, snapshot: Name) -> Restore
-        ensures fits { FitsRestore result [] }
-        ensures who { who_of result.opening ≡ who }
-        ensures snapshot { result.opening.job.snapshot ≡ snapshot }
+impl RestoreJob {
+    /// A restore that has asked for nothing. It takes no memory.
+    fn new(alloc: Global, snapshot: Name) -> RestoreJob
+        ensures new { IsNew result }
+        ensures snapshot { result.snapshot ≡ snapshot }
     {
-        Restore {
-            opening: Opening::new(alloc, who, false, Some(snapshot), RestoreJob { snapshot }),
+        RestoreJob {
+            snapshot,
+            stage: Stage::Snapshot,
             catalog: Catalog::new(alloc),
-            tree: None,
             walk: Walk::new(alloc),
-            wanted: None,
             given: Vec::new(alloc),
             alloc,
         }
     }
 
-    /// Asks for the snapshot.
-    fn ask_snapshot(&mut self)
-        ensures fits { (es : Trace) → IsSnapshotNext self.old es → FitsRestore self.new es }
-        ensures kept { Keeps self.old.opening self.new.opening }
-        ensures given { self.new.given ≡ self.old.given }
-    {
-        let ask = get_ask(Kind::Snapshot, self.opening.job.snapshot);
-        self.opening.ask(ask);
-    }
-
     /// Goes on as the walk does.
-    fn go_on(&mut self, turn: Turn)
-        ensures fits { (es : Trace) → IsTurnNext self.old es turn → FitsRestore self.new es }
-        ensures kept { Keeps self.old.opening self.new.opening }
+    fn go_on(&mut self, turn: Turn) -> Step
+        ensures steps { (who : Asker) (token : Token) (e : Exchange) (es : Trace) → IsWorking (task_under (restore_rule self.old.snapshot) who) token (e ∷ es) → GivesBy (restore_rule self.old.snapshot) es e
+            → IsTurnNext self.old (e ∷ es) turn → MayStep (restore_rule self.old.snapshot) who (KnowsRestore self.new) es e result }
+        ensures short { IsShortStep result }
         ensures given { self.new.given ≡ self.old.given }
+        ensures snapshot { self.new.snapshot ≡ self.old.snapshot }
     {
         match turn {
             Turn::Ask(fact) => {
-                self.wanted = Some(fact);
-                self.opening.ask(range_ask(fact.place));
+                self.stage = Stage::Walk(fact);
+                Step::Ask(range_ask(fact.place))
             }
-            Turn::Complete(entries) => self.opening.finish(Outcome::Complete { entries }),
-            Turn::Ended(end) => self.opening.finish(Outcome::Ended(end)),
+            Turn::Complete(entries) => Step::Finish(Outcome::Complete { entries }),
+            Turn::Ended(end) => Step::Finish(Outcome::Ended(end)),
         }
     }
 
     /// Takes the reply to the request for the snapshot. It fails for memory alone, and then nothing changed.
-    fn take_snapshot(&mut self, say: &Say) -> Result<(), AllocError>
-        ensures ok { OnOk result ((name : Name) → RestoreReplied self.old (Ask.Get Kind.Snapshot name) say.now [] self.new) }
-        ensures err { OnErr result (RestoreStays self.old self.new) }
-        ensures kept { Keeps self.old.opening self.new.opening }
+    fn take_snapshot(&mut self, say: &Say) -> Result<Step, AllocError>
+        requires { self.old.stage ≡ Stage.Snapshot }
+        ensures ok { IfOk result (λ step. (ask : Ask) → RestoreReplied self.old ask say.now step self.new) }
+        ensures err { OnErr result (self.new ≡ self.old) }
+        ensures short { IfOk result IsShortStep }
+        ensures calm { (code : Code) → say.now ≡ Say.Refused code → IsOk result }
+        ensures snapshot { self.new.snapshot ≡ self.old.snapshot }
     {
-        let name = self.opening.job.snapshot;
+        let name = self.snapshot;
         let Say::Bytes(bytes) = say else {
-            self.opening.turn_away(say);
-            return Ok(());
+            return Ok(Step::Away);
         };
         let bytes = bytes.as_slice();
         if !is_named(bytes, name) {
-            self.opening.reject(Thing::Snapshot, name);
-            return Ok(());
+            let end = End::BadObject(Thing::Snapshot, name);
+            return Ok(Step::Finish(Outcome::Ended(end)));
         }
         match Snapshot::read(self.alloc, bytes) {
             Ok(snapshot) => {
-                self.tree = Some(snapshot.tree);
-                self.opening.answered();
-                self.catalog.roll.ask_page(&mut self.opening);
-                Ok(())
+                self.stage = Stage::Indexes(snapshot.tree);
+                Ok(Step::Ask(self.catalog.page_ask()))
             }
             Err(error) => {
                 let end = snapshot_end(name, error)?;
-                self.opening.answered();
-                self.opening.finish(Outcome::Ended(end));
-                Ok(())
+                Ok(Step::Finish(Outcome::Ended(end)))
             }
         }
     }
 
-    /// Begins the walk over the snapshot's trees.
-    fn begin(&mut self)
-        ensures fits { (es : Trace) → IsIndexNext self.old es → length self.old.catalog.roll.names.items ≤ self.old.catalog.roll.read → FitsRestore self.new es }
-        ensures kept { Keeps self.old.opening self.new.opening }
-    {
-        if let Some(tree) = self.tree {
-            let turn = self.walk.start(&self.catalog.lookup, tree);
-            self.go_on(turn);
-        }
-    }
-
-    /// Asks for the next index, or begins the walk.
-    fn ask_index(&mut self)
-        ensures fits { (es : Trace) → IsIndexNext self.old es → FitsRestore self.new es }
-        ensures kept { Keeps self.old.opening self.new.opening }
-    {
-        if self.catalog.ask_index(&mut self.opening) {
-            return;
-        }
-        self.begin();
-    }
-
-    /// Takes the reply to the request for a page of indexes. It fails for memory alone, and then nothing changed.
-    fn take_page(&mut self, say: &Say) -> Result<(), AllocError>
-        ensures ok { OnOk result ((kind : Kind) → (after : Option Name) → RestoreReplied self.old (Ask.List kind after) say.now [] self.new) }
+    /// Takes the reply to the request for a page of indexes or for an index. It fails for memory alone, and then what
+    /// was known is known.
+    fn take_reading(&mut self, tree: Name, ask: &Ask, say: &Say) -> Result<Step, AllocError>
+        requires { self.old.stage ≡ Stage.Indexes tree }
+        ensures ok { IfOk result (λ step. RestoreReplied self.old ask.now say.now step self.new) }
         ensures err { OnErr result (RestoreStays self.old self.new) }
-        ensures kept { Keeps self.old.opening self.new.opening }
+        ensures short { IfOk result IsShortStep }
+        ensures calm { (code : Code) → say.now ≡ Say.Refused code → IsOk result }
+        ensures snapshot { self.new.snapshot ≡ self.old.snapshot }
     {
-        match self.catalog.roll.take_page(say, &mut self.opening)? {
-            Paged::Ended => Ok(()),
-            Paged::More => Ok(()),
-            Paged::Last => {
-                self.ask_index();
-                Ok(())
+        match self.catalog.read_on(self.alloc, ask, say)? {
+            Reading::Ask(next) => Ok(Step::Ask(next)),
+            Reading::All(_) => {
+                let turn = self.walk.start(&self.catalog.lookup, tree);
+                Ok(self.go_on(turn))
             }
-        }
-    }
-
-    /// Takes the reply to the request for an index. It fails for memory alone, and then nothing changed.
-    fn take_index(&mut self, say: &Say) -> Result<(), AllocError>
-        ensures ok { OnOk result ((name : Name) → RestoreReplied self.old (Ask.Get Kind.Index name) say.now [] self.new) }
-        ensures err { OnErr result ((r : Request) → (name : Name) → self.old.opening.line.next ≡ Some r → r.ask ≡ Ask.Get Kind.Index name → RestoreStays self.old self.new) }
-        ensures kept { Keeps self.old.opening self.new.opening }
-    {
-        match self.catalog.take_index(say, &mut self.opening)? {
-            Indexed::Ended => Ok(()),
-            Indexed::More => Ok(()),
-            Indexed::All => {
-                self.begin();
-                Ok(())
+            Reading::Bad(name) => {
+                let end = End::BadObject(Thing::Index, name);
+                Ok(Step::Finish(Outcome::Ended(end)))
             }
+            Reading::Senseless => Ok(Step::Finish(Outcome::Ended(End::BadReply))),
+            Reading::Unwelcome => Ok(Step::Away),
         }
     }
 
-    /// Takes the reply to the request for an object. It fails for memory alone, and then nothing changed.
-    fn take_object(&mut self, kind: Kind, say: &Say) -> Result<(), AllocError>
-        ensures ok { OnOk result ((name : Name) → RestoreReplied self.old (Ask.Get kind name) say.now [] self.new) }
-        ensures err { OnErr result ((r : Request) → (name : Name) → self.old.opening.line.next ≡ Some r → r.ask ≡ Ask.Get kind name → RestoreStays self.old self.new) }
-        ensures kept { Keeps self.old.opening self.new.opening }
-    {
-        match kind {
-            Kind::Snapshot => self.take_snapshot(say),
-            Kind::Index => self.take_index(say),
-            Kind::Pack => Ok(()),
-        }
-    }
-
-    /// Takes the bytes of a content blob, which have its length and its name. It fails for memory alone, and then
-    /// nothing changed.
-    fn take_content(&mut self, bytes: &[u8]) -> Result<(), AllocError>
-        ensures ok { OnOk result ((fact : Fact) → (ask : Ask) → IsRangeOf fact ask → fact.kind ≡ BlobKind.Content → self.old.wanted ≡ Some fact → length bytes.now ≡ fact.place.length → naming.name bytes.now ≡ fact.name
-            → RestoreReplied self.old ask (Say.Bytes bytes.now) self.new.given.items self.new) }
+    /// Takes the reply to the request for a blob. It fails for memory alone, and then what was known is known.
+    fn take_range(&mut self, fact: Fact, say: &Say) -> Result<Step, AllocError>
+        requires { self.old.stage ≡ Stage.Walk fact }
+        ensures ok { IfOk result (λ step. (ask : Ask) → RestoreReplied self.old ask say.now step self.new) }
         ensures err { OnErr result (RestoreStays self.old self.new) }
-        ensures kept { Keeps self.old.opening self.new.opening }
+        ensures short { IfOk result IsShortStep }
+        ensures calm { (code : Code) → say.now ≡ Say.Refused code → IsOk result }
+        ensures snapshot { self.new.snapshot ≡ self.old.snapshot }
     {
-        let mut out = Vec::new(self.alloc);
-        let turn = self.walk.take_blob(&self.catalog.lookup, bytes, &mut out)?;
-        self.opening.answered();
-        self.given = out;
-        self.go_on(turn);
-        Ok(())
-    }
-
-    /// Takes the bytes of a tree, which have its length and its name. It fails for memory alone, and then nothing
-    /// changed.
-    fn take_tree(&mut self, tree: Name, bytes: &[u8]) -> Result<(), AllocError>
-        ensures ok { OnOk result ((fact : Fact) → (ask : Ask) → IsRangeOf fact ask → fact.kind ≡ BlobKind.Tree → fact.name ≡ tree → self.old.wanted ≡ Some fact → length bytes.now ≡ fact.place.length → naming.name bytes.now ≡ fact.name
-            → RestoreReplied self.old ask (Say.Bytes bytes.now) self.new.given.items self.new) }
-        ensures err { OnErr result (RestoreStays self.old self.new) }
-        ensures kept { Keeps self.old.opening self.new.opening }
-    {
-        let nodes = match read_tree(self.alloc, bytes) {
-            Ok(nodes) => nodes,
-            Err(error) => {
-                check_fault(error)?;
-                self.opening.answered();
-                self.given.clear();
-                self.go_on(Turn::Ended(End::BadObject(Thing::Tree, tree)));
-                return Ok(());
-            }
-        };
-        let mut out = Vec::new(self.alloc);
-        let turn = self
-            .walk
-            .enter(&self.catalog.lookup, tree, nodes, &mut out)?;
-        self.opening.answered();
-        self.given = out;
-        self.go_on(turn);
-        Ok(())
-    }
-
-    /// Takes the reply to the request for a blob. It fails for memory alone, and then nothing changed.
-    fn take_range(&mut self, say: &Say) -> Result<(), AllocError>
-        ensures ok { OnOk result ((pack : Name) → (offset len : ℕ) → RestoreReplied self.old (Ask.Range pack offset len) say.now self.new.given.items self.new) }
-        ensures err { OnErr result (RestoreStays self.old self.new) }
-        ensures kept { Keeps self.old.opening self.new.opening }
-    {
-        let Some(fact) = self.wanted else {
-            return Ok(());
-        };
         let Say::Bytes(bytes) = say else {
-            self.given.clear();
-            self.opening.turn_away(say);
-            return Ok(());
+            return Ok(Step::Away);
         };
         let bytes = bytes.as_slice();
         if !is_blob(bytes, fact) {
             self.given.clear();
-            self.opening.reject(blob_thing(fact.kind), fact.name);
-            return Ok(());
+            let end = End::BadObject(blob_thing(fact.kind), fact.name);
+            return Ok(Step::Finish(Outcome::Ended(end)));
         }
-        match fact.kind {
-            BlobKind::Content => self.take_content(bytes),
-            BlobKind::Tree => self.take_tree(fact.name, bytes),
+        let mut out = Vec::new(self.alloc);
+        let lookup = &self.catalog.lookup;
+        let turn = self.walk.take(lookup, fact, bytes, &mut out)?;
+        self.given = out;
+        Ok(self.go_on(turn))
+    }
+}
+
+impl Job for RestoreJob {
+    ghost use Rattle.repo_name.specs.declared.names.Name.{Name};
+    ghost use Rattle.repo_restore.specs.Restoring.{restore_rule};
+    ghost use Rattle.repo_restore.specs.RestoreStates.{IsNew, KnowsRestore};
+
+    ghost Handed = { Name };
+
+    ghost handed = { λ j. j.snapshot };
+
+    ghost rule = { restore_rule };
+
+    ghost fresh = { IsNew };
+
+    ghost knows = { KnowsRestore };
+
+    ghost given = { λ j. j.given.items };
+
+    fn is_exclusive(&self) -> bool {
+        false
+    }
+
+    fn opened(&mut self, _holder: &Holder, _config: &Config) -> Ask {
+        get_ask(Kind::Snapshot, self.snapshot)
+    }
+
+    fn reply(&mut self, _holder: &Holder, ask: &Ask, say: &Say) -> Result<Step, AllocError> {
+        match self.stage {
+            Stage::Snapshot => self.take_snapshot(say),
+            Stage::Indexes(tree) => self.take_reading(tree, ask, say),
+            Stage::Walk(fact) => self.take_range(fact, say),
         }
     }
 
-    /// Takes the reply to a request of the restore's own work. It fails for memory alone, and then nothing changed.
-    fn take_work(&mut self, say: &Say) -> Result<(), AllocError>
-        ensures ok { OnOk result ((ask : Ask) → IsWork ask → RestoreReplied self.old ask say.now self.new.given.items self.new) }
-        ensures sure { (request : Request) → self.old.opening.line.next ≡ Some request → IsSteady request.ask → IsOk result }
-        ensures err { OnErr result (RestoreStays self.old self.new) }
-        ensures kept { Keeps self.old.opening self.new.opening }
+    fn emitted(&self) -> &[Emission] {
+        self.given.as_slice()
+    }
+}
+
+/// A client that restores a snapshot: it gives out the directories and files that the snapshot's tree spells, in
+/// order, a file by pieces. Its outcome is `Complete` where all was given out.
+///
+/// A blob in no index ends it as `Missing`: a file's blobs are all looked up before anything of the file is given
+/// out, a directory's tree right after the directory. Bytes of another name, of another length than their place's,
+/// or that can't be read end it as `BadObject`; and so do a tree with nodes at a path of 100 components, and a tree
+/// with a file whose blobs haven't its size. A snapshot of a version that isn't known ends it as `Version`.
+#[derive(Drop)]
+pub struct Restore {
+    session: Session<RestoreJob>,
+}
+
+impl Restore {
+    /// A restore of the snapshot of this name, whose ticket is pending. It takes no memory.
+    pub fn new(alloc: Global, who: Who, snapshot: Name) -> Restore
+        ensures fits { FitsRestore result [] }
+        ensures who { (wish_of result).who ≡ who }
+        ensures snapshot { (wish_of result).snapshot ≡ snapshot }
     {
-        let Some(request) = self.opening.pending() else {
-            return Ok(());
-        };
-        match &request.ask {
-            Ask::List { .. } => {
-                self.take_page(say)?;
-                self.given.clear();
-                Ok(())
-            }
-            Ask::Get { kind, .. } => {
-                let kind = *kind;
-                self.take_object(kind, say)?;
-                self.given.clear();
-                Ok(())
-            }
-            Ask::Range { .. } => self.take_range(say),
-            _ => Ok(()),
+        Restore {
+            session: Session::new(alloc, who, RestoreJob::new(alloc, snapshot)),
         }
     }
 }
 
 impl Client for Restore {
+    ghost use Rattle.std.specs.Prelude.{⊤};
+    ghost use Rattle.repo_session.specs.Sessions.{next_in, ended_in, given_by};
     ghost use Rattle.repo_restore.specs.Restoring.{Wish, restore_task, RestoreAllows, RestoreGives, RestoreConcludes};
     ghost use Rattle.repo_restore.specs.RestoreStates.{FitsRestore};
     ghost use Rattle.repo_restore.specs.RestoreObedience.{wish_of, restore_obeys};
@@ -385,41 +299,31 @@ impl Client for Restore {
 
     ghost concludes = { λ w. RestoreConcludes w.snapshot };
 
+    ghost calm = { λ job. ⊤ };
+
     ghost fits = { FitsRestore };
 
-    ghost next = { λ c. c.opening.line.next };
+    ghost next = { λ c. next_in c.session };
 
-    ghost ended = { λ c. c.opening.line.outcome };
+    ghost ended = { λ c. ended_in c.session };
 
-    ghost given = { λ c. c.given.items };
+    ghost given = { λ c. given_by (λ j. j.given.items) c.session };
 
     ghost obedient = { restore_obeys };
 
     fn pending(&self) -> Option<&Request> {
-        self.opening.pending()
+        self.session.pending()
     }
 
     fn take(&mut self, reply: &Reply) -> Result<(), AllocError> {
-        match self.opening.hear(reply)? {
-            Heard::Other => Ok(()),
-            Heard::Taken => {
-                self.given.clear();
-                Ok(())
-            }
-            Heard::Opened(_) => {
-                self.given.clear();
-                self.ask_snapshot();
-                Ok(())
-            }
-            Heard::Work => self.take_work(&reply.say),
-        }
+        self.session.take(reply)
     }
 
     fn outcome(&self) -> Option<&Outcome> {
-        self.opening.outcome()
+        self.session.outcome()
     }
 
     fn emitted(&self) -> &[Emission] {
-        self.given.as_slice()
+        self.session.emitted()
     }
 }

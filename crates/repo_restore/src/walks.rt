@@ -1,10 +1,11 @@
 //! A walk over the trees of a snapshot, node by node.
 
-ghost use Rattle.std.specs.Prelude.{◌≡◌, ◌≢◌, ◌⊎◌, ◌≤◌, ◌<◌, ◌+◌, ◌++◌, ◌∷◌, [], ℕ, List, Bool, true, false, length, take, slice_get, Some, option_map, IfOk, OnErr, IsTrue, IsFalse};
+ghost use Rattle.std.specs.Prelude.{◌≡◌, ◌≢◌, ◌⊎◌, ◌≤◌, ◌<◌, ◌+◌, ◌++◌, ◌∷◌, [], ℕ, List, Bool, true, false, length, take, slice_get, Some, option_map, IfOk, OnOk, OnErr, IsTrue, IsFalse};
 ghost use Rattle.repo_name.specs.Naming as naming;
 ghost use Rattle.repo_name.specs.declared.kinds.BlobKind.{BlobKind};
 ghost use Rattle.repo_name.specs.declared.names.Name.{Name};
 ghost use Rattle.repo_index.specs.declared.facts.Fact.{Fact};
+ghost use Rattle.repo_tree.specs.declared.faults.TreeError.{TreeError};
 ghost use Rattle.repo_tree.specs.declared.nodes.Node.{Node};
 ghost use Rattle.repo_tree.specs.declared.nodes.NodeKind.{NodeKind};
 ghost use Rattle.repo_tree.specs.Spelling.{IsTree, greatest_depth};
@@ -12,7 +13,7 @@ ghost use Rattle.repo_session.specs.declared.emissions.Emission.{Emission};
 ghost use Rattle.repo_session.specs.Rebuilding.{rebuilt};
 ghost use Rattle.repo_session.specs.Traces.{Each, Trace};
 ghost use Rattle.repo_restore.specs.declared.nodes.Level.{Level};
-ghost use Rattle.repo_restore.specs.Flowing.{FlowsTo, TurnFlows};
+ghost use Rattle.repo_restore.specs.Flowing.{is_open, FlowsTo, TurnFlows};
 ghost use Rattle.repo_restore.specs.Received.{Received};
 ghost use Rattle.repo_restore.specs.Restoring.{MayGive, counted};
 ghost use Rattle.repo_restore.specs.Walking.{StopsAt, with_begun, Waits, Turns, HasBegun, IsNextPath};
@@ -22,7 +23,7 @@ use crate::steps::{Stop, count_entries, go_on};
 use repo_index::{Fact, Lookup};
 use repo_name::{BlobKind, Bytes, Name, Thing};
 use repo_session::{Emission, End};
-use repo_tree::{Node, NodeKind, Path};
+use repo_tree::{Node, NodeKind, Path, TreeError, read_tree};
 use std::alloc::{AllocError, Global};
 
 /// What comes next of a walk.
@@ -48,6 +49,16 @@ pub struct Walk {
 
 /// How many components a path has at most.
 const DEPTH: usize = 100;
+
+/// Fails where there was no memory to read a tree: else its bytes are at fault.
+fn check_fault(error: TreeError) -> Result<(), AllocError>
+    ensures { OnOk result (error ≢ TreeError.Memory) }
+{
+    match error {
+        TreeError::Memory => Err(AllocError),
+        _ => Ok(()),
+    }
+}
 
 /// Some bytes, copied. It fails for memory alone.
 fn copy_of(alloc: Global, bytes: &[u8]) -> Result<Bytes, AllocError>
@@ -190,7 +201,7 @@ impl Walk {
     }
 
     /// Takes the nodes of the tree that is waited for. It fails for memory alone, and then nothing changed.
-    pub fn enter(
+    fn enter(
         &mut self,
         lookup: &Lookup,
         tree: Name,
@@ -224,7 +235,7 @@ impl Walk {
     }
 
     /// Takes the bytes of the content blob that is waited for. It fails for memory alone, and then nothing changed.
-    pub fn take_blob(
+    fn take_blob(
         &mut self,
         lookup: &Lookup,
         bytes: &[u8],
@@ -252,6 +263,34 @@ impl Walk {
                 Ok(Turn::Ask(fact))
             }
             Begun::Ended(end) => Ok(Turn::Ended(end)),
+        }
+    }
+
+    /// Takes the bytes of the blob that is waited for. It fails for memory alone, and then nothing changed.
+    pub fn take(
+        &mut self,
+        lookup: &Lookup,
+        fact: Fact,
+        bytes: &[u8],
+        out: &mut Vec<Emission>,
+    ) -> Result<Turn, AllocError>
+        ensures ok { IfOk result (λ turn. (gs : Trace) (root : Name) (old : List Emission) → Waits lookup.now (Received gs) root self.old fact old → Received gs fact.kind bytes.now
+            → naming.name bytes.now ≡ fact.name → length bytes.now ≡ fact.place.length → out.old.items ≡ [] → Turns lookup.now (Received gs) root self.new old out.new.items turn) }
+        ensures flows { IfOk result (λ turn. out.old.items ≡ [] → TurnFlows (is_open fact.kind) out.new.items turn) }
+        ensures levels { OnErr result (self.new.levels.items ≡ self.old.levels.items) }
+        ensures sent { OnErr result (self.new.sent ≡ self.old.sent) }
+        ensures entries { OnErr result (self.new.entries ≡ self.old.entries) }
+    {
+        match fact.kind {
+            BlobKind::Content => self.take_blob(lookup, bytes, out),
+            BlobKind::Tree => match read_tree(self.alloc, bytes) {
+                Ok(nodes) => self.enter(lookup, fact.name, nodes, out),
+                Err(error) => {
+                    check_fault(error)?;
+                    let end = End::BadObject(Thing::Tree, fact.name);
+                    Ok(Turn::Ended(end))
+                }
+            },
         }
     }
 }

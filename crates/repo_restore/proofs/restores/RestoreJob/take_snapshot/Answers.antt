@@ -1,0 +1,68 @@
+use Rattle.std.proofs.Common.{◌≡◌, ◌≢◌, ◌∷◌, ℕ, false, List, refl, sym, subst, inl}
+use Rattle.repo_name.specs.Naming as naming
+use Rattle.repo_name.specs.declared.kinds.Kind.{Kind}
+use Rattle.repo_wire.specs.declared.messages.Ask.{Ask}
+use Rattle.repo_wire.specs.declared.messages.Say.{Say}
+use Rattle.repo_tree.specs.SnapshotText.{IsSnapshotText}
+use Rattle.repo_session.specs.Ends.{CausedBy, IsUnwelcome}
+use Rattle.repo_session.specs.Jobs.{task_under}
+use Rattle.repo_session.specs.Traces.{Exchange, giving}
+use Rattle.repo_session.proofs.Receiving.{unwelcome_get, bad_object}
+use Rattle.repo_restore.specs.declared.restores.Stage.{Stage}
+use Rattle.repo_restore.specs.Restoring.{HasRoot, restore_rule}
+use Rattle.repo_restore.specs.RestoreStates.{KnowsAt}
+use Rattle.repo_restore.proofs.Advancing.{before_on, snapshot_on}
+use Rattle.repo_restore.proofs.restores.RestoreJob.take_snapshot.Goals as goal
+
+pub returns-in_default-clause-ok : goal.returns-in_default-clause-ok
+returns-in_default-clause-ok c = λ ask holding es w obeys asked.
+    let j = c.args.self.now in
+    let e : Exchange = giving ask c.args.say.now j.given.items in
+    let S : Stage → Type 0 = λ stage. KnowsAt j stage e.ask es in
+    let known = subst S c.requires asked.knows in
+    let U : Ask → Type 0 = λ a. IsUnwelcome a e.say in
+    subst U (sym known.0) (unwelcome_get Kind.Snapshot j.snapshot e.say c.in_default.not-Bytes)
+
+pub returns-then-not-is_named-clause-ok : goal.returns-then-not-is_named-clause-ok
+returns-then-not-is_named-clause-ok c = λ ask holding es w obeys asked.
+    let j = c.args.self.now in
+    let e : Exchange = giving ask c.args.say.now j.given.items in
+    let S : Stage → Type 0 = λ stage. KnowsAt j stage e.ask es in
+    let known = subst S c.requires asked.knows in
+    let n = j.snapshot in
+    let N : List ℕ → Type 0 = λ y. naming.name y ≢ n in
+    let other : naming.name c.as_slice-bytes.result.now ≢ n = λ h. (let yes = c.is_named.ensures.1 h in let no = c.if-not-is_named.true in absurd (cc)) in
+    let bad = bad_object Kind.Snapshot ask e.say n n c.in-Bytes.bytes (e ∷ es) known.0 refl c.in-Bytes.is (inl (subst N c.as_slice-bytes.ensures other)) in
+    (inl known.3.none_given, inl (inl bad))
+
+pub returns-in-Ok-clause-ok : goal.returns-in-Ok-clause-ok
+returns-in-Ok-clause-ok c = λ ask holding es w obeys asked.
+    let j = c.args.self.now in
+    let e : Exchange = giving ask c.args.say.now j.given.items in
+    let S : Stage → Type 0 = λ stage. KnowsAt j stage e.ask es in
+    let known = subst S c.requires asked.knows in
+    let n = j.snapshot in
+    let x = c.in-Bytes.bytes in
+    let N : List ℕ → Type 0 = λ y. naming.name y ≡ n in
+    let X : List ℕ → Type 0 = λ y. IsSnapshotText y c.in-Ok.snapshot in
+    let named = subst N c.as_slice-bytes.ensures (c.is_named.ensures.0 c.if-not-is_named.false) in
+    let text = subst X c.as_slice-bytes.ensures c.in-Ok.ensures.ok in
+    let indexes = snapshot_on j.catalog e n x false es known.0 c.in-Bytes.is known.2 in
+    let due = c.page_ask.ensures.due (task_under (restore_rule n) holding.who) holding.token (e ∷ es) w known.1 indexes in
+    let found : HasRoot (e ∷ es) n c.in-Ok.snapshot.tree = (x, c.in-Ok.snapshot, (inl (known.0, c.in-Bytes.is), named), text, refl) in
+    (inl known.3.none_given, record { work = due.work; may = due.may; allowed = due.reads; knows = (due.knows, found, before_on j.walk j.given.items e es refl known.3) })
+
+pub returns-in_ok-end-in-Err-clause-ok : goal.returns-in_ok-end-in-Err-clause-ok
+returns-in_ok-end-in-Err-clause-ok c = λ ask holding es w obeys asked.
+    let j = c.args.self.now in
+    let e : Exchange = giving ask c.args.say.now j.given.items in
+    let S : Stage → Type 0 = λ stage. KnowsAt j stage e.ask es in
+    let known = subst S c.requires asked.knows in
+    let n = j.snapshot in
+    let end = c.in_ok-end-in-Err.end in
+    let C : List ℕ → Type 0 = λ y. CausedBy (e ∷ es) (Ask.Get Kind.Snapshot n) (Say.Bytes y) end in
+    let D : Say → Type 0 = λ y. CausedBy (e ∷ es) (Ask.Get Kind.Snapshot n) y end in
+    let E : Ask → Type 0 = λ a. CausedBy (e ∷ es) a e.say end in
+    let named = c.is_named.ensures.0 c.if-not-is_named.false in
+    let cause = subst C c.as_slice-bytes.ensures (c.in_ok-end-in-Err.ensures c.as_slice-bytes.result.now (e ∷ es) named c.in-Err.ensures.fault) in
+    (inl known.3.none_given, inl (inl (subst E (sym known.0) (subst D (sym c.in-Bytes.is) cause))))
