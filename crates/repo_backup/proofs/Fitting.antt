@@ -1,9 +1,10 @@
 -- Entries that may be backed up fit the directories that are open as they come.
 use Rattle.std.proofs.Common.{◌≡◌, ◌≢◌, ◌≤◌, ◌⊎◌, ◌-◌, ◌∷◌, ◌++◌, [], ℕ, List, length, replicate, ap, ◌∙◌, sym, subst, arith, inl, inr, append_assoc, append-nil, Contains}
 use Rattle.std.proofs.lemmas.List.Elements.{All-contains, Contains-push}
-use Rattle.repo_backup.specs.Handed.{IsBelow, StandsAfter, MayFollow, FollowAll, AreHanded}
+use Rattle.repo_backup.specs.Handed.{StandsAfter, MayFollow, FollowAll, AreHanded}
+use Rattle.repo_tree.specs.Paths.{IsBelow}
 use Rattle.repo_backup.proofs.PathOrder.{Names, turned_path, turned_append, turned_twice, last_split, shorter, below_trans, after_last, parent_begins, follow_push}
-use Rattle.repo_backup.specs.declared.steps.Step.{Step}
+use Rattle.repo_backup.specs.declared.steps.WalkStep.{WalkStep}
 use Rattle.repo_backup.specs.Walking.{step_of, open_after}
 use Rattle.repo_backup.proofs.StepLists.{steps_from, steps_first}
 use Rattle.repo_backup.proofs.Laying.{AllAfter, Stands, Fits, opened}
@@ -94,10 +95,10 @@ named before (e ∷ es) h = (h.0.path.0, named (before ++ e ∷ []) es h.1)
 -- ---- a loop over entries
 
 -- one entry on
-pub walk_more : (done steps all : List Step) (d depth : ℕ) (e : Entry) (es : List Entry) → e.path ≢ []
+pub walk_more : (done steps all : List WalkStep) (d depth : ℕ) (e : Entry) (es : List Entry) → e.path ≢ []
     → done ++ steps_from d (e ∷ es) ≡ all
     → ((parent : Names) (name : List ℕ) → e.path ≡ parent ++ name ∷ []
-    → (steps ≡ done ++ (replicate (d - length parent) Step.Leave ++ step_of name e.what ∷ [])) × (depth ≡ open_after (length parent) e.what))
+    → (steps ≡ done ++ (replicate (d - length parent) WalkStep.Leave ++ step_of name e.what ∷ [])) × (depth ≡ open_after (length parent) e.what))
     → steps ++ steps_from depth es ≡ all
 walk_more done steps all d depth e es some before made =
     let k = last_split e.path some in

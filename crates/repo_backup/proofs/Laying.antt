@@ -1,10 +1,11 @@
 -- A folder laid out from its last entry to its first.
 use Rattle.std.proofs.Common.{◌≡◌, ◌≤◌, ◌<◌, ◌^◌, ◌-◌, ◌+◌, ◌∷◌, ◌++◌, [], ℕ, zero, suc, List, length, replicate, refl, ap, ◌∙◌, sym, subst, arith, length-append, append_assoc, append-nil}
 use Rattle.std.proofs.lemmas.List.Elements.{All-nil, All-cons}
-use Rattle.repo_backup.specs.declared.steps.Step.{Step}
+use Rattle.repo_backup.specs.declared.steps.WalkStep.{WalkStep}
 use Rattle.repo_backup.specs.Folders.{Folder, nothing, file_then, dir_then, joined, entries_of, nodes_of}
 use Rattle.repo_backup.specs.Plans.{steps_of, AreWritableBelow, IsWithinDepth, IsPlan}
-use Rattle.repo_backup.specs.Handed.{IsBelow, IsSmall}
+use Rattle.repo_backup.specs.Handed.{IsSmall}
+use Rattle.repo_tree.specs.Paths.{IsBelow}
 use Rattle.repo_backup.proofs.PathOrder.{Names, turned_path, siblings}
 use Rattle.repo_backup.proofs.StepLists.{steps_from, steps_here, steps_up, length-turned}
 use Rattle.repo_tree.specs.Components.{IsComponent}
@@ -25,9 +26,9 @@ abbrev pub entries_round : (ns : Names) → Rounds ns → List Entry
 entries_round [] a = []
 entries_round (n ∷ ns) a = entries_of (turned_path ns) a.0 ++ entries_round ns a.1
 
-abbrev pub steps_round : (ns : Names) → Rounds ns → List Step
+abbrev pub steps_round : (ns : Names) → Rounds ns → List WalkStep
 steps_round [] a = []
-steps_round (n ∷ ns) a = Step.Leave ∷ steps_of a.0 ++ steps_round ns a.1
+steps_round (n ∷ ns) a = WalkStep.Leave ∷ steps_of a.0 ++ steps_round ns a.1
 
 -- what is left of a directory in this many others may be written
 pub record IsRest (used : ℕ) (folder : Folder) : Type 0 where
@@ -61,9 +62,9 @@ none_hold : (ns : Names) → entries_round ns (nones ns) ≡ []
 none_hold [] = refl
 none_hold (n ∷ ns) = none_hold ns
 
-none_walk : (ns : Names) → steps_round ns (nones ns) ≡ replicate (length ns) Step.Leave
+none_walk : (ns : Names) → steps_round ns (nones ns) ≡ replicate (length ns) WalkStep.Leave
 none_walk [] = refl
-none_walk (n ∷ ns) = ap (λ l. Step.Leave ∷ l) (none_walk ns)
+none_walk (n ∷ ns) = ap (λ l. WalkStep.Leave ∷ l) (none_walk ns)
 
 none_lawful : (ns : Names) → AreRests ns (nones ns)
 none_lawful [] = tt
@@ -86,7 +87,7 @@ laid_up n ns e es above l = record {
   rest = nothing;
   round = (l.rest, l.round);
   holds = l.holds;
-  walks = ap (λ s. Step.Leave ∷ s) l.walks ∙ steps_up (length ns) e es above;
+  walks = ap (λ s. WalkStep.Leave ∷ s) l.walks ∙ steps_up (length ns) e es above;
   lawful = none_left (suc (length ns));
   lawfuls = (l.lawful, l.lawfuls);
 }
@@ -133,7 +134,7 @@ laid_file ns name bytes es here l =
       rest = file_then name (bytes ∷ []) l.rest;
       round = l.round;
       holds = λ i. file_entry (turned_path ns ++ name ∷ []) (size i) ∷ l.holds i;
-      walks = (λ i. Step.File name (size i) ∷ l.walks i) ∙ sym (steps_here ns name (kind.File bytes) es);
+      walks = (λ i. WalkStep.File name (size i) ∷ l.walks i) ∙ sym (steps_here ns name (kind.File bytes) es);
       lawful = record {
         top = (
           All-cons (λ (n : Node). IsSized n.what) _ (nodes_of l.rest) (subst (λ (b : List ℕ). length b < 2 ^ 48) (sym size) here.small) l.lawful.top.0,
@@ -161,8 +162,8 @@ laid_dir ns name es here l =
       rest = dir_then name l.rest l.round.0;
       round = l.round.1;
       holds = ap (λ m. dir_entry path ∷ m) (append_assoc (entries_of path l.rest) (entries_of (turned_path ns) l.round.0) (entries_round ns l.round.1) ∙ l.holds);
-      walks = ap (λ m. Step.Enter name ∷ m) (append_assoc (steps_of l.rest) (Step.Leave ∷ steps_of l.round.0) (steps_round ns l.round.1) ∙ l.walks)
-          ∙ ap (λ d. Step.Enter name ∷ steps_from d es) (sym open_dirs) ∙ sym (steps_here ns name kind.Dir es);
+      walks = ap (λ m. WalkStep.Enter name ∷ m) (append_assoc (steps_of l.rest) (WalkStep.Leave ∷ steps_of l.round.0) (steps_round ns l.round.1) ∙ l.walks)
+          ∙ ap (λ d. WalkStep.Enter name ∷ steps_from d es) (sym open_dirs) ∙ sym (steps_here ns name kind.Dir es);
       lawful = record {
         top = (
           All-cons (λ (n : Node). IsSized n.what) _ (nodes_of l.round.0) tt l.lawfuls.0.top.0,
@@ -214,7 +215,7 @@ laid (e ∷ es) ns f =
     (omega (arith, ap length s.path, length-append (turned_path s.outer) (s.name ∷ []), length-turned s.outer)) l)
 
 -- a plan of entries that fit
-pub planned : (es : List Entry) (steps : List Step) → Fits [] es → steps ≡ steps_from 0 es → IsPlan es steps
+pub planned : (es : List Entry) (steps : List WalkStep) → Fits [] es → steps ≡ steps_from 0 es → IsPlan es steps
 planned es steps f same =
     let l = laid es [] f in
     record {

@@ -15,8 +15,8 @@ pub mod Moving
 pub mod Standing
 pub mod Working
 pub mod Staging
-pub mod Parcels
+pub mod Outgoing
 pub mod Phases
-pub mod Keeping
+pub mod Replying
 pub mod Lone
 pub mod LoneRuns

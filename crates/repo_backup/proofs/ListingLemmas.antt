@@ -1,5 +1,5 @@
 -- How packs are listed.
-use Rattle.std.proofs.Common.{arith, ◌≡◌, ◌<◌, [], List, length, slice_get, get_or, sym, subst}
+use Rattle.std.proofs.Common.{arith, ◌≡◌, ◌<◌, [], List, length, get_or, sym, subst}
 use Rattle.std.proofs.lemmas.Option.{slice_get-get_or, get_or_from_slice_get}
 use Rattle.std.specs.List.{All}
 use Rattle.repo_name.specs.declared.names.Name.{Name}

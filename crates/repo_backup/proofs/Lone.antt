@@ -1,5 +1,5 @@
 -- A backup alone with its store leaves it sound.
-use Rattle.std.proofs.Common.{◌≡◌, ◌⊎◌, ◌∷◌, [], ℕ, List, length, Some, refl, sym, ap, subst, inl, inr, ⊎_elim, ◌∙◌, Contains}
+use Rattle.std.proofs.Common.{◌≡◌, ◌⊎◌, ℕ, List, Some, refl, sym, ap, subst, inl, inr, ⊎_elim, ◌∙◌, Contains}
 use Rattle.std.proofs.lemmas.Option.{same_Some}
 use Rattle.std.proofs.lemmas.List.Elements.{All-contains}
 use Rattle.std.specs.Prelude.{All}
@@ -22,11 +22,11 @@ use Rattle.repo_index.proofs.OneLemmas.{index_texts_lawful}
 use Rattle.repo_tree.specs.Laws.{Agree}
 use Rattle.repo_tree.specs.declared.entries.Entry.{Entry}
 use Rattle.repo_store.specs.StoreMachine.{Step}
-use Rattle.repo_store.specs.Stores.{Store, Objects}
+use Rattle.repo_store.specs.Stores.{Store}
 use Rattle.repo_session.specs.Alone.{WasThere, IsSpoken, NoClash}
 use Rattle.repo_session.specs.Order.{IsPermitted}
 use Rattle.repo_session.specs.Soundness.{IsHeld, IsExactPack, IsSoundIndex, IsSoundSnapshot, IsSound}
-use Rattle.repo_session.specs.Traces.{Exchange, Trace, Exchanged, WasAsked, IsGiven}
+use Rattle.repo_session.specs.Traces.{Trace, WasAsked, IsGiven}
 use Rattle.repo_session.proofs.Containing.{flat_contains}
 use Rattle.repo_session.proofs.Spoken.{was_asked, held_spoken, held_agree}
 use Rattle.repo_session.proofs.Growing.{Shares, Puts, IsNoDelete, step_goes}
@@ -117,11 +117,11 @@ module _ (entries : List Entry) (from old : Store) (es : Trace) (Sent : Ask → 
       there_now : (k : Kind) (n : Name) (x : List ℕ) → new.objects k n ≡ Some x → WasThere from Sent k x
       there_now k n x h = ⊎_elim (λ before. there k n x before) (λ this. inr (p.token, n, subst Sent (p.asked ∙ cc (this.0, this.1, this.2)) now)) (p.added.only k n x h)
 
-      rule : IsPermitted (Allows entries) es (Ask.Put p.token p.kind p.name p.bytes)
-      rule = subst (λ a. IsPermitted (Allows entries) es a) p.asked permitted
+      rule : Allows entries es (Ask.Put p.token p.kind p.name p.bytes)
+      rule = subst (λ a. IsPermitted (Allows entries) es a) p.asked permitted tt
 
-      rule_at : (k : Kind) (x : List ℕ) → k ≡ p.kind → x ≡ p.bytes → IsPermitted (Allows entries) es (Ask.Put p.token k p.name x)
-      rule_at k x kind bytes = subst (λ j. IsPermitted (Allows entries) es (Ask.Put p.token j p.name x)) (sym kind) (subst (λ y. IsPermitted (Allows entries) es (Ask.Put p.token p.kind p.name y)) (sym bytes) rule)
+      rule_at : (k : Kind) (x : List ℕ) → k ≡ p.kind → x ≡ p.bytes → Allows entries es (Ask.Put p.token k p.name x)
+      rule_at k x kind bytes = subst (λ j. Allows entries es (Ask.Put p.token j p.name x)) (sym kind) (subst (λ y. Allows entries es (Ask.Put p.token p.kind p.name y)) (sym bytes) rule)
 
       named_now : (k : Kind) (n : Name) (x : List ℕ) → new.objects k n ≡ Some x → naming.name x ≡ n
       named_now k n x h = ⊎_elim (λ before. sound.named k n x before) (λ this. ap naming.name this.2 ∙ (p.named ∙ sym this.1)) (p.added.only k n x h)

@@ -16,8 +16,8 @@ use Rattle.repo_backup.specs.Chunks.{IsFirstChunk}
 use Rattle.repo_backup.specs.Folders.{Folder, nothing, file_then, dir_then, joined, nodes_of, tree_of, blobs_below, blobs_of, IsCutBy}
 use Rattle.repo_backup.specs.Plans.{AreTreeTextsBelow}
 use Rattle.repo_backup.specs.Works.{both, Frame, whole_of, steps_left, blobs_made, AreTextsMade, AreOuter, with_next, IsCutting, IsWalking, IsWalkable}
-use Rattle.repo_backup.specs.Advancing.{next_step, rest_of, bytes_left, Stays}
-use Rattle.repo_backup.specs.declared.steps.Step.{Step}
+use Rattle.repo_backup.specs.Advancing.{next_step, rest_of, bytes_left}
+use Rattle.repo_backup.specs.declared.steps.WalkStep.{WalkStep}
 use Rattle.repo_backup.specs.declared.walks.OpenFile.{OpenFile}
 use Rattle.repo_backup.specs.declared.walks.Outer.{Outer}
 use Rattle.repo_backup.specs.declared.walks.Walk.{Walk}
@@ -36,18 +36,18 @@ placed : (walk : Walk) (folder : Folder) (taken : List Item) (h : IsWalking walk
 placed walk folder taken h node = subst (λ o. with_next walk.nodes.items o ≡ nodes_of h.done) node h.nodes
 
 -- what is left begins with the next step
-left_steps : (walk : Walk) (folder : Folder) (taken : List Item) (h : IsWalking walk folder taken) (s : Step) → next_step walk ≡ Some s → steps_left h.left h.frames ≡ s ∷ drop (walk.at + 1) walk.steps.items
+left_steps : (walk : Walk) (folder : Folder) (taken : List Item) (h : IsWalking walk folder taken) (s : WalkStep) → next_step walk ≡ Some s → steps_left h.left h.frames ≡ s ∷ drop (walk.at + 1) walk.steps.items
 left_steps walk folder taken h s next = sym h.steps ∙ step_at walk.steps.items walk.at s next
 
 -- ---- a file is opened
 
-head_is : {a b : Step} {xs ys : List Step} → a ∷ xs ≡ b ∷ ys → a ≡ b
+head_is : {a b : WalkStep} {xs ys : List WalkStep} → a ∷ xs ≡ b ∷ ys → a ≡ b
 head_is e = cc
 
-tail_is : {a b : Step} {xs ys : List Step} → a ∷ xs ≡ b ∷ ys → xs ≡ ys
+tail_is : {a b : WalkStep} {xs ys : List WalkStep} → a ∷ xs ≡ b ∷ ys → xs ≡ ys
 tail_is e = cc
 
-none_is : {a : Step} {xs : List Step} → [] ≡ a ∷ xs → ⊥
+none_is : {a : WalkStep} {xs : List WalkStep} → [] ≡ a ∷ xs → ⊥
 none_is e = absurd (cc)
 
 -- what is left begins with a file
@@ -56,19 +56,19 @@ record Filed (name bytes : List ℕ) (left : Folder) : Type 0 where
   pub behind : Folder
   pub split : left ≡ file_then name chunks behind
 
-file_is : {a b c d : List ℕ} → Step.File a b ≡ Step.File c d → a ≡ c
+file_is : {a b c d : List ℕ} → WalkStep.File a b ≡ WalkStep.File c d → a ≡ c
 file_is e = cc
 
-bytes_are : {a b c d : List ℕ} → Step.File a b ≡ Step.File c d → b ≡ d
+bytes_are : {a b c d : List ℕ} → WalkStep.File a b ≡ WalkStep.File c d → b ≡ d
 bytes_are e = cc
 
-enter_no_file : {a b c : List ℕ} → Step.Enter a ≡ Step.File b c → ⊥
+enter_no_file : {a b c : List ℕ} → WalkStep.Enter a ≡ WalkStep.File b c → ⊥
 enter_no_file e = absurd (cc)
 
-leave_no_file : {b c : List ℕ} → Step.Leave ≡ Step.File b c → ⊥
+leave_no_file : {b c : List ℕ} → WalkStep.Leave ≡ WalkStep.File b c → ⊥
 leave_no_file e = absurd (cc)
 
-filed : (name bytes : List ℕ) (left : Folder) (fs : List Frame) (rest : List Step) → steps_left left fs ≡ Step.File name bytes ∷ rest → Filed name bytes left
+filed : (name bytes : List ℕ) (left : Folder) (fs : List Frame) (rest : List WalkStep) → steps_left left fs ≡ WalkStep.File name bytes ∷ rest → Filed name bytes left
 filed name bytes nothing [] rest e = absurd (none_is e)
 filed name bytes nothing (f ∷ fs) rest e = absurd (leave_no_file (head_is e))
 filed name bytes (file_then n chunks behind) [] rest e = record { chunks = chunks; behind = behind; split = ap (λ m. file_then m chunks behind) (file_is (head_is e)) }
@@ -76,10 +76,10 @@ filed name bytes (file_then n chunks behind) (f ∷ fs) rest e = record { chunks
 filed name bytes (dir_then n inside behind) [] rest e = absurd (enter_no_file (head_is e))
 filed name bytes (dir_then n inside behind) (f ∷ fs) rest e = absurd (enter_no_file (head_is e))
 
-pub opened_walk : (old : Walk) (file : OpenFile) (name bytes : List ℕ) (folder : Folder) (taken : List Item) → old.file ≡ None → next_step old ≡ Some (Step.File name bytes)
+pub opened_walk : (old : Walk) (file : OpenFile) (name bytes : List ℕ) (folder : Folder) (taken : List Item) → old.file ≡ None → next_step old ≡ Some (WalkStep.File name bytes)
     → file.start ≡ 0 → file.content.items ≡ [] → IsWalking old folder taken → IsWalking (record old { file = Some file }) folder taken
 opened_walk old file name bytes folder taken none next start content h =
-    let k = filed name bytes h.left h.frames _ (left_steps old folder taken h (Step.File name bytes) next) in
+    let k = filed name bytes h.left h.frames _ (left_steps old folder taken h (WalkStep.File name bytes) next) in
     let made = none_made old folder taken h none in
     record {
       frames = h.frames;
@@ -111,17 +111,17 @@ pub record Opened (walk : Walk) (file : OpenFile) (name bytes : List ℕ) (left 
 
 -- the step of an open file
 pub file_step : (walk : Walk) (file : OpenFile) (folder : Folder) (taken : List Item) → IsWalking walk folder taken → walk.file ≡ Some file
-    → (name : List ℕ) × (bytes : List ℕ) × (rest : List Step) × (drop walk.at walk.steps.items ≡ Step.File name bytes ∷ rest)
+    → (name : List ℕ) × (bytes : List ℕ) × (rest : List WalkStep) × (drop walk.at walk.steps.items ≡ WalkStep.File name bytes ∷ rest)
 file_step walk file folder taken h is =
     let k = subst (λ o. IsCutting o h.left h.made) is h.cutting in
     (k.0, joined (h.made ++ k.1), steps_left k.2 h.frames, h.steps ∙ ap (λ l. steps_left l h.frames) k.3 ∙ behind_file k.0 (h.made ++ k.1) k.2 h.frames)
 
 pub opened : (walk : Walk) (file : OpenFile) (name bytes : List ℕ) (folder : Folder) (taken : List Item) → IsWalkable walk folder → (h : IsWalking walk folder taken) → walk.file ≡ Some file
-    → next_step walk ≡ Some (Step.File name bytes) → Opened walk file name bytes h.left h.made h.frames
+    → next_step walk ≡ Some (WalkStep.File name bytes) → Opened walk file name bytes h.left h.made h.frames
 opened walk file name bytes folder taken way h is next =
     let k = subst (λ o. IsCutting o h.left h.made) is h.cutting in
     let chunks = h.made ++ k.1 in
-    let here = sym (left_steps walk folder taken h (Step.File name bytes) next) ∙ ap (λ l. steps_left l h.frames) k.3 ∙ behind_file k.0 chunks k.2 h.frames in
+    let here = sym (left_steps walk folder taken h (WalkStep.File name bytes) next) ∙ ap (λ l. steps_left l h.frames) k.3 ∙ behind_file k.0 chunks k.2 h.frames in
     let named : name ≡ k.0 = file_is (head_is here) in
     let are : bytes ≡ joined chunks = bytes_are (head_is here) in
     let whole : IsCutBy walk.params (whole_of h.done h.left h.frames) = subst (λ f. IsCutBy walk.params f) (sym h.whole) way.cut in
@@ -140,7 +140,7 @@ opened walk file name bytes folder taken way h is next =
     }
 
 -- a chunk is taken
-taken_of : (old : Walk) (file new_file : OpenFile) (name bytes : List ℕ) (size : ℕ) (folder : Folder) (taken : List Item) → old.file ≡ Some file → next_step old ≡ Some (Step.File name bytes)
+taken_of : (old : Walk) (file new_file : OpenFile) (name bytes : List ℕ) (size : ℕ) (folder : Folder) (taken : List Item) → old.file ≡ Some file → next_step old ≡ Some (WalkStep.File name bytes)
     → IsFirstChunk old.params (drop file.start bytes) size → new_file.start ≡ file.start + size → new_file.content.items ≡ file.content.items ++ naming.name (take size (drop file.start bytes)) ∷ []
     → IsWalkable old folder → IsWalking old folder taken → IsWalking (record old { file = Some new_file }) folder (taken ++ item_of Content (take size (drop file.start bytes)) ∷ [])
 taken_of old file new_file name bytes size folder taken is next first start content way h =
@@ -172,7 +172,7 @@ taken_of old file new_file name bytes size folder taken is next first start cont
     }
 
 -- the next chunk is a blob of the folder
-of_folder : (walk : Walk) (file : OpenFile) (name bytes : List ℕ) (size : ℕ) (folder : Folder) (taken : List Item) → walk.file ≡ Some file → next_step walk ≡ Some (Step.File name bytes)
+of_folder : (walk : Walk) (file : OpenFile) (name bytes : List ℕ) (size : ℕ) (folder : Folder) (taken : List Item) → walk.file ≡ Some file → next_step walk ≡ Some (WalkStep.File name bytes)
     → IsFirstChunk walk.params (drop file.start bytes) size → IsWalkable walk folder → IsWalking walk folder taken → Contains (blobs_of folder) (item_of Content (take size (drop file.start bytes)))
 of_folder walk file name bytes size folder taken is next first way h =
     let o = opened walk file name bytes folder taken way h is next in
@@ -192,14 +192,14 @@ of_folder walk file name bytes size folder taken is next first way h =
     subst (λ c. Contains (blobs_of folder) (f c)) (sym chunk) six
 
 -- what is left of the open file
-pub left_bytes : (walk : Walk) (file : OpenFile) (name bytes : List ℕ) → walk.file ≡ Some file → next_step walk ≡ Some (Step.File name bytes) → bytes_left walk ≡ drop file.start bytes
+pub left_bytes : (walk : Walk) (file : OpenFile) (name bytes : List ℕ) → walk.file ≡ Some file → next_step walk ≡ Some (WalkStep.File name bytes) → bytes_left walk ≡ drop file.start bytes
 left_bytes walk file name bytes is next = λ i. rest_of (is i) (next i)
 
-pub within_file : (walk : Walk) (file : OpenFile) (name bytes : List ℕ) (size : ℕ) → walk.file ≡ Some file → next_step walk ≡ Some (Step.File name bytes) → 1 ≤ size → size ≤ length (bytes_left walk)
+pub within_file : (walk : Walk) (file : OpenFile) (name bytes : List ℕ) (size : ℕ) → walk.file ≡ Some file → next_step walk ≡ Some (WalkStep.File name bytes) → 1 ≤ size → size ≤ length (bytes_left walk)
     → file.start + size ≤ length bytes
 within_file walk file name bytes size is next some within = omega (arith, some, within, ap length (left_bytes walk file name bytes is next), length-drop file.start bytes)
 
-pub chunk_taken : (old new : Walk) (file new_file : OpenFile) (name bytes : List ℕ) (size : ℕ) (called : Name) (folder : Folder) (taken : List Item) → old.file ≡ Some file → next_step old ≡ Some (Step.File name bytes)
+pub chunk_taken : (old new : Walk) (file new_file : OpenFile) (name bytes : List ℕ) (size : ℕ) (called : Name) (folder : Folder) (taken : List Item) → old.file ≡ Some file → next_step old ≡ Some (WalkStep.File name bytes)
     → IsFirstChunk old.params (bytes_left old) size → called ≡ naming.name (take size (bytes_left old)) → new_file.start ≡ file.start + size → new_file.content.items ≡ file.content.items ++ called ∷ []
     → new ≡ record old { file = Some new_file }
     → IsWalkable old folder → IsWalking old folder taken → IsWalking new folder (taken ++ item_of Content (take size (bytes_left old)) ∷ [])
@@ -209,24 +209,6 @@ chunk_taken old new file new_file name bytes size called folder taken is next fi
     (subst (λ x. IsWalking (record old { file = Some new_file }) folder (taken ++ item_of Content (take size x) ∷ [])) (sym b)
     (taken_of old file new_file name bytes size folder taken is next (subst (λ x. IsFirstChunk old.params x size) b first) start
     (content ∙ ap (λ n. file.content.items ++ n ∷ []) (named ∙ ap (λ x. naming.name (take size x)) b)) way h))
-
--- the file as it was, with its names elsewhere
-pub same_file : (old : Walk) (file new_file : OpenFile) → old.file ≡ Some file → new_file.start ≡ file.start → new_file.content.items ≡ file.content.items → Stays old (record old { file = Some new_file })
-same_file old file new_file is start content folder taken way h =
-    let k = subst (λ o. IsCutting o h.left h.made) is h.cutting in
-    record {
-      frames = h.frames;
-      done = h.done;
-      left = h.left;
-      made = h.made;
-      whole = h.whole;
-      outers = h.outers;
-      nodes = h.nodes;
-      cutting = (k.0, k.1, k.2, k.3, start ∙ k.4, content ∙ k.5);
-      steps = h.steps;
-      texts = h.texts;
-      blobs = h.blobs;
-    }
 
 pub some_is : {A : Type 0} (o : Option A) → IsSome o → (x : A) × (o ≡ Some x)
 some_is None h = absurd (cc)
@@ -238,19 +220,19 @@ pub chunk_of_folder : (walk : Walk) (size : ℕ) (folder : Folder) (taken : List
 chunk_of_folder walk size folder taken some first way h =
     let f = some_is walk.file some in
     let k = file_step walk f.0 folder taken h f.1 in
-    let next = (ahead walk.steps.items walk.at (Step.File k.0 k.1) k.2 k.3).here in
+    let next = (ahead walk.steps.items walk.at (WalkStep.File k.0 k.1) k.2 k.3).here in
     let b = left_bytes walk f.0 k.0 k.1 f.1 next in
     subst (λ x. Contains (blobs_of folder) (item_of Content (take size x))) (sym b) (of_folder walk f.0 k.0 k.1 size folder taken f.1 next (subst (λ x. IsFirstChunk walk.params x size) b first) way h)
 
-pub file_next : (walk : Walk) (folder : Folder) (taken : List Item) → IsSome walk.file → IsWalking walk folder taken → (name : List ℕ) × (bytes : List ℕ) × (next_step walk ≡ Some (Step.File name bytes))
+pub file_next : (walk : Walk) (folder : Folder) (taken : List Item) → IsSome walk.file → IsWalking walk folder taken → (name : List ℕ) × (bytes : List ℕ) × (next_step walk ≡ Some (WalkStep.File name bytes))
 file_next walk folder taken some h =
     let f = some_is walk.file some in
     let k = file_step walk f.0 folder taken h f.1 in
-    (k.0, k.1, (ahead walk.steps.items walk.at (Step.File k.0 k.1) k.2 k.3).here)
+    (k.0, k.1, (ahead walk.steps.items walk.at (WalkStep.File k.0 k.1) k.2 k.3).here)
 
 -- the file is closed
 pub closed_walk : (old new : Walk) (file : OpenFile) (name bytes : List ℕ) (node : Node) (folder : Folder) (taken : List Item) → AreLawful old.params → old.file ≡ Some file → old.node ≡ None
-    → next_step old ≡ Some (Step.File name bytes) → drop file.start bytes ≡ [] → node ≡ record { name = name; what = File (length bytes) file.content.items }
+    → next_step old ≡ Some (WalkStep.File name bytes) → drop file.start bytes ≡ [] → node ≡ record { name = name; what = File (length bytes) file.content.items }
     → new.steps.items ≡ old.steps.items → new.at ≡ old.at + 1 → new.nodes.items ≡ old.nodes.items → new.node ≡ Some node → new.above.items ≡ old.above.items → new.file ≡ None
     → IsWalkable old folder → IsWalking old folder taken → IsWalking new folder taken
 closed_walk old new file name bytes node folder taken lawful is placed_all next none made_node n_steps n_at n_nodes n_node n_above n_file way h =
@@ -280,12 +262,12 @@ closed_walk old new file name bytes node folder taken lawful is placed_all next 
 
 -- ---- a directory is entered
 
-pub entered_walk : (old new : Walk) (name : List ℕ) (outer : Outer) (folder : Folder) (taken : List Item) → old.node ≡ None → old.file ≡ None → next_step old ≡ Some (Step.Enter name)
+pub entered_walk : (old new : Walk) (name : List ℕ) (outer : Outer) (folder : Folder) (taken : List Item) → old.node ≡ None → old.file ≡ None → next_step old ≡ Some (WalkStep.Enter name)
     → outer.name ≡ name → outer.nodes.items ≡ old.nodes.items
     → new.steps.items ≡ old.steps.items → new.at ≡ old.at + 1 → new.nodes.items ≡ [] → new.node ≡ None → new.above.items ≡ old.above.items ++ outer ∷ [] → new.file ≡ None
     → IsWalking old folder taken → IsWalking new folder taken
 entered_walk old new name outer folder taken node file next named outer_nodes n_steps n_at n_nodes n_node n_above n_file h =
-    let e = entered name h.left h.frames _ (left_steps old folder taken h (Step.Enter name) next) in
+    let e = entered name h.left h.frames _ (left_steps old folder taken h (WalkStep.Enter name) next) in
     let made = none_made old folder taken h file in
     let before = blobs_made h.done h.frames in
     record {
@@ -323,19 +305,19 @@ push_same (a ∷ xs) (b ∷ ys) x y e =
     rest e = cc
 
 -- some directory is around one that is left
-pub some_around : (walk : Walk) (folder : Folder) (taken : List Item) → next_step walk ≡ Some Step.Leave → IsWalking walk folder taken → walk.above.items ≡ [] → ⊥
+pub some_around : (walk : Walk) (folder : Folder) (taken : List Item) → next_step walk ≡ Some WalkStep.Leave → IsWalking walk folder taken → walk.above.items ≡ [] → ⊥
 some_around walk folder taken next h none =
-    let l = left_is h.left h.frames _ (left_steps walk folder taken h Step.Leave next) in
+    let l = left_is h.left h.frames _ (left_steps walk folder taken h WalkStep.Leave next) in
     let o = subst (λ fs. AreOuter walk.above.items fs) l.split h.outers in
     absurd (omega (arith, ap length (sym none ∙ o.2), length-append o.0 (o.1 ∷ [])))
 
-pub left_walk : (old new : Walk) (outer : Outer) (subtree : Name) (folder : Folder) (taken : List Item) → old.node ≡ None → old.file ≡ None → next_step old ≡ Some Step.Leave
+pub left_walk : (old new : Walk) (outer : Outer) (subtree : Name) (folder : Folder) (taken : List Item) → old.node ≡ None → old.file ≡ None → next_step old ≡ Some WalkStep.Leave
     → IsTreeText (tree_text old.nodes.items) old.nodes.items → subtree ≡ naming.name (tree_text old.nodes.items)
     → new.steps.items ≡ old.steps.items → new.at ≡ old.at + 1 → new.nodes.items ≡ outer.nodes.items → new.node ≡ Some (record { name = outer.name; what = Dir subtree })
     → old.above.items ≡ new.above.items ++ outer ∷ [] → new.file ≡ None
     → IsWalking old folder taken → IsWalking new folder (taken ++ item_of Tree (tree_text old.nodes.items) ∷ [])
 left_walk old new outer subtree folder taken node file next text tree n_steps n_at n_nodes n_node n_above n_file h =
-    let l = left_is h.left h.frames _ (left_steps old folder taken h Step.Leave next) in
+    let l = left_is h.left h.frames _ (left_steps old folder taken h WalkStep.Leave next) in
     let made = none_made old folder taken h file in
     let nodes = placed old folder taken h node in
     let o = subst (λ fs. AreOuter old.above.items fs) l.split h.outers in
@@ -381,8 +363,8 @@ tree_of_folder walk folder taken node h none =
     let three : Contains (blobs_of folder) item = subst (λ w. Contains (blobs_of w) item) h.whole (in_whole item h.frames h.done h.left two) in
     subst (λ ns. Contains (blobs_of folder) (item_of Tree (tree_text ns))) (sym nodes) three
 
-pub tree_left : (walk : Walk) (folder : Folder) (taken : List Item) → walk.node ≡ None → next_step walk ≡ Some Step.Leave → IsWalking walk folder taken → Contains (blobs_of folder) (item_of Tree (tree_text walk.nodes.items))
-tree_left walk folder taken node next h = tree_of_folder walk folder taken node h (left_is h.left h.frames _ (left_steps walk folder taken h Step.Leave next)).none
+pub tree_left : (walk : Walk) (folder : Folder) (taken : List Item) → walk.node ≡ None → next_step walk ≡ Some WalkStep.Leave → IsWalking walk folder taken → Contains (blobs_of folder) (item_of Tree (tree_text walk.nodes.items))
+tree_left walk folder taken node next h = tree_of_folder walk folder taken node h (left_is h.left h.frames _ (left_steps walk folder taken h WalkStep.Leave next)).none
 
 -- all is walked where no step is left
 pub record Walked (walk : Walk) (folder : Folder) (taken : List Item) : Type 0 where

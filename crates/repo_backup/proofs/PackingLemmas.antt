@@ -1,7 +1,7 @@
 -- Blobs that are noted, and what one more makes of the packs.
 use Rattle.std.proofs.Common.{arith, ◌≡◌, ◌↔◌, ◌++◌, ◌∷◌, [], List, Option, Some, None, Result, Ok, Err, OnOk, OnErr, IfNone, sym, ap, subst, inl, inr, ◌⊎◌, ◌∙◌, Contains}
 use Rattle.std.proofs.lemmas.List.Elements.{Contains-append_left, Contains-append_right, Contains-append_cases, Contains-push, Contains-push_cases}
-use Rattle.repo_name.specs.NameMaps.{Inserted, Dropped}
+use Rattle.repo_name.specs.NameMaps.{Inserted}
 use Rattle.repo_name.specs.declared.kinds.BlobKind.{BlobKind}
 use Rattle.repo_name.specs.declared.names.Name.{Name}
 use Rattle.repo_pack.specs.PackLayout.{Item}
@@ -66,31 +66,6 @@ pub noted_other : (map : Name → Option (Unit {0})) (item : Item) (k : BlobKind
 noted_other map item k items other notes m = (
   λ there. has_before items (item ∷ []) k m ((notes m).0 there),
   λ has. elim (has_either items (item ∷ []) k m has) [ inl before ↦ (notes m).1 before | inr now ↦ absurd (other (is_one item k m now).0) ],
-)
-
-pub noted_less : (old new : Name → Option (Unit {0})) (n : Name) (item : Item) (k : BlobKind) (items : List Item) → item.kind ≡ k → item.name ≡ n → (HasItem items k n → ⊥) → Dropped old n new → NotesOf old k (items ++ item ∷ [])
-    → NotesOf new k items
-noted_less old new n item k items p q none drop notes m = (
-  λ there. elim (drop.others m) [
-    | inl same ↦ absurd (not_both (new m) there (subst (λ x. new x ≡ None) (sym same) drop.gone))
-    | inr stays ↦ elim (has_either items (item ∷ []) k m ((notes m).0 (sym stays ∙ there))) [
-      | inl before ↦ before
-      | inr now ↦ absurd (not_both (new m) there (subst (λ x. new x ≡ None) (sym q ∙ (is_one item k m now).1) drop.gone))
-    ]
-  ],
-  λ has. elim (drop.others m) [
-    | inl same ↦ absurd (none (subst (λ x. HasItem items k x) same has))
-    | inr stays ↦ stays ∙ (notes m).1 (has_before items (item ∷ []) k m has)
-  ],
-)
-  where
-    not_both : (o : Option (Unit {0})) → o ≡ Some tt → o ≡ None → ⊥
-    not_both o a b = absurd (cc)
-
-pub noted_others : (map : Name → Option (Unit {0})) (item : Item) (k : BlobKind) (items : List Item) → (item.kind ≡ k → ⊥) → NotesOf map k (items ++ item ∷ []) → NotesOf map k items
-noted_others map item k items other notes m = (
-  λ there. elim (has_either items (item ∷ []) k m ((notes m).0 there)) [ inl before ↦ before | inr now ↦ absurd (other (is_one item k m now).0) ],
-  λ has. (notes m).1 (has_before items (item ∷ []) k m has),
 )
 
 pub content_no_tree : (k : BlobKind) → k ≡ BlobKind.Content → k ≡ BlobKind.Tree → ⊥

@@ -1,44 +1,15 @@
 -- What the tests on paths tell.
-use Rattle.std.proofs.Common.{◌≡◌, ◌≢◌, ◌<◌, ◌≤◌, ◌+◌, ◌-◌, ◌⊎◌, ◌↔◌, ◌∷◌, ◌++◌, [], ℕ, List, length, take, drop, get_or, Some, refl, ap, ◌∙◌, sym, subst, arith, inl, inr, length-append, Contains, IsTrue, nat_lt, nat_eq, Bool, true, false}
+use Rattle.std.proofs.Common.{◌≡◌, ◌≢◌, ◌<◌, ◌≤◌, ◌+◌, ◌-◌, ◌⊎◌, ◌↔◌, ◌∷◌, ◌++◌, [], ℕ, List, length, take, drop, get_or, Some, refl, ap, ◌∙◌, sym, subst, arith, inl, inr, length-append, Contains, IsTrue, nat_eq, Bool, true, false}
 use Rattle.std.specs.Prelude.{slice_get}
 use Rattle.std.specs.List.{starts_with}
-use Rattle.std.specs.Ordering.{nat_cmp, ordering_then}
-use Rattle.std.specs.declared.cmp.Ordering.{Ordering}
-use Rattle.std.specs.Cmp.Lexicographic.{slice_cmp, pointwise, pointwise_decides, bytes_decides}
-use Rattle.std.proofs.lemmas.Bool.{ltb-true, lt-ltb}
-use Rattle.std.proofs.lemmas.List.{drop_more, drop_all, take_more, take_at, take-append-drop, length-drop, same_from_push}
-use Rattle.repo_backup.specs.Handed.{IsBelow, StandsAfter, HasParent, MayFollow, AreHanded, NextFault, EntriesFault}
+use Rattle.std.specs.Cmp.Lexicographic.{pointwise, pointwise_decides, bytes_decides}
+use Rattle.std.proofs.lemmas.List.{drop_more, take_more, take_at, take-append-drop, same_from_push}
+use Rattle.repo_backup.specs.Handed.{StandsAfter, HasParent, MayFollow, AreHanded, NextFault, EntriesFault}
 use Rattle.repo_backup.specs.declared.faults.BackupError.{BackupError}
 use Rattle.repo_backup.proofs.PathOrder.{Names, front_of, follow_push, parent_begins, parent_among}
 use Rattle.repo_tree.specs.Spelling.{dir_entry}
 use Rattle.repo_tree.specs.declared.entries.Entry.{Entry}
 use Rattle.repo_tree.specs.declared.entries.EntryKind.TheVariants as kind
-
--- how two paths stand
-abbrev pub paths_cmp : Names → Names → Ordering
-paths_cmp a b = slice_cmp (slice_cmp nat_cmp) a b
-
--- one component on
-pub compare_more : (a b : Names) (i : ℕ) (x y : List ℕ) → i < length a → i < length b → x ≡ get_or a i x → y ≡ get_or b i y
-    → paths_cmp a b ≡ paths_cmp (drop i a) (drop i b) → paths_cmp a b ≡ ordering_then (slice_cmp nat_cmp x y) (paths_cmp (drop (i + 1) a) (drop (i + 1) b))
-compare_more a b i x y la lb xa yb h =
-    let p : drop i a ≡ x ∷ drop (i + 1) a = drop_more a i x la ∙ ap (λ n. n ∷ drop (i + 1) a) (sym xa) in
-    let q : drop i b ≡ y ∷ drop (i + 1) b = drop_more b i y lb ∙ ap (λ n. n ∷ drop (i + 1) b) (sym yb) in
-    h ∙ (λ j. paths_cmp (p j) (q j))
-
--- of the empty path and another
-none_below : (b : Names) → (0 < length b → IsBelow [] b) × (IsBelow [] b → 0 < length b)
-none_below [] = (λ h. absurd (omega (arith, h)), λ e. cc)
-none_below (x ∷ b) = (λ _. refl, λ _. omega arith)
-
--- at the end of the first path
-pub compare_end : (a b : Names) (i : ℕ) → length a ≤ i → i ≤ length a → paths_cmp a b ≡ paths_cmp (drop i a) (drop i b)
-    → IsTrue (nat_lt (length a) (length b)) ↔ IsBelow a b
-compare_end a b i least most h =
-    let e : paths_cmp a b ≡ paths_cmp [] (drop i b) = h ∙ ap (λ l. paths_cmp l (drop i b)) (drop_all i a least) in
-    let n = length-drop i b in
-    let k = none_below (drop i b) in
-    (λ t. e ∙ k.0 (let l = ltb-true (length a) (length b) t in omega (arith, l, n)), λ r. lt-ltb (length a) (length b) (let l = k.1 (sym e ∙ r) in omega (arith, l, n)))
 
 -- a path begins with another
 pub begins_iff : (path parent : Names) (t : Bool) → t ≡ starts_with (pointwise nat_eq) path parent

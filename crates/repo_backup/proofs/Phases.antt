@@ -1,119 +1,35 @@
 -- What is known from one request of a backup to the next.
-use Rattle.std.proofs.Common.{arith, ◌≡◌, ◌≢◌, ◌<◌, ◌≤◌, ◌+◌, ◌↔◌, ◌++◌, ◌∷◌, [], ℕ, Bool, true, false, List, length, Option, Some, None, refl, sym, ap, subst, inl, ◌∙◌, Contains}
+use Rattle.std.proofs.Common.{arith, ◌≡◌, ◌<◌, ◌≤◌, ◌↔◌, ◌++◌, ◌∷◌, [], ℕ, Bool, true, false, IsTrue, List, length, refl, sym, ap, subst, inl, ◌∙◌, Contains}
 use Rattle.repo_name.specs.declared.kinds.Kind.{Kind}
 use Rattle.repo_name.specs.declared.names.Name.{Name}
-use Rattle.repo_name.specs.declared.rows.LockRow.{LockRow}
 use Rattle.repo_name.specs.declared.tokens.Token.{Token}
 use Rattle.repo_wire.specs.declared.messages.Ask.{Ask}
-use Rattle.repo_wire.specs.declared.messages.Code.{Code}
 use Rattle.repo_wire.specs.declared.messages.Say.{Say}
 use Rattle.repo_index.specs.IndexText.{facts_in, IsIndexText}
-use Rattle.repo_index.specs.Lookups.{HasSame}
 use Rattle.repo_index.specs.declared.facts.Fact.{Fact}
 use Rattle.repo_index.specs.declared.facts.PackFacts.{PackFacts}
 use Rattle.repo_tree.specs.ConfigText.{IsConfigText}
 use Rattle.repo_tree.specs.declared.configs.Config.{Config}
 use Rattle.repo_tree.specs.declared.entries.Entry.{Entry}
-use Rattle.repo_session.specs.Catalogs.{IsCatalog, AreIndexed}
-use Rattle.repo_session.specs.Ends.{IsUnwelcome}
-use Rattle.repo_session.specs.Openings.{IsWork, IsStart, StandsAt, Stands}
-use Rattle.repo_session.specs.Order.{Task, May, opened, IsWorking}
+use Rattle.repo_session.specs.Catalogs.{AreIndexed}
+use Rattle.repo_session.specs.Order.{Task, opened}
 use Rattle.repo_session.specs.Traces.{Exchange, Trace, Exchanged, object_put, objects_put, ReadFact}
-use Rattle.repo_session.specs.declared.lines.Line.{Line}
-use Rattle.repo_session.specs.declared.outcomes.Outcome.{Outcome}
-use Rattle.repo_backup.specs.BackupStates.{Indexes, IsNew, HasBegun, KnowsBackup, MayGoOn, PutsPack, PutsIndex}
-use Rattle.repo_backup.specs.Backing.{Put, items_of, Backs}
+use Rattle.repo_backup.specs.BackupStates.{HasBegun, MayGoOn, PutsPack, PutsIndex}
+use Rattle.repo_backup.specs.Backing.{items_of, Backs}
 use Rattle.repo_backup.specs.Folders.{Folder, entries_of}
 use Rattle.repo_backup.specs.Plans.{IsLawful, steps_of}
 use Rattle.repo_backup.specs.Stages.{walked, handed_in, IsPlanned, IsBegun, StaysReady, BeginsAgain}
 use Rattle.repo_backup.specs.declared.backing.Backing.{Backing}
 use Rattle.repo_backup.specs.declared.stages.Stage.{Stage}
-use Rattle.repo_backup.specs.declared.steps.Step.{Step}
+use Rattle.repo_backup.specs.declared.steps.WalkStep.{WalkStep}
 use Rattle.repo_backup.proofs.Puts.{objects_put_other, is_made_later}
 use Rattle.repo_backup.proofs.Recutting.{recut}
 use Rattle.repo_backup.proofs.Ruling.{begin_backs, pack_done, index_done}
 use Rattle.repo_backup.proofs.Staging.{walked_of}
 
-pub done_live : Say.Done ≢ Say.Refused Code.Dead
-done_live p = absurd (cc)
-
--- ---- at the start
-
-not_after : (task : Task) (token : Token) (text : List ℕ) (later : Trace) → [] ≡ later ++ opened task token text → ⊥
-not_after task token text [] p = absurd (cc)
-not_after task token text (e ∷ later) p = absurd (cc)
-
-not_working : (task : Task) (token : Token) → IsWorking task token [] → ⊥
-not_working task token w = let o = w.1 in not_after task token o.text o.later o.since
-
-module _ (entries : List Entry) (i : Indexes) (stage : Stage) where
-  pub knows_at_start : (task : Task) (ask : Ask) → IsNew i stage → May task [] ask → KnowsBackup entries i stage ask []
-  knows_at_start task Ask.Ticket f may = f
-  knows_at_start task (Ask.Lock row) f may = f
-  knows_at_start task Ask.Config f may = f
-  knows_at_start task (Ask.List j after) f may = absurd (not_working task may.0.0 may.0.1)
-  knows_at_start task (Ask.Get j n) f may = absurd (not_working task may.0.0 may.0.1)
-  knows_at_start task (Ask.Range pack offset len) f may = absurd (not_working task may.0.0 may.0.1)
-  knows_at_start task (Ask.Put t j n x) f may = absurd (not_working task t may.0)
-  knows_at_start task (Ask.Delete t j n) f may = absurd (not_working task t may.0)
-  knows_at_start task (Ask.Unlock t) f may = tt
-  knows_at_start task (Ask.Refresh t time) f may = tt
-  knows_at_start task Ask.Locks f may = tt
-
-  new_of : (ask : Ask) (es : Trace) → IsStart ask → KnowsBackup entries i stage ask es → IsNew i stage
-  new_of Ask.Ticket es s k = k
-  new_of (Ask.Lock row) es s k = k
-  new_of Ask.Config es s k = k
-  new_of (Ask.List j after) es s k = absurd s
-  new_of (Ask.Get j n) es s k = absurd s
-  new_of (Ask.Range pack offset len) es s k = absurd s
-  new_of (Ask.Put t j n x) es s k = absurd s
-  new_of (Ask.Delete t j n) es s k = absurd s
-  new_of (Ask.Unlock t) es s k = absurd s
-  new_of (Ask.Refresh t time) es s k = absurd s
-  new_of Ask.Locks es s k = absurd s
-
-  -- where the opening went on by itself
-  pub knows_moved : (asked ask : Ask) (es fs : Trace) → ¬ IsWork ask → (IsStart ask → IsStart asked) → KnowsBackup entries i stage asked es → KnowsBackup entries i stage ask fs
-  knows_moved asked Ask.Ticket es fs w s k = new_of asked es (s tt) k
-  knows_moved asked (Ask.Lock row) es fs w s k = new_of asked es (s tt) k
-  knows_moved asked Ask.Config es fs w s k = new_of asked es (s tt) k
-  knows_moved asked (Ask.List j after) es fs w s k = absurd (w tt)
-  knows_moved asked (Ask.Get j n) es fs w s k = absurd (w tt)
-  knows_moved asked (Ask.Range pack offset len) es fs w s k = absurd (w tt)
-  knows_moved asked (Ask.Put t j n x) es fs w s k = absurd (w tt)
-  knows_moved asked (Ask.Delete t j n) es fs w s k = absurd (w tt)
-  knows_moved asked (Ask.Unlock t) es fs w s k = tt
-  knows_moved asked (Ask.Refresh t time) es fs w s k = tt
-  knows_moved asked Ask.Locks es fs w s k = tt
-
-  -- what is pending of the backup's own work is a page, an index or a put
-  pub other_work : (ask : Ask) (es : Trace) → IsWork ask → KnowsBackup entries i stage ask es → ((kind : Kind) (after : Option Name) → ask ≢ Ask.List kind after) → ((kind : Kind) (n : Name) → ask ≢ Ask.Get kind n)
-      → ((token : Token) (kind : Kind) (n : Name) (x : List ℕ) → ask ≢ Ask.Put token kind n x) → ⊥
-  other_work (Ask.List j after) es w k no_page no_get no_put = no_page j after refl
-  other_work (Ask.Get j n) es w k no_page no_get no_put = no_get j n refl
-  other_work (Ask.Range pack offset len) es w k no_page no_get no_put = k
-  other_work (Ask.Put t j n x) es w k no_page no_get no_put = no_put t j n x refl
-  other_work (Ask.Delete t j n) es w k no_page no_get no_put = k
-  other_work Ask.Ticket es w k no_page no_get no_put = w
-  other_work (Ask.Lock row) es w k no_page no_get no_put = w
-  other_work Ask.Config es w k no_page no_get no_put = w
-  other_work (Ask.Unlock t) es w k no_page no_get no_put = w
-  other_work (Ask.Refresh t time) es w k no_page no_get no_put = w
-  other_work Ask.Locks es w k no_page no_get no_put = w
-
-module _ (task : Task) (Allows : Trace → Ask → Type 0) (Gives : Trace → Exchange → Type 0) (Own : Trace → Outcome → Type 0) (lock : Option LockRow) (token : Token) (line : Line) where
-  settled_by : (outcome : Option Outcome) → Stands task Allows Own lock token line None outcome [] → outcome ≢ None
-  settled_by None s p = not_working task token s.working
-  settled_by (Some o) s p = absurd (cc)
-
-  -- where nothing is pending at the start there is an outcome
-  pub settled_at_start : StandsAt task Allows Gives Own lock token line [] → line.next ≡ None → line.outcome ≢ None
-  settled_at_start f none = settled_by line.outcome (subst (λ n. Stands task Allows Own lock token line n line.outcome []) none f.stands)
-
 -- ---- the config
 
-handed_planned : (stage : Stage) (steps : List Step) → IsPlanned stage steps → handed_in stage ≡ walked [] steps
+handed_planned : (stage : Stage) (steps : List WalkStep) → IsPlanned stage steps → handed_in stage ≡ walked [] steps
 handed_planned (Stage.Planned own) steps h = ap (λ ss. walked [] ss) h
 handed_planned (Stage.Working b) steps h = absurd h
 
@@ -123,15 +39,6 @@ handed_folder stage folder h = handed_planned stage (steps_of folder) h ∙ walk
 
 nothing_put : (task : Task) (token : Token) (text : List ℕ) (k : Kind) → objects_put k (opened task token text) ≡ []
 nothing_put task token text k = refl
-
-newest : Trace → Ask
-newest [] = Ask.Ticket
-newest (e ∷ es) = e.ask
-
--- the reply that opened a job was to the request for the config
-pub config_asked : (task : Task) (token : Token) (text : List ℕ) (e : Exchange) (es : Trace) → e ∷ es ≡ opened task token text → e.ask ≡ Ask.Config
-unfolding newest
-config_asked task token text e es p = ap newest p
 
 -- the work begins
 pub opens : (task : Task) (token : Token) (text : List ℕ) (config : Config) (stage : Stage) (folder : Folder) (b : Backing) (es : Trace) → es ≡ opened task token text → IsConfigText text config → IsLawful folder
@@ -198,15 +105,6 @@ begun_again entries known b d es a h =
       none_put = h.none_put;
     }
 
--- the same facts
-pub catalog_same : (kind : Kind) (names : List Name) (read : ℕ) (facts facts' : List Fact) (whole : Bool) (es : Trace) → HasSame facts facts' → IsCatalog kind names read facts whole es → IsCatalog kind names read facts' whole es
-catalog_same kind names read facts facts' whole es same h = record {
-  of_indexes = h.of_indexes;
-  rolled = h.rolled;
-  indexes = h.indexes;
-  gives = λ fact. (λ has. (h.gives fact).0 ((same fact).0 has), λ is. (same fact).1 ((h.gives fact).1 is));
-}
-
 -- ---- puts
 
 -- the put of a pack is done
@@ -216,6 +114,11 @@ pack_goes entries facts b token n x e es h q s =
     let same = sym h.pack_is in
     let ask : e.ask ≡ Ask.Put token Kind.Pack h.put.pack.name h.put.pack.bytes = q ∙ ap (λ o. Ask.Put token Kind.Pack o.name o.bytes) same in
     pack_done entries facts b.waiting b.blobs b.bytes h.folder h.puts h.put token e es h.backs ask s
+
+pub few_left : (b : Bool) (n : ℕ) → IsTrue b ↔ (20000 ≤ n) → b ≡ false → n < 20000
+few_left b n is not_full =
+    let under : (20000 ≤ n) → ⊥ = λ le. (let yes : b ≡ true = is.1 le in absurd (cc)) in
+    omega (arith, under)
 
 -- and the work may go on where fewer than 20,000 facts wait
 pub pack_room : (entries : List Entry) (facts : List Fact) (b : Backing) (token : Token) (n : Name) (x : List ℕ) (e : Exchange) (es : Trace) → PutsPack entries facts b n x es → e.ask ≡ Ask.Put token Kind.Pack n x → e.say ≡ Say.Done
@@ -259,12 +162,3 @@ index_stays entries facts b c x es s h =
       reads = subst (λ ws. IsIndexText x ws) (sym m.1) h.reads;
       work = m.0;
     }
-
--- a reply to a put that isn't done
-pub unwelcome_put : (token : Token) (k : Kind) (n : Name) (x : List ℕ) (say : Say) → say ≢ Say.Done → IsUnwelcome (Ask.Put token k n x) say
-unwelcome_put token k n x (Say.Token t) h = λ y. y
-unwelcome_put token k n x Say.Done h = absurd (h refl)
-unwelcome_put token k n x (Say.Names more names) h = λ y. y
-unwelcome_put token k n x (Say.Bytes y) h = λ z. z
-unwelcome_put token k n x (Say.LockList rows) h = λ y. y
-unwelcome_put token k n x (Say.Refused code) h = tt

@@ -62,9 +62,6 @@ objects_put_more k e es token n x q =
 
 -- ---- what stays with one exchange more
 
-pub exchanged_later : (e : Exchange) (es : Trace) (ask : Ask) (say : Say) → Exchanged es ask say → Exchanged (e ∷ es) ask say
-exchanged_later e es ask say h = inr h
-
 pub put_done_later : (e : Exchange) (es : Trace) (k : Kind) (n : Name) (x : List ℕ) → PutDone es k n x → PutDone (e ∷ es) k n x
 put_done_later e es k n x h = (h.0, inr h.1)
 

@@ -12,7 +12,7 @@ use Rattle.repo_tree.specs.TreeWriting.{IsSized, AreWritable}
 use Rattle.repo_tree.specs.declared.nodes.Node.{Node}
 use Rattle.repo_backup.specs.Folders.{Folder, nothing, file_then, dir_then, joined, entries_of, nodes_of, IsCutBy}
 use Rattle.repo_backup.specs.Plans.{steps_of, AreWritableBelow, IsWithinDepth, IsLawful}
-use Rattle.repo_backup.specs.declared.steps.Step.{Step}
+use Rattle.repo_backup.specs.declared.steps.WalkStep.{WalkStep}
 
 -- ---- chunks of these lengths
 
@@ -69,11 +69,11 @@ module _ (params : Parameters) (lawful : AreLawful params) where
   recut_steps (file_then name chunks rest) =
       let same = chunks_joined (joined chunks) in
       let more = recut_steps rest in
-      λ i. Step.File name (same i) ∷ more i
+      λ i. WalkStep.File name (same i) ∷ more i
   recut_steps (dir_then name inside rest) =
       let within = recut_steps inside in
       let more = recut_steps rest in
-      λ i. Step.Enter name ∷ within i ++ Step.Leave ∷ more i
+      λ i. WalkStep.Enter name ∷ within i ++ WalkStep.Leave ∷ more i
 
   recut_entries : (folder : Folder) (path : List (List ℕ)) → entries_of path (recut_of folder) ≡ entries_of path folder
   recut_entries nothing path = refl

@@ -1,8 +1,7 @@
 -- The entries that the steps of a folder walk.
-use Rattle.std.proofs.Common.{arith, ◌≡◌, ◌<◌, ◌+◌, ◌-◌, ◌++◌, ◌∷◌, [], ℕ, suc, List, length, take, get_or, Result, Ok, Err, IfOk, OnErr, refl, sym, ap, subst, ◌∙◌, append_assoc, length-append}
+use Rattle.std.proofs.Common.{arith, ◌≡◌, ◌+◌, ◌-◌, ◌++◌, ◌∷◌, [], ℕ, List, length, take, Result, Ok, Err, IfOk, OnErr, refl, sym, ap, subst, ◌∙◌, append_assoc, length-append}
 use Rattle.std.proofs.lemmas.List.{append-nil, take_all, take-append-le}
 use Rattle.std.proofs.lemmas.List.Concat.{flat_map-append}
-use Rattle.std.proofs.Math.Seq.{take-suc}
 use Rattle.repo_index.specs.IndexText.{facts_in}
 use Rattle.repo_index.specs.declared.facts.PackFacts.{PackFacts}
 use Rattle.repo_tree.specs.Spelling.{dir_entry, file_entry}
@@ -14,7 +13,7 @@ use Rattle.repo_backup.specs.Stages.{outer_of, walked, IsBegun}
 use Rattle.repo_backup.specs.Works.{IsWork}
 use Rattle.repo_backup.specs.declared.backing.Backing.{Backing}
 use Rattle.repo_backup.specs.declared.stages.Stage.{Stage}
-use Rattle.repo_backup.specs.declared.steps.Step.{Step}
+use Rattle.repo_backup.specs.declared.steps.WalkStep.{WalkStep}
 use Rattle.repo_backup.specs.declared.works.Work.{Work}
 
 outer_push : (path : List (List ℕ)) (name : List ℕ) → outer_of (path ++ name ∷ []) ≡ path
@@ -23,13 +22,13 @@ outer_push path name =
     ap (λ k. take k (path ++ name ∷ [])) n ∙ take-append-le (length path) path (name ∷ []) (omega arith) ∙ take_all (length path) path (omega arith)
 
 -- the steps of a folder walk its entries
-pub walked_first : (folder : Folder) (path : List (List ℕ)) (more : List Step) → walked path (steps_of folder ++ more) ≡ entries_of path folder ++ walked path more
+pub walked_first : (folder : Folder) (path : List (List ℕ)) (more : List WalkStep) → walked path (steps_of folder ++ more) ≡ entries_of path folder ++ walked path more
 walked_first nothing path more = refl
 walked_first (file_then name chunks rest) path more = ap (λ es. file_entry (path ++ name ∷ []) (joined chunks) ∷ es) (walked_first rest path more)
 walked_first (dir_then name inside rest) path more =
     let p : List (List ℕ) = path ++ name ∷ [] in
-    let apart = append_assoc (steps_of inside) (Step.Leave ∷ steps_of rest) more in
-    let first = walked_first inside p (Step.Leave ∷ steps_of rest ++ more) in
+    let apart = append_assoc (steps_of inside) (WalkStep.Leave ∷ steps_of rest) more in
+    let first = walked_first inside p (WalkStep.Leave ∷ steps_of rest ++ more) in
     let back = ap (λ q. walked q (steps_of rest ++ more)) (outer_push path name) ∙ walked_first rest path more in
     ap (λ es. dir_entry p ∷ es) (ap (λ ss. walked p ss) apart ∙ first ∙ ap (λ es. entries_of p inside ++ es) back ∙ sym (append_assoc (entries_of p inside) (entries_of path rest) (walked path more)))
 
@@ -40,13 +39,6 @@ walked_of folder = ap (λ ss. walked [] ss) (sym (append-nil (steps_of folder)))
 
 flat_length : (xs ys : List PackFacts) → length (facts_in (xs ++ ys)) ≡ length (facts_in xs) + length (facts_in ys)
 flat_length xs ys = ap length (flat_map-append (λ (p : PackFacts). p.facts) xs ys) ∙ length-append (facts_in xs) (facts_in ys)
-
--- the facts of one pack more
-pub facts_more : (packs : List PackFacts) (i : ℕ) (x : PackFacts) → i < length packs → x ≡ get_or packs i x → length (facts_in (take (i + 1) packs)) ≡ length (facts_in (take i packs)) + length x.facts
-facts_more packs i x w is =
-    let s : i + 1 ≡ suc i = omega arith in
-    ap (λ j. length (facts_in (take j packs))) s ∙ ap (λ ps. length (facts_in ps)) (take-suc packs i x w) ∙ ap (λ y. length (facts_in (take i packs ++ y ∷ []))) (sym is)
-    ∙ flat_length (take i packs) (x ∷ []) ∙ ap (λ fs. length (facts_in (take i packs)) + length fs) (append-nil x.facts)
 
 pub facts_push : (packs : List PackFacts) (x : PackFacts) → length (facts_in (packs ++ x ∷ [])) ≡ length (facts_in packs) + length x.facts
 facts_push packs x = flat_length packs (x ∷ []) ∙ ap (λ fs. length (facts_in packs) + length fs) (append-nil x.facts)
@@ -65,7 +57,7 @@ on_both P Q R (Ok x) f h g = tt
 on_both P Q R (Err e) f h g = f h g
 
 -- work over steps that stay the same
-pub begun : (params : Parameters) (steps own : List Step) (b : Backing) (w : Work) → ((known : List Fact) (folder : Folder) → IsLawful folder → IsCutBy params folder → own ≡ steps_of folder → IsWork w known folder [] [])
+pub begun : (params : Parameters) (steps own : List WalkStep) (b : Backing) (w : Work) → ((known : List Fact) (folder : Folder) → IsLawful folder → IsCutBy params folder → own ≡ steps_of folder → IsWork w known folder [] [])
     → w.walk.steps.items ≡ own → own ≡ steps → b.work ≡ w → b.waiting ≡ [] → b.blobs ≡ 0 → b.bytes ≡ 0 → IsBegun params steps b
 begun params steps own b w work kept same is none no_blobs no_bytes = record {
   steps_are = ap (λ (v : Work). v.walk.steps.items) is ∙ kept ∙ same;

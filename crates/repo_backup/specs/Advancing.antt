@@ -11,23 +11,23 @@ use Rattle.repo_backup.specs.Folders.{Folder, nodes_of, blobs_of}
 use Rattle.repo_backup.specs.Plans.{AreTreeTexts}
 use Rattle.repo_backup.specs.Packings.{IsCovered}
 use Rattle.repo_backup.specs.Works.{IsWalkable, IsWalking}
-use Rattle.repo_backup.specs.declared.steps.Step.{Step}
+use Rattle.repo_backup.specs.declared.steps.WalkStep.{WalkStep}
 use Rattle.repo_backup.specs.declared.walks.OpenFile.{OpenFile}
 use Rattle.repo_backup.specs.declared.walks.Walk.{Walk}
 use Rattle.repo_backup.specs.declared.works.Stepped.{Stepped}
 use Rattle.repo_session.specs.Traces.{Each}
 
 -- the step that comes next, if there is one
-abbrev pub next_step : Walk → Option Step
+abbrev pub next_step : Walk → Option WalkStep
 next_step walk = slice_get walk.steps.items walk.at
 
 -- what is left of a file's bytes
-abbrev pub rest_of : Option OpenFile → Option Step → List ℕ
+abbrev pub rest_of : Option OpenFile → Option WalkStep → List ℕ
 rest_of None step = []
 rest_of (Some file) None = []
-rest_of (Some file) (Some (Step.File name bytes)) = drop file.start bytes
-rest_of (Some file) (Some (Step.Enter name)) = []
-rest_of (Some file) (Some Step.Leave) = []
+rest_of (Some file) (Some (WalkStep.File name bytes)) = drop file.start bytes
+rest_of (Some file) (Some (WalkStep.Enter name)) = []
+rest_of (Some file) (Some WalkStep.Leave) = []
 
 -- what is left of the open file
 abbrev pub bytes_left : Walk → List ℕ
@@ -42,19 +42,19 @@ abbrev pub Stays : Walk → Walk → Type 0
 Stays old new = (folder : Folder) (taken : List Item) → IsWalkable old folder → IsWalking old folder taken → IsWalking new folder taken
 
 -- how much work some steps are at most
-abbrev pub work_of : List Step → ℕ
+abbrev pub work_of : List WalkStep → ℕ
 work_of [] = 0
-work_of (Step.File name bytes ∷ steps) = (length bytes + 4) + work_of steps
-work_of (Step.Enter name ∷ steps) = 1 + work_of steps
-work_of (Step.Leave ∷ steps) = 2 + work_of steps
+work_of (WalkStep.File name bytes ∷ steps) = (length bytes + 4) + work_of steps
+work_of (WalkStep.Enter name ∷ steps) = 1 + work_of steps
+work_of (WalkStep.Leave ∷ steps) = 2 + work_of steps
 
 -- and where a file is open
-abbrev pub work_with : Option OpenFile → List Step → ℕ
+abbrev pub work_with : Option OpenFile → List WalkStep → ℕ
 work_with None steps = work_of steps
 work_with (Some file) [] = 1
-work_with (Some file) (Step.File name bytes ∷ steps) = ((length bytes - file.start) + 2) + work_of steps
-work_with (Some file) (Step.Enter name ∷ steps) = 2 + work_of steps
-work_with (Some file) (Step.Leave ∷ steps) = 3 + work_of steps
+work_with (Some file) (WalkStep.File name bytes ∷ steps) = ((length bytes - file.start) + 2) + work_of steps
+work_with (Some file) (WalkStep.Enter name ∷ steps) = 2 + work_of steps
+work_with (Some file) (WalkStep.Leave ∷ steps) = 3 + work_of steps
 
 -- and where a node isn't placed
 abbrev pub work_and : Option Node → ℕ → ℕ

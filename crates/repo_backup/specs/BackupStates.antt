@@ -1,29 +1,23 @@
 -- What is known while a backup is made.
-use Rattle.std.specs.Prelude.{◌≡◌, ◌≢◌, ◌≤◌, ◌<◌, ◌++◌, ◌∷◌, [], ⊤, ℕ, Bool, true, false, cond, List, length, slice_get, Some, None}
-use Rattle.repo_name.specs.Naming as naming
-use Rattle.repo_name.specs.Rows.{IsHost}
+use Rattle.std.specs.Prelude.{◌≡◌, ◌⊎◌, ◌≤◌, ◌<◌, ◌++◌, ◌∷◌, [], ⊤, ℕ, Bool, false, cond, List, length, None}
 use Rattle.repo_name.specs.declared.kinds.Kind.{Kind}
 use Rattle.repo_name.specs.declared.names.Name.{Name}
-use Rattle.repo_name.specs.declared.tokens.Token.{Token}
 use Rattle.repo_chunk.specs.Parameters.{Parameters}
 use Rattle.repo_wire.specs.declared.messages.Ask.{Ask}
-use Rattle.repo_wire.specs.declared.messages.Request.{Request}
 use Rattle.repo_pack.specs.PackLayout.{Item}
 use Rattle.repo_pack.specs.declared.writers.Sealed.{Sealed}
 use Rattle.repo_index.specs.IndexText.{IsIndexText, facts_in}
-use Rattle.repo_index.specs.IndexWriting.{AreLawful, AreFew}
 use Rattle.repo_index.specs.declared.facts.Fact.{Fact}
 use Rattle.repo_index.specs.declared.facts.PackFacts.{PackFacts}
-use Rattle.repo_tree.specs.SnapshotText.{IsSnapshotText}
 use Rattle.repo_tree.specs.declared.entries.Entry.{Entry}
-use Rattle.repo_tree.specs.declared.snapshots.Snapshot.{Snapshot}
-use Rattle.repo_session.specs.Askers.{Asker, asker}
-use Rattle.repo_session.specs.Catalogs.{IsCatalog}
-use Rattle.repo_session.specs.Openings.{Fits, IsReady, task_of}
+use Rattle.repo_session.specs.Askers.{Asker}
+use Rattle.repo_session.specs.Ends.{Concludes}
+use Rattle.repo_session.specs.Jobs.{Rule, MayAsk}
 use Rattle.repo_session.specs.Order.{Task}
+use Rattle.repo_session.specs.Readings.{KnowsIndexes}
 use Rattle.repo_session.specs.Traces.{Trace, objects_put}
 use Rattle.repo_session.specs.declared.catalogs.Catalog.{Catalog}
-use Rattle.repo_session.specs.declared.openings.Opening.{Opening}
+use Rattle.repo_session.specs.declared.jobs.Step.{Step}
 use Rattle.repo_backup.specs.Backing.{Put, items_of, Backs}
 use Rattle.repo_backup.specs.Folders.{Folder, IsCutBy}
 use Rattle.repo_backup.specs.Plans.{IsLawful, steps_of}
@@ -33,46 +27,22 @@ use Rattle.repo_backup.specs.Stages.{handed_in, IsPlanned, IsBegun}
 use Rattle.repo_backup.specs.Works.{IsWork}
 use Rattle.repo_backup.specs.declared.backing.Backing.{Backing}
 use Rattle.repo_backup.specs.declared.backing.Next.{Next}
-use Rattle.repo_backup.specs.declared.sending.Parcel.{Parcel}
 use Rattle.repo_backup.specs.declared.stages.Stage.{Stage}
 
 -- a backup is made under a shared lock
 abbrev pub backup_task : Asker → Task
 backup_task who = record { who = who; exclusive = false; snapshot = None }
 
--- who makes the backup
-abbrev pub who_of : {J : Type 0} → Opening J → Asker
-who_of o = asker o.instance o.host o.time
-
--- the opening fits the trace, under a backup's rule
-abbrev pub BackupFits : Opening Stage → Trace → Type 0
-BackupFits o es = Fits (λ (j : Stage). Allows (handed_in j)) (λ (j : Stage). GivesNothing (handed_in j)) (λ (j : Stage). Ends (handed_in j)) o es
-
--- nothing is pending, and the job goes on
-abbrev pub BackupReady : Opening Stage → Trace → Type 0
-BackupReady o es = IsReady (λ (j : Stage). Allows (handed_in j)) (λ (j : Stage). GivesNothing (handed_in j)) o es
-
--- the indexes: their names as the pages gave them, how many were read, and the facts that they give
-pub record Indexes : Type 0 where
-  pub kind : Kind
-  pub names : List Name
-  pub read : ℕ
-  pub facts : List Fact
-
--- the code's
-abbrev pub indexes_of : Catalog → Indexes
-indexes_of c = record { kind = c.roll.kind; names = c.roll.names.items; read = c.roll.read; facts = c.lookup }
-
--- the last page of them came or didn't
-abbrev pub AreListed : Indexes → Bool → Trace → Type 0
-AreListed i whole es = IsCatalog i.kind i.names i.read i.facts whole es
+-- what a backup of these entries may ask, give out and conclude; a refusal takes it no memory
+abbrev pub backup_rule : List Entry → Rule
+backup_rule entries = record { exclusive = false; snapshot = None; calm = ⊤; allows = Allows entries; gives = GivesNothing entries; concludes = Ends entries }
 
 -- nothing was listed, and the steps of a folder are planned
-pub record IsNew (i : Indexes) (stage : Stage) : Type 0 where
-  pub of_indexes : i.kind ≡ Kind.Index
-  pub no_names : i.names ≡ []
-  pub none_read : i.read ≡ 0
-  pub no_facts : i.facts ≡ []
+pub record IsNew (c : Catalog) (stage : Stage) : Type 0 where
+  pub of_indexes : c.roll.kind ≡ Kind.Index
+  pub no_names : c.roll.names.items ≡ []
+  pub none_read : c.roll.read ≡ 0
+  pub no_facts : c.lookup ≡ []
   pub folder : Folder
   pub lawful : IsLawful folder
   pub planned : IsPlanned stage (steps_of folder)
@@ -123,48 +93,26 @@ pub record PutsSnapshot (entries : List Entry) (facts : List Fact) (b : Backing)
 abbrev pub AtWork : Stage → (Backing → Type 0) → Type 0
 AtWork stage P = (b : Backing) × (stage ≡ Stage.Working b) × P b
 
+-- what is known while the indexes are read: what the catalog knows, and that the work is begun
+abbrev pub KnowsReading : List Entry → Catalog → Stage → Ask → Trace → Type 0
+KnowsReading entries c stage ask es = KnowsIndexes c ask es × AtWork stage (λ b. HasBegun entries b es)
+
+-- what is known while this is put
+abbrev pub KnowsPut : List Entry → List Fact → Stage → Ask → Trace → Type 0
+KnowsPut entries facts stage (Ask.Put token Kind.Pack n x) es = AtWork stage (λ b. PutsPack entries facts b n x es)
+KnowsPut entries facts stage (Ask.Put token Kind.Index n x) es = AtWork stage (λ b. PutsIndex entries facts b x es)
+KnowsPut entries facts stage (Ask.Put token Kind.Snapshot n x) es = AtWork stage (λ b. PutsSnapshot entries facts b es)
+KnowsPut entries facts stage _ es = ⊥
+
 -- what is known where this is pending
-abbrev pub KnowsBackup : List Entry → Indexes → Stage → Ask → Trace → Type 0
-KnowsBackup entries i stage Ask.Ticket es = IsNew i stage
-KnowsBackup entries i stage (Ask.Lock row) es = IsNew i stage
-KnowsBackup entries i stage Ask.Config es = IsNew i stage
-KnowsBackup entries i stage (Ask.List j after) es = (j ≡ Kind.Index) × (i.read ≡ 0) × AreListed i false es × AtWork stage (λ b. HasBegun entries b es)
-KnowsBackup entries i stage (Ask.Get j n) es = (j ≡ Kind.Index) × (slice_get i.names i.read ≡ Some n) × AreListed i true es × AtWork stage (λ b. HasBegun entries b es)
-KnowsBackup entries i stage (Ask.Range pack offset len) es = ⊥
-KnowsBackup entries i stage (Ask.Put token Kind.Pack n x) es = AtWork stage (λ b. PutsPack entries i.facts b n x es)
-KnowsBackup entries i stage (Ask.Put token Kind.Index n x) es = AtWork stage (λ b. PutsIndex entries i.facts b x es)
-KnowsBackup entries i stage (Ask.Put token Kind.Snapshot n x) es = AtWork stage (λ b. PutsSnapshot entries i.facts b es)
-KnowsBackup entries i stage (Ask.Delete token k n) es = ⊥
-KnowsBackup entries i stage _ es = ⊤
+abbrev pub KnowsBackup : List Entry → Catalog → Stage → Ask → Trace → Type 0
+KnowsBackup entries c stage ask es = KnowsReading entries c stage ask es ⊎ KnowsPut entries c.lookup stage ask es
 
--- the task is a backup's, and its host is within its limits
-pub record IsBackupTask (task : Task) : Type 0 where
-  pub task_is : task ≡ backup_task task.who
-  pub host : IsHost task.who.host
-
--- an opening, and the indexes, stand where the trace leaves them
-pub record StandsBackup (o : Opening Stage) (i : Indexes) (es : Trace) : Type 0 where
-  pub task : IsBackupTask (task_of o)
-  pub fits : BackupFits o es
-  pub settled : o.line.next ≡ None → o.line.outcome ≢ None
-  pub knows : (r : Request) → o.line.next ≡ Some r → KnowsBackup (handed_in o.job) i o.job r.ask es
-
--- nothing is pending, and the job goes on
-pub record IsIdleBackup (o : Opening Stage) (es : Trace) : Type 0 where
-  pub task : IsBackupTask (task_of o)
-  pub ready : BackupReady o es
-
--- what no call changes
-pub record KeepsBackup (old new : Opening Stage) : Type 0 where
-  pub handed : handed_in new.job ≡ handed_in old.job
-  pub task : task_of new ≡ task_of old
-
--- nothing changed but the job
-pub record KeepsLine (old new : Opening Stage) : Type 0 where
-  pub kept : KeepsBackup old new
-  pub lock : new.lock ≡ old.lock
-  pub token : new.token ≡ old.token
-  pub line : new.line ≡ old.line
+-- what comes after a trace: this may be asked, or the job may end so
+abbrev pub IsNextStep : List Entry → Asker → (Ask → Trace → Type 0) → Step → Trace → Type 0
+IsNextStep entries who Knows (Step.Ask ask) es = MayAsk (backup_rule entries) who Knows es ask
+IsNextStep entries who Knows (Step.Finish outcome) es = Concludes (Ends entries) es outcome
+IsNextStep entries who Knows Step.Away es = ⊥
 
 -- ---- what is sent next
 
@@ -207,29 +155,6 @@ IsNext entries facts b Next.Nothing es = ⊥
 -- the job is at work, and this is sent next
 abbrev pub IsDueNext : Stage → List Fact → Next → Trace → Type 0
 IsDueNext stage facts next es = AtWork stage (λ b. IsNext (handed_in stage) facts b next es)
-
--- the snapshot of a backup
-abbrev pub snapshot_of : Asker → Token → Name → Snapshot
-snapshot_of who token root = record { host = who.host; time = who.time; token = token; tree = root; version = 1 }
-
--- the text of an index of what waits
-pub record IsIndexOf (waiting : List PackFacts) (x : List ℕ) : Type 0 where
-  pub reads : AreLawful waiting → IsIndexText x waiting
-  pub short : AreFew waiting → length x ≤ 8388608
-
--- what is sent next, with its text
-abbrev pub IsParcelOf : Stage → Asker → Token → Next → Parcel → Type 0
-IsParcelOf stage who token Next.Pack Parcel.Pack = ⊤
-IsParcelOf stage who token Next.Index (Parcel.Index text) = (b : Backing) → stage ≡ Stage.Working b → IsIndexOf b.waiting text
-IsParcelOf stage who token Next.Index Parcel.Nothing = (b : Backing) → stage ≢ Stage.Working b
-IsParcelOf stage who token (Next.Snapshot root) (Parcel.Snapshot text) = IsHost who.host → IsSnapshotText text (snapshot_of who token root)
-IsParcelOf stage who token (Next.Snapshot root) Parcel.Nothing = ¬ IsHost who.host
-IsParcelOf stage who token Next.TooLarge Parcel.TooLarge = ⊤
-IsParcelOf stage who token Next.Nothing Parcel.Nothing = ⊤
-IsParcelOf stage who token _ _ = ⊥
-
-abbrev pub IsParcel : Opening Stage → Next → Parcel → Type 0
-IsParcel o next parcel = IsParcelOf o.job (who_of o) o.token next parcel
 
 -- the work may go on at this trace: where `anew` is set, the packs that waited are indexed
 pub record MayGoOn (entries : List Entry) (facts : List Fact) (anew : Bool) (b : Backing) (es : Trace) : Type 0 where

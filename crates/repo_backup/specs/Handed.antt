@@ -1,23 +1,12 @@
 -- Which entries a backup may be handed, and the first fault of others.
-use Rattle.std.specs.Prelude.{◌≡◌, ◌≢◌, ◌<◌, ◌≤◌, ◌⊎◌, ◌^◌, ◌++◌, ◌∷◌, [], ⊤, ℕ, List, length, Contains, All, IfSome, slice_get, ◌-◌}
-use Rattle.std.specs.Ordering.{nat_cmp}
-use Rattle.std.specs.declared.cmp.Ordering.{Ordering}
-use Rattle.std.specs.Cmp.Lexicographic.{slice_cmp}
+use Rattle.std.specs.Prelude.{◌≡◌, ◌<◌, ◌≤◌, ◌⊎◌, ◌^◌, ◌++◌, ◌∷◌, [], ⊤, ℕ, List, length, Contains, IfSome, slice_get, ◌-◌}
 use Rattle.repo_backup.specs.declared.faults.BackupError.{BackupError}
 use Rattle.repo_backup.specs.declared.faults.BackupError.TheVariants as fault
-use Rattle.repo_tree.specs.Components.{IsComponent}
+use Rattle.repo_tree.specs.Paths.{IsPath, IsBelow}
 use Rattle.repo_tree.specs.Spelling.{dir_entry, greatest_depth}
 use Rattle.repo_tree.specs.declared.entries.Entry.{Entry}
 use Rattle.repo_tree.specs.declared.entries.EntryKind.{EntryKind}
 use Rattle.repo_tree.specs.declared.entries.EntryKind.TheVariants as kind
-
--- a path: one component or more
-abbrev pub IsPath : List (List ℕ) → Type 0
-IsPath path = (path ≢ []) × All IsComponent path
-
--- paths are ordered by their components, and these by their bytes
-abbrev pub IsBelow : List (List ℕ) → List (List ℕ) → Type 0
-IsBelow first second = slice_cmp (slice_cmp nat_cmp) first second ≡ Ordering.Less
 
 -- the path is above that of the last of these entries, if there is one
 abbrev pub StandsAfter : List Entry → List (List ℕ) → Type 0

@@ -23,6 +23,7 @@ use Rattle.repo_session.specs.declared.outcomes.End.{End}
 use Rattle.repo_session.specs.declared.outcomes.Outcome.{Outcome}
 use Rattle.repo_name.specs.declared.rows.LockRow.{LockRow}
 use Rattle.repo_session.specs.Catalogs.{AreIndexed}
+use Rattle.repo_session.specs.Order.{IsReading}
 use Rattle.repo_session.specs.Traces.{Each, Exchange, Trace, Exchanged, Object, objects_put, IsGiven}
 use Rattle.repo_backup.specs.Blobs.{HasItem, AreOnce}
 use Rattle.repo_backup.specs.Folders.{Folder, IsFolderOf, blobs_of}
@@ -105,12 +106,26 @@ pub record SnapshotRule (entries : List Entry) (es : Trace) (token : Token) (x :
   pub spells : Spells (λ k y. Contains (blobs_of folder) (item_of k y)) snapshot.tree [] entries
   pub given : (item : Item) → Contains (blobs_of folder) item → IsGiven es item.kind item.name ⊎ IsIndexed es item.kind item.name
 
--- what a backup may put and delete
+-- what a backup may ask for: it reads, puts by these rules, and deletes nothing
 abbrev pub Allows : List Entry → Trace → Ask → Type 0
 Allows entries es (Ask.Put token Kind.Pack n x) = PackRule entries es x
 Allows entries es (Ask.Put token Kind.Index n x) = IndexRule es x
 Allows entries es (Ask.Put token Kind.Snapshot n x) = SnapshotRule entries es token x
-Allows entries es _ = ⊥
+Allows entries es (Ask.Delete token k n) = ⊥
+Allows entries es ask = IsReading ask
+
+pub may_read : (entries : List Entry) (es : Trace) (ask : Ask) → IsReading ask → Allows entries es ask
+may_read entries es (Ask.List k after) r = r
+may_read entries es (Ask.Get k n) r = r
+may_read entries es (Ask.Range pack offset len) r = r
+may_read entries es Ask.Ticket r = r
+may_read entries es (Ask.Lock row) r = r
+may_read entries es (Ask.Refresh token time) r = r
+may_read entries es (Ask.Unlock token) r = r
+may_read entries es Ask.Locks r = r
+may_read entries es (Ask.Put token k n x) r = absurd r
+may_read entries es (Ask.Delete token k n) r = absurd r
+may_read entries es Ask.Config r = r
 
 -- a pack with its blobs
 pub record Packed : Type 0 where
@@ -142,10 +157,8 @@ pub record IsTooLarge (entries : List Entry) (es : Trace) : Type 0 where
 -- how a backup may end
 abbrev pub Ends : List Entry → Trace → Outcome → Type 0
 Ends entries es (Outcome.Stored name blobs bytes) = IsStored es name blobs bytes
-Ends entries es (Outcome.Complete count) = ⊥
-Ends entries es (Outcome.Listed snapshots) = ⊥
 Ends entries es (Outcome.Ended End.DirectoryTooLarge) = IsTooLarge entries es
-Ends entries es (Outcome.Ended end) = ⊥
+Ends entries es _ = ⊥
 
 -- a backup gives nothing out
 abbrev pub GivesNothing : List Entry → Trace → Exchange → Type 0

@@ -15,18 +15,18 @@ use Rattle.repo_backup.specs.Works.{IsWork}
 use Rattle.repo_backup.specs.declared.backing.Backing.{Backing}
 use Rattle.repo_backup.specs.declared.backing.Next.{Next}
 use Rattle.repo_backup.specs.declared.stages.Stage.{Stage}
-use Rattle.repo_backup.specs.declared.steps.Step.{Step}
+use Rattle.repo_backup.specs.declared.steps.WalkStep.{WalkStep}
 
 -- the directory that holds the one at this path
 abbrev pub outer_of : List (List ℕ) → List (List ℕ)
 outer_of path = take (length path - 1) path
 
 -- the entries that some steps walk, where the directory at this path is open
-abbrev pub walked : List (List ℕ) → List Step → List Entry
+abbrev pub walked : List (List ℕ) → List WalkStep → List Entry
 walked path [] = []
-walked path (Step.File name bytes ∷ steps) = file_entry (path ++ name ∷ []) bytes ∷ walked path steps
-walked path (Step.Enter name ∷ steps) = dir_entry (path ++ name ∷ []) ∷ walked (path ++ name ∷ []) steps
-walked path (Step.Leave ∷ steps) = walked (outer_of path) steps
+walked path (WalkStep.File name bytes ∷ steps) = file_entry (path ++ name ∷ []) bytes ∷ walked path steps
+walked path (WalkStep.Enter name ∷ steps) = dir_entry (path ++ name ∷ []) ∷ walked (path ++ name ∷ []) steps
+walked path (WalkStep.Leave ∷ steps) = walked (outer_of path) steps
 
 -- the entries that a backup was handed
 abbrev pub handed_in : Stage → List Entry
@@ -34,12 +34,12 @@ handed_in (Stage.Planned steps) = walked [] steps.items
 handed_in (Stage.Working b) = walked [] b.work.walk.steps.items
 
 -- these steps are planned, and no work is begun
-abbrev pub IsPlanned : Stage → List Step → Type 0
+abbrev pub IsPlanned : Stage → List WalkStep → Type 0
 IsPlanned (Stage.Planned planned) steps = planned.items ≡ steps
 IsPlanned (Stage.Working b) steps = ⊥
 
 -- the work over these steps, by these parameters, is begun: whatever facts are known, nothing is made or sent, and nothing waits
-pub record IsBegun (params : Parameters) (steps : List Step) (b : Backing) : Type 0 where
+pub record IsBegun (params : Parameters) (steps : List WalkStep) (b : Backing) : Type 0 where
   pub steps_are : b.work.walk.steps.items ≡ steps
   pub work : (known : List Fact) (folder : Folder) → IsLawful folder → IsCutBy params folder → steps ≡ steps_of folder → IsWork b.work known folder [] []
   pub none_waits : b.waiting ≡ []

@@ -6,11 +6,10 @@ use Rattle.repo_pack.specs.PackLayout.{Item, item_of}
 use Rattle.repo_index.specs.declared.facts.Fact.{Fact}
 use Rattle.repo_tree.specs.TreeWriting.{tree_text}
 use Rattle.repo_tree.specs.declared.nodes.Node.{Node}
-use Rattle.repo_tree.specs.declared.nodes.NodeKind.TheVariants.{File}
 use Rattle.repo_backup.specs.Folders.{Folder, nothing, file_then, dir_then, joined, nodes_of, blobs_below, blobs_of, IsCutBy}
 use Rattle.repo_backup.specs.Packings.{IsPacking, IsCovered, all_items}
 use Rattle.repo_backup.specs.Plans.{steps_of, IsLawful, AreTreeTextsBelow, AreTreeTexts}
-use Rattle.repo_backup.specs.declared.steps.Step.{Step}
+use Rattle.repo_backup.specs.declared.steps.WalkStep.{WalkStep}
 use Rattle.repo_backup.specs.declared.walks.OpenFile.{OpenFile}
 use Rattle.repo_backup.specs.declared.walks.Outer.{Outer}
 use Rattle.repo_backup.specs.declared.walks.Walk.{Walk}
@@ -36,9 +35,9 @@ whole_of done left [] = both done left
 whole_of done left (f ∷ fs) = whole_of f.done (dir_then f.name (both done left) f.left) fs
 
 -- the steps that are left
-abbrev pub steps_left : Folder → List Frame → List Step
+abbrev pub steps_left : Folder → List Frame → List WalkStep
 steps_left left [] = steps_of left
-steps_left left (f ∷ fs) = steps_of left ++ Step.Leave ∷ steps_left f.left fs
+steps_left left (f ∷ fs) = steps_of left ++ WalkStep.Leave ∷ steps_left f.left fs
 
 -- the blobs that were made
 abbrev pub blobs_made : Folder → List Frame → List Item

@@ -1,46 +1,18 @@
 //! Which entries may be backed up.
 
 ghost use Rattle.std.specs.Prelude.{◌≡◌, ◌≢◌, ◌<◌, ◌≤◌, ◌↔◌, ◌⊎◌, ◌∷◌, ◌++◌, [], List, ℕ, length, IsTrue, OnOk, IfErr, Contains};
-ghost use Rattle.repo_backup.specs.Handed.{IsPath, IsBelow, StandsAfter, HasParent, IsSmall, MayFollow, AreHanded, NextFault, EntriesFault};
+ghost use Rattle.repo_backup.specs.Handed.{StandsAfter, HasParent, IsSmall, MayFollow, AreHanded, NextFault, EntriesFault};
 ghost use Rattle.repo_tree.specs.Spelling.{greatest_depth};
 
 use crate::faults::BackupError;
 use repo_name::Text;
-use repo_tree::{Entry, EntryKind, is_component};
-use std::cmp::Ordering;
+use repo_tree::{Entry, EntryKind, is_below, is_path};
 
 /// How many components a path has at most.
 const DEEPEST: usize = 100;
 
 /// Files are below this many bytes.
 const FILE_END: usize = 1 << 48;
-
-/// Whether there is a component, and each is one.
-fn is_path(path: &[Text]) -> bool
-    ensures { IsTrue result ↔ IsPath path.now }
-{
-    if path.is_empty() {
-        return false;
-    }
-    path.iter().all(|name| is_component(name.as_str()))
-}
-
-/// Whether a path is below another, by their components, and these by their bytes.
-fn is_below(first: &[Text], second: &[Text]) -> bool
-    ensures { IsTrue result ↔ IsBelow first.now second.now }
-{
-    for (i, name) in first.iter().enumerate() {
-        if i >= second.len() {
-            return false;
-        }
-        match name.as_str().cmp(second[i].as_str()) {
-            Ordering::Less => return true,
-            Ordering::Greater => return false,
-            Ordering::Equal => {}
-        }
-    }
-    first.len() < second.len()
-}
 
 /// Whether a path is above that of the last entry, if there is one.
 fn stands_after(before: &[Entry], path: &[Text]) -> bool

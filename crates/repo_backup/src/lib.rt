@@ -14,7 +14,7 @@
 //! and blobs), `Rules` (what a backup may put, and how it may end); and what is known on the way: `Plans` and `Walking`
 //! (a folder's steps), `Chunks`, `Blobs`, `Packings` and `Listed` (the packs), `Works` and `Advancing` (where the work
 //! stands), `Readying` (what is sent next), `Backing` (what is known of the trace), `Stages`, `BackupStates`, `Backups`
-//! and `BackupObedience` (where the client stands).
+//! and `BackupObedience` (where the job and the client stand).
 #![tactic(auto)]
 
 mod added;
@@ -23,6 +23,7 @@ mod backups;
 mod checks;
 mod chunks;
 mod faults;
+mod jobs;
 mod laws;
 mod packing;
 mod plans;

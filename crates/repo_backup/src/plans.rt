@@ -5,24 +5,24 @@ ghost use Rattle.repo_backup.specs.Handed.{AreHanded};
 ghost use Rattle.repo_backup.specs.Plans.{IsPlan};
 ghost use Rattle.repo_backup.specs.Walking.{step_of, open_after};
 
-use crate::steps::Step;
+use crate::steps::WalkStep;
 use repo_tree::{Entry, EntryKind};
 use std::alloc::{AllocError, Global};
 
 /// Leaves this many directories.
-fn leave(steps: &mut Vec<Step>, count: usize) -> Result<(), AllocError>
-    ensures { OnOk result (steps.new.items ≡ steps.old.items ++ replicate count Step.Leave) }
+fn leave(steps: &mut Vec<WalkStep>, count: usize) -> Result<(), AllocError>
+    ensures { OnOk result (steps.new.items ≡ steps.old.items ++ replicate count WalkStep.Leave) }
 {
     for _ in 0..count {
-        steps.push(Step::Leave)?;
+        steps.push(WalkStep::Leave)?;
     }
     Ok(())
 }
 
 /// Leaves the directories above which the entry lies, and makes its step. Gives how many directories are open then.
-fn walk_to(steps: &mut Vec<Step>, inside: usize, entry: Entry) -> Result<usize, AllocError>
+fn walk_to(steps: &mut Vec<WalkStep>, inside: usize, entry: Entry) -> Result<usize, AllocError>
     ensures { (parent : List (List ℕ)) (name : List ℕ) → entry.path ≡ parent ++ name ∷ [] → IfOk result (λ depth.
-        (steps.new.items ≡ steps.old.items ++ (replicate (inside - length parent) Step.Leave ++ step_of name entry.what ∷ []))
+        (steps.new.items ≡ steps.old.items ++ (replicate (inside - length parent) WalkStep.Leave ++ step_of name entry.what ∷ []))
         × (depth ≡ open_after (length parent) entry.what)) }
 {
     let Entry { path, what } = entry;
@@ -34,18 +34,18 @@ fn walk_to(steps: &mut Vec<Step>, inside: usize, entry: Entry) -> Result<usize, 
     leave(steps, inside.saturating_sub(depth))?;
     match what {
         EntryKind::Dir => {
-            steps.push(Step::Enter(name))?;
+            steps.push(WalkStep::Enter(name))?;
             Ok(depth + 1)
         }
         EntryKind::File(bytes) => {
-            steps.push(Step::File(name, bytes))?;
+            steps.push(WalkStep::File(name, bytes))?;
             Ok(depth)
         }
     }
 }
 
 /// The steps through the folder of these entries, which may be backed up.
-pub fn plan(alloc: Global, entries: Vec<Entry>) -> Result<Vec<Step>, AllocError>
+pub fn plan(alloc: Global, entries: Vec<Entry>) -> Result<Vec<WalkStep>, AllocError>
     requires { AreHanded entries.items }
     ensures { IfOk result (λ steps. IsPlan entries.items steps.items) }
 {

@@ -6,16 +6,15 @@ ghost use Rattle.repo_pack.specs.declared.writers.Sealed.{Sealed};
 ghost use Rattle.repo_index.specs.IndexText.{facts_in};
 ghost use Rattle.repo_backup.specs.Stages.{handed_in, IsPlanned, IsBegun, GoesReady, StaysReady, TakesPack};
 ghost use Rattle.repo_backup.specs.declared.backing.Backing.{Backing};
-ghost use Rattle.repo_backup.specs.declared.steps.Step.{Step};
+ghost use Rattle.repo_backup.specs.declared.steps.WalkStep.{WalkStep};
 ghost use Rattle.repo_backup.specs.declared.stages.Stage.{Stage};
 
 use crate::backing::{Backing, Next};
-use crate::steps::Step;
+use crate::steps::WalkStep;
 use crate::targets::Target;
 use crate::works::Work;
 use repo_index::{Lookup, PackFacts};
 use repo_pack::{Place, Sealed};
-use repo_session::Job;
 use repo_tree::Config;
 use std::alloc::{AllocError, Global};
 use std::mem;
@@ -24,7 +23,7 @@ use std::mem;
 #[derive(Drop)]
 pub enum Stage {
     /// The config isn't known yet; these steps are to be walked.
-    Planned(Vec<Step>),
+    Planned(Vec<WalkStep>),
     /// The work over the steps goes on.
     Working(Backing),
 }
@@ -51,21 +50,10 @@ fn bytes_at(places: &[Place]) -> u64
     bytes
 }
 
-impl Job for Stage {
-    ghost use Rattle.repo_backup.specs.Rules.{Allows, GivesNothing, Ends};
-    ghost use Rattle.repo_backup.specs.Stages.{handed_in};
-
-    ghost allows = { λ j es ask. Allows (handed_in j) es ask };
-
-    ghost gives = { λ j es e. GivesNothing (handed_in j) es e };
-
-    ghost concludes = { λ j es o. Ends (handed_in j) es o };
-}
-
 impl Stage {
     /// Begins the work over the planned steps, by a config. It takes no memory.
-    pub fn begin(&mut self, alloc: Global, config: Config)
-        ensures begun { (steps : List Step) → IsPlanned self.old steps → (b : Backing) × (self.new ≡ Stage.Working b) × IsBegun config.params steps b }
+    pub fn begin(&mut self, alloc: Global, config: &Config)
+        ensures begun { (steps : List WalkStep) → IsPlanned self.old steps → (b : Backing) × (self.new ≡ Stage.Working b) × IsBegun config.now.params steps b }
         ensures handed { handed_in self.new ≡ handed_in self.old }
     {
         let Stage::Planned(steps) = self else {

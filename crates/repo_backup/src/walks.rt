@@ -6,14 +6,14 @@ ghost use Rattle.repo_name.specs.declared.kinds.BlobKind.TheVariants.{Content, T
 ghost use Rattle.repo_pack.specs.PackLayout.{Item, item_of};
 ghost use Rattle.repo_tree.specs.TreeText.{IsTreeText};
 ghost use Rattle.repo_tree.specs.TreeWriting.{tree_text};
-ghost use Rattle.repo_backup.specs.declared.steps.Step.{Step};
+ghost use Rattle.repo_backup.specs.declared.steps.WalkStep.{WalkStep};
 ghost use Rattle.repo_backup.specs.Chunks.{IsFirstChunk};
 ghost use Rattle.repo_backup.specs.Folders.{Folder};
 ghost use Rattle.repo_backup.specs.Works.{IsWalkable, IsWalking};
 ghost use Rattle.repo_backup.specs.Advancing.{next_step, bytes_left, IsSameWay, Stays, work_left};
 
 use crate::chunks::first_chunk;
-use crate::steps::Step;
+use crate::steps::WalkStep;
 use repo_chunk::Params;
 use repo_name::{Name, Names, Text};
 use repo_tree::{Node, NodeKind};
@@ -40,7 +40,7 @@ pub struct OpenFile {
 #[derive(Drop)]
 pub struct Walk {
     pub params: Params,
-    pub steps: Vec<Step>,
+    pub steps: Vec<WalkStep>,
     pub at: usize,
     pub nodes: Vec<Node>,
     pub node: Option<Node>,
@@ -68,7 +68,7 @@ impl Walk {
     /// Begins to cut the file of the next step. It takes no memory.
     pub fn open_file(&mut self, alloc: Global)
         requires file { self.old.file ≡ None }
-        requires step { (name : List ℕ) × (bytes : List ℕ) × (next_step self.old ≡ Some (Step.File name bytes)) }
+        requires step { (name : List ℕ) × (bytes : List ℕ) × (next_step self.old ≡ Some (WalkStep.File name bytes)) }
         ensures walk { Stays self.old self.new }
         ensures same { IsSameWay self.old self.new }
         ensures less { work_left self.new < work_left self.old }
@@ -90,7 +90,7 @@ impl Walk {
         let Some(file) = &self.file else {
             return &[];
         };
-        let Some(Step::File(_, bytes)) = self.steps.get(self.at) else {
+        let Some(WalkStep::File(_, bytes)) = self.steps.get(self.at) else {
             return &[];
         };
         let bytes = bytes.as_slice();
@@ -114,7 +114,7 @@ impl Walk {
         ensures same { IsSameWay self.old self.new }
         ensures less { OnOk result (work_left self.new < work_left self.old) }
     {
-        let Some(Step::File(_, bytes)) = self.steps.get(self.at) else {
+        let Some(WalkStep::File(_, bytes)) = self.steps.get(self.at) else {
             return Ok(());
         };
         let length = bytes.as_slice().len();
@@ -146,7 +146,7 @@ impl Walk {
     {
         prove!(self.params.min() > 0);
         match self.steps.get(self.at) {
-            Some(Step::File(name, bytes)) => {
+            Some(WalkStep::File(name, bytes)) => {
                 let name = name.clone()?;
                 let size = bytes.as_slice().len() as u64;
                 let Some(file) = self.file.take() else {
@@ -160,11 +160,11 @@ impl Walk {
                 self.at += 1;
                 Ok(())
             }
-            Some(Step::Enter(_)) => {
+            Some(WalkStep::Enter(_)) => {
                 self.file = None;
                 Ok(())
             }
-            Some(Step::Leave) => {
+            Some(WalkStep::Leave) => {
                 self.file = None;
                 Ok(())
             }
@@ -179,12 +179,12 @@ impl Walk {
     pub fn enter(&mut self, alloc: Global) -> Result<(), AllocError>
         requires node { self.old.node ≡ None }
         requires file { self.old.file ≡ None }
-        requires step { (name : List ℕ) × (next_step self.old ≡ Some (Step.Enter name)) }
+        requires step { (name : List ℕ) × (next_step self.old ≡ Some (WalkStep.Enter name)) }
         ensures walk { Stays self.old self.new }
         ensures same { IsSameWay self.old self.new }
         ensures less { OnOk result (work_left self.new < work_left self.old) }
     {
-        let Some(Step::Enter(name)) = self.steps.get(self.at) else {
+        let Some(WalkStep::Enter(name)) = self.steps.get(self.at) else {
             return Ok(());
         };
         let name = name.clone()?;
@@ -199,14 +199,14 @@ impl Walk {
     pub fn leave(&mut self, subtree: Name)
         requires node { self.old.node ≡ None }
         requires file { self.old.file ≡ None }
-        requires step { next_step self.old ≡ Some Step.Leave }
+        requires step { next_step self.old ≡ Some WalkStep.Leave }
         ensures walk { (folder : Folder) (taken : List Item) → IsTreeText (tree_text self.old.nodes.items) self.old.nodes.items
             → subtree ≡ naming.name (tree_text self.old.nodes.items) → IsWalking self.old folder taken
             → IsWalking self.new folder (taken ++ item_of Tree (tree_text self.old.nodes.items) ∷ []) }
         ensures same { IsSameWay self.old self.new }
         ensures less { work_left self.new < work_left self.old }
     {
-        let Some(Step::Leave) = self.steps.get(self.at) else {
+        let Some(WalkStep::Leave) = self.steps.get(self.at) else {
             return;
         };
         self.at += 1;

@@ -10,7 +10,7 @@ ghost use Rattle.repo_pack.specs.PackLayout.{Item, item_of};
 ghost use Rattle.repo_pack.specs.PackWriting.{IsOpen};
 ghost use Rattle.repo_tree.specs.TreeText.{IsTreeText};
 ghost use Rattle.repo_tree.specs.TreeWriting.{tree_text};
-ghost use Rattle.repo_backup.specs.declared.steps.Step.{Step};
+ghost use Rattle.repo_backup.specs.declared.steps.WalkStep.{WalkStep};
 ghost use Rattle.repo_backup.specs.Folders.{Folder, IsCutBy, blobs_of};
 ghost use Rattle.repo_backup.specs.Packings.{IsCovered, all_items};
 ghost use Rattle.repo_backup.specs.Plans.{IsLawful, steps_of};
@@ -18,7 +18,7 @@ ghost use Rattle.repo_backup.specs.Works.{IsWork, GoesOn};
 ghost use Rattle.repo_backup.specs.Advancing.{next_step, work_left, IsMade, Tells};
 
 use crate::packing::Packing;
-use crate::steps::Step;
+use crate::steps::WalkStep;
 use crate::targets::Target;
 use crate::walks::Walk;
 use repo_chunk::Params;
@@ -58,7 +58,7 @@ pub struct Work {
 
 impl Work {
     /// Work that hasn't begun, over the steps of a folder. It takes no memory.
-    pub fn new(alloc: Global, params: Params, target: Target, steps: Vec<Step>) -> Work
+    pub fn new(alloc: Global, params: Params, target: Target, steps: Vec<WalkStep>) -> Work
         ensures work { (known : List Fact) (folder : Folder) → IsLawful folder → IsCutBy params folder → steps.items ≡ steps_of folder → IsWork result known folder [] [] }
         ensures steps { result.walk.steps ≡ steps }
     {
@@ -132,15 +132,15 @@ impl Work {
             return Ok(Stepped::On);
         }
         match self.walk.steps.get(self.walk.at) {
-            Some(Step::File(_, _)) => {
+            Some(WalkStep::File(_, _)) => {
                 self.walk.open_file(self.alloc);
                 Ok(Stepped::On)
             }
-            Some(Step::Enter(_)) => {
+            Some(WalkStep::Enter(_)) => {
                 self.walk.enter(self.alloc)?;
                 Ok(Stepped::On)
             }
-            Some(Step::Leave) => self.leave(lookup),
+            Some(WalkStep::Leave) => self.leave(lookup),
             None => self.make_root(lookup),
         }
     }
@@ -194,7 +194,7 @@ impl Work {
         requires room { IsOpen self.old.packing.writer }
         requires node { self.old.walk.node ≡ None }
         requires file { self.old.walk.file ≡ None }
-        requires step { next_step self.old.walk ≡ Some Step.Leave }
+        requires step { next_step self.old.walk ≡ Some WalkStep.Leave }
         ensures work { (folder : Folder) (sent sealed : List Item) → IsWork self.old lookup.now folder sent sealed → IsWork self.new lookup.now folder sent sealed }
         ensures told { IfOk result (λ stepped. (folder : Folder) (sent sealed : List Item) → IsWork self.old lookup.now folder sent sealed
             → Tells lookup.now folder (all_items sent sealed self.new.packing) stepped) }

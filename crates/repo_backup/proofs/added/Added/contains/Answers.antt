@@ -1,6 +1,5 @@
 use Rattle.std.proofs.Common.{rules, ◌≡◌, ◌↔◌, Some, IsTrue, subst, sym}
 use Rattle.repo_name.specs.NameMaps.{found}
-use Rattle.repo_pack.specs.PackLayout.{Item}
 use Rattle.repo_backup.specs.Blobs.{HasItem}
 use Rattle.repo_backup.proofs.added.Added.contains.Goals as goal
 

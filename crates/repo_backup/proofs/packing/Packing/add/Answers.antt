@@ -1,5 +1,5 @@
 use Rattle.std.proofs.Common.{rules, ◌≡◌, ◌++◌, ◌∷◌, [], None, refl, ap, subst, sym, inr, ◌∙◌, append_assoc}
-use Rattle.repo_pack.specs.PackLayout.{Item, item_of}
+use Rattle.repo_pack.specs.PackLayout.{item_of}
 use Rattle.repo_backup.specs.Blobs.{HasItem, AreOnce, HasFact}
 use Rattle.repo_backup.specs.Packings.{Notes, all_items}
 use Rattle.repo_session.specs.Traces.{Each}

@@ -11,6 +11,6 @@ returns-clause-begun c = λ steps planned.
     let same : own ≡ steps = ap (λ v. v.items) c.replace-steps.ensures.value ∙ subst P c.in-Planned.is planned in (
       c.new-2.result,
       refl,
-      begun c.args.config.params steps own c.new-2.result c.new-work.result c.new-work.ensures.work (ap (λ v. v.items) c.new-work.ensures.steps) same
+      begun c.args.config.now.params steps own c.new-2.result c.new-work.result c.new-work.ensures.work (ap (λ v. v.items) c.new-work.ensures.steps) same
           c.new-2.ensures.work c.new-2.ensures.waiting c.new-2.ensures.blobs c.new-2.ensures.bytes,
     )

@@ -2,7 +2,7 @@ use Rattle.std.proofs.Common.{arith, ◌≡◌, ◌+◌, ◌-◌, ◌^◌, lengt
 use Rattle.std.specs.List.{sum_by}
 use Rattle.std.proofs.lemmas.Option.{same_Some}
 use Rattle.repo_pack.specs.declared.places.Place.{Place}
-use Rattle.repo_backup.proofs.Parcels.{took}
+use Rattle.repo_backup.proofs.Outgoing.{took}
 use Rattle.repo_backup.proofs.Staging.{same_working}
 use Rattle.repo_backup.proofs.stages.Stage.take_pack.Goals as goal
 

@@ -2,22 +2,22 @@ use Rattle.std.proofs.Common.{arith, ℕ, List, Option, ◌≤◌, ◌≡◌, le
 use Rattle.repo_tree.specs.declared.nodes.Node.{Node}
 use Rattle.repo_tree.specs.declared.nodes.NodeKind.TheVariants.{File}
 use Rattle.repo_backup.specs.Advancing.{next_step}
-use Rattle.repo_backup.specs.declared.steps.Step.{Step}
+use Rattle.repo_backup.specs.declared.steps.WalkStep.{WalkStep}
 use Rattle.std.proofs.lemmas.Option.{slice_get_within}
 use Rattle.repo_backup.proofs.Standing.{step_here}
 use Rattle.repo_backup.proofs.Moving.{file_next, closed_walk, left_bytes}
 use Rattle.repo_backup.proofs.walks.Walk.close_file.Goals as goal
 
-no_enter : {o : Option Step} {n a b : List ℕ} → o ≡ Some (Step.Enter n) → o ≡ Some (Step.File a b) → ⊥
+no_enter : {o : Option WalkStep} {n a b : List ℕ} → o ≡ Some (WalkStep.Enter n) → o ≡ Some (WalkStep.File a b) → ⊥
 no_enter p q = absurd (cc)
 
-no_leave : {o : Option Step} {a b : List ℕ} → o ≡ Some Step.Leave → o ≡ Some (Step.File a b) → ⊥
+no_leave : {o : Option WalkStep} {a b : List ℕ} → o ≡ Some WalkStep.Leave → o ≡ Some (WalkStep.File a b) → ⊥
 no_leave p q = absurd (cc)
 
 pub returns-in-Some-clause-walk : goal.returns-in-Some-clause-walk
 returns-in-Some-clause-walk c = λ folder taken way h.
     let found = c.in-Some-File.ensures.lookup in
-    let next : next_step c.args.self.now ≡ Some (Step.File c.in-Some-File.name c.in-Some-File.bytes) =
+    let next : next_step c.args.self.now ≡ Some (WalkStep.File c.in-Some-File.name c.in-Some-File.bytes) =
     step_here c.args.self.now.steps.items c.deref.result.now c.args.self.now.at c.in-Some-File.field-0.now _ c.deref.ensures.value found.3.0 found.1 c.in-Some-File.field-0-is in
     let named = c.in_ok-name-in-Some-File.ensures.cases in
     let is : c.args.self.now.file ≡ Some c.in-Some.file = sym c.in-Some.ensures.value in

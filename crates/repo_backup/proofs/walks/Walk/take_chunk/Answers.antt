@@ -1,6 +1,6 @@
 use Rattle.std.proofs.Common.{arith, ◌≡◌, ◌+◌, Some, refl, sym}
 use Rattle.repo_backup.specs.Advancing.{next_step}
-use Rattle.repo_backup.specs.declared.steps.Step.{Step}
+use Rattle.repo_backup.specs.declared.steps.WalkStep.{WalkStep}
 use Rattle.repo_backup.specs.declared.walks.OpenFile.{OpenFile}
 use Rattle.repo_backup.proofs.Standing.{step_here}
 use Rattle.repo_backup.proofs.Moving.{chunk_taken, within_file}
@@ -10,7 +10,7 @@ use Rattle.repo_backup.proofs.walks.Walk.take_chunk.Goals as goal
 pub returns-in-Ok-clause-ok : goal.returns-in-Ok-clause-ok
 returns-in-Ok-clause-ok c = λ folder taken way h.
     let found = c.in-Some-File.ensures.lookup in
-    let next : next_step c.args.self.now ≡ Some (Step.File c.in-Some-File.field-0-0 c.in-Some-File.bytes) =
+    let next : next_step c.args.self.now ≡ Some (WalkStep.File c.in-Some-File.field-0-0 c.in-Some-File.bytes) =
     step_here c.args.self.now.steps.items c.deref.result.now c.args.self.now.at c.in-Some-File.field-0.now _ c.deref.ensures.value found.3.0 found.1 c.in-Some-File.field-0-is in
     let is : c.args.self.now.file ≡ Some c.in-Some.file = sym c.in-Some.ensures.value in
     let file : OpenFile = record { start = c.in-Some.file.start + c.args.size; content = c.push.new.self } in
@@ -19,7 +19,7 @@ returns-in-Ok-clause-ok c = λ folder taken way h.
 pub returns-in-Ok-clause-less : goal.returns-in-Ok-clause-less
 returns-in-Ok-clause-less c =
     let found = c.in-Some-File.ensures.lookup in
-    let next : next_step c.args.self.now ≡ Some (Step.File c.in-Some-File.field-0-0 c.in-Some-File.bytes) =
+    let next : next_step c.args.self.now ≡ Some (WalkStep.File c.in-Some-File.field-0-0 c.in-Some-File.bytes) =
     step_here c.args.self.now.steps.items c.deref.result.now c.args.self.now.at c.in-Some-File.field-0.now _ c.deref.ensures.value found.3.0 found.1 c.in-Some-File.field-0-is in
     let is : c.args.self.now.file ≡ Some c.in-Some.file = sym c.in-Some.ensures.value in
     let file : OpenFile = record { start = c.in-Some.file.start + c.args.size; content = c.push.new.self } in
