@@ -1,7 +1,7 @@
 //! The words for how a job ended.
 
-use repo_name::{Name, Thing};
-use repo_session::{End, Outcome, Snapshots, result_text};
+use repo_name::{Name, Names, Thing};
+use repo_session::{CheckFaults, End, Outcome, Snapshots, result_text};
 use repo_wire::Code;
 use std::alloc::Global;
 
@@ -57,6 +57,31 @@ fn words_of_outcomes(rt: HostRuntime) {
     trial.ends(Outcome::Listed(none), "listed 0");
     trial.tells(None, false, "running");
     trial.tells(None, true, "crashed");
+    assert_eq!(rt; trial.differ, 0);
+}
+
+#[test]
+fn words_of_removals_and_checks(rt: HostRuntime) {
+    let mut trial = Trial {
+        alloc: rt.alloc(),
+        differ: 0,
+    };
+    let none = Names::of(Vec::new(rt.alloc()));
+    trial.ends(Outcome::Forgotten(none), "forgotten 0");
+    let (packs, bytes) = (1, 3);
+    trial.ends(Outcome::Pruned { packs, bytes }, "pruned 1 3");
+    let (snapshots, indexes, packs, blobs) = (1, 4, 2, 15);
+    trial.ends(
+        Outcome::Clean {
+            snapshots,
+            indexes,
+            packs,
+            blobs,
+        },
+        "clean 1 4 2 15",
+    );
+    let none = CheckFaults::of(Vec::new(rt.alloc()));
+    trial.ends(Outcome::Faults(none), "faults 0");
     assert_eq!(rt; trial.differ, 0);
 }
 

@@ -1,1 +1,2 @@
 mod StoredRuns
+mod AloneRuns

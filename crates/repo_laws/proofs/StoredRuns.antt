@@ -49,7 +49,7 @@ pub record PutThen (entries : List Entry) (es : Trace) (token : Token) (x : List
 put_then : (who : Asker) (entries : List Entry) (es : Trace) (token : Token) (n : Name) (x : List ℕ) → Obeys (backup_task who) (Allows entries) (GivesNothing entries) es → WasAsked es (Ask.Put token Kind.Snapshot n x)
     → PutThen entries es token x
 put_then who entries [] token n x o h = absurd h
-put_then who entries (e ∷ es) token n x o (inl here) = record { older = es; rule = subst (λ a. IsPermitted (Allows entries) es a) here o.1; made = λ folder m. is_made_later entries e es folder m }
+put_then who entries (e ∷ es) token n x o (inl here) = record { older = es; rule = subst (λ a. IsPermitted (Allows entries) es a) here o.1 tt; made = λ folder m. is_made_later entries e es folder m }
 put_then who entries (e ∷ es) token n x o (inr before) =
     let p = put_then who entries es token n x o.3 before in
     record { older = p.older; rule = p.rule; made = λ folder m. is_made_later entries e es folder (p.made folder m) }

@@ -1,2 +1,3 @@
 -- The laws that this crate proves.
 pub mod Laws
+pub mod Alone

@@ -1,0 +1,28 @@
+use Rattle.std.proofs.Common.{◌≡◌, ℕ, Option, None, Some, sym, ap, subst, ◌∙◌}
+use Rattle.repo_name.specs.declared.kinds.Kind.{Kind}
+use Rattle.repo_name.specs.declared.names.Name.{Name}
+use Rattle.repo_wire.specs.declared.messages.Request.{Request}
+use Rattle.repo_session.specs.Sessions.{next_in, ended_in}
+use Rattle.repo_session.specs.Talks.{TalkRan, trace_of}
+use Rattle.repo_restore.specs.Restoring.{Wish}
+use Rattle.repo_restore.specs.RestoreObedience.{wish_of, restore_obeys}
+use Rattle.repo_restore.specs.RestoreStates.{FitsRestore}
+use Rattle.repo_restore.specs.Laws.{IsRestore}
+use Rattle.repo_restore.specs.declared.restores.Restore.{Restore}
+use Rattle.repo_laws.proofs.AloneRuns.{at_end_after, restores, if_ok_with}
+use Rattle.repo_laws.proofs.alone.restore_alone.Goals as goal
+
+pub returns : goal.returns
+returns g c =
+    let old = c.args.restore.now in
+    let new = c.lockstep.new.client in
+    let from = g.S.Shelf.store c.args.shelf.now in
+    let to = g.S.Shelf.store c.lockstep.new.shelf in
+    let failed = g.S.Shelf.failed c.args.shelf.now in
+    if_ok_with _ _ c.lockstep.result (λ n e fit asked never.
+    let d = e.1 in
+    let ran : TalkRan from failed d.talk to failed = subst (λ (i : ℕ). TalkRan from failed d.talk to i) never.same d.ran in
+    let is : IsRestore (wish_of new) None (ended_in new.session) (trace_of d.talk) = subst (λ (r : Option Request). IsRestore (wish_of new) r (ended_in new.session) (trace_of d.talk)) d.rests (restore_obeys new (trace_of d.talk) d.fits) in
+    restores (wish_of old) from to failed d.talk (ended_in new.session) asked.0 fit asked.1 never.low ran d.few
+    (subst (λ (w : Wish). IsRestore w None (ended_in new.session) (trace_of d.talk)) c.lockstep.ensures.job is))
+    (at_end_after FitsRestore (λ (r : Restore). next_in r.session) old new c.lockstep.result from to failed (g.S.Shelf.failed c.lockstep.new.shelf) _ _ c.requires.fresh (c.lockstep.ensures.steps c.requires.honest) c.lockstep.ensures.few)

@@ -1,0 +1,102 @@
+//! Jobs that are alone with a shelf, from their beginning to their end.
+
+ghost use Rattle.std.specs.Prelude.{◌≡◌, [], List, Some, IfOk, option_map};
+ghost use Rattle.repo_session.specs.Alone.{IsFit, HasAsked};
+ghost use Rattle.repo_session.specs.Sessions.{ended_in};
+ghost use Rattle.repo_session.specs.Soundness.{IsSound};
+ghost use Rattle.repo_session.specs.declared.emissions.Emission.{Emission};
+ghost use Rattle.repo_backup.specs.Backups.{FitsBackup, handed_to};
+ghost use Rattle.repo_restore.specs.ListStates.{FitsList};
+ghost use Rattle.repo_restore.specs.RestoreObedience.{wish_of};
+ghost use Rattle.repo_restore.specs.RestoreStates.{FitsRestore};
+ghost use Rattle.repo_laws.specs.Alone.{NeverFailed, BacksUp, Restores, Lists, GivesBack};
+
+use repo_backup::Backup;
+use repo_restore::{Restore, SnapshotList};
+use repo_session::{Client, Emission, Outcome, StepError, Who, lockstep};
+use repo_store::Shelf;
+use std::alloc::Global;
+
+/// Makes a new backup over a shelf that nobody else changes meanwhile, as [`lockstep`] does.
+///
+/// On a store in which a client that is alone with it finds all that it wants, where the shelf's device failed in no call
+/// and no two of the byte lists that the backup speaks of have one name, the store is sound at the end, and the backup is
+/// stored, or a directory is too large, or the store had no memory.
+pub fn back_up_alone<S: Shelf>(
+    alloc: Global,
+    backup: &mut Backup,
+    shelf: &mut S,
+) -> Result<u64, StepError>
+    requires honest { S.honest shelf.old }
+    requires fresh { FitsBackup backup.old [] }
+    ensures { IfOk result (λ _. IsFit (S.store shelf.old) → NeverFailed (S.failed shelf.old) (S.failed shelf.new) → BacksUp (handed_to backup.old.session.job) (S.store shelf.old) (S.store shelf.new) (ended_in backup.new.session)) }
+{
+    let mut nothing = Vec::new(alloc);
+    lockstep(alloc, backup, shelf, &mut nothing)
+}
+
+/// Makes a new restore over a shelf that nobody else changes meanwhile, as [`lockstep`] does: what it gives out is
+/// appended.
+///
+/// On a store in which a client that is alone with it finds all that it wants, the snapshot among it, where the shelf's device
+/// failed in no call, the objects stay, and where no two of the byte lists in them have one name the restore is complete, or
+/// the store had no memory.
+pub fn restore_alone<S: Shelf>(
+    alloc: Global,
+    restore: &mut Restore,
+    shelf: &mut S,
+    out: &mut Vec<Emission>,
+) -> Result<u64, StepError>
+    requires honest { S.honest shelf.old }
+    requires fresh { FitsRestore restore.old [] }
+    ensures { IfOk result (λ _. IsFit (S.store shelf.old) → HasAsked (S.store shelf.old) (Some (wish_of restore.old).snapshot) → NeverFailed (S.failed shelf.old) (S.failed shelf.new)
+        → Restores (S.store shelf.old) (S.store shelf.new) (ended_in restore.new.session)) }
+{
+    lockstep(alloc, restore, shelf, out)
+}
+
+/// Makes a new list over a shelf that nobody else changes meanwhile, as [`lockstep`] does.
+///
+/// On a store in which a client that is alone with it finds all that it wants, where the shelf's device failed in no call,
+/// the objects stay, and the snapshots are listed, or the store had no memory.
+pub fn list_alone<S: Shelf>(
+    alloc: Global,
+    list: &mut SnapshotList,
+    shelf: &mut S,
+) -> Result<u64, StepError>
+    requires honest { S.honest shelf.old }
+    requires fresh { FitsList list.old [] }
+    ensures { IfOk result (λ _. IsFit (S.store shelf.old) → NeverFailed (S.failed shelf.old) (S.failed shelf.new) → Lists (S.store shelf.old) (S.store shelf.new) (ended_in list.new.session)) }
+{
+    let mut nothing = Vec::new(alloc);
+    lockstep(alloc, list, shelf, &mut nothing)
+}
+
+/// Makes a new backup over a shelf that nobody else changes meanwhile, and then a restore of what it stored: what that
+/// gave out. `None` where the backup isn't stored or the restore isn't complete.
+///
+/// On a sound store what was given out is what was handed to the backup, unless two of the byte lists that this speaks of
+/// have one name.
+pub fn back_up_and_restore<S: Shelf>(
+    alloc: Global,
+    backup: &mut Backup,
+    who: Who,
+    shelf: &mut S,
+) -> Result<Option<Vec<Emission>>, StepError>
+    requires honest { S.honest shelf.old }
+    requires fresh { FitsBackup backup.old [] }
+    ensures { IfOk result (λ given. IsSound (S.store shelf.old).objects → (emissions : List Emission) → option_map (λ v. v.items) given ≡ Some emissions → GivesBack (handed_to backup.old.session.job) (S.store shelf.old) emissions) }
+{
+    let mut out = Vec::new(alloc);
+    lockstep(alloc, backup, shelf, &mut out)?;
+    let Some(Outcome::Stored { name, .. }) = backup.outcome() else {
+        return Ok(None);
+    };
+    let mut restore = Restore::new(alloc, who, *name);
+    let mut out = Vec::new(alloc);
+    lockstep(alloc, &mut restore, shelf, &mut out)?;
+    match restore.outcome() {
+        Some(Outcome::Complete { .. }) => Ok(Some(out)),
+        _ => Ok(None),
+    }
+}
