@@ -7,6 +7,7 @@ use Rattle.repo_wire.specs.declared.messages.Request.{Request}
 use Rattle.repo_session.specs.declared.outcomes.Outcome.{Outcome}
 use Rattle.repo_session.specs.Clients.{IsObedient}
 use Rattle.repo_session.specs.Order.{Task}
+use Rattle.repo_session.specs.Sessions.{who_in, next_in, ended_in}
 use Rattle.repo_session.specs.Talks.{Said, Drives, trace_of}
 use Rattle.repo_session.specs.Traces.{Exchange, Trace}
 use Rattle.repo_session.specs.Askers.{Asker, asker}
@@ -15,9 +16,8 @@ use Rattle.repo_tree.specs.declared.entries.Entry.{Entry}
 use Rattle.repo_tree.specs.declared.snapshots.Snapshot.{Snapshot}
 use Rattle.repo_backup.specs.BackupObedience.{backup_obeys}
 use Rattle.repo_backup.specs.BackupStates as backing
-use Rattle.repo_backup.specs.Backups.{Handing, FitsBackup}
+use Rattle.repo_backup.specs.Backups.{Handing, FitsBackup, handed_to}
 use Rattle.repo_backup.specs.Rules as backup
-use Rattle.repo_backup.specs.Stages.{handed_in}
 use Rattle.repo_backup.specs.declared.backups.Backup.{Backup}
 use Rattle.repo_restore.specs.Listing.{list_task, ListAllows, ListGives, ListConcludes}
 use Rattle.repo_restore.specs.ListObedience.{list_obeys}
@@ -45,43 +45,43 @@ ended Fits next old new n said a b start contents shown now task Allows Gives Ow
 
 -- a list of snapshots
 pub listed : (caller : Caller) (old new : SnapshotList) (n : ℕ) (said : Said) (a b start contents shown now : Option (List ℕ)) (rows : List (Name × Snapshot))
-    → FitsList old [] → who_of new.opening ≡ vault_asker caller → Consumes a b said.bytes → Drives FitsList (λ (l : SnapshotList). l.opening.line.next) old (Ok n) new said start contents
-    → new.opening.line.outcome ≡ Some (Outcome.Listed rows) → Lists caller rows (streams a start shown) (streams b contents now)
+    → FitsList old [] → who_of new ≡ vault_asker caller → Consumes a b said.bytes → Drives FitsList (λ (l : SnapshotList). next_in l.session) old (Ok n) new said start contents
+    → ended_in new.session ≡ Some (Outcome.Listed rows) → Lists caller rows (streams a start shown) (streams b contents now)
 listed caller old new n said a b start contents shown now rows fits who read d is =
-    let P : Trace → Asker → Type 0 = λ es w. IsObedient (list_task w) (ListAllows w) (ListGives w) (ListConcludes w) new.opening.line.next new.opening.line.outcome es in
+    let P : Trace → Asker → Type 0 = λ es w. IsObedient (list_task w) (ListAllows w) (ListGives w) (ListConcludes w) (next_in new.session) (ended_in new.session) es in
     let w : Asker = vault_asker caller in
-    ended FitsList (λ (l : SnapshotList). l.opening.line.next) old new n said a b start contents shown now (list_task w) (ListAllows w) (ListGives w) (ListConcludes w)
-    new.opening.line.outcome (Outcome.Listed rows) fits read d (λ es f. subst (P es) who (list_obeys new es f)) is
+    ended FitsList (λ (l : SnapshotList). next_in l.session) old new n said a b start contents shown now (list_task w) (ListAllows w) (ListGives w) (ListConcludes w)
+    (ended_in new.session) (Outcome.Listed rows) fits read d (λ es f. subst (P es) who (list_obeys new es f)) is
 
 -- a restore
 pub restored : (caller : Caller) (name : Name) (old new : Restore) (n : ℕ) (said : Said) (a b start contents shown now : Option (List ℕ)) (entries : ℕ)
-    → FitsRestore old [] → wish_of new ≡ vault_wish caller name → Consumes a b said.bytes → Drives FitsRestore (λ (r : Restore). r.opening.line.next) old (Ok n) new said start contents
-    → new.opening.line.outcome ≡ Some (Outcome.Complete entries) → Restores caller name entries (streams a start shown) (streams b contents now)
+    → FitsRestore old [] → wish_of new ≡ vault_wish caller name → Consumes a b said.bytes → Drives FitsRestore (λ (r : Restore). next_in r.session) old (Ok n) new said start contents
+    → ended_in new.session ≡ Some (Outcome.Complete entries) → Restores caller name entries (streams a start shown) (streams b contents now)
 restored caller name old new n said a b start contents shown now entries fits wish read d is =
-    let P : Trace → Wish → Type 0 = λ es w. IsObedient (restore_task w) (RestoreAllows w.snapshot) (RestoreGives w.snapshot) (RestoreConcludes w.snapshot) new.opening.line.next new.opening.line.outcome es in
-    ended FitsRestore (λ (r : Restore). r.opening.line.next) old new n said a b start contents shown now (restore_task (vault_wish caller name)) (RestoreAllows name) (RestoreGives name) (RestoreConcludes name)
-    new.opening.line.outcome (Outcome.Complete entries) fits read d (λ es f. subst (P es) wish (restore_obeys new es f)) is
+    let P : Trace → Wish → Type 0 = λ es w. IsObedient (restore_task w) (RestoreAllows w.snapshot) (RestoreGives w.snapshot) (RestoreConcludes w.snapshot) (next_in new.session) (ended_in new.session) es in
+    ended FitsRestore (λ (r : Restore). next_in r.session) old new n said a b start contents shown now (restore_task (vault_wish caller name)) (RestoreAllows name) (RestoreGives name) (RestoreConcludes name)
+    (ended_in new.session) (Outcome.Complete entries) fits read d (λ es f. subst (P es) wish (restore_obeys new es f)) is
 
 -- what a restore was made for
-pub same_wish : (r : Restore) (caller : Caller) (name : Name) → who_of r.opening ≡ vault_asker caller → r.opening.job.snapshot ≡ name → wish_of r ≡ vault_wish caller name
+pub same_wish : (r : Restore) (caller : Caller) (name : Name) → (wish_of r).who ≡ vault_asker caller → (wish_of r).snapshot ≡ name → wish_of r ≡ vault_wish caller name
 same_wish r caller name who snapshot = λ i. record { who = who i; snapshot = snapshot i }
 
 -- what a backup was made for
 abbrev pub handing_of : Backup → Handing
-handing_of b = record { who = backing.who_of b.opening; entries = handed_in b.opening.job }
+handing_of b = record { who = who_in b.session; entries = handed_to b.session.job }
 
 abbrev pub handing : Caller → List ℕ → List Entry → Handing
 handing caller host entries = record { who = asker caller.instance host caller.time; entries = entries }
 
-pub same_handing : (b : Backup) (caller : Caller) (host : List ℕ) (entries : List Entry) → backing.who_of b.opening ≡ asker caller.instance host caller.time → handed_in b.opening.job ≡ entries
+pub same_handing : (b : Backup) (caller : Caller) (host : List ℕ) (entries : List Entry) → who_in b.session ≡ asker caller.instance host caller.time → handed_to b.session.job ≡ entries
     → handing_of b ≡ handing caller host entries
 same_handing b caller host entries who handed = λ i. record { who = who i; entries = handed i }
 
 -- a backup
 pub stored : (caller : Caller) (host : List ℕ) (entries : List Entry) (old new : Backup) (n : ℕ) (said : Said) (a b start contents shown now : Option (List ℕ)) (name : Name) (blobs bytes : ℕ)
-    → FitsBackup old [] → handing_of new ≡ handing caller host entries → Consumes a b said.bytes → Drives FitsBackup (λ (c : Backup). c.opening.line.next) old (Ok n) new said start contents
-    → new.opening.line.outcome ≡ Some (Outcome.Stored name blobs bytes) → Stores caller host entries name blobs bytes (streams a start shown) (streams b contents now)
+    → FitsBackup old [] → handing_of new ≡ handing caller host entries → Consumes a b said.bytes → Drives FitsBackup (λ (c : Backup). next_in c.session) old (Ok n) new said start contents
+    → ended_in new.session ≡ Some (Outcome.Stored name blobs bytes) → Stores caller host entries name blobs bytes (streams a start shown) (streams b contents now)
 stored caller host entries old new n said a b start contents shown now name blobs bytes fits job read d is =
-    let P : Trace → Handing → Type 0 = λ es j. IsObedient (backing.backup_task j.who) (backup.Allows j.entries) (backup.GivesNothing j.entries) (backup.Ends j.entries) new.opening.line.next new.opening.line.outcome es in
-    ended FitsBackup (λ (c : Backup). c.opening.line.next) old new n said a b start contents shown now (backing.backup_task (asker caller.instance host caller.time)) (backup.Allows entries) (backup.GivesNothing entries) (backup.Ends entries)
-    new.opening.line.outcome (Outcome.Stored name blobs bytes) fits read d (λ es f. subst (P es) job (backup_obeys new es f)) is
+    let P : Trace → Handing → Type 0 = λ es j. IsObedient (backing.backup_task j.who) (backup.Allows j.entries) (backup.GivesNothing j.entries) (backup.Ends j.entries) (next_in new.session) (ended_in new.session) es in
+    ended FitsBackup (λ (c : Backup). next_in c.session) old new n said a b start contents shown now (backing.backup_task (asker caller.instance host caller.time)) (backup.Allows entries) (backup.GivesNothing entries) (backup.Ends entries)
+    (ended_in new.session) (Outcome.Stored name blobs bytes) fits read d (λ es f. subst (P es) job (backup_obeys new es f)) is
