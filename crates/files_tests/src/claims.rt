@@ -1,13 +1,12 @@
 //! Files of others in a folder that is served, and who holds it.
 
 use crate::runs::Shut;
-use crate::yards::{Yard, below};
+use crate::yards::Yard;
 use repo_files::DirShelf;
 use repo_prog::{Status, serve_folder};
+use std::fs;
 use std::io::ErrorKind;
-use std::os::unix::fs::MetadataExt;
-use std::test::Fail;
-use std::{fs, io};
+use std::panic::Expect;
 
 /// A leftover of a form that this program doesn't give any more: a name of 64 digits.
 const OLD: &str = "tmp/ba7816bf8f01cfea414140de5dae2223b00361a396177a9cb410ff61f20015ad";
@@ -18,12 +17,6 @@ fn is_refused(rt: HostRuntime, root: &str, reason: ErrorKind) -> bool {
         Ok(_) => false,
         Err(error) => error.kind() == reason,
     }
-}
-
-/// The file system's number of the file by which a folder is held.
-fn lock_of(rt: HostRuntime, root: &str) -> io::Result<u64> {
-    let path = below(rt.alloc(), root, "lock")?;
-    Ok(fs::metadata(&rt, path.as_str())?.ino())
 }
 
 impl Yard {
@@ -43,6 +36,13 @@ impl Yard {
         self.has("tmp/more/photo.vault-part", "mine");
         self.has("tmp/photo.vault-part.jpg", "mine");
         self.has(OLD, "mine");
+    }
+
+    /// A file gets a second name.
+    fn twins(&mut self, name: &str, twin: &str) {
+        let (from, to) = (self.place(name), self.place(twin));
+        let is_made = fs::hard_link(&self.rt, from.as_str(), to.as_str()).is_ok();
+        self.count(is_made);
     }
 
     /// The server binds, and then can't tell that it listens.
@@ -89,8 +89,8 @@ impl Yard {
 }
 
 #[test]
-fn a_server_removes_its_own_leftovers_alone(rt: HostRuntime) -> Result<(), Fail> {
-    let mut yard = Yard::store(rt, "leftovers")?;
+fn a_server_removes_its_own_leftovers_alone(rt: HostRuntime) {
+    let mut yard = Yard::store(rt, "leftovers").expect(&rt, "no folder");
     yard.fills_tmp();
     yard.tells("vault serve ", " nowhere", "1||not reached\n");
     yard.tells_beside("vault serve ", " 127.0.0.1:0", "1||shelf failed\n");
@@ -99,14 +99,13 @@ fn a_server_removes_its_own_leftovers_alone(rt: HostRuntime) -> Result<(), Fail>
     yard.lacks("tmp/config.vault-part");
     yard.has_tmp();
     yard.holds("tmp", 4);
-    assert_eq!(rt; yard.end(), 0);
-    Ok(())
+    yard.end(&rt);
 }
 
 // `shelf failed` and not `not reached`: the folder is looked at before the address.
 #[test]
-fn a_folder_that_is_no_store_is_not_served(rt: HostRuntime) -> Result<(), Fail> {
-    let mut yard = Yard::empty(rt, "no-store")?;
+fn a_folder_that_is_no_store_is_not_served(rt: HostRuntime) {
+    let mut yard = Yard::empty(rt, "no-store").expect(&rt, "no folder");
     yard.fills_tmp();
     yard.makes("config");
     yard.makes("ledger");
@@ -116,14 +115,13 @@ fn a_folder_that_is_no_store_is_not_served(rt: HostRuntime) -> Result<(), Fail> 
     yard.has_tmp();
     yard.has("tmp/config.vault-part", "half");
     yard.holds("", 3);
-    assert_eq!(rt; yard.end(), 0);
-    Ok(())
+    yard.end(&rt);
 }
 
 // A config alone, and a ledger alone.
 #[test]
-fn a_config_or_a_ledger_makes_a_folder_a_store(rt: HostRuntime) -> Result<(), Fail> {
-    let mut yard = Yard::empty(rt, "either")?;
+fn a_config_or_a_ledger_makes_a_folder_a_store(rt: HostRuntime) {
+    let mut yard = Yard::empty(rt, "either").expect(&rt, "no folder");
     yard.writes("config", "mine");
     yard.opens();
     yard.removes("config");
@@ -133,16 +131,15 @@ fn a_config_or_a_ledger_makes_a_folder_a_store(rt: HostRuntime) -> Result<(), Fa
     yard.has("ledger", "mine");
     yard.has("lock", "");
     yard.holds("", 2);
-    assert_eq!(rt; yard.end(), 0);
-    Ok(())
+    yard.end(&rt);
 }
 
 #[test]
-fn one_server_at_a_time_holds_a_folder(rt: HostRuntime) -> Result<(), Fail> {
-    let mut yard = Yard::store(rt, "held")?;
+fn one_server_at_a_time_holds_a_folder(rt: HostRuntime) {
+    let mut yard = Yard::store(rt, "held").expect(&rt, "no folder");
     yard.writes("lock", "mine");
     yard.writes("tmp/photo.jpg", "mine");
-    let lock = lock_of(rt, yard.root.as_str())?;
+    yard.twins("lock", "twin");
     yard.tells_beside("vault serve ", " 127.0.0.1:0", "1||shelf failed\n");
     yard.tells_beside("vault serve ", " 127.0.0.1:0", "1||shelf failed\n");
     yard.is_held();
@@ -151,8 +148,7 @@ fn one_server_at_a_time_holds_a_folder(rt: HostRuntime) -> Result<(), Fail> {
     yard.binds();
     yard.has("lock", "mine");
     yard.has("tmp/photo.jpg", "mine");
-    let after = lock_of(rt, yard.root.as_str())?;
-    yard.count(lock == after);
-    assert_eq!(rt; yard.end(), 0);
-    Ok(())
+    yard.writes("twin", "still the same file");
+    yard.has("lock", "still the same file");
+    yard.end(&rt);
 }

@@ -1,14 +1,14 @@
 //! A shelf whose machine stops after any of its calls.
 
-use crate::cutting::{Cut, Fuse};
+use crate::cutting::Cut;
+use crate::fuses::Fuse;
 use crate::shelves::number;
 use crate::yards::Yard;
 use repo_files::DirShelf;
 use repo_locks::Ledger;
 use repo_name::{Bytes, Kind, Name, Token, name_of};
 use repo_store::{Shelf, ShelfError};
-use std::io;
-use std::test::Fail;
+use std::panic::Expect;
 
 /// More calls than any of these tests makes.
 pub const ENDLESS: u64 = 1 << 40;
@@ -89,122 +89,140 @@ fn is_whole(found: &Option<Bytes>, bytes: &[u8]) -> bool {
     }
 }
 
-/// A folder in which the changes are made, by a machine that stops.
+/// A shelf that is opened again after so many acknowledged changes, and how much of it isn't as it has to be.
 #[derive(Drop)]
-struct Stops {
-    yard: Yard,
-    /// How many changes were acknowledged the last time, and after how many calls the machine stopped.
+struct Look {
+    shelf: DirShelf<HostRuntime>,
     acknowledged: u64,
-    calls: u64,
+    differ: u64,
 }
 
-impl Stops {
-    fn new(rt: HostRuntime, test: &str) -> io::Result<Stops> {
-        let mut yard = Yard::new(rt, test)?;
-        let is_made = made(rt, yard.root.as_str(), ENDLESS);
-        yard.count(is_made);
-        Ok(Stops {
-            yard,
-            acknowledged: 0,
-            calls: 0,
-        })
-    }
-
-    /// Makes the shelf what it was when it was made.
-    fn clears(&mut self) {
-        let (rt, root) = (self.yard.rt, self.yard.root.as_str());
-        let fuse = Fuse::new(rt.alloc(), ENDLESS);
-        let is_cleared = match DirShelf::open(Cut::new(rt, &fuse), root) {
-            Ok(mut shelf) => clear(&mut shelf, &Ledger::new(rt.alloc())).is_ok(),
-            Err(_) => false,
-        };
-        self.yard.count(is_cleared);
-    }
-
-    /// The machine stops after so many calls; the shelf is opened again, and looked at.
-    fn stops_after(&mut self, calls: u64) {
-        self.clears();
-        self.acknowledged = stopped(self.yard.rt, self.yard.root.as_str(), calls);
-        self.calls = calls;
-        match DirShelf::open(self.yard.rt, self.yard.root.as_str()) {
-            Ok(mut shelf) => {
-                shelf.clean();
-                self.looks(&mut shelf);
-            }
-            Err(_) => self.yard.count(false),
+impl Look {
+    fn count(&mut self, is_so: bool) {
+        if !is_so {
+            self.differ = self.differ.saturating_add(1);
         }
-        self.yard.has("tmp/photo.jpg", "mine");
-        self.yard.holds("tmp", 1);
-    }
-
-    /// It stops after each number of calls, until all changes are acknowledged: six of some calls each.
-    fn stops_everywhere(&mut self) {
-        for calls in 0..1000u64 {
-            if self.acknowledged < CHANGES {
-                self.stops_after(calls);
-            }
-        }
-        let is_done = self.acknowledged == CHANGES && self.calls > 30;
-        self.yard.count(is_done);
-    }
-
-    /// A shelf is as it has to be after the acknowledged changes.
-    fn looks<S: Shelf>(&mut self, shelf: &mut S) {
-        self.finds(shelf, Kind::Index, b"abc", 1);
-        self.finds(shelf, Kind::Pack, b"a second one", 4);
-        self.finds_removed(shelf);
-        self.finds_configured(shelf);
-        self.finds_numbered(shelf);
-        self.yard.count(shelf.failures() == 0);
     }
 
     /// The object that a change puts is there as it has to be.
-    fn finds<S: Shelf>(&mut self, shelf: &mut S, kind: Kind, bytes: &[u8], change: u64) {
-        let is_so = match shelf.get(kind, &name_of(bytes)) {
+    fn finds(&mut self, kind: Kind, bytes: &[u8], change: u64) {
+        let is_so = match self.shelf.get(kind, &name_of(bytes)) {
             Ok(found) => {
                 is_whole(&found, bytes) && is_due(self.acknowledged, change, found.is_some())
             }
             Err(_) => false,
         };
-        self.yard.count(is_so);
+        self.count(is_so);
     }
 
     /// So is the pack that is put first and removed last.
-    fn finds_removed<S: Shelf>(&mut self, shelf: &mut S) {
-        let is_so = match shelf.get(Kind::Pack, &first()) {
+    fn finds_removed(&mut self) {
+        let is_so = match self.shelf.get(Kind::Pack, &first()) {
             Ok(None) => self.acknowledged == 0 || self.acknowledged >= CHANGES - 1,
             Ok(found) => is_whole(&found, b"abc") && self.acknowledged < CHANGES,
             Err(_) => false,
         };
-        self.yard.count(is_so);
+        self.count(is_so);
     }
 
-    /// So is the config. It is removed, so that the next time has none at first.
-    fn finds_configured<S: Shelf>(&mut self, shelf: &mut S) {
-        let is_so = match shelf.config() {
+    /// So is the config.
+    fn finds_configured(&mut self) {
+        let is_so = match self.shelf.config() {
             Ok(found) => is_whole(&found, b"{}") && is_due(self.acknowledged, 3, found.is_some()),
             Err(_) => false,
         };
-        self.yard.count(is_so);
-        self.yard.drops("config");
+        self.count(is_so);
     }
 
     /// So is the ledger.
-    fn finds_numbered<S: Shelf>(&mut self, shelf: &mut S) {
-        let is_so = match number(shelf) {
+    fn finds_numbered(&mut self) {
+        let is_so = match number(&mut self.shelf) {
             Ok(Token(2)) => self.acknowledged >= 2,
             Ok(Token(1)) => self.acknowledged <= 2,
             _ => false,
         };
-        self.yard.count(is_so);
+        self.count(is_so);
+    }
+
+    /// How much isn't as it has to be.
+    fn differing(mut self) -> u64 {
+        self.shelf.clean();
+        self.finds(Kind::Index, b"abc", 1);
+        self.finds(Kind::Pack, b"a second one", 4);
+        self.finds_removed();
+        self.finds_configured();
+        self.finds_numbered();
+        let failures = self.shelf.failures();
+        self.count(failures == 0);
+        self.differ
+    }
+}
+
+/// Whether the shelf in a folder is as it has to be after so many acknowledged changes.
+fn is_as_due(rt: HostRuntime, root: &str, acknowledged: u64) -> bool {
+    let Ok(shelf) = DirShelf::open(rt, root) else {
+        return false;
+    };
+    let look = Look {
+        shelf,
+        acknowledged,
+        differ: 0,
+    };
+    look.differing() == 0
+}
+
+/// Whether the shelf in a folder is made what it was when it was made.
+fn is_cleared(rt: HostRuntime, root: &str) -> bool {
+    let fuse = Fuse::new(rt.alloc(), ENDLESS);
+    match DirShelf::open(Cut::new(rt, &fuse), root) {
+        Ok(mut shelf) => clear(&mut shelf, &Ledger::new(rt.alloc())).is_ok(),
+        Err(_) => false,
+    }
+}
+
+impl Yard {
+    /// The shelf is made what it was when it was made.
+    fn is_cleared(&mut self) {
+        self.drops("config");
+        let is_cleared = is_cleared(self.rt, self.root.as_str());
+        self.count(is_cleared);
+    }
+
+    /// The shelf is opened again, and is as it has to be after so many acknowledged changes.
+    fn is_as_due(&mut self, acknowledged: u64) {
+        let is_so = is_as_due(self.rt, self.root.as_str(), acknowledged);
+        self.count(is_so);
+        self.has("tmp/photo.jpg", "mine");
+        self.holds("tmp", 1);
+    }
+
+    /// The machine stops after so many calls: how many changes were acknowledged.
+    fn stops_after(&mut self, calls: u64) -> u64 {
+        self.is_cleared();
+        let acknowledged = stopped(self.rt, self.root.as_str(), calls);
+        self.is_as_due(acknowledged);
+        acknowledged
+    }
+
+    /// It stops after each number of calls, until all changes are acknowledged: six of some calls each.
+    fn stops_everywhere(&mut self) {
+        let (mut acknowledged, mut last) = (0u64, 0u64);
+        for calls in 0..1000u64 {
+            if acknowledged < CHANGES {
+                acknowledged = self.stops_after(calls);
+                last = calls;
+            }
+        }
+        self.count(acknowledged == CHANGES && last > 30);
     }
 }
 
 #[test]
-fn a_machine_that_stops_keeps_what_was_acknowledged(rt: HostRuntime) -> Result<(), Fail> {
-    let mut stops = Stops::new(rt, "stops")?;
-    stops.yard.writes("tmp/photo.jpg", "mine");
-    stops.stops_everywhere();
-    assert_eq!(rt; stops.yard.end(), 0);
-    Ok(())
+fn a_machine_that_stops_keeps_what_was_acknowledged(rt: HostRuntime) {
+    let mut yard = Yard::new(rt, "stops").expect(&rt, "no folder");
+    let is_made = made(rt, yard.root.as_str(), ENDLESS);
+    yard.count(is_made);
+    yard.writes("tmp/photo.jpg", "mine");
+    yard.stops_everywhere();
+    yard.end(&rt);
 }

@@ -1,140 +1,43 @@
 //! A file system that is cut off after some calls, for tests.
 
+use crate::fuses::{Fuse, Trick, What};
 use repo_files::HoldFile;
 use std::alloc::{Allocator, Global};
-use std::cell::{Cell, RefCell};
-use std::fs::{Files, Metadata, OpenFile, OpenOptions};
+use std::fs::{File, Files, Metadata, OpenFile, OpenOptions};
+use std::io;
 use std::io::{ErrorKind, Read, Seek, SeekFrom, Write};
-use std::{io, mem};
-
-/// What a call does.
-#[derive(Clone, Copy, PartialEq, Eq)]
-pub enum What {
-    /// It reads, or tries to make a folder, and changes nothing.
-    Look,
-    /// It makes a folder.
-    Make,
-    /// It opens a file, or a folder.
-    Open,
-    /// It writes to a file.
-    Write,
-    /// It syncs a file or a folder.
-    Sync,
-    /// A file leaves its place for another.
-    Leave,
-    /// A file comes from another place.
-    Come,
-    /// It removes a file.
-    Remove,
-}
-
-/// A call that was passed on, and the path that it was about.
-#[derive(Drop)]
-pub struct Step {
-    pub what: What,
-    pub path: String,
-}
-
-/// What a file system does besides.
-#[derive(Clone, Copy)]
-pub enum Trick {
-    /// Nothing.
-    None,
-    /// Each folder lists a name that isn't UTF-8, besides its own.
-    OddName,
-    /// Where a file is opened, another one has come in its place, whose name has `-other` behind it.
-    OtherFile,
-}
-
-/// How many calls are still passed on, and those that were.
-#[derive(Drop)]
-pub struct Fuse {
-    trick: Trick,
-    left: Cell<u64>,
-    steps: RefCell<Vec<Step>>,
-    alloc: Global,
-}
-
-impl Fuse {
-    /// So many calls are passed on.
-    pub(crate) fn new(alloc: Global, left: u64) -> Fuse {
-        Fuse {
-            trick: Trick::None,
-            left: Cell::new(left),
-            steps: RefCell::new(Vec::new(alloc)),
-            alloc,
-        }
-    }
-
-    /// All calls are passed on, by a file system that plays a trick.
-    pub(crate) fn playing(alloc: Global, trick: Trick) -> Fuse {
-        Fuse {
-            trick,
-            left: Cell::new(u64::MAX),
-            steps: RefCell::new(Vec::new(alloc)),
-            alloc,
-        }
-    }
-
-    /// Lets one call pass, and notes what it does; once none is left it fails.
-    fn burn(&self, what: What, path: &str) -> io::Result<()> {
-        let Some(left) = self.left.get().checked_sub(1) else {
-            return Err(io::Error::from(ErrorKind::Other));
-        };
-        self.left.set(left);
-        self.note(what, path)
-    }
-
-    /// Notes what a call does.
-    fn note(&self, what: What, path: &str) -> io::Result<()> {
-        let path = String::from_str(self.alloc, path)?;
-        if let Ok(mut steps) = self.steps.try_borrow_mut() {
-            steps.push(Step { what, path })?;
-        }
-        Ok(())
-    }
-
-    /// The calls since the last time.
-    pub(crate) fn steps(&self) -> Vec<Step> {
-        let none = Vec::new(self.alloc);
-        match self.steps.try_borrow_mut() {
-            Ok(mut steps) => mem::replace(&mut steps, none),
-            Err(_) => none,
-        }
-    }
-}
 
 /// A file system that passes calls on until its fuse has burnt down.
 #[derive(Clone, Drop)]
-pub struct Cut<'a, R> {
-    inner: R,
+pub struct Cut<'a> {
+    inner: HostRuntime,
     fuse: &'a Fuse,
 }
 
-impl<'a, R> Cut<'a, R> {
+impl<'a> Cut<'a> {
     /// This file system, until the fuse has burnt down.
-    pub(crate) fn new(inner: R, fuse: &'a Fuse) -> Cut<'a, R> {
+    pub(crate) fn new(inner: HostRuntime, fuse: &'a Fuse) -> Cut<'a> {
         Cut { inner, fuse }
     }
 }
 
 /// A file of a [`Cut`]. Its syncs are noted, and not made.
 #[derive(Drop)]
-pub struct CutFile<'a, F> {
-    inner: F,
+pub struct CutFile<'a> {
+    inner: File,
     path: String,
     fuse: &'a Fuse,
 }
 
 /// A listing of a [`Cut`].
 #[derive(Drop)]
-pub struct CutDir<D> {
-    inner: D,
+pub struct CutDir {
+    inner: <HostRuntime as Files>::Dir,
     /// The name that isn't UTF-8 is still to come.
     is_odd: bool,
 }
 
-impl<D: Read> Read for CutDir<D> {
+impl Read for CutDir {
     fn read(&mut self, buffer: &mut [u8]) -> io::Result<usize> {
         let odd = b"\xff\0";
         if !self.is_odd || buffer.len() < odd.len() {
@@ -146,14 +49,14 @@ impl<D: Read> Read for CutDir<D> {
     }
 }
 
-impl<'a, F: Read> Read for CutFile<'a, F> {
+impl Read for CutFile<'_> {
     fn read(&mut self, buffer: &mut [u8]) -> io::Result<usize> {
         self.fuse.burn(What::Look, self.path.as_str())?;
         self.inner.read(buffer)
     }
 }
 
-impl<'a, F: Write> Write for CutFile<'a, F> {
+impl Write for CutFile<'_> {
     fn write(&mut self, buffer: &[u8]) -> io::Result<usize> {
         self.fuse.burn(What::Write, self.path.as_str())?;
         self.inner.write(buffer)
@@ -164,13 +67,13 @@ impl<'a, F: Write> Write for CutFile<'a, F> {
     }
 }
 
-impl<'a, F: Seek> Seek for CutFile<'a, F> {
+impl Seek for CutFile<'_> {
     fn seek(&mut self, to: SeekFrom) -> io::Result<u64> {
         self.inner.seek(to)
     }
 }
 
-impl<'a, F: OpenFile> OpenFile for CutFile<'a, F> {
+impl OpenFile for CutFile<'_> {
     fn metadata(&self) -> io::Result<Metadata> {
         self.fuse.burn(What::Look, self.path.as_str())?;
         self.inner.metadata()
@@ -190,27 +93,27 @@ impl<'a, F: OpenFile> OpenFile for CutFile<'a, F> {
     }
 }
 
-impl<'a, F: HoldFile> HoldFile for CutFile<'a, F> {
+impl HoldFile for CutFile<'_> {
     fn try_hold(&self) -> io::Result<()> {
         self.fuse.burn(What::Look, self.path.as_str())?;
         self.inner.try_hold()
     }
 }
 
-impl<'a, R: Alloc> Alloc for Cut<'a, R> {
-    type A = R::A;
+impl Alloc for Cut<'_> {
+    type A = Global;
 
-    fn alloc(&self) -> R::A {
+    fn alloc(&self) -> Global {
         self.inner.alloc()
     }
 }
 
-impl<'a, R: Files> Files for Cut<'a, R> {
-    type File = CutFile<'a, R::File>;
+impl<'a> Files for Cut<'a> {
+    type File = CutFile<'a>;
 
-    type Dir = CutDir<R::Dir>;
+    type Dir = CutDir;
 
-    fn open_file(&self, how: &OpenOptions, path: &str) -> io::Result<CutFile<'a, R::File>> {
+    fn open_file(&self, how: &OpenOptions, path: &str) -> io::Result<CutFile<'a>> {
         self.fuse.burn(What::Open, path)?;
         let mut path = String::from_str(self.fuse.alloc, path)?;
         if matches!(self.fuse.trick, Trick::OtherFile) {
@@ -224,7 +127,7 @@ impl<'a, R: Files> Files for Cut<'a, R> {
         })
     }
 
-    fn open_dir(&self, path: &str) -> io::Result<CutDir<R::Dir>> {
+    fn open_dir(&self, path: &str) -> io::Result<CutDir> {
         self.fuse.burn(What::Look, path)?;
         let inner = self.inner.open_dir(path)?;
         Ok(CutDir {

@@ -1,7 +1,7 @@
 //! A folder that is scanned, stored in a store on disk, and restored into another.
 
 use crate::runs::{kept, small_config};
-use crate::yards::{Yard, below};
+use crate::yards::{Yard, text_or_none};
 use repo_backup::Backup;
 use repo_files::{DirShelf, Restorer, Scan, scan};
 use repo_name::{Instance, Name};
@@ -10,7 +10,7 @@ use repo_session::{Client, Emission, Outcome, Who, lockstep};
 use repo_store::{Shelf, init};
 use repo_tree::{Entry, EntryKind};
 use std::alloc::{AllocError, Global};
-use std::test::Fail;
+use std::panic::Expect;
 
 /// Directories, deep ones and empty ones, with those above them.
 const FOLDERS: [&str; 3] = ["from/a/b/c d/e", "from/empty", "from/Grüße"];
@@ -70,30 +70,37 @@ fn who(alloc: Global, number: u8) -> Result<Who, AllocError> {
     kept(Who::new(alloc, Instance([number; 16]), "a", 5))
 }
 
-/// A backup of entries.
-fn backup_of(alloc: Global, entries: Vec<Entry>) -> Result<Backup, AllocError> {
-    let who = who(alloc, 1)?;
-    kept(Backup::new(alloc, who, entries))
+/// A backup of what a folder holds.
+fn backup_of(rt: HostRuntime, folder: &str) -> Result<Backup, AllocError> {
+    let who = who(rt.alloc(), 1)?;
+    let found = found(rt, folder)?;
+    kept(Backup::new(rt.alloc(), who, found.entries))
 }
 
-/// Stores the entries, and gives the snapshot's name.
-fn store<S: Shelf>(alloc: Global, backup: &mut Backup, shelf: &mut S) -> Result<Name, AllocError> {
-    kept(lockstep(alloc, backup, shelf, &mut Vec::new(alloc)))?;
-    match backup.outcome() {
+/// Answers all that a client asks: what it gave out.
+fn answered<C: Client>(
+    alloc: Global,
+    client: &mut C,
+    shelf: &mut DirShelf<HostRuntime>,
+) -> Result<Vec<Emission>, AllocError> {
+    let mut out = Vec::new(alloc);
+    match lockstep(alloc, client, shelf, &mut out) {
+        Ok(_) => Ok(out),
+        Err(_) => Err(AllocError),
+    }
+}
+
+/// The name of the snapshot that a client has stored.
+fn name_of<C: Client>(client: &C) -> Result<Name, AllocError> {
+    match client.outcome() {
         Some(Outcome::Stored { name, .. }) => Ok(*name),
         _ => Err(AllocError),
     }
 }
 
-/// What a restore of a snapshot gives out.
-fn given<S: Shelf>(alloc: Global, name: Name, shelf: &mut S) -> Result<Vec<Emission>, AllocError> {
-    let mut restore = Restore::new(alloc, who(alloc, 2)?, name);
-    let mut out = Vec::new(alloc);
-    kept(lockstep(alloc, &mut restore, shelf, &mut out))?;
-    match restore.outcome() {
-        Some(Outcome::Complete { .. }) => Ok(out),
-        _ => Err(AllocError),
-    }
+/// Whether a client has given out all.
+fn is_complete<C: Client>(client: &C) -> bool {
+    matches!(client.outcome(), Some(Outcome::Complete { .. }))
 }
 
 /// Makes a store in a folder.
@@ -104,51 +111,47 @@ fn made(rt: HostRuntime, root: &str) -> Result<DirShelf<HostRuntime>, AllocError
     Ok(shelf)
 }
 
-/// Stores what a folder holds on a shelf.
-fn stored<S: Shelf>(rt: HostRuntime, from: &str, shelf: &mut S) -> Result<Name, AllocError> {
-    let found = found(rt, from)?;
-    let mut backup = backup_of(rt.alloc(), found.entries)?;
-    store(rt.alloc(), &mut backup, shelf)
+/// Stores what a folder holds on a shelf, and gives the snapshot's name.
+fn stored(
+    rt: HostRuntime,
+    from: &str,
+    shelf: &mut DirShelf<HostRuntime>,
+) -> Result<Name, AllocError> {
+    let mut backup = backup_of(rt, from)?;
+    answered(rt.alloc(), &mut backup, shelf)?;
+    name_of(&backup)
 }
 
-/// Restores a snapshot into a folder: whether all parts were taken.
-fn restored<S: Shelf>(
+/// What a restore of a snapshot gives out, and whether that is all.
+fn given(
     rt: HostRuntime,
     name: Name,
-    shelf: &mut S,
-    to: &str,
-) -> Result<bool, AllocError> {
-    let parts = given(rt.alloc(), name, shelf)?;
-    let mut restorer = kept(Restorer::new(rt, to))?;
+    shelf: &mut DirShelf<HostRuntime>,
+) -> Result<(Vec<Emission>, bool), AllocError> {
+    let mut restore = Restore::new(rt.alloc(), who(rt.alloc(), 2)?, name);
+    let parts = answered(rt.alloc(), &mut restore, shelf)?;
+    Ok((parts, is_complete(&restore)))
+}
+
+/// Writes parts into a folder: whether all were taken.
+fn are_written(rt: HostRuntime, parts: &[Emission], to: &str) -> bool {
+    let Ok(mut restorer) = Restorer::new(rt, to) else {
+        return false;
+    };
     let mut are_taken = true;
     for part in parts {
-        are_taken &= restorer.write(&part);
+        are_taken &= restorer.write(part);
     }
-    Ok(are_taken)
+    are_taken
 }
 
-/// Stores the folder `from` in a new store, and restores it into `to`: all of them below this one.
-fn round_trip(rt: HostRuntime, root: &str) -> Result<bool, AllocError> {
-    let (from, to) = (
-        below(rt.alloc(), root, "from")?,
-        below(rt.alloc(), root, "to")?,
-    );
-    let mut shelf = made(rt, below(rt.alloc(), root, "store")?.as_str())?;
-    let name = stored(rt, from.as_str(), &mut shelf)?;
-    let is_restored = restored(rt, name, &mut shelf, to.as_str())?;
-    Ok(is_restored && shelf.failures() == 0)
-}
-
-/// The lines of a folder below another.
-fn lines_below(rt: HostRuntime, root: &str, name: &str) -> Result<String, AllocError> {
-    let folder = below(rt.alloc(), root, name)?;
-    lines_of(rt, folder.as_str())
-}
-
-/// Whether the folders `from` and `to` hold the same, so many entries.
-fn are_same(rt: HostRuntime, root: &str, entries: usize) -> Result<bool, AllocError> {
-    let (from, to) = (lines_below(rt, root, "from")?, lines_below(rt, root, "to")?);
-    Ok(from == to && from.as_str().lines().count() == entries)
+/// Stores a folder in a new store in another, and restores it into a third.
+fn round_trip(rt: HostRuntime, from: &str, store: &str, to: &str) -> Result<bool, AllocError> {
+    let mut shelf = made(rt, store)?;
+    let name = stored(rt, from, &mut shelf)?;
+    let (parts, is_whole) = given(rt, name, &mut shelf)?;
+    let are_written = are_written(rt, parts.as_slice(), to);
+    Ok(is_whole && are_written && shelf.failures() == 0)
 }
 
 impl Yard {
@@ -162,20 +165,28 @@ impl Yard {
 
     /// The folder `from` is stored, and restored into `to`.
     fn goes_round(&mut self) {
-        let is_so = matches!(round_trip(self.rt, self.root.as_str()), Ok(true));
+        let (from, to, store) = (self.place("from"), self.place("to"), self.place("store"));
+        let is_so = round_trip(self.rt, from.as_str(), store.as_str(), to.as_str()) == Ok(true);
         self.count(is_so);
     }
 
     /// The folders `from` and `to` hold the same, so many entries.
     fn is_same(&mut self, entries: usize) {
-        let is_so = matches!(are_same(self.rt, self.root.as_str(), entries), Ok(true));
-        self.count(is_so);
+        let (from, to) = (self.lines("from"), self.lines("to"));
+        self.count(from == to);
+        self.count(from.as_str().lines().count() == entries);
+    }
+
+    /// What a folder below this one holds.
+    fn lines(&self, name: &str) -> String {
+        let lines = lines_of(self.rt, self.place(name).as_str());
+        text_or_none(self.rt.alloc(), lines)
     }
 }
 
 #[test]
-fn a_folder_stored_and_restored_is_the_same(rt: HostRuntime) -> Result<(), Fail> {
-    let mut yard = Yard::empty(rt, "folder")?;
+fn a_folder_stored_and_restored_is_the_same(rt: HostRuntime) {
+    let mut yard = Yard::empty(rt, "folder").expect(&rt, "no folder");
     for name in FOLDERS {
         yard.makes(name);
     }
@@ -187,6 +198,5 @@ fn a_folder_stored_and_restored_is_the_same(rt: HostRuntime) -> Result<(), Fail>
     yard.is_same(13);
     yard.has("to/a/with a space", "abc");
     yard.has("to/Grüße/海.txt", "ä, ö, 海");
-    assert_eq!(rt; yard.end(), 0);
-    Ok(())
+    yard.end(&rt);
 }

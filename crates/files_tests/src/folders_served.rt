@@ -1,14 +1,14 @@
 //! Folders that are served, over sockets, and the words that serve them.
 
 use crate::runs::{Run, TICKET, TOKEN, words_of};
-use crate::sockets::{DEVICE, SECOND, answer, client};
+use crate::sockets::{DEVICE, SECOND, answer, client, taken_port};
 use crate::yards::Yard;
 use repo_prog::{Order, order_of, serve_folder};
 use std::alloc::{AllocError, Global};
 use std::io;
 use std::io::Write;
 use std::net::{OpenListener, Shutdown, SocketAddr, TcpListener, TcpStream};
-use std::test::Fail;
+use std::panic::Expect;
 use std::time::Duration;
 
 /// An output that calls back: when it is told that the server listens, it connects to it and asks.
@@ -107,11 +107,16 @@ fn idle_of(alloc: Global, words: &str) -> Result<Option<Option<Duration>>, Alloc
     }
 }
 
-/// Listens at a free port of the loopback, and gives it as a word.
-fn taken_port(rt: HostRuntime) -> io::Result<(TcpListener, String)> {
-    let taken = TcpListener::bind(&rt, "127.0.0.1:0")?;
-    let word = format!(in rt.alloc(); " {}", taken.local_addr()?)?;
-    Ok((taken, word))
+/// Serves a folder to a caller of these bytes in hexadecimal: what was told, and the reply.
+fn asked(
+    rt: HostRuntime,
+    root: &str,
+    digits: &str,
+    is_last: bool,
+    idle: Option<Duration>,
+) -> io::Result<String> {
+    let mut caller = asking(rt, digits, is_last)?;
+    served(&mut caller, root, idle)
 }
 
 impl Yard {
@@ -129,11 +134,7 @@ impl Yard {
         told: &str,
         reply: &str,
     ) {
-        let served = match asking(self.rt, digits, is_last) {
-            Ok(mut caller) => served(&mut caller, self.root.as_str(), idle),
-            Err(error) => Err(error),
-        };
-        let is_so = match served {
+        let is_so = match asked(self.rt, self.root.as_str(), digits, is_last, idle) {
             Ok(text) => text.as_str().strip_prefix(told) == Some(reply),
             Err(_) => false,
         };
@@ -157,73 +158,67 @@ impl Yard {
 
 // The second ticket is token 2, since the folder kept the first.
 #[test]
-fn a_folder_is_served(rt: HostRuntime) -> Result<(), Fail> {
-    let mut yard = Yard::store(rt, "served")?;
+fn a_folder_is_served(rt: HostRuntime) {
+    let mut yard = Yard::store(rt, "served").expect(&rt, "no folder");
     yard.serves(TICKET, "0|listening\n|", TOKEN);
     yard.serves(TICKET, "0|listening\n|", SECOND);
-    assert_eq!(rt; yard.end(), 0);
-    Ok(())
+    yard.end(&rt);
 }
 
 #[test]
-fn a_folder_is_served_to_who_makes_no_sense(rt: HostRuntime) -> Result<(), Fail> {
-    let mut yard = Yard::store(rt, "no-sense")?;
+fn a_folder_is_served_to_who_makes_no_sense(rt: HostRuntime) {
+    let mut yard = Yard::store(rt, "no-sense").expect(&rt, "no folder");
     yard.serves("00000018", "1|listening\n|malformed\n", "");
     yard.serves("0000", "1|listening\n|malformed\n", "");
-    assert_eq!(rt; yard.end(), 0);
-    Ok(())
+    yard.end(&rt);
 }
 
 // A ledger that makes no sense, and one that isn't there: code 10.
 #[test]
-fn a_store_without_its_ledger_is_served(rt: HostRuntime) -> Result<(), Fail> {
-    let mut yard = Yard::store(rt, "no-ledger")?;
+fn a_store_without_its_ledger_is_served(rt: HostRuntime) {
+    let mut yard = Yard::store(rt, "no-ledger").expect(&rt, "no folder");
     yard.writes("ledger", "no ledger");
     yard.serves(TICKET, "0|listening\n|", DEVICE);
     yard.has("ledger", "no ledger");
     yard.removes("ledger");
     yard.serves(TICKET, "0|listening\n|", DEVICE);
     yard.lacks("ledger");
-    assert_eq!(rt; yard.end(), 0);
-    Ok(())
+    yard.end(&rt);
 }
 
 #[test]
-fn a_silent_client_of_a_folder_is_ended(rt: HostRuntime) -> Result<(), Fail> {
-    let mut yard = Yard::store(rt, "silent")?;
+fn a_silent_client_of_a_folder_is_ended(rt: HostRuntime) {
+    let mut yard = Yard::store(rt, "silent").expect(&rt, "no folder");
     let idle = Some(Duration::from_millis(200));
     yard.serves_within("", false, idle, "1|listening\n|read failed\n", "");
     yard.serves_within(TICKET, false, idle, "1|listening\n|read failed\n", TOKEN);
     yard.serves_within(TICKET, true, idle, "0|listening\n|", SECOND);
-    assert_eq!(rt; yard.end(), 0);
-    Ok(())
+    yard.end(&rt);
 }
 
 // A word that is no address, and an address at which another one listens.
 #[test]
-fn addresses_that_cannot_be_listened_to(rt: HostRuntime) -> Result<(), Fail> {
-    let mut yard = Yard::store(rt, "addresses")?;
+fn addresses_that_cannot_be_listened_to(rt: HostRuntime) {
+    let mut yard = Yard::store(rt, "addresses").expect(&rt, "no folder");
     yard.tells("vault serve ", " nowhere", "1||not reached\n");
     yard.serves_nowhere();
-    assert_eq!(rt; yard.end(), 0);
-    Ok(())
+    yard.end(&rt);
 }
 
 // A file in a folder's place, and a folder that isn't there.
 #[test]
-fn folders_that_are_none(rt: HostRuntime) -> Result<(), Fail> {
-    let mut yard = Yard::store(rt, "none")?;
+fn folders_that_are_none(rt: HostRuntime) {
+    let mut yard = Yard::store(rt, "none").expect(&rt, "no folder");
     yard.tells("vault init ", "/config", "1||shelf failed\n");
     yard.tells("vault serve ", "/config 127.0.0.1:0", "1||shelf failed\n");
     yard.tells("vault serve ", "/away 127.0.0.1:0", "1||shelf failed\n");
     yard.lacks("away");
-    assert_eq!(rt; yard.end(), 0);
-    Ok(())
+    yard.end(&rt);
 }
 
 #[test]
-fn words_tell_how_long_a_connection_may_idle(rt: HostRuntime) -> Result<(), Fail> {
-    let mut yard = Yard::empty(rt, "idle-words")?;
+fn words_tell_how_long_a_connection_may_idle(rt: HostRuntime) {
+    let mut yard = Yard::empty(rt, "idle-words").expect(&rt, "no folder");
     yard.idles("vault serve x y", Some(Some(Duration::from_secs(21_600))));
     yard.idles("vault serve x y --idle 0", Some(None));
     yard.idles(
@@ -235,6 +230,5 @@ fn words_tell_how_long_a_connection_may_idle(rt: HostRuntime) -> Result<(), Fail
     yard.idles("vault serve x y --idle 18446744073709551616", None);
     yard.idles("vault serve x y --idle -1", None);
     yard.idles("vault serve x y --idle soon", None);
-    assert_eq!(rt; yard.end(), 0);
-    Ok(())
+    yard.end(&rt);
 }

@@ -1,7 +1,7 @@
 //! Commands for which there is no memory at some moment. The tests hold whichever one growth is refused: a command is then
 //! done all the same, or it has failed and told why.
 
-use crate::replies::{FILE_TREE, TREE, bytes, frames, granted, name_text, one_file, snapshot};
+use crate::replies::{FILE_TREE, Replies, TREE, granted, name_text, one_file, snapshot};
 use crate::runs::{CALLER, Run};
 use repo_name::{Token, name_of};
 use repo_prog::{
@@ -62,9 +62,9 @@ fn listed(alloc: Global) -> Result<String, AllocError> {
 
 /// What `refresh` tells where it is done.
 fn refreshed(alloc: Global) -> Result<String, AllocError> {
-    let mut says = Vec::new(alloc);
-    says.push(Say::Done)?;
-    let replies = frames(alloc, says)?;
+    let mut replies = Replies::new(alloc);
+    replies.says(Say::Done);
+    let replies = replies.frames()?;
     let mut reader = Slow {
         left: replies.as_slice(),
     };
@@ -76,7 +76,7 @@ fn refreshed(alloc: Global) -> Result<String, AllocError> {
 
 /// What a backup of nothing tells.
 fn backed_up(alloc: Global) -> Result<String, AllocError> {
-    let replies = frames(alloc, granted(alloc, 4)?)?;
+    let replies = granted(alloc, 4)?;
     let mut reader = Slow {
         left: replies.as_slice(),
     };
@@ -96,8 +96,7 @@ fn is_stored(alloc: Global) -> Result<bool, AllocError> {
 
 /// What a restore of one file tells.
 fn given_out(alloc: Global) -> Result<String, AllocError> {
-    let says = one_file(alloc, bytes(alloc, "abc")?)?;
-    let replies = frames(alloc, says)?;
+    let replies = one_file(alloc)?;
     let name = name_of(snapshot(alloc, FILE_TREE)?.as_bytes());
     let mut reader = replies.as_slice();
     let mut run = Run::new(alloc);

@@ -1,13 +1,14 @@
 //! A store that is made on a machine that stops, and what is on the disk once a call is acknowledged.
 
 use crate::cuts::{CHANGES, ENDLESS, change, made};
-use crate::cutting::{Cut, Fuse, Step, What};
+use crate::cutting::Cut;
+use crate::fuses::{Fuse, Step, What};
 use crate::shelves::number;
-use crate::yards::{Yard, below};
+use crate::yards::Yard;
 use repo_files::DirShelf;
 use repo_name::{Kind, Token, name_of};
 use repo_store::Shelf;
-use std::test::Fail;
+use std::panic::Expect;
 use std::{fs, io};
 
 /// Whether a making is tried that stops after so many calls of all that it makes. The folders of packs are
@@ -91,9 +92,9 @@ impl Yard {
 }
 
 #[test]
-fn a_making_that_stops_is_made_whole(rt: HostRuntime) -> Result<(), Fail> {
-    let mut yard = Yard::new(rt, "making")?;
-    let all = calls_of_making(rt, yard.root.as_str())?;
+fn a_making_that_stops_is_made_whole(rt: HostRuntime) {
+    let mut yard = Yard::new(rt, "making").expect(&rt, "no folder");
+    let all = calls_of_making(rt, yard.root.as_str()).unwrap_or(0);
     yard.count(all > 256);
     for calls in 0..all {
         if is_tried(calls, all) {
@@ -101,8 +102,7 @@ fn a_making_that_stops_is_made_whole(rt: HostRuntime) -> Result<(), Fail> {
         }
     }
     yard.makes("");
-    assert_eq!(rt; yard.end(), 0);
-    Ok(())
+    yard.end(&rt);
 }
 
 /// The path of the folder in which a path stands.
@@ -167,12 +167,11 @@ fn try_changes(yard: &mut Yard, root: &str) {
 }
 
 #[test]
-fn what_is_acknowledged_is_on_the_disk(rt: HostRuntime) -> Result<(), Fail> {
-    let mut yard = Yard::new(rt, "lasting")?;
-    let root = below(rt.alloc(), yard.root.as_str(), "above/shelf")?;
+fn what_is_acknowledged_is_on_the_disk(rt: HostRuntime) {
+    let mut yard = Yard::new(rt, "lasting").expect(&rt, "no folder");
+    let root = yard.place("above/shelf");
     try_changes(&mut yard, root.as_str());
-    assert_eq!(rt; yard.end(), 0);
-    Ok(())
+    yard.end(&rt);
 }
 
 /// Puts, and removals, each twice.
@@ -186,11 +185,9 @@ fn try_twice(yard: &mut Yard, root: &str, folder: &str) {
 }
 
 #[test]
-fn a_second_try_syncs_what_a_first_one_left(rt: HostRuntime) -> Result<(), Fail> {
-    let mut yard = Yard::new(rt, "second")?;
-    let root = yard.root.clone()?;
-    let folder = below(rt.alloc(), root.as_str(), "index")?;
+fn a_second_try_syncs_what_a_first_one_left(rt: HostRuntime) {
+    let mut yard = Yard::new(rt, "second").expect(&rt, "no folder");
+    let (root, folder) = (yard.place("shelf"), yard.place("shelf/index"));
     try_twice(&mut yard, root.as_str(), folder.as_str());
-    assert_eq!(rt; yard.end(), 0);
-    Ok(())
+    yard.end(&rt);
 }

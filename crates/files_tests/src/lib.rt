@@ -17,11 +17,15 @@ mod folders;
 #[cfg(test)]
 mod folders_served;
 #[cfg(test)]
+mod fuses;
+#[cfg(test)]
 mod growth;
 #[cfg(test)]
 mod lasting;
 #[cfg(test)]
 mod making;
+#[cfg(test)]
+mod meddling;
 #[cfg(test)]
 mod new_stores;
 #[cfg(test)]

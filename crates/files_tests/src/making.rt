@@ -1,34 +1,21 @@
 //! `vault init`, in folders in which something is.
 
-use crate::runs::{kept, told};
-use crate::yards::{Yard, below, text_at};
+use crate::yards::Yard;
 use repo_files::DirShelf;
-use std::alloc::AllocError;
+use std::alloc::Global;
+use std::fs;
 use std::fs::File;
-use std::test::Fail;
-use std::{fs, io};
+use std::panic::Expect;
 
 const FAILED: &str = "1||shelf failed\n";
 
-/// Opens the file by which a folder is held.
-fn lock_at(rt: HostRuntime, root: &str) -> io::Result<File> {
-    let path = below(rt.alloc(), root, "lock")?;
-    File::open(&rt, path.as_str())
-}
-
-/// Removes an empty folder from a folder.
-fn remove_folder(rt: HostRuntime, root: &str, name: &str) -> io::Result<()> {
-    let path = below(rt.alloc(), root, name)?;
-    fs::remove_dir(&rt, path.as_str())
-}
-
-/// Makes a store: whether the instance told, of 32 digits, is that of its config.
-fn is_instance_told(rt: HostRuntime, root: &str, words: &str) -> Result<bool, AllocError> {
-    let told = told(rt, "vault init ", root, words)?;
-    let config = kept(text_at(rt, root, "config"))?;
-    let id = config.as_str().split('"').nth(9).unwrap_or("");
-    let wanted = format!(in rt.alloc(); "0|created {id}\n|")?;
-    Ok(id.len() == 32 && told.as_str() == wanted.as_str())
+/// Whether the instance told, of 32 digits, is that of a config.
+fn is_instance_told(alloc: Global, told: &str, config: &str) -> bool {
+    let id = config.split('"').nth(9).unwrap_or("");
+    match format!(in alloc; "0|created {id}\n|") {
+        Ok(wanted) => id.len() == 32 && told == wanted.as_str(),
+        Err(_) => false,
+    }
 }
 
 impl Yard {
@@ -47,13 +34,13 @@ impl Yard {
         self.tells("vault init ", "", FAILED);
         self.holds(name, 0);
         self.holds("", 1);
-        let is_removed = remove_folder(self.rt, self.root.as_str(), name).is_ok();
+        let is_removed = fs::remove_dir(&self.rt, self.place(name).as_str()).is_ok();
         self.count(is_removed);
     }
 
     /// No store is made while somebody else holds the folder's lock.
     fn tells_locked(&mut self, wanted: &str) {
-        match lock_at(self.rt, self.root.as_str()) {
+        match File::open(&self.rt, self.place("lock").as_str()) {
             Ok(file) => {
                 self.count(file.try_lock().is_ok());
                 self.tells("vault init ", "", wanted);
@@ -71,16 +58,17 @@ impl Yard {
 
     /// A store is made, and the instance told is that of its config.
     fn tells_instance(&mut self, words: &str) {
-        let is_so = matches!(
-            is_instance_told(self.rt, self.root.as_str(), words),
-            Ok(true)
-        );
+        let told = self.told("vault init ", words);
+        let is_so = match self.text("config") {
+            Ok(config) => is_instance_told(self.rt.alloc(), told.as_str(), config.as_str()),
+            Err(_) => false,
+        };
         self.count(is_so);
     }
 
     /// The config's text begins so, and ends so.
     fn is_configured(&mut self, first: &str, last: &str) {
-        let is_so = match text_at(self.rt, self.root.as_str(), "config") {
+        let is_so = match self.text("config") {
             Ok(text) => text.as_str().starts_with(first) && text.as_str().ends_with(last),
             Err(_) => false,
         };
@@ -89,8 +77,8 @@ impl Yard {
 }
 
 #[test]
-fn files_of_others_beside_a_new_store_stay(rt: HostRuntime) -> Result<(), Fail> {
-    let mut yard = Yard::empty(rt, "beside")?;
+fn files_of_others_beside_a_new_store_stay(rt: HostRuntime) {
+    let mut yard = Yard::empty(rt, "beside").expect(&rt, "no folder");
     yard.makes("data/deep/empty");
     yard.makes("photos");
     yard.writes("photos/one.jpg", "mine");
@@ -102,36 +90,33 @@ fn files_of_others_beside_a_new_store_stay(rt: HostRuntime) -> Result<(), Fail> 
     yard.has("lock", "");
     yard.holds("tmp", 0);
     yard.holds("", 9);
-    assert_eq!(rt; yard.end(), 0);
-    Ok(())
+    yard.end(&rt);
 }
 
 #[test]
-fn names_of_a_store_that_are_taken_refuse_it(rt: HostRuntime) -> Result<(), Fail> {
-    let mut yard = Yard::empty(rt, "taken")?;
+fn names_of_a_store_that_are_taken_refuse_it(rt: HostRuntime) {
+    let mut yard = Yard::empty(rt, "taken").expect(&rt, "no folder");
     for name in ["data", "index", "snapshots", "tmp"] {
         yard.refuses_file(name);
     }
     yard.refuses_folder("ledger");
     yard.refuses_folder("lock");
-    assert_eq!(rt; yard.end(), 0);
-    Ok(())
+    yard.end(&rt);
 }
 
 #[test]
-fn files_under_tmp_refuse_a_store(rt: HostRuntime) -> Result<(), Fail> {
-    let mut yard = Yard::empty(rt, "tmp-taken")?;
+fn files_under_tmp_refuse_a_store(rt: HostRuntime) {
+    let mut yard = Yard::empty(rt, "tmp-taken").expect(&rt, "no folder");
     yard.makes("tmp/more");
     for file in ["tmp/photo.jpg", "tmp/more/photo.vault-part"] {
         yard.refuses_file(file);
     }
-    assert_eq!(rt; yard.end(), 0);
-    Ok(())
+    yard.end(&rt);
 }
 
 #[test]
-fn files_under_data_refuse_a_store(rt: HostRuntime) -> Result<(), Fail> {
-    let mut yard = Yard::empty(rt, "data-taken")?;
+fn files_under_data_refuse_a_store(rt: HostRuntime) {
+    let mut yard = Yard::empty(rt, "data-taken").expect(&rt, "no folder");
     yard.makes("data/aa/bb");
     for file in [
         "data/photo.vault-part",
@@ -140,14 +125,13 @@ fn files_under_data_refuse_a_store(rt: HostRuntime) -> Result<(), Fail> {
     ] {
         yard.refuses_file(file);
     }
-    assert_eq!(rt; yard.end(), 0);
-    Ok(())
+    yard.end(&rt);
 }
 
 // A link to a folder, and one to nothing: what they lead to stays as it is.
 #[test]
-fn links_at_names_of_a_store_refuse_it(rt: HostRuntime) -> Result<(), Fail> {
-    let mut yard = Yard::empty(rt, "linked")?;
+fn links_at_names_of_a_store_refuse_it(rt: HostRuntime) {
+    let mut yard = Yard::empty(rt, "linked").expect(&rt, "no folder");
     yard.makes("away");
     yard.links("data", "away");
     yard.tells("vault init ", "", FAILED);
@@ -160,14 +144,13 @@ fn links_at_names_of_a_store_refuse_it(rt: HostRuntime) -> Result<(), Fail> {
     yard.holds("away", 0);
     yard.lacks("nothing");
     yard.holds("", 2);
-    assert_eq!(rt; yard.end(), 0);
-    Ok(())
+    yard.end(&rt);
 }
 
 // With a half ledger that was being written; and with a ledger, where the config is missing.
 #[test]
-fn a_making_that_was_cut_off_is_made_again(rt: HostRuntime) -> Result<(), Fail> {
-    let mut yard = Yard::empty(rt, "again-made")?;
+fn a_making_that_was_cut_off_is_made_again(rt: HostRuntime) {
+    let mut yard = Yard::empty(rt, "again-made").expect(&rt, "no folder");
     for name in ["tmp", "data/00", "data/01", "index"] {
         yard.makes(name);
     }
@@ -180,13 +163,12 @@ fn a_making_that_was_cut_off_is_made_again(rt: HostRuntime) -> Result<(), Fail> 
     yard.writes("tmp/photo.jpg", "mine");
     yard.begins("vault init ", "", "0|created ");
     yard.has("tmp/photo.jpg", "mine");
-    assert_eq!(rt; yard.end(), 0);
-    Ok(())
+    yard.end(&rt);
 }
 
 #[test]
-fn whatever_a_config_is_there_is_a_store(rt: HostRuntime) -> Result<(), Fail> {
-    let mut yard = Yard::empty(rt, "exists")?;
+fn whatever_a_config_is_there_is_a_store(rt: HostRuntime) {
+    let mut yard = Yard::empty(rt, "exists").expect(&rt, "no folder");
     yard.makes("tmp");
     yard.writes("tmp/photo.vault-part", "mine");
     yard.writes("config", "mine");
@@ -198,13 +180,12 @@ fn whatever_a_config_is_there_is_a_store(rt: HostRuntime) -> Result<(), Fail> {
     yard.tells("vault init ", "", "1||exists\n");
     yard.has("tmp/photo.vault-part", "mine");
     yard.holds("", 2);
-    assert_eq!(rt; yard.end(), 0);
-    Ok(())
+    yard.end(&rt);
 }
 
 #[test]
-fn a_folder_that_is_held_is_made_no_store(rt: HostRuntime) -> Result<(), Fail> {
-    let mut yard = Yard::empty(rt, "made-held")?;
+fn a_folder_that_is_held_is_made_no_store(rt: HostRuntime) {
+    let mut yard = Yard::empty(rt, "made-held").expect(&rt, "no folder");
     yard.writes("lock", "");
     yard.tells_locked(FAILED);
     yard.holds("", 1);
@@ -214,13 +195,12 @@ fn a_folder_that_is_held_is_made_no_store(rt: HostRuntime) -> Result<(), Fail> {
     yard.makes_beside(FAILED);
     yard.lacks("config");
     yard.begins("vault init ", "", "0|created ");
-    assert_eq!(rt; yard.end(), 0);
-    Ok(())
+    yard.end(&rt);
 }
 
 #[test]
-fn a_store_is_made_with_its_numbers_once(rt: HostRuntime) -> Result<(), Fail> {
-    let mut yard = Yard::new(rt, "numbers")?;
+fn a_store_is_made_with_its_numbers_once(rt: HostRuntime) {
+    let mut yard = Yard::new(rt, "numbers").expect(&rt, "no folder");
     let words = " --min 64 --max 128 --bits 6 --target 1024";
     yard.tells_instance(words);
     yard.is_configured(
@@ -228,17 +208,15 @@ fn a_store_is_made_with_its_numbers_once(rt: HostRuntime) -> Result<(), Fail> {
         "\",\"pack_target\":1024,\"version\":1}",
     );
     yard.tells("vault init ", words, "1||exists\n");
-    assert_eq!(rt; yard.end(), 0);
-    Ok(())
+    yard.end(&rt);
 }
 
 #[test]
-fn a_store_is_made_without_numbers(rt: HostRuntime) -> Result<(), Fail> {
-    let mut yard = Yard::store(rt, "defaults")?;
+fn a_store_is_made_without_numbers(rt: HostRuntime) {
+    let mut yard = Yard::store(rt, "defaults").expect(&rt, "no folder");
     yard.is_configured(
         "{\"chunk_bits\":20,\"chunk_max\":8388608,\"chunk_min\":524288,",
         ",\"pack_target\":16777216,\"version\":1}",
     );
-    assert_eq!(rt; yard.end(), 0);
-    Ok(())
+    yard.end(&rt);
 }

@@ -6,6 +6,7 @@ use repo_prog::{Status, init_command};
 use repo_store::{Fail, FaultShelf, MemShelf, Shelf};
 use std::alloc::{AllocError, Global};
 use std::io::Write;
+use std::process::Abort;
 
 const CREATED: &str = "0|created abababababababababababababababab\n|";
 
@@ -46,6 +47,11 @@ impl Trial {
         }
     }
 
+    /// Ends the test, which fails where something wasn't as wanted.
+    fn end(&self, rt: &impl Abort) {
+        assert_eq!(rt; self.differ, 0);
+    }
+
     fn count(&mut self, is_so: bool) {
         if !is_so {
             self.differ = self.differ.saturating_add(1);
@@ -82,7 +88,7 @@ fn init_tells_the_instance(rt: HostRuntime) {
     let mut trial = Trial::new(rt.alloc());
     trial.tells(CREATED);
     trial.tells("1||exists\n");
-    assert_eq!(rt; trial.differ, 0);
+    trial.end(&rt);
 }
 
 // The write of the config fails twice: the first time it wasn't made, the second time it was.
@@ -92,7 +98,7 @@ fn a_shelf_that_fails_is_told(rt: HostRuntime) {
     trial.fails(Fail::Write(false));
     trial.fails(Fail::Write(true));
     trial.tells("1||exists\n");
-    assert_eq!(rt; trial.differ, 0);
+    trial.end(&rt);
 }
 
 #[test]
@@ -100,5 +106,5 @@ fn a_store_whose_line_is_not_written_is_made(rt: HostRuntime) {
     let mut trial = Trial::new(rt.alloc());
     trial.is_not_told();
     trial.tells("1||exists\n");
-    assert_eq!(rt; trial.differ, 0);
+    trial.end(&rt);
 }

@@ -15,54 +15,93 @@ pub const TREE: &str = r#"{"nodes":[]}"#;
 pub const FILE_TREE: &str =
     r#"{"nodes":[{"content":["ba7816bf8f01cfea414140de5dae2223b00361a396177a9cb410ff61f20015ad"],"name":"x","size":3,"type":"file"}]}"#;
 
-/// The frames of the replies to requests numbered from 1 on.
-pub(crate) fn frames(alloc: Global, says: Vec<Say>) -> Result<Vec<u8>, AllocError> {
-    let mut frames = Vec::new(alloc);
-    let mut sequence = 0u64;
-    for say in says {
-        sequence = sequence.saturating_add(1);
-        let reply = Reply {
-            instance: CALLER.instance,
-            sequence,
-            say,
-        };
-        if reply.fits() {
-            write_reply(&reply, &mut frames)?;
+/// The frames of a store's replies to requests numbered from 1 on.
+#[derive(Drop)]
+pub struct Replies {
+    alloc: Global,
+    frames: Vec<u8>,
+    sequence: u64,
+    /// There was memory for all of them.
+    is_whole: bool,
+}
+
+impl Replies {
+    /// No reply.
+    pub(crate) fn new(alloc: Global) -> Replies {
+        Replies {
+            alloc,
+            frames: Vec::new(alloc),
+            sequence: 0,
+            is_whole: true,
         }
     }
-    Ok(frames)
-}
 
-/// The reply that brings these bytes.
-pub(crate) fn bytes(alloc: Global, text: &str) -> Result<Say, AllocError> {
-    Ok(Say::Bytes(Bytes::of(text.as_bytes().to_vec(alloc)?)))
-}
-
-/// The last page of a list, with these names.
-pub(crate) fn names(alloc: Global, names: &[Name]) -> Result<Say, AllocError> {
-    Ok(Say::Names {
-        more: false,
-        names: Names::of(names.to_vec(alloc)?),
-    })
-}
-
-/// The replies to the start of a job: a token, the lock, the config.
-pub(crate) fn opened(alloc: Global) -> Result<Vec<Say>, AllocError> {
-    let mut says = Vec::new(alloc);
-    says.push(Say::Token(Token(1)))?;
-    says.push(Say::Done)?;
-    says.push(bytes(alloc, CONFIG)?)?;
-    Ok(says)
-}
-
-/// The replies to a backup's start, where no index is there, and so many grants after it.
-pub(crate) fn granted(alloc: Global, grants: u64) -> Result<Vec<Say>, AllocError> {
-    let mut says = opened(alloc)?;
-    says.push(names(alloc, &[])?)?;
-    for turn in 0..grants {
-        says.push(Say::Done)?;
+    /// All frames.
+    pub(crate) fn frames(self) -> Result<Vec<u8>, AllocError> {
+        if self.is_whole {
+            Ok(self.frames)
+        } else {
+            Err(AllocError)
+        }
     }
-    Ok(says)
+
+    /// The next reply.
+    pub(crate) fn says(&mut self, say: Say) {
+        self.sequence = self.sequence.saturating_add(1);
+        let reply = Reply {
+            instance: CALLER.instance,
+            sequence: self.sequence,
+            say,
+        };
+        if !reply.fits() || write_reply(&reply, &mut self.frames).is_err() {
+            self.is_whole = false;
+        }
+    }
+
+    /// The next reply brings these bytes.
+    pub(crate) fn brings(&mut self, text: &str) {
+        match text.as_bytes().to_vec(self.alloc) {
+            Ok(bytes) => self.says(Say::Bytes(Bytes::of(bytes))),
+            Err(_) => self.is_whole = false,
+        }
+    }
+
+    /// The next reply is the last page of a list, with these names.
+    pub(crate) fn lists(&mut self, names: &[Name]) {
+        match names.to_vec(self.alloc) {
+            Ok(names) => self.says(Say::Names {
+                more: false,
+                names: Names::of(names),
+            }),
+            Err(_) => self.is_whole = false,
+        }
+    }
+
+    /// The replies to the start of a job: a token, the lock, the config.
+    pub(crate) fn opens(&mut self) {
+        self.says(Say::Token(Token(1)));
+        self.says(Say::Done);
+        self.brings(CONFIG);
+    }
+
+    /// The replies to a restore up to its index: this snapshot, and one index.
+    pub(crate) fn indexes(&mut self, snapshot: &str, index: &str) {
+        self.opens();
+        self.brings(snapshot);
+        self.lists(&[name_of(index.as_bytes())]);
+        self.brings(index);
+    }
+}
+
+/// The frames of the replies to a backup's start, where no index is there, and so many grants after it.
+pub(crate) fn granted(alloc: Global, grants: u64) -> Result<Vec<u8>, AllocError> {
+    let mut replies = Replies::new(alloc);
+    replies.opens();
+    replies.lists(&[]);
+    for turn in 0..grants {
+        replies.says(Say::Done);
+    }
+    replies.frames()
 }
 
 /// The name of an object or a blob with this text, in hexadecimal.
@@ -95,25 +134,20 @@ pub(crate) fn index(alloc: Global, items: &str) -> Result<String, AllocError> {
     format!(in alloc; "{{\"packs\":[{{\"blobs\":[{items}],\"id\":\"{pack}\"}}]}}")
 }
 
-/// The replies to a restore up to its index: the snapshot of this tree, and one index.
-pub(crate) fn indexed(alloc: Global, tree: &str, index: &str) -> Result<Vec<Say>, AllocError> {
-    let mut says = opened(alloc)?;
-    let snapshot = snapshot(alloc, tree)?;
-    says.push(bytes(alloc, snapshot.as_str())?)?;
-    says.push(names(alloc, &[name_of(index.as_bytes())])?)?;
-    says.push(bytes(alloc, index)?)?;
-    Ok(says)
-}
-
-/// The replies to a restore of the tree of one file, with this one to the range of what the file holds. The pack has
-/// the tree's 126 bytes, and behind them the file's.
-pub(crate) fn one_file(alloc: Global, content: Say) -> Result<Vec<Say>, AllocError> {
+/// The index of the tree of one file, whose pack has the tree's 126 bytes, and behind them the file's.
+fn file_index(alloc: Global) -> Result<String, AllocError> {
     let tree = item(alloc, FILE_TREE, "tree", 0)?;
     let data = item(alloc, "abc", "data", 126)?;
-    let items = format!(in alloc; "{tree},{data}")?;
-    let mut says = indexed(alloc, FILE_TREE, index(alloc, items.as_str())?.as_str())?;
-    says.push(bytes(alloc, FILE_TREE)?)?;
-    says.push(content)?;
-    says.push(Say::Done)?;
-    Ok(says)
+    index(alloc, format!(in alloc; "{tree},{data}")?.as_str())
+}
+
+/// The frames of the replies to a restore of the tree of one file.
+pub(crate) fn one_file(alloc: Global) -> Result<Vec<u8>, AllocError> {
+    let (snapshot, index) = (snapshot(alloc, FILE_TREE)?, file_index(alloc)?);
+    let mut replies = Replies::new(alloc);
+    replies.indexes(snapshot.as_str(), index.as_str());
+    replies.brings(FILE_TREE);
+    replies.brings("abc");
+    replies.says(Say::Done);
+    replies.frames()
 }

@@ -1,13 +1,13 @@
 //! Steps of a restorer into a real folder.
 
-use crate::cutting::{Cut, Fuse, Step, What};
-use crate::yards::{Yard, below, reads, text_at};
+use crate::cutting::Cut;
+use crate::fuses::{Fuse, Step, What};
+use crate::yards::Yard;
 use repo_files::{Restorer, RestorerError};
 use repo_name::{Bytes, Text};
 use repo_session::Emission;
 use repo_tree::Path;
 use std::alloc::{AllocError, AllocGlobal, Global};
-use std::fs;
 use std::fs::Files;
 
 /// The path of these components, which stand between `/`.
@@ -56,34 +56,29 @@ pub(crate) fn refusal(rt: HostRuntime, root: &str) -> Option<RestorerError> {
     Restorer::new(rt, root).err()
 }
 
-/// The lines with the text for each `$`.
-fn lines_with(alloc: Global, lines: &str, text: &str) -> Result<String, AllocError> {
-    let mut made = String::new(alloc);
-    for (i, piece) in lines.split('$').enumerate() {
-        if i > 0 {
-            made.push_str(text)?;
+/// How many of the parts of a file a restorer over a file system takes.
+fn written_by(files: Cut<'_>, root: &str) -> u64 {
+    let alloc = files.alloc();
+    match Restorer::new(files, root) {
+        Ok(mut restorer) => {
+            written(&mut restorer, alloc, "file a\npiece abc\npiece def\nclose").unwrap_or(9)
         }
-        made.push_str(piece)?;
+        Err(_) => 0,
     }
-    Ok(made)
 }
 
 impl Yard {
     /// A restorer into this folder takes so many of the parts before one that it doesn't.
     pub(crate) fn restores(&mut self, target: &str, lines: &str, wanted: u64) {
-        let is_so = match self.restorer(target) {
-            Some(mut restorer) => {
-                matches!(written(&mut restorer, self.rt.alloc(), lines), Ok(count) if count == wanted)
-            }
-            None => false,
-        };
-        self.count(is_so);
+        match self.restorer(target) {
+            Some(mut restorer) => self.goes_on(&mut restorer, lines, wanted),
+            None => self.count(false),
+        }
     }
 
     /// A restorer into a folder below this one.
-    fn restorer(&mut self, target: &str) -> Option<Restorer<HostRuntime>> {
-        let place = below(self.rt.alloc(), self.root.as_str(), target).ok()?;
-        Restorer::new(self.rt, place.as_str()).ok()
+    fn restorer(&self, target: &str) -> Option<Restorer<HostRuntime>> {
+        Restorer::new(self.rt, self.place(target).as_str()).ok()
     }
 
     /// The same, into a folder that is removed afterwards.
@@ -94,51 +89,43 @@ impl Yard {
 
     /// The same of lines with this text for each `$`.
     pub(crate) fn takes_with(&mut self, lines: &str, text: &str, wanted: u64) {
-        match lines_with(self.rt.alloc(), lines, text) {
-            Ok(lines) => self.takes(lines.as_str(), wanted),
-            Err(_) => self.count(false),
-        }
+        let lines = self.with(lines, text);
+        self.takes(lines.as_str(), wanted);
     }
 
     /// A restorer doesn't take a directory of this name.
     pub(crate) fn takes_no_directory(&mut self, component: &str) {
-        let is_refused = match (self.restorer(""), directory(self.rt.alloc(), component)) {
-            (Some(mut restorer), Ok(part)) => !restorer.write(&part),
-            _ => false,
-        };
-        self.count(is_refused);
-        self.holds("", 0);
+        match directory(self.rt.alloc(), component) {
+            Ok(part) => self.takes_none(&part),
+            Err(_) => self.count(false),
+        }
     }
 
-    /// Nor one of an empty path.
-    pub(crate) fn takes_no_path(&mut self) {
-        let part = Emission::Dir(Path::of(Vec::new(self.rt.alloc())));
+    /// A restorer doesn't take a part.
+    fn takes_none(&mut self, part: &Emission) {
         let is_refused = match self.restorer("") {
-            Some(mut restorer) => !restorer.write(&part),
+            Some(mut restorer) => !restorer.write(part),
             None => false,
         };
         self.count(is_refused);
         self.holds("", 0);
     }
 
+    /// A restorer doesn't take a directory of an empty path.
+    pub(crate) fn takes_no_path(&mut self) {
+        let part = Emission::Dir(Path::of(Vec::new(self.rt.alloc())));
+        self.takes_none(&part);
+    }
+
     /// A restorer writes these parts, and so many are taken.
-    fn goes_on<R: Files + AllocGlobal + Clone + Drop>(
-        &mut self,
-        restorer: &mut Restorer<R>,
-        lines: &str,
-        wanted: u64,
-    ) {
-        let is_so =
-            matches!(written(restorer, self.rt.alloc(), lines), Ok(count) if count == wanted);
-        self.count(is_so);
+    fn goes_on(&mut self, restorer: &mut Restorer<HostRuntime>, lines: &str, wanted: u64) {
+        let count = written(restorer, self.rt.alloc(), lines);
+        self.count(count == Ok(wanted));
     }
 
     /// A folder can't be restored into, for this reason; or it can.
     pub(crate) fn refuses(&mut self, target: &str, wanted: Option<RestorerError>) {
-        let is_so = match below(self.rt.alloc(), self.root.as_str(), target) {
-            Ok(place) => refusal(self.rt, place.as_str()) == wanted,
-            Err(_) => false,
-        };
+        let is_so = refusal(self.rt, self.place(target).as_str()) == wanted;
         self.count(is_so);
     }
 
@@ -146,14 +133,8 @@ impl Yard {
     /// got its name, or isn't there.
     pub(crate) fn stops_writing(&mut self, calls: u64) {
         let fuse = Fuse::new(self.rt.alloc(), calls);
-        let count = match Restorer::new(Cut::new(self.rt, &fuse), self.root.as_str()) {
-            Ok(mut restorer) => {
-                let lines = "file a\npiece abc\npiece def\nclose";
-                written(&mut restorer, self.rt.alloc(), lines).unwrap_or(9)
-            }
-            Err(_) => 0,
-        };
-        let is_so = match text_at(self.rt, self.root.as_str(), "a") {
+        let count = written_by(Cut::new(self.rt, &fuse), self.root.as_str());
+        let is_so = match self.text("a") {
             Ok(text) => text.as_str() == "abcdef" && was_synced(fuse.steps().as_slice()),
             Err(_) => calls < 9 && count < 4,
         };
@@ -195,15 +176,9 @@ impl Yard {
     }
 
     /// One of these.
-    fn writes_name<R: Files + AllocGlobal + Clone + Drop>(
-        &mut self,
-        restorer: &mut Restorer<R>,
-        name: &str,
-    ) {
-        match lines_with(self.rt.alloc(), "file $\npiece $\nclose", name) {
-            Ok(lines) => self.goes_on(restorer, lines.as_str(), 3),
-            Err(_) => self.count(false),
-        }
+    fn writes_name(&mut self, restorer: &mut Restorer<HostRuntime>, name: &str) {
+        let lines = self.with("file $\npiece $\nclose", name);
+        self.goes_on(restorer, lines.as_str(), 3);
     }
 }
 

@@ -59,6 +59,14 @@ impl Run {
     }
 }
 
+/// A run, or one that gave nothing where there was no memory for it: no step wants that.
+pub(crate) fn run_or_none(alloc: Global, run: Result<Run, AllocError>) -> Run {
+    match run {
+        Ok(run) => run,
+        Err(_) => Run::new(alloc),
+    }
+}
+
 fn text_of(bytes: &[u8]) -> &str {
     str::from_utf8(bytes).unwrap_or("no text")
 }
@@ -87,28 +95,24 @@ pub(crate) fn words_of(alloc: Global, text: &str) -> Result<Vec<String>, AllocEr
 }
 
 /// Runs the program with these words, on an empty input.
-pub(crate) fn words_run(rt: HostRuntime, text: &str) -> Result<Run, AllocError> {
-    let words = words_of(rt.alloc(), text)?;
+fn run_of(rt: HostRuntime, words: &[String]) -> Run {
     let mut gave = Run::new(rt.alloc());
     gave.status = run(
         &rt,
-        words.as_slice(),
+        words,
         &mut [].as_slice(),
         &mut gave.output,
         &mut gave.faults,
     );
-    Ok(gave)
+    gave
 }
 
-/// Runs the program with words around a path: what it told.
-pub(crate) fn told(
-    rt: HostRuntime,
-    before: &str,
-    path: &str,
-    after: &str,
-) -> Result<String, AllocError> {
-    let words = format!(in rt.alloc(); "{before}{path}{after}")?;
-    words_run(rt, words.as_str())?.told(rt.alloc())
+/// The same of the words of a text. Where there is no memory for them it gives nothing.
+pub(crate) fn words_run(rt: HostRuntime, text: &str) -> Run {
+    match words_of(rt.alloc(), text) {
+        Ok(words) => run_of(rt, words.as_slice()),
+        Err(_) => Run::new(rt.alloc()),
+    }
 }
 
 /// What a call gives whose error fails the test.

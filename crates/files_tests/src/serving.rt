@@ -9,7 +9,8 @@ use repo_wire::{Ask, Request, write_request};
 use std::alloc::{AllocError, Global};
 use std::io;
 use std::net::{OpenListener, SocketAddr, TcpListener, TcpStream};
-use std::test::Fail;
+use std::panic::Expect;
+use std::process::Abort;
 use std::time::Duration;
 
 /// A listener, a store in memory, and how much wasn't as wanted.
@@ -41,6 +42,11 @@ impl Port {
         if !is_so {
             self.differ = self.differ.saturating_add(1);
         }
+    }
+
+    /// Ends the test, which fails where a step wasn't as wanted.
+    fn end(&self, rt: &impl Abort) {
+        assert_eq!(rt; self.differ, 0);
     }
 
     /// Keeps a client that was connected.
@@ -82,10 +88,7 @@ impl Port {
     /// The client that came last, of those not looked at yet, was answered so.
     fn answered(&mut self, wanted: &str) {
         let is_so = match self.clients.pop() {
-            Some(mut client) => match answer(self.rt.alloc(), &mut client) {
-                Ok(reply) => reply.as_str() == wanted,
-                Err(_) => false,
-            },
+            Some(mut client) => is_answered(self.rt.alloc(), &mut client, wanted),
             None => false,
         };
         self.count(is_so);
@@ -97,6 +100,14 @@ impl Port {
             Ok(frames) => self.begins(frames.as_slice()),
             Err(_) => self.count(false),
         }
+    }
+}
+
+/// Whether a client is answered so.
+fn is_answered(alloc: Global, client: &mut TcpStream, wanted: &str) -> bool {
+    match answer(alloc, client) {
+        Ok(reply) => reply.as_str() == wanted,
+        Err(_) => false,
     }
 }
 
@@ -130,21 +141,20 @@ fn much_asked<S: Shelf>(
 
 // One thread: each client connects and asks before its connection is taken. The first one ends inside a frame.
 #[test]
-fn connections_are_served_one_after_another(rt: HostRuntime) -> Result<(), Fail> {
-    let mut port = Port::new(rt)?;
+fn connections_are_served_one_after_another(rt: HostRuntime) {
+    let mut port = Port::new(rt).expect(&rt, "no port");
     port.asks("0000001901");
     port.asks(TICKET);
     port.serves(2, None, Status::Failed, "malformed\n");
     port.answered(TOKEN);
     port.answered("");
-    assert_eq!(rt; port.differ, 0);
-    Ok(())
+    port.end(&rt);
 }
 
 // The first client connects and says nothing, the second stops inside a frame; both stay.
 #[test]
-fn silent_clients_are_ended_and_the_next_is_served(rt: HostRuntime) -> Result<(), Fail> {
-    let mut port = Port::new(rt)?;
+fn silent_clients_are_ended_and_the_next_is_served(rt: HostRuntime) {
+    let mut port = Port::new(rt).expect(&rt, "no port");
     port.begins(&[]);
     port.begins(&[0, 0, 0, 25, 1]);
     port.asks(TICKET);
@@ -153,27 +163,25 @@ fn silent_clients_are_ended_and_the_next_is_served(rt: HostRuntime) -> Result<()
     port.answered(TOKEN);
     port.answered("");
     port.answered("");
-    assert_eq!(rt; port.differ, 0);
-    Ok(())
+    port.end(&rt);
 }
 
 // Sixteen replies of four million bytes are more than what the system keeps for who doesn't read.
 #[test]
-fn a_client_that_takes_nothing_is_ended(rt: HostRuntime) -> Result<(), Fail> {
-    let mut port = Port::new(rt)?;
+fn a_client_that_takes_nothing_is_ended(rt: HostRuntime) {
+    let mut port = Port::new(rt).expect(&rt, "no port");
     port.asks_for_much(4_000_000, 16);
     port.asks(TICKET);
     let idle = Some(Duration::from_millis(200));
     port.serves(2, idle, Status::Failed, "write failed\n");
     port.answered(TOKEN);
-    assert_eq!(rt; port.differ, 0);
-    Ok(())
+    port.end(&rt);
 }
 
 // The greatest number of seconds that the words take is as good as none.
 #[test]
-fn the_greatest_idle_time_serves(rt: HostRuntime) -> Result<(), Fail> {
-    let mut port = Port::new(rt)?;
+fn the_greatest_idle_time_serves(rt: HostRuntime) {
+    let mut port = Port::new(rt).expect(&rt, "no port");
     port.asks(TICKET);
     port.asks(TICKET);
     port.serves(1, Some(Duration::from_secs(u64::MAX)), Status::Done, "");
@@ -185,8 +193,7 @@ fn the_greatest_idle_time_serves(rt: HostRuntime) -> Result<(), Fail> {
     );
     port.answered(SECOND);
     port.answered(TOKEN);
-    assert_eq!(rt; port.differ, 0);
-    Ok(())
+    port.end(&rt);
 }
 
 /// A listener that gives no connection.
@@ -206,6 +213,6 @@ fn connections_that_cannot_be_taken_count(rt: HostRuntime) {
     let mut shelf = MemShelf::new(rt.alloc());
     let mut faults = Vec::new(rt.alloc());
     let status = serve_connections(rt.alloc(), &Deaf, 2, None, &mut shelf, &mut faults);
-    assert_eq!(rt; status, Status::Failed);
-    assert_eq!(rt; faults.as_slice(), b"read failed\nread failed\n".as_slice());
+    let is_told = faults.as_slice() == b"read failed\nread failed\n".as_slice();
+    assert!(rt; status == Status::Failed && is_told);
 }

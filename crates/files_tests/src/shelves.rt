@@ -6,7 +6,7 @@ use repo_locks::Ledger;
 use repo_name::{Kind, Name, Token, name_of};
 use repo_store::{Shelf, ShelfError, Slice};
 use std::io;
-use std::test::Fail;
+use std::panic::Expect;
 
 /// A shelf in a folder, and what is tried on it.
 #[derive(Drop)]
@@ -18,8 +18,12 @@ struct Trial {
 impl Trial {
     /// A new shelf in a folder of this test's own.
     fn new(rt: HostRuntime, test: &str) -> io::Result<Trial> {
-        let yard = Yard::new(rt, test)?;
-        let shelf = DirShelf::create(rt, yard.root.as_str())?;
+        Trial::made(Yard::new(rt, test)?)
+    }
+
+    /// The folder, in which a store is made.
+    fn made(yard: Yard) -> io::Result<Trial> {
+        let shelf = DirShelf::create(yard.rt, yard.root.as_str())?;
         Ok(Trial { yard, shelf })
     }
 
@@ -35,8 +39,7 @@ impl Trial {
     fn remade(self) -> io::Result<Trial> {
         let Trial { yard, shelf } = self;
         drop(shelf);
-        let shelf = DirShelf::create(yard.rt, yard.root.as_str())?;
-        Ok(Trial { yard, shelf })
+        Trial::made(yard)
     }
 
     fn puts(&mut self, kind: Kind, name: &Name, bytes: &[u8]) {
@@ -133,14 +136,14 @@ pub(crate) fn number<S: Shelf>(shelf: &mut S) -> Result<Token, ShelfError> {
 const KINDS: [Kind; 3] = [Kind::Pack, Kind::Index, Kind::Snapshot];
 
 #[test]
-fn what_was_put_is_there_when_opened_again(rt: HostRuntime) -> Result<(), Fail> {
-    let mut trial = Trial::new(rt, "again")?;
+fn what_was_put_is_there_when_opened_again(rt: HostRuntime) {
+    let mut trial = Trial::new(rt, "again").expect(&rt, "no folder");
     let name = name_of(b"abc");
     for kind in KINDS {
         trial.puts(kind, &name, b"abc");
     }
     trial.configures(b"{}");
-    let mut trial = trial.again()?;
+    let mut trial = trial.again().expect(&rt, "not opened");
     for kind in KINDS {
         trial.has(kind, &name, b"abc");
         trial.lists(kind, None, &[name], false);
@@ -151,26 +154,24 @@ fn what_was_put_is_there_when_opened_again(rt: HostRuntime) -> Result<(), Fail> 
     trial.removes(Kind::Pack, &name);
     trial.lacks(Kind::Pack, &name);
     trial.failed(0);
-    assert_eq!(rt; trial.yard.end(), 0);
-    Ok(())
+    trial.yard.end(&rt);
 }
 
 #[test]
-fn parts_of_packs(rt: HostRuntime) -> Result<(), Fail> {
-    let mut trial = Trial::new(rt, "parts")?;
+fn parts_of_packs(rt: HostRuntime) {
+    let mut trial = Trial::new(rt, "parts").expect(&rt, "no folder");
     let name = name_of(b"abc");
     trial.puts(Kind::Pack, &name, b"abc");
     trial.gives(&name, 1, 2, b"bc");
     trial.is_outside(&name, 2, 2);
     trial.is_missing(&name_of(b""), 0, 1);
-    assert_eq!(rt; trial.yard.end(), 0);
-    Ok(())
+    trial.yard.end(&rt);
 }
 
 // Two digits of another folder, a name with an upper-case digit, and one that is no name.
 #[test]
-fn pages_pass_over_files_of_other_names(rt: HostRuntime) -> Result<(), Fail> {
-    let mut trial = Trial::new(rt, "pages")?;
+fn pages_pass_over_files_of_other_names(rt: HostRuntime) {
+    let mut trial = Trial::new(rt, "pages").expect(&rt, "no folder");
     let (one, five, nine) = (Name([1; 32]), Name([5; 32]), Name([9; 32]));
     for name in [nine, one, five] {
         trial.puts(Kind::Pack, &name, b"x");
@@ -182,21 +183,19 @@ fn pages_pass_over_files_of_other_names(rt: HostRuntime) -> Result<(), Fail> {
     }
     trial.lists(Kind::Pack, None, &[one, five], true);
     trial.lists(Kind::Pack, Some(&one), &[five, nine], false);
-    assert_eq!(rt; trial.yard.end(), 0);
-    Ok(())
+    trial.yard.end(&rt);
 }
 
 #[test]
-fn a_ledger_that_cannot_be_read_is_a_failure(rt: HostRuntime) -> Result<(), Fail> {
-    let mut trial = Trial::new(rt, "ledger")?;
+fn a_ledger_that_cannot_be_read_is_a_failure(rt: HostRuntime) {
+    let mut trial = Trial::new(rt, "ledger").expect(&rt, "no folder");
     trial.numbers(Token(1));
-    let mut trial = trial.remade()?;
+    let mut trial = trial.remade().expect(&rt, "not made");
     trial.numbers(Token(2));
     trial.yard.writes("ledger", "no ledger");
     trial.is_unread();
     trial.yard.removes("ledger");
     trial.is_unread();
     trial.failed(2);
-    assert_eq!(rt; trial.yard.end(), 0);
-    Ok(())
+    trial.yard.end(&rt);
 }

@@ -3,7 +3,7 @@
 use std::alloc::Global;
 use std::io;
 use std::io::{Read, Write};
-use std::net::{Shutdown, SocketAddr, TcpStream};
+use std::net::{OpenListener, Shutdown, SocketAddr, TcpListener, TcpStream};
 
 /// The reply to the second ticket of the same client.
 pub const SECOND: &str =
@@ -35,4 +35,11 @@ pub(crate) fn answer(alloc: Global, client: &mut TcpStream) -> io::Result<String
     let mut reply = Vec::new(alloc);
     client.read_to_end(&mut reply)?;
     Ok(hex::encode(alloc, reply.as_slice())?)
+}
+
+/// Listens at a free port of the loopback, and gives it as a word behind a space.
+pub(crate) fn taken_port(rt: HostRuntime) -> io::Result<(TcpListener, String)> {
+    let taken = TcpListener::bind(&rt, "127.0.0.1:0")?;
+    let word = format!(in rt.alloc(); " {}", taken.local_addr()?)?;
+    Ok((taken, word))
 }

@@ -6,6 +6,7 @@ use repo_session::DriveError;
 use repo_store::{InitError, ServeError};
 use std::alloc::Global;
 use std::fmt;
+use std::process::Abort;
 
 /// How many texts weren't as wanted.
 #[derive(Drop)]
@@ -17,6 +18,11 @@ struct Trial {
 impl Trial {
     fn new(alloc: Global) -> Trial {
         Trial { alloc, differ: 0 }
+    }
+
+    /// Ends the test, which fails where something wasn't as wanted.
+    fn end(&self, rt: &impl Abort) {
+        assert_eq!(rt; self.differ, 0);
     }
 
     fn count(&mut self, is_so: bool) {
@@ -40,16 +46,12 @@ impl Trial {
 
     /// The help of a command has an example, and says what its exit statuses mean.
     fn helps(&mut self, rt: HostRuntime, words: &str, example: &str) {
-        match words_run(rt, words) {
-            Ok(ran) => {
-                self.count(ran.status == Status::Done && ran.faults.is_empty());
-                let help = str::from_utf8(ran.output.as_slice()).unwrap_or("");
-                self.has(help, "Example:");
-                self.has(help, example);
-                self.has(help, "Exit status:");
-            }
-            Err(_) => self.count(false),
-        }
+        let ran = words_run(rt, words);
+        self.count(ran.status == Status::Done && ran.faults.is_empty());
+        let help = str::from_utf8(ran.output.as_slice()).unwrap_or("");
+        self.has(help, "Example:");
+        self.has(help, example);
+        self.has(help, "Exit status:");
     }
 }
 
@@ -65,7 +67,7 @@ fn helps(rt: HostRuntime) {
     trial.helps(rt, "vault locks --help", "vault locks");
     trial.helps(rt, "vault refresh --help", "vault refresh");
     trial.helps(rt, "vault unlock --help", "vault unlock");
-    assert_eq!(rt; trial.differ, 0);
+    trial.end(&rt);
 }
 
 #[test]
@@ -79,7 +81,7 @@ fn texts_of_serving(rt: HostRuntime) {
     trial.tells(&InitError::Exists, "exists");
     trial.tells(&InitError::Fault, "shelf failed");
     trial.tells(&InitError::Memory, "out of memory");
-    assert_eq!(rt; trial.differ, 0);
+    trial.end(&rt);
 }
 
 #[test]
@@ -95,5 +97,5 @@ fn texts_of_frames_and_drivers(rt: HostRuntime) {
     trial.tells(&DriveError::Limit, "limit");
     trial.tells(&DriveError::Memory, "out of memory");
     trial.tells(&DriveError::Sink, "stopped");
-    assert_eq!(rt; trial.differ, 0);
+    trial.end(&rt);
 }

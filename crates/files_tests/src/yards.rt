@@ -1,8 +1,9 @@
 //! A folder of a test's own, and what is tried in it.
 
-use crate::runs::told;
+use crate::runs::words_run;
 use std::alloc::{AllocError, Global};
 use std::os::unix::fs::symlink;
+use std::process::Abort;
 use std::{env, fs, io};
 
 /// A folder of a test's own, and the number of the first step in it that wasn't as wanted: 0 where all were.
@@ -21,71 +22,24 @@ fn path_of(rt: HostRuntime, test: &str) -> io::Result<String> {
     Ok(format!(in rt.alloc(); "{}/jibrekt-{test}", temporary.as_str())?)
 }
 
-/// The path of a file in a folder.
-pub(crate) fn below(alloc: Global, folder: &str, file: &str) -> Result<String, AllocError> {
-    format!(in alloc; "{folder}/{file}")
-}
-
-/// Makes a folder in another, with those above it.
-fn make(rt: HostRuntime, root: &str, name: &str) -> io::Result<()> {
-    let path = below(rt.alloc(), root, name)?;
-    fs::create_dir_all(&rt, path.as_str())
-}
-
-/// Writes a file in a folder.
-fn write(rt: HostRuntime, root: &str, name: &str, bytes: &[u8]) -> io::Result<()> {
-    let path = below(rt.alloc(), root, name)?;
-    fs::write(&rt, path.as_str(), bytes)
-}
-
-/// Removes a file from a folder.
-fn remove(rt: HostRuntime, root: &str, name: &str) -> io::Result<()> {
-    let path = below(rt.alloc(), root, name)?;
-    fs::remove_file(&rt, path.as_str())
-}
-
-/// Removes a folder from a folder, with all that is in it.
-fn clear(rt: HostRuntime, root: &str, name: &str) -> io::Result<()> {
-    let path = below(rt.alloc(), root, name)?;
-    fs::remove_dir_all(&rt, path.as_str())
-}
-
-/// Makes a link in a folder.
-fn link(rt: HostRuntime, root: &str, name: &str, to: &str) -> io::Result<()> {
-    let path = below(rt.alloc(), root, name)?;
-    symlink(&rt, to, path.as_str())
-}
-
-/// The text of a file in a folder.
-pub(crate) fn text_at(rt: HostRuntime, root: &str, name: &str) -> io::Result<String> {
-    let path = below(rt.alloc(), root, name)?;
-    fs::read_to_string(&rt, path.as_str())
-}
-
-/// Whether a file in a folder has this text.
-pub(crate) fn reads(rt: HostRuntime, root: &str, name: &str, text: &str) -> bool {
-    match text_at(rt, root, name) {
-        Ok(found) => found.as_str() == text,
-        Err(_) => false,
+/// A text, or the empty one where there was no memory for it: no file has that path, and no step wants it.
+pub(crate) fn text_or_none(alloc: Global, text: Result<String, AllocError>) -> String {
+    match text {
+        Ok(text) => text,
+        Err(_) => String::new(alloc),
     }
 }
 
-/// How many entries a folder in a folder has.
-fn size(rt: HostRuntime, root: &str, name: &str) -> io::Result<usize> {
-    let path = below(rt.alloc(), root, name)?;
-    Ok(fs::read_dir(&rt, path.as_str())?.count())
-}
-
-/// Whether nothing has this name in a folder.
-fn is_free(rt: HostRuntime, root: &str, name: &str) -> io::Result<bool> {
-    let path = below(rt.alloc(), root, name)?;
-    Ok(fs::symlink_metadata(&rt, path.as_str()).is_err())
-}
-
-/// Whether a link has this name in a folder.
-fn is_link(rt: HostRuntime, root: &str, name: &str) -> io::Result<bool> {
-    let path = below(rt.alloc(), root, name)?;
-    Ok(fs::symlink_metadata(&rt, path.as_str())?.is_symlink())
+/// The lines with the text for each `$`.
+fn with(alloc: Global, lines: &str, text: &str) -> Result<String, AllocError> {
+    let mut made = String::new(alloc);
+    for (i, piece) in lines.split('$').enumerate() {
+        if i > 0 {
+            made.push_str(text)?;
+        }
+        made.push_str(piece)?;
+    }
+    Ok(made)
 }
 
 impl Yard {
@@ -103,8 +57,8 @@ impl Yard {
 
     /// A folder of this test's own, which is there, and empty.
     pub(crate) fn empty(rt: HostRuntime, test: &str) -> io::Result<Yard> {
-        let yard = Yard::new(rt, test)?;
-        fs::create_dir_all(&rt, yard.root.as_str())?;
+        let mut yard = Yard::new(rt, test)?;
+        yard.makes("");
         Ok(yard)
     }
 
@@ -123,86 +77,106 @@ impl Yard {
         }
     }
 
-    /// Removes the folder, and tells which step was the first that wasn't as wanted.
-    pub(crate) fn end(mut self) -> u64 {
+    /// Removes the folder, and ends the test, which fails where a step wasn't as wanted.
+    pub(crate) fn end(&mut self, rt: &impl Abort) {
         let is_removed = fs::remove_dir_all(&self.rt, self.root.as_str()).is_ok();
         self.count(is_removed);
-        self.first
+        assert_eq!(rt; self.first, 0);
     }
 
+    /// The path of a name in the folder.
+    pub(crate) fn place(&self, name: &str) -> String {
+        let alloc = self.rt.alloc();
+        text_or_none(alloc, format!(in alloc; "{}/{name}", self.root.as_str()))
+    }
+
+    /// The lines with a text for each `$`.
+    pub(crate) fn with(&self, lines: &str, text: &str) -> String {
+        let alloc = self.rt.alloc();
+        text_or_none(alloc, with(alloc, lines, text))
+    }
+
+    /// Makes a folder, with those above it.
     pub(crate) fn makes(&mut self, name: &str) {
-        let is_made = make(self.rt, self.root.as_str(), name).is_ok();
+        let is_made = fs::create_dir_all(&self.rt, self.place(name).as_str()).is_ok();
         self.count(is_made);
     }
 
     pub(crate) fn writes(&mut self, name: &str, text: &str) {
-        let is_written = write(self.rt, self.root.as_str(), name, text.as_bytes()).is_ok();
+        let is_written = fs::write(&self.rt, self.place(name).as_str(), text.as_bytes()).is_ok();
         self.count(is_written);
     }
 
     pub(crate) fn removes(&mut self, name: &str) {
-        let is_removed = remove(self.rt, self.root.as_str(), name).is_ok();
+        let is_removed = fs::remove_file(&self.rt, self.place(name).as_str()).is_ok();
         self.count(is_removed);
     }
 
     /// Removes a file, if it is there.
     pub(crate) fn drops(&mut self, name: &str) {
-        let _ = remove(self.rt, self.root.as_str(), name);
+        let _ = fs::remove_file(&self.rt, self.place(name).as_str());
     }
 
     pub(crate) fn links(&mut self, name: &str, to: &str) {
-        let is_made = link(self.rt, self.root.as_str(), name, to).is_ok();
+        let is_made = symlink(&self.rt, to, self.place(name).as_str()).is_ok();
         self.count(is_made);
+    }
+
+    /// The text of a file.
+    pub(crate) fn text(&self, name: &str) -> io::Result<String> {
+        fs::read_to_string(&self.rt, self.place(name).as_str())
     }
 
     /// A file has this text.
     pub(crate) fn has(&mut self, name: &str, text: &str) {
-        let is_so = reads(self.rt, self.root.as_str(), name, text);
+        let is_so = matches!(self.text(name), Ok(found) if found.as_str() == text);
         self.count(is_so);
     }
 
     /// Nothing has this name.
     pub(crate) fn lacks(&mut self, name: &str) {
-        let is_so = matches!(is_free(self.rt, self.root.as_str(), name), Ok(true));
-        self.count(is_so);
+        let place = self.place(name);
+        let is_free = fs::symlink_metadata(&self.rt, place.as_str()).is_err();
+        self.count(is_free && !place.is_empty());
     }
 
     /// A link has this name.
     pub(crate) fn is_link(&mut self, name: &str) {
-        let is_so = matches!(is_link(self.rt, self.root.as_str(), name), Ok(true));
-        self.count(is_so);
+        let found = fs::symlink_metadata(&self.rt, self.place(name).as_str());
+        self.count(matches!(found, Ok(found) if found.is_symlink()));
     }
 
     /// Removes a folder with all that is in it.
     pub(crate) fn clears(&mut self, name: &str) {
-        let is_cleared = clear(self.rt, self.root.as_str(), name).is_ok();
+        let is_cleared = fs::remove_dir_all(&self.rt, self.place(name).as_str()).is_ok();
         self.count(is_cleared);
     }
 
     /// A folder has so many entries.
     pub(crate) fn holds(&mut self, name: &str, entries: usize) {
-        let is_so = match size(self.rt, self.root.as_str(), name) {
-            Ok(found) => found == entries,
+        let is_so = match fs::read_dir(&self.rt, self.place(name).as_str()) {
+            Ok(found) => found.count() == entries,
             Err(_) => false,
         };
         self.count(is_so);
     }
 
     /// Words around the folder's path: what the program tells, its status, output and faults.
+    pub(crate) fn told(&self, before: &str, after: &str) -> String {
+        let (alloc, root) = (self.rt.alloc(), self.root.as_str());
+        let words = text_or_none(alloc, format!(in alloc; "{before}{root}{after}"));
+        text_or_none(alloc, words_run(self.rt, words.as_str()).told(alloc))
+    }
+
+    /// Words around the folder's path: the program tells this.
     pub(crate) fn tells(&mut self, before: &str, after: &str, wanted: &str) {
-        let is_so = match told(self.rt, before, self.root.as_str(), after) {
-            Ok(text) => text.as_str() == wanted,
-            Err(_) => false,
-        };
+        let is_so = self.told(before, after).as_str() == wanted;
         self.count(is_so);
     }
 
     /// The same: what that begins with.
     pub(crate) fn begins(&mut self, before: &str, after: &str, wanted: &str) {
-        let is_so = match told(self.rt, before, self.root.as_str(), after) {
-            Ok(text) => text.as_str().starts_with(wanted),
-            Err(_) => false,
-        };
+        let is_so = self.told(before, after).as_str().starts_with(wanted);
         self.count(is_so);
     }
 }
