@@ -16,7 +16,7 @@ use Rattle.repo_session.specs.Askers.{Asker}
 use Rattle.repo_session.specs.Ends.{before_unlock}
 use Rattle.repo_session.specs.Rebuilding.{rebuilt}
 use Rattle.repo_session.specs.Soundness.{IsSound}
-use Rattle.repo_session.specs.Talks.{Turn, Talk, trace_of, given_in, TalkRan, Steps}
+use Rattle.repo_session.specs.Talks.{Turn, Talk, trace_of, given_in, TalkRan, Went, Steps}
 use Rattle.repo_session.specs.Traces.{Trace, emitted_in}
 use Rattle.repo_backup.specs.Laws.{AreApart, IsBackup}
 use Rattle.repo_backup.specs.Rules.{Ends}
@@ -44,24 +44,9 @@ pub record IsEnded {C : Type 0} (Fits : C → Trace → Type 0) (next : C → Op
   pub gave : given ≡ given_in talk
 
 pub at_end : {C : Type 0} (Fits : C → Trace → Type 0) (next : C → Option Request) (old new : C) (result : Result ℕ StepError) (from to : Store) (failed failing : ℕ) (out kept : List Emission) → Fits old []
-    → (talk : Talk) × Steps Fits next old result new talk from failed to failing out kept → IfOk result (λ n. n ≤ 2 ^ 32) → out ≡ [] → IfOk result (λ n. IsEnded Fits next new from to failed failing kept)
-at_end Fits next old new (Ok n) from to failed failing out kept fits s few none =
-    let d = s.1 in
-    record {
-      talk = s.0;
-      fits = subst (λ es. Fits new es) (append-nil (trace_of s.0)) (d.0.fits [] fits);
-      rests = d.2;
-      ran = d.3;
-      few = omega (arith, few, d.1);
-      gave = d.4 ∙ ap (λ x. x ++ given_in s.0) none;
-    }
-at_end Fits next old new (Err e) from to failed failing out kept fits s few none = tt
-
--- the same, whatever had been given out before
-pub at_end_after : {C : Type 0} (Fits : C → Trace → Type 0) (next : C → Option Request) (old new : C) (result : Result ℕ StepError) (from to : Store) (failed failing : ℕ) (out kept : List Emission) → Fits old []
     → (talk : Talk) × Steps Fits next old result new talk from failed to failing out kept → IfOk result (λ n. n ≤ 2 ^ 32)
     → IfOk result (λ n. (given : List Emission) × IsEnded Fits next new from to failed failing given)
-at_end_after Fits next old new (Ok n) from to failed failing out kept fits s few =
+at_end Fits next old new (Ok n) from to failed failing out kept fits s few =
     let d = s.1 in (
       given_in s.0,
       record {
@@ -73,7 +58,13 @@ at_end_after Fits next old new (Ok n) from to failed failing out kept fits s few
         gave = refl;
       },
     )
-at_end_after Fits next old new (Err e) from to failed failing out kept fits s few = tt
+at_end Fits next old new (Err e) from to failed failing out kept fits s few = tt
+
+-- the exchanges that were made, and their number; and what was given out
+pub went_by : {C : Type 0} (Fits : C → Trace → Type 0) (next : C → Option Request) (old new : C) (result : Result ℕ StepError) (from to : Store) (failed failing : ℕ) (out kept : List Emission)
+    → (talk : Talk) × Steps Fits next old result new talk from failed to failing out kept → IfOk result (λ n. (talk : Talk) × Went Fits old talk new × (n ≡ length talk) × (kept ≡ out ++ given_in talk))
+went_by Fits next old new (Ok n) from to failed failing out kept s = (s.0, s.1.0, s.1.1, s.1.4)
+went_by Fits next old new (Err e) from to failed failing out kept s = tt
 
 pub if_ok_with : {A E : Type 0} (P Q : A → Type 0) (result : Result A E) → ((a : A) → P a → Q a) → IfOk result P → IfOk result Q
 if_ok_with P Q (Ok x) f h = f x h

@@ -1,9 +1,10 @@
 //! Jobs that are alone with a shelf, from their beginning to their end.
 
-ghost use Rattle.std.specs.Prelude.{◌≡◌, [], List, Some, IfOk, option_map};
+ghost use Rattle.std.specs.Prelude.{◌≡◌, ◌++◌, [], List, Some, IfOk, length, option_map};
 ghost use Rattle.repo_session.specs.Alone.{IsFit, HasAsked};
 ghost use Rattle.repo_session.specs.Sessions.{ended_in};
 ghost use Rattle.repo_session.specs.Soundness.{IsSound};
+ghost use Rattle.repo_session.specs.Talks.{Talk, Went, given_in};
 ghost use Rattle.repo_session.specs.declared.emissions.Emission.{Emission};
 ghost use Rattle.repo_backup.specs.Backups.{FitsBackup, handed_to};
 ghost use Rattle.repo_restore.specs.ListStates.{FitsList};
@@ -29,7 +30,8 @@ pub fn back_up_alone<S: Shelf>(
 ) -> Result<u64, StepError>
     requires honest { S.honest shelf.old }
     requires fresh { FitsBackup backup.old [] }
-    ensures { IfOk result (λ _. IsFit (S.store shelf.old) → NeverFailed (S.failed shelf.old) (S.failed shelf.new) → BacksUp (handed_to backup.old.session.job) (S.store shelf.old) (S.store shelf.new) (ended_in backup.new.session)) }
+    ensures went { IfOk result (λ n. (talk : Talk) × Went FitsBackup backup.old talk backup.new × (n ≡ length talk)) }
+    ensures comes { IfOk result (λ _. IsFit (S.store shelf.old) → NeverFailed (S.failed shelf.old) (S.failed shelf.new) → BacksUp (handed_to backup.old.session.job) (S.store shelf.old) (S.store shelf.new) (ended_in backup.new.session)) }
 {
     let mut nothing = Vec::new(alloc);
     lockstep(alloc, backup, shelf, &mut nothing)
@@ -49,7 +51,8 @@ pub fn restore_alone<S: Shelf>(
 ) -> Result<u64, StepError>
     requires honest { S.honest shelf.old }
     requires fresh { FitsRestore restore.old [] }
-    ensures { IfOk result (λ _. IsFit (S.store shelf.old) → HasAsked (S.store shelf.old) (Some (wish_of restore.old).snapshot) → NeverFailed (S.failed shelf.old) (S.failed shelf.new)
+    ensures went { IfOk result (λ n. (talk : Talk) × Went FitsRestore restore.old talk restore.new × (n ≡ length talk) × (out.new.items ≡ out.old.items ++ given_in talk)) }
+    ensures comes { IfOk result (λ _. IsFit (S.store shelf.old) → HasAsked (S.store shelf.old) (Some (wish_of restore.old).snapshot) → NeverFailed (S.failed shelf.old) (S.failed shelf.new)
         → Restores (S.store shelf.old) (S.store shelf.new) (ended_in restore.new.session)) }
 {
     lockstep(alloc, restore, shelf, out)
@@ -66,7 +69,8 @@ pub fn list_alone<S: Shelf>(
 ) -> Result<u64, StepError>
     requires honest { S.honest shelf.old }
     requires fresh { FitsList list.old [] }
-    ensures { IfOk result (λ _. IsFit (S.store shelf.old) → NeverFailed (S.failed shelf.old) (S.failed shelf.new) → Lists (S.store shelf.old) (S.store shelf.new) (ended_in list.new.session)) }
+    ensures went { IfOk result (λ n. (talk : Talk) × Went FitsList list.old talk list.new × (n ≡ length talk)) }
+    ensures comes { IfOk result (λ _. IsFit (S.store shelf.old) → NeverFailed (S.failed shelf.old) (S.failed shelf.new) → Lists (S.store shelf.old) (S.store shelf.new) (ended_in list.new.session)) }
 {
     let mut nothing = Vec::new(alloc);
     lockstep(alloc, list, shelf, &mut nothing)

@@ -9,11 +9,11 @@ use Rattle.repo_restore.specs.RestoreObedience.{wish_of, restore_obeys}
 use Rattle.repo_restore.specs.RestoreStates.{FitsRestore}
 use Rattle.repo_restore.specs.Laws.{IsRestore}
 use Rattle.repo_restore.specs.declared.restores.Restore.{Restore}
-use Rattle.repo_laws.proofs.AloneRuns.{at_end_after, restores, if_ok_with}
+use Rattle.repo_laws.proofs.AloneRuns.{at_end, went_by, restores, if_ok_with}
 use Rattle.repo_laws.proofs.alone.restore_alone.Goals as goal
 
-pub returns : goal.returns
-returns g c =
+pub returns-clause-comes : goal.returns-clause-comes
+returns-clause-comes g c =
     let old = c.args.restore.now in
     let new = c.lockstep.new.client in
     let from = g.S.Shelf.store c.args.shelf.now in
@@ -25,4 +25,8 @@ returns g c =
     let is : IsRestore (wish_of new) None (ended_in new.session) (trace_of d.talk) = subst (λ (r : Option Request). IsRestore (wish_of new) r (ended_in new.session) (trace_of d.talk)) d.rests (restore_obeys new (trace_of d.talk) d.fits) in
     restores (wish_of old) from to failed d.talk (ended_in new.session) asked.0 fit asked.1 never.low ran d.few
     (subst (λ (w : Wish). IsRestore w None (ended_in new.session) (trace_of d.talk)) c.lockstep.ensures.job is))
-    (at_end_after FitsRestore (λ (r : Restore). next_in r.session) old new c.lockstep.result from to failed (g.S.Shelf.failed c.lockstep.new.shelf) _ _ c.requires.fresh (c.lockstep.ensures.steps c.requires.honest) c.lockstep.ensures.few)
+    (at_end FitsRestore (λ (r : Restore). next_in r.session) old new c.lockstep.result from to failed (g.S.Shelf.failed c.lockstep.new.shelf) _ _ c.requires.fresh (c.lockstep.ensures.steps c.requires.honest) c.lockstep.ensures.few)
+
+pub returns-clause-went : goal.returns-clause-went
+returns-clause-went g c =
+    went_by FitsRestore (λ (r : Restore). next_in r.session) c.args.restore.now c.lockstep.new.client c.lockstep.result (g.S.Shelf.store c.args.shelf.now) (g.S.Shelf.store c.lockstep.new.shelf) (g.S.Shelf.failed c.args.shelf.now) (g.S.Shelf.failed c.lockstep.new.shelf) _ _ (c.lockstep.ensures.steps c.requires.honest)
