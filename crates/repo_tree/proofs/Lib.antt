@@ -1,5 +1,7 @@
 pub mod NameLemmas
 pub mod TreeLemmas
+pub mod Containing
+pub mod DirectoryLemmas
 pub mod SpellingLemmas
 pub mod LengthLemmas
 pub mod SnapshotLemmas

@@ -7,6 +7,7 @@ pub mod ConfigText
 pub mod TreeText
 pub mod TreeWriting
 pub mod Named
+pub mod Parts
 pub mod Spelling
 pub mod Laws
 pub mod Paths
