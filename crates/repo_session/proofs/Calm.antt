@@ -20,12 +20,12 @@ use Rattle.repo_locks.specs.TokenMachine.{Tokens, live_as, is_fresh, is_among, i
 use Rattle.repo_locks.proofs.Changed.{kind_among-with_row_same}
 use Rattle.repo_store.specs.declared.shelves.Slice.{Slice}
 use Rattle.repo_store.specs.Slices.{IsSlice}
-use Rattle.repo_store.specs.StoreMachine.{object_limit, config_limit, IsRangeLength, Answers, Step, GetSays, RangeAnswer, PutAnswer, SliceSays, TicketSays, LockSays}
+use Rattle.repo_store.specs.StoreMachine.{object_limit, config_limit, IsRangeLength, Answers, Step, GetSays, RangeAnswer, PutAnswer, DeleteAnswer, SliceSays, TicketSays, LockSays}
 use Rattle.repo_store.specs.Stores.{Store}
 use Rattle.repo_session.specs.Ends.{PageRises}
 use Rattle.repo_session.specs.Order.{Task, May, ticketed, locked, lock_row, Holds, IsWorking, AreHeld}
 use Rattle.repo_session.specs.Traces.{Exchange, Trace, silent}
-use Rattle.repo_session.proofs.Growing.{IsNoDelete, answered, no_done, range_same}
+use Rattle.repo_session.proofs.Growing.{answered, no_done, range_same}
 use Rattle.repo_session.proofs.Holding.{holds_of}
 
 -- ---- what is known of the tokens
@@ -34,7 +34,7 @@ use Rattle.repo_session.proofs.Holding.{holds_of}
 pub record Stands (task : Task) (es : Trace) (tokens : Tokens) : Type 0 where
   pub first : es ≡ [] → (tokens.live ≡ []) × (tokens.next < last_number)
   pub fresh : (token : Token) → es ≡ ticketed token → (tokens.live ≡ []) × (is_fresh tokens token ≡ true)
-  pub held : (token : Token) → Holds task token es → live_as tokens token ≢ None
+  pub held : (token : Token) → Holds task token es → live_as tokens token ≡ Some task.exclusive
 
 holding : (task : Task) (es : Trace) (token : Token) → IsWorking task token es → Holds task token es
 holding task es token w = holds_of task token es w
@@ -58,7 +58,7 @@ Right store (Ask.Get k n) say = (x : List ℕ) × (store.objects k n ≡ Some x)
 Right store (Ask.Range p offset len) say = (pack : List ℕ) × (x : List ℕ) × (store.objects Kind.Pack p ≡ Some pack) × (range pack offset len ≡ Some x) × (say ≡ Say.Bytes x)
 Right store (Ask.Put token k n x) say = say ≡ Say.Done
 Right store Ask.Config say = (x : List ℕ) × (store.config ≡ Some x) × (say ≡ Say.Bytes x)
-Right store (Ask.Delete token k n) say = ⊥
+Right store (Ask.Delete token k n) say = say ≡ Say.Done
 Right store (Ask.Refresh token time) say = ⊥
 Right store Ask.Locks say = ⊥
 
@@ -110,29 +110,34 @@ right_put store t k n x say new named few live (inr (inl h)) = absurd (live h.1)
 right_put store t k n x say new named few live (inr (inr (inl h))) = absurd (h.2 named)
 right_put store t k n x say new named few live (inr (inr (inr h))) = h.3
 
-right_answer : (task : Task) (es : Trace) (store : Store) (ask : Ask) (say : Say) (new : Store) → Stands task es store.tokens → May task es ask → IsNoDelete ask → IsThere store ask
+right_delete : (store : Store) (t : Token) (k : Kind) (n : Name) (say : Say) (new : Store) → live_as store.tokens t ≡ Some true → DeleteAnswer store t k n say new → say ≡ Say.Done
+right_delete store t k n say new live (inl h) = absurd (none-some true (sym h.0 ∙ live))
+right_delete store t k n say new live (inr (inl h)) = let w : false ≡ true = same_Some false true (sym h.0 ∙ live) in absurd (cc)
+right_delete store t k n say new live (inr (inr h)) = h.1
+
+right_answer : (task : Task) (es : Trace) (store : Store) (ask : Ask) (say : Say) (new : Store) → Stands task es store.tokens → May task es ask → IsThere store ask
     → Answers store ask say new → Right store ask say
-right_answer task es store Ask.Ticket say new stands may plain there a = right_ticket store a.result a.tokens say (stands.first may).1 a.step a.says
-right_answer task es store (Ask.Lock row) say new stands may plain there a =
+right_answer task es store Ask.Ticket say new stands may there a = right_ticket store a.result a.tokens say (stands.first may).1 a.step a.says
+right_answer task es store (Ask.Lock row) say new stands may there a =
     let f = stands.fresh may.0 may.1 in
     let token : row.token ≡ may.0 = ap (λ (r : LockRow). r.token) may.2 in
     right_lock store row a.result a.tokens say f.0 (ap (λ t. is_fresh store.tokens t) token ∙ f.1) a.step a.says
-right_answer task es store (Ask.Refresh token time) say new stands may plain there a = absurd may
-right_answer task es store (Ask.Unlock token) say new stands may plain there a = a.says
-right_answer task es store Ask.Locks say new stands may plain there a = absurd may
-right_answer task es store (Ask.List k after) say new stands may plain there a = (a.1, a.0, a.3, (a.2.ascends, λ m. some_names a.1 a.0 (a.2.follow m).0))
-right_answer task es store (Ask.Get k n) say new stands may plain there a = (there.0, there.1, right_get (object_limit k) (store.objects k n) say there.0 there.1 there.2 a.0)
-right_answer task es store (Ask.Range p offset len) say new stands may plain there a = right_range store p offset len say new there a
-right_answer task es store (Ask.Put t k n x) say new stands may plain there a = right_put store t k n x say new may.1 may.2 (stands.held t (holding task es t may.0)) a
-right_answer task es store (Ask.Delete t k n) say new stands may plain there a = absurd (plain t k n refl)
-right_answer task es store Ask.Config say new stands may plain there a = (there.0, there.1, right_get config_limit store.config say there.0 there.1 there.2 a.0)
+right_answer task es store (Ask.Refresh token time) say new stands may there a = absurd may
+right_answer task es store (Ask.Unlock token) say new stands may there a = a.says
+right_answer task es store Ask.Locks say new stands may there a = absurd may
+right_answer task es store (Ask.List k after) say new stands may there a = (a.1, a.0, a.3, (a.2.ascends, λ m. some_names a.1 a.0 (a.2.follow m).0))
+right_answer task es store (Ask.Get k n) say new stands may there a = (there.0, there.1, right_get (object_limit k) (store.objects k n) say there.0 there.1 there.2 a.0)
+right_answer task es store (Ask.Range p offset len) say new stands may there a = right_range store p offset len say new there a
+right_answer task es store (Ask.Put t k n x) say new stands may there a = right_put store t k n x say new may.1 may.2 (λ none. none-some task.exclusive (sym none ∙ stands.held t (holding task es t may.0))) a
+right_answer task es store (Ask.Delete t k n) say new stands may there a = right_delete store t k n say new (stands.held t (holding task es t may.0) ∙ ap Some may.1) a
+right_answer task es store Ask.Config say new stands may there a = (there.0, there.1, right_get config_limit store.config say there.0 there.1 there.2 a.0)
 
 -- the store says what is wanted, or that it has no memory
-pub right_step : (task : Task) (es : Trace) (store : Store) (ask : Ask) (say : Say) (new : Store) → Stands task es store.tokens → May task es ask → IsNoDelete ask → IsThere store ask
+pub right_step : (task : Task) (es : Trace) (store : Store) (ask : Ask) (say : Say) (new : Store) → Stands task es store.tokens → May task es ask → IsThere store ask
     → say ≢ Say.Refused Code.Fault → Step store ask say new → (say ≡ Say.Refused Code.NoMemory) ⊎ Right store ask say
-right_step task es store ask say new stands may plain there calm (inl a) = inr (right_answer task es store ask say new stands may plain there a)
-right_step task es store ask say new stands may plain there calm (inr (looks, inl f)) = absurd (calm f.0)
-right_step task es store ask say new stands may plain there calm (inr (looks, inr f)) = inl f.0
+right_step task es store ask say new stands may there calm (inl a) = inr (right_answer task es store ask say new stands may there a)
+right_step task es store ask say new stands may there calm (inr (looks, inl f)) = absurd (calm f.0)
+right_step task es store ask say new stands may there calm (inr (looks, inr f)) = inl f.0
 
 -- ---- the tokens after one more exchange
 
@@ -142,6 +147,7 @@ IsQuiet (Ask.List k after) = ⊤
 IsQuiet (Ask.Get k n) = ⊤
 IsQuiet (Ask.Range p offset len) = ⊤
 IsQuiet (Ask.Put token k n x) = ⊤
+IsQuiet (Ask.Delete token k n) = ⊤
 IsQuiet Ask.Config = ⊤
 IsQuiet _ = ⊥
 
@@ -154,6 +160,11 @@ put_tokens old t k n x say new (inr (inl h)) = same_tokens old new h.3
 put_tokens old t k n x say new (inr (inr (inl h))) = same_tokens old new h.4
 put_tokens old t k n x say new (inr (inr (inr h))) = h.4.2
 
+delete_tokens : (old : Store) (t : Token) (k : Kind) (n : Name) (say : Say) (new : Store) → DeleteAnswer old t k n say new → new.tokens ≡ old.tokens
+delete_tokens old t k n say new (inl h) = same_tokens old new h.2
+delete_tokens old t k n say new (inr (inl h)) = same_tokens old new h.2
+delete_tokens old t k n say new (inr (inr h)) = h.2.2
+
 quiet_answer : (old : Store) (ask : Ask) (say : Say) (new : Store) → IsQuiet ask → Answers old ask say new → new.tokens ≡ old.tokens
 quiet_answer old Ask.Ticket say new q h = absurd q
 quiet_answer old (Ask.Lock row) say new q h = absurd q
@@ -164,7 +175,7 @@ quiet_answer old (Ask.List k after) say new q h = same_tokens old new h.4
 quiet_answer old (Ask.Get k n) say new q h = same_tokens old new h.1
 quiet_answer old (Ask.Range p o l) say new q h = same_tokens old new (range_same old p o l say new h)
 quiet_answer old (Ask.Put t k n x) say new q h = put_tokens old t k n x say new h
-quiet_answer old (Ask.Delete t k n) say new q h = absurd q
+quiet_answer old (Ask.Delete t k n) say new q h = delete_tokens old t k n say new h
 quiet_answer old Ask.Config say new q h = same_tokens old new h.1
 
 quiet_step : (old : Store) (ask : Ask) (say : Say) (new : Store) → IsQuiet ask → Step old ask say new → new.tokens ≡ old.tokens
@@ -174,18 +185,18 @@ quiet_step old ask say new q (inr (looks, inl (fault, inr h))) = quiet_answer ol
 quiet_step old ask say new q (inr (looks, inr h)) = same_tokens old new h.1
 
 -- after the lock only such requests and the end of the lock are asked
-quiet_of : (task : Task) (es : Trace) (ask : Ask) → IsNoDelete ask → 2 ≤ length es → May task es ask → ((t : Token) → ask ≢ Ask.Unlock t) → IsQuiet ask
-quiet_of task es Ask.Ticket plain long may ongoing = let n : length es ≡ 0 = ap length may in absurd (omega (arith, long, n))
-quiet_of task es (Ask.Lock row) plain long may ongoing = let n : length es ≡ 1 = ap length may.1 in absurd (omega (arith, long, n))
-quiet_of task es (Ask.Refresh token time) plain long may ongoing = absurd may
-quiet_of task es (Ask.Unlock token) plain long may ongoing = absurd (ongoing token refl)
-quiet_of task es Ask.Locks plain long may ongoing = absurd may
-quiet_of task es (Ask.List k after) plain long may ongoing = tt
-quiet_of task es (Ask.Get k n) plain long may ongoing = tt
-quiet_of task es (Ask.Range p o l) plain long may ongoing = tt
-quiet_of task es (Ask.Put t k n x) plain long may ongoing = tt
-quiet_of task es (Ask.Delete t k n) plain long may ongoing = absurd (plain t k n refl)
-quiet_of task es Ask.Config plain long may ongoing = tt
+quiet_of : (task : Task) (es : Trace) (ask : Ask) → 2 ≤ length es → May task es ask → ((t : Token) → ask ≢ Ask.Unlock t) → IsQuiet ask
+quiet_of task es Ask.Ticket long may ongoing = let n : length es ≡ 0 = ap length may in absurd (omega (arith, long, n))
+quiet_of task es (Ask.Lock row) long may ongoing = let n : length es ≡ 1 = ap length may.1 in absurd (omega (arith, long, n))
+quiet_of task es (Ask.Refresh token time) long may ongoing = absurd may
+quiet_of task es (Ask.Unlock token) long may ongoing = absurd (ongoing token refl)
+quiet_of task es Ask.Locks long may ongoing = absurd may
+quiet_of task es (Ask.List k after) long may ongoing = tt
+quiet_of task es (Ask.Get k n) long may ongoing = tt
+quiet_of task es (Ask.Range p o l) long may ongoing = tt
+quiet_of task es (Ask.Put t k n x) long may ongoing = tt
+quiet_of task es (Ask.Delete t k n) long may ongoing = tt
+quiet_of task es Ask.Config long may ongoing = tt
 
 among_last : (us : List Token) (t : Token) → is_among (us ++ t ∷ []) t ≡ true
 among_last [] t = elim (cases_Bool (eqb t.0 t.0)) [ inl e ↦ rw e refl | inr e ↦ absurd (eqb-false t.0 t.0 e refl) ]
@@ -204,21 +215,20 @@ ticket_fresh old (Err TicketError.Exhausted) new token say free step says is = a
 ticket_fresh old (Err TicketError.Memory) new token say free step says is = absurd says
 
 lock_live : (old : Tokens) (row : LockRow) (result : Result Grant LockError) (new : Tokens) (say : Say) → old.live ≡ [] → LockStep old row.token row.exclusive row.time row.host result new → LockSays result say → say ≡ Say.Done
-    → live_as new row.token ≢ None
-lock_live old row (Ok Grant.New) new say free step says is none =
-    let live : live_as new row.token ≡ Some row.exclusive = ap (λ (l : Tokens). kind_among l.live row.token) step.1 ∙ kind_among-with_row_same row old.live (no_live old row.token free) in
-    none-some row.exclusive (sym none ∙ live)
-lock_live old row (Ok Grant.Held) new say free step says is none = none-some row.exclusive (sym (no_live old row.token free) ∙ step.0)
-lock_live old row (Err LockError.Dead) new say free step says is none = absurd (cc)
-lock_live old row (Err LockError.OtherKind) new say free step says is none = absurd (cc)
-lock_live old row (Err LockError.Busy) new say free step says is none = absurd (cc)
-lock_live old row (Err LockError.Full) new say free step says is none = absurd (cc)
-lock_live old row (Err LockError.Memory) new say free step says is none = absurd says
+    → live_as new row.token ≡ Some row.exclusive
+lock_live old row (Ok Grant.New) new say free step says is =
+    ap (λ (l : Tokens). kind_among l.live row.token) step.1 ∙ kind_among-with_row_same row old.live (no_live old row.token free)
+lock_live old row (Ok Grant.Held) new say free step says is = absurd (none-some row.exclusive (sym (no_live old row.token free) ∙ step.0))
+lock_live old row (Err LockError.Dead) new say free step says is = absurd (cc)
+lock_live old row (Err LockError.OtherKind) new say free step says is = absurd (cc)
+lock_live old row (Err LockError.Busy) new say free step says is = absurd (cc)
+lock_live old row (Err LockError.Full) new say free step says is = absurd (cc)
+lock_live old row (Err LockError.Memory) new say free step says is = absurd says
 
 token_told : (say : Say) (token : Token) → say ≡ Say.Token token → (code : Code) → say ≢ Say.Refused code
 token_told say token h code g = absurd (cc)
 
-module _ (task : Task) (es : Trace) (old : Store) (e : Exchange) (new : Store) (plain : IsNoDelete e.ask) (may : May task es e.ask) (step : Step old e.ask e.say new) (stands : Stands task es old.tokens) where
+module _ (task : Task) (es : Trace) (old : Store) (e : Exchange) (new : Store) (may : May task es e.ask) (step : Step old e.ask e.say new) (stands : Stands task es old.tokens) where
   first_fresh : (token : Token) → e ∷ es ≡ ticketed token → (new.tokens.live ≡ []) × (is_fresh new.tokens token ≡ true)
   first_fresh token h =
       let newest : e ≡ silent Ask.Ticket (Say.Token token) = cc in
@@ -228,14 +238,14 @@ module _ (task : Task) (es : Trace) (old : Store) (e : Exchange) (new : Store) (
       let a : Answers old Ask.Ticket e.say new = subst (λ q. Answers old q e.say new) ask (answered old e.ask e.say new (token_told e.say token say) step) in
       subst (λ (l : Tokens). (l.live ≡ []) × (is_fresh l token ≡ true)) (sym a.saves.2) (ticket_fresh old.tokens a.result a.tokens token e.say (stands.first none).0 a.step a.says say)
 
-  now_live : (token : Token) → e ≡ silent (Ask.Lock (lock_row task token)) Say.Done → es ≡ ticketed token → live_as new.tokens token ≢ None
+  now_live : (token : Token) → e ≡ silent (Ask.Lock (lock_row task token)) Say.Done → es ≡ ticketed token → live_as new.tokens token ≡ Some task.exclusive
   now_live token newest older =
       let ask : e.ask ≡ Ask.Lock (lock_row task token) = ap (λ (x : Exchange). x.ask) newest in
       let say : e.say ≡ Say.Done = ap (λ (x : Exchange). x.say) newest in
       let a : Answers old (Ask.Lock (lock_row task token)) e.say new = subst (λ q. Answers old q e.say new) ask (answered old e.ask e.say new (no_done e.say say) step) in
-      subst (λ (l : Tokens). live_as l token ≢ None) (sym a.saves.2) (lock_live old.tokens (lock_row task token) a.result a.tokens e.say (stands.fresh token older).0 a.step a.says say)
+      subst (λ (l : Tokens). live_as l token ≡ Some task.exclusive) (sym a.saves.2) (lock_live old.tokens (lock_row task token) a.result a.tokens e.say (stands.fresh token older).0 a.step a.says say)
 
-  still_live : (token : Token) (later : Trace) → e ∷ es ≡ later ++ locked task token → AreHeld later → live_as new.tokens token ≢ None
+  still_live : (token : Token) (later : Trace) → e ∷ es ≡ later ++ locked task token → AreHeld later → live_as new.tokens token ≡ Some task.exclusive
   still_live token [] since held = now_live token (cc) (cc)
   still_live token (l ∷ later) since held =
       let older : es ≡ later ++ locked task token = cc in
@@ -243,7 +253,7 @@ module _ (task : Task) (es : Trace) (old : Store) (e : Exchange) (new : Store) (
       let ongoing : (t : Token) → e.ask ≢ Ask.Unlock t = λ t q. held.unended.0 t (sym (ap (λ (x : Exchange). x.ask) same) ∙ q) in
       let long : length es ≡ length later + 2 = ap length older ∙ length-append later (locked task token) in
       let before = stands.held token (record { later = later; since = older; held = record { unfenced = held.unfenced.1; unended = held.unended.1 } }) in
-      subst (λ (l : Tokens). live_as l token ≢ None) (sym (quiet_step old e.ask e.say new (quiet_of task es e.ask plain (omega (arith, long)) may ongoing) step)) before
+      subst (λ (l : Tokens). live_as l token ≡ Some task.exclusive) (sym (quiet_step old e.ask e.say new (quiet_of task es e.ask (omega (arith, long)) may ongoing) step)) before
 
   pub stands_more : Stands task (e ∷ es) new.tokens
   stands_more = record {

@@ -20,10 +20,11 @@ use Rattle.repo_tree.specs.SnapshotText.{IsSnapshotText, HasSnapshot, SnapshotFa
 use Rattle.repo_store.specs.Stores.{Store, Objects}
 use Rattle.repo_session.specs.declared.outcomes.End.{End}
 use Rattle.repo_session.specs.Ends.{IsUnreadable, IsBad, IsBadBlob, IsSenseless, IsOfOtherVersion, CausedBy, Suits}
+use Rattle.repo_session.specs.Order.{IsReading}
 use Rattle.repo_session.specs.Soundness.{IsSound}
 use Rattle.repo_session.specs.Traces.{Exchange, Trace, Exchanged, ReadFact}
 use Rattle.repo_session.proofs.Calm.{Right}
-use Rattle.repo_session.proofs.Growing.{Shares, bytes_same}
+use Rattle.repo_session.proofs.Growing.{bytes_same}
 use Rattle.repo_session.proofs.Wholeness.{given_held}
 
 -- ---- no memory
@@ -90,7 +91,7 @@ right_no_refusal store (Ask.Get k n) say code r s = let q : say ≡ Say.Bytes r.
 right_no_refusal store (Ask.Range p offset len) say code r s = let q : say ≡ Say.Bytes r.1 = r.4 in absurd (cc)
 right_no_refusal store (Ask.Put token k n x) say code r s = absurd (cc)
 right_no_refusal store Ask.Config say code r s = let q : say ≡ Say.Bytes r.0 = r.2 in absurd (cc)
-right_no_refusal store (Ask.Delete token k n) say code r s = r
+right_no_refusal store (Ask.Delete token k n) say code r s = absurd (cc)
 right_no_refusal store (Ask.Refresh token time) say code r s = r
 right_no_refusal store Ask.Locks say code r s = r
 
@@ -145,13 +146,16 @@ readable objects Kind.Pack n x sound there h = h
 readable objects Kind.Index n x sound there h = let i = sound.indexes n x there in h i.packs i.reads
 readable objects Kind.Snapshot n x sound there h = let s = sound.snapshots n x there in h.3 (snapshot_faultless x s.snapshot h.0 s.reads h.1)
 
-module _ (store : Store) (from : Store) (es : Trace) (e : Exchange) (sound : IsSound store.objects) (shares : Shares from es store) (text : List ℕ) (config : Config) (configured : store.config ≡ Some text) (reads : IsConfigText text config) where
+-- before an exchange, which may read only where the store is sound and has the indexes that were got
+module _ (store : Store) (es : Trace) (e : Exchange) (sound : IsReading e.ask → IsSound store.objects) (got : IsReading e.ask → (n : Name) (x : List ℕ) → Exchanged es (Ask.Get Kind.Index n) (Say.Bytes x) → store.objects Kind.Index n ≡ Some x)
+    (text : List ℕ) (config : Config) (configured : store.config ≡ Some text) (reads : IsConfigText text config) where
   -- the bytes that a place of a fact has are that fact's
   range_good : (p : Name) (offset len : ℕ) (pack x : List ℕ) (fact : Fact) → e.ask ≡ Ask.Range p offset len → store.objects Kind.Pack p ≡ Some pack → range pack offset len ≡ Some x → ReadFact (e ∷ es) fact
       → fact.place.pack ≡ p → fact.place.offset ≡ offset → fact.place.length ≡ len → IsBadBlob fact x → ⊥
   range_good p offset len pack x fact q there stands read packs offsets lengths bad =
       let old : Exchanged es (Ask.Get Kind.Index read.index) (Say.Bytes read.text) = ⊎_elim (λ (now : (e.ask ≡ Ask.Get Kind.Index read.index) × (e.say ≡ Say.Bytes read.text)). (let w : Ask.Range p offset len ≡ Ask.Get Kind.Index read.index = sym q ∙ now.0 in absurd (cc))) (λ before. before) read.read.0 in
-      let held = given_held store.objects sound read.index read.text fact (shares.got Kind.Index read.index read.text old) read.says in
+      let reading : IsReading e.ask = subst IsReading (sym q) tt in
+      let held = given_held store.objects (sound reading) read.index read.text fact (got reading read.index read.text old) read.says in
       let same : held.pack ≡ pack = same_Some held.pack pack (sym held.there ∙ ap (λ m. store.objects Kind.Pack m) packs ∙ there) in
       let there_is : range pack offset len ≡ Some held.bytes = sym (ap (λ b. range b offset len) same) ∙ (sym (ap (λ o. range held.pack o len) offsets) ∙ (sym (ap (λ l. range held.pack fact.place.offset l) lengths) ∙ held.stands)) in
       let bytes : held.bytes ≡ x = same_Some held.bytes x (sym there_is ∙ stands) in
@@ -167,7 +171,8 @@ module _ (store : Store) (from : Store) (es : Trace) (e : Exchange) (sound : IsS
   not_bad (Ask.Get k n) thing name q r h =
       let same : r.0 ≡ h.0 = bytes_same e.say r.0 h.0 r.2 h.1 in
       let there : store.objects k n ≡ Some h.0 = r.1 ∙ ap Some same in
-      ⊎_elim (λ other. other (sound.named k n h.0 there)) (λ other. readable store.objects k n h.0 sound there other) h.4
+      let whole = sound (subst IsReading (sym q) tt) in
+      ⊎_elim (λ other. other (whole.named k n h.0 there)) (λ other. readable store.objects k n h.0 whole there other) h.4
   not_bad (Ask.Range p offset len) thing name q r h =
       let same : r.1 ≡ h.0 = bytes_same e.say r.1 h.0 r.4 h.2 in
       range_good p offset len r.0 h.0 h.1 q r.2 (r.3 ∙ ap Some same) h.3 h.4 h.5 h.6 h.9
@@ -190,29 +195,29 @@ module _ (store : Store) (from : Store) (es : Trace) (e : Exchange) (sound : IsS
   not_senseless (Ask.Get k n) r h = subst (λ s. Suits (Ask.Get k n) s → ⊥) r.2 h tt
   not_senseless (Ask.Range p offset len) r h = subst (λ s. Suits (Ask.Range p offset len) s → ⊥) r.4 h tt
   not_senseless (Ask.Put token k n x) r h = subst (λ s. Suits (Ask.Put token k n x) s → ⊥) r h tt
-  not_senseless (Ask.Delete token k n) r h = r
+  not_senseless (Ask.Delete token k n) r h = subst (λ s. Suits (Ask.Delete token k n) s → ⊥) r h tt
   not_senseless Ask.Config r h =
       let bad : IsSenseless Ask.Config (Say.Bytes r.0) = subst (λ s. IsSenseless Ask.Config s) r.2 h in
       bad.3 (config_is r.0 bad.0 r.1 bad.1)
 
-  not_other : (ask : Ask) → Right store ask e.say → IsOfOtherVersion ask e.say → ⊥
-  not_other Ask.Ticket r h = h
-  not_other (Ask.Lock row) r h = h
-  not_other (Ask.Refresh token time) r h = h
-  not_other (Ask.Unlock token) r h = h
-  not_other Ask.Locks r h = h
-  not_other (Ask.List k after) r h = h
-  not_other (Ask.Get Kind.Pack n) r h = h
-  not_other (Ask.Get Kind.Index n) r h = h
-  not_other (Ask.Get Kind.Snapshot n) r h =
+  not_other : (ask : Ask) → e.ask ≡ ask → Right store ask e.say → IsOfOtherVersion ask e.say → ⊥
+  not_other Ask.Ticket q r h = h
+  not_other (Ask.Lock row) q r h = h
+  not_other (Ask.Refresh token time) q r h = h
+  not_other (Ask.Unlock token) q r h = h
+  not_other Ask.Locks q r h = h
+  not_other (Ask.List k after) q r h = h
+  not_other (Ask.Get Kind.Pack n) q r h = h
+  not_other (Ask.Get Kind.Index n) q r h = h
+  not_other (Ask.Get Kind.Snapshot n) q r h =
       let bad : IsOfOtherVersion (Ask.Get Kind.Snapshot n) (Say.Bytes r.0) = subst (λ s. IsOfOtherVersion (Ask.Get Kind.Snapshot n) s) r.2 h in
-      let s = sound.snapshots n r.0 r.1 in
+      let s = (sound (subst IsReading (sym q) tt)).snapshots n r.0 r.1 in
       let w : TextError.Version ≡ TextError.Memory = snapshot_faultless r.0 s.snapshot TextError.Version s.reads bad.1 in
       absurd (cc)
-  not_other (Ask.Range p offset len) r h = h
-  not_other (Ask.Put token k n x) r h = h
-  not_other (Ask.Delete token k n) r h = h
-  not_other Ask.Config r h =
+  not_other (Ask.Range p offset len) q r h = h
+  not_other (Ask.Put token k n x) q r h = h
+  not_other (Ask.Delete token k n) q r h = h
+  not_other Ask.Config q r h =
       let bad : IsOfOtherVersion Ask.Config (Say.Bytes r.0) = subst (λ s. IsOfOtherVersion Ask.Config s) r.2 h in
       let w : TextError.Version ≡ TextError.Memory = config_is r.0 TextError.Version r.1 bad in
       absurd (cc)
@@ -224,7 +229,7 @@ module _ (store : Store) (from : Store) (es : Trace) (e : Exchange) (sound : IsS
   right_no_end (End.Refused code) r h = right_no_refusal store e.ask e.say code r h.0
   right_no_end (End.BadObject thing name) r h = not_bad e.ask thing name refl r h
   right_no_end End.BadReply r h = not_senseless e.ask r h
-  right_no_end End.Version r h = not_other e.ask r h
+  right_no_end End.Version r h = not_other e.ask refl r h
   right_no_end End.DirectoryTooLarge r h = h
 
   -- the one end that is left

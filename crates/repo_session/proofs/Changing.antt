@@ -71,12 +71,12 @@ module _ (old new : Objects) (kind : Kind) (name : Name) (sound : IsSound old) (
   }
 
   -- a snapshot all of whose pairs are held is sound
-  snapshot_left : AreHeldApart old → (x : List ℕ) (h : IsSoundSnapshot old x) → ((k : BlobKind) (n : Name) → Reach (IsHeld old) h.snapshot.tree k n → HasPair (IsHeld new) k n) → IsSoundSnapshot new x
+  snapshot_left : AreHeldApart old → (x : List ℕ) (h : IsSoundSnapshot old x) → ((k : BlobKind) (n : Name) → Reach h.snapshot.version (IsHeld old) h.snapshot.tree k n → HasPair (IsHeld new) k n) → IsSoundSnapshot new x
   snapshot_left apart x h held =
       let agree : Agree (IsHeld old) (IsHeld new) = λ k y z a b. apart k y z a (fewer k z b) in
       let within : Agree (IsHeld new) (IsHeld new) = λ k y z a b. apart k y z (fewer k y a) (fewer k z b) in
-      let spells : Spells (IsHeld new) h.snapshot.tree [] h.entries = moved (IsHeld old) (IsHeld new) agree h.snapshot.tree h.entries h.spells held in
-      record { snapshot = h.snapshot; entries = h.entries; reads = h.reads; is_whole = λ k n r. reached (IsHeld new) within h.snapshot.tree h.entries spells k n r; spells = spells }
+      let spells : Spells h.snapshot.version (IsHeld new) h.snapshot.tree [] h.entries = moved h.snapshot.version (IsHeld old) (IsHeld new) agree h.snapshot.tree h.entries h.spells held in
+      record { snapshot = h.snapshot; entries = h.entries; reads = h.reads; is_whole = λ k n r. reached h.snapshot.version (IsHeld new) within h.snapshot.tree h.entries spells k n r; spells = spells }
 
 pub removing_index_keeps_sound : RemovingIndexKeepsSound
 removing_index_keeps_sound old new name sound removed needless apart = record {

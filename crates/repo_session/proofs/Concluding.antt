@@ -1,4 +1,4 @@
--- How a client ends that is alone with its store, and deletes nothing.
+-- How a client ends that is alone with its store, and reads nothing after it began to delete.
 use Rattle.std.specs.Prelude.{⊤, All}
 use Rattle.std.proofs.Common.{arith, ◌≡◌, ◌≢◌, ◌⊎◌, ◌≤◌, ◌<◌, ◌+◌, ◌++◌, ◌∷◌, ◌^◌, ◌-◌, [], ℕ, List, length, Option, Some, None, refl, sym, ap, subst, inl, inr, ⊎_elim, length-append, ◌∙◌, Contains}
 use Rattle.std.proofs.lemmas.Option.{same_Some, none-some}
@@ -28,14 +28,14 @@ use Rattle.repo_session.specs.declared.outcomes.Outcome.{Outcome}
 use Rattle.repo_session.specs.Alone.{IsFit, HasAsked, EndsWell}
 use Rattle.repo_session.specs.Clients.{exchange, IsObedient}
 use Rattle.repo_session.specs.Ends.{IsCause, Concludes, before_unlock, without_unlock}
-use Rattle.repo_session.specs.Order.{Task, May, MayGet, MayRange, IsPermitted, Obeys, locked}
+use Rattle.repo_session.specs.Order.{Task, May, MayGet, MayRange, IsPermitted, IsReading, Obeys, locked}
 use Rattle.repo_session.specs.Soundness.{IsSound}
 use Rattle.repo_session.specs.Talks.{Turn, Talk, trace_of, taken_in}
-use Rattle.repo_session.specs.Traces.{Exchange, Trace, WasAsked}
+use Rattle.repo_session.specs.Traces.{Each, Exchange, Trace, WasAsked}
 use Rattle.repo_session.proofs.Calm.{Stands, IsThere, right_step, stands_more}
 use Rattle.repo_session.proofs.Causes.{only_memory}
 use Rattle.repo_session.proofs.Containing.{flat_contains}
-use Rattle.repo_session.proofs.Growing.{Led, IsNoDelete, Shares, shares_nothing, shares_more}
+use Rattle.repo_session.proofs.Growing.{Led, IsNoDelete, Shares, shares_nothing, shares_more, step_config}
 use Rattle.repo_session.proofs.Wholeness.{given_held}
 
 -- what holds of the exchanges without the end of the lock holds of all, or of all but the newest
@@ -56,8 +56,24 @@ either P Ask.Config whole older h = inl h
 abbrev pub DeletesNothing : (Trace → Ask → Type 0) → Type 0
 DeletesNothing Allows = (es : Trace) (token : Token) (k : Kind) (n : Name) → Allows es (Ask.Delete token k n) → ⊥
 
+-- nothing was deleted
+abbrev pub IsUndeleted : Trace → Type 0
+IsUndeleted es = Each (λ (e : Exchange). IsNoDelete e.ask) es
+
+-- the job's rule lets it read only while nothing was deleted
+abbrev pub ReadsFirst : Task → (Trace → Ask → Type 0) → (Trace → Exchange → Type 0) → Type 0
+ReadsFirst task Allows Gives = (es : Trace) (ask : Ask) → Obeys task Allows Gives es → IsPermitted Allows es ask → IsReading ask → IsUndeleted es
+
 pub no_delete : (Allows : Trace → Ask → Type 0) → DeletesNothing Allows → (es : Trace) (ask : Ask) → IsPermitted Allows es ask → IsNoDelete ask
 no_delete Allows never es ask h token k n q = never es token k n (subst (λ a. IsPermitted Allows es a) q h tt)
+
+-- a job that deletes nothing reads before it deletes
+pub undeleted : (task : Task) (Allows : Trace → Ask → Type 0) (Gives : Trace → Exchange → Type 0) → DeletesNothing Allows → (es : Trace) → Obeys task Allows Gives es → IsUndeleted es
+undeleted task Allows Gives never [] o = tt
+undeleted task Allows Gives never (e ∷ es) o = (no_delete Allows never es e.ask o.1, undeleted task Allows Gives never es o.3)
+
+pub reads_first : (task : Task) (Allows : Trace → Ask → Type 0) (Gives : Trace → Exchange → Type 0) → DeletesNothing Allows → ReadsFirst task Allows Gives
+reads_first task Allows Gives never es ask o permitted reading = undeleted task Allows Gives never es o
 
 -- what was put has its name, and is within its limit
 pub was_put : (task : Task) (Allows : Trace → Ask → Type 0) (Gives : Trace → Exchange → Type 0) (es : Trace) (token : Token) (k : Kind) (n : Name) (x : List ℕ) → Obeys task Allows Gives es → WasAsked es (Ask.Put token k n x)
@@ -68,7 +84,8 @@ was_put task Allows Gives (e ∷ es) token k n x o (inr before) = was_put task A
 
 -- what is known of the store after some turns
 pub record Known (task : Task) (from : Store) (es : Trace) (store : Store) : Type 0 where
-  pub shares : Shares from es store
+  pub shares : IsUndeleted es → Shares from es store
+  pub config : store.config ≡ from.config
   pub stands : Stands task es store.tokens
 
 none_held : (task : Task) (token : Token) (later : Trace) → [] ≡ later ++ locked task token → ⊥
@@ -76,20 +93,20 @@ none_held task token later h = let n : 0 ≡ length later + 2 = ap length h ∙ 
 
 at_start : (task : Task) (from to : Store) → IsFit from → to ≡ from → Known task from [] to
 at_start task from to fit h = subst (λ s. Known task from [] s) (sym h) (record {
-  shares = shares_nothing from;
+  shares = λ none. shares_nothing from;
+  config = refl;
   stands = record { first = λ e. (fit.free, fit.numbers); fresh = λ token e. absurd (cc); held = λ token e. absurd (none_held task token e.later e.since) };
 })
 
-pub known : (task : Task) (Allows : Trace → Ask → Type 0) (Gives : Trace → Exchange → Type 0) → DeletesNothing Allows → (from : Store) → IsFit from → (talk : Talk) (to : Store) → Led from talk to → Obeys task Allows Gives (trace_of talk)
-    → Known task from (trace_of talk) to
-known task Allows Gives never from fit [] to h o = at_start task from to fit h
-known task Allows Gives never from fit (turn ∷ talk) to h o =
-    let before = known task Allows Gives never from fit talk h.0 h.1 o.3 in
+pub known : (task : Task) (Allows : Trace → Ask → Type 0) (Gives : Trace → Exchange → Type 0) (from : Store) → IsFit from → (talk : Talk) (to : Store) → Led from talk to → Obeys task Allows Gives (trace_of talk) → Known task from (trace_of talk) to
+known task Allows Gives from fit [] to h o = at_start task from to fit h
+known task Allows Gives from fit (turn ∷ talk) to h o =
+    let before = known task Allows Gives from fit talk h.0 h.1 o.3 in
     let e : Exchange = exchange turn.request turn.reply turn.emitted in
-    let plain = no_delete Allows never (trace_of talk) turn.request.ask o.1 in
     record {
-      shares = shares_more from h.0 to (trace_of talk) turn.request.ask turn.reply.say turn.emitted plain h.2.step before.shares;
-      stands = stands_more task (trace_of talk) h.0 e to plain o.0 h.2.step before.stands;
+      shares = λ none. shares_more from h.0 to (trace_of talk) turn.request.ask turn.reply.say turn.emitted none.0 h.2.step (before.shares none.1);
+      config = step_config h.0 turn.request.ask turn.reply.say to h.2.step ∙ before.config;
+      stands = stands_more task (trace_of talk) h.0 e to o.0 h.2.step before.stands;
     }
 
 -- ---- what is asked for is there
@@ -109,44 +126,45 @@ asked_there from store (Some m) n has is kept =
     (has.0, kept has.0 there)
 
 module _ (task : Task) (Allows : Trace → Ask → Type 0) (Gives : Trace → Exchange → Type 0) (from : Store) (fit : IsFit from) (has : HasAsked from task.snapshot) (es : Trace) (store : Store) (o : Obeys task Allows Gives es)
-    (now : Known task from es store) (sound : IsSound store.objects) where
-  few_bytes : (k : Kind) (n : Name) (x : List ℕ) → store.objects k n ≡ Some x → length x ≤ object_limit k
-  few_bytes k n x h = ⊎_elim (λ old. fit.within k n x old) (λ put. (was_put task Allows Gives es put.0 k n x o put.1).1) (now.shares.origin k n x h)
+    (sound : IsSound store.objects) where
+  module _ (shares : Shares from es store) where
+    few_bytes : (k : Kind) (n : Name) (x : List ℕ) → store.objects k n ≡ Some x → length x ≤ object_limit k
+    few_bytes k n x h = ⊎_elim (λ old. fit.within k n x old) (λ put. (was_put task Allows Gives es put.0 k n x o put.1).1) (shares.origin k n x h)
 
-  get_there : (k : Kind) (n : Name) → MayGet task k n es → (x : List ℕ) × (store.objects k n ≡ Some x)
-  get_there k n (inl listed) = now.shares.listed k n listed.1
-  get_there k n (inr given) =
-      let found = asked_there from store task.snapshot n has given.1 (λ x h. now.shares.kept Kind.Snapshot n x h) in
-      (found.0, ap (λ j. store.objects j n) given.0 ∙ found.1)
+    get_there : (k : Kind) (n : Name) → MayGet task k n es → (x : List ℕ) × (store.objects k n ≡ Some x)
+    get_there k n (inl listed) = shares.listed k n listed.1
+    get_there k n (inr given) =
+        let found = asked_there from store task.snapshot n has given.1 (λ x h. shares.kept Kind.Snapshot n x h) in
+        (found.0, ap (λ j. store.objects j n) given.0 ∙ found.1)
 
-  range_there : (p : Name) (offset len : ℕ) → MayRange p offset len es → IsThere store (Ask.Range p offset len)
-  range_there p offset len may =
-      let fact : Fact = may.0 in
-      let read = may.1 in
-      let held = given_held store.objects sound read.index read.text fact (now.shares.got Kind.Index read.index read.text read.read.0) read.says in
-      let within = lawful_fact read.says.packs fact (index_texts_lawful read.text read.says.packs read.says.text) read.says.among in (
-        held.pack,
-        held.bytes,
-        sym (ap (λ m. store.objects Kind.Pack m) may.2) ∙ held.there,
-        sym (ap (λ i. range held.pack i len) may.3) ∙ (sym (ap (λ l. range held.pack fact.place.offset l) may.4) ∙ held.stands),
-        subst IsRangeLength may.4 within.blob,
-      )
+    range_there : (p : Name) (offset len : ℕ) → MayRange p offset len es → IsThere store (Ask.Range p offset len)
+    range_there p offset len may =
+        let fact : Fact = may.0 in
+        let read = may.1 in
+        let held = given_held store.objects sound read.index read.text fact (shares.got Kind.Index read.index read.text read.read.0) read.says in
+        let within = lawful_fact read.says.packs fact (index_texts_lawful read.text read.says.packs read.says.text) read.says.among in (
+          held.pack,
+          held.bytes,
+          sym (ap (λ m. store.objects Kind.Pack m) may.2) ∙ held.there,
+          sym (ap (λ i. range held.pack i len) may.3) ∙ (sym (ap (λ l. range held.pack fact.place.offset l) may.4) ∙ held.stands),
+          subst IsRangeLength may.4 within.blob,
+        )
 
-  config_there : IsThere store Ask.Config
-  config_there = (fit.text, now.shares.config ∙ fit.configured, fit.reads.json.short)
+  config_there : Known task from es store → IsThere store Ask.Config
+  config_there now = (fit.text, now.config ∙ fit.configured, fit.reads.json.short)
 
-  is_there : (ask : Ask) → May task es ask → IsThere store ask
-  is_there Ask.Ticket may = tt
-  is_there (Ask.Lock row) may = tt
-  is_there (Ask.Refresh token time) may = tt
-  is_there (Ask.Unlock token) may = tt
-  is_there Ask.Locks may = tt
-  is_there (Ask.List k after) may = tt
-  is_there (Ask.Get k n) may = let found = get_there k n may.1 in (found.0, found.1, few_bytes k n found.0 found.1)
-  is_there (Ask.Range p offset len) may = range_there p offset len may.1
-  is_there (Ask.Put token k n x) may = tt
-  is_there (Ask.Delete token k n) may = tt
-  is_there Ask.Config may = config_there
+  is_there : (ask : Ask) → Known task from es store → (IsReading ask → IsUndeleted es) → May task es ask → IsThere store ask
+  is_there Ask.Ticket now first may = tt
+  is_there (Ask.Lock row) now first may = tt
+  is_there (Ask.Refresh token time) now first may = tt
+  is_there (Ask.Unlock token) now first may = tt
+  is_there Ask.Locks now first may = tt
+  is_there (Ask.List k after) now first may = tt
+  is_there (Ask.Get k n) now first may = let shares = now.shares (first tt) in let found = get_there shares k n may.1 in (found.0, found.1, few_bytes shares k n found.0 found.1)
+  is_there (Ask.Range p offset len) now first may = range_there (now.shares (first tt)) p offset len may.1
+  is_there (Ask.Put token k n x) now first may = tt
+  is_there (Ask.Delete token k n) now first may = tt
+  is_there Ask.Config now first may = config_there now
 
 -- ---- how it ends
 
@@ -181,19 +199,19 @@ calm_talk (turn ∷ talk) calm = (λ h. calm (tells_last (taken_in talk) turn.re
 pub calm_of : (failed : ℕ) (talk : Talk) → failed < greatest_count → HaveCause failed (taken_in talk) failed → IsCalm talk
 calm_of failed talk low cause = calm_talk talk (λ h. ⊎_elim (λ (rose : failed < failed). absurd (omega (arith, rose))) (λ (top : failed ≡ greatest_count). absurd (omega (arith, low, top))) (cause.1 h))
 
-module _ (task : Task) (Allows : Trace → Ask → Type 0) (Gives : Trace → Exchange → Type 0) (Own : Trace → Outcome → Type 0) (never : DeletesNothing Allows) (from : Store) (fit : IsFit from) (has : HasAsked from task.snapshot) where
+module _ (task : Task) (Allows : Trace → Ask → Type 0) (Gives : Trace → Exchange → Type 0) (Own : Trace → Outcome → Type 0) (first : ReadsFirst task Allows Gives) (from : Store) (fit : IsFit from) (has : HasAsked from task.snapshot) where
   -- by the newest exchange
   end_here : (turn : Turn) (talk : Talk) (to : Store) (end : End) → Led from (turn ∷ talk) to → Obeys task Allows Gives (trace_of (turn ∷ talk)) → IsSoundThroughout from (turn ∷ talk) → IsCalm (turn ∷ talk)
       → length (turn ∷ talk) < 2 ^ 64 - 1 → IsCause (trace_of (turn ∷ talk)) end → end ≡ End.Refused Code.NoMemory
   end_here turn talk to end h o sound calm few (inr spent) = let n : length (trace_of talk) ≡ length talk = length-map talk (λ (t : Turn). exchange t.request t.reply t.emitted) in absurd (omega (arith, few, spent.1, n))
   end_here turn talk to end h o sound calm few (inl cause) =
       let es : Trace = trace_of talk in
-      let now = known task Allows Gives never from fit talk h.0 h.1 o.3 in
+      let now = known task Allows Gives from fit talk h.0 h.1 o.3 in
       let here = sound_now from talk h.0 sound.1 h.1 in
-      let plain = no_delete Allows never es turn.request.ask o.1 in
-      let there = is_there task Allows Gives from fit has es h.0 o.3 now here turn.request.ask o.0 in
-      let said = right_step task es h.0 turn.request.ask turn.reply.say to now.stands o.0 plain there calm.0 h.2.step in
-      only_memory h.0 from es (exchange turn.request turn.reply turn.emitted) here now.shares fit.text fit.config (now.shares.config ∙ fit.configured) fit.reads end said cause
+      let none : IsReading turn.request.ask → IsUndeleted es = λ reading. first es turn.request.ask o.3 o.1 reading in
+      let there = is_there task Allows Gives from fit has es h.0 o.3 here turn.request.ask now none o.0 in
+      let said = right_step task es h.0 turn.request.ask turn.reply.say to now.stands o.0 there calm.0 h.2.step in
+      only_memory h.0 es (exchange turn.request turn.reply turn.emitted) (λ reading. here) (λ reading n x got. (now.shares (none reading)).got Kind.Index n x got) fit.text fit.config (now.config ∙ fit.configured) fit.reads end said cause
 
   end_of_talk : (talk : Talk) (to : Store) (end : End) → Led from talk to → Obeys task Allows Gives (trace_of talk) → IsSoundThroughout from talk → IsCalm talk → length talk < 2 ^ 64 - 1 → IsCause (trace_of talk) end
       → end ≡ End.Refused Code.NoMemory

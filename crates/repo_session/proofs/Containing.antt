@@ -1,20 +1,8 @@
 -- What lists contain.
-use Rattle.std.proofs.Common.{arith, ◌≡◌, ◌∷◌, [], zero, suc, List, refl, sym, subst, inl, inr, ◌⊎◌, Contains}
+use Rattle.std.proofs.Common.{◌∷◌, [], List, sym, subst, inl, inr, Contains}
 use Rattle.std.specs.List.{flat_map}
 use Rattle.std.proofs.lemmas.List.Elements.{Contains-append_left, Contains-append_right, Contains-append_cases}
-
-pub none_contained : {A : Type 0} (x : A) → Contains [] x → ⊥
-none_contained x h = absurd (omega (arith, h.1))
-
-pub first_contained : {A : Type 0} (x : A) (xs : List A) → Contains (x ∷ xs) x
-first_contained x xs = (zero, omega arith, refl)
-
-pub later_contained : {A : Type 0} (y : A) (xs : List A) (x : A) → Contains xs x → Contains (y ∷ xs) x
-later_contained y xs x h = Contains-append_right (y ∷ []) xs x h
-
-pub contained_or : {A : Type 0} (y : A) (xs : List A) (x : A) → Contains (y ∷ xs) x → (y ≡ x) ⊎ Contains xs x
-contained_or y xs x (zero, within, is) = inl is
-contained_or y xs x (suc k, within, is) = inr (k, omega (arith, within), is)
+pub use Rattle.repo_tree.proofs.Containing.{none_contained, first_contained, later_contained, contained_or}
 
 -- what lists joined contain, one of them does
 pub flat_contains : {A B : Type 0} (f : A → List B) (xs : List A) (y : B) → Contains (flat_map f xs) y → (x : A) × Contains xs x × Contains (f x) y

@@ -111,7 +111,7 @@ names_told : (say : Say) (more : Bool) (names : List Name) → say ≡ Say.Names
 names_told say more names h code g = absurd (cc)
 
 -- one exchange more
-given_more : (task : Task) (k : Kind) (es : Trace) (old new : Store) (e : Exchange) (n : Name) (x : List ℕ) (ask : Ask) (say : Say) → e.ask ≡ ask → e.say ≡ say → May task es e.ask → Step old e.ask e.say new → old.objects k n ≡ Some x → GivenOrLater k es n
+pub given_more : (task : Task) (k : Kind) (es : Trace) (old new : Store) (e : Exchange) (n : Name) (x : List ℕ) (ask : Ask) (say : Say) → e.ask ≡ ask → e.say ≡ say → May task es e.ask → Step old e.ask e.say new → old.objects k n ≡ Some x → GivenOrLater k es n
     → GivenOrLater k (e ∷ es) n
 given_more task k es old new e n x (Ask.List j after) (Say.Names more names) q s may step there h =
     let m : May task es (Ask.List j after) = subst (λ a. May task es a) q may in

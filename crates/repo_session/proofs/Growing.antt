@@ -14,8 +14,8 @@ use Rattle.repo_store.specs.declared.shelves.Slice.{Slice}
 use Rattle.repo_store.specs.Pages.{Has}
 use Rattle.repo_store.specs.Runs.{Replies, Run}
 use Rattle.repo_store.specs.Slices.{IsSlice}
-use Rattle.repo_store.specs.StoreMachine.{object_limit, Answers, Step, GetSays, RangeAnswer, PutAnswer, SliceSays}
-use Rattle.repo_store.specs.Stores.{Store, Objects, Added}
+use Rattle.repo_store.specs.StoreMachine.{object_limit, Answers, Step, GetSays, RangeAnswer, PutAnswer, DeleteAnswer, SliceSays}
+use Rattle.repo_store.specs.Stores.{Store, Objects, Added, Removed}
 use Rattle.repo_session.specs.declared.emissions.Emission.{Emission}
 use Rattle.repo_session.specs.Talks.{Talk, sent_in, taken_in}
 use Rattle.repo_session.specs.Traces.{Trace, Exchanged, WasAsked, Lists, names_in, page_names, same_kind, giving}
@@ -68,41 +68,61 @@ pub record Puts (old : Store) (ask : Ask) (new : Store) : Type 0 where
   pub small : length bytes ≤ object_limit kind
   pub added : Added old.objects kind name bytes new.objects
 
+-- it removed an object
+pub record Deletes (old : Store) (ask : Ask) (new : Store) : Type 0 where
+  pub token : Token
+  pub kind : Kind
+  pub name : Name
+  pub asked : ask ≡ Ask.Delete token kind name
+  pub removed : Removed old.objects kind name new.objects
+
+-- what a step does to the objects
+abbrev pub Moves : Store → Ask → Store → Type 0
+Moves old ask new = (new.objects ≡ old.objects) ⊎ (Puts old ask new ⊎ Deletes old ask new)
+
 -- what a step does that deletes nothing
 abbrev pub Goes : Store → Ask → Store → Type 0
 Goes old ask new = (new.objects ≡ old.objects) ⊎ Puts old ask new
 
-same_goes : (old : Store) (ask : Ask) (new : Store) → new ≡ old → Goes old ask new
-same_goes old ask new h = inl (ap (λ (s : Store). s.objects) h)
+same_moves : (old : Store) (ask : Ask) (new : Store) → new ≡ old → Moves old ask new
+same_moves old ask new h = inl (ap (λ (s : Store). s.objects) h)
 
-put_goes : (old : Store) (t : Token) (k : Kind) (n : Name) (x : List ℕ) (say : Say) (new : Store) → PutAnswer old t k n x say new → Goes old (Ask.Put t k n x) new
-put_goes old t k n x say new (inl h) = same_goes old (Ask.Put t k n x) new h.2
-put_goes old t k n x say new (inr (inl h)) = same_goes old (Ask.Put t k n x) new h.3
-put_goes old t k n x say new (inr (inr (inl h))) = same_goes old (Ask.Put t k n x) new h.4
-put_goes old t k n x say new (inr (inr (inr h))) = inr (record { token = t; kind = k; name = n; bytes = x; asked = refl; named = h.2; small = h.0; added = h.4.0 })
+put_moves : (old : Store) (t : Token) (k : Kind) (n : Name) (x : List ℕ) (say : Say) (new : Store) → PutAnswer old t k n x say new → Moves old (Ask.Put t k n x) new
+put_moves old t k n x say new (inl h) = same_moves old (Ask.Put t k n x) new h.2
+put_moves old t k n x say new (inr (inl h)) = same_moves old (Ask.Put t k n x) new h.3
+put_moves old t k n x say new (inr (inr (inl h))) = same_moves old (Ask.Put t k n x) new h.4
+put_moves old t k n x say new (inr (inr (inr h))) = inr (inl (record { token = t; kind = k; name = n; bytes = x; asked = refl; named = h.2; small = h.0; added = h.4.0 }))
+
+delete_moves : (old : Store) (t : Token) (k : Kind) (n : Name) (say : Say) (new : Store) → DeleteAnswer old t k n say new → Moves old (Ask.Delete t k n) new
+delete_moves old t k n say new (inl h) = same_moves old (Ask.Delete t k n) new h.2
+delete_moves old t k n say new (inr (inl h)) = same_moves old (Ask.Delete t k n) new h.2
+delete_moves old t k n say new (inr (inr h)) = inr (inr (record { token = t; kind = k; name = n; asked = refl; removed = h.2.0 }))
 
 pub range_same : (old : Store) (pack : Name) (offset len : ℕ) (say : Say) (new : Store) → RangeAnswer old pack offset len say new → new ≡ old
 range_same old pack offset len say new (inl h) = h.2
 range_same old pack offset len say new (inr h) = h.2
 
-answer_goes : (old : Store) (ask : Ask) (say : Say) (new : Store) → IsNoDelete ask → Answers old ask say new → Goes old ask new
-answer_goes old Ask.Ticket say new plain h = inl h.saves.1
-answer_goes old (Ask.Lock row) say new plain h = inl h.saves.1
-answer_goes old (Ask.Refresh token time) say new plain h = inl h.saves.1
-answer_goes old (Ask.Unlock token) say new plain h = inl h.saves.1
-answer_goes old Ask.Locks say new plain h = same_goes old Ask.Locks new h.1
-answer_goes old (Ask.List k after) say new plain h = same_goes old (Ask.List k after) new h.4
-answer_goes old (Ask.Get k n) say new plain h = same_goes old (Ask.Get k n) new h.1
-answer_goes old (Ask.Range p o l) say new plain h = same_goes old (Ask.Range p o l) new (range_same old p o l say new h)
-answer_goes old (Ask.Put t k n x) say new plain h = put_goes old t k n x say new h
-answer_goes old (Ask.Delete t k n) say new plain h = absurd (plain t k n refl)
-answer_goes old Ask.Config say new plain h = same_goes old Ask.Config new h.1
+answer_moves : (old : Store) (ask : Ask) (say : Say) (new : Store) → Answers old ask say new → Moves old ask new
+answer_moves old Ask.Ticket say new h = inl h.saves.1
+answer_moves old (Ask.Lock row) say new h = inl h.saves.1
+answer_moves old (Ask.Refresh token time) say new h = inl h.saves.1
+answer_moves old (Ask.Unlock token) say new h = inl h.saves.1
+answer_moves old Ask.Locks say new h = same_moves old Ask.Locks new h.1
+answer_moves old (Ask.List k after) say new h = same_moves old (Ask.List k after) new h.4
+answer_moves old (Ask.Get k n) say new h = same_moves old (Ask.Get k n) new h.1
+answer_moves old (Ask.Range p o l) say new h = same_moves old (Ask.Range p o l) new (range_same old p o l say new h)
+answer_moves old (Ask.Put t k n x) say new h = put_moves old t k n x say new h
+answer_moves old (Ask.Delete t k n) say new h = delete_moves old t k n say new h
+answer_moves old Ask.Config say new h = same_moves old Ask.Config new h.1
+
+pub step_moves : (old : Store) (ask : Ask) (say : Say) (new : Store) → Step old ask say new → Moves old ask new
+step_moves old ask say new (inl h) = answer_moves old ask say new h
+step_moves old ask say new (inr (looks, inl (fault, inl h))) = same_moves old ask new h
+step_moves old ask say new (inr (looks, inl (fault, inr h))) = answer_moves old ask h.0 new h.1
+step_moves old ask say new (inr (looks, inr h)) = same_moves old ask new h.1
 
 pub step_goes : (old : Store) (ask : Ask) (say : Say) (new : Store) → IsNoDelete ask → Step old ask say new → Goes old ask new
-step_goes old ask say new plain (inl h) = answer_goes old ask say new plain h
-step_goes old ask say new plain (inr (looks, inl (fault, inl h))) = same_goes old ask new h
-step_goes old ask say new plain (inr (looks, inl (fault, inr h))) = answer_goes old ask h.0 new plain h.1
-step_goes old ask say new plain (inr (looks, inr h)) = same_goes old ask new h.1
+step_goes old ask say new plain step = ⊎_elim inl (λ other. ⊎_elim inr (λ d. absurd (plain d.token d.kind d.name d.asked)) other) (step_moves old ask say new step)
 
 -- the config stays
 same_config : (old new : Store) → new ≡ old → new.config ≡ old.config
@@ -114,24 +134,29 @@ put_config old t k n x say new (inr (inl h)) = same_config old new h.3
 put_config old t k n x say new (inr (inr (inl h))) = same_config old new h.4
 put_config old t k n x say new (inr (inr (inr h))) = h.4.1
 
-answer_config : (old : Store) (ask : Ask) (say : Say) (new : Store) → IsNoDelete ask → Answers old ask say new → new.config ≡ old.config
-answer_config old Ask.Ticket say new plain h = h.saves.0
-answer_config old (Ask.Lock row) say new plain h = h.saves.0
-answer_config old (Ask.Refresh token time) say new plain h = h.saves.0
-answer_config old (Ask.Unlock token) say new plain h = h.saves.0
-answer_config old Ask.Locks say new plain h = same_config old new h.1
-answer_config old (Ask.List k after) say new plain h = same_config old new h.4
-answer_config old (Ask.Get k n) say new plain h = same_config old new h.1
-answer_config old (Ask.Range p o l) say new plain h = same_config old new (range_same old p o l say new h)
-answer_config old (Ask.Put t k n x) say new plain h = put_config old t k n x say new h
-answer_config old (Ask.Delete t k n) say new plain h = absurd (plain t k n refl)
-answer_config old Ask.Config say new plain h = same_config old new h.1
+delete_config : (old : Store) (t : Token) (k : Kind) (n : Name) (say : Say) (new : Store) → DeleteAnswer old t k n say new → new.config ≡ old.config
+delete_config old t k n say new (inl h) = same_config old new h.2
+delete_config old t k n say new (inr (inl h)) = same_config old new h.2
+delete_config old t k n say new (inr (inr h)) = h.2.1
 
-pub step_config : (old : Store) (ask : Ask) (say : Say) (new : Store) → IsNoDelete ask → Step old ask say new → new.config ≡ old.config
-step_config old ask say new plain (inl h) = answer_config old ask say new plain h
-step_config old ask say new plain (inr (looks, inl (fault, inl h))) = same_config old new h
-step_config old ask say new plain (inr (looks, inl (fault, inr h))) = answer_config old ask h.0 new plain h.1
-step_config old ask say new plain (inr (looks, inr h)) = same_config old new h.1
+answer_config : (old : Store) (ask : Ask) (say : Say) (new : Store) → Answers old ask say new → new.config ≡ old.config
+answer_config old Ask.Ticket say new h = h.saves.0
+answer_config old (Ask.Lock row) say new h = h.saves.0
+answer_config old (Ask.Refresh token time) say new h = h.saves.0
+answer_config old (Ask.Unlock token) say new h = h.saves.0
+answer_config old Ask.Locks say new h = same_config old new h.1
+answer_config old (Ask.List k after) say new h = same_config old new h.4
+answer_config old (Ask.Get k n) say new h = same_config old new h.1
+answer_config old (Ask.Range p o l) say new h = same_config old new (range_same old p o l say new h)
+answer_config old (Ask.Put t k n x) say new h = put_config old t k n x say new h
+answer_config old (Ask.Delete t k n) say new h = delete_config old t k n say new h
+answer_config old Ask.Config say new h = same_config old new h.1
+
+pub step_config : (old : Store) (ask : Ask) (say : Say) (new : Store) → Step old ask say new → new.config ≡ old.config
+step_config old ask say new (inl h) = answer_config old ask say new h
+step_config old ask say new (inr (looks, inl (fault, inl h))) = same_config old new h
+step_config old ask say new (inr (looks, inl (fault, inr h))) = answer_config old ask h.0 new h.1
+step_config old ask say new (inr (looks, inr h)) = same_config old new h.1
 
 -- ---- what replies tell of the store
 
@@ -147,13 +172,13 @@ answered old ask say new plain (inr (looks, inr h)) = absurd (plain Code.NoMemor
 pub no_done : (say : Say) → say ≡ Say.Done → IsNoRefusal say
 no_done say h code g = absurd (cc)
 
-no_bytes : (say : Say) (x : List ℕ) → say ≡ Say.Bytes x → IsNoRefusal say
+pub no_bytes : (say : Say) (x : List ℕ) → say ≡ Say.Bytes x → IsNoRefusal say
 no_bytes say x h code g = absurd (cc)
 
-no_names : (say : Say) (more : Bool) (names : List Name) → say ≡ Say.Names more names → IsNoRefusal say
+pub no_names : (say : Say) (more : Bool) (names : List Name) → say ≡ Say.Names more names → IsNoRefusal say
 no_names say more names h code g = absurd (cc)
 
-put_there : (old : Store) (t : Token) (k : Kind) (n : Name) (x : List ℕ) (say : Say) (new : Store) → say ≡ Say.Done → PutAnswer old t k n x say new → (y : List ℕ) × (new.objects k n ≡ Some y)
+pub put_there : (old : Store) (t : Token) (k : Kind) (n : Name) (x : List ℕ) (say : Say) (new : Store) → say ≡ Say.Done → PutAnswer old t k n x say new → (y : List ℕ) × (new.objects k n ≡ Some y)
 put_there old t k n x say new s (inl h) = absurd (no_done say s Code.TooLarge h.1)
 put_there old t k n x say new s (inr (inl h)) = absurd (no_done say s Code.Dead h.2)
 put_there old t k n x say new s (inr (inr (inl h))) = absurd (no_done say s Code.NameMismatch h.3)
@@ -162,7 +187,7 @@ put_there old t k n x say new s (inr (inr (inr h))) = h.4.0.here
 pub bytes_same : (say : Say) (x y : List ℕ) → say ≡ Say.Bytes x → say ≡ Say.Bytes y → x ≡ y
 bytes_same say x y h g = cc
 
-got_there : (limit : ℕ) (o : Option (List ℕ)) (say : Say) (x : List ℕ) → say ≡ Say.Bytes x → GetSays limit o say → o ≡ Some x
+pub got_there : (limit : ℕ) (o : Option (List ℕ)) (say : Say) (x : List ℕ) → say ≡ Say.Bytes x → GetSays limit o say → o ≡ Some x
 got_there limit None say x s h = absurd (no_bytes say x s Code.Missing h)
 got_there limit (Some y) say x s (inl h) = ap Some (bytes_same say y x h.1 s)
 got_there limit (Some y) say x s (inr h) = absurd (no_bytes say x s Code.TooLarge h.1)
@@ -204,15 +229,22 @@ shares_nothing from = record {
   configured = λ x h. absurd h;
 }
 
+-- what is there stays there, but for what is deleted now
+pub leaves : (old : Store) (ask : Ask) (new : Store) → Moves old ask new → (k : Kind) (n : Name) (x : List ℕ) → old.objects k n ≡ Some x → (new.objects k n ≡ Some x) ⊎ ((t : Token) × (ask ≡ Ask.Delete t k n))
+leaves old ask new (inl same) k n x h = inl (ap (λ (o : Objects). o k n) same ∙ h)
+leaves old ask new (inr (inl p)) k n x h = inl (p.added.kept k n x h)
+leaves old ask new (inr (inr d)) k n x h = ⊎_elim inl (λ g. inr (d.token, cc (d.asked, g.0, g.1))) (d.removed.kept k n x h)
+
 -- what is there stays there
 stays : (old : Store) (ask : Ask) (new : Store) → Goes old ask new → (k : Kind) (n : Name) (x : List ℕ) → old.objects k n ≡ Some x → new.objects k n ≡ Some x
 stays old ask new (inl same) k n x h = ap (λ (o : Objects). o k n) same ∙ h
 stays old ask new (inr p) k n x h = p.added.kept k n x h
 
 -- what is there was there, or was put now
-comes : (old : Store) (ask : Ask) (new : Store) → Goes old ask new → (k : Kind) (n : Name) (x : List ℕ) → new.objects k n ≡ Some x → (old.objects k n ≡ Some x) ⊎ ((t : Token) × (ask ≡ Ask.Put t k n x))
+pub comes : (old : Store) (ask : Ask) (new : Store) → Moves old ask new → (k : Kind) (n : Name) (x : List ℕ) → new.objects k n ≡ Some x → (old.objects k n ≡ Some x) ⊎ ((t : Token) × (ask ≡ Ask.Put t k n x))
 comes old ask new (inl same) k n x h = inl (sym (ap (λ (o : Objects). o k n) same) ∙ h)
-comes old ask new (inr p) k n x h = ⊎_elim inl (λ g. inr (p.token, cc (p.asked, g.0, g.1, g.2))) (p.added.only k n x h)
+comes old ask new (inr (inl p)) k n x h = ⊎_elim inl (λ g. inr (p.token, cc (p.asked, g.0, g.1, g.2))) (p.added.only k n x h)
+comes old ask new (inr (inr d)) k n x h = inl (d.removed.only k n x h)
 
 has_either : (ns ms : List Name) (n : Name) → Has (ns ++ ms) n → Has ns n ⊎ Has ms n
 has_either [] ms n h = inr h
@@ -232,7 +264,7 @@ page_cond : (k j : Kind) (after : Option Name) (more : Bool) (names : List Name)
 page_cond k j after more names n true s h = record { after = after; more = more; names = names; asked = ap (λ i. Ask.List i after) (kinds_same j k s); said = refl; has = h }
 page_cond k j after more names n false s h = absurd h
 
-on_page : (k : Kind) (n : Name) (ask : Ask) (say : Say) → Has (page_names k ask say) n → OnPage k n ask say
+pub on_page : (k : Kind) (n : Name) (ask : Ask) (say : Say) → Has (page_names k ask say) n → OnPage k n ask say
 on_page k n (Ask.List j after) (Say.Names more names) h = page_cond k j after more names n (same_kind j k) refl h
 on_page k n (Ask.List j after) (Say.Token token) h = absurd h
 on_page k n (Ask.List j after) Say.Done h = absurd h
@@ -250,7 +282,7 @@ on_page k n (Ask.Put token j m x) say h = absurd h
 on_page k n (Ask.Delete token j m) say h = absurd h
 on_page k n Ask.Config say h = absurd h
 
-page_there : (old : Store) (ask : Ask) (say : Say) (new : Store) (k : Kind) (n : Name) → Step old ask say new → OnPage k n ask say → (x : List ℕ) × (old.objects k n ≡ Some x)
+pub page_there : (old : Store) (ask : Ask) (say : Say) (new : Store) (k : Kind) (n : Name) → Step old ask say new → OnPage k n ask say → (x : List ℕ) × (old.objects k n ≡ Some x)
 page_there old ask say new k n step p =
     let a : Answers old ask say new = answered old ask say new (no_names say p.more p.names p.said) step in
     let b : Answers old (Ask.List k p.after) say new = subst (λ q. Answers old q say new) p.asked a in
@@ -288,11 +320,11 @@ module _ (from old new : Store) (es : Trace) (ask : Ask) (say : Say) (emitted : 
   pub shares_more : Shares from (giving ask say emitted ∷ es) new
   shares_more = record {
     kept = λ k n x g. stays old ask new goes k n x (h.kept k n x g);
-    origin = λ k n x g. ⊎_elim (λ b. ⊎_elim inl (λ p. inr (p.0, inr p.1)) (h.origin k n x b)) (λ p. inr (p.0, inl p.1)) (comes old ask new goes k n x g);
+    origin = λ k n x g. ⊎_elim (λ b. ⊎_elim inl (λ p. inr (p.0, inr p.1)) (h.origin k n x b)) (λ p. inr (p.0, inl p.1)) (comes old ask new (step_moves old ask say new step) k n x g);
     put = λ t k n x g. ⊎_elim (λ p. on_put t k n x p.0 p.1) (λ p. let b = h.put t k n x p in (b.0, stays old ask new goes k n b.0 b.1)) g;
     got = λ k n x g. ⊎_elim (λ p. on_get k n x p.0 p.1) (λ p. stays old ask new goes k n x (h.got k n x p)) g;
     ranged = λ p o l x g. ⊎_elim (λ q. on_range p o l x q.0 q.1) (λ q. let b = h.ranged p o l x q in (b.0, stays old ask new goes Kind.Pack p b.0 b.1, b.2)) g;
     listed = λ k n g. ⊎_elim (λ p. let b = h.listed k n p in (b.0, stays old ask new goes k n b.0 b.1)) (λ p. on_list k n p) (has_either (names_in k es) (page_names k ask say) n g);
-    config = step_config old ask say new plain step ∙ h.config;
+    config = step_config old ask say new step ∙ h.config;
     configured = λ x g. ⊎_elim (λ p. on_config x p.0 p.1) (λ p. h.configured x p) g;
   }

@@ -7,6 +7,8 @@ pub mod Rolling
 pub mod Receiving
 pub mod Cataloguing
 pub mod Growing
+pub mod Descending
+pub mod Reaching
 pub mod Wholeness
 pub mod Spoken
 pub mod Calm
@@ -19,3 +21,5 @@ pub mod Sessioning
 pub mod Indexing
 pub mod Listing
 pub mod Changing
+pub mod Telling
+pub mod Deleting

@@ -27,10 +27,10 @@ no_rows names read rows es none empty =
     subst (λ (rs : List (Name × Snapshot)). AreRows names read rs es) (sym empty) (subst (λ n. AreRows names n [] es) (sym none) (record { named = refl; each = tt }))
 
 -- a row stays one
-row_grows : (e : Exchange) (es : Trace) (row : Name × Snapshot) → IsRow es row → IsRow (e ∷ es) row
+pub row_grows : (e : Exchange) (es : Trace) (row : Name × Snapshot) → IsRow es row → IsRow (e ∷ es) row
 row_grows e es row h = (h.0, (inr h.1.0, h.1.1), h.2)
 
-rows_grow : (e : Exchange) (es : Trace) (rows : List (Name × Snapshot)) → Each (IsRow es) rows → Each (IsRow (e ∷ es)) rows
+pub rows_grow : (e : Exchange) (es : Trace) (rows : List (Name × Snapshot)) → Each (IsRow es) rows → Each (IsRow (e ∷ es)) rows
 rows_grow e es [] h = tt
 rows_grow e es (row ∷ rows) h = (row_grows e es row h.0, rows_grow e es rows h.1)
 

@@ -15,7 +15,8 @@ use Rattle.repo_index.specs.Exactness.{IsExactFor}
 use Rattle.repo_index.specs.IndexText.{facts_in, Says}
 use Rattle.repo_index.proofs.OneLemmas.{index_texts_one}
 use Rattle.repo_tree.specs.Laws.{Agree}
-use Rattle.repo_tree.specs.Spelling.{Blobs, Spells}
+use Rattle.repo_tree.specs.Parts.{Blobs}
+use Rattle.repo_tree.specs.Spelling.{Spells}
 use Rattle.repo_tree.specs.SnapshotText.{IsSnapshotText}
 use Rattle.repo_tree.specs.declared.entries.Entry.{Entry}
 use Rattle.repo_tree.specs.declared.snapshots.Snapshot.{Snapshot}
@@ -49,10 +50,10 @@ index_stays old new more text h = record { packs = h.packs; reads = h.reads; eac
 
 -- what blobs that are held spell, is whole and spelled
 pub snapshot_sound : (objects : Objects) → Agree (IsHeld objects) (IsHeld objects) → (text : List ℕ) (snapshot : Snapshot) (entries : List Entry) (B : Blobs)
-    → IsSnapshotText text snapshot → Spells B snapshot.tree [] entries → ((k : BlobKind) (x : List ℕ) → B k x → IsHeld objects k x) → IsSoundSnapshot objects text
+    → IsSnapshotText text snapshot → Spells snapshot.version B snapshot.tree [] entries → ((k : BlobKind) (x : List ℕ) → B k x → IsHeld objects k x) → IsSoundSnapshot objects text
 snapshot_sound objects agree text snapshot entries B reads spells held =
-    let here : Spells (IsHeld objects) snapshot.tree [] entries = spells_move B (IsHeld objects) _ snapshot.tree [] entries spells (λ k n r x b is. held k x b) in
-    record { snapshot = snapshot; entries = entries; reads = reads; is_whole = λ k n r. reached (IsHeld objects) agree snapshot.tree entries here k n r; spells = here }
+    let here : Spells snapshot.version (IsHeld objects) snapshot.tree [] entries = spells_move snapshot.version B (IsHeld objects) _ snapshot.tree [] entries spells (λ k n r x b is. held k x b) in
+    record { snapshot = snapshot; entries = entries; reads = reads; is_whole = λ k n r. reached snapshot.version (IsHeld objects) agree snapshot.tree entries here k n r; spells = here }
 
 pub snapshot_stays : (old new : Objects) → Among old new → Agree (IsHeld new) (IsHeld new) → (text : List ℕ) → IsSoundSnapshot old text → IsSoundSnapshot new text
 snapshot_stays old new more agree text h = snapshot_sound new agree text h.snapshot h.entries (IsHeld old) h.reads h.spells (held_stays old new more)

@@ -1,12 +1,14 @@
 -- What a catalog of a store's indexes knows of the trace.
 use Rattle.std.specs.Prelude.{◌≡◌, ◌≢◌, ◌⊎◌, ◌≤◌, ◌↔◌, ℕ, Bool, List, length, slice_get, Some, None, Result, Ok, Err, Contains}
+use Rattle.repo_name.specs.declared.kinds.BlobKind.{BlobKind}
 use Rattle.repo_name.specs.declared.kinds.Kind.{Kind}
 use Rattle.repo_name.specs.declared.names.Name.{Name}
 use Rattle.repo_wire.specs.declared.messages.Say.{Say}
+use Rattle.repo_pack.specs.declared.places.Place.{Place}
 use Rattle.repo_index.specs.declared.facts.Fact.{Fact}
 use Rattle.repo_index.specs.declared.facts.PackFacts.{PackFacts}
 use Rattle.repo_name.specs.Naming as naming
-use Rattle.repo_index.specs.IndexText.{IsIndexText, facts_in}
+use Rattle.repo_index.specs.IndexText.{IsIndexText, facts_in, fact_of}
 use Rattle.repo_index.specs.Lookups.{Joins, Grew, HasSame}
 use Rattle.repo_session.specs.Ends.{IsUnreadable}
 use Rattle.repo_session.specs.declared.catalogs.Brought.{Brought}
@@ -18,6 +20,10 @@ use Rattle.repo_session.specs.Traces.{Each, Trace, Object, objects_in, IsListed,
 pub record AreIndexed (es : Trace) : Type 0 where
   pub listed : IsListed Kind.Index es
   pub each : (n : Name) → Lists es Kind.Index n → (x : List ℕ) × (packs : List PackFacts) × IsRead es Kind.Index n x × IsIndexText x packs
+
+-- no fact gives a blob of this kind and name
+abbrev pub IsNowhere : List Fact → BlobKind → Name → Type 0
+IsNowhere facts kind name = (place : Place) → ¬ Contains facts (fact_of kind name place)
 
 -- the object reads as an index
 abbrev pub IsIndexObject : Object → Type 0

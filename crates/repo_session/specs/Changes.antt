@@ -34,7 +34,7 @@ RemovingSnapshotKeepsSound = (old new : Objects) (name : Name) → IsSound old �
 
 -- each pair that a snapshot's tree reaches is held without the index
 abbrev pub IsNeedless : Objects → Objects → Type 0
-IsNeedless old new = (s : Name) (x : List ℕ) (snapshot : Snapshot) → old Kind.Snapshot s ≡ Some x → IsSnapshotText x snapshot → (k : BlobKind) (n : Name) → Reach (IsHeld old) snapshot.tree k n → HasPair (IsHeld new) k n
+IsNeedless old new = (s : Name) (x : List ℕ) (snapshot : Snapshot) → old Kind.Snapshot s ≡ Some x → IsSnapshotText x snapshot → (k : BlobKind) (n : Name) → Reach snapshot.version (IsHeld old) snapshot.tree k n → HasPair (IsHeld new) k n
 
 -- an index goes that no snapshot needs
 abbrev pub RemovingIndexKeepsSound : Type 0

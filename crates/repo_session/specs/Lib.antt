@@ -5,6 +5,8 @@ pub mod Order
 pub mod Ends
 pub mod Clients
 pub mod Rebuilding
+pub mod Received
+pub mod Trees
 pub mod Soundness
 pub mod Talks
 pub mod Alone
@@ -20,3 +22,6 @@ pub mod Sessions
 pub mod Readings
 pub mod Listings
 pub mod Changes
+pub mod Told
+pub mod Blobs
+pub mod Deletions

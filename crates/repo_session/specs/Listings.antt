@@ -1,5 +1,5 @@
 -- What a listing of a store's snapshots is, and what the part that makes it knows.
-use Rattle.std.specs.Prelude.{◌≡◌, ◌∷◌, [], ⊤, ℕ, Bool, List, map, take}
+use Rattle.std.specs.Prelude.{◌≡◌, ◌∷◌, ◌++◌, [], ⊤, ℕ, Bool, List, length, map, take}
 use Rattle.repo_name.specs.declared.kinds.Kind.{Kind}
 use Rattle.repo_name.specs.declared.kinds.Thing.{Thing}
 use Rattle.repo_name.specs.declared.names.Name.{Name}
@@ -9,6 +9,7 @@ use Rattle.repo_wire.specs.declared.messages.Say.{Say}
 use Rattle.repo_tree.specs.declared.snapshots.Snapshot.{Snapshot}
 use Rattle.repo_tree.specs.SnapshotText.{IsSnapshotText}
 use Rattle.repo_session.specs.declared.emissions.Emission.{Emission}
+use Rattle.repo_session.specs.declared.snapshot_rolls.Mark.{Mark}
 use Rattle.repo_session.specs.declared.snapshot_rolls.SnapshotReading.{SnapshotReading}
 use Rattle.repo_session.specs.declared.snapshot_rolls.SnapshotRoll.{SnapshotRoll}
 use Rattle.repo_session.specs.Ends.{IsBad, IsOfOtherVersion, IsSenseless, IsUnwelcome}
@@ -57,6 +58,18 @@ pub record KnowsSnapshots (s : SnapshotRoll) (ask : Ask) (es : Trace) : Type 0 w
 -- what was known is known
 abbrev pub KnowsAsMuch : SnapshotRoll → SnapshotRoll → Type 0
 KnowsAsMuch old new = (ask : Ask) (es : Trace) → KnowsSnapshots old ask es → KnowsSnapshots new ask es
+
+-- the reading has come so far
+pub record IsMark (s : SnapshotRoll) (mark : Mark) : Type 0 where
+  pub names : mark.names ≡ length s.roll.names.items
+  pub read : mark.read ≡ s.roll.read
+  pub rows : mark.rows ≡ length s.rows.items
+
+-- names and rows were added to what was there
+pub record HasGrown (old new : SnapshotRoll) : Type 0 where
+  pub kind : new.roll.kind ≡ old.roll.kind
+  pub names : (page : List Name) × (new.roll.names.items ≡ old.roll.names.items ++ page)
+  pub rows : (more : List (Name × Snapshot)) × (new.rows.items ≡ old.rows.items ++ more)
 
 -- what a reply of the reading comes to
 abbrev pub ListsOn : Task → SnapshotRoll → SnapshotReading → Exchange → Trace → Type 0

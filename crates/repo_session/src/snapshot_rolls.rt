@@ -10,9 +10,10 @@ ghost use Rattle.repo_wire.specs.declared.messages.Ask.{Ask};
 ghost use Rattle.repo_wire.specs.declared.messages.Code.{Code};
 ghost use Rattle.repo_wire.specs.declared.messages.Say.{Say};
 ghost use Rattle.repo_session.specs.declared.emissions.Emission.{Emission};
+ghost use Rattle.repo_session.specs.declared.snapshot_rolls.SnapshotReading.{SnapshotReading};
 ghost use Rattle.repo_session.specs.declared.snapshot_rolls.SnapshotRoll.{SnapshotRoll};
 ghost use Rattle.repo_session.specs.Jobs.{IsShort};
-ghost use Rattle.repo_session.specs.Listings.{IsFreshRoll, RollsSnapshots, KnowsSnapshots, KnowsAsMuch, ListsOn, ListsAll, IsShortListing};
+ghost use Rattle.repo_session.specs.Listings.{IsFreshRoll, RollsSnapshots, KnowsSnapshots, KnowsAsMuch, IsMark, HasGrown, ListsOn, ListsAll, IsShortListing};
 ghost use Rattle.repo_session.specs.Order.{Task, IsWorking};
 ghost use Rattle.repo_session.specs.Readings.{IsDue};
 ghost use Rattle.repo_session.specs.Traces.{Exchange, Trace, giving};
@@ -40,6 +41,14 @@ pub enum SnapshotReading {
     Senseless,
     /// The reply is a refusal, or of another sort than the request wants.
     Unwelcome,
+}
+
+/// How far a reading of snapshots has come: so many names were listed, so many snapshots read, and so many rows made.
+#[derive(Clone, Copy, Debug)]
+pub struct Mark {
+    names: usize,
+    read: usize,
+    rows: usize,
 }
 
 /// The snapshots of a store: their names as pages gave them, how many were read, and what those that were say.
@@ -98,6 +107,7 @@ impl SnapshotRoll {
     /// Takes the reply to the request for a page. It fails for memory alone, and then what was known is known.
     fn read_page(&mut self, say: &Say) -> Result<SnapshotReading, AllocError>
         ensures ok { IfOk result (λ reading. (kind : Kind) (after : Option Name) → ListsAll self.old (Ask.List kind after) say.now reading self.new) }
+        ensures grown { IfOk result (λ reading. reading ≡ SnapshotReading.All → HasGrown self.old self.new) }
         ensures err { OnErr result (KnowsAsMuch self.old self.new) }
         ensures short { IfOk result IsShortListing }
         ensures calm { (code : Code) → say.now ≡ Say.Refused code → IsOk result }
@@ -114,6 +124,7 @@ impl SnapshotRoll {
     /// is known.
     fn read_snapshot(&mut self, name: Name, bytes: &[u8]) -> Result<SnapshotReading, AllocError>
         ensures ok { IfOk result (λ reading. naming.name bytes.now ≡ name → ListsAll self.old (Ask.Get Kind.Snapshot name) (Say.Bytes bytes.now) reading self.new) }
+        ensures grown { IfOk result (λ reading. reading ≡ SnapshotReading.All → HasGrown self.old self.new) }
         ensures err { OnErr result (KnowsAsMuch self.old self.new) }
         ensures short { IfOk result IsShortListing }
     {
@@ -131,6 +142,7 @@ impl SnapshotRoll {
     /// known.
     fn read_object(&mut self, say: &Say) -> Result<SnapshotReading, AllocError>
         ensures ok { IfOk result (λ reading. (kind : Kind) (name : Name) → ListsAll self.old (Ask.Get kind name) say.now reading self.new) }
+        ensures grown { IfOk result (λ reading. reading ≡ SnapshotReading.All → HasGrown self.old self.new) }
         ensures err { OnErr result (KnowsAsMuch self.old self.new) }
         ensures short { IfOk result IsShortListing }
         ensures calm { (code : Code) → say.now ≡ Say.Refused code → IsOk result }
@@ -145,6 +157,7 @@ impl SnapshotRoll {
     /// Takes the reply to a request of the reading. It fails for memory alone, and then what was known is known.
     pub fn read_on(&mut self, ask: &Ask, say: &Say) -> Result<SnapshotReading, AllocError>
         ensures ok { IfOk result (λ reading. ListsAll self.old ask.now say.now reading self.new) }
+        ensures grown { IfOk result (λ reading. reading ≡ SnapshotReading.All → HasGrown self.old self.new) }
         ensures err { OnErr result (KnowsAsMuch self.old self.new) }
         ensures short { IfOk result IsShortListing }
         ensures calm { (code : Code) → say.now ≡ Say.Refused code → IsOk result }
@@ -154,6 +167,27 @@ impl SnapshotRoll {
             Ask::Get { .. } => self.read_object(say),
             _ => Ok(SnapshotReading::Unwelcome),
         }
+    }
+
+    /// How far the reading has come.
+    pub fn mark(&self) -> Mark
+        ensures { IsMark self.now result }
+    {
+        Mark {
+            names: self.roll.names.len(),
+            read: self.roll.read,
+            rows: self.rows.len(),
+        }
+    }
+
+    /// Undoes the last reading, where all was read and this was marked before it: what was known then is known. It takes
+    /// no memory.
+    pub fn take_back(&mut self, mark: Mark)
+        ensures { (old : SnapshotRoll) → IsMark old mark → HasGrown old self.old → KnowsAsMuch old self.new }
+    {
+        self.roll.names.truncate(mark.names);
+        self.roll.read = mark.read;
+        self.rows.truncate(mark.rows);
     }
 
     /// The snapshots that were read, which it keeps no longer. It takes no memory.
