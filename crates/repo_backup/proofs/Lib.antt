@@ -5,10 +5,8 @@ pub mod StepLists
 pub mod Laying
 pub mod Fitting
 pub mod FolderLemmas
-pub mod Puts
 pub mod Ruling
 pub mod Recutting
-pub mod ListingLemmas
 pub mod FirstChunks
 pub mod Lessening
 pub mod Moving

@@ -32,7 +32,8 @@ use Rattle.repo_session.proofs.Spoken.{was_asked, held_spoken, held_agree}
 use Rattle.repo_session.proofs.Growing.{Shares, Puts, IsNoDelete, step_goes}
 use Rattle.repo_session.proofs.Wholeness.{index_stays, snapshot_sound, snapshot_stays, given_held}
 use Rattle.repo_backup.specs.Folders.{Folder, blobs_of}
-use Rattle.repo_backup.specs.Rules.{PutDone, IsMade, IsIndexed, IsListedPack, PackRule, IndexRule, SnapshotRule, Allows}
+use Rattle.repo_writing.specs.Putting.{PutDone, IsIndexed, IsListedPack}
+use Rattle.repo_backup.specs.Rules.{IsMade, PackRule, IndexRule, SnapshotRule, Allows}
 
 module _ (entries : List Entry) (from old : Store) (es : Trace) (Sent : Ask → Type 0) (Made : List ℕ → Type 0)
     (sent : (ask : Ask) → WasAsked es ask → Sent ask)
@@ -79,13 +80,14 @@ module _ (entries : List Entry) (from old : Store) (es : Trace) (Sent : Ask → 
 
   index_is_sound : (x : List ℕ) → IndexRule es x → IsSoundIndex old.objects x
   index_is_sound x r =
-      let lawful = index_texts_lawful x r.packs r.reads in
+      let l = r.lists in
+      let lawful = index_texts_lawful x l.packs l.reads in
       record {
-        packs = r.packs;
-        reads = r.reads;
+        packs = l.packs;
+        reads = l.reads;
         each = λ fact among.
-            let found = flat_contains (λ (p : PackFacts). p.facts) r.packs fact among in
-            subst (λ n. IsExactPack old.objects r.packs n) (sym (lawful_pack r.packs found.0 fact lawful found.1 found.2)) (exact_pack r.packs lawful r.each found.0 found.1);
+            let found = flat_contains (λ (p : PackFacts). p.facts) l.packs fact among in
+            subst (λ n. IsExactPack old.objects l.packs n) (sym (lawful_pack l.packs found.0 fact lawful found.1 found.2)) (exact_pack l.packs lawful l.each found.0 found.1);
       }
 
   -- ---- a snapshot that may be put

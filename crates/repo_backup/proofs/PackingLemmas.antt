@@ -1,12 +1,14 @@
 -- Blobs that are noted, and what one more makes of the packs.
-use Rattle.std.proofs.Common.{arith, ◌≡◌, ◌↔◌, ◌++◌, ◌∷◌, [], List, Option, Some, None, Result, Ok, Err, OnOk, OnErr, IfNone, sym, ap, subst, inl, inr, ◌⊎◌, ◌∙◌, Contains}
-use Rattle.std.proofs.lemmas.List.Elements.{Contains-append_left, Contains-append_right, Contains-append_cases, Contains-push, Contains-push_cases}
+use Rattle.std.proofs.Common.{◌≡◌, ◌↔◌, ◌++◌, ◌∷◌, [], List, Option, Some, None, Result, Ok, Err, OnOk, OnErr, IfNone, sym, subst, inl, inr, ◌∙◌}
+use Rattle.std.proofs.lemmas.List.Elements.{Contains-append_left, Contains-push}
 use Rattle.repo_name.specs.NameMaps.{Inserted}
 use Rattle.repo_name.specs.declared.kinds.BlobKind.{BlobKind}
 use Rattle.repo_name.specs.declared.names.Name.{Name}
 use Rattle.repo_pack.specs.PackLayout.{Item}
-use Rattle.repo_backup.specs.Blobs.{HasItem, AreOnce}
 use Rattle.repo_session.specs.Traces.{Each}
+use Rattle.repo_session.proofs.Containing.{none_contained}
+use Rattle.repo_writing.specs.Blobs.{HasItem, AreOnce}
+use Rattle.repo_writing.proofs.BlobLemmas.{has_before, has_after, has_either, has_one, is_one}
 
 pub on_ok : {A E : Type 0} (r : Result A E) (P Q : Type 0) → (P → Q) → OnOk r P → OnOk r Q
 on_ok (Ok x) P Q f h = f h
@@ -15,31 +17,6 @@ on_ok (Err e) P Q f h = tt
 pub on_err : {A E : Type 0} (r : Result A E) (P Q : Type 0) → (P → Q) → OnErr r P → OnErr r Q
 on_err (Ok x) P Q f h = tt
 on_err (Err e) P Q f h = f h
-
-none_in : {A : Type 0} (x : A) → Contains [] x → ⊥
-none_in x h = absurd (omega (arith, h.1))
-
-only : {A : Type 0} (k x : A) → Contains (k ∷ []) x → k ≡ x
-only k x h = elim (Contains-push_cases [] k x h) [ inl none ↦ absurd (none_in x none) | inr same ↦ same ]
-
--- ---- one of some items
-
-pub has_before : (items more : List Item) (k : BlobKind) (n : Name) → HasItem items k n → HasItem (items ++ more) k n
-has_before items more k n h = (h.0, Contains-append_left items more h.0 h.1, h.2, h.3)
-
-pub has_after : (items more : List Item) (k : BlobKind) (n : Name) → HasItem more k n → HasItem (items ++ more) k n
-has_after items more k n h = (h.0, Contains-append_right items more h.0 h.1, h.2, h.3)
-
-pub has_either : (items more : List Item) (k : BlobKind) (n : Name) → HasItem (items ++ more) k n → HasItem items k n ⊎ HasItem more k n
-has_either items more k n h = elim (Contains-append_cases items more h.0 h.1) [ inl a ↦ inl (h.0, a, h.2, h.3) | inr b ↦ inr (h.0, b, h.2, h.3) ]
-
-pub has_one : (item : Item) (k : BlobKind) (n : Name) → item.kind ≡ k → item.name ≡ n → HasItem (item ∷ []) k n
-has_one item k n p q = (item, Contains-push [] item, p, q)
-
-pub is_one : (item : Item) (k : BlobKind) (n : Name) → HasItem (item ∷ []) k n → (item.kind ≡ k) × (item.name ≡ n)
-is_one item k n h =
-    let same = only item h.0 h.1 in
-    (ap (λ (i : Item). i.kind) same ∙ h.2, ap (λ (i : Item). i.name) same ∙ h.3)
 
 -- ---- items that are noted in a map
 
@@ -74,7 +51,7 @@ content_no_tree k p q = absurd (cc)
 -- ---- each once
 
 pub once_more : (items : List Item) (item : Item) → AreOnce items → (HasItem items item.kind item.name → ⊥) → AreOnce (items ++ item ∷ [])
-once_more [] item h none = ((λ x. none_in x.0 x.1), tt)
+once_more [] item h none = ((λ x. none_contained x.0 x.1), tt)
 once_more (i ∷ items) item h none = (
   λ has. elim (has_either items (item ∷ []) i.kind i.name has) [
     | inl before ↦ h.0 before

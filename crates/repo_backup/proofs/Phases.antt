@@ -15,16 +15,17 @@ use Rattle.repo_session.specs.Catalogs.{AreIndexed}
 use Rattle.repo_session.specs.Order.{Task, opened}
 use Rattle.repo_session.specs.Traces.{Exchange, Trace, Exchanged, object_put, objects_put, ReadFact}
 use Rattle.repo_backup.specs.BackupStates.{HasBegun, MayGoOn, PutsPack, PutsIndex}
-use Rattle.repo_backup.specs.Backing.{items_of, Backs}
+use Rattle.repo_writing.specs.Writing.{items_of}
+use Rattle.repo_backup.specs.Backing.{Backs}
 use Rattle.repo_backup.specs.Folders.{Folder, entries_of}
 use Rattle.repo_backup.specs.Plans.{IsLawful, steps_of}
 use Rattle.repo_backup.specs.Stages.{walked, handed_in, IsPlanned, IsBegun, StaysReady, BeginsAgain}
 use Rattle.repo_backup.specs.declared.backing.Backing.{Backing}
 use Rattle.repo_backup.specs.declared.stages.Stage.{Stage}
 use Rattle.repo_backup.specs.declared.steps.WalkStep.{WalkStep}
-use Rattle.repo_backup.proofs.Puts.{objects_put_other, is_made_later}
+use Rattle.repo_writing.proofs.PutLemmas.{objects_put_other}
 use Rattle.repo_backup.proofs.Recutting.{recut}
-use Rattle.repo_backup.proofs.Ruling.{begin_backs, pack_done, index_done}
+use Rattle.repo_backup.proofs.Ruling.{begin_backs, is_made_later, pack_is_done, index_is_done}
 use Rattle.repo_backup.proofs.Staging.{walked_of}
 
 -- ---- the config
@@ -83,8 +84,8 @@ pub begun_goes : (entries : List Entry) (facts : List Fact) (b : Backing) (es : 
 begun_goes entries facts b es h indexed gives = record {
   folder = h.folder;
   puts = [];
-  backs = subst (λ ws. Backs entries facts ws b.blobs b.bytes h.folder [] [] es) (sym h.begun.none_waits)
-      (begin_backs entries facts b.blobs b.bytes h.folder es h.made indexed gives h.none_put h.begun.no_blobs h.begun.no_bytes);
+  backs = subst (λ ws. Backs entries facts ws b.counts h.folder [] [] es) (sym h.begun.none_waits)
+      (begin_backs entries facts b.counts h.folder es h.made indexed gives h.none_put h.begun.none_counted);
   work = ([], h.begun.work facts h.folder h.lawful h.cut refl);
   room = none_waiting b.waiting h.begun.none_waits;
 }
@@ -109,11 +110,11 @@ begun_again entries known b d es a h =
 
 -- the put of a pack is done
 pub pack_goes : (entries : List Entry) (facts : List Fact) (b : Backing) (token : Token) (n : Name) (x : List ℕ) (e : Exchange) (es : Trace) (h : PutsPack entries facts b n x es) → e.ask ≡ Ask.Put token Kind.Pack n x → e.say ≡ Say.Done
-    → Backs entries facts b.waiting b.blobs b.bytes h.folder (h.puts ++ h.put ∷ []) [] (e ∷ es)
+    → Backs entries facts b.waiting b.counts h.folder (h.puts ++ h.put ∷ []) [] (e ∷ es)
 pack_goes entries facts b token n x e es h q s =
     let same = sym h.pack_is in
     let ask : e.ask ≡ Ask.Put token Kind.Pack h.put.pack.name h.put.pack.bytes = q ∙ ap (λ o. Ask.Put token Kind.Pack o.name o.bytes) same in
-    pack_done entries facts b.waiting b.blobs b.bytes h.folder h.puts h.put token e es h.backs ask s
+    pack_is_done entries facts b.waiting b.counts h.folder h.puts h.put token e es h.backs ask s
 
 pub few_left : (b : Bool) (n : ℕ) → IsTrue b ↔ (20000 ≤ n) → b ≡ false → n < 20000
 few_left b n is not_full =
@@ -131,7 +132,7 @@ pub index_room : (entries : List Entry) (facts : List Fact) (b : Backing) (token
 index_room entries facts b token n x e es h q s = record {
   folder = h.folder;
   puts = h.puts;
-  backs = index_done entries facts b.waiting b.blobs b.bytes h.folder h.puts token n x e es h.backs h.reads q s;
+  backs = index_is_done entries facts b.waiting b.counts h.folder h.puts token n x e es h.backs h.reads q s;
   work = h.work;
   room = omega arith;
 }
@@ -144,8 +145,8 @@ pack_stays entries facts b c n x es s h =
       folder = h.folder;
       puts = h.puts;
       put = h.put;
-      backs = subst (λ ws. Backs entries facts ws c.blobs c.bytes h.folder h.puts (h.put ∷ []) es) (sym m.1)
-          (subst (λ k. Backs entries facts b.waiting c.blobs k h.folder h.puts (h.put ∷ []) es) (sym s.counts.bytes) (subst (λ k. Backs entries facts b.waiting k b.bytes h.folder h.puts (h.put ∷ []) es) (sym s.counts.blobs) h.backs));
+      backs = subst (λ ws. Backs entries facts ws c.counts h.folder h.puts (h.put ∷ []) es) (sym m.1)
+          (subst (λ k. Backs entries facts b.waiting k h.folder h.puts (h.put ∷ []) es) (sym s.counts.same) h.backs);
       pack_is = h.pack_is;
       work = m.0;
       few = subst (λ ws. length (facts_in ws) ≤ 24095) (sym m.1) h.few;
@@ -154,11 +155,11 @@ pack_stays entries facts b c n x es s h =
 pub index_stays : (entries : List Entry) (facts : List Fact) (b c : Backing) (x : List ℕ) (es : Trace) → StaysReady facts b c → PutsIndex entries facts b x es → PutsIndex entries facts c x es
 index_stays entries facts b c x es s h =
     let m = s.stays h.folder (items_of h.puts) h.work.0 h.work.1 in
-    let R : List PackFacts → Type 0 = λ ws. Backs entries facts ws c.blobs c.bytes h.folder h.puts [] es in
+    let R : List PackFacts → Type 0 = λ ws. Backs entries facts ws c.counts h.folder h.puts [] es in
     record {
       folder = h.folder;
       puts = h.puts;
-      backs = subst R (sym m.1) (subst (λ k. Backs entries facts b.waiting c.blobs k h.folder h.puts [] es) (sym s.counts.bytes) (subst (λ k. Backs entries facts b.waiting k b.bytes h.folder h.puts [] es) (sym s.counts.blobs) h.backs));
+      backs = subst R (sym m.1) (subst (λ k. Backs entries facts b.waiting k h.folder h.puts [] es) (sym s.counts.same) h.backs);
       reads = subst (λ ws. IsIndexText x ws) (sym m.1) h.reads;
       work = m.0;
     }

@@ -7,6 +7,7 @@ use Rattle.repo_index.specs.declared.facts.PackFacts.{PackFacts}
 use Rattle.repo_tree.specs.Spelling.{dir_entry, file_entry}
 use Rattle.repo_chunk.specs.Parameters.{Parameters}
 use Rattle.repo_index.specs.declared.facts.Fact.{Fact}
+use Rattle.repo_writing.specs.Writing.{AreCounts}
 use Rattle.repo_backup.specs.Folders.{Folder, nothing, file_then, dir_then, joined, entries_of, IsCutBy}
 use Rattle.repo_backup.specs.Plans.{steps_of, IsLawful}
 use Rattle.repo_backup.specs.Stages.{outer_of, walked, IsBegun}
@@ -58,11 +59,10 @@ on_both P Q R (Err e) f h g = f h g
 
 -- work over steps that stay the same
 pub begun : (params : Parameters) (steps own : List WalkStep) (b : Backing) (w : Work) → ((known : List Fact) (folder : Folder) → IsLawful folder → IsCutBy params folder → own ≡ steps_of folder → IsWork w known folder [] [])
-    → w.walk.steps.items ≡ own → own ≡ steps → b.work ≡ w → b.waiting ≡ [] → b.blobs ≡ 0 → b.bytes ≡ 0 → IsBegun params steps b
-begun params steps own b w work kept same is none no_blobs no_bytes = record {
+    → w.walk.steps.items ≡ own → own ≡ steps → b.work ≡ w → b.waiting ≡ [] → AreCounts b.counts [] → IsBegun params steps b
+begun params steps own b w work kept same is none counted = record {
   steps_are = ap (λ (v : Work). v.walk.steps.items) is ∙ kept ∙ same;
   work = λ known folder lawful cut walks. subst (λ (v : Work). IsWork v known folder [] []) (sym is) (work known folder lawful cut (same ∙ walks));
   none_waits = none;
-  no_blobs = no_blobs;
-  no_bytes = no_bytes;
+  none_counted = counted;
 }

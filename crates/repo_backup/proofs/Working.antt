@@ -9,14 +9,16 @@ use Rattle.repo_index.specs.declared.facts.Fact.{Fact}
 use Rattle.repo_tree.specs.TreeText.{IsTreeText}
 use Rattle.repo_tree.specs.TreeWriting.{tree_text}
 use Rattle.repo_backup.specs.Folders.{Folder, nothing, tree_of, blobs_below, blobs_of, IsCutBy}
-use Rattle.repo_backup.specs.Packings.{IsPacking, IsSealed, IsCovered, Gains, all_items}
+use Rattle.repo_backup.specs.Packings.{IsPacking, IsCovered, Gains, all_items}
 use Rattle.repo_backup.specs.Plans.{IsLawful, steps_of}
 use Rattle.repo_backup.specs.Works.{IsWalkable, IsWalking, IsWork, with_next, IsCutting}
 use Rattle.repo_backup.specs.Advancing.{next_step, Stays, IsMade}
 use Rattle.repo_backup.specs.declared.walks.Walk.{Walk}
 use Rattle.repo_backup.specs.declared.works.Work.{Work}
 use Rattle.repo_session.specs.Traces.{Each}
-use Rattle.repo_backup.proofs.PackingLemmas.{has_before, has_after, has_one, each_one_more}
+use Rattle.repo_writing.specs.Sealing.{IsSealed}
+use Rattle.repo_writing.proofs.BlobLemmas.{has_before, has_after, has_one}
+use Rattle.repo_backup.proofs.PackingLemmas.{each_one_more}
 use Rattle.repo_backup.proofs.Moving.{walked}
 
 each_map : (P Q : Item → Type 0) (items : List Item) → ((item : Item) → P item → Q item) → Each P items → Each Q items
@@ -53,7 +55,7 @@ makes_on w v known folder sent sealed item same params moves covered h = record 
 }
 
 -- the items of the pack that is being written are the same
-pub stays_packed : (w v : Work) (known : List Fact) (folder : Folder) (sent sealed : List Item) → v.walk ≡ w.walk → IsPacking v.packing known sent sealed → v.packing.writer.items ≡ w.packing.writer.items
+pub stays_packed : (w v : Work) (known : List Fact) (folder : Folder) (sent sealed : List Item) → v.walk ≡ w.walk → IsPacking v.packing known sent sealed → v.packing.packer.writer.items ≡ w.packing.packer.writer.items
     → IsWork w known folder sent sealed → IsWork v known folder sent sealed
 stays_packed w v known folder sent sealed same packing items h =
     let all : all_items sent sealed v.packing ≡ all_items sent sealed w.packing = ap (λ l. (sent ++ sealed) ++ l) items in
@@ -72,14 +74,14 @@ covered_more : (known : List Fact) (all : List Item) (item x : Item) → IsCover
 covered_more known all item x h = elim h [ inl fact ↦ inl fact | inr has ↦ inr (has_before all (item ∷ []) x.kind x.name has) ]
 
 -- all items are the same, or one more
-all_gain : (known : List Fact) (sent sealed : List Item) (w v : Work) (item : Item) → Gains known (all_items sent sealed w.packing) w.packing.writer.items v.packing.writer.items item
+all_gain : (known : List Fact) (sent sealed : List Item) (w v : Work) (item : Item) → Gains known (all_items sent sealed w.packing) w.packing.packer.writer.items v.packing.packer.writer.items item
     → ((all_items sent sealed v.packing ≡ all_items sent sealed w.packing) × IsCovered known (all_items sent sealed w.packing) item) ⊎ (all_items sent sealed v.packing ≡ all_items sent sealed w.packing ++ item ∷ [])
 all_gain known sent sealed w v item g = elim g [
   | inl same ↦ inl (ap (λ l. (sent ++ sealed) ++ l) same.0, same.1)
-  | inr more ↦ inr (ap (λ l. (sent ++ sealed) ++ l) more ∙ sym (append_assoc (sent ++ sealed) w.packing.writer.items (item ∷ [])))
+  | inr more ↦ inr (ap (λ l. (sent ++ sealed) ++ l) more ∙ sym (append_assoc (sent ++ sealed) w.packing.packer.writer.items (item ∷ [])))
 ]
 
-pub added_covered : (w v : Work) (known : List Fact) (sent sealed : List Item) (item : Item) → Gains known (all_items sent sealed w.packing) w.packing.writer.items v.packing.writer.items item
+pub added_covered : (w v : Work) (known : List Fact) (sent sealed : List Item) (item : Item) → Gains known (all_items sent sealed w.packing) w.packing.packer.writer.items v.packing.packer.writer.items item
     → IsCovered known (all_items sent sealed v.packing) item
 added_covered w v known sent sealed item g = elim (all_gain known sent sealed w v item g) [
   | inl same ↦ subst (λ l. IsCovered known l item) (sym same.0) same.1
@@ -87,7 +89,7 @@ added_covered w v known sent sealed item g = elim (all_gain known sent sealed w 
 ]
 
 pub added_work : (w v : Work) (known : List Fact) (folder : Folder) (sent sealed : List Item) (item : Item) → v.walk ≡ w.walk → IsPacking v.packing known sent sealed
-    → Gains known (all_items sent sealed w.packing) w.packing.writer.items v.packing.writer.items item → Contains (blobs_of folder) item
+    → Gains known (all_items sent sealed w.packing) w.packing.packer.writer.items v.packing.packer.writer.items item → Contains (blobs_of folder) item
     → IsWork w known folder sent sealed → IsWork v known folder sent sealed
 added_work w v known folder sent sealed item same packing g mine h = elim (all_gain known sent sealed w v item g) [
   | inl stays ↦ record {
@@ -115,15 +117,15 @@ added_work w v known folder sent sealed item same packing g mine h = elim (all_g
 
 -- ---- a pack is sealed
 
-pub none_sealed : (w : Work) (known : List Fact) (folder : Folder) (sent sealed : List Item) → w.packing.sealed ≡ None → IsWork w known folder sent sealed → sealed ≡ []
+pub none_sealed : (w : Work) (known : List Fact) (folder : Folder) (sent sealed : List Item) → w.packing.packer.sealed ≡ None → IsWork w known folder sent sealed → sealed ≡ []
 none_sealed w known folder sent sealed none h = subst (λ o. IsSealed o sealed) none h.packing.sealed_is
 
-pub sealed_work : (w v : Work) (known : List Fact) (folder : Folder) (sent sealed : List Item) → w.packing.sealed ≡ None → v.walk ≡ w.walk → v.packing.writer.items ≡ []
-    → (IsPacking w.packing known sent [] → IsPacking v.packing known sent w.packing.writer.items)
-    → IsWork w known folder sent sealed → IsWork v known folder sent w.packing.writer.items
+pub sealed_work : (w v : Work) (known : List Fact) (folder : Folder) (sent sealed : List Item) → w.packing.packer.sealed ≡ None → v.walk ≡ w.walk → v.packing.packer.writer.items ≡ []
+    → (IsPacking w.packing known sent [] → IsPacking v.packing known sent w.packing.packer.writer.items)
+    → IsWork w known folder sent sealed → IsWork v known folder sent w.packing.packer.writer.items
 sealed_work w v known folder sent sealed none same begun seals h =
     let e = none_sealed w known folder sent sealed none h in
-    let items = w.packing.writer.items in
+    let items = w.packing.packer.writer.items in
     let all : all_items sent items v.packing ≡ all_items sent sealed w.packing =
     ap (λ l. (sent ++ items) ++ l) begun ∙ append-nil (sent ++ items) ∙ ap (λ l. l ++ items) (sym (append-nil sent)) ∙ ap (λ s. (sent ++ s) ++ items) (sym e) in
     record {
@@ -171,7 +173,7 @@ none_among : (item : Item) → Contains [] item → ⊥
 none_among item h = absurd (omega (arith, h.1))
 
 pub begun_work : (w : Work) (known : List Fact) (folder : Folder) → IsLawful folder → IsCutBy w.walk.params folder → w.walk.steps.items ≡ steps_of folder → w.walk.at ≡ 0
-    → w.walk.nodes.items ≡ [] → w.walk.node ≡ None → w.walk.above.items ≡ [] → w.walk.file ≡ None → IsPacking w.packing known [] [] → w.packing.writer.items ≡ [] → IsWork w known folder [] []
+    → w.walk.nodes.items ≡ [] → w.walk.node ≡ None → w.walk.above.items ≡ [] → w.walk.file ≡ None → IsPacking w.packing known [] [] → w.packing.packer.writer.items ≡ [] → IsWork w known folder [] []
 begun_work w known folder lawful cut steps at nodes node above file packing items = record {
   packing = packing;
   of_folder = λ item c. absurd (none_among item (subst (λ l. Contains l item) items c));

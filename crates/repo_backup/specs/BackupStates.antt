@@ -1,5 +1,5 @@
 -- What is known while a backup is made.
-use Rattle.std.specs.Prelude.{◌≡◌, ◌⊎◌, ◌≤◌, ◌<◌, ◌++◌, ◌∷◌, [], ⊤, ℕ, Bool, false, cond, List, length, None}
+use Rattle.std.specs.Prelude.{◌≡◌, ◌⊎◌, ◌<◌, ◌++◌, ◌∷◌, [], ⊤, ℕ, Bool, false, cond, List, length, None}
 use Rattle.repo_name.specs.declared.kinds.Kind.{Kind}
 use Rattle.repo_name.specs.declared.names.Name.{Name}
 use Rattle.repo_chunk.specs.Parameters.{Parameters}
@@ -18,7 +18,8 @@ use Rattle.repo_session.specs.Readings.{KnowsIndexes}
 use Rattle.repo_session.specs.Traces.{Trace, objects_put}
 use Rattle.repo_session.specs.declared.catalogs.Catalog.{Catalog}
 use Rattle.repo_session.specs.declared.jobs.Step.{Step}
-use Rattle.repo_backup.specs.Backing.{Put, items_of, Backs}
+use Rattle.repo_writing.specs.Writing.{Put, items_of, FewWait}
+use Rattle.repo_backup.specs.Backing.{Backs}
 use Rattle.repo_backup.specs.Folders.{Folder, IsCutBy}
 use Rattle.repo_backup.specs.Plans.{IsLawful, steps_of}
 use Rattle.repo_backup.specs.Readying.{IsPackReady, IsAllDone}
@@ -57,10 +58,6 @@ pub record HasBegun (entries : List Entry) (b : Backing) (es : Trace) : Type 0 w
   pub begun : IsBegun params (steps_of folder) b
   pub none_put : (k : Kind) → objects_put k es ≡ []
 
--- at most 24,095 facts wait to be indexed
-abbrev pub FewWait : List PackFacts → Type 0
-FewWait waiting = length (facts_in waiting) ≤ 24095
-
 -- the work goes on, and these blobs were sent
 abbrev pub IsAtWork : List Fact → Folder → List Item → Backing → Type 0
 IsAtWork facts folder sent b = (sealed : List Item) × IsWork b.work facts folder sent sealed
@@ -70,7 +67,7 @@ pub record PutsPack (entries : List Entry) (facts : List Fact) (b : Backing) (n 
   pub folder : Folder
   pub puts : List Put
   pub put : Put
-  pub backs : Backs entries facts b.waiting b.blobs b.bytes folder puts (put ∷ []) es
+  pub backs : Backs entries facts b.waiting b.counts folder puts (put ∷ []) es
   pub pack_is : put.pack ≡ record { name = n; bytes = x }
   pub work : IsAtWork facts folder (items_of (puts ++ put ∷ [])) b
   pub few : FewWait b.waiting
@@ -79,7 +76,7 @@ pub record PutsPack (entries : List Entry) (facts : List Fact) (b : Backing) (n 
 pub record PutsIndex (entries : List Entry) (facts : List Fact) (b : Backing) (x : List ℕ) (es : Trace) : Type 0 where
   pub folder : Folder
   pub puts : List Put
-  pub backs : Backs entries facts b.waiting b.blobs b.bytes folder puts [] es
+  pub backs : Backs entries facts b.waiting b.counts folder puts [] es
   pub reads : IsIndexText x b.waiting
   pub work : IsAtWork facts folder (items_of puts) b
 
@@ -87,7 +84,7 @@ pub record PutsIndex (entries : List Entry) (facts : List Fact) (b : Backing) (x
 pub record PutsSnapshot (entries : List Entry) (facts : List Fact) (b : Backing) (es : Trace) : Type 0 where
   pub folder : Folder
   pub puts : List Put
-  pub backs : Backs entries facts [] b.blobs b.bytes folder puts [] es
+  pub backs : Backs entries facts [] b.counts folder puts [] es
 
 -- the work goes on, and this is known of it
 abbrev pub AtWork : Stage → (Backing → Type 0) → Type 0
@@ -124,7 +121,7 @@ pub record IsPackNext (entries : List Entry) (facts : List Fact) (b : Backing) (
   pub items : List Item
   pub sealed : Sealed
   pub listed : PackFacts
-  pub backs : Backs entries facts before b.blobs b.bytes folder puts [] es
+  pub backs : Backs entries facts before b.counts folder puts [] es
   pub ready : IsPackReady facts folder (items_of puts) b.work items sealed listed
   pub waits : b.waiting ≡ before ++ listed ∷ []
   pub few : FewWait b.waiting
@@ -133,7 +130,7 @@ pub record IsPackNext (entries : List Entry) (facts : List Fact) (b : Backing) (
 pub record IsIndexNext (entries : List Entry) (facts : List Fact) (b : Backing) (es : Trace) : Type 0 where
   pub folder : Folder
   pub puts : List Put
-  pub backs : Backs entries facts b.waiting b.blobs b.bytes folder puts [] es
+  pub backs : Backs entries facts b.waiting b.counts folder puts [] es
   pub work : IsAtWork facts folder (items_of puts) b
   pub few : FewWait b.waiting
 
@@ -141,7 +138,7 @@ pub record IsIndexNext (entries : List Entry) (facts : List Fact) (b : Backing) 
 pub record IsSnapshotNext (entries : List Entry) (facts : List Fact) (b : Backing) (root : Name) (es : Trace) : Type 0 where
   pub folder : Folder
   pub puts : List Put
-  pub backs : Backs entries facts [] b.blobs b.bytes folder puts [] es
+  pub backs : Backs entries facts [] b.counts folder puts [] es
   pub done : IsAllDone facts folder (items_of puts) b.work root
 
 -- by what it is
@@ -160,7 +157,7 @@ IsDueNext stage facts next es = AtWork stage (λ b. IsNext (handed_in stage) fac
 pub record MayGoOn (entries : List Entry) (facts : List Fact) (anew : Bool) (b : Backing) (es : Trace) : Type 0 where
   pub folder : Folder
   pub puts : List Put
-  pub backs : Backs entries facts (cond anew [] b.waiting) b.blobs b.bytes folder puts [] es
+  pub backs : Backs entries facts (cond anew [] b.waiting) b.counts folder puts [] es
   pub work : IsAtWork facts folder (items_of puts) b
   pub room : length (facts_in (cond anew [] b.waiting)) < 20000
 

@@ -2,14 +2,12 @@
 pub mod Folders
 pub mod Handed
 pub mod Plans
-pub mod Blobs
 pub mod Rules
 pub mod Packings
 pub mod Chunks
 pub mod Works
 pub mod Advancing
 pub mod Backing
-pub mod Listed
 pub mod Readying
 pub mod Walking
 pub mod Stages

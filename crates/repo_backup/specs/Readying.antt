@@ -9,18 +9,18 @@ use Rattle.repo_index.specs.declared.facts.Fact.{Fact}
 use Rattle.repo_index.specs.declared.facts.PackFacts.{PackFacts}
 use Rattle.repo_tree.specs.TreeWriting.{tree_text}
 use Rattle.repo_backup.specs.Folders.{Folder, nodes_of, blobs_of}
-use Rattle.repo_backup.specs.Listed.{IsListed}
 use Rattle.repo_backup.specs.Packings.{IsCovered}
 use Rattle.repo_backup.specs.Plans.{AreTreeTexts}
 use Rattle.repo_backup.specs.Works.{IsWork}
 use Rattle.repo_backup.specs.declared.backing.Next.{Next}
 use Rattle.repo_backup.specs.declared.works.Work.{Work}
 use Rattle.repo_session.specs.Traces.{Each}
+use Rattle.repo_writing.specs.Sealing.{IsListed}
 
 -- a pack is sealed of these items, and listed so
 pub record IsPackReady (known : List Fact) (folder : Folder) (sent : List Item) (new : Work) (items : List Item) (sealed : Sealed) (listed : PackFacts) : Type 0 where
   pub work : IsWork new known folder sent items
-  pub lists : IsListed new.packing.sealed items sealed listed
+  pub lists : IsListed new.packing.packer.sealed items sealed listed
 
 -- all of the folder is known or was sent, and this is its tree
 pub record IsAllDone (known : List Fact) (folder : Folder) (sent : List Item) (new : Work) (root : Name) : Type 0 where

@@ -1,7 +1,5 @@
 -- What a backup may put, and how it may end.
-use Rattle.std.specs.Prelude.{◌≡◌, ◌<◌, ◌⊎◌, ◌-◌, ◌^◌, [], ℕ, List, length, map, min, Contains}
-use Rattle.std.specs.List.{flat_map, sum_by}
-use Rattle.repo_name.specs.declared.kinds.BlobKind.{BlobKind}
+use Rattle.std.specs.Prelude.{◌≡◌, ◌<◌, ◌⊎◌, [], ℕ, List, length, Contains}
 use Rattle.repo_name.specs.declared.kinds.BlobKind.TheVariants.{Tree}
 use Rattle.repo_name.specs.declared.kinds.Kind.{Kind}
 use Rattle.repo_name.specs.declared.names.Name.{Name}
@@ -9,10 +7,6 @@ use Rattle.repo_name.specs.declared.tokens.Token.{Token}
 use Rattle.repo_wire.specs.declared.messages.Ask.{Ask}
 use Rattle.repo_wire.specs.declared.messages.Say.{Say}
 use Rattle.repo_pack.specs.PackLayout.{Item, item_of, IsTruePack}
-use Rattle.repo_index.specs.declared.facts.Fact.{Fact}
-use Rattle.repo_index.specs.declared.facts.PackFacts.{PackFacts}
-use Rattle.repo_index.specs.IndexText.{IsIndexText, Says}
-use Rattle.repo_index.specs.Exactness.{AreFactsAt}
 use Rattle.repo_tree.specs.declared.configs.Config.{Config}
 use Rattle.repo_tree.specs.declared.entries.Entry.{Entry}
 use Rattle.repo_tree.specs.declared.snapshots.Snapshot.{Snapshot}
@@ -24,31 +18,10 @@ use Rattle.repo_session.specs.declared.outcomes.Outcome.{Outcome}
 use Rattle.repo_name.specs.declared.rows.LockRow.{LockRow}
 use Rattle.repo_session.specs.Catalogs.{AreIndexed}
 use Rattle.repo_session.specs.Order.{IsReading}
-use Rattle.repo_session.specs.Traces.{Each, Exchange, Trace, Exchanged, Object, objects_put, IsGiven}
-use Rattle.repo_backup.specs.Blobs.{HasItem, AreOnce}
+use Rattle.repo_session.specs.Traces.{Exchange, Trace, Exchanged, objects_put, IsGiven}
+use Rattle.repo_writing.specs.Blobs.{AreOnce}
+use Rattle.repo_writing.specs.Putting.{PutDone, AreDone, IsPacked, IsIndexed, IsListedPack, IsIndexOf, AreCounted}
 use Rattle.repo_backup.specs.Folders.{Folder, IsFolderOf, blobs_of}
-
--- the object was put, and that is done
-abbrev pub PutDone : Trace → Kind → Name → List ℕ → Type 0
-PutDone es k n x = (token : Token) × Exchanged es (Ask.Put token k n x) Say.Done
-
--- a pack that was put has a blob of this kind and name
-pub record IsPacked (es : Trace) (k : BlobKind) (n : Name) : Type 0 where
-  pub pack : Object
-  pub items : List Item
-  pub put : Contains (objects_put Kind.Pack es) pack
-  pub holds : IsTruePack pack.bytes items
-  pub among : HasItem items k n
-
--- an index that was put, and is done, gives the kind and name
-pub record IsIndexed (es : Trace) (k : BlobKind) (n : Name) : Type 0 where
-  pub index : Name
-  pub text : List ℕ
-  pub fact : Fact
-  pub put : PutDone es Kind.Index index text
-  pub says : Says text fact
-  pub kind : fact.kind ≡ k
-  pub name : fact.name ≡ n
 
 -- by the config that was read, this folder is that of the entries
 pub record IsMade (entries : List Entry) (es : Trace) (folder : Folder) : Type 0 where
@@ -71,28 +44,18 @@ pub record PackRule (entries : List Entry) (es : Trace) (x : List ℕ) : Type 0 
   pub unread : (item : Item) → Contains items item → ¬ IsGiven es item.kind item.name
   pub unput : (item : Item) → Contains items item → ¬ IsPacked es item.kind item.name
 
--- a pack that an index lists was put, that is done, and it is listed with exactly its blobs
-pub record IsListedPack (es : Trace) (listed : PackFacts) : Type 0 where
-  pub bytes : List ℕ
-  pub items : List Item
-  pub put : PutDone es Kind.Pack listed.pack bytes
-  pub holds : IsTruePack bytes items
-  pub exact : AreFactsAt listed.pack items listed.facts
-
 -- an index may be put: every index was read, and no snapshot put; it reads, and each pack that it lists was put, that is done, and it is listed with exactly its blobs
 pub record IndexRule (es : Trace) (x : List ℕ) : Type 0 where
   pub indexes : AreIndexed es
   pub first : objects_put Kind.Snapshot es ≡ []
-  pub packs : List PackFacts
-  pub reads : IsIndexText x packs
-  pub each : (listed : PackFacts) → Contains packs listed → IsListedPack es listed
+  pub lists : IsIndexOf (IsListedPack es) x
 
 -- the snapshot may be put: every index was read; it is the first; all that was put is done; it has the host, the time and the token of the lock; its tree
 -- spells the entries in the blobs made of them, and each of these an index gives that was read, or put
 pub record SnapshotRule (entries : List Entry) (es : Trace) (token : Token) (x : List ℕ) : Type 0 where
   pub indexes : AreIndexed es
   pub first : objects_put Kind.Snapshot es ≡ []
-  pub done : (k : Kind) (object : Object) → Contains (objects_put k es) object → PutDone es k object.name object.bytes
+  pub done : AreDone es
   pub snapshot : Snapshot
   pub reads : IsSnapshotText x snapshot
   pub token_is : snapshot.token ≡ token
@@ -103,7 +66,7 @@ pub record SnapshotRule (entries : List Entry) (es : Trace) (token : Token) (x :
   pub time_is : snapshot.time ≡ row.time
   pub folder : Folder
   pub cut : IsMade entries es folder
-  pub spells : Spells (λ k y. Contains (blobs_of folder) (item_of k y)) snapshot.tree [] entries
+  pub spells : Spells snapshot.version (λ k y. Contains (blobs_of folder) (item_of k y)) snapshot.tree [] entries
   pub given : (item : Item) → Contains (blobs_of folder) item → IsGiven es item.kind item.name ⊎ IsIndexed es item.kind item.name
 
 -- what a backup may ask for: it reads, puts by these rules, and deletes nothing
@@ -127,24 +90,11 @@ may_read entries es (Ask.Put token k n x) r = absurd r
 may_read entries es (Ask.Delete token k n) r = absurd r
 may_read entries es Ask.Config r = r
 
--- a pack with its blobs
-pub record Packed : Type 0 where
-  pub pack : Object
-  pub items : List Item
-
--- a count that stays at the greatest number of 64 bits
-abbrev pub IsCount : ℕ → ℕ → Type 0
-IsCount count n = count ≡ min n (2 ^ 64 - 1)
-
 -- stored: the snapshot's put is done, and these are the counts of the blobs of the packs that were put, and of their bytes
 pub record IsStored (es : Trace) (name : Name) (blobs bytes : ℕ) : Type 0 where
   pub text : List ℕ
   pub put : PutDone es Kind.Snapshot name text
-  pub packs : List Packed
-  pub are : map (λ (p : Packed). p.pack) packs ≡ objects_put Kind.Pack es
-  pub each : Each (λ (p : Packed). IsTruePack p.pack.bytes p.items) packs
-  pub blobs_are : IsCount blobs (length (flat_map (λ (p : Packed). p.items) packs))
-  pub bytes_are : IsCount bytes (sum_by (λ (item : Item). length item.bytes) (flat_map (λ (p : Packed). p.items) packs))
+  pub counted : AreCounted es blobs bytes
 
 -- a directory's tree text is too large
 pub record IsTooLarge (entries : List Entry) (es : Trace) : Type 0 where

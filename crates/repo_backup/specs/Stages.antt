@@ -1,13 +1,13 @@
 -- What a backup was handed, by how far it is.
-use Rattle.std.specs.Prelude.{◌≡◌, ◌+◌, ◌-◌, ◌^◌, ◌++◌, ◌∷◌, [], ℕ, Bool, List, length, min, take}
-use Rattle.std.specs.List.{sum_by}
+use Rattle.std.specs.Prelude.{◌≡◌, ◌-◌, ◌++◌, ◌∷◌, [], ℕ, Bool, List, length, take}
 use Rattle.repo_chunk.specs.Parameters.{Parameters}
 use Rattle.repo_pack.specs.PackLayout.{Item}
-use Rattle.repo_pack.specs.declared.places.Place.{Place}
 use Rattle.repo_pack.specs.declared.writers.Sealed.{Sealed}
 use Rattle.repo_index.specs.declared.facts.Fact.{Fact}
 use Rattle.repo_tree.specs.Spelling.{dir_entry, file_entry}
 use Rattle.repo_tree.specs.declared.entries.Entry.{Entry}
+use Rattle.repo_writing.specs.Sealing.{IsSealedOf}
+use Rattle.repo_writing.specs.Writing.{AreCounts}
 use Rattle.repo_backup.specs.Folders.{Folder, IsCutBy}
 use Rattle.repo_backup.specs.Plans.{IsLawful, steps_of}
 use Rattle.repo_backup.specs.Readying.{Readies}
@@ -43,13 +43,11 @@ pub record IsBegun (params : Parameters) (steps : List WalkStep) (b : Backing) :
   pub steps_are : b.work.walk.steps.items ≡ steps
   pub work : (known : List Fact) (folder : Folder) → IsLawful folder → IsCutBy params folder → steps ≡ steps_of folder → IsWork b.work known folder [] []
   pub none_waits : b.waiting ≡ []
-  pub no_blobs : b.blobs ≡ 0
-  pub no_bytes : b.bytes ≡ 0
+  pub none_counted : AreCounts b.counts []
 
 -- the counts and the steps stay
 pub record KeepsCounts (old new : Backing) : Type 0 where
-  pub blobs : new.blobs ≡ old.blobs
-  pub bytes : new.bytes ≡ old.bytes
+  pub same : new.counts ≡ old.counts
   pub steps : new.work.walk.steps.items ≡ old.work.walk.steps.items
 
 -- this is to be sent next
@@ -64,8 +62,7 @@ pub record StaysReady (known : List Fact) (old new : Backing) : Type 0 where
 
 -- the sealed pack was taken out, its blobs counted, and the work goes on
 pub record TakesPack (sealed : Sealed) (old new : Backing) : Type 0 where
-  pub blobs : new.blobs ≡ min (old.blobs + length sealed.places.items) (2 ^ 64 - 1)
-  pub bytes : new.bytes ≡ min (old.bytes + sum_by (λ (place : Place). place.length) sealed.places.items) (2 ^ 64 - 1)
+  pub counted : (before items : List Item) → IsSealedOf sealed items → AreCounts old.counts before → AreCounts new.counts (before ++ items)
   pub waiting : new.waiting ≡ old.waiting
   pub work : (known : List Fact) (folder : Folder) (sent items : List Item) → IsWork old.work known folder sent items → IsWork new.work known folder (sent ++ items) []
 

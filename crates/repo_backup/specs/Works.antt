@@ -95,8 +95,8 @@ pub record IsWork (w : Work) (known : List Fact) (folder : Folder) (sent sealed 
 
 -- what going on to the next pack gives: a pack is sealed; or all blobs of the folder are known or were sent, and this is its tree; or a directory's tree text is too large
 abbrev pub GoesOn : List Fact → Folder → List Item → Progress → Work → Type 0
-GoesOn known folder sent Progress.Pack new = (sealed : List Item) × IsWork new known folder sent sealed × (new.packing.sealed ≢ None)
-GoesOn known folder sent (Progress.Done root) new = IsWork new known folder sent [] × (new.packing.sealed ≡ None) × (new.packing.writer.items ≡ []) × (root ≡ naming.name (tree_text (nodes_of folder))) × AreTreeTexts folder
+GoesOn known folder sent Progress.Pack new = (sealed : List Item) × IsWork new known folder sent sealed × (new.packing.packer.sealed ≢ None)
+GoesOn known folder sent (Progress.Done root) new = IsWork new known folder sent [] × (new.packing.packer.sealed ≡ None) × (new.packing.packer.writer.items ≡ []) × (root ≡ naming.name (tree_text (nodes_of folder))) × AreTreeTexts folder
     × Each (λ item. IsCovered known sent item) (blobs_of folder)
 GoesOn known folder sent Progress.TooLarge new = (sealed : List Item) × IsWork new known folder sent sealed
     × ((text : List ℕ) × Contains (blobs_of folder) (item_of Tree text) × (8388608 < length text))

@@ -2,7 +2,7 @@
 
 ghost use Rattle.std.specs.Prelude.{◌≡◌, ◌↔◌, ◌++◌, ◌∷◌, [], List, IsTrue, OnOk, OnErr};
 ghost use Rattle.repo_pack.specs.PackLayout.{Item};
-ghost use Rattle.repo_backup.specs.Blobs.{HasItem};
+ghost use Rattle.repo_writing.specs.Blobs.{HasItem};
 ghost use Rattle.repo_backup.specs.Packings.{Notes};
 
 use repo_name::{BlobKind, Name, insert_named, remove_named};

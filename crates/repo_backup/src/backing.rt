@@ -1,21 +1,19 @@
 //! What a backup keeps between two replies once every index was read: the work, the packs that no index lists yet,
 //! and the counts.
 
-ghost use Rattle.std.specs.Prelude.{◌≡◌, ◌≢◌, ◌++◌, ◌∷◌, [], List, cond, Some, None, IfOk, OnOk, OnErr};
+ghost use Rattle.std.specs.Prelude.{◌≡◌, ◌++◌, ◌∷◌, [], List, cond, IfOk, OnOk, OnErr};
 ghost use Rattle.repo_index.specs.declared.facts.Fact.{Fact};
 ghost use Rattle.repo_index.specs.declared.facts.PackFacts.{PackFacts};
 ghost use Rattle.repo_pack.specs.PackLayout.{Item};
-ghost use Rattle.repo_pack.specs.declared.writers.Sealed.{Sealed};
+ghost use Rattle.repo_writing.specs.Writing.{AreCounts};
 ghost use Rattle.repo_backup.specs.Folders.{Folder};
 ghost use Rattle.repo_backup.specs.Works.{IsWork};
-ghost use Rattle.repo_backup.specs.Packings.{IsSealed};
-ghost use Rattle.repo_backup.specs.Listed.{IsListed};
 ghost use Rattle.repo_backup.specs.Readying.{Readies};
 
 use crate::works::{Progress, Work};
 use repo_index::{IndexText, Lookup, PackFacts};
 use repo_name::Name;
-use repo_pack::PackView;
+use repo_writing::Counts;
 use std::alloc::{AllocError, Global};
 
 /// What is to be sent next.
@@ -34,13 +32,12 @@ pub enum Next {
 }
 
 /// The work of a backup, the packs that no index lists yet, in the order in which they are put, and the counts of the
-/// blobs and of their bytes in the packs put, which stay at the greatest number.
+/// packs put.
 #[derive(Drop)]
 pub struct Backing {
     pub work: Work,
     pub waiting: IndexText,
-    pub blobs: u64,
-    pub bytes: u64,
+    pub counts: Counts,
     alloc: Global,
 }
 
@@ -49,14 +46,12 @@ impl Backing {
     pub fn new(alloc: Global, work: Work) -> Backing
         ensures work { result.work ≡ work }
         ensures waiting { result.waiting ≡ [] }
-        ensures blobs { result.blobs ≡ 0 }
-        ensures bytes { result.bytes ≡ 0 }
+        ensures counts { AreCounts result.counts [] }
     {
         Backing {
             work,
             waiting: IndexText::of(Vec::new(alloc)),
-            blobs: 0,
-            bytes: 0,
+            counts: Counts::none(),
             alloc,
         }
     }
@@ -70,12 +65,11 @@ impl Backing {
         ensures err { OnErr result ((folder : Folder) (sent sealed : List Item) → IsWork self.old.work lookup.now folder sent sealed → (more : List Item) × IsWork self.new.work lookup.now folder sent more) }
         ensures waiting { OnErr result (self.new.waiting ≡ self.old.waiting) }
         ensures steps { self.new.work.walk.steps ≡ self.old.work.walk.steps }
-        ensures blobs { self.new.blobs ≡ self.old.blobs }
-        ensures bytes { self.new.bytes ≡ self.old.bytes }
+        ensures counts { self.new.counts ≡ self.old.counts }
     {
         match self.work.next_pack(lookup)? {
             Progress::Pack => {
-                let Some(facts) = self.facts()? else {
+                let Some(facts) = self.work.packing.packer.facts()? else {
                     return Ok(Next::Nothing);
                 };
                 self.list(facts, anew)?;
@@ -94,31 +88,12 @@ impl Backing {
         }
     }
 
-    /// How the sealed pack is listed. `None` where none is sealed. It fails for memory alone.
-    fn facts(&self) -> Result<Option<PackFacts>, AllocError>
-        ensures { IfOk result (λ facts. (items : List Item) → self.now.work.packing.sealed ≢ None → IsSealed self.now.work.packing.sealed items
-            → (sealed : Sealed) × (listed : PackFacts) × (facts ≡ Some listed) × IsListed self.now.work.packing.sealed items sealed listed) }
-    {
-        let Some(sealed) = &self.work.packing.sealed else {
-            return Ok(None);
-        };
-        let bytes = sealed.bytes.as_slice();
-        if bytes.len() > PACK_LIMIT {
-            return Ok(None);
-        }
-        let Ok(view) = PackView::read(bytes) else {
-            return Ok(None);
-        };
-        Ok(Some(PackFacts::of_pack(self.alloc, &sealed.name, &view)?))
-    }
-
     /// Lists a pack behind those that wait, or alone. It fails for memory alone, and then nothing changed.
     fn list(&mut self, facts: PackFacts, anew: bool) -> Result<(), AllocError>
         ensures ok { OnOk result (self.new.waiting ≡ cond anew [] self.old.waiting ++ facts ∷ []) }
         ensures err { OnErr result (self.new.waiting ≡ self.old.waiting) }
         ensures work { self.new.work ≡ self.old.work }
-        ensures blobs { self.new.blobs ≡ self.old.blobs }
-        ensures bytes { self.new.bytes ≡ self.old.bytes }
+        ensures counts { self.new.counts ≡ self.old.counts }
     {
         if !anew {
             return self.waiting.push(facts);
@@ -129,6 +104,3 @@ impl Backing {
         Ok(())
     }
 }
-
-/// The most bytes of a pack.
-const PACK_LIMIT: usize = 25_317_379;

@@ -22,6 +22,7 @@ use repo_name::{Kind, Name, Thing};
 use repo_session::{Catalog, Emission, End, Holder, Job, Outcome, Reading, Step};
 use repo_tree::Config;
 use repo_wire::{Ask, Say};
+use repo_writing::Counts;
 use std::alloc::{AllocError, Global};
 
 /// A backup under its lock: how far it is, and what the store's indexes give.
@@ -103,7 +104,7 @@ impl BackupJob {
         ensures ends { (new : BackupJob) (token : Token) (holding : Holding) (bytes : List ℕ) → Replies self.now Knows holding (Ask.Put token Kind.Snapshot name bytes) Say.Done result new }
         ensures short { IsShortStep result }
     {
-        let (blobs, bytes) = self.stage.counts();
+        let Counts { blobs, bytes } = self.stage.counts();
         Step::Finish(Outcome::Stored { name, blobs, bytes })
     }
 

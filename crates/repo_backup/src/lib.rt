@@ -12,9 +12,10 @@
 //!
 //! The definitions stand in `specs/`: `Handed` (which entries may be handed in), `Folders` (a folder, its entries, nodes
 //! and blobs), `Rules` (what a backup may put, and how it may end); and what is known on the way: `Plans` and `Walking`
-//! (a folder's steps), `Chunks`, `Blobs`, `Packings` and `Listed` (the packs), `Works` and `Advancing` (where the work
-//! stands), `Readying` (what is sent next), `Backing` (what is known of the trace), `Stages`, `BackupStates`, `Backups`
-//! and `BackupObedience` (where the job and the client stand).
+//! (a folder's steps), `Chunks`, `Packings` (the packs), `Works` and `Advancing` (where the work stands), `Readying`
+//! (what is sent next), `Backing` (what is known of the trace), `Stages`, `BackupStates`, `Backups` and
+//! `BackupObedience` (where the job and the client stand). What any job knows that puts packs and indexes stands in
+//! repo_writing.
 #![tactic(auto)]
 
 mod added;
@@ -30,7 +31,6 @@ mod plans;
 mod sending;
 mod stages;
 mod steps;
-mod targets;
 mod walks;
 mod works;
 

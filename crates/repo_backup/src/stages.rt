@@ -1,7 +1,6 @@
 //! How far a backup is: its steps are planned, or the work goes on over them.
 
-ghost use Rattle.std.specs.Prelude.{◌≡◌, ◌≤◌, ◌-◌, ◌^◌, ◌↔◌, List, length, min, Some, IsTrue, IfOk, OnErr};
-ghost use Rattle.std.specs.List.{sum_by};
+ghost use Rattle.std.specs.Prelude.{◌≡◌, ◌≤◌, ◌↔◌, List, length, Some, IsTrue, IfOk, OnErr};
 ghost use Rattle.repo_pack.specs.declared.writers.Sealed.{Sealed};
 ghost use Rattle.repo_index.specs.IndexText.{facts_in};
 ghost use Rattle.repo_backup.specs.Stages.{handed_in, IsPlanned, IsBegun, GoesReady, StaysReady, TakesPack};
@@ -11,11 +10,11 @@ ghost use Rattle.repo_backup.specs.declared.stages.Stage.{Stage};
 
 use crate::backing::{Backing, Next};
 use crate::steps::WalkStep;
-use crate::targets::Target;
 use crate::works::Work;
-use repo_index::{Lookup, PackFacts};
-use repo_pack::{Place, Sealed};
+use repo_index::Lookup;
+use repo_pack::Sealed;
 use repo_tree::Config;
+use repo_writing::{Counts, Target, is_full};
 use std::alloc::{AllocError, Global};
 use std::mem;
 
@@ -26,28 +25,6 @@ pub enum Stage {
     Planned(Vec<WalkStep>),
     /// The work over the steps goes on.
     Working(Backing),
-}
-
-/// Whether these packs have 20,000 facts or more.
-fn is_many(packs: &[PackFacts]) -> bool
-    ensures { IsTrue result ↔ (20_000 ≤ length (facts_in packs.now)) }
-{
-    let mut count: usize = 0;
-    for pack in packs {
-        count = count.saturating_add(pack.facts.as_slice().len());
-    }
-    count >= 20_000
-}
-
-/// How many bytes lie at these places: the greatest number, where there are more.
-fn bytes_at(places: &[Place]) -> u64
-    ensures { result ≡ min (sum_by (λ place. place.length) places.now) (2 ^ 64 - 1) }
-{
-    let mut bytes: u64 = 0;
-    for place in places {
-        bytes = bytes.saturating_add(u64::from(place.length));
-    }
-    bytes
 }
 
 impl Stage {
@@ -74,7 +51,7 @@ impl Stage {
             return;
         };
         let params = backing.work.walk.params;
-        let target = backing.work.packing.target;
+        let target = backing.work.packing.packer.target;
         let steps = mem::replace(&mut backing.work.walk.steps, Vec::new(alloc));
         let work = Work::new(alloc, params, target, steps);
         *self = Stage::Working(Backing::new(alloc, work));
@@ -98,34 +75,32 @@ impl Stage {
     {
         match self {
             Stage::Planned(_) => false,
-            Stage::Working(backing) => is_many(backing.waiting.packs()),
+            Stage::Working(backing) => is_full(&backing.waiting),
         }
     }
 
     /// Takes the sealed pack out, to be sent: its blobs and their bytes are counted.
     pub fn take_pack(&mut self) -> Option<Sealed>
-        ensures taken { (b : Backing) (sealed : Sealed) → self.old ≡ Stage.Working b → b.work.packing.sealed ≡ Some sealed → (result ≡ Some sealed) × ((c : Backing) × (self.new ≡ Stage.Working c) × TakesPack sealed b c) }
+        ensures taken { (b : Backing) (sealed : Sealed) → self.old ≡ Stage.Working b → b.work.packing.packer.sealed ≡ Some sealed → (result ≡ Some sealed) × ((c : Backing) × (self.new ≡ Stage.Working c) × TakesPack sealed b c) }
         ensures handed { handed_in self.new ≡ handed_in self.old }
     {
         let Stage::Working(backing) = self else {
             return None;
         };
-        let Some(sealed) = backing.work.packing.sealed.take() else {
+        let Some(sealed) = backing.work.packing.packer.sealed.take() else {
             return None;
         };
-        let places = sealed.places.as_slice();
-        backing.blobs = backing.blobs.saturating_add(places.len() as u64);
-        backing.bytes = backing.bytes.saturating_add(bytes_at(places));
+        backing.counts.add(&sealed);
         Some(sealed)
     }
 
-    /// How many blobs were counted, and how many bytes.
-    pub fn counts(&self) -> (u64, u64)
-        ensures { (b : Backing) → self.now ≡ Stage.Working b → (result.0 ≡ b.blobs) × (result.1 ≡ b.bytes) }
+    /// What was counted.
+    pub fn counts(&self) -> Counts
+        ensures { (b : Backing) → self.now ≡ Stage.Working b → result ≡ b.counts }
     {
         match self {
-            Stage::Planned(_) => (0, 0),
-            Stage::Working(backing) => (backing.blobs, backing.bytes),
+            Stage::Planned(_) => Counts::none(),
+            Stage::Working(backing) => backing.counts,
         }
     }
 }

@@ -19,12 +19,12 @@ ghost use Rattle.repo_backup.specs.Advancing.{next_step, work_left, IsMade, Tell
 
 use crate::packing::Packing;
 use crate::steps::WalkStep;
-use crate::targets::Target;
 use crate::walks::Walk;
 use repo_chunk::Params;
 use repo_index::Lookup;
 use repo_name::{BlobKind, Name, name_of};
 use repo_tree::{TreeError, write_tree};
+use repo_writing::Target;
 use std::alloc::{AllocError, Global};
 
 /// How far the work came.
@@ -84,10 +84,10 @@ impl Work {
         ensures err { OnErr result ((folder : Folder) (sent sealed : List Item) → IsWork self.old lookup.now folder sent sealed → (more : List Item) × IsWork self.new lookup.now folder sent more) }
         ensures steps { self.new.walk.steps ≡ self.old.walk.steps }
     {
-        if self.packing.sealed.is_some() {
+        if self.packing.packer.sealed.is_some() {
             return Ok(Progress::Pack);
         }
-        while !self.packing.writer.is_due() {
+        while !self.packing.packer.writer.is_due() {
             match self.step(lookup)? {
                 Stepped::On => {}
                 Stepped::Made(root) => return self.end(root),
@@ -100,13 +100,13 @@ impl Work {
 
     /// Seals the last pack, where it has a blob. It fails for memory alone, and then nothing changed.
     fn end(&mut self, root: Name) -> Result<Progress, AllocError>
-        requires { self.old.packing.sealed ≡ None }
+        requires { self.old.packing.packer.sealed ≡ None }
         ensures ok { IfOk result (λ progress. (known : List Fact) (folder : Folder) (sent sealed : List Item) → IsWork self.old known folder sent sealed
             → IsMade known folder (all_items sent sealed self.old.packing) root → GoesOn known folder sent progress self.new) }
         ensures err { OnErr result (self.new ≡ self.old) }
         ensures walk { self.new.walk ≡ self.old.walk }
     {
-        if self.packing.writer.is_empty() {
+        if self.packing.packer.writer.is_empty() {
             return Ok(Progress::Done(root));
         }
         self.packing.seal()?;
@@ -115,12 +115,12 @@ impl Work {
 
     /// One step of the work. It fails for memory alone, and then some of it may be done.
     fn step(&mut self, lookup: &Lookup) -> Result<Stepped, AllocError>
-        requires { IsOpen self.old.packing.writer }
+        requires { IsOpen self.old.packing.packer.writer }
         ensures work { (folder : Folder) (sent sealed : List Item) → IsWork self.old lookup.now folder sent sealed → IsWork self.new lookup.now folder sent sealed }
         ensures told { IfOk result (λ stepped. (folder : Folder) (sent sealed : List Item) → IsWork self.old lookup.now folder sent sealed
             → Tells lookup.now folder (all_items sent sealed self.new.packing) stepped) }
         ensures less { IfOk result (λ stepped. stepped ≡ Stepped.On → work_left self.new.walk < work_left self.old.walk) }
-        ensures sealed { self.new.packing.sealed ≡ self.old.packing.sealed }
+        ensures sealed { self.new.packing.packer.sealed ≡ self.old.packing.packer.sealed }
         ensures steps { self.new.walk.steps ≡ self.old.walk.steps }
     {
         if self.walk.node.is_some() {
@@ -148,12 +148,12 @@ impl Work {
     /// Makes the next chunk of the open file a blob; or where none is left, makes the file's node. It fails for
     /// memory alone.
     fn cut_file(&mut self, lookup: &Lookup) -> Result<(), AllocError>
-        requires room { IsOpen self.old.packing.writer }
+        requires room { IsOpen self.old.packing.packer.writer }
         requires node { self.old.walk.node ≡ None }
         requires file { IsSome self.old.walk.file }
         ensures work { (folder : Folder) (sent sealed : List Item) → IsWork self.old lookup.now folder sent sealed → IsWork self.new lookup.now folder sent sealed }
         ensures less { OnOk result (work_left self.new.walk < work_left self.old.walk) }
-        ensures sealed { self.new.packing.sealed ≡ self.old.packing.sealed }
+        ensures sealed { self.new.packing.packer.sealed ≡ self.old.packing.packer.sealed }
         ensures steps { self.new.walk.steps ≡ self.old.walk.steps }
     {
         let chunk = self.walk.next_chunk();
@@ -169,7 +169,7 @@ impl Work {
     /// Makes the tree of the open directory, whose nodes are all placed, a blob. `None` where its text is above
     /// 8,388,608 bytes. It fails for memory alone.
     fn make_tree(&mut self, lookup: &Lookup) -> Result<Option<Name>, AllocError>
-        requires { IsOpen self.old.packing.writer }
+        requires { IsOpen self.old.packing.packer.writer }
         ensures work { (folder : Folder) (sent sealed : List Item) → Contains (blobs_of folder) (item_of Tree (tree_text self.old.walk.nodes.items))
             → IsWork self.old lookup.now folder sent sealed → IsWork self.new lookup.now folder sent sealed }
         ensures covered { IfOk result (λ made. IsSome made → (folder : Folder) (sent sealed : List Item) → IsWork self.old lookup.now folder sent sealed
@@ -177,7 +177,7 @@ impl Work {
         ensures named { IfOk result (λ made. MatchOption made (8_388_608 < length (tree_text self.old.walk.nodes.items))
             (λ name. (name ≡ naming.name (tree_text self.old.walk.nodes.items)) × IsTreeText (tree_text self.old.walk.nodes.items) self.old.walk.nodes.items)) }
         ensures walk { self.new.walk ≡ self.old.walk }
-        ensures sealed { self.new.packing.sealed ≡ self.old.packing.sealed }
+        ensures sealed { self.new.packing.packer.sealed ≡ self.old.packing.packer.sealed }
     {
         let text = match write_tree(self.alloc, self.walk.nodes.as_slice()) {
             Ok(text) => text,
@@ -191,7 +191,7 @@ impl Work {
 
     /// Makes the tree of the open directory, and its node. It fails for memory alone.
     fn leave(&mut self, lookup: &Lookup) -> Result<Stepped, AllocError>
-        requires room { IsOpen self.old.packing.writer }
+        requires room { IsOpen self.old.packing.packer.writer }
         requires node { self.old.walk.node ≡ None }
         requires file { self.old.walk.file ≡ None }
         requires step { next_step self.old.walk ≡ Some WalkStep.Leave }
@@ -199,7 +199,7 @@ impl Work {
         ensures told { IfOk result (λ stepped. (folder : Folder) (sent sealed : List Item) → IsWork self.old lookup.now folder sent sealed
             → Tells lookup.now folder (all_items sent sealed self.new.packing) stepped) }
         ensures less { IfOk result (λ stepped. stepped ≡ Stepped.On → work_left self.new.walk < work_left self.old.walk) }
-        ensures sealed { self.new.packing.sealed ≡ self.old.packing.sealed }
+        ensures sealed { self.new.packing.packer.sealed ≡ self.old.packing.packer.sealed }
         ensures steps { self.new.walk.steps ≡ self.old.walk.steps }
     {
         let Some(subtree) = self.make_tree(lookup)? else {
@@ -211,7 +211,7 @@ impl Work {
 
     /// Makes the root's tree. It fails for memory alone.
     fn make_root(&mut self, lookup: &Lookup) -> Result<Stepped, AllocError>
-        requires room { IsOpen self.old.packing.writer }
+        requires room { IsOpen self.old.packing.packer.writer }
         requires node { self.old.walk.node ≡ None }
         requires file { self.old.walk.file ≡ None }
         requires step { next_step self.old.walk ≡ None }
@@ -220,7 +220,7 @@ impl Work {
             → Tells lookup.now folder (all_items sent sealed self.new.packing) stepped) }
         ensures over { IfOk result (λ stepped. stepped ≢ Stepped.On) }
         ensures walk { self.new.walk ≡ self.old.walk }
-        ensures sealed { self.new.packing.sealed ≡ self.old.packing.sealed }
+        ensures sealed { self.new.packing.packer.sealed ≡ self.old.packing.packer.sealed }
     {
         match self.make_tree(lookup)? {
             Some(root) => Ok(Stepped::Made(root)),

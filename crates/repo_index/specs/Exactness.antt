@@ -4,6 +4,7 @@ use Rattle.std.specs.List.{All}
 use Rattle.repo_name.specs.declared.names.Name.{Name}
 use Rattle.repo_pack.specs.PackLayout.{Item, IsItem, offset_of}
 use Rattle.repo_pack.specs.PackWriting.{place_of}
+use Rattle.repo_pack.specs.declared.places.PlacedBlob.{PlacedBlob}
 use Rattle.repo_index.specs.IndexText.{fact_of, facts_in}
 use Rattle.repo_index.specs.IndexWriting.{AreLawful}
 use Rattle.repo_index.specs.Lookups.{Joins, AreFactsOf}
@@ -13,6 +14,10 @@ use Rattle.repo_index.specs.declared.facts.PackFacts.{PackFacts}
 -- the fact of an item that stands at this index among the items of a pack
 abbrev pub fact_at : Name → List Item → ℕ → Item → Fact
 fact_at pack items k item = fact_of item.kind item.name (place_of pack (offset_of items k) item)
+
+-- the fact of a blob that is placed
+abbrev pub fact_in : PlacedBlob → Fact
+fact_in blob = fact_of blob.kind blob.name blob.place
 
 -- an index is exact for a pack: its facts of the pack are exactly those of these items
 abbrev pub IsExactFor : List PackFacts → Name → List Item → Type 0

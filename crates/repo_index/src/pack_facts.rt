@@ -1,12 +1,12 @@
-//! What an index lists of a pack that was read.
+//! What an index lists of a pack that was read, or sealed.
 
-ghost use Rattle.std.specs.Prelude.{◌≡◌, ◌<◌, ◌^◌, length, IfOk};
+ghost use Rattle.std.specs.Prelude.{◌≡◌, ◌<◌, ◌^◌, length, map, IfOk};
 ghost use Rattle.repo_pack.specs.PackLayout.{blobs_of};
-ghost use Rattle.repo_index.specs.Exactness.{AreFactsAt};
+ghost use Rattle.repo_index.specs.Exactness.{fact_in, AreFactsAt};
 
 use crate::facts::{Fact, Facts, PackFacts};
 use repo_name::Name;
-use repo_pack::{PackView, Place};
+use repo_pack::{PackView, Place, Sealed};
 use std::alloc::{AllocError, Global};
 
 impl PackFacts {
@@ -28,6 +28,22 @@ impl PackFacts {
                 offset,
                 length,
             };
+            facts.push(Fact { kind, name, place })?;
+        }
+        let facts = Facts::of(facts);
+        Ok(PackFacts { pack, facts })
+    }
+
+    /// The facts of a sealed pack's blobs, in the pack's order. It fails for memory alone.
+    pub fn of_sealed(alloc: Global, sealed: &Sealed) -> Result<PackFacts, AllocError>
+        ensures pack { IfOk result (λ listed. listed.pack ≡ sealed.now.name) }
+        ensures facts { IfOk result (λ listed. listed.facts ≡ map fact_in sealed.now.blobs.items) }
+    {
+        let pack = sealed.name;
+        let blobs = sealed.blobs.as_slice();
+        let mut facts = Vec::with_capacity(alloc, blobs.len())?;
+        for blob in blobs {
+            let (kind, name, place) = (blob.kind, blob.name, blob.place);
             facts.push(Fact { kind, name, place })?;
         }
         let facts = Facts::of(facts);

@@ -8,10 +8,10 @@ use Rattle.std.proofs.lemmas.List.Elements.{All-push, All-nil, All-cons, All-hea
 use Rattle.std.proofs.lemmas.List.Concat.{flat_map-append}
 use Rattle.repo_name.specs.declared.names.Name.{Name}
 use Rattle.repo_pack.specs.declared.rows.Row.{Row}
-use Rattle.repo_pack.specs.declared.places.Place.{Place}
+use Rattle.repo_pack.specs.declared.places.PlacedBlob.{PlacedBlob}
 use Rattle.repo_pack.specs.PackLayout.{Item, IsItem, IsNamed, IsWithin, blobs_of, header_of, offset_of, IsTruePack}
 use Rattle.repo_pack.specs.PackReading.{items_of}
-use Rattle.repo_pack.specs.PackWriting.{row_of, rows_bytes, ending_of, IsFilled, places_from, ArePlaces}
+use Rattle.repo_pack.specs.PackWriting.{row_of, rows_bytes, ending_of, IsFilled, placed_row, placed_from, ArePlaced}
 use Rattle.repo_pack.proofs.Entries.{items_of-rows, length-header_of}
 use Rattle.repo_pack.proofs.Offsets.{offset_of-cons}
 use Rattle.repo_pack.proofs.Passes.{rows_sum}
@@ -97,62 +97,61 @@ module _ (rows : List Row) (blobs : List ℕ) (target : ℕ) (items : List Item)
       let high = filled.bounds.1 in
       omega arith
 
--- the places of the entries of some items, from an offset on
-places_at : (pack : Name) (offset : ℕ) (items : List Item) (k : ℕ) (item : Item) → slice_get items k ≡ Some item
-    → slice_get (places_from pack offset (map row_of items)) k ≡ Some (record { pack = pack; offset = offset + offset_of items k; length = length item.bytes })
-unfolding places_from
-places_at pack offset [] k item h = absurd cc
-places_at pack offset (first ∷ items) zero item h =
+-- the items of some entries are placed, from an offset on
+placed_there : (pack : Name) (offset : ℕ) (items : List Item) (k : ℕ) (item : Item) → slice_get items k ≡ Some item
+    → slice_get (placed_from pack offset (map row_of items)) k ≡ Some (placed_row pack (offset + offset_of items k) (row_of item))
+unfolding placed_from
+placed_there pack offset [] k item h = absurd cc
+placed_there pack offset (first ∷ items) zero item h =
     let e : first ≡ item = cc in
     let zero_more : offset ≡ offset + 0 = omega arith in
-    λ i. Some (record { pack = pack; offset = zero_more i; length = length (e i).bytes })
-places_at pack offset (first ∷ items) (suc k) item h =
+    λ i. Some (placed_row pack (zero_more i) (row_of (e i)))
+placed_there pack offset (first ∷ items) (suc k) item h =
     let e : (offset + length first.bytes) + offset_of items k ≡ offset + offset_of (first ∷ items) (suc k) = omega (arith, offset_of-cons first items k) in
-    places_at pack (offset + length first.bytes) items k item h ∙ ap (λ o. Some (record { pack = pack; offset = o; length = length item.bytes })) e
+    placed_there pack (offset + length first.bytes) items k item h ∙ ap (λ o. Some (placed_row pack o (row_of item))) e
 
-length-places_from : (pack : Name) (offset : ℕ) (rows : List Row) → length (places_from pack offset rows) ≡ length rows
-unfolding places_from
-length-places_from pack offset [] = refl
-length-places_from pack offset (row ∷ rows) = ap suc (length-places_from pack (offset + row.length) rows)
+length-placed_from : (pack : Name) (offset : ℕ) (rows : List Row) → length (placed_from pack offset rows) ≡ length rows
+unfolding placed_from
+length-placed_from pack offset [] = refl
+length-placed_from pack offset (row ∷ rows) = ap suc (length-placed_from pack (offset + row.length) rows)
 
-pub places_are : (pack : Name) (items : List Item) → ArePlaces pack items (places_from pack 0 (map row_of items))
-places_are pack items = record {
-  count = length-places_from pack 0 (map row_of items) ∙ length-map items row_of;
+pub placed_are : (pack : Name) (items : List Item) → ArePlaced pack items (placed_from pack 0 (map row_of items))
+placed_are pack items = record {
+  count = length-placed_from pack 0 (map row_of items) ∙ length-map items row_of;
   each = λ k item h.
       let e : 0 + offset_of items k ≡ offset_of items k = omega arith in
-      places_at pack 0 items k item h ∙ ap (λ o. Some (record { pack = pack; offset = o; length = length item.bytes })) e;
+      placed_there pack 0 items k item h ∙ ap (λ o. Some (placed_row pack o (row_of item))) e;
 }
 
 -- they are within range, where the items' bytes are
-places_in_range : (pack : Name) (offset : ℕ) (items : List Item) → All IsItem items → offset + length (blobs_of items) ≤ 25_165_823
-    → All (λ (place : Place). IsWithin place.offset place.length) (places_from pack offset (map row_of items))
-unfolding places_from
-places_in_range pack offset [] each room = All-nil (λ (place : Place). IsWithin place.offset place.length)
-places_in_range pack offset (first ∷ items) each room =
+placed_in_range : (pack : Name) (offset : ℕ) (items : List Item) → All IsItem items → offset + length (blobs_of items) ≤ 25_165_823
+    → All (λ (blob : PlacedBlob). IsWithin blob.place.offset blob.place.length) (placed_from pack offset (map row_of items))
+unfolding placed_from
+placed_in_range pack offset [] each room = All-nil (λ (blob : PlacedBlob). IsWithin blob.place.offset blob.place.length)
+placed_in_range pack offset (first ∷ items) each room =
     let whole = length-append first.bytes (blobs_of items) in
     let is : IsItem first = All-head IsItem first items each in
-    let place : Place = record { pack = pack; offset = offset; length = length first.bytes } in
-    All-cons (λ (p : Place). IsWithin p.offset p.length) place (places_from pack (offset + length first.bytes) (map row_of items))
+    All-cons (λ (b : PlacedBlob). IsWithin b.place.offset b.place.length) (placed_row pack offset (row_of first)) (placed_from pack (offset + length first.bytes) (map row_of items))
     (record { blob = is.0; ends = omega (arith, room, whole) })
-    (places_in_range pack (offset + length first.bytes) items (All-tail IsItem first items each) (omega (arith, room, whole)))
+    (placed_in_range pack (offset + length first.bytes) items (All-tail IsItem first items each) (omega (arith, room, whole)))
 
-pub places_within : (pack : Name) (rows : List Row) (blobs : List ℕ) (target : ℕ) (items : List Item) → IsFilled rows blobs target items
-    → All (λ (place : Place). IsWithin place.offset place.length) (places_from pack 0 (map row_of items))
-places_within pack rows blobs target items filled =
+pub placed_within : (pack : Name) (rows : List Row) (blobs : List ℕ) (target : ℕ) (items : List Item) → IsFilled rows blobs target items
+    → All (λ (blob : PlacedBlob). IsWithin blob.place.offset blob.place.length) (placed_from pack 0 (map row_of items))
+placed_within pack rows blobs target items filled =
     let short = ap length filled.blobs_are in
     let room = filled.room in
     let high = filled.bounds.1 in
-    places_in_range pack 0 items filled.each (omega (arith, short, room, high))
+    placed_in_range pack 0 items filled.each (omega (arith, short, room, high))
 
--- one more place
-pub places_more : (front : List Place) (pack : Name) (offset : ℕ) (rows : List Row) (k : ℕ) (d : Row) → k < length rows
-    → (front ++ record { pack = pack; offset = offset; length = (get_or rows k d).length } ∷ []) ++ places_from pack (offset + (get_or rows k d).length) (drop (k + 1) rows) ≡ front ++ places_from pack offset (drop k rows)
-unfolding places_from
-places_more front pack offset rows k d h =
+-- one more blob
+pub placed_more : (front : List PlacedBlob) (pack : Name) (offset : ℕ) (rows : List Row) (k : ℕ) (d : Row) → k < length rows
+    → (front ++ placed_row pack offset (get_or rows k d) ∷ []) ++ placed_from pack (offset + (get_or rows k d).length) (drop (k + 1) rows) ≡ front ++ placed_from pack offset (drop k rows)
+unfolding placed_from
+placed_more front pack offset rows k d h =
     let row = get_or rows k d in
-    append_assoc front (record { pack = pack; offset = offset; length = row.length } ∷ []) (places_from pack (offset + row.length) (drop (k + 1) rows))
-    ∙ ap (λ t. front ++ places_from pack offset t) (sym (drop_more rows k d h))
+    append_assoc front (placed_row pack offset row ∷ []) (placed_from pack (offset + row.length) (drop (k + 1) rows))
+    ∙ ap (λ t. front ++ placed_from pack offset t) (sym (drop_more rows k d h))
 
-pub places_end : (pack : Name) (offset : ℕ) (rows : List Row) (k : ℕ) → length rows ≤ k → places_from pack offset (drop k rows) ≡ []
-unfolding places_from
-places_end pack offset rows k h = ap (places_from pack offset) (drop_all k rows h)
+pub placed_end : (pack : Name) (offset : ℕ) (rows : List Row) (k : ℕ) → length rows ≤ k → placed_from pack offset (drop k rows) ≡ []
+unfolding placed_from
+placed_end pack offset rows k h = ap (placed_from pack offset) (drop_all k rows h)

@@ -4,6 +4,7 @@ use Rattle.std.specs.Int.{w32, to_le_bytes}
 use Rattle.repo_name.specs.declared.names.Name.{Name}
 use Rattle.repo_pack.specs.declared.rows.Row.{Row}
 use Rattle.repo_pack.specs.declared.places.Place.{Place}
+use Rattle.repo_pack.specs.declared.places.PlacedBlob.{PlacedBlob}
 use Rattle.repo_pack.specs.declared.faults.PackError.{PackError}
 use Rattle.repo_pack.specs.declared.faults.PackError.TheVariants as faults
 use Rattle.repo_pack.specs.PackLayout.{Item, IsItem, IsNamed, entry_bytes, blobs_of, offset_of}
@@ -58,18 +59,22 @@ pub record IsFilled (rows : List Row) (blobs : List ℕ) (target : ℕ) (items :
   pub rows_are : rows ≡ map row_of items
   pub blobs_are : blobs ≡ blobs_of items
 
+-- a blob's entry, and where the blob lies that begins at this offset of a pack
+abbrev pub placed_row : Name → ℕ → Row → PlacedBlob
+placed_row pack offset row =
+    record { kind = row.kind; name = row.name; place = record { pack = pack; offset = offset; length = row.length } }
+
 -- where the blobs of these entries lie in a pack, the first of them at this offset
-unfoldable pub places_from : Name → ℕ → List Row → List Place
-places_from pack offset [] = []
-places_from pack offset (row ∷ rows) =
-    record { pack = pack; offset = offset; length = row.length } ∷ places_from pack (offset + row.length) rows
+unfoldable pub placed_from : Name → ℕ → List Row → List PlacedBlob
+placed_from pack offset [] = []
+placed_from pack offset (row ∷ rows) = placed_row pack offset row ∷ placed_from pack (offset + row.length) rows
 
 -- where an item lies that begins at this offset of a pack
 abbrev pub place_of : Name → ℕ → Item → Place
 place_of pack offset item = record { pack = pack; offset = offset; length = length item.bytes }
 
--- these are the items' places in a pack, in the items' order
-pub record ArePlaces (pack : Name) (items : List Item) (places : List Place) : Type 0 where
-  pub count : length places ≡ length items
+-- these are the items with their places in a pack, in the items' order
+pub record ArePlaced (pack : Name) (items : List Item) (placed : List PlacedBlob) : Type 0 where
+  pub count : length placed ≡ length items
   pub each : (k : ℕ) (item : Item) → slice_get items k ≡ Some item
-      → slice_get places k ≡ Some (place_of pack (offset_of items k) item)
+      → slice_get placed k ≡ Some (placed_row pack (offset_of items k) (row_of item))

@@ -22,6 +22,6 @@ mod writers;
 
 pub use faults::PackError;
 pub use laws::{packs_are_one, ranges_are_items};
-pub use places::{Entry, Place};
+pub use places::{Entry, Place, PlacedBlob};
 pub use views::PackView;
 pub use writers::{PackWriter, Sealed, Unsealed};

@@ -10,6 +10,14 @@ pub struct Place {
     pub length: u32,
 }
 
+/// A blob of this kind and name, and where it lies.
+#[derive(Clone, Copy, Debug, PartialEq, Eq)]
+pub struct PlacedBlob {
+    pub kind: BlobKind,
+    pub name: Name,
+    pub place: Place,
+}
+
 /// What a pack tells of a blob, and where its bytes begin.
 #[derive(Clone, Copy, Debug, PartialEq, Eq)]
 pub struct Entry {

@@ -4,10 +4,10 @@ ghost use Rattle.std.specs.Prelude.{◌≡◌, ◌≤◌, ◌<◌, ◌+◌, ◌^
 ghost use Rattle.std.specs.List.{All, sum_by};
 ghost use Rattle.repo_name.specs.Naming as naming;
 ghost use Rattle.repo_pack.specs.PackLayout.{item_of, IsTruePack, IsWithin};
-ghost use Rattle.repo_pack.specs.PackWriting.{IsDue, IsOpen, IsRefusal, with_item, ending_of, places_from, ArePlaces};
+ghost use Rattle.repo_pack.specs.PackWriting.{IsDue, IsOpen, IsRefusal, with_item, ending_of, placed_from, ArePlaced};
 
 use crate::faults::PackError;
-use crate::places::Place;
+use crate::places::{Place, PlacedBlob};
 use crate::rows::{BLOB_LIMIT, Row, header_bytes};
 use repo_name::{BlobKind, Bytes, Name, name_of};
 use std::alloc::{AllocError, Global};
@@ -36,13 +36,13 @@ impl Model for PackWriter {
     ghost invariant = { λ w. IsFilled w.rows.items w.blobs.items w.target (items_of w.rows.items w.blobs.items) };
 }
 
-/// A pack that was written: its bytes, their name, and where its blobs lie, in the order in which they
-/// were added.
+/// A pack that was written: its bytes, their name, and its blobs with their places, in the order in which
+/// they were added.
 #[derive(Debug, Drop)]
 pub struct Sealed {
     pub bytes: Bytes,
     pub name: Name,
-    pub places: Vec<Place>,
+    pub blobs: Vec<PlacedBlob>,
 }
 
 /// There was no memory to seal a pack, which is here as it was.
@@ -63,42 +63,41 @@ impl From<Unsealed> for PackError {
     }
 }
 
-/// Adds the places of these entries' blobs, for which there is room.
-fn add_places(places: &mut Vec<Place>, pack: Name, rows: &[Row])
-    requires room { vec_len places.old + length rows.now ≤ vec_capacity places.old }
+/// Adds these entries' blobs with their places, for which there is room.
+fn add_placed(placed: &mut Vec<PlacedBlob>, pack: Name, rows: &[Row])
+    requires room { vec_len placed.old + length rows.now ≤ vec_capacity placed.old }
     requires small { sum_by (λ row. row.length) rows.now < 2 ^ 32 }
-    ensures { places.new.items ≡ places.old.items ++ places_from pack 0 rows.now }
+    ensures { placed.new.items ≡ placed.old.items ++ placed_from pack 0 rows.now }
 {
     let mut offset = 0;
     for row in rows {
-        let length = row.length;
-        places
-            .push(Place {
-                pack,
-                offset,
-                length,
-            })
-            .unwrap();
+        let (kind, name, length) = (row.kind, row.name, row.length);
+        let place = Place {
+            pack,
+            offset,
+            length,
+        };
+        placed.push(PlacedBlob { kind, name, place }).unwrap();
         offset += length;
     }
 }
 
-/// Ends the bytes with the header of these entries, and answers their name and the places in them.
-fn finish(blobs: &mut Vec<u8>, rows: &[Row]) -> Result<(Name, Vec<Place>), AllocError>
+/// Ends the bytes with the header of these entries, and answers their name and the blobs with their places.
+fn finish(blobs: &mut Vec<u8>, rows: &[Row]) -> Result<(Name, Vec<PlacedBlob>), AllocError>
     requires few { length rows.now ≤ 4_096 }
     requires small { sum_by (λ row. row.length) rows.now < 2 ^ 32 }
     ensures ok { OnOk result (blobs.new.items ≡ blobs.old.items ++ ending_of rows.now) }
     ensures name { IfOk result (λ x. x.0 ≡ naming.name blobs.new.items) }
-    ensures places { IfOk result (λ x. x.1.items ≡ places_from x.0 0 rows.now) }
+    ensures placed { IfOk result (λ x. x.1.items ≡ placed_from x.0 0 rows.now) }
     ensures err { OnErr result (blobs.new.items ≡ blobs.old.items) }
 {
     let alloc = *blobs.allocator();
-    let mut places = Vec::with_capacity(alloc, rows.len())?;
+    let mut placed = Vec::with_capacity(alloc, rows.len())?;
     let header = header_bytes(alloc, rows)?;
     blobs.extend_from_slice(&header)?;
     let name = name_of(blobs);
-    add_places(&mut places, name, rows);
-    Ok((name, places))
+    add_placed(&mut placed, name, rows);
+    Ok((name, placed))
 }
 
 impl PackWriter {
@@ -205,8 +204,8 @@ impl PackWriter {
         requires { 1 ≤ length self.items }
         ensures pack { IfOk result (λ sealed. IsTruePack sealed.bytes self.items) }
         ensures name { IfOk result (λ sealed. sealed.name ≡ naming.name sealed.bytes) }
-        ensures places { IfOk result (λ sealed. ArePlaces sealed.name self.items sealed.places.items) }
-        ensures within { IfOk result (λ sealed. All (λ place. IsWithin place.offset place.length) sealed.places.items) }
+        ensures placed { IfOk result (λ sealed. ArePlaced sealed.name self.items sealed.blobs.items) }
+        ensures within { IfOk result (λ sealed. All (λ blob. IsWithin blob.place.offset blob.place.length) sealed.blobs.items) }
         ensures size { IfOk result (λ sealed. length sealed.bytes ≤ 25_317_379) }
         ensures err { IfErr result (λ unsealed. unsealed.writer ≡ self) }
     {
@@ -216,10 +215,10 @@ impl PackWriter {
             target,
         } = self;
         match finish(&mut blobs, &rows) {
-            Ok((name, places)) => Ok(Sealed {
+            Ok((name, placed)) => Ok(Sealed {
                 bytes: Bytes::of(blobs),
                 name,
-                places,
+                blobs: placed,
             }),
             Err(_) => Err(Unsealed {
                 writer: PackWriter {

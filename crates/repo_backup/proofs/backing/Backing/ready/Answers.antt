@@ -1,11 +1,11 @@
 use Rattle.std.proofs.Common.{arith, ◌≡◌, ◌<◌, ◌≤◌, ◌∷◌, [], List, length, cond, refl, sym, ap, subst, ◌∙◌}
 use Rattle.std.proofs.lemmas.Option.{same_Some}
-use Rattle.repo_backup.specs.Listed.{IsListed}
 use Rattle.std.proofs.lemmas.Result.{err_from_is_err_and}
 use Rattle.repo_name.specs.declared.names.Name.{Name}
 use Rattle.repo_pack.specs.PackLayout.{Item}
 use Rattle.repo_index.specs.declared.facts.Fact.{Fact}
 use Rattle.repo_index.specs.declared.facts.PackFacts.{PackFacts}
+use Rattle.repo_writing.specs.Sealing.{IsListed}
 use Rattle.repo_backup.specs.Folders.{Folder}
 use Rattle.repo_backup.specs.Readying.{IsAllDone, IsPackReady}
 use Rattle.repo_backup.specs.Works.{IsWork, GoesOn}
@@ -30,7 +30,7 @@ returns-in_err-facts-in-Pack-clause-err c =
 pub returns-in_default-clause-ok : goal.returns-in_default-clause-ok
 returns-in_default-clause-ok c = λ folder sent sealed h.
     let g = gone c.args.lookup.now folder sent c.in_ok-next_pack.field-0 Progress.Pack c.next_pack.new.self c.in-Pack.is (c.in_ok-next_pack.ensures.ok folder sent sealed h) in
-    let f = c.in_ok-facts-in-Pack.ensures g.0 g.2 g.1.packing.sealed_is in
+    let f = c.in_ok-facts-in-Pack.ensures.listed g.0 g.2 g.1.packing.sealed_is in
     c.in_default.not-Some f.1 f.2
 
 pub returns-in_err-list-in-Pack-clause-err : goal.returns-in_err-list-in-Pack-clause-err
@@ -43,10 +43,10 @@ returns-in_err-list-in-Pack-clause-err c =
 pub returns-in_ok-list-in-Pack-clause-ok : goal.returns-in_ok-list-in-Pack-clause-ok
 returns-in_ok-list-in-Pack-clause-ok c = λ folder sent sealed h.
     let g = gone c.args.lookup.now folder sent c.in_ok-next_pack.field-0 Progress.Pack c.next_pack.new.self c.in-Pack.is (c.in_ok-next_pack.ensures.ok folder sent sealed h) in
-    let f = c.in_ok-facts-in-Pack.ensures g.0 g.2 g.1.packing.sealed_is in
+    let f = c.in_ok-facts-in-Pack.ensures.listed g.0 g.2 g.1.packing.sealed_is in
     let known = c.args.lookup.now in
     let same : f.1 ≡ c.in-Some.facts = same_Some f.1 c.in-Some.facts (sym f.2 ∙ c.in-Some.is) in
-    let L : PackFacts → Type 0 = λ x. IsListed c.next_pack.new.self.packing.sealed g.0 f.0 x in
+    let L : PackFacts → Type 0 = λ x. IsListed c.next_pack.new.self.packing.packer.sealed g.0 f.0 x in
     let P : Work → Type 0 = λ w. IsPackReady known folder sent w g.0 f.0 c.in-Some.facts in
     (g.0, f.0, c.in-Some.facts, subst P (sym c.list.ensures.work) (record { work = g.1; lists = subst L same f.3 }), c.in_ok-list-in-Pack.ensures.ok)
 

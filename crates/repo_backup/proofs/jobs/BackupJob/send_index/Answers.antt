@@ -1,42 +1,45 @@
-use Rattle.std.proofs.Common.{◌≡◌, ◌≤◌, [], ℕ, List, length, refl, sym, subst, inr, ◌∙◌}
+use Rattle.std.proofs.Common.{◌≡◌, ◌≤◌, ◌++◌, [], ℕ, List, length, map, refl, sym, subst, inr, ◌∙◌}
 use Rattle.repo_name.specs.Naming as naming
 use Rattle.repo_name.specs.declared.kinds.Kind.{Kind}
 use Rattle.repo_name.specs.declared.tokens.Token.{Token}
 use Rattle.repo_index.specs.IndexText.{IsIndexText}
-use Rattle.repo_index.specs.IndexWriting.{AreLawful, AreFew}
 use Rattle.repo_wire.specs.declared.messages.Ask.{Ask}
+use Rattle.repo_session.specs.Askers.{Holding}
+use Rattle.repo_session.specs.Order.{IsWorking}
+use Rattle.repo_session.specs.Traces.{Trace}
 use Rattle.repo_session.specs.declared.jobs.Step.{Step}
-use Rattle.repo_backup.specs.BackupStates.{IsNextStep}
+use Rattle.repo_writing.proofs.Writings.{listing_of, puts_lawful, waits_lawful, waits_few}
+use Rattle.repo_backup.specs.BackupStates.{backup_task, IsIndexNext, IsNextStep}
 use Rattle.repo_backup.specs.Backups.{handed_to, Knows}
 use Rattle.repo_backup.specs.declared.backing.Backing.{Backing}
-use Rattle.repo_backup.proofs.Outgoing.{waits_lawful, waits_few}
+use Rattle.repo_backup.specs.declared.jobs.BackupJob.{BackupJob}
+use Rattle.repo_backup.specs.declared.stages.Stage.{Stage}
 use Rattle.repo_backup.proofs.Ruling.{index_rule}
-use Rattle.repo_backup.proofs.Staging.{same_working}
+use Rattle.repo_backup.proofs.Staging.{same_working, if_ok}
 use Rattle.repo_backup.proofs.jobs.BackupJob.send_index.Goals as goal
 
-pub returns-in-Ok-clause-sends : goal.returns-in-Ok-clause-sends
-returns-in-Ok-clause-sends c = λ es working due.
-    let j = c.args.self.now in
-    let holding = c.args.holder.now in
-    let en = handed_to j in
-    let facts = j.catalog.lookup in
-    let b = due.0 in
-    let h = due.2 in
-    let x = c.in-Ok.text.items in
-    let same : c.in-Working.backing ≡ b = same_working c.in-Working.backing b (sym c.in-Working.is ∙ due.1) in
-    let R : Backing → Type 0 = λ d. AreLawful d.waiting → IsIndexText x d.waiting in
-    let F : Backing → Type 0 = λ d. AreFew d.waiting → length x ≤ 8388608 in
-    let reads = subst R same c.in-Ok.ensures.reads (waits_lawful en facts b.waiting b.blobs b.bytes h.folder h.puts [] es h.backs) in
-    let short = subst F same c.in-Ok.ensures.short (waits_few en facts b.waiting b.blobs b.bytes h.folder h.puts [] es h.backs h.few) in
-    let rule = index_rule en facts b.waiting b.blobs b.bytes h.folder h.puts es x h.backs reads in
-    let S : Step → Type 0 = λ step. IsNextStep en holding.who (Knows j) step es in
-    let X : List ℕ → Type 0 = λ y. S (Step.Ask (Ask.Put holding.token Kind.Index (naming.name y) y)) in
-    let T : Token → Type 0 = λ t. S (Step.Ask (Ask.Put t Kind.Index (naming.name c.of.result) c.of.result)) in
-    let L : List ℕ → Type 0 = λ y. length y ≤ 8388608 in
-    let may : X x = record {
+-- the index of what waits may be asked for
+puts_index : (j : BackupJob) (holding : Holding) (token : Token) (es : Trace) (b : Backing) (step : Step) → IsWorking (backup_task holding.who) holding.token es → j.stage ≡ Stage.Working b
+    → IsIndexNext (handed_to j) j.catalog.lookup b es → token ≡ holding.token
+    → (x : List ℕ) × IsIndexText x b.waiting × (length x ≤ 8388608) × (step ≡ Step.Ask (Ask.Put token Kind.Index (naming.name x) x))
+    → IsNextStep (handed_to j) holding.who (Knows j) step es
+puts_index j holding token es b step working at h own (x, reads, short, is) =
+    let S : Step → Type 0 = λ step. IsNextStep (handed_to j) holding.who (Knows j) step es in
+    let T : Token → Type 0 = λ t. S (Step.Ask (Ask.Put t Kind.Index (naming.name x) x)) in
+    let may : T holding.token = record {
       work = tt;
       may = (working, refl, short);
-      allowed = rule;
-      knows = inr (b, due.1, record { folder = h.folder; puts = h.puts; backs = h.backs; reads = reads; work = h.work });
+      allowed = index_rule (handed_to j) j.catalog.lookup b.waiting b.counts h.folder h.puts es x h.backs reads;
+      knows = inr (b, at, record { folder = h.folder; puts = h.puts; backs = h.backs; reads = reads; work = h.work });
     } in
-    subst S (sym (c.put_text.ensures.puts (subst L (sym c.of.ensures) short))) (subst T (sym c.token.ensures) (subst X (sym c.of.ensures) may))
+    subst S (sym is) (subst T (sym own) may)
+
+pub returns-clause-sends : goal.returns-clause-sends
+returns-clause-sends c = if_ok _ _ c.put_index.result (λ (step : Step) puts es working due.
+    let b = due.0 in
+    let h = due.2 in
+    let same : c.in-Working.backing ≡ b = same_working c.in-Working.backing b (sym c.in-Working.is ∙ due.1) in
+    let all = map listing_of (h.puts ++ []) in
+    let lawful = puts_lawful b.counts h.puts [] es h.backs.put in
+    puts_index c.args.self.now c.args.holder.now c.token.result es b step working due.1 h c.token.ensures
+    ((rw same at puts) (waits_lawful all b.waiting es h.backs.lists lawful) (waits_few all b.waiting es h.backs.lists lawful h.few))) c.put_index.ensures.puts

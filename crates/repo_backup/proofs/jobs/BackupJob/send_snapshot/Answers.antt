@@ -26,7 +26,7 @@ returns-in-Ok-clause-sends c = λ es working due.
     let locked = lock_there task holding.token es working in
     let snapshot : Snapshot = record { host = c.in_ok-clone.field-0; time = c.time.result; token = c.token.result; tree = c.args.root; version = 1 } in
     let host : snapshot.host ≡ holding.who.host = search rules in
-    let rule = snapshot_rule en j.catalog.lookup b.blobs b.bytes h.folder h.puts holding.token (lock_row task holding.token) snapshot es x h.backs
+    let rule = snapshot_rule en j.catalog.lookup b.counts h.folder h.puts holding.token (lock_row task holding.token) snapshot es x h.backs
     h.done.covered text h.done.root_is c.token.ensures locked refl host c.time.ensures h.done.texts h.done.work.walkable.lawful in
     let S : Step → Type 0 = λ step. IsNextStep en holding.who (Knows j) step es in
     let X : List ℕ → Type 0 = λ y. S (Step.Ask (Ask.Put holding.token Kind.Snapshot (naming.name y) y)) in

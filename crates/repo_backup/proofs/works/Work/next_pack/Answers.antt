@@ -55,7 +55,7 @@ returns-clause-ok c = λ folder sent sealed h.
     let known = c.args.lookup.now in
     let due = c.loop-self.invariant.work folder sent sealed h in
     let new : Work = record c.loop-self.self { packing = c.seal.new.self } in (
-      c.loop-self.self.packing.writer.items,
+      c.loop-self.self.packing.packer.writer.items,
       sealed_work c.loop-self.self new known folder sent sealed c.loop-self.invariant.none refl c.in_ok-seal.ensures.begun
           (λ p. c.in_ok-seal.ensures.ok known sent p) due,
       c.in_ok-seal.ensures.sealed,

@@ -9,7 +9,7 @@ use Rattle.repo_backup.proofs.works.Work.next_pack.Given as goal
 abbrev pub invariant-loop-self : goal.invariant-loop-self
 invariant-loop-self l = record {
   work : (folder : Folder) (sent sealed : List Item) → IsWork l.fn.self l.lookup folder sent sealed → IsWork l.self l.lookup folder sent sealed;
-  none : l.self.packing.sealed ≡ None;
+  none : l.self.packing.packer.sealed ≡ None;
   steps : l.self.walk.steps ≡ l.fn.self.walk.steps;
 }
 

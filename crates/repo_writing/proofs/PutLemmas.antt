@@ -1,5 +1,5 @@
--- Objects that were put, the blobs of packs, and what one more put makes of a trace.
-use Rattle.std.proofs.Common.{◌≡◌, ◌++◌, ◌∷◌, [], ℕ, zero, suc, true, false, List, map, cond, slice_get, Option, Some, None, sym, ap, subst, inl, inr, ◌∙◌, Contains}
+-- Objects that were put, and what one more put makes of a trace.
+use Rattle.std.proofs.Common.{◌≡◌, ◌↔◌, ◌++◌, ◌∷◌, [], ℕ, zero, suc, true, false, List, map, cond, slice_get, Option, Some, None, sym, ap, subst, inl, inr, ◌∙◌, Contains}
 use Rattle.std.proofs.lemmas.List.{append-nil}
 use Rattle.repo_name.specs.declared.kinds.Kind.{Kind}
 use Rattle.repo_name.specs.declared.names.Name.{Name}
@@ -7,15 +7,13 @@ use Rattle.repo_name.specs.declared.tokens.Token.{Token}
 use Rattle.repo_wire.specs.declared.messages.Ask.{Ask}
 use Rattle.repo_wire.specs.declared.messages.Say.{Say}
 use Rattle.repo_index.specs.declared.facts.Fact.{Fact}
-use Rattle.repo_tree.specs.declared.entries.Entry.{Entry}
 use Rattle.repo_store.specs.Pages.{Has, Ascends}
 use Rattle.repo_session.specs.Catalogs.{AreIndexed}
 use Rattle.repo_session.specs.Traces.{Each, Exchange, Trace, Exchanged, Object, page_names, is_last_page, names_in, is_complete, object_put, objects_put, ReadFact}
 use Rattle.repo_session.proofs.Cataloguing.{fact_stays, fact_before}
 pub use Rattle.repo_session.proofs.Containing.{none_contained, first_contained, later_contained, contained_or, flat_contains, contains_flat}
 use Rattle.repo_session.proofs.Rolling.{same_self}
-use Rattle.repo_backup.specs.Folders.{Folder}
-use Rattle.repo_backup.specs.Rules.{PutDone, IsMade}
+use Rattle.repo_writing.specs.Putting.{PutDone}
 
 -- ---- each of a list, and what a list contains
 
@@ -69,15 +67,17 @@ put_done_later e es k n x h = (h.0, inr h.1)
 pub put_done_now : (e : Exchange) (es : Trace) (token : Token) (k : Kind) (n : Name) (x : List ℕ) → e.ask ≡ Ask.Put token k n x → e.say ≡ Say.Done → PutDone (e ∷ es) k n x
 put_done_now e es token k n x q s = (token, inl (q, s))
 
-pub is_made_later : (entries : List Entry) (e : Exchange) (es : Trace) (folder : Folder) → IsMade entries es folder → IsMade entries (e ∷ es) folder
-is_made_later entries e es folder h = record { text = h.text; config = h.config; read = inr h.read; reads = h.reads; cut = h.cut }
-
 pub read_fact_later : (e : Exchange) (es : Trace) (fact : Fact) → ReadFact es fact → ReadFact (e ∷ es) fact
 read_fact_later e es fact h = fact_stays e es fact h
 
 -- a put reads no fact
 pub read_fact_before : (e : Exchange) (es : Trace) (token : Token) (k : Kind) (n : Name) (x : List ℕ) (fact : Fact) → e.ask ≡ Ask.Put token k n x → ReadFact (e ∷ es) fact → ReadFact es fact
 read_fact_before e es token k n x fact q h = fact_before e es fact (λ m y a s. (let w : Ask.Put token k n x ≡ Ask.Get Kind.Index m = sym q ∙ a in absurd (cc))) h
+
+-- so what is known of the indexes read stays
+pub gives_later : (known : List Fact) (e : Exchange) (es : Trace) (token : Token) (k : Kind) (n : Name) (x : List ℕ) → e.ask ≡ Ask.Put token k n x → ((fact : Fact) → Contains known fact ↔ ReadFact es fact)
+    → (fact : Fact) → Contains known fact ↔ ReadFact (e ∷ es) fact
+gives_later known e es token k n x q gives fact = (λ has. read_fact_later e es fact ((gives fact).0 has), λ is. (gives fact).1 (read_fact_before e es token k n x fact q is))
 
 -- with a put, all indexes are read still
 pub indexed_later : (e : Exchange) (es : Trace) (token : Token) (k : Kind) (n : Name) (x : List ℕ) → e.ask ≡ Ask.Put token k n x → AreIndexed es → AreIndexed (e ∷ es)

@@ -2,13 +2,13 @@ use Rattle.std.proofs.Common.{◌≡◌, ◌≤◌, ◌+◌, ◌-◌, ◌++◌, 
 use Rattle.std.specs.Prelude.{vec_capacity}
 use Rattle.std.specs.List.{sum_by}
 use Rattle.repo_pack.specs.declared.rows.Row.{Row}
-use Rattle.repo_pack.specs.PackWriting.{places_from}
-use Rattle.repo_pack.proofs.writers.add_places.Given as goal
+use Rattle.repo_pack.specs.PackWriting.{placed_from}
+use Rattle.repo_pack.proofs.writers.add_placed.Given as goal
 
--- the places so far and those of what is left are those of all
+-- the blobs placed so far and those of what is left are those of all
 abbrev pub invariant-loop-row : goal.invariant-loop-row
 invariant-loop-row l = record {
-  places : l.places.items ++ places_from l.pack l.offset (drop l.row-index l.rows) ≡ l.initial.places.items ++ places_from l.pack 0 l.rows;
-  room : vec_len l.places + (length l.rows - l.row-index) ≤ vec_capacity l.places;
+  placed : l.placed.items ++ placed_from l.pack l.offset (drop l.row-index l.rows) ≡ l.initial.placed.items ++ placed_from l.pack 0 l.rows;
+  room : vec_len l.placed + (length l.rows - l.row-index) ≤ vec_capacity l.placed;
   offset : l.offset + sum_by (λ (row : Row). row.length) (drop l.row-index l.rows) ≡ sum_by (λ (row : Row). row.length) l.rows;
 }

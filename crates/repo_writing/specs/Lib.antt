@@ -1,0 +1,5 @@
+-- The definitions that the contracts of this crate cite.
+pub mod Blobs
+pub mod Putting
+pub mod Sealing
+pub mod Writing
