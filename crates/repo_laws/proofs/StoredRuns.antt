@@ -9,6 +9,7 @@ use Rattle.repo_wire.specs.declared.messages.Ask.{Ask}
 use Rattle.repo_wire.specs.declared.messages.Say.{Say}
 use Rattle.repo_pack.specs.PackLayout.{item_of}
 use Rattle.repo_tree.specs.Laws.{Agree}
+use Rattle.repo_tree.specs.Parts.{Blobs}
 use Rattle.repo_tree.specs.Spelling.{Spells}
 use Rattle.repo_tree.specs.SnapshotText.{IsSnapshotText}
 use Rattle.repo_tree.specs.declared.entries.Entry.{Entry}
@@ -35,9 +36,9 @@ use Rattle.repo_backup.specs.Laws.{IsMadeOf}
 use Rattle.repo_backup.specs.Rules.{IsMade, SnapshotRule, Allows, GivesNothing}
 use Rattle.repo_session.proofs.Spoken.{was_asked}
 use Rattle.repo_backup.proofs.LoneRuns.{lone, covers_all}
-use Rattle.repo_backup.proofs.Puts.{is_made_later}
+use Rattle.repo_backup.proofs.Ruling.{is_made_later}
 use Rattle.repo_laws.specs.Laws.{RestoredIsHanded}
-use Rattle.repo_restore.specs.Received.{Received}
+use Rattle.repo_session.specs.Received.{Received}
 use Rattle.repo_restore.specs.Restoring.{Wish, restore_task, IsForBlob, IsRestored, RestoreAllows, RestoreGives}
 
 -- the rule under which a snapshot was put, and what is made by then
@@ -94,13 +95,14 @@ module _ (w : Wish) (entries : List Entry) (from mid : Store) (es : Trace) (Sent
   handed talk to count o h r =
       let shares = shares_run (restore_task w) (RestoreAllows w.snapshot) (RestoreGives w.snapshot) (λ fs a x. x) mid talk to o h in
       let same = same_run (restore_task w) (RestoreAllows w.snapshot) (RestoreGives w.snapshot) (λ fs a x. x) mid talk to o h in
-      let found = r.1 in
+      let found = r.2 in
       let got = sym (ap (λ (s : Objects). s Kind.Snapshot w.snapshot) same) ∙ shares.got Kind.Snapshot w.snapshot found.0 found.2.0 in
       let one : source.text ≡ found.0 = same_Some source.text found.0 (sym source.there ∙ got) in
       let snapshot : source.rule.snapshot ≡ found.1 = snapshot_texts_one found.0 source.rule.snapshot found.1 (subst (λ (x : List ℕ). IsSnapshotText x source.rule.snapshot) one source.rule.reads) found.3 in
-      let tree : source.rule.snapshot.tree ≡ r.0 = ap (λ (s : Snapshot). s.tree) snapshot ∙ found.4 in
-      sym (spells_once (λ k y. Contains (blobs_of source.rule.folder) (item_of k y)) (Received (trace_of talk)) (agrees talk to shares same) _ r.0 [] entries (rebuilt (emitted_in (trace_of talk)))
-      (subst (λ t. Spells (λ k y. Contains (blobs_of source.rule.folder) (item_of k y)) t [] entries) tree source.rule.spells) r.2)
+      let made : Blobs = λ k y. Contains (blobs_of source.rule.folder) (item_of k y) in
+      let spells : Spells found.1.version made found.1.tree [] entries = subst (λ (s : Snapshot). Spells s.version made s.tree [] entries) snapshot source.rule.spells in
+      sym (spells_once r.0 made (Received (trace_of talk)) (agrees talk to shares same) _ r.1 [] entries (rebuilt (emitted_in (trace_of talk)))
+      (subst (λ v. Spells v made r.1 [] entries) found.4 (subst (λ t. Spells found.1.version made t [] entries) found.5 spells)) r.3)
 
   -- nothing is given out on the end of the lock
   nothing_given : (e : Exchange) (fs : Trace) (token : Token) → e.ask ≡ Ask.Unlock token → (e.emitted ≡ []) ⊎ RestoreGives w.snapshot fs e → emitted_in (e ∷ fs) ≡ emitted_in fs

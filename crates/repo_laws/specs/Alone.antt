@@ -1,5 +1,6 @@
 -- What a job comes to that is alone with its store, from its beginning to its end.
-use Rattle.std.specs.Prelude.{◌≡◌, ◌<◌, [], ⊤, ℕ, List, Option, Some, None}
+use Rattle.std.specs.Prelude.{◌≡◌, ◌≢◌, ◌⊎◌, ◌<◌, [], ⊤, ℕ, List, Option, Some, None}
+use Rattle.repo_name.specs.declared.names.Name.{Name}
 use Rattle.repo_wire.specs.declared.messages.Code.{Code}
 use Rattle.repo_tree.specs.declared.entries.Entry.{Entry}
 use Rattle.repo_store.specs.Laws.{greatest_count}
@@ -10,9 +11,10 @@ use Rattle.repo_session.specs.declared.outcomes.Outcome.{Outcome}
 use Rattle.repo_session.specs.Alone.{IsSpoken, IsSent, NoClash}
 use Rattle.repo_session.specs.Rebuilding.{rebuilt}
 use Rattle.repo_session.specs.Soundness.{IsSound}
-use Rattle.repo_session.specs.Talks.{Talk, trace_of}
+use Rattle.repo_session.specs.Askers.{Asker}
+use Rattle.repo_session.specs.Talks.{Talk, trace_of, TalkRan}
 use Rattle.repo_backup.specs.Laws.{AreApart}
-use Rattle.repo_restore.specs.Laws.{IsListedOrMemory, IsCompleteOrMemory}
+use Rattle.repo_restore.specs.Laws.{IsRestore, IsListedOrMemory, IsCompleteOrMemory}
 
 -- the shelf's device failed in no call: its count of failures is what it was, and isn't at its end
 pub record NeverFailed (failed failing : ℕ) : Type 0 where
@@ -46,3 +48,19 @@ pub record Lists (from to : Store) (outcome : Option Outcome) : Type 0 where
 pub record GivesBack (entries : List Entry) (from : Store) (emissions : List Emission) : Type 0 where
   pub talk : Talk
   pub same : AreApart entries from (trace_of talk) None → rebuilt emissions ≡ entries
+
+-- a restore of this snapshot, which came to its end over the store, isn't complete
+pub record IsNotRestored (who : Asker) (name : Name) (to : Store) : Type 0 where
+  pub mid : Store
+  pub failed : ℕ
+  pub failing : ℕ
+  pub talk : Talk
+  pub ran : TalkRan mid failed talk to failing
+  pub outcome : Option Outcome
+  pub is : IsRestore (record { who = who; snapshot = name }) None outcome (trace_of talk)
+  pub other : (count : ℕ) → outcome ≢ Some (Outcome.Complete count)
+
+-- nothing is given back where the backup isn't stored, or what it stored isn't restored
+abbrev pub GivesNothing : Asker → Option Outcome → Store → Type 0
+GivesNothing who outcome to = ((name : Name) (blobs bytes : ℕ) → outcome ≢ Some (Outcome.Stored name blobs bytes))
+    ⊎ ((name : Name) × (blobs : ℕ) × (bytes : ℕ) × (outcome ≡ Some (Outcome.Stored name blobs bytes)) × IsNotRestored who name to)

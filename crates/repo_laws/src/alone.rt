@@ -1,16 +1,17 @@
 //! Jobs that are alone with a shelf, from their beginning to their end.
 
-ghost use Rattle.std.specs.Prelude.{◌≡◌, ◌++◌, [], List, Some, IfOk, length, option_map};
+ghost use Rattle.std.specs.Prelude.{◌≡◌, ◌≢◌, ◌++◌, [], ℕ, List, Some, None, IfOk, IsTrue, IsFalse, length, option_map};
 ghost use Rattle.repo_session.specs.Alone.{IsFit, HasAsked};
 ghost use Rattle.repo_session.specs.Sessions.{ended_in};
 ghost use Rattle.repo_session.specs.Soundness.{IsSound};
 ghost use Rattle.repo_session.specs.Talks.{Talk, Went, given_in};
 ghost use Rattle.repo_session.specs.declared.emissions.Emission.{Emission};
+ghost use Rattle.repo_session.specs.declared.outcomes.Outcome.{Outcome};
 ghost use Rattle.repo_backup.specs.Backups.{FitsBackup, handed_to};
 ghost use Rattle.repo_restore.specs.ListStates.{FitsList};
 ghost use Rattle.repo_restore.specs.RestoreObedience.{wish_of};
 ghost use Rattle.repo_restore.specs.RestoreStates.{FitsRestore};
-ghost use Rattle.repo_laws.specs.Alone.{NeverFailed, BacksUp, Restores, Lists, GivesBack};
+ghost use Rattle.repo_laws.specs.Alone.{NeverFailed, BacksUp, Restores, Lists, GivesBack, GivesNothing};
 
 use repo_backup::Backup;
 use repo_restore::{Restore, SnapshotList};
@@ -76,8 +77,19 @@ pub fn list_alone<S: Shelf>(
     lockstep(alloc, list, shelf, &mut nothing)
 }
 
+/// Whether a restore is complete.
+fn is_complete(restore: &Restore) -> bool
+    ensures yes { IsTrue result → (count : ℕ) × (ended_in restore.now.session ≡ Some (Outcome.Complete count)) }
+    ensures no { IsFalse result → (count : ℕ) → ended_in restore.now.session ≢ Some (Outcome.Complete count) }
+{
+    match restore.outcome() {
+        Some(Outcome::Complete { .. }) => true,
+        _ => false,
+    }
+}
+
 /// Makes a new backup over a shelf that nobody else changes meanwhile, and then a restore of what it stored: what that
-/// gave out. `None` where the backup isn't stored or the restore isn't complete.
+/// gave out. `None` where the backup came to another end than stored, or the restore to another than complete.
 ///
 /// On a sound store what was given out is what was handed to the backup, unless two of the byte lists that this speaks of
 /// have one name.
@@ -89,7 +101,9 @@ pub fn back_up_and_restore<S: Shelf>(
 ) -> Result<Option<Vec<Emission>>, StepError>
     requires honest { S.honest shelf.old }
     requires fresh { FitsBackup backup.old [] }
-    ensures { IfOk result (λ given. IsSound (S.store shelf.old).objects → (emissions : List Emission) → option_map (λ v. v.items) given ≡ Some emissions → GivesBack (handed_to backup.old.session.job) (S.store shelf.old) emissions) }
+    ensures went { IfOk result (λ _. (talk : Talk) × Went FitsBackup backup.old talk backup.new) }
+    ensures none { IfOk result (λ given. given ≡ None → GivesNothing who (ended_in backup.new.session) (S.store shelf.new)) }
+    ensures back { IfOk result (λ given. IsSound (S.store shelf.old).objects → (emissions : List Emission) → option_map (λ v. v.items) given ≡ Some emissions → GivesBack (handed_to backup.old.session.job) (S.store shelf.old) emissions) }
 {
     let mut out = Vec::new(alloc);
     lockstep(alloc, backup, shelf, &mut out)?;
@@ -99,8 +113,8 @@ pub fn back_up_and_restore<S: Shelf>(
     let mut restore = Restore::new(alloc, who, *name);
     let mut out = Vec::new(alloc);
     lockstep(alloc, &mut restore, shelf, &mut out)?;
-    match restore.outcome() {
-        Some(Outcome::Complete { .. }) => Ok(Some(out)),
-        _ => Ok(None),
+    if is_complete(&restore) {
+        return Ok(Some(out));
     }
+    Ok(None)
 }

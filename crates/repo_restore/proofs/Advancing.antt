@@ -1,21 +1,20 @@
 -- What is known while a snapshot is restored.
-use Rattle.std.proofs.Common.{◌≡◌, ◌≢◌, ◌≤◌, ◌∷◌, ◌++◌, [], ℕ, Bool, true, false, List, length, Option, refl, sym, ap, subst, inl, inr, ◌⊎◌, ◌∙◌, Contains, ⊎_elim}
+use Rattle.std.proofs.Common.{◌≡◌, ◌≢◌, ◌∷◌, ◌++◌, [], ℕ, Bool, true, false, List, length, Option, refl, sym, ap, subst, inl, inr, ◌⊎◌, ◌∙◌, ⊎_elim}
 use Rattle.std.proofs.lemmas.List.{append-nil}
 use Rattle.repo_name.specs.Naming as naming
 use Rattle.repo_name.specs.declared.kinds.Kind.{Kind}
 use Rattle.repo_name.specs.declared.kinds.BlobKind.{BlobKind}
-use Rattle.repo_name.specs.declared.kinds.Thing.{Thing}
 use Rattle.repo_name.specs.declared.names.Name.{Name}
 use Rattle.repo_name.specs.declared.tokens.Token.{Token}
 use Rattle.repo_wire.specs.declared.messages.Ask.{Ask}
 use Rattle.repo_wire.specs.declared.messages.Say.{Say}
 use Rattle.repo_index.specs.declared.facts.Fact.{Fact}
 use Rattle.repo_index.specs.IndexText.{fact_of}
-use Rattle.repo_index.specs.Lookups.{IsLeast}
 use Rattle.repo_tree.specs.declared.configs.Config.{Config}
 use Rattle.repo_tree.specs.declared.nodes.Node.{Node}
 use Rattle.repo_tree.specs.ConfigText.{IsConfigText}
-use Rattle.repo_tree.specs.Spelling.{Blobs, Spells, greatest_depth}
+use Rattle.repo_tree.specs.Parts.{Blobs}
+use Rattle.repo_tree.specs.Spelling.{Spells}
 use Rattle.repo_session.specs.declared.catalogs.Catalog.{Catalog}
 use Rattle.repo_session.specs.declared.emissions.Emission.{Emission}
 use Rattle.repo_session.specs.declared.outcomes.End.{End}
@@ -26,58 +25,40 @@ use Rattle.repo_session.specs.Ends.{IsBad, IsBadBlob, Concludes, IsUnwelcome, bl
 use Rattle.repo_session.specs.Jobs.{task_under, MayAsk}
 use Rattle.repo_session.specs.Order.{opened}
 use Rattle.repo_session.specs.Rebuilding.{rebuilt, Follow}
-use Rattle.repo_session.specs.Traces.{Each, Exchange, Trace, emitted_in, page_names, is_last_page, object_got, ReadFact, IsGiven}
+use Rattle.repo_session.specs.Traces.{Each, Exchange, Trace, emitted_in, page_names, is_last_page, object_got, ReadFact}
 use Rattle.repo_session.proofs.Cataloguing.{catalog_fresh, catalog_on}
+use Rattle.repo_session.proofs.Descending.{fact_read, received_grows, root_grows, unindexed}
 use Rattle.repo_session.proofs.Holding.{opened_working}
-use Rattle.repo_session.proofs.Receiving.{all_read}
 use Rattle.repo_restore.specs.declared.nodes.Level.{Level}
 use Rattle.repo_restore.specs.declared.restores.RestoreJob.{RestoreJob}
 use Rattle.repo_restore.specs.declared.restores.Stage.{Stage}
 use Rattle.repo_restore.specs.declared.walks.Turn.{Turn}
 use Rattle.repo_restore.specs.declared.walks.Walk.{Walk}
 use Rattle.repo_restore.specs.Flowing.{is_open, TurnFlows}
-use Rattle.repo_restore.specs.Received.{Received}
-use Rattle.repo_restore.specs.Restoring.{HasRoot, HaveLength, Under, IsUneven, IsBadTree, IsNeeded, IsUnindexed, MayGive, counted, restore_rule, RestoreConcludes}
+use Rattle.repo_session.specs.Received.{Received}
+use Rattle.repo_session.specs.Trees.{HasRoot, Under}
+use Rattle.repo_restore.specs.Restoring.{HaveLength, IsUneven, IsBadTree, MayGive, counted, restore_rule, RestoreConcludes}
 use Rattle.repo_restore.specs.RestoreStates.{IsRangeOf, IsBefore, IsNew, IsWalking, KnowsAt, KnowsRestore, TurnIs}
 use Rattle.repo_restore.specs.Walking.{WalkEnds, Waits, Turns, TurnGives, IsUnevenIn, IsUnfitIn}
-use Rattle.repo_restore.specs.Walks.{Sums, IsNowhere}
+use Rattle.repo_restore.specs.Walks.{Sums}
 use Rattle.repo_restore.proofs.Flows.{follow_both}
-use Rattle.repo_restore.proofs.Growing.{received_grows, walk_grows}
-
--- the snapshot stays read
-pub root_grows : (e : Exchange) (es : Trace) (s root : Name) → HasRoot es s root → HasRoot (e ∷ es) s root
-root_grows e es s root h = (h.0, h.1, (inr h.2.0, h.2.1), h.3, h.4)
-
--- the fact that places a blob at its least place was read
-pub fact_read : (c : Catalog) (es : Trace) (fact : Fact) → Catalogs c true es → IsLeast c.lookup fact.kind fact.name fact.place → ReadFact es fact
-fact_read c es fact h least = (h.gives fact).0 least.among
-
-not_given : (c : Catalog) (es : Trace) (kind : BlobKind) (name : Name) → Catalogs c true es → IsNowhere c.lookup kind name → ¬ IsGiven es kind name
-not_given c es kind name h none g =
-    let has : Contains c.lookup g.0 = (h.gives g.0).1 g.1 in
-    let same : g.0 ≡ fact_of kind name g.0.place = λ i. record { kind = g.2 i; name = g.3 i; place = g.0.place } in
-    none g.0.place (subst (λ f. Contains c.lookup f) same has)
-
-unindexed : (c : Catalog) (es : Trace) (thing : Thing) (name : Name) → Catalogs c true es → IsAll c → (s root : Name) → HasRoot es s root → ((kind : BlobKind) × (thing ≡ blob_thing kind) × IsNowhere c.lookup kind name × IsNeeded (Received es) root kind name) → IsUnindexed es s thing name
-unindexed c es thing name h all s root found none =
-    record { kind = none.0; called = none.1; root = root; found = found; needed = none.3; indexes = all_read Kind.Index c.roll.names.items c.roll.read es h.rolled all; ungiven = not_given c es none.0 name h none.2 }
+use Rattle.repo_restore.proofs.Growing.{walk_grows}
 
 lengths_of : (c : Catalog) (es : Trace) (content : List Name) (total : ℕ) → Catalogs c true es → Sums c.lookup content total → HaveLength es content total
 lengths_of c es [] total h s = s
 lengths_of c es (n ∷ ns) total h s = (fact_of BlobKind.Content n s.0, s.1, (h.gives (fact_of BlobKind.Content n s.0)).0 s.2.among, refl, refl, lengths_of c es ns s.1 h s.3, s.4)
 
-bad_tree : (c : Catalog) (s root : Name) (es : Trace) (tree : Name) → Catalogs c true es → HasRoot es s root
-    → (path : List (List ℕ)) × Under (Received es) root path tree × IsUnfitIn c.lookup (Received es) path tree → IsBadTree es s tree
-bad_tree c s root es tree h found b = record { root = root; path = b.0; found = found; leads = b.1; unfit = ⊎_elim inl (λ n. inr (n.0, n.1, why n.0 n.2)) b.2 }
+bad_tree : (c : Catalog) (s root : Name) (es : Trace) (tree : Name) → Catalogs c true es → HasRoot es s 1 root
+    → (path : List (List ℕ)) × Under 1 (Received es) root path tree × IsUnfitIn c.lookup (Received es) root path tree → IsBadTree es s tree
+bad_tree c s root es tree h found b = record { version = 1; root = root; path = b.0; found = found; leads = b.1; unfit = ⊎_elim inl (λ n. inr (n.0, n.1, uneven n.0 n.2)) b.2 }
   where
-    why : (nodes : List Node) → ((nodes ≢ []) × (greatest_depth ≤ length b.0)) ⊎ IsUnevenIn c.lookup nodes → ((nodes ≢ []) × (greatest_depth ≤ length b.0)) ⊎ IsUneven es nodes
-    why nodes (inl d) = inl d
-    why nodes (inr u) = inr (record { name = u.0; size = u.1; content = u.2; total = u.3; among = u.4; lengths = lengths_of c es u.2 u.3 h u.5; other = u.6 })
+    uneven : (nodes : List Node) → IsUnevenIn c.lookup nodes → IsUneven es nodes
+    uneven nodes u = record { name = u.0; size = u.1; content = u.2; total = u.3; among = u.4; lengths = lengths_of c es u.2 u.3 h u.5; other = u.6 }
 
 -- a walk's end is one that a restore may have
-pub walk_concludes : (c : Catalog) (s root : Name) (es : Trace) (end : End) → Catalogs c true es → IsAll c → HasRoot es s root → WalkEnds c.lookup (Received es) root end
+pub walk_concludes : (c : Catalog) (s root : Name) (es : Trace) (end : End) → Catalogs c true es → IsAll c → HasRoot es s 1 root → WalkEnds c.lookup (Received es) root end
     → Concludes (RestoreConcludes s) es (Outcome.Ended end)
-walk_concludes c s root es (End.Missing thing name) h all found e = inr (unindexed c es thing name h all s root found e)
+walk_concludes c s root es (End.Missing thing name) h all found e = inr (unindexed c es thing name h all s 1 root found e)
 walk_concludes c s root es (End.BadObject thing tree) h all found e =
     subst (λ t. Concludes (RestoreConcludes s) es (Outcome.Ended (End.BadObject t tree))) (sym e.0) (inr (bad_tree c s root es tree h found e.1))
 walk_concludes c s root es End.Busy h all found e = absurd e
@@ -86,15 +67,6 @@ walk_concludes c s root es (End.Refused code) h all found e = absurd e
 walk_concludes c s root es End.BadReply h all found e = absurd e
 walk_concludes c s root es End.Version h all found e = absurd e
 walk_concludes c s root es End.DirectoryTooLarge h all found e = absurd e
-
--- a reply to the request for a range that has no bytes
-pub unwelcome_range : (pack : Name) (offset len : ℕ) (say : Say) → ((x : List ℕ) → say ≢ Say.Bytes x) → IsUnwelcome (Ask.Range pack offset len) say
-unwelcome_range pack offset len (Say.Token token) h = λ x. x
-unwelcome_range pack offset len Say.Done h = λ x. x
-unwelcome_range pack offset len (Say.Names more names) h = λ x. x
-unwelcome_range pack offset len (Say.Bytes x) h = absurd (h x refl)
-unwelcome_range pack offset len (Say.LockList rows) h = λ x. x
-unwelcome_range pack offset len (Say.Refused code) h = tt
 
 -- nothing was given out yet
 pub before_on : (walk : Walk) (given : List Emission) (e : Exchange) (es : Trace) → e.emitted ≡ given → IsBefore walk given es → IsBefore walk given (e ∷ es)
@@ -136,7 +108,7 @@ pub turn_is : (facts : List Fact) (walk : Walk) (root : Name) (es : Trace) (old 
     → Follow false old begun → TurnFlows begun out turn → TurnIs facts walk root es turn
 turn_is facts walk root es old out (Turn.Ask fact) begun e h f g = (subst (λ x. Waits facts (Received es) root walk fact x) (sym e) h.0, subst (λ x. Follow false x (is_open fact.kind)) (sym e) (follow_both false begun (is_open fact.kind) old out f g))
 turn_is facts walk root es old out (Turn.Complete count) begun e h f g =
-    (subst (λ x. Spells (Received es) root [] (rebuilt x)) (sym e) h.0, subst (λ x. count ≡ counted (length (rebuilt x))) (sym e) h.1, subst (λ x. Follow false x false) (sym e) (follow_both false begun false old out f g))
+    (subst (λ x. Spells 1 (Received es) root [] (rebuilt x)) (sym e) h.0, subst (λ x. count ≡ counted (length (rebuilt x))) (sym e) h.1, subst (λ x. Follow false x false) (sym e) (follow_both false begun false old out f g))
 turn_is facts walk root es old out (Turn.Ended end) begun e h f g = h.0
 
 -- what was given out stands in order
@@ -145,14 +117,14 @@ turn_flowed old out (Turn.Ask fact) begun f g = (is_open fact.kind, follow_both 
 turn_flowed old out (Turn.Complete count) begun f g = (false, follow_both false begun false old out f g)
 turn_flowed old out (Turn.Ended end) begun f g = (g.0, follow_both false begun g.0 old out f g.1)
 
-pub turn_gave : (facts : List Fact) (B : Blobs) (root : Name) (levels : List Level) (sent entries : ℕ) (old out : List Emission) (turn : Turn) → TurnGives facts B root levels sent entries old out turn → Each (MayGive B root) out
+pub turn_gave : (facts : List Fact) (B : Blobs) (root : Name) (levels : List Level) (sent entries : ℕ) (old out : List Emission) (turn : Turn) → TurnGives facts B root levels sent entries old out turn → Each (MayGive 1 B root) out
 turn_gave facts B root levels sent entries old out (Turn.Ask fact) h = h.1
 turn_gave facts B root levels sent entries old out (Turn.Complete count) h = h.2
 turn_gave facts B root levels sent entries old out (Turn.Ended end) h = h.1
 
 -- what is known where the bytes of the blob came that was asked for
 pub record RangeTaken (j : RestoreJob) (fact : Fact) (root : Name) (e : Exchange) (bytes : List ℕ) (es : Trace) : Type 0 where
-  pub still : HasRoot (e ∷ es) j.snapshot root
+  pub still : HasRoot (e ∷ es) j.snapshot 1 root
   pub indexes : Catalogs j.catalog true (e ∷ es)
   pub given : ReadFact (e ∷ es) fact
   pub waits : Waits j.catalog.lookup (Received (e ∷ es)) root j.walk fact (emitted_in es)
@@ -163,7 +135,7 @@ range_taken j fact e bytes es of said k =
     let indexes = range_on j.catalog e fact.place.pack fact.place.offset fact.place.length true es of k.indexes in
     let given = fact_read j.catalog (e ∷ es) fact indexes k.waits.least in
     record {
-      still = root_grows e es j.snapshot k.root k.found;
+      still = root_grows e es j.snapshot 1 k.root k.found;
       indexes = indexes;
       given = given;
       waits = walk_grows j.catalog.lookup (Received es) (Received (e ∷ es)) (received_grows e es) k.root j.walk.levels.items j.walk.sent j.walk.entries fact (emitted_in es) k.waits;

@@ -8,62 +8,66 @@ use Rattle.repo_index.specs.declared.facts.Fact.{Fact}
 use Rattle.repo_tree.specs.declared.entries.Entry.{Entry}
 use Rattle.repo_tree.specs.declared.nodes.Node.{Node}
 use Rattle.repo_tree.specs.declared.nodes.NodeKind.{NodeKind}
-use Rattle.repo_tree.specs.Spelling.{Blobs, IsTree, Joined, NodeSpells, Spells, dir_entry, file_entry}
+use Rattle.repo_tree.specs.Parts.{Blobs, IsTree}
+use Rattle.repo_tree.specs.Spelling.{Joined, NodeSpells, Spells, dir_entry, file_entry}
 use Rattle.repo_session.specs.declared.emissions.Emission.{Emission}
 use Rattle.repo_session.specs.declared.outcomes.End.{End}
 use Rattle.repo_session.specs.Rebuilding.{rebuilt}
 use Rattle.repo_session.specs.Traces.{Each}
 use Rattle.repo_session.proofs.Receiving.{each_both}
+use Rattle.repo_session.proofs.Descending.{under_more}
 use Rattle.repo_restore.specs.declared.nodes.Begun.{Begun}
 use Rattle.repo_restore.specs.declared.nodes.Level.{Level}
-use Rattle.repo_restore.specs.Restoring.{Under, IsNodeAt, MayGive}
+use Rattle.repo_session.specs.Trees.{Under, IsNodeAt}
+use Rattle.repo_restore.specs.Restoring.{MayGive}
 use Rattle.repo_restore.specs.Walking.{NodeBegins, StandsIn, WaitsAs, WaitsIn, WalkEnds}
-use Rattle.repo_restore.specs.Walks.{IsNowhere, IsWriting, Sums, AtLevel, AtOpen}
+use Rattle.repo_session.specs.Catalogs.{IsNowhere}
+use Rattle.repo_restore.specs.Walks.{IsWriting, Sums, AtLevel, AtOpen}
 use Rattle.repo_restore.proofs.Rebuilds.{rebuilt_both, writing_new}
-use Rattle.repo_restore.proofs.Trees.{contains_got, node_at, open_more, open_all, close_level, under_more}
+use Rattle.repo_restore.proofs.Trees.{contains_got, node_at, open_more, open_all, close_level}
 
 split : (old mid new last : List Emission) → new ≡ mid ++ last → old ++ new ≡ (old ++ mid) ++ last
 split old mid new last p = ap (λ m. old ++ m) p ∙ sym (append_assoc old mid last)
 
 -- a node that was given out whole
-step_done : (facts : List Fact) (B : Blobs) (root tree : Name) (path : List (List ℕ)) (what : NodeKind) (old mid new : List Emission) → IsNodeAt B root path what → NodeBegins facts tree path what mid new Begun.Done → Each (MayGive B root) mid
-    → (more : List Entry) × NodeSpells B (Spells B) path what more × (rebuilt (old ++ new) ≡ rebuilt (old ++ mid) ++ more) × Each (MayGive B root) new
+step_done : (facts : List Fact) (B : Blobs) (root tree : Name) (path : List (List ℕ)) (what : NodeKind) (old mid new : List Emission) → IsNodeAt 1 B root path what → NodeBegins facts tree path what mid new Begun.Done → Each (MayGive 1 B root) mid
+    → (more : List Entry) × NodeSpells B (Spells 1 B) path what more × (rebuilt (old ++ new) ≡ rebuilt (old ++ mid) ++ more) × Each (MayGive 1 B root) new
 step_done facts B root tree path (NodeKind.Dir subtree) old mid new at h given = absurd h
 step_done facts B root tree path (NodeKind.File size content) old mid new at h given =
     let last : List Emission = Emission.File path ∷ Emission.Close ∷ [] in (
       file_entry path [] ∷ [],
       ([], subst (λ ns. Joined B ns []) (sym h.0) refl, sym h.1, refl),
       ap (λ (e : List Emission). rebuilt e) (split old mid new last h.2) ∙ rebuilt_both (old ++ mid) last refl,
-      subst (λ e. Each (MayGive B root) e) (sym h.2) (each_both (MayGive B root) mid last given ((size, content, at), (tt, tt))),
+      subst (λ e. Each (MayGive 1 B root) e) (sym h.2) (each_both (MayGive 1 B root) mid last given ((size, content, at), (tt, tt))),
     )
 
 -- a node that waits
-step_waits : (facts : List Fact) (B : Blobs) (root tree : Name) (path : List (List ℕ)) (what : NodeKind) (old mid new : List Emission) (fact : Fact) (all : List Entry) → IsNodeAt B root path what
-    → NodeBegins facts tree path what mid new (Begun.Waits fact) → Each (MayGive B root) mid → rebuilt (old ++ mid) ≡ all → WaitsAs facts what path fact all (old ++ new) × Each (MayGive B root) new
+step_waits : (facts : List Fact) (B : Blobs) (root tree : Name) (path : List (List ℕ)) (what : NodeKind) (old mid new : List Emission) (fact : Fact) (all : List Entry) → IsNodeAt 1 B root path what
+    → NodeBegins facts tree path what mid new (Begun.Waits fact) → Each (MayGive 1 B root) mid → rebuilt (old ++ mid) ≡ all → WaitsAs facts what path fact all (old ++ new) × Each (MayGive 1 B root) new
 step_waits facts B root tree path (NodeKind.Dir subtree) old mid new fact all at h given whole =
     let last : List Emission = Emission.Dir path ∷ [] in (
       (h.0, ap (λ (e : List Emission). rebuilt e) (split old mid new last h.1) ∙ rebuilt_both (old ++ mid) last refl ∙ ap (λ es. es ++ dir_entry path ∷ []) whole),
-      subst (λ e. Each (MayGive B root) e) (sym h.1) (each_both (MayGive B root) mid last given ((subtree, at), tt)),
+      subst (λ e. Each (MayGive 1 B root) e) (sym h.1) (each_both (MayGive 1 B root) mid last given ((subtree, at), tt)),
     )
 step_waits facts B root tree path (NodeKind.File size content) old mid new fact all at h given whole =
     let last : List Emission = Emission.File path ∷ [] in (
       (h.0, h.1, h.2, subst (λ e. IsWriting e all path []) (sym (split old mid new last h.3)) (writing_new (old ++ mid) all path whole)),
-      subst (λ e. Each (MayGive B root) e) (sym h.3) (each_both (MayGive B root) mid last given ((size, content, at), tt)),
+      subst (λ e. Each (MayGive 1 B root) e) (sym h.3) (each_both (MayGive 1 B root) mid last given ((size, content, at), tt)),
     )
 
 -- a node that can't be given out
-step_ends : (facts : List Fact) (B : Blobs) (root tree : Name) (path : List (List ℕ)) (name : List ℕ) (what : NodeKind) (nodes : List Node) (mid new : List Emission) (end : End) (above : List (List ℕ)) → Under B root above tree → path ≡ above ++ name ∷ [] → IsNodeAt B root path what → IsTree B tree nodes
-    → Contains nodes (record { name = name; what = what }) → NodeBegins facts tree path what mid new (Begun.Ended end) → Each (MayGive B root) mid → WalkEnds facts B root end × Each (MayGive B root) new
+step_ends : (facts : List Fact) (B : Blobs) (root tree : Name) (path : List (List ℕ)) (name : List ℕ) (what : NodeKind) (nodes : List Node) (mid new : List Emission) (end : End) (above : List (List ℕ)) → Under 1 B root above tree → path ≡ above ++ name ∷ [] → IsNodeAt 1 B root path what → IsTree B tree nodes
+    → Contains nodes (record { name = name; what = what }) → NodeBegins facts tree path what mid new (Begun.Ended end) → Each (MayGive 1 B root) mid → WalkEnds facts B root end × Each (MayGive 1 B root) new
 step_ends facts B root tree path name (NodeKind.Dir subtree) nodes mid new end above under is at read among h given =
     let last : List Emission = Emission.Dir path ∷ [] in (
-      subst (λ x. WalkEnds facts B root x) (sym h.0) (BlobKind.Tree, refl, h.1, (above ++ name ∷ [], under_more B root above tree nodes name subtree under read among)),
-      subst (λ e. Each (MayGive B root) e) (sym h.2) (each_both (MayGive B root) mid last given ((subtree, at), tt)),
+      subst (λ x. WalkEnds facts B root x) (sym h.0) (BlobKind.Tree, refl, h.1, (above ++ name ∷ [], under_more 1 B root above tree nodes name subtree under read among)),
+      subst (λ e. Each (MayGive 1 B root) e) (sym h.2) (each_both (MayGive 1 B root) mid last given ((subtree, at), tt)),
     )
-step_ends facts B root tree path name (NodeKind.File size content) nodes mid new end above under is at read among h given = (why h.1, subst (λ e. Each (MayGive B root) e) (sym h.0) given)
+step_ends facts B root tree path name (NodeKind.File size content) nodes mid new end above under is at read among h given = (why h.1, subst (λ e. Each (MayGive 1 B root) e) (sym h.0) given)
   where
     why : ((n : Name) × (end ≡ End.Missing Thing.Content n) × Contains content n × IsNowhere facts BlobKind.Content n) ⊎ ((end ≡ End.BadObject Thing.Tree tree) × ((total : ℕ) × Sums facts content total × (total ≢ size))) → WalkEnds facts B root end
-    why (inl m) = subst (λ x. WalkEnds facts B root x) (sym m.1) (BlobKind.Content, refl, m.3, (above, tree, nodes, name, size, content, under, read, among, m.2))
-    why (inr u) = subst (λ x. WalkEnds facts B root x) (sym u.0) (refl, (above, under, inr (nodes, read, inr (name, size, content, u.1.0, among, u.1.1, u.1.2))))
+    why (inl m) = subst (λ x. WalkEnds facts B root x) (sym m.1) (BlobKind.Content, refl, m.3, (path, size, content, at, m.2))
+    why (inr u) = subst (λ x. WalkEnds facts B root x) (sym u.0) (refl, (above, under, inr (nodes, read, (name, size, content, u.1.0, among, u.1.1, u.1.2))))
 
 module _ (facts : List Fact) (B : Blobs) (root : Name) (level : Level) (at : ℕ) (before : List Entry) (old mid new : List Emission) (node : Node) where
   pub begun_done : StandsIn B root level at before old mid → slice_get level.nodes.items at ≡ Some node → NodeBegins facts level.tree (level.path ++ node.name ∷ []) node.what mid new Begun.Done → StandsIn B root level (at + 1) before old new
@@ -83,7 +87,7 @@ module _ (facts : List Fact) (B : Blobs) (root : Name) (level : Level) (at : ℕ
       record { at = at; counts = refl; node = node; node_is = p; inside = h.inside; opened = h.opened; waits = r.0; given = r.1 }
 
   pub begun_ends : (end : End) → StandsIn B root level at before old mid → slice_get level.nodes.items at ≡ Some node → NodeBegins facts level.tree (level.path ++ node.name ∷ []) node.what mid new (Begun.Ended end)
-      → WalkEnds facts B root end × Each (MayGive B root) new
+      → WalkEnds facts B root end × Each (MayGive 1 B root) new
   begun_ends end h p b =
       step_ends facts B root level.tree (level.path ++ node.name ∷ []) node.name node.what level.nodes.items mid new end level.path h.opened.under refl (node_at B root level.tree level.path level.nodes.items at at h.inside node h.opened p)
       h.opened.read (contains_got level.nodes.items at node p) b h.given
@@ -97,7 +101,7 @@ stands_all B root level at before old out w h = record { inside = h.inside; open
 pub at_level : (B : Blobs) (root : Name) (levels : List Level) (depth begun : ℕ) (level : Level) (all : List Entry) → slice_get levels depth ≡ Some level → AtOpen B root levels (suc depth) begun all → AtLevel B root levels depth begun level all
 at_level B root levels depth begun level all p h = subst (λ l. AtLevel B root levels depth begun l all) (same_Some h.0 level (sym h.1.level_is ∙ p)) h.1
 
-pub level_stands : (B : Blobs) (root : Name) (levels : List Level) (depth begun : ℕ) (level : Level) (old out : List Emission) (h : AtLevel B root levels depth begun level (rebuilt (old ++ out))) → Each (MayGive B root) out
+pub level_stands : (B : Blobs) (root : Name) (levels : List Level) (depth begun : ℕ) (level : Level) (old out : List Emission) (h : AtLevel B root levels depth begun level (rebuilt (old ++ out))) → Each (MayGive 1 B root) out
     → StandsIn B root level begun h.before old out
 level_stands B root levels depth begun level old out h given = record { inside = h.inside; opened = h.opened; whole = h.whole; given = given }
 

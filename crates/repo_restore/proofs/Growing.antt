@@ -1,39 +1,28 @@
 -- What is known of a walk stays where more was received.
-use Rattle.std.proofs.Common.{◌∷◌, [], ℕ, List, take, inr}
+use Rattle.std.proofs.Common.{◌∷◌, [], ℕ, List, take}
 use Rattle.repo_name.specs.declared.kinds.BlobKind.{BlobKind}
 use Rattle.repo_name.specs.declared.names.Name.{Name}
 use Rattle.repo_index.specs.declared.facts.Fact.{Fact}
 use Rattle.repo_tree.specs.declared.entries.Entry.{Entry}
 use Rattle.repo_tree.specs.declared.nodes.Node.{Node}
 use Rattle.repo_tree.specs.Laws.{Grows}
-use Rattle.repo_tree.specs.Spelling.{Blobs, IsTree}
+use Rattle.repo_tree.specs.Parts.{Blobs, IsTree}
 use Rattle.repo_tree.proofs.SpellingLemmas.{nodes_grown, joined_move}
 use Rattle.repo_session.specs.declared.emissions.Emission.{Emission}
-use Rattle.repo_session.specs.Traces.{Exchange, Trace}
-use Rattle.repo_session.proofs.Cataloguing.{fact_stays}
+use Rattle.repo_session.proofs.Descending.{under_grows}
 use Rattle.repo_restore.specs.declared.nodes.Level.{Level}
-use Rattle.repo_restore.specs.Received.{Received}
-use Rattle.repo_restore.specs.Restoring.{Under}
 use Rattle.repo_restore.specs.Walking.{FileWaits, WaitsByKind, WalkWaits}
 use Rattle.repo_restore.specs.Walks.{IsOpen, IsBegun, Leads}
-
--- what was received stays received
-pub received_grows : (e : Exchange) (es : Trace) → Grows (Received es) (Received (e ∷ es))
-received_grows e es kind bytes h = record { fact = h.fact; given = fact_stays e es h.fact h.given; of_kind = h.of_kind; replied = inr h.replied; named = h.named }
 
 tree_grows : (B C : Blobs) → Grows B C → (t : Name) (nodes : List Node) → IsTree B t nodes → IsTree C t nodes
 tree_grows B C grows t nodes h = record { text = h.text; among = grows BlobKind.Tree h.text h.among; named = h.named; reads = h.reads }
 
-pub under_grows : (B C : Blobs) → Grows B C → (root : Name) (path : List (List ℕ)) (tree : Name) → Under B root path tree → Under C root path tree
-under_grows B C grows root [] tree h = h
-under_grows B C grows root (n ∷ path) tree h = (h.0, h.1, tree_grows B C grows root h.0 h.2, h.3, under_grows B C grows h.1 path tree h.4)
-
 open_grows : (B C : Blobs) → Grows B C → (root tree : Name) (path : List (List ℕ)) (nodes : List Node) (begun : ℕ) (inside : List Entry) → IsOpen B root tree path nodes begun inside → IsOpen C root tree path nodes begun inside
 open_grows B C grows root tree path nodes begun inside h = record {
-  under = under_grows B C grows root path tree h.under;
+  under = under_grows 1 B C grows root path tree h.under;
   read = tree_grows B C grows tree nodes h.read;
   shallow = h.shallow;
-  spelled = nodes_grown B C grows path (take begun nodes) inside h.spelled;
+  spelled = nodes_grown 1 B C grows path (take begun nodes) inside h.spelled;
 }
 
 begun_grows : (B C : Blobs) → Grows B C → (root : Name) (level : Level) (inside : List Entry) (node : Node) → IsBegun B root level inside node → IsBegun C root level inside node
@@ -72,7 +61,7 @@ file_grows facts B C grows root levels sent fact emitted h = record {
 kind_grows : (kind : BlobKind) (facts : List Fact) (B C : Blobs) → Grows B C → (root : Name) (levels : List Level) (sent : ℕ) (fact : Fact) (emitted : List Emission) → WaitsByKind kind facts B root levels sent fact emitted
     → WaitsByKind kind facts C root levels sent fact emitted
 kind_grows BlobKind.Content facts B C grows root levels sent fact emitted h = file_grows facts B C grows root levels sent fact emitted h
-kind_grows BlobKind.Tree facts B C grows root levels sent fact emitted h = (h.0, leads_grow B C grows root root [] [] levels fact.name h.0 _ h.1, under_grows B C grows root h.0 fact.name h.2)
+kind_grows BlobKind.Tree facts B C grows root levels sent fact emitted h = (h.0, leads_grow B C grows root root [] [] levels fact.name h.0 _ h.1, under_grows 1 B C grows root h.0 fact.name h.2)
 
 pub walk_grows : (facts : List Fact) (B C : Blobs) → Grows B C → (root : Name) (levels : List Level) (sent entries : ℕ) (fact : Fact) (emitted : List Emission) → WalkWaits facts B root levels sent entries fact emitted
     → WalkWaits facts C root levels sent entries fact emitted

@@ -10,7 +10,8 @@ use Rattle.repo_index.specs.Lookups.{IsLeast}
 use Rattle.repo_tree.specs.declared.entries.Entry.{Entry}
 use Rattle.repo_tree.specs.declared.nodes.Node.{Node}
 use Rattle.repo_tree.specs.declared.nodes.NodeKind.{NodeKind}
-use Rattle.repo_tree.specs.Spelling.{Blobs, IsTree, Joined, NodeSpells, Spells, file_entry, greatest_depth}
+use Rattle.repo_tree.specs.Parts.{Blobs, IsTree}
+use Rattle.repo_tree.specs.Spelling.{Joined, NodeSpells, Spells, file_entry, greatest_depth}
 use Rattle.repo_session.specs.declared.emissions.Emission.{Emission}
 use Rattle.repo_session.specs.declared.outcomes.End.{End}
 use Rattle.repo_session.specs.Rebuilding.{rebuilt}
@@ -18,12 +19,14 @@ use Rattle.repo_session.specs.Traces.{Each}
 use Rattle.repo_restore.specs.declared.nodes.Begun.{Begun}
 use Rattle.repo_restore.specs.declared.nodes.Level.{Level}
 use Rattle.repo_restore.specs.Nodes.{WaitsFor, BlobFollows}
-use Rattle.repo_restore.specs.Restoring.{Under, IsNeeded, MayGive, counted}
+use Rattle.repo_session.specs.Trees.{Under, IsNodeAt, IsNeeded}
+use Rattle.repo_restore.specs.Restoring.{MayGive, counted}
 use Rattle.repo_restore.specs.Walking.{WaitsIn, WaitsAs, with_begun, IsNextPath, FileWaits, TreeWaits, WaitsByKind, WalkWaits, WalkEnds}
 use Rattle.repo_restore.specs.Walks.{IsOpen, IsBegun, IsFile, IsWriting, Leads, AtLevel, AtOpen, Sums}
+use Rattle.repo_session.proofs.Descending.{under_more}
 use Rattle.repo_restore.proofs.Rebuilds.{rebuilt_length, writing_more, writing_done}
 use Rattle.repo_restore.proofs.Summing.{one_more, sums_drop}
-use Rattle.repo_restore.proofs.Trees.{LastOpen, leads_push, leads_pop, contains_got, under_more, open_more}
+use Rattle.repo_restore.proofs.Trees.{LastOpen, leads_push, leads_pop, contains_got, node_at, open_more}
 use Rattle.repo_tree.proofs.SpellingLemmas.{joined_push}
 
 -- what is counted goes on
@@ -53,7 +56,7 @@ module _ (facts : List Fact) (B : Blobs) (root : Name) (levels : List Level) (le
         whole = h.1;
       } in
       let among : Contains level.nodes.items (record { name = w.node.name; what = NodeKind.Dir fact.name }) = (let P : NodeKind → Type 0 = λ what. Contains level.nodes.items (record { name = w.node.name; what = what }) in subst P dir (contains_got level.nodes.items w.at w.node w.node_is)) in
-      let waits : TreeWaits B root (levels ++ now ∷ []) fact (old ++ out) = (path, leads_push B root root [] [] levels now fact.name path (rebuilt (old ++ out)) last, under_more B root level.path level.tree level.nodes.items w.node.name fact.name w.opened.under w.opened.read among) in
+      let waits : TreeWaits B root (levels ++ now ∷ []) fact (old ++ out) = (path, leads_push B root root [] [] levels now fact.name path (rebuilt (old ++ out)) last, under_more 1 B root level.path level.tree level.nodes.items w.node.name fact.name w.opened.under w.opened.read among) in
       (least_of facts BlobKind.Tree subtree fact h.0, subst (λ k. WaitsByKind k facts B root (levels ++ now ∷ []) 0 fact (old ++ out)) (sym h.0.0) waits)
   waits_by (NodeKind.File size content) w leads is h =
       let now : Level = with_begun level begun in
@@ -119,7 +122,7 @@ pub last_same : (levels items above : List Level) (x level : Level) → items �
 last_same levels items above x level p q r = same_Some x level (q ∙ last_got items above level (p ∙ r))
 
 -- a tree's nodes are entered
-pub entered : (B : Blobs) (root tree : Name) (levels : List Level) (level : Level) (path : List (List ℕ)) (old : List Emission) → Leads B root root [] [] levels tree path (rebuilt old) → Under B root path tree → IsTree B tree level.nodes.items
+pub entered : (B : Blobs) (root tree : Name) (levels : List Level) (level : Level) (path : List (List ℕ)) (old : List Emission) → Leads B root root [] [] levels tree path (rebuilt old) → Under 1 B root path tree → IsTree B tree level.nodes.items
     → level.tree ≡ tree → level.path ≡ path → (length path < greatest_depth) ⊎ (level.nodes.items ≡ []) → AtOpen B root (levels ++ level ∷ []) (length (levels ++ level ∷ [])) 0 (rebuilt (old ++ []))
 entered B root tree levels level path old leads under read t p shallow =
     let many : suc (length levels) ≡ length (levels ++ level ∷ []) = omega (arith, length-append levels (level ∷ [])) in
@@ -130,7 +133,7 @@ entered B root tree levels level path old leads under read t p shallow =
       level_is = got_last levels level;
       leads = subst (λ ls. Leads B root root [] [] ls level.tree level.path (rebuilt old)) (sym (take_front levels level)) (subst (λ n. Leads B root root [] [] levels n level.path (rebuilt old)) (sym t) (subst (λ q. Leads B root root [] [] levels tree q (rebuilt old)) (sym p) leads));
       opened = record {
-        under = subst (λ n. Under B root level.path n) (sym t) (subst (λ q. Under B root q tree) (sym p) under);
+        under = subst (λ n. Under 1 B root level.path n) (sym t) (subst (λ q. Under 1 B root q tree) (sym p) under);
         read = subst (λ n. IsTree B n level.nodes.items) (sym t) read;
         shallow = subst (λ q. (length q < greatest_depth) ⊎ (level.nodes.items ≡ [])) (sym p) shallow;
         spelled = refl;
@@ -177,7 +180,7 @@ pub closed : (facts : List Fact) (B : Blobs) (root : Name) (levels above : List 
 closed facts B root levels above level before inside node size sent content bytes emitted are leads begun file part none writing =
     let path : List (List ℕ) = level.path ++ node.name ∷ [] in
     let all = part_all facts B size sent content bytes part none in
-    let P : NodeKind → Type 0 = λ what. NodeSpells B (Spells B) path what (file_entry path bytes ∷ []) in
+    let P : NodeKind → Type 0 = λ what. NodeSpells B (Spells 1 B) path what (file_entry path bytes ∷ []) in
     let spells = subst P (sym file) (bytes, all.0, all.1, refl) in
     let more = open_more B root level.tree level.path level.nodes.items begun.at inside node (file_entry path bytes ∷ []) begun.opened begun.node_is spells in
     let entries : rebuilt (emitted ++ Emission.Close ∷ []) ≡ before ++ (inside ++ file_entry path bytes ∷ []) = writing_done emitted (before ++ inside) path bytes writing ∙ append_assoc before inside (file_entry path bytes ∷ []) in
@@ -207,7 +210,7 @@ module _ (facts : List Fact) (B : Blobs) (root : Name) (levels : List Level) (se
   -- its last blob came
   pub blob_last : (h : FileWaits facts B root levels sent fact old) → IsLeast facts BlobKind.Content fact.name fact.place → content ≡ h.content → next ≡ sent + 1 → B BlobKind.Content bytes → naming.name bytes ≡ fact.name
       → length bytes ≡ fact.place.length → out ≡ [] → mid ≡ out ++ Emission.Piece bytes ∷ [] → BlobFollows facts content next mid new Begun.Done
-      → AtOpen B root levels (length levels) h.level.begun (rebuilt (old ++ new)) × Each (MayGive B root) new
+      → AtOpen B root levels (length levels) h.level.begun (rebuilt (old ++ new)) × Each (MayGive 1 B root) new
   blob_last h least same count among named long none m b =
       let part = part_more facts B h.size sent h.content h.bytes bytes fact h.part h.asked least among named long in
       let past : slice_get h.content (sent + 1) ≡ None = ap (λ ns. slice_get ns (sent + 1)) (sym same) ∙ ap (λ i. slice_get content i) (sym count) ∙ b.0 in
@@ -217,13 +220,13 @@ module _ (facts : List Fact) (B : Blobs) (root : Name) (levels : List Level) (se
       let whole : old ++ new ≡ (old ++ Emission.Piece bytes ∷ []) ++ Emission.Close ∷ [] = split old mid new (Emission.Close ∷ []) b.1 ∙ ap (λ p. (old ++ p) ++ Emission.Close ∷ []) piece in
       let given : new ≡ Emission.Piece bytes ∷ Emission.Close ∷ [] = b.1 ∙ ap (λ p. p ++ Emission.Close ∷ []) piece in (
         subst (λ e. AtOpen B root levels (length levels) h.level.begun (rebuilt e)) (sym whole) at,
-        subst (λ e. Each (MayGive B root) e) (sym given) (among, (tt, tt)),
+        subst (λ e. Each (MayGive 1 B root) e) (sym given) (among, (tt, tt)),
       )
 
   -- another one follows
   pub blob_more : (after : Fact) (h : FileWaits facts B root levels sent fact old) → IsLeast facts BlobKind.Content fact.name fact.place → content ≡ h.content → next ≡ sent + 1 → B BlobKind.Content bytes
       → naming.name bytes ≡ fact.name → length bytes ≡ fact.place.length → out ≡ [] → mid ≡ out ++ Emission.Piece bytes ∷ [] → entries ≡ counted (length (rebuilt old)) → BlobFollows facts content next mid new (Begun.Waits after)
-      → WalkWaits facts B root levels next entries after (old ++ new) × Each (MayGive B root) new
+      → WalkWaits facts B root levels next entries after (old ++ new) × Each (MayGive 1 B root) new
   blob_more after h least same count among named long none m entry b =
       let part = part_more facts B h.size sent h.content h.bytes bytes fact h.part h.asked least among named long in
       let asked : slice_get h.content (sent + 1) ≡ Some after.name = ap (λ ns. slice_get ns (sent + 1)) (sym same) ∙ ap (λ i. slice_get content i) (sym count) ∙ b.0 in
@@ -251,15 +254,15 @@ module _ (facts : List Fact) (B : Blobs) (root : Name) (levels : List Level) (se
         waits = subst (λ kind. WaitsByKind kind facts B root levels (sent + 1) after (old ++ Emission.Piece bytes ∷ [])) (sym b.1.0) waits;
       } in (
         subst (λ e. WalkWaits facts B root levels next entries after (old ++ e)) (sym given) (subst (λ n. WalkWaits facts B root levels n entries after (old ++ Emission.Piece bytes ∷ [])) (sym count) known),
-        subst (λ e. Each (MayGive B root) e) (sym given) (among, tt),
+        subst (λ e. Each (MayGive 1 B root) e) (sym given) (among, tt),
       )
 
   -- it is in no index
-  pub blob_ends : (h : FileWaits facts B root levels sent fact old) → content ≡ h.content → (end : End) → B BlobKind.Content bytes → out ≡ [] → mid ≡ out ++ Emission.Piece bytes ∷ [] → BlobFollows facts content next mid new (Begun.Ended end) → WalkEnds facts B root end × Each (MayGive B root) new
+  pub blob_ends : (h : FileWaits facts B root levels sent fact old) → content ≡ h.content → (end : End) → B BlobKind.Content bytes → out ≡ [] → mid ≡ out ++ Emission.Piece bytes ∷ [] → BlobFollows facts content next mid new (Begun.Ended end) → WalkEnds facts B root end × Each (MayGive 1 B root) new
   blob_ends h same end among none m b =
       let given : new ≡ Emission.Piece bytes ∷ [] = b.4 ∙ pieced none m in
-      let node_is : h.node ≡ record { name = h.node.name; what = NodeKind.File h.size h.content } = λ i. record { name = h.node.name; what = h.file i } in
-      let file = subst (λ (n : Node). Contains h.level.nodes.items n) node_is (contains_got h.level.nodes.items h.begun.at h.node h.begun.node_is) in
+      let path : List (List ℕ) = h.level.path ++ h.node.name ∷ [] in
+      let at = node_at B root h.level.tree h.level.path h.level.nodes.items h.begun.at h.begun.at h.inside h.node h.begun.opened h.begun.node_is in
       let blob = subst (λ (ns : List Name). Contains ns b.0) same (contains_got content next b.0 b.2) in
-      let needed : IsNeeded B root BlobKind.Content b.0 = (h.level.path, h.level.tree, h.level.nodes.items, h.node.name, h.size, h.content, h.begun.opened.under, h.begun.opened.read, file, blob) in
-      (subst (λ x. WalkEnds facts B root x) (sym b.1) (BlobKind.Content, refl, b.3, needed), subst (λ e. Each (MayGive B root) e) (sym given) (among, tt))
+      let needed : IsNeeded 1 B root BlobKind.Content b.0 = (path, h.size, h.content, subst (λ what. IsNodeAt 1 B root path what) h.file at, blob) in
+      (subst (λ x. WalkEnds facts B root x) (sym b.1) (BlobKind.Content, refl, b.3, needed), subst (λ e. Each (MayGive 1 B root) e) (sym given) (among, tt))

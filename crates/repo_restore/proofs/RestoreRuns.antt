@@ -1,5 +1,5 @@
 -- The laws of a restore and of a list that are alone with their store.
-use Rattle.std.proofs.Common.{arith, ◌≡◌, ◌≢◌, ◌⊎◌, ◌≤◌, ◌+◌, ◌-◌, ◌++◌, ◌∷◌, [], ℕ, zero, suc, List, length, Option, Some, None, refl, sym, ap, subst, inl, inr, ⊎_elim, length-append, ◌∙◌, Contains}
+use Rattle.std.proofs.Common.{arith, ◌≡◌, ◌⊎◌, ◌++◌, ◌∷◌, [], ℕ, List, length, Option, Some, None, refl, sym, ap, subst, inl, inr, ⊎_elim, length-append, ◌∙◌}
 use Rattle.std.proofs.lemmas.Option.{same_Some}
 use Rattle.repo_name.specs.Naming as naming
 use Rattle.repo_name.specs.declared.kinds.BlobKind.{BlobKind}
@@ -10,14 +10,13 @@ use Rattle.repo_wire.specs.declared.messages.Code.{Code}
 use Rattle.repo_index.specs.IndexText.{Says}
 use Rattle.repo_index.specs.declared.facts.Fact.{Fact}
 use Rattle.repo_tree.specs.Laws.{Agree}
-use Rattle.repo_tree.specs.Spelling.{Blobs, IsTree, Joined, NodeSpells, NodesSpell, SpellsTo, Spells, greatest_depth}
-use Rattle.repo_tree.specs.TreeText.{IsTreeText}
+use Rattle.repo_tree.specs.Parts.{Blobs, ListsBy}
+use Rattle.repo_tree.specs.Spelling.{Joined, Spells, greatest_depth}
 use Rattle.repo_tree.specs.declared.entries.Entry.{Entry}
 use Rattle.repo_tree.specs.declared.nodes.Node.{Node}
-use Rattle.repo_tree.specs.declared.nodes.NodeKind.{NodeKind}
 use Rattle.repo_tree.specs.declared.snapshots.Snapshot.{Snapshot}
 use Rattle.repo_tree.proofs.SnapshotLemmas.{snapshot_texts_one}
-use Rattle.repo_tree.proofs.TreeLemmas.{tree_texts_one}
+use Rattle.repo_tree.proofs.DirectoryLemmas.{lists_grow}
 use Rattle.repo_store.specs.Stores.{Store, Objects}
 use Rattle.repo_session.specs.declared.outcomes.End.{End}
 use Rattle.repo_session.specs.declared.outcomes.Outcome.{Outcome}
@@ -29,8 +28,8 @@ use Rattle.repo_session.specs.Soundness.{IsHeld, IsSound}
 use Rattle.repo_session.specs.Talks.{Talk, trace_of}
 use Rattle.repo_session.specs.Traces.{Trace, ReadFact}
 use Rattle.repo_session.proofs.Causes.{range_length}
-use Rattle.repo_session.proofs.Concluding.{calm_of, either, ends_well}
-use Rattle.repo_session.proofs.Containing.{none_contained, contained_or}
+use Rattle.repo_session.proofs.Concluding.{calm_of, either, ends_well, reads_first}
+use Rattle.repo_session.proofs.Descending.{under_grows, needed_grows, broken_grows, root_spells_at, file_spelled, needed_there, unbroken}
 use Rattle.repo_session.proofs.Enumerating.{all_listed}
 use Rattle.repo_session.proofs.Growing.{Led, Shares, led}
 use Rattle.repo_session.proofs.Unchanging.{OnlyReads, same_run, same_after, same_throughout, shares_run, sound_throughout}
@@ -38,9 +37,9 @@ use Rattle.repo_session.proofs.Wholeness.{given_held}
 use Rattle.repo_session.proofs.Spoken.{held_agree}
 use Rattle.repo_restore.specs.Laws.{RestoreChangesNothing, ListChangesNothing, IsListedOrMemory, ListEndsWell, IsCompleteOrMemory, RestoreEndsWell}
 use Rattle.repo_restore.specs.Listing.{list_task, ListAllows, ListGives, ListConcludes}
-use Rattle.repo_restore.specs.Received.{Received}
-use Rattle.repo_restore.specs.Restoring.{Wish, restore_task, HasRoot, Under, IsNeeded, HaveLength, IsUneven, IsNoTree, IsBadTree, IsUnindexed, RestoreAllows, RestoreGives, RestoreConcludes}
-use Rattle.repo_restore.proofs.Growing.{under_grows}
+use Rattle.repo_session.specs.Received.{Received}
+use Rattle.repo_session.specs.Trees.{HasRoot, Under, IsUnindexed}
+use Rattle.repo_restore.specs.Restoring.{Wish, restore_task, HaveLength, IsUneven, IsBadTree, RestoreAllows, RestoreGives, RestoreConcludes}
 
 -- ---- nothing changes
 
@@ -84,69 +83,8 @@ list_well who es (Some outcome) h = listed_well who (before_unlock es) outcome h
 pub list_ends : ListEndsWell
 list_ends who from to failed talk outcome fit low ran few is =
     list_well who (trace_of talk) outcome
-    (ends_well (list_task who) (ListAllows who) (ListGives who) (ListConcludes who) (λ es t k n h. h) from fit tt talk to outcome is (led from talk to ran.run)
+    (ends_well (list_task who) (ListAllows who) (ListGives who) (ListConcludes who) (reads_first (list_task who) (ListAllows who) (ListGives who) (λ es t k n h. h)) from fit tt talk to outcome is (led from talk to ran.run)
     (sound_throughout (list_task who) (ListAllows who) (ListGives who) (list_never who) from talk fit.sound is.obeys) (calm_of failed talk low ran.cause) few)
-
--- ---- where a path leads in a tree that spells
-
-one_tree : (B : Blobs) → Agree B B → (t : Name) (ns ms : List Node) → IsTree B t ns → IsTree B t ms → ns ≡ ms
-one_tree B agree t ns ms h g =
-    let same : g.text ≡ h.text = agree BlobKind.Tree g.text h.text g.among h.among (g.named ∙ sym h.named) in
-    tree_texts_one h.text ns ms h.reads (subst (λ (x : List ℕ). IsTreeText x ms) same g.reads)
-
-node_spelled : (B : Blobs) (Sub : Name → List (List ℕ) → List Entry → Type 0) (path : List (List ℕ)) (nodes : List Node) (entries : List Entry) (node : Node) → NodesSpell B Sub path nodes entries → Contains nodes node
-    → (e : List Entry) × NodeSpells B Sub (path ++ node.name ∷ []) node.what e
-node_spelled B Sub path [] entries node h c = absurd (none_contained node c)
-node_spelled B Sub path (first ∷ nodes) entries node h c = elim (contained_or first nodes node c) [
-  | inl same ↦ subst (λ (n : Node). (e : List Entry) × NodeSpells B Sub (path ++ n.name ∷ []) n.what e) same (h.0, h.2)
-  | inr more ↦ node_spelled B Sub path nodes h.1 node h.3 more
-]
-
--- the tree to which a path leads spells something, to the depth that is left
-pub record SpellsAt (B : Blobs) (depth : ℕ) (path : List (List ℕ)) (tree : Name) : Type 0 where
-  pub left : ℕ
-  pub at : List (List ℕ)
-  pub entries : List Entry
-  pub deep : left + length path ≡ depth
-  pub spells : SpellsTo left B tree at entries
-
-spelled_under : (B : Blobs) → Agree B B → (depth : ℕ) (root : Name) (at : List (List ℕ)) (entries : List Entry) (path : List (List ℕ)) (tree : Name) → SpellsTo depth B root at entries → Under B root path tree → SpellsAt B depth path tree
-spelled_under B agree depth root at entries [] tree h u = record { left = depth; at = at; entries = entries; deep = omega arith; spells = subst (λ t. SpellsTo depth B t at entries) (sym u) h }
-spelled_under B agree zero root at entries (n ∷ path) tree h u =
-    let none : u.0 ≡ [] = one_tree B agree root u.0 [] u.2 h.0 in
-    let node : Node = record { name = n; what = NodeKind.Dir u.1 } in
-    absurd (none_contained node (subst (λ (ns : List Node). Contains ns node) none u.3))
-spelled_under B agree (suc depth) root at entries (n ∷ path) tree h u =
-    let same : u.0 ≡ h.0 = one_tree B agree root u.0 h.0 u.2 h.1 in
-    let node : Node = record { name = n; what = NodeKind.Dir u.1 } in
-    let here = node_spelled B (SpellsTo depth B) at h.0 entries node h.2 (subst (λ (ns : List Node). Contains ns node) same u.3) in
-    let r = spelled_under B agree depth u.1 (at ++ n ∷ []) here.1.0 path tree here.1.1 u.4 in
-    record { left = r.left; at = r.at; entries = r.entries; deep = omega (arith, r.deep); spells = r.spells }
-
--- it is a tree
-tree_of : (B : Blobs) (left : ℕ) (t : Name) (at : List (List ℕ)) (e : List Entry) → SpellsTo left B t at e → (nodes : List Node) × IsTree B t nodes
-tree_of B zero t at e h = ([], h.0)
-tree_of B (suc left) t at e h = (h.0, h.1)
-
--- where no depth is left it has no nodes
-deepest : (B : Blobs) (left : ℕ) (t : Name) (at : List (List ℕ)) (e : List Entry) → left ≡ 0 → SpellsTo left B t at e → IsTree B t []
-deepest B zero t at e z h = h.0
-deepest B (suc left) t at e z h = absurd (omega (arith, z))
-
--- a file among its nodes has its bytes
-file_spelled : (B : Blobs) → Agree B B → (left : ℕ) (t : Name) (at : List (List ℕ)) (e : List Entry) (nodes : List Node) (name : List ℕ) (size : ℕ) (content : List Name) → SpellsTo left B t at e → IsTree B t nodes
-    → Contains nodes (record { name = name; what = NodeKind.File size content }) → (bytes : List ℕ) × Joined B content bytes × (length bytes ≡ size)
-file_spelled B agree zero t at e nodes name size content h tree among =
-    let node : Node = record { name = name; what = NodeKind.File size content } in
-    absurd (none_contained node (subst (λ (ns : List Node). Contains ns node) (one_tree B agree t nodes [] tree h.0) among))
-file_spelled B agree (suc left) t at e nodes name size content h tree among =
-    let node : Node = record { name = name; what = NodeKind.File size content } in
-    let here = node_spelled B (SpellsTo left B) at h.0 e node h.2 (subst (λ (ns : List Node). Contains ns node) (one_tree B agree t nodes h.0 tree h.1) among) in
-    (here.1.0, here.1.1, here.1.2)
-
-joined_has : (B : Blobs) (names : List Name) (bytes : List ℕ) (n : Name) → Joined B names bytes → Contains names n → (x : List ℕ) × B BlobKind.Content x × (naming.name x ≡ n)
-joined_has B [] bytes n h c = absurd (none_contained n c)
-joined_has B (m ∷ names) bytes n h c = elim (contained_or m names n c) [ inl same ↦ (h.0, h.2, h.3 ∙ same) | inr more ↦ joined_has B names h.1 n h.4 more ]
 
 -- ---- how a restore ends
 
@@ -180,21 +118,13 @@ module _ (w : Wish) (from : Store) (sound : IsSound from.objects) (agree : Agree
         stands = pack.2;
       }
 
-  root_spelled : (root : Name) → HasRoot (trace_of talk) w.snapshot root → (e : List Entry) × Spells B root [] e
-  root_spelled root found =
+  root_spelled : (version : ℕ) (root : Name) → HasRoot (trace_of talk) w.snapshot version root → (e : List Entry) × Spells version B root [] e
+  root_spelled version root found =
       let there = first Kind.Snapshot w.snapshot found.0 (shares.got Kind.Snapshot w.snapshot found.0 found.2.0) in
       let s = sound.snapshots w.snapshot found.0 there in
       let one : s.snapshot ≡ found.1 = snapshot_texts_one found.0 s.snapshot found.1 s.reads found.3 in
-      let tree : s.snapshot.tree ≡ root = ap (λ (x : Snapshot). x.tree) one ∙ found.4 in
-      (s.entries, subst (λ t. Spells B t [] s.entries) tree s.spells)
-
-  led_to : (root : Name) (path : List (List ℕ)) (tree : Name) → HasRoot (trace_of talk) w.snapshot root → Under (Received (trace_of talk)) root path tree → SpellsAt B (greatest_depth - length {A = List ℕ} []) path tree
-  led_to root path tree found leads =
-      let s = root_spelled root found in
-      spelled_under B agree (greatest_depth - length {A = List ℕ} []) root [] s.0 path tree s.1 (under_grows (Received (trace_of talk)) B received_held root path tree leads)
-
-  held_tree : (tree : Name) (nodes : List Node) → IsTree (Received (trace_of talk)) tree nodes → IsTree B tree nodes
-  held_tree tree nodes t = record { text = t.text; among = received_held BlobKind.Tree t.text t.among; named = t.named; reads = t.reads }
+      let spells : Spells found.1.version B found.1.tree [] s.entries = subst (λ (x : Snapshot). Spells x.version B x.tree [] s.entries) one s.spells in
+      (s.entries, subst (λ v. Spells v B root [] s.entries) found.4 (subst (λ t. Spells found.1.version B t [] s.entries) found.5 spells))
 
   fact_length : (fact : Fact) (x : List ℕ) → ReadFact (trace_of talk) fact → fact.kind ≡ BlobKind.Content → B BlobKind.Content x → naming.name x ≡ fact.name → fact.place.length ≡ length x
   fact_length fact x read kind held named =
@@ -210,48 +140,32 @@ module _ (w : Wish) (from : Store) (sound : IsSound from.objects) (agree : Agree
       let whole : length bytes ≡ length (j.0 ++ j.1) = ap length j.5 in
       omega (arith, here, rest, l.6, whole, length-append j.0 j.1)
 
-  no_tree : (tree : Name) (path : List (List ℕ)) → SpellsAt B (greatest_depth - length {A = List ℕ} []) path tree → IsNoTree (Received (trace_of talk)) tree → ⊥
-  no_tree tree path at bad =
-      let t = tree_of B at.left tree at.at at.entries at.spells in
-      let one : t.1.text ≡ bad.0 = agree BlobKind.Tree t.1.text bad.0 t.1.among (received_held BlobKind.Tree bad.0 bad.1) (t.1.named ∙ sym bad.2) in
-      bad.3 t.0 (subst (λ (x : List ℕ). IsTreeText x t.0) one t.1.reads)
-
-  no_deep : (tree : Name) (path : List (List ℕ)) (nodes : List Node) → SpellsAt B (greatest_depth - length {A = List ℕ} []) path tree → IsTree (Received (trace_of talk)) tree nodes → nodes ≢ [] → greatest_depth ≤ length path → ⊥
-  no_deep tree path nodes at t some deep =
-      let none : at.left ≡ 0 = omega (arith, at.deep, deep) in
-      some (one_tree B agree tree nodes [] (held_tree tree nodes t) (deepest B at.left tree at.at at.entries none at.spells))
-
-  no_uneven : (tree : Name) (path : List (List ℕ)) (nodes : List Node) → SpellsAt B (greatest_depth - length {A = List ℕ} []) path tree → IsTree (Received (trace_of talk)) tree nodes → IsUneven (trace_of talk) nodes → ⊥
-  no_uneven tree path nodes at t u =
-      let f = file_spelled B agree at.left tree at.at at.entries nodes u.name u.size u.content at.spells (held_tree tree nodes t) u.among in
+  no_uneven : (version : ℕ) (root : Name) (entries : List Entry) (path : List (List ℕ)) (tree : Name) (nodes : List Node) → Spells version B root [] entries → Under version B root path tree → ListsBy version B tree nodes
+      → IsUneven (trace_of talk) nodes → ⊥
+  no_uneven version root entries path tree nodes spells leads lists u =
+      let at = root_spells_at version B agree root entries path tree spells leads in
+      let f = file_spelled version B agree greatest_depth path tree nodes u.name u.size u.content at lists u.among in
       u.other (lengths_are u.content u.total f.0 u.lengths f.1 ∙ f.2)
 
   no_bad_tree : (tree : Name) → IsBadTree (trace_of talk) w.snapshot tree → ⊥
   no_bad_tree tree b =
-      let at = led_to b.root b.path tree b.found b.leads in
-      ⊎_elim (λ none. no_tree tree b.path at none)
-      (λ n. ⊎_elim (λ deep. no_deep tree b.path n.0 at n.1 deep.0 deep.1) (λ uneven. no_uneven tree b.path n.0 at n.1 uneven) n.2) b.unfit
-
-  needed_held : (root : Name) (kind : BlobKind) (name : Name) → HasRoot (trace_of talk) w.snapshot root → IsNeeded (Received (trace_of talk)) root kind name → (x : List ℕ) × B kind x × (naming.name x ≡ name)
-  needed_held root BlobKind.Tree name found n =
-      let at = led_to root n.0 name found n.1 in
-      let t = tree_of B at.left name at.at at.entries at.spells in
-      (t.1.text, t.1.among, t.1.named)
-  needed_held root BlobKind.Content name found n =
-      let at = led_to root n.0 n.1 found n.6 in
-      let f = file_spelled B agree at.left n.1 at.at at.entries n.2 n.3 n.4 n.5 at.spells (held_tree n.1 n.2 n.7) n.8 in
-      joined_has B n.5 f.0 name f.1 n.9
+      let got : Blobs = Received (trace_of talk) in
+      let s = root_spelled b.version b.root b.found in
+      let leads = under_grows b.version got B received_held b.root b.path tree b.leads in
+      ⊎_elim (λ broken. unbroken b.version B agree b.root s.0 b.path tree s.1 leads (broken_grows b.version got B received_held b.root b.path tree broken))
+      (λ n. no_uneven b.version b.root s.0 b.path tree n.0 s.1 leads (lists_grow b.version got B received_held tree n.0 n.1) n.2) b.unfit
 
   no_unindexed : (thing : Thing) (name : Name) → IsUnindexed (trace_of talk) w.snapshot thing name → ⊥
   no_unindexed thing name u =
-      let b = needed_held u.root u.kind name u.found u.needed in
-      let held = b.1 in
+      let s = root_spelled u.version u.root u.found in
+      let b = needed_there u.version B agree u.root s.0 u.kind name s.1 (needed_grows u.version (Received (trace_of talk)) B received_held u.root u.kind name u.needed) in
+      let held = b.among in
       let has = same_throughout (restore_task w) (RestoreAllows w.snapshot) (RestoreGives w.snapshot) (restore_never w.snapshot) from talk o in
       let listed = all_listed (restore_task w) (RestoreAllows w.snapshot) (RestoreGives w.snapshot) Kind.Index from from.objects talk to has o h u.indexes.listed.complete held.index held.text held.listed in
       let read = u.indexes.each held.index listed in
       let one : held.text ≡ read.0 = same_Some held.text read.0 (sym held.listed ∙ first Kind.Index held.index read.0 (shares.got Kind.Index held.index read.0 read.1.0)) in
       let fact : ReadFact (trace_of talk) held.fact = record { index = held.index; text = read.0; read = read.1; says = subst (λ (x : List ℕ). Says x held.fact) one held.says } in
-      u.ungiven (held.fact, fact, held.of_kind, held.named ∙ b.2)
+      u.ungiven (held.fact, fact, held.of_kind, held.named ∙ b.named)
 
   own_well : (outcome : Outcome) → RestoreConcludes w.snapshot (trace_of talk) outcome → IsCompleteOrMemory (Some outcome)
   own_well (Outcome.Complete entries) own = tt
@@ -293,5 +207,5 @@ restore_ends w from to failed talk outcome text fit there low ran few clash is =
     let h = led from talk to ran.run in
     let agree = held_agree from (λ ask. ⊥) (λ x. ⊥) clash from.objects (λ k n x p. inl (n, p)) fit.sound.named in
     restore_well w (trace_of talk) outcome (own_before w from fit.sound agree talk to is.obeys h)
-    (ends_well (restore_task w) (RestoreAllows w.snapshot) (RestoreGives w.snapshot) (RestoreConcludes w.snapshot) (λ es t k n x. x) from fit (text, there) talk to outcome is h
+    (ends_well (restore_task w) (RestoreAllows w.snapshot) (RestoreGives w.snapshot) (RestoreConcludes w.snapshot) (reads_first (restore_task w) (RestoreAllows w.snapshot) (RestoreGives w.snapshot) (λ es t k n x. x)) from fit (text, there) talk to outcome is h
     (sound_throughout (restore_task w) (RestoreAllows w.snapshot) (RestoreGives w.snapshot) (restore_never w.snapshot) from talk fit.sound is.obeys) (calm_of failed talk low ran.cause) few)

@@ -6,10 +6,11 @@ use Rattle.repo_name.specs.declared.names.Name.{Name}
 use Rattle.repo_tree.specs.declared.entries.Entry.{Entry}
 use Rattle.repo_tree.specs.declared.nodes.Node.{Node}
 use Rattle.repo_tree.specs.declared.nodes.NodeKind.{NodeKind}
-use Rattle.repo_tree.specs.Spelling.{Blobs, IsTree, NodeSpells, NodesSpell, Spells, greatest_depth, dir_entry}
+use Rattle.repo_tree.specs.Parts.{Blobs, IsTree}
+use Rattle.repo_tree.specs.Spelling.{NodeSpells, NodesSpell, Spells, greatest_depth, dir_entry}
 use Rattle.repo_tree.proofs.SpellingLemmas.{made_spelled, empty_spelled, nodes_push}
 use Rattle.repo_restore.specs.declared.nodes.Level.{Level}
-use Rattle.repo_restore.specs.Restoring.{Under, IsNodeAt}
+use Rattle.repo_session.specs.Trees.{IsNodeAt}
 use Rattle.repo_restore.specs.Walks.{IsOpen, IsBegun, Leads, AtLevel, AtOpen}
 use Rattle.repo_restore.proofs.Summing.{one_more}
 
@@ -18,12 +19,12 @@ contains_got xs i x p = (i, slice_get_within xs i x p, get_or_from_slice_get xs 
 
 -- one more node
 pub open_more : (B : Blobs) (root tree : Name) (path : List (List ℕ)) (nodes : List Node) (at : ℕ) (inside : List Entry) (node : Node) (more : List Entry) → IsOpen B root tree path nodes at inside → slice_get nodes at ≡ Some node
-    → NodeSpells B (Spells B) (path ++ node.name ∷ []) node.what more → IsOpen B root tree path nodes (at + 1) (inside ++ more)
+    → NodeSpells B (Spells 1 B) (path ++ node.name ∷ []) node.what more → IsOpen B root tree path nodes (at + 1) (inside ++ more)
 open_more B root tree path nodes at inside node more h p s = record {
   under = h.under;
   read = h.read;
   shallow = h.shallow;
-  spelled = subst (λ ns. NodesSpell B (Spells B) path ns (inside ++ more)) (sym (one_more nodes at node p)) (nodes_push B (Spells B) path (take at nodes) inside node more h.spelled s);
+  spelled = subst (λ ns. NodesSpell B (Spells 1 B) path ns (inside ++ more)) (sym (one_more nodes at node p)) (nodes_push B (Spells 1 B) path (take at nodes) inside node more h.spelled s);
 }
 
 -- past the last node
@@ -32,23 +33,23 @@ open_all B root tree path nodes at inside w h = record {
   under = h.under;
   read = h.read;
   shallow = h.shallow;
-  spelled = subst (λ ns. NodesSpell B (Spells B) path ns inside) (take_all at nodes w ∙ sym (take_all (length nodes) nodes (omega arith))) h.spelled;
+  spelled = subst (λ ns. NodesSpell B (Spells 1 B) path ns inside) (take_all at nodes w ∙ sym (take_all (length nodes) nodes (omega arith))) h.spelled;
 }
 
-spelled_by : (B : Blobs) (tree : Name) (path : List (List ℕ)) (nodes : List Node) (inside : List Entry) → (length path < greatest_depth) ⊎ (nodes ≡ []) → IsTree B tree nodes → NodesSpell B (Spells B) path nodes inside → Spells B tree path inside
-spelled_by B tree path nodes inside (inl w) read s = made_spelled B tree path nodes inside w read s
+spelled_by : (B : Blobs) (tree : Name) (path : List (List ℕ)) (nodes : List Node) (inside : List Entry) → (length path < greatest_depth) ⊎ (nodes ≡ []) → IsTree B tree nodes → NodesSpell B (Spells 1 B) path nodes inside → Spells 1 B tree path inside
+spelled_by B tree path nodes inside (inl w) read s = made_spelled 1 B tree path nodes inside w read s
 spelled_by B tree path nodes inside (inr none) read s =
-    let none_inside : inside ≡ [] = subst (λ ns. NodesSpell B (Spells B) path ns inside) none s in
-    subst (λ es. Spells B tree path es) (sym none_inside) (empty_spelled B tree path (subst (λ ns. IsTree B tree ns) none read))
+    let none_inside : inside ≡ [] = subst (λ ns. NodesSpell B (Spells 1 B) path ns inside) none s in
+    subst (λ es. Spells 1 B tree path es) (sym none_inside) (empty_spelled 1 B tree path (subst (λ ns. IsTree B tree ns) none read))
 
 -- a directory all of whose nodes were given out
-pub open_spells : (B : Blobs) (root tree : Name) (path : List (List ℕ)) (nodes : List Node) (inside : List Entry) → IsOpen B root tree path nodes (length nodes) inside → Spells B tree path inside
+pub open_spells : (B : Blobs) (root tree : Name) (path : List (List ℕ)) (nodes : List Node) (inside : List Entry) → IsOpen B root tree path nodes (length nodes) inside → Spells 1 B tree path inside
 open_spells B root tree path nodes inside h =
-    spelled_by B tree path nodes inside h.shallow h.read (subst (λ ns. NodesSpell B (Spells B) path ns inside) (take_all (length nodes) nodes (omega arith)) h.spelled)
+    spelled_by B tree path nodes inside h.shallow h.read (subst (λ ns. NodesSpell B (Spells 1 B) path ns inside) (take_all (length nodes) nodes (omega arith)) h.spelled)
 
 -- a node stands at its path
 pub node_at : (B : Blobs) (root tree : Name) (path : List (List ℕ)) (nodes : List Node) (at begun : ℕ) (inside : List Entry) (node : Node) → IsOpen B root tree path nodes begun inside → slice_get nodes at ≡ Some node
-    → IsNodeAt B root (path ++ node.name ∷ []) node.what
+    → IsNodeAt 1 B root (path ++ node.name ∷ []) node.what
 node_at B root tree path nodes at begun inside node h p = record {
   above = path;
   name = node.name;
@@ -59,12 +60,6 @@ node_at B root tree path nodes at begun inside node h p = record {
   among = contains_got nodes at node p;
   joined = refl;
 }
-
--- a path goes on by a directory
-pub under_more : (B : Blobs) (root : Name) (path : List (List ℕ)) (tree : Name) (nodes : List Node) (name : List ℕ) (subtree : Name) → Under B root path tree → IsTree B tree nodes
-    → Contains nodes (record { name = name; what = NodeKind.Dir subtree }) → Under B root (path ++ name ∷ []) subtree
-under_more B root [] tree nodes name subtree u t c = (nodes, subtree, subst (λ r. IsTree B r nodes) u t, c, refl)
-under_more B root (n ∷ path) tree nodes name subtree u t c = (u.0, u.1, u.2, u.3, under_more B u.1 path tree nodes name subtree u.4 t c)
 
 -- the innermost of the open directories
 pub record LastOpen (B : Blobs) (root from : Name) (path : List (List ℕ)) (outer : List Entry) (levels : List Level) (level : Level) (tree : Name) (last : List (List ℕ)) (all : List Entry) : Type 0 where
@@ -127,7 +122,7 @@ pub close_level : (B : Blobs) (root : Name) (levels : List Level) (depth begun :
 close_level B root levels zero begun level all h up =
     let spelled = open_spells B root level.tree level.path level.nodes.items h.inside h.opened in
     let at : all ≡ h.inside = h.whole ∙ ap (λ b. b ++ h.inside) h.leads.2 in
-    subst (λ es. Spells B root [] es) (sym at) (subst (λ t. Spells B t [] h.inside) h.leads.0 (subst (λ p. Spells B level.tree p h.inside) h.leads.1 spelled))
+    subst (λ es. Spells 1 B root [] es) (sym at) (subst (λ t. Spells 1 B t [] h.inside) h.leads.0 (subst (λ p. Spells 1 B level.tree p h.inside) h.leads.1 spelled))
 close_level B root levels (suc depth) begun level all h up = above (got levels depth (omega (arith, slice_get_within levels (suc depth) level h.level_is)))
   where
     got : (ls : List Level) (i : ℕ) → i < length ls → (l : Level) × (slice_get ls i ≡ Some l)
@@ -143,8 +138,8 @@ close_level B root levels (suc depth) begun level all h up = above (got levels d
         let r = leads_pop B root root [] [] (take depth levels) l level.tree level.path h.before (subst (λ ls. Leads B root root [] [] ls level.tree level.path h.before) same h.leads) in
         let spelled = open_spells B root level.tree level.path level.nodes.items h.inside h.opened in
         let path : List (List ℕ) = l.path ++ r.node.name ∷ [] in
-        let P : NodeKind → Type 0 = λ what. NodeSpells B (Spells B) path what (dir_entry path ∷ h.inside) in
-        let node_spells = subst P (sym r.dir) (h.inside, subst (λ p. Spells B level.tree p h.inside) r.below spelled, refl) in
+        let P : NodeKind → Type 0 = λ what. NodeSpells B (Spells 1 B) path what (dir_entry path ∷ h.inside) in
+        let node_spells = subst P (sym r.dir) (h.inside, subst (λ p. Spells 1 B level.tree p h.inside) r.below spelled, refl) in
         let more = open_more B root l.tree l.path l.nodes.items r.begun.at r.inside r.node (dir_entry path ∷ h.inside) r.begun.opened r.begun.node_is node_spells in
         let counts : begun ≡ r.begun.at + 1 = up depth l (sym s) found.1 ∙ r.begun.counts in (
           l,

@@ -2,7 +2,6 @@
 pub mod Listing
 pub mod ListStates
 pub mod ListObedience
-pub mod Received
 pub mod Restoring
 pub mod Walks
 pub mod Nodes

@@ -8,7 +8,8 @@ use Rattle.repo_index.specs.Lookups.{IsLeast}
 use Rattle.repo_session.specs.declared.emissions.Emission.{Emission}
 use Rattle.repo_session.specs.declared.outcomes.End.{End}
 use Rattle.repo_restore.specs.declared.nodes.Begun.{Begun}
-use Rattle.repo_restore.specs.Walks.{Sums, IsNowhere}
+use Rattle.repo_session.specs.Catalogs.{IsNowhere}
+use Rattle.repo_restore.specs.Walks.{Sums}
 
 -- the blob of this kind and name comes next
 abbrev pub WaitsFor : List Fact → BlobKind → Name → Fact → Type 0

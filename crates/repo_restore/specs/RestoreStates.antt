@@ -21,8 +21,9 @@ use Rattle.repo_restore.specs.declared.restores.Stage.{Stage}
 use Rattle.repo_restore.specs.declared.walks.Turn.{Turn}
 use Rattle.repo_restore.specs.declared.walks.Walk.{Walk}
 use Rattle.repo_restore.specs.Flowing.{is_open}
-use Rattle.repo_restore.specs.Received.{Received}
-use Rattle.repo_restore.specs.Restoring.{HasRoot, counted, restore_rule}
+use Rattle.repo_session.specs.Received.{Received}
+use Rattle.repo_session.specs.Trees.{HasRoot}
+use Rattle.repo_restore.specs.Restoring.{counted, restore_rule}
 use Rattle.repo_restore.specs.Walking.{Waits, WalkEnds}
 
 -- the request for the place of a fact
@@ -52,7 +53,7 @@ pub record IsNew (j : RestoreJob) : Type 0 where
 -- the walk waits for the blob that is asked for
 pub record IsWalking (j : RestoreJob) (fact : Fact) (es : Trace) : Type 0 where
   pub root : Name
-  pub found : HasRoot es j.snapshot root
+  pub found : HasRoot es j.snapshot 1 root
   pub indexes : Catalogs j.catalog true es
   pub all : IsAll j.catalog
   pub waits : Waits j.catalog.lookup (Received es) root j.walk fact (emitted_in es)
@@ -61,7 +62,7 @@ pub record IsWalking (j : RestoreJob) (fact : Fact) (es : Trace) : Type 0 where
 -- what is known at each stage where this is pending
 abbrev pub KnowsAt : RestoreJob → Stage → Ask → Trace → Type 0
 KnowsAt j Stage.Snapshot ask es = (ask ≡ Ask.Get Kind.Snapshot j.snapshot) × (j.catalog.roll.read ≡ 0) × Catalogs j.catalog false es × IsBefore j.walk j.given.items es
-KnowsAt j (Stage.Indexes root) ask es = KnowsIndexes j.catalog ask es × HasRoot es j.snapshot root × IsBefore j.walk j.given.items es
+KnowsAt j (Stage.Indexes root) ask es = KnowsIndexes j.catalog ask es × HasRoot es j.snapshot 1 root × IsBefore j.walk j.given.items es
 KnowsAt j (Stage.Walk fact) ask es = IsRangeOf fact ask × IsWalking j fact es
 
 abbrev pub KnowsRestore : RestoreJob → Ask → Trace → Type 0
@@ -78,13 +79,13 @@ RestoreStays old new = (new.given ≡ old.given) × ((ask : Ask) (es : Trace) �
 -- what is known by what comes next of the walk
 abbrev pub TurnIs : List Fact → Walk → Name → Trace → Turn → Type 0
 TurnIs facts walk root es (Turn.Ask fact) = Waits facts (Received es) root walk fact (emitted_in es) × Follow false (emitted_in es) (is_open fact.kind)
-TurnIs facts walk root es (Turn.Complete count) = Spells (Received es) root [] (rebuilt (emitted_in es)) × (count ≡ counted (length (rebuilt (emitted_in es)))) × AreWhole (emitted_in es)
+TurnIs facts walk root es (Turn.Complete count) = Spells 1 (Received es) root [] (rebuilt (emitted_in es)) × (count ≡ counted (length (rebuilt (emitted_in es)))) × AreWhole (emitted_in es)
 TurnIs facts walk root es (Turn.Ended end) = WalkEnds facts (Received es) root end
 
 -- all indexes were read, and the walk goes on so
 pub record IsTurnNext (j : RestoreJob) (es : Trace) (turn : Turn) : Type 0 where
   pub root : Name
-  pub found : HasRoot es j.snapshot root
+  pub found : HasRoot es j.snapshot 1 root
   pub indexes : Catalogs j.catalog true es
   pub all : IsAll j.catalog
   pub turns : TurnIs j.catalog.lookup j.walk root es turn

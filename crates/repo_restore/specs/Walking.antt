@@ -1,5 +1,5 @@
 -- What a walk's calls give.
-use Rattle.std.specs.Prelude.{◌≡◌, ◌≢◌, ◌≤◌, ◌⊎◌, ◌+◌, ◌++◌, ◌∷◌, [], ℕ, List, length, take, slice_get, Some, Contains}
+use Rattle.std.specs.Prelude.{◌≡◌, ◌≢◌, ◌⊎◌, ◌+◌, ◌++◌, ◌∷◌, [], ℕ, List, length, take, slice_get, Some, Contains}
 use Rattle.repo_name.specs.declared.kinds.BlobKind.{BlobKind}
 use Rattle.repo_name.specs.declared.kinds.Thing.{Thing}
 use Rattle.repo_name.specs.declared.names.Name.{Name}
@@ -7,7 +7,8 @@ use Rattle.repo_index.specs.declared.facts.Fact.{Fact}
 use Rattle.repo_tree.specs.declared.entries.Entry.{Entry}
 use Rattle.repo_tree.specs.declared.nodes.Node.{Node}
 use Rattle.repo_tree.specs.declared.nodes.NodeKind.{NodeKind}
-use Rattle.repo_tree.specs.Spelling.{Blobs, IsTree, Spells, greatest_depth, dir_entry}
+use Rattle.repo_tree.specs.Parts.{Blobs, IsTree}
+use Rattle.repo_tree.specs.Spelling.{Spells, dir_entry}
 use Rattle.repo_session.specs.declared.emissions.Emission.{Emission}
 use Rattle.repo_session.specs.declared.outcomes.End.{End}
 use Rattle.repo_session.specs.Ends.{blob_thing}
@@ -19,8 +20,10 @@ use Rattle.repo_restore.specs.declared.walks.Turn.{Turn}
 use Rattle.repo_restore.specs.declared.walks.Walk.{Walk}
 use Rattle.repo_index.specs.Lookups.{IsLeast}
 use Rattle.repo_restore.specs.Nodes.{WaitsFor, DirBegins, FileBegins}
-use Rattle.repo_restore.specs.Restoring.{Under, IsNeeded, IsNoTree, MayGive, counted}
-use Rattle.repo_restore.specs.Walks.{Sums, IsNowhere, IsOpen, IsBegun, IsFile, Leads, IsWriting}
+use Rattle.repo_session.specs.Trees.{Under, IsNeeded, IsBroken}
+use Rattle.repo_restore.specs.Restoring.{MayGive, counted}
+use Rattle.repo_session.specs.Catalogs.{IsNowhere}
+use Rattle.repo_restore.specs.Walks.{Sums, IsOpen, IsBegun, IsFile, Leads, IsWriting}
 
 -- what beginning a node gives
 abbrev pub NodeBegins : List Fact → Name → List (List ℕ) → NodeKind → List Emission → List Emission → Begun → Type 0
@@ -32,7 +35,7 @@ pub record StandsIn (B : Blobs) (root : Name) (level : Level) (begun : ℕ) (bef
   pub inside : List Entry
   pub opened : IsOpen B root level.tree level.path level.nodes.items begun inside
   pub whole : rebuilt (old ++ out) ≡ before ++ inside
-  pub given : Each (MayGive B root) out
+  pub given : Each (MayGive 1 B root) out
 
 -- a blob that a node waits for, with what was given out up to it
 abbrev pub WaitsAs : List Fact → NodeKind → List (List ℕ) → Fact → List Entry → List Emission → Type 0
@@ -48,34 +51,34 @@ pub record WaitsIn (facts : List Fact) (B : Blobs) (root : Name) (level : Level)
   pub inside : List Entry
   pub opened : IsOpen B root level.tree level.path level.nodes.items at inside
   pub waits : WaitsAs facts node.what (level.path ++ node.name ∷ []) fact (before ++ inside) (old ++ out)
-  pub given : Each (MayGive B root) out
+  pub given : Each (MayGive 1 B root) out
 
 -- a file whose blobs have another size
 abbrev pub IsUnevenIn : List Fact → List Node → Type 0
 IsUnevenIn facts nodes = (name : List ℕ) × (size : ℕ) × (content : List Name) × (total : ℕ) × Contains nodes (record { name = name; what = NodeKind.File size content }) × Sums facts content total × (total ≢ size)
 
--- why the tree to which a path leads can't be restored: its bytes are no tree's text, or it has nodes where none may be, or a file whose blobs haven't its size
-abbrev pub IsUnfitIn : List Fact → Blobs → List (List ℕ) → Name → Type 0
-IsUnfitIn facts B path tree = IsNoTree B tree ⊎ ((nodes : List Node) × IsTree B tree nodes × (((nodes ≢ []) × (greatest_depth ≤ length path)) ⊎ IsUnevenIn facts nodes))
+-- why the tree to which a path leads can't be restored: no directory has it, or it has a file whose blobs haven't its size
+abbrev pub IsUnfitIn : List Fact → Blobs → Name → List (List ℕ) → Name → Type 0
+IsUnfitIn facts B root path tree = IsBroken 1 B root path tree ⊎ ((nodes : List Node) × IsTree B tree nodes × IsUnevenIn facts nodes)
 
 -- why a walk ends
 abbrev pub WalkEnds : List Fact → Blobs → Name → End → Type 0
-WalkEnds facts B root (End.Missing thing name) = (kind : BlobKind) × (thing ≡ blob_thing kind) × IsNowhere facts kind name × IsNeeded B root kind name
-WalkEnds facts B root (End.BadObject thing tree) = (thing ≡ Thing.Tree) × ((path : List (List ℕ)) × Under B root path tree × IsUnfitIn facts B path tree)
+WalkEnds facts B root (End.Missing thing name) = (kind : BlobKind) × (thing ≡ blob_thing kind) × IsNowhere facts kind name × IsNeeded 1 B root kind name
+WalkEnds facts B root (End.BadObject thing tree) = (thing ≡ Thing.Tree) × ((path : List (List ℕ)) × Under 1 B root path tree × IsUnfitIn facts B root path tree)
 WalkEnds facts B root _ = ⊥
 
 -- what beginning a level's next nodes gives
 abbrev pub NextBegins : List Fact → Blobs → Name → Level → List Entry → List Emission → List Emission → ℕ → Begun → Type 0
 NextBegins facts B root level before old out now Begun.Done = StandsIn B root level (length level.nodes.items) before old out
 NextBegins facts B root level before old out now (Begun.Waits fact) = WaitsIn facts B root level now before old out fact
-NextBegins facts B root level before old out now (Begun.Ended end) = WalkEnds facts B root end × Each (MayGive B root) out
+NextBegins facts B root level before old out now (Begun.Ended end) = WalkEnds facts B root end × Each (MayGive 1 B root) out
 
 -- where a walk stops
 abbrev pub StopsAt : List Fact → Blobs → Name → List Level → List Emission → List Emission → ℕ → ℕ → Begun → Type 0
-StopsAt facts B root levels old out depth begun Begun.Done = Spells B root [] (rebuilt (old ++ out)) × Each (MayGive B root) out
+StopsAt facts B root levels old out depth begun Begun.Done = Spells 1 B root [] (rebuilt (old ++ out)) × Each (MayGive 1 B root) out
 StopsAt facts B root levels old out depth begun (Begun.Waits fact) = (level : Level) × (before : List Entry) × (slice_get levels depth ≡ Some level)
     × Leads B root root [] [] (take depth levels) level.tree level.path before × WaitsIn facts B root level begun before old out fact
-StopsAt facts B root levels old out depth begun (Begun.Ended end) = WalkEnds facts B root end × Each (MayGive B root) out
+StopsAt facts B root levels old out depth begun (Begun.Ended end) = WalkEnds facts B root end × Each (MayGive 1 B root) out
 
 -- a level of which so many nodes are begun
 abbrev pub with_begun : Level → ℕ → Level
@@ -101,7 +104,7 @@ pub record FileWaits (facts : List Fact) (B : Blobs) (root : Name) (levels : Lis
 
 -- the tree of a directory waits
 abbrev pub TreeWaits : Blobs → Name → List Level → Fact → List Emission → Type 0
-TreeWaits B root levels fact emitted = (path : List (List ℕ)) × Leads B root root [] [] levels fact.name path (rebuilt emitted) × Under B root path fact.name
+TreeWaits B root levels fact emitted = (path : List (List ℕ)) × Leads B root root [] [] levels fact.name path (rebuilt emitted) × Under 1 B root path fact.name
 
 -- by the kind of the blob that a walk waits for
 abbrev pub WaitsByKind : BlobKind → List Fact → Blobs → Name → List Level → ℕ → Fact → List Emission → Type 0
@@ -116,9 +119,9 @@ pub record WalkWaits (facts : List Fact) (B : Blobs) (root : Name) (levels : Lis
 
 -- what comes of a step of a walk
 abbrev pub TurnGives : List Fact → Blobs → Name → List Level → ℕ → ℕ → List Emission → List Emission → Turn → Type 0
-TurnGives facts B root levels sent entries old out (Turn.Ask fact) = WalkWaits facts B root levels sent entries fact (old ++ out) × Each (MayGive B root) out
-TurnGives facts B root levels sent entries old out (Turn.Complete count) = Spells B root [] (rebuilt (old ++ out)) × (count ≡ counted (length (rebuilt (old ++ out)))) × Each (MayGive B root) out
-TurnGives facts B root levels sent entries old out (Turn.Ended end) = WalkEnds facts B root end × Each (MayGive B root) out
+TurnGives facts B root levels sent entries old out (Turn.Ask fact) = WalkWaits facts B root levels sent entries fact (old ++ out) × Each (MayGive 1 B root) out
+TurnGives facts B root levels sent entries old out (Turn.Complete count) = Spells 1 B root [] (rebuilt (old ++ out)) × (count ≡ counted (length (rebuilt (old ++ out)))) × Each (MayGive 1 B root) out
+TurnGives facts B root levels sent entries old out (Turn.Ended end) = WalkEnds facts B root end × Each (MayGive 1 B root) out
 
 -- ---- over the code's own type
 

@@ -4,15 +4,16 @@ use Rattle.repo_name.specs.declared.kinds.BlobKind.{BlobKind}
 use Rattle.repo_name.specs.declared.names.Name.{Name}
 use Rattle.repo_pack.specs.declared.places.Place.{Place}
 use Rattle.repo_index.specs.declared.facts.Fact.{Fact}
-use Rattle.repo_index.specs.IndexText.{fact_of}
 use Rattle.repo_index.specs.Lookups.{IsLeast}
 use Rattle.repo_tree.specs.declared.entries.Entry.{Entry}
 use Rattle.repo_tree.specs.declared.nodes.Node.{Node}
 use Rattle.repo_tree.specs.declared.nodes.NodeKind.{NodeKind}
-use Rattle.repo_tree.specs.Spelling.{Blobs, IsTree, Joined, NodesSpell, Spells, greatest_depth, dir_entry}
+use Rattle.repo_tree.specs.Parts.{Blobs, IsTree}
+use Rattle.repo_tree.specs.Spelling.{Joined, NodesSpell, Spells, greatest_depth, dir_entry}
 use Rattle.repo_session.specs.declared.emissions.Emission.{Emission}
+use Rattle.repo_session.specs.Catalogs.{IsNowhere}
 use Rattle.repo_session.specs.Rebuilding.{rebuilt}
-use Rattle.repo_restore.specs.Restoring.{Under}
+use Rattle.repo_session.specs.Trees.{Under}
 use Rattle.repo_restore.specs.declared.nodes.Filed.{Filed}
 use Rattle.repo_restore.specs.declared.nodes.Level.{Level}
 
@@ -26,10 +27,6 @@ abbrev pub LeftOf : Option ℕ → ℕ → ℕ → Type 0
 LeftOf None size total = size < total
 LeftOf (Some left) size total = left + total ≡ size
 
--- no fact gives a blob
-abbrev pub IsNowhere : List Fact → BlobKind → Name → Type 0
-IsNowhere facts kind name = (place : Place) → ¬ Contains facts (fact_of kind name place)
-
 -- what looking up a file's blobs gives
 abbrev pub Files : List Fact → ℕ → List Name → Filed → Type 0
 Files facts size content Filed.Even = Sums facts content size
@@ -38,10 +35,10 @@ Files facts size content Filed.Uneven = (total : ℕ) × Sums facts content tota
 
 -- a directory's tree was received, and what its first nodes spell is known
 pub record IsOpen (B : Blobs) (root tree : Name) (path : List (List ℕ)) (nodes : List Node) (begun : ℕ) (inside : List Entry) : Type 0 where
-  pub under : Under B root path tree
+  pub under : Under 1 B root path tree
   pub read : IsTree B tree nodes
   pub shallow : (length path < greatest_depth) ⊎ (nodes ≡ [])
-  pub spelled : NodesSpell B (Spells B) path (take begun nodes) inside
+  pub spelled : NodesSpell B (Spells 1 B) path (take begun nodes) inside
 
 -- a directory of which one node is begun
 pub record IsBegun (B : Blobs) (root : Name) (level : Level) (inside : List Entry) (node : Node) : Type 0 where
@@ -68,7 +65,7 @@ pub record AtLevel (B : Blobs) (root : Name) (levels : List Level) (depth begun 
 
 -- so many levels are open: none where all was given out
 abbrev pub AtOpen : Blobs → Name → List Level → ℕ → ℕ → List Entry → Type 0
-AtOpen B root levels zero begun all = Spells B root [] all
+AtOpen B root levels zero begun all = Spells 1 B root [] all
 AtOpen B root levels (suc depth) begun all = (level : Level) × AtLevel B root levels depth begun level all
 
 -- pieces alone, of these bytes

@@ -11,8 +11,8 @@
 //! them; each part given out is a piece of such a blob, or a directory or a file that a tree which was received has
 //! at its path. Not promised: that a store answers, or that a list or a restore ends well.
 //!
-//! The definitions stand in `specs/`: `Listing` (when a list may be told), `Received` (which blobs were received),
-//! `Restoring` (what a restore may give out and tell); and what is known on the way: `ListStates`, `Walks`, `Nodes`
+//! The definitions stand in `specs/`: `Listing` (when a list may be told), `Restoring` (what a restore may give out and
+//! tell, over the trees of repo_session's `Trees`); and what is known on the way: `ListStates`, `Walks`, `Nodes`
 //! and `Walking` (where a walk over trees stands, and what its steps give), `RestoreStates`.
 #![tactic(auto)]
 

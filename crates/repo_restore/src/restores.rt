@@ -1,9 +1,7 @@
 //! The restore of a snapshot.
 
-ghost use Rattle.std.specs.Prelude.{◌≡◌, ◌≢◌, ◌∷◌, [], length, ◌↔◌, ◌⊎◌, IfOk, OnErr, IsOk, IsTrue, IsFalse};
+ghost use Rattle.std.specs.Prelude.{◌≡◌, ◌∷◌, [], ℕ, List, length, ◌↔◌, IfOk, OnErr, IsOk, IsTrue};
 ghost use Rattle.repo_name.specs.Naming as naming;
-ghost use Rattle.repo_name.specs.declared.kinds.BlobKind.{BlobKind};
-ghost use Rattle.repo_name.specs.declared.kinds.Kind.{Kind};
 ghost use Rattle.repo_name.specs.declared.names.Name.{Name};
 ghost use Rattle.repo_name.specs.declared.tokens.Token.{Token};
 ghost use Rattle.repo_wire.specs.declared.messages.Ask.{Ask};
@@ -11,7 +9,7 @@ ghost use Rattle.repo_wire.specs.declared.messages.Code.{Code};
 ghost use Rattle.repo_wire.specs.declared.messages.Say.{Say};
 ghost use Rattle.repo_session.specs.declared.emissions.Emission.{Emission};
 ghost use Rattle.repo_session.specs.Askers.{Asker};
-ghost use Rattle.repo_session.specs.Ends.{blob_thing};
+ghost use Rattle.repo_session.specs.Ends.{IsBadBlob};
 ghost use Rattle.repo_session.specs.Jobs.{task_under, GivesBy, IsShort, IsShortStep, MayStep};
 ghost use Rattle.repo_session.specs.Order.{IsWorking};
 ghost use Rattle.repo_session.specs.Traces.{Exchange, Trace};
@@ -21,10 +19,10 @@ ghost use Rattle.repo_restore.specs.RestoreStates.{FitsRestore, IsNew, IsTurnNex
 
 use crate::walks::{Turn, Walk};
 use repo_index::Fact;
-use repo_name::{BlobKind, Kind, Name, Thing, name_of};
-use repo_pack::Place;
+use repo_name::{Kind, Name, Thing, name_of};
 use repo_session::{
-    Catalog, Client, Emission, End, Holder, Job, Outcome, Reading, Session, Step, Who, snapshot_end,
+    Catalog, Client, Emission, End, Fetched, Holder, Job, Outcome, Reading, Session, Step, Who,
+    blob_of, blob_thing, get_ask, range_ask, snapshot_end,
 };
 use repo_tree::{Config, Snapshot};
 use repo_wire::{Ask, Reply, Request, Say};
@@ -52,54 +50,11 @@ struct RestoreJob {
     alloc: Global,
 }
 
-/// The request for an object.
-fn get_ask(kind: Kind, name: Name) -> Ask
-    ensures ask { result ≡ Ask.Get kind name }
-    ensures short { IsShort result }
-{
-    name.to_bytes();
-    Ask::Get { kind, name }
-}
-
-/// The request for what lies at a place.
-fn range_ask(place: Place) -> Ask
-    ensures ask { result ≡ Ask.Range place.pack place.offset place.length }
-    ensures short { IsShort result }
-{
-    place.pack.to_bytes();
-    Ask::Range {
-        pack: place.pack,
-        offset: place.offset,
-        length: place.length,
-    }
-}
-
 /// Whether some bytes have this name.
 fn is_named(bytes: &[u8], name: Name) -> bool
     ensures { IsTrue result ↔ (naming.name bytes.now ≡ name) }
 {
     name_of(bytes) == name
-}
-
-/// Whether some bytes have the length of a blob's place, and its name.
-fn is_blob(bytes: &[u8], fact: Fact) -> bool
-    ensures yes { IsTrue result → (length bytes.now ≡ fact.place.length) × (naming.name bytes.now ≡ fact.name) }
-    ensures no { IsFalse result → (length bytes.now ≢ fact.place.length) ⊎ (naming.name bytes.now ≢ fact.name) }
-{
-    if bytes.len() != fact.place.length as usize {
-        return false;
-    }
-    is_named(bytes, fact.name)
-}
-
-/// What a blob of a kind is called.
-fn blob_thing(kind: BlobKind) -> Thing
-    ensures { result ≡ blob_thing kind }
-{
-    match kind {
-        BlobKind::Content => Thing::Content,
-        BlobKind::Tree => Thing::Tree,
-    }
 }
 
 impl RestoreJob {
@@ -129,7 +84,7 @@ impl RestoreJob {
         match turn {
             Turn::Ask(fact) => {
                 self.stage = Stage::Walk(fact);
-                Step::Ask(range_ask(fact.place))
+                Step::Ask(range_ask(fact))
             }
             Turn::Complete(entries) => Step::Finish(Outcome::Complete { entries }),
             Turn::Ended(end) => Step::Finish(Outcome::Ended(end)),
@@ -191,6 +146,33 @@ impl RestoreJob {
         }
     }
 
+    /// Ends, as the bytes of a blob are bad.
+    fn refuse_blob(&mut self, fact: Fact) -> Step
+        requires { self.old.stage ≡ Stage.Walk fact }
+        ensures replied { (ask : Ask) (x : List ℕ) → IsBadBlob fact x → RestoreReplied self.old ask (Say.Bytes x) result self.new }
+        ensures short { IsShortStep result }
+        ensures snapshot { self.new.snapshot ≡ self.old.snapshot }
+    {
+        self.given.clear();
+        let end = End::BadObject(blob_thing(fact.kind), fact.name);
+        Step::Finish(Outcome::Ended(end))
+    }
+
+    /// Takes the bytes of a blob. It fails for memory alone, and then what was known is known.
+    fn take_blob(&mut self, fact: Fact, bytes: &[u8]) -> Result<Step, AllocError>
+        requires { self.old.stage ≡ Stage.Walk fact }
+        ensures ok { IfOk result (λ step. (ask : Ask) → naming.name bytes.now ≡ fact.name → length bytes.now ≡ fact.place.length → RestoreReplied self.old ask (Say.Bytes bytes.now) step self.new) }
+        ensures err { OnErr result (RestoreStays self.old self.new) }
+        ensures short { IfOk result IsShortStep }
+        ensures snapshot { self.new.snapshot ≡ self.old.snapshot }
+    {
+        let mut out = Vec::new(self.alloc);
+        let lookup = &self.catalog.lookup;
+        let turn = self.walk.take(lookup, fact, bytes, &mut out)?;
+        self.given = out;
+        Ok(self.go_on(turn))
+    }
+
     /// Takes the reply to the request for a blob. It fails for memory alone, and then what was known is known.
     fn take_range(&mut self, fact: Fact, say: &Say) -> Result<Step, AllocError>
         requires { self.old.stage ≡ Stage.Walk fact }
@@ -200,20 +182,12 @@ impl RestoreJob {
         ensures calm { (code : Code) → say.now ≡ Say.Refused code → IsOk result }
         ensures snapshot { self.new.snapshot ≡ self.old.snapshot }
     {
-        let Say::Bytes(bytes) = say else {
-            return Ok(Step::Away);
-        };
-        let bytes = bytes.as_slice();
-        if !is_blob(bytes, fact) {
-            self.given.clear();
-            let end = End::BadObject(blob_thing(fact.kind), fact.name);
-            return Ok(Step::Finish(Outcome::Ended(end)));
+        match blob_of(fact, say) {
+            Fetched::Blob(bytes) => self.take_blob(fact, bytes),
+            Fetched::Misnamed => Ok(self.refuse_blob(fact)),
+            Fetched::Uneven => Ok(self.refuse_blob(fact)),
+            Fetched::Unwelcome => Ok(Step::Away),
         }
-        let mut out = Vec::new(self.alloc);
-        let lookup = &self.catalog.lookup;
-        let turn = self.walk.take(lookup, fact, bytes, &mut out)?;
-        self.given = out;
-        Ok(self.go_on(turn))
     }
 }
 

@@ -8,7 +8,7 @@ ghost use Rattle.repo_session.specs.Rebuilding.{rebuilt, Follow};
 ghost use Rattle.repo_session.specs.Traces.{Each, Trace};
 ghost use Rattle.repo_restore.specs.declared.nodes.Level.{Level};
 ghost use Rattle.repo_restore.specs.Flowing.{FlowsTo};
-ghost use Rattle.repo_restore.specs.Received.{Received};
+ghost use Rattle.repo_session.specs.Received.{Received};
 ghost use Rattle.repo_restore.specs.Restoring.{MayGive, counted};
 ghost use Rattle.repo_restore.specs.Walking.{NodeBegins, StandsIn, NextBegins, StopsAt};
 ghost use Rattle.repo_restore.specs.Walks.{AtOpen};
@@ -137,7 +137,7 @@ pub fn go_on(
     begun: usize,
     out: &mut Vec<Emission>,
 ) -> Result<Stop, AllocError>
-    ensures stops { IfOk result (λ stop. (gs : Trace) (root : Name) (old : List Emission) → AtOpen (Received gs) root levels.now (length levels.now) begun (rebuilt (old ++ out.old.items)) → Each (MayGive (Received gs) root) out.old.items
+    ensures stops { IfOk result (λ stop. (gs : Trace) (root : Name) (old : List Emission) → AtOpen (Received gs) root levels.now (length levels.now) begun (rebuilt (old ++ out.old.items)) → Each (MayGive 1 (Received gs) root) out.old.items
         → StopsAt lookup.now (Received gs) root levels.now old out.new.items stop.depth stop.begun stop.what) }
     ensures flows { IfOk result (λ stop. (before : Bool) → Follow before out.old.items false → FlowsTo before out.new.items stop.what) }
 {

@@ -8,13 +8,14 @@ ghost use Rattle.repo_index.specs.declared.facts.Fact.{Fact};
 ghost use Rattle.repo_tree.specs.declared.faults.TreeError.{TreeError};
 ghost use Rattle.repo_tree.specs.declared.nodes.Node.{Node};
 ghost use Rattle.repo_tree.specs.declared.nodes.NodeKind.{NodeKind};
-ghost use Rattle.repo_tree.specs.Spelling.{IsTree, greatest_depth};
+ghost use Rattle.repo_tree.specs.Parts.{IsTree};
+ghost use Rattle.repo_tree.specs.Spelling.{greatest_depth};
 ghost use Rattle.repo_session.specs.declared.emissions.Emission.{Emission};
 ghost use Rattle.repo_session.specs.Rebuilding.{rebuilt};
 ghost use Rattle.repo_session.specs.Traces.{Each, Trace};
 ghost use Rattle.repo_restore.specs.declared.nodes.Level.{Level};
 ghost use Rattle.repo_restore.specs.Flowing.{is_open, FlowsTo, TurnFlows};
-ghost use Rattle.repo_restore.specs.Received.{Received};
+ghost use Rattle.repo_session.specs.Received.{Received};
 ghost use Rattle.repo_restore.specs.Restoring.{MayGive, counted};
 ghost use Rattle.repo_restore.specs.Walking.{StopsAt, with_begun, Waits, Turns, HasBegun, IsNextPath};
 

@@ -1,4 +1,4 @@
-use Rattle.std.proofs.Common.{◌≡◌, ◌++◌, [], List, Option, None, Some, refl, sym, ap, subst, append-nil, option_map, ◌∙◌}
+use Rattle.std.proofs.Common.{◌≡◌, ◌++◌, [], List, Option, None, Some, inr, refl, sym, ap, subst, append-nil, option_map, ◌∙◌}
 use Rattle.std.proofs.lemmas.Option.{same_Some}
 use Rattle.repo_wire.specs.declared.messages.Request.{Request}
 use Rattle.repo_session.specs.declared.emissions.Emission.{Emission}
@@ -17,8 +17,8 @@ use Rattle.repo_laws.specs.Alone.{GivesBack}
 use Rattle.repo_laws.proofs.AloneRuns.{gives_back}
 use Rattle.repo_laws.proofs.alone.back_up_and_restore.Goals as goal
 
-pub returns-in-Some-Complete : goal.returns-in-Some-Complete
-returns-in-Some-Complete g c = λ sound emissions gave.
+pub returns-then-is_complete-clause-back : goal.returns-then-is_complete-clause-back
+returns-then-is_complete-clause-back g c = λ sound emissions gave.
     let old = c.args.backup.now in
     let new = c.lockstep.new.client in
     let made = c.new-restore.result in
@@ -29,9 +29,10 @@ returns-in-Some-Complete g c = λ sound emissions gave.
     let s = c.in_ok-lockstep.ensures.steps c.requires.honest in
     let t = c.in_ok-lockstep-2.ensures.steps (c.lockstep.ensures.honest c.requires.honest) in
     let stored : Outcome = Outcome.Stored c.in-Some-Stored.name c.in-Some-Stored.field-0-1 c.in-Some-Stored.field-0-2 in
-    let complete : Outcome = Outcome.Complete c.in-Some-Complete.field-0-0 in
+    let done = c.is_complete.ensures.yes c.if-is_complete.true in
+    let complete : Outcome = Outcome.Complete done.0 in
     let e : ended_in new.session ≡ Some stored = sym c.outcome.ensures ∙ (ap (λ o. option_map (λ x. x.now) o) c.in-Some-Stored.is ∙ ap (λ o. Some o) c.in-Some-Stored.field-0-is) in
-    let f : ended_in last.session ≡ Some complete = sym c.outcome-2.ensures ∙ (ap (λ o. option_map (λ x. x.now) o) c.in-Some-Complete.is ∙ ap (λ o. Some o) c.in-Some-Complete.field-0-is) in
+    let f : ended_in last.session ≡ Some complete = done.1 in
     let here = subst (λ (es : Trace). FitsBackup new es) (append-nil (trace_of s.0)) (s.1.0.fits [] c.requires.fresh) in
     let there = subst (λ (es : Trace). FitsRestore last es) (append-nil (trace_of t.0)) (t.1.0.fits [] c.new-restore.ensures.fits) in
     let is : IsBackup (who_in new.session) (handed_to new.session.job) None (Some stored) (trace_of s.0) =
@@ -42,7 +43,36 @@ returns-in-Some-Complete g c = λ sound emissions gave.
     (subst (λ (r : Option Request). IsRestore (wish_of last) r (ended_in last.session) (trace_of t.0)) t.1.2 (restore_obeys last (trace_of t.0) there)) in
     let job = c.lockstep.ensures.job in
     let wish : wish_of last ≡ record { who = (wish_of made).who; snapshot = c.in-Some-Stored.name } = c.lockstep-2.ensures.job ∙ ap (λ n. record { who = (wish_of made).who; snapshot = n }) c.new-restore.ensures.snapshot in
-    gives_back (who_in new.session) (handed_to old.session.job) from mid to _ _ _ _ s.0 t.0 c.in-Some-Stored.name c.in-Some-Stored.field-0-1 c.in-Some-Stored.field-0-2 c.in-Some-Complete.field-0-0 (wish_of made).who emissions sound s.1.3
+    gives_back (who_in new.session) (handed_to old.session.job) from mid to _ _ _ _ s.0 t.0 c.in-Some-Stored.name c.in-Some-Stored.field-0-1 c.in-Some-Stored.field-0-2 done.0 (wish_of made).who emissions sound s.1.3
     (subst (λ es. IsBackup (who_in new.session) es None (Some stored) (trace_of s.0)) (λ i. (job i).entries) is) t.1.3
     (subst (λ (w : Wish). IsRestore w None (Some complete) (trace_of t.0)) wish is')
     (sym (same_Some c.lockstep-2.new.out.items emissions gave) ∙ (t.1.4 ∙ ap (λ (x : List Emission). x ++ given_in t.0) c.new-out-2.ensures.items))
+
+pub returns-clause-none : goal.returns-clause-none
+returns-clause-none g c = λ none.
+    let new = c.lockstep.new.client in
+    let made = c.new-restore.result in
+    let last = c.lockstep-2.new.client in
+    let t = c.in_ok-lockstep-2.ensures.steps (c.lockstep.ensures.honest c.requires.honest) in
+    let stored : Outcome = Outcome.Stored c.in-Some-Stored.name c.in-Some-Stored.field-0-1 c.in-Some-Stored.field-0-2 in
+    let e : ended_in new.session ≡ Some stored = sym c.outcome.ensures ∙ (ap (λ o. option_map (λ x. x.now) o) c.in-Some-Stored.is ∙ ap (λ o. Some o) c.in-Some-Stored.field-0-is) in
+    let there = subst (λ (es : Trace). FitsRestore last es) (append-nil (trace_of t.0)) (t.1.0.fits [] c.new-restore.ensures.fits) in
+    let is : IsRestore (wish_of last) None (ended_in last.session) (trace_of t.0) = subst (λ (r : Option Request). IsRestore (wish_of last) r (ended_in last.session) (trace_of t.0)) t.1.2 (restore_obeys last (trace_of t.0) there) in
+    let wish : wish_of last ≡ record { who = c.args.who; snapshot = c.in-Some-Stored.name } =
+    c.lockstep-2.ensures.job ∙ (ap (λ n. record { who = (wish_of made).who; snapshot = n }) c.new-restore.ensures.snapshot ∙ ap (λ w. record { who = w; snapshot = c.in-Some-Stored.name }) c.new-restore.ensures.who) in
+    inr (
+      c.in-Some-Stored.name,
+      c.in-Some-Stored.field-0-1,
+      c.in-Some-Stored.field-0-2,
+      e,
+      record {
+        mid = g.S.Shelf.store c.lockstep.new.shelf;
+        failed = g.S.Shelf.failed c.lockstep.new.shelf;
+        failing = g.S.Shelf.failed c.lockstep-2.new.shelf;
+        talk = t.0;
+        ran = t.1.3;
+        outcome = ended_in last.session;
+        is = subst (λ (w : Wish). IsRestore w None (ended_in last.session) (trace_of t.0)) wish is;
+        other = λ count h. c.is_complete.ensures.no c.if-is_complete.false count h;
+      },
+    )

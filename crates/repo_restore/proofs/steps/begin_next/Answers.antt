@@ -3,7 +3,7 @@ use Rattle.std.proofs.lemmas.Option.{slice_get_read}
 use Rattle.repo_restore.specs.declared.nodes.Begun.{Begun}
 use Rattle.repo_restore.proofs.Flows.{node_flows}
 use Rattle.repo_restore.proofs.Begins.{begun_done, begun_waits, begun_ends, stands_all}
-use Rattle.repo_restore.specs.Received.{Received}
+use Rattle.repo_session.specs.Received.{Received}
 use Rattle.repo_restore.proofs.steps.begin_next.Goals as goal
 
 pub loop-at-preserved : goal.loop-at-preserved

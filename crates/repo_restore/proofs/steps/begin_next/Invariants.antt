@@ -4,7 +4,7 @@ use Rattle.repo_tree.specs.declared.entries.Entry.{Entry}
 use Rattle.repo_session.specs.declared.emissions.Emission.{Emission}
 use Rattle.repo_session.specs.Rebuilding.{Follow}
 use Rattle.repo_session.specs.Traces.{Trace}
-use Rattle.repo_restore.specs.Received.{Received}
+use Rattle.repo_session.specs.Received.{Received}
 use Rattle.repo_restore.specs.Walking.{StandsIn}
 use Rattle.repo_restore.proofs.steps.begin_next.Given as goal
 

@@ -2,7 +2,7 @@ use Rattle.std.proofs.Common.{arith, ◌≡◌, ◌+◌, ◌-◌, ◌++◌, ℕ,
 use Rattle.std.proofs.lemmas.Option.{slice_get_read}
 use Rattle.repo_session.specs.Rebuilding.{rebuilt}
 use Rattle.repo_restore.proofs.Begins.{at_level, level_stands, level_done}
-use Rattle.repo_restore.specs.Received.{Received}
+use Rattle.repo_session.specs.Received.{Received}
 use Rattle.repo_restore.specs.Walks.{AtOpen}
 use Rattle.repo_restore.proofs.steps.go_on.Goals as goal
 

@@ -2,12 +2,14 @@ use Rattle.std.proofs.Common.{false, ◌≡◌, ◌≢◌, ◌≤◌, ◌<◌, �
 use Rattle.repo_name.specs.declared.kinds.BlobKind.{BlobKind}
 use Rattle.repo_name.specs.declared.names.Name.{Name}
 use Rattle.repo_tree.specs.declared.nodes.Node.{Node}
-use Rattle.repo_tree.specs.Spelling.{IsTree, greatest_depth}
+use Rattle.repo_tree.specs.Parts.{IsTree}
+use Rattle.repo_tree.specs.Spelling.{greatest_depth}
 use Rattle.repo_session.specs.declared.emissions.Emission.{Emission}
 use Rattle.repo_session.specs.Traces.{Each}
 use Rattle.repo_restore.specs.declared.nodes.Level.{Level}
-use Rattle.repo_restore.specs.Received.{Received}
-use Rattle.repo_restore.specs.Restoring.{Under, MayGive}
+use Rattle.repo_session.specs.Received.{Received}
+use Rattle.repo_session.specs.Trees.{Under}
+use Rattle.repo_restore.specs.Restoring.{MayGive}
 use Rattle.repo_restore.specs.Walking.{WaitsByKind, StopsAt, Turns}
 use Rattle.repo_restore.specs.Walks.{AtOpen}
 use Rattle.repo_session.specs.Rebuilding.{rebuilt, Follow}
@@ -25,9 +27,9 @@ returns-then-is_too_deep-clause-ok c = λ gs root fact old h k n t none.
     let deep = c.is_too_deep.ensures.yes c.if-is_too_deep.true in
     let D : List (List ℕ) → Type 0 = λ p. greatest_depth ≤ length p in
     let N : List Node → Type 0 = λ ns. ns ≢ [] in
-    let U : Name → Type 0 = λ m. Under (Received gs) root tree.0 m in
-    let E : List Emission → Type 0 = λ e. Each (MayGive (Received gs) root) e in
-    ((refl, (tree.0, subst U n tree.2, inr (c.args.nodes.items, t, inl (subst N c.as_slice.ensures.value deep.1, subst D at deep.0)))), subst E (sym none) tt)
+    let U : Name → Type 0 = λ m. Under 1 (Received gs) root tree.0 m in
+    let E : List Emission → Type 0 = λ e. Each (MayGive 1 (Received gs) root) e in
+    ((refl, (tree.0, subst U n tree.2, inl (inr (inl (c.args.nodes.items, t, subst N c.as_slice.ensures.value deep.1, subst D at deep.0))))), subst E (sym none) tt)
 
 pub returns-in-Ok-clause-ok : goal.returns-in-Ok-clause-ok
 returns-in-Ok-clause-ok c = λ gs root fact old h k n t none.
@@ -44,7 +46,7 @@ returns-in-Ok-clause-ok c = λ gs root fact old h k n t none.
     let same : c.as_slice-2.result.now ≡ levels ++ level ∷ [] = c.as_slice-2.ensures.value ∙ c.in_ok-push.ensures.items in
     let A : List Level → Type 0 = λ ls. AtOpen (Received gs) root ls (length ls) 0 (rebuilt (old ++ [])) in
     let O : List Emission → Type 0 = λ e. AtOpen (Received gs) root c.as_slice-2.result.now (length c.as_slice-2.result.now) 0 (rebuilt (old ++ e)) in
-    let E : List Emission → Type 0 = λ e. Each (MayGive (Received gs) root) e in
+    let E : List Emission → Type 0 = λ e. Each (MayGive 1 (Received gs) root) e in
     let stops = c.in-Ok.ensures.stops gs root old (subst O (sym none) (subst A (sym same) start)) (subst E (sym none) tt) in
     let out = c.go_on.new.out.items in
     let stop = c.in-Ok.stop in

@@ -1,6 +1,6 @@
 use Rattle.std.proofs.Common.{◌++◌, List, sym, subst, take}
 use Rattle.repo_restore.specs.declared.nodes.Level.{Level}
-use Rattle.repo_restore.specs.Received.{Received}
+use Rattle.repo_session.specs.Received.{Received}
 use Rattle.repo_restore.specs.Walking.{WalkWaits}
 use Rattle.repo_restore.proofs.Passing.{counted_more, kept_open}
 use Rattle.repo_restore.proofs.walks.Walk.stop_at.Goals as goal

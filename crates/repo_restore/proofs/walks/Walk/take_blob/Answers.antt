@@ -4,7 +4,7 @@ use Rattle.repo_name.specs.declared.names.Name.{Name}
 use Rattle.repo_session.specs.declared.emissions.Emission.{Emission}
 use Rattle.repo_session.specs.Rebuilding.{rebuilt}
 use Rattle.repo_restore.specs.declared.nodes.Level.{Level}
-use Rattle.repo_restore.specs.Received.{Received}
+use Rattle.repo_session.specs.Received.{Received}
 use Rattle.repo_restore.specs.Walking.{StopsAt, Turns}
 use Rattle.repo_restore.specs.Walks.{AtOpen}
 use Rattle.repo_restore.specs.Flowing.{FlowsTo, TurnFlows}
