@@ -1,4 +1,5 @@
-//! Tests of the formats: names, rows, chunks, packs, indexes, trees, small texts, frames and ledgers, against values from outside.
+//! Tests of the formats: names, rows, chunks, packs, indexes, trees, small texts, frames and ledgers, and of walks over trees,
+//! against values from outside.
 //!
 //! They stand in a crate of their own since the proof of a crate with tests is made twice, with them and without. A test is a
 //! list of steps with no branch between them: each counts in a [`trials::Trial`] what is not as wanted.
@@ -42,5 +43,7 @@ mod streams;
 mod trees;
 #[cfg(test)]
 mod trials;
+#[cfg(test)]
+mod walks;
 #[cfg(test)]
 mod written_trees;

@@ -4,10 +4,13 @@ ghost use Rattle.std.specs.Prelude.{◌<◌, ◌≤◌};
 
 use crate::trials::Trial;
 use repo_name::{BlobKind, Bytes, Name, name_of};
-use repo_pack::{Entry, PackError, PackView, PackWriter, Place, Sealed};
+use repo_pack::{Entry, PackError, PackView, PackWriter, Place, PlacedBlob, Sealed};
 
 // The SHA-256 of `abc`, as FIPS 180-4 gives it.
 const ABC: &str = "ba7816bf8f01cfea414140de5dae2223b00361a396177a9cb410ff61f20015ad";
+
+// The SHA-256 of `de`, by Python.
+const DE: &str = "959a45d44e6fcf58361ed004681556fe50129f2109e817dec098c00c9e5d2578";
 
 // The pack of the one content blob `abc`: the blob, the entry (kind 0, length 3, name), and 37.
 const PACK: [u8; 44] = [
@@ -99,12 +102,12 @@ impl Trial {
         self.count(writer.is_due() == wanted);
     }
 
-    /// A writer's pack has this name. The pack's bytes and the places of its blobs, none where there is no pack.
-    fn seals(&mut self, writer: PackWriter, name: Name) -> (Bytes, Vec<Place>) {
+    /// A writer's pack has this name. The pack's bytes and its blobs with their places, none where there is no pack.
+    fn seals(&mut self, writer: PackWriter, name: Name) -> (Bytes, Vec<PlacedBlob>) {
         match sealed(writer, self) {
             Some(sealed) => {
                 self.count(sealed.name == name);
-                (sealed.bytes, sealed.places)
+                (sealed.bytes, sealed.blobs)
             }
             None => {
                 self.count(false);
@@ -170,18 +173,26 @@ fn a_pack_of_a_content_and_a_tree(rt: HostRuntime) {
     let mut writer = PackWriter::new(rt.alloc(), 1_024);
     trial.adds(&mut writer, BlobKind::Content, b"abc", Ok(()));
     trial.adds_named(&mut writer, BlobKind::Tree, b"de");
-    let first = Place {
-        pack,
-        offset: 0,
-        length: 3,
+    let first = PlacedBlob {
+        kind: BlobKind::Content,
+        name: trial.name(ABC),
+        place: Place {
+            pack,
+            offset: 0,
+            length: 3,
+        },
     };
-    let second = Place {
-        pack,
-        offset: 3,
-        length: 2,
+    let second = PlacedBlob {
+        kind: BlobKind::Tree,
+        name: trial.name(DE),
+        place: Place {
+            pack,
+            offset: 3,
+            length: 2,
+        },
     };
-    let (_, places) = trial.seals(writer, pack);
-    trial.count(places.as_slice() == [first, second].as_slice());
+    let (_, placed) = trial.seals(writer, pack);
+    trial.count(placed.as_slice() == [first, second].as_slice());
     trial.end(&rt);
 }
 

@@ -1,0 +1,8 @@
+-- Lemmas that the proofs of this crate share.
+pub mod Flagging
+pub mod Looking
+pub mod Steps
+pub mod Rewinding
+pub mod Adding
+pub mod Turning
+pub mod Reaching

@@ -1,0 +1,5 @@
+-- The definitions that the contracts of this crate cite.
+pub mod Links
+pub mod Collected
+pub mod Walks
+pub mod Laws
