@@ -11,7 +11,11 @@ mod drives;
 #[cfg(test)]
 mod fixtures;
 #[cfg(test)]
+mod forgets;
+#[cfg(test)]
 mod growth;
+#[cfg(test)]
+mod keeping;
 #[cfg(test)]
 mod stored;
 #[cfg(test)]

@@ -1,0 +1,164 @@
+-- What a forget knows while it reads, and while it deletes.
+use Rattle.std.proofs.Common.{arith, ◌≡◌, ◌<◌, ◌+◌, ◌++◌, ◌∷◌, [], ℕ, true, List, Option, Some, None, Vec, Global, length, map, take, slice_get, suc, refl, sym, ap, subst, inl, inr, ◌∙◌, Contains}
+use Rattle.std.specs.List.Sorted.{IsStrictlySortedBy}
+use Rattle.std.specs.List.{AllByRecursion}
+use Rattle.std.specs.declared.cmp.Ordering.TheVariants.{Less}
+use Rattle.std.proofs.lemmas.Option.{slice_get_within, get_or_from_slice_get}
+use Rattle.std.proofs.Math.Seq.{take-suc}
+use Rattle.repo_name.specs.Naming.{name_cmp, Before}
+use Rattle.repo_name.specs.declared.kinds.Kind.{Kind}
+use Rattle.repo_name.specs.declared.names.Name.{Name}
+use Rattle.repo_name.specs.declared.tokens.Token.{Token}
+use Rattle.repo_index.specs.Order.{names_total}
+use Rattle.repo_store.specs.Pages.{Has, Ascends}
+use Rattle.repo_wire.specs.declared.messages.Ask.{Ask}
+use Rattle.repo_wire.specs.declared.messages.Say.{Say}
+use Rattle.repo_session.specs.Askers.{Asker}
+use Rattle.repo_session.specs.Deletions.{DeleteDone, NoneDeleted}
+use Rattle.repo_session.specs.Jobs.{MayAsk}
+use Rattle.repo_session.specs.Listings.{IsListing, KnowsSnapshots}
+use Rattle.repo_session.specs.Order.{IsReading}
+use Rattle.repo_session.specs.Readings.{IsDue, KnowsRoll}
+use Rattle.repo_session.specs.declared.rolls.Roll.{Roll}
+use Rattle.repo_session.specs.Traces.{Each, Exchange, Trace, silent, names_in, IsListed}
+use Rattle.repo_session.proofs.Containing.{none_contained, first_contained, later_contained, contained_or}
+use Rattle.repo_session.proofs.Deleting.{DeletesNone, ListsNone, delete_lists_none, done_stays, listed_stays, listing_stays, names_stay, none_deleted_on}
+use Rattle.repo_session.specs.Rolls.{IsRolled}
+use Rattle.repo_session.proofs.Receiving.{each_more, is_listed}
+use Rattle.repo_prune.specs.declared.choices.Choice.{Choice}
+use Rattle.repo_prune.specs.declared.forgets.ForgetJob.{ForgetJob}
+use Rattle.repo_prune.specs.Forgetting.{IsKnown, AreChosen, ForgetAllows, forget_rule, forget_task}
+use Rattle.repo_prune.specs.ForgetStates.{Deletes, KnowsForget, KnowsReading}
+use Rattle.repo_prune.specs.Keeping.{Row}
+use Rattle.repo_prune.specs.Picking.{AreChosenOf}
+
+-- ---- reading
+
+-- a forget may read while nothing was deleted
+allows_reading : (choice : Choice) (es : Trace) (ask : Ask) → IsReading ask → NoneDeleted es → ForgetAllows choice es ask
+allows_reading choice es (Ask.List k after) h none = (h, none)
+allows_reading choice es (Ask.Get k n) h none = (h, none)
+allows_reading choice es (Ask.Range pack offset len) h none = (h, none)
+allows_reading choice es (Ask.Delete t k n) h none = absurd (h)
+allows_reading choice es (Ask.Put t k n x) h none = absurd (h)
+allows_reading choice es Ask.Ticket h none = absurd (h)
+allows_reading choice es (Ask.Lock row) h none = absurd (h)
+allows_reading choice es (Ask.Refresh t time) h none = absurd (h)
+allows_reading choice es (Ask.Unlock t) h none = absurd (h)
+allows_reading choice es Ask.Locks h none = absurd (h)
+allows_reading choice es Ask.Config h none = absurd (h)
+
+-- what is due of the reading may be asked for
+pub may_read : (f : ForgetJob) (who : Asker) (es : Trace) (ask : Ask) → NoneDeleted es → IsDue (forget_task who) (KnowsSnapshots f.snapshots) es ask → MayAsk (forget_rule f.choice) who (KnowsForget f) es ask
+may_read f who es ask none due = record { work = due.work; may = due.may; allowed = allows_reading f.choice es ask due.reads none; knows = inl (none, due.knows) }
+
+-- what a roll asks for deletes nothing
+roll_deletes_none : (roll : Roll) (ask : Ask) (es : Trace) → KnowsRoll roll ask es → DeletesNone ask
+roll_deletes_none roll (Ask.List j after) es h = λ k. refl
+roll_deletes_none roll (Ask.Get j m) es h = λ k. refl
+roll_deletes_none roll Ask.Ticket es h = absurd (h)
+roll_deletes_none roll (Ask.Lock row) es h = absurd (h)
+roll_deletes_none roll (Ask.Refresh t time) es h = absurd (h)
+roll_deletes_none roll (Ask.Unlock t) es h = absurd (h)
+roll_deletes_none roll Ask.Locks es h = absurd (h)
+roll_deletes_none roll Ask.Config es h = absurd (h)
+roll_deletes_none roll (Ask.Range pack offset len) es h = absurd (h)
+roll_deletes_none roll (Ask.Put t j m x) es h = absurd (h)
+roll_deletes_none roll (Ask.Delete t j m) es h = absurd (h)
+
+pub none_read : (roll : Roll) (ask : Ask) (say : Say) (es : Trace) → KnowsRoll roll ask es → NoneDeleted es → NoneDeleted (silent ask say ∷ es)
+none_read roll ask say es h none = none_deleted_on (silent ask say) es (roll_deletes_none roll ask es h) none
+
+-- ---- choosing
+
+has_contained : (names : List Name) (n : Name) → Has names n → Contains names n
+has_contained [] n h = elim h [ ]
+has_contained (m ∷ names) n (inl is) = subst (λ z. Contains (z ∷ names) n) is (first_contained n names)
+has_contained (m ∷ names) n (inr more) = later_contained m names n (has_contained names n more)
+
+contained_has : (names : List Name) (n : Name) → Contains names n → Has names n
+contained_has [] n h = absurd (none_contained n h)
+contained_has (m ∷ names) n h = elim (contained_or m names n h) [ inl is ↦ inl (sym is) | inr more ↦ inr (contained_has names n more) ]
+
+all_above : (n m : Name) (names : List Name) → Before n m → AllByRecursion (λ y. name_cmp m y ≡ Less) names → AllByRecursion (λ y. name_cmp n y ≡ Less) names
+all_above n m [] before h = tt
+all_above n m (x ∷ names) before h = (names_total.trans n m x before h.0, all_above n m names before h.1)
+
+-- names that ascend are sorted
+ascending_sorted : (after : Option Name) (names : List Name) → Ascends after names → IsStrictlySortedBy name_cmp names
+unfolding IsStrictlySortedBy
+ascending_sorted after [] h = tt
+ascending_sorted after (n ∷ []) h = (tt, tt)
+ascending_sorted after (n ∷ m ∷ names) h = let rest = ascending_sorted (Some n) (m ∷ names) h.1 in ((h.1.0, all_above n m names h.1.0 rest.0), rest)
+
+-- what is chosen of the names that were listed
+pub listed_chosen : (choice : Choice) (rows : List Row) (listed picked : List Name) (es : Trace) → IsKnown choice es rows → IsListed Kind.Snapshot es → listed ≡ names_in Kind.Snapshot es → AreChosenOf choice rows listed picked → AreChosen choice es picked
+listed_chosen choice rows listed picked es known is same h = record {
+  rows = rows;
+  decided = known;
+  each = λ n. (
+    λ has. let r = (h.each n).0 has in (subst (λ ns. Has ns n) same (contained_has listed n r.0), r.1),
+    λ both. (h.each n).1 (has_contained listed n (subst (λ ns. Has ns n) (sym same) both.0), both.1),
+  );
+  ascend = h.ascend (subst (λ ns. IsStrictlySortedBy name_cmp ns) (sym same) (ascending_sorted None (names_in Kind.Snapshot es) is.rise.ascend));
+}
+
+-- what is chosen by names, where the last page came
+pub page_chosen : (names : Vec Name Global) (rows : List Row) (listed : List Name) (read : ℕ) (picked : List Name) (es : Trace) → IsRolled Kind.Snapshot listed read true es → AreChosenOf (Choice.Names names) rows listed picked
+    → AreChosen (Choice.Names names) es picked
+page_chosen names rows listed read picked es h picks =
+    let is : IsListed Kind.Snapshot es = is_listed Kind.Snapshot listed read es h in
+    listed_chosen (Choice.Names names) rows listed picked es is is (sym h.paged.listed) picks
+
+known_by_listing : (choice : Choice) (es : Trace) (rows : List Row) → IsListing es rows → IsKnown choice es rows
+known_by_listing (Choice.Names names) es rows l = l.listed
+known_by_listing (Choice.Keep policy) es rows l = l
+
+-- what is chosen of the snapshots that were read
+pub read_chosen : (choice : Choice) (rows : List Row) (picked : List Name) (es : Trace) → IsListing es rows → AreChosenOf choice rows (map (λ (row : Row). row.0) rows) picked → AreChosen choice es picked
+read_chosen choice rows picked es l h = listed_chosen choice rows (map (λ (row : Row). row.0) rows) picked es (known_by_listing choice es rows l) l.listed l.names h
+
+-- ---- deleting
+
+known_stays : (choice : Choice) (e : Exchange) (es : Trace) (rows : List Row) → ListsNone Kind.Snapshot e → IsKnown choice es rows → IsKnown choice (e ∷ es) rows
+known_stays (Choice.Names names) e es rows none h = listed_stays Kind.Snapshot e es none h
+known_stays (Choice.Keep policy) e es rows none h = listing_stays e es rows none h
+
+chosen_stays : (choice : Choice) (e : Exchange) (es : Trace) (names : List Name) → ListsNone Kind.Snapshot e → AreChosen choice es names → AreChosen choice (e ∷ es) names
+chosen_stays choice e es names none h =
+    let same = names_stay Kind.Snapshot e es none in
+    record {
+      rows = h.rows;
+      decided = known_stays choice e es h.rows none h.decided;
+      each = λ n. (
+        λ has. let r = (h.each n).0 has in (subst (λ ns. Has ns n) (sym same) r.0, r.1),
+        λ both. (h.each n).1 (subst (λ ns. Has ns n) same both.0, both.1),
+      );
+      ascend = h.ascend;
+    }
+
+each_end : (P : Name → Type 0) (xs : List Name) (x : Name) → Each P xs → P x → Each P (xs ++ x ∷ [])
+each_end P [] x h p = (p, tt)
+each_end P (y ∷ xs) x h p = (h.0, each_end P xs x h.1 p)
+
+one_more : (names : List Name) (i : ℕ) (m : Name) → slice_get names i ≡ Some m → take (i + 1) names ≡ take i names ++ m ∷ []
+one_more names i m q =
+    let s : i + 1 ≡ suc i = omega arith in
+    ap (λ j. take j names) s ∙ take-suc names i m (slice_get_within names i m q) ∙ ap (λ y. take i names ++ y ∷ []) (get_or_from_slice_get names i m m q)
+
+-- one more is deleted
+pub one_deleted : (choice : Choice) (names : List Name) (i j : ℕ) (token : Token) (n : Name) (ask : Ask) (say : Say) (es : Trace) → ask ≡ Ask.Delete token Kind.Snapshot n → say ≡ Say.Done → slice_get names i ≡ Some n → (i < length names → j ≡ i + 1)
+    → Deletes choice names i es → Deletes choice names j (silent ask say ∷ es)
+one_deleted choice names i j token n ask say es asked said at more h =
+    let e : Exchange = silent (Ask.Delete token Kind.Snapshot n) Say.Done in
+    let P : Name → Type 0 = λ m. DeleteDone (e ∷ es) Kind.Snapshot m in
+    let before : Each P (take i names) = each_more (λ m. DeleteDone es Kind.Snapshot m) P (take i names) (λ m d. done_stays e es Kind.Snapshot m d) h.gone in
+    let now : Each P (take i names ++ n ∷ []) = each_end P (take i names) n before (token, inl (refl, refl)) in
+    let d : Deletes choice names (i + 1) (e ∷ es) = record { chosen = chosen_stays choice e es names (delete_lists_none Kind.Snapshot token Kind.Snapshot n Say.Done []) h.chosen; gone = subst (Each P) (sym (one_more names i n at)) now } in
+    subst (λ a. Deletes choice names j (silent a say ∷ es)) (sym asked) (subst (λ z. Deletes choice names j (silent (Ask.Delete token Kind.Snapshot n) z ∷ es)) (sym said)
+    (subst (λ m. Deletes choice names m (e ∷ es)) (sym (more (slice_get_within names i n at))) d))
+
+-- where a page is pending, it reads
+pub listing_known : (f : ForgetJob) (k : Kind) (after : Option Name) (es : Trace) → KnowsForget f (Ask.List k after) es → KnowsReading f (Ask.List k after) es
+listing_known f k after es (inl reads) = reads
+listing_known f k after es (inr deletes) = absurd (cc)

@@ -1,0 +1,5 @@
+pub mod Picks
+pub mod Choosing
+pub mod Going
+pub mod ForgetRuns
+pub mod Leaving

@@ -1,0 +1,67 @@
+-- What holds of a forget that is alone with its store, by the definitions alone.
+use Rattle.std.specs.Prelude.{◌≡◌, ◌≢◌, ◌<◌, ◌^◌, ◌-◌, ◌↔◌, [], ⊤, ℕ, List, length, map, Option, Some, None}
+use Rattle.repo_name.specs.declared.kinds.Kind.{Kind}
+use Rattle.repo_name.specs.declared.names.Name.{Name}
+use Rattle.repo_wire.specs.declared.messages.Code.{Code}
+use Rattle.repo_wire.specs.declared.messages.Request.{Request}
+use Rattle.repo_store.specs.Laws.{greatest_count}
+use Rattle.repo_store.specs.Pages.{Has}
+use Rattle.repo_store.specs.Stores.{Store}
+use Rattle.repo_tree.specs.SnapshotText.{IsSnapshotText}
+use Rattle.repo_session.specs.Alone.{IsFit, IsSent, IsSpoken, NoClash}
+use Rattle.repo_session.specs.Askers.{Asker}
+use Rattle.repo_session.specs.Clients.{IsObedient}
+use Rattle.repo_session.specs.Soundness.{IsSound}
+use Rattle.repo_session.specs.Talks.{Talk, trace_of, TalkRan, MayStep}
+use Rattle.repo_session.specs.Traces.{Each, Trace}
+use Rattle.repo_session.specs.declared.outcomes.End.{End}
+use Rattle.repo_session.specs.declared.outcomes.Outcome.{Outcome}
+use Rattle.repo_prune.specs.declared.choices.Choice.{Choice}
+use Rattle.repo_prune.specs.Forgetting.{IsChosen, forget_task, ForgetAllows, ForgetGives, ForgetConcludes}
+use Rattle.repo_prune.specs.Keeping.{Row}
+
+-- these exchanges, what is pending and the outcome are a forget's
+abbrev pub IsForget : Asker → Choice → Option Request → Option Outcome → Trace → Type 0
+IsForget who choice next outcome es = IsObedient (forget_task who) (ForgetAllows choice) (ForgetGives choice) (ForgetConcludes choice) next outcome es
+
+-- no two of the objects of a store, and of the blobs in its packs, have one name
+abbrev pub AreStoredApart : Store → Type 0
+AreStoredApart from = NoClash (IsSpoken (λ x. ⊥) from (IsSent [] None))
+
+-- one store has less than another, and less of the snapshots alone
+pub record HasFewerSnapshots (from to : Store) : Type 0 where
+  pub fewer : (k : Kind) (n : Name) (x : List ℕ) → to.objects k n ≡ Some x → from.objects k n ≡ Some x
+  pub others : (k : Kind) (n : Name) (x : List ℕ) → k ≢ Kind.Snapshot → from.objects k n ≡ Some x → to.objects k n ≡ Some x
+
+-- a forget takes snapshots alone from a store, and leaves a sound one sound: after every exchange, whatever the store says, and also where it is one
+-- step ahead
+abbrev pub ForgetKeepsSound : Type 0
+ForgetKeepsSound = (who : Asker) (choice : Choice) (from mid to : Store) (failed failing : ℕ) (talk : Talk) (next : Option Request) (outcome : Option Outcome)
+    → IsSound from.objects → AreStoredApart from → TalkRan from failed talk mid failing → MayStep mid next to → IsForget who choice next outcome (trace_of talk) → HasFewerSnapshots from to × IsSound to.objects
+
+-- a forget alone with a store in which it finds all that it wants, and whose device doesn't fail, tells at its end what it forgot, or the store had no
+-- memory
+abbrev pub IsForgottenOrMemory : Option Outcome → Type 0
+IsForgottenOrMemory None = ⊥
+IsForgottenOrMemory (Some (Outcome.Forgotten names)) = ⊤
+IsForgottenOrMemory (Some outcome) = outcome ≡ Outcome.Ended (End.Refused Code.NoMemory)
+
+abbrev pub ForgetEndsWell : Type 0
+ForgetEndsWell = (who : Asker) (choice : Choice) (from to : Store) (failed : ℕ) (talk : Talk) (outcome : Option Outcome)
+    → IsFit from → AreStoredApart from → failed < greatest_count → TalkRan from failed talk to failed → length talk < 2 ^ 64 - 1 → IsForget who choice None outcome (trace_of talk) → IsForgottenOrMemory outcome
+
+-- rows are those of a store's snapshots: each is what the store has under its name, and none is left out
+pub record AreSnapshotsOf (store : Store) (rows : List Row) : Type 0 where
+  pub each : Each (λ (row : Row). (x : List ℕ) × (store.objects Kind.Snapshot row.0 ≡ Some x) × IsSnapshotText x row.1) rows
+  pub all : (n : Name) (x : List ℕ) → store.objects Kind.Snapshot n ≡ Some x → Has (map (λ (row : Row). row.0) rows) n
+
+-- where a policy chooses, the rows are those of the store's snapshots
+abbrev pub AreChosenFrom : Choice → Store → List Row → Type 0
+AreChosenFrom (Choice.Names names) from rows = ⊤
+AreChosenFrom (Choice.Keep policy) from rows = AreSnapshotsOf from rows
+
+-- where a forget tells what it forgot, alone with its store, what stays are just the snapshots that aren't chosen: by a policy those of which a row is kept
+abbrev pub ForgetLeavesTheOthers : Type 0
+ForgetLeavesTheOthers = (who : Asker) (choice : Choice) (from to : Store) (failed failing : ℕ) (talk : Talk) (next : Option Request) (names : List Name)
+    → TalkRan from failed talk to failing → IsForget who choice next (Some (Outcome.Forgotten names)) (trace_of talk)
+    → (rows : List Row) × AreChosenFrom choice from rows × ((n : Name) (x : List ℕ) → (to.objects Kind.Snapshot n ≡ Some x) ↔ ((from.objects Kind.Snapshot n ≡ Some x) × ¬ IsChosen choice rows n))

@@ -1,0 +1,8 @@
+-- The definitions that the contracts of this crate cite.
+pub mod Keeping
+pub mod Forgetting
+pub mod Walks
+pub mod Picking
+pub mod ForgetStates
+pub mod ForgetObedience
+pub mod Laws

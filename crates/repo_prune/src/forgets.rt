@@ -1,0 +1,295 @@
+//! The forgetting of a store's snapshots.
+
+ghost use Rattle.std.specs.Prelude.{◌≡◌, ◌↔◌, [], map, Vec, Option, IfOk, OnErr, IsErr};
+ghost use Rattle.std.specs.Global.{Global};
+ghost use Rattle.repo_name.specs.declared.kinds.Kind.{Kind};
+ghost use Rattle.repo_name.specs.declared.names.Name.{Name};
+ghost use Rattle.repo_wire.specs.declared.messages.Ask.{Ask};
+ghost use Rattle.repo_session.specs.Jobs.{IsShortStep, StepsOn};
+ghost use Rattle.repo_session.specs.Listings.{KnowsAsMuch};
+ghost use Rattle.repo_session.specs.Traces.{silent};
+ghost use Rattle.repo_prune.specs.declared.choices.Choice.{Choice};
+ghost use Rattle.repo_prune.specs.Forgetting.{IsNoPolicy, forget_rule};
+ghost use Rattle.repo_prune.specs.Picking.{AreChosenOf};
+ghost use Rattle.repo_prune.specs.ForgetStates.{FitsForget, IsFresh, KnowsDelete, KnowsForget, BeginsWith, GoesOn, ReadsOn, who_of, choice_of};
+
+use crate::choices::{Choice, ForgetError};
+use crate::keeping::Policy;
+use crate::picking::{chosen, names_of};
+use repo_name::{Kind, Name, Names, Thing};
+use repo_session::{
+    Client, Emission, End, Holder, Job, Outcome, Paging, Session, SnapshotReading, SnapshotRoll,
+    Step, Who,
+};
+use repo_tree::Config;
+use repo_wire::{Ask, Reply, Request, Say};
+use std::alloc::{AllocError, Global};
+use std::mem;
+
+/// What is to be forgotten; the snapshots that were listed and read so far; and once that is known, the chosen ones, and
+/// how many of them were deleted.
+#[derive(Drop)]
+struct ForgetJob {
+    choice: Choice,
+    snapshots: SnapshotRoll,
+    chosen: Vec<Name>,
+    deleted: usize,
+    alloc: Global,
+}
+
+impl ForgetJob {
+    /// A forget of nothing so far. It takes no memory.
+    fn new(alloc: Global, choice: Choice) -> ForgetJob
+        ensures fresh { IsFresh result }
+        ensures choice { result.choice ≡ choice }
+    {
+        ForgetJob {
+            choice,
+            snapshots: SnapshotRoll::new(alloc),
+            chosen: Vec::new(alloc),
+            deleted: 0,
+            alloc,
+        }
+    }
+
+    /// The delete of the next one of the chosen, or the end. It takes no memory.
+    fn go_on(&mut self, holder: &Holder) -> Step
+        ensures goes { GoesOn self.old holder.now result self.new }
+        ensures short { IsShortStep result }
+        ensures choice { self.new.choice ≡ self.old.choice }
+    {
+        match self.chosen.as_slice().get(self.deleted) {
+            Some(name) => {
+                let name = *name;
+                name.to_bytes();
+                Step::Ask(Ask::Delete {
+                    token: holder.token(),
+                    kind: Kind::Snapshot,
+                    name,
+                })
+            }
+            None => {
+                let names = mem::replace(&mut self.chosen, Vec::new(self.alloc));
+                Step::Finish(Outcome::Forgotten(Names::of(names)))
+            }
+        }
+    }
+
+    /// Takes the reply to a delete. It takes no memory.
+    fn take_delete(&mut self, holder: &Holder, ask: &Ask, say: &Say) -> Step
+        ensures steps { StepsOn (forget_rule self.old.choice) holder.now (KnowsDelete self.old) (KnowsForget self.new) (silent ask.now say.now) result }
+        ensures short { IsShortStep result }
+        ensures choice { self.new.choice ≡ self.old.choice }
+    {
+        match say {
+            Say::Done => {
+                self.deleted = self.deleted.saturating_add(1);
+                self.go_on(holder)
+            }
+            _ => Step::Away,
+        }
+    }
+
+    /// Those of the listed snapshots that are chosen by their names. It fails for memory alone.
+    fn choose_listed(&self) -> Result<Vec<Name>, AllocError>
+        ensures chosen { IfOk result (λ picked. AreChosenOf self.now.choice self.now.snapshots.rows.items self.now.snapshots.roll.names.items picked.items) }
+    {
+        let listed = self.snapshots.roll.names.as_slice();
+        chosen(
+            self.alloc,
+            &self.choice,
+            listed,
+            self.snapshots.rows.as_slice(),
+        )
+    }
+
+    /// Those of the snapshots read that are chosen. It fails for memory alone.
+    fn choose_read(&self) -> Result<Vec<Name>, AllocError>
+        ensures chosen { IfOk result (λ picked. AreChosenOf self.now.choice self.now.snapshots.rows.items (map (λ row. row.0) self.now.snapshots.rows.items) picked.items) }
+    {
+        let rows = self.snapshots.rows.as_slice();
+        let listed = names_of(self.alloc, rows)?;
+        chosen(self.alloc, &self.choice, listed.as_slice(), rows)
+    }
+
+    /// Begins to delete the chosen ones. It takes no memory.
+    fn begin(&mut self, holder: &Holder, picked: Vec<Name>) -> Step
+        ensures begins { BeginsWith self.old holder.now picked.items result self.new }
+        ensures short { IsShortStep result }
+        ensures choice { self.new.choice ≡ self.old.choice }
+    {
+        self.chosen = picked;
+        self.deleted = 0;
+        self.go_on(holder)
+    }
+
+    /// Takes the reply to the request for a page, where names were given. It fails for memory alone, and then what was
+    /// known is known.
+    fn take_page(&mut self, holder: &Holder, say: &Say) -> Result<Step, AllocError>
+        ensures steps { IfOk result (λ step. (kind : Kind) (after : Option Name) (names : Vec Name Global) → self.old.choice ≡ Choice.Names names → ReadsOn self.old holder.now (Ask.List kind after) say.now step self.new) }
+        ensures short { IfOk result IsShortStep }
+        ensures knows { OnErr result (KnowsAsMuch self.old.snapshots self.new.snapshots) }
+        ensures choice { self.new.choice ≡ self.old.choice }
+        ensures kept { OnErr result ((self.new.chosen ≡ self.old.chosen) × (self.new.deleted ≡ self.old.deleted)) }
+    {
+        let mark = self.snapshots.mark();
+        match self.snapshots.roll.add_page(say)? {
+            Paging::Ask(next) => Ok(Step::Ask(next)),
+            Paging::Last => {
+                let Ok(picked) = self.choose_listed() else {
+                    self.snapshots.take_back(mark);
+                    return Err(AllocError);
+                };
+                Ok(self.begin(holder, picked))
+            }
+            Paging::Senseless => Ok(Step::Finish(Outcome::Ended(End::BadReply))),
+            Paging::Unwelcome => Ok(Step::Away),
+        }
+    }
+
+    /// Takes the reply to a request of the reading. It fails for memory alone, and then what was known is known.
+    fn take_reading(&mut self, holder: &Holder, ask: &Ask, say: &Say) -> Result<Step, AllocError>
+        ensures steps { IfOk result (λ step. ReadsOn self.old holder.now ask.now say.now step self.new) }
+        ensures short { IfOk result IsShortStep }
+        ensures knows { OnErr result (KnowsAsMuch self.old.snapshots self.new.snapshots) }
+        ensures choice { self.new.choice ≡ self.old.choice }
+        ensures kept { OnErr result ((self.new.chosen ≡ self.old.chosen) × (self.new.deleted ≡ self.old.deleted)) }
+    {
+        let mark = self.snapshots.mark();
+        match self.snapshots.read_on(ask, say)? {
+            SnapshotReading::Ask(next) => Ok(Step::Ask(next)),
+            SnapshotReading::All => {
+                let Ok(picked) = self.choose_read() else {
+                    self.snapshots.take_back(mark);
+                    return Err(AllocError);
+                };
+                Ok(self.begin(holder, picked))
+            }
+            SnapshotReading::Bad(name) => {
+                let end = End::BadObject(Thing::Snapshot, name);
+                Ok(Step::Finish(Outcome::Ended(end)))
+            }
+            SnapshotReading::Version => Ok(Step::Finish(Outcome::Ended(End::Version))),
+            SnapshotReading::Senseless => Ok(Step::Finish(Outcome::Ended(End::BadReply))),
+            SnapshotReading::Unwelcome => Ok(Step::Away),
+        }
+    }
+}
+
+impl Job for ForgetJob {
+    ghost use Rattle.repo_prune.specs.declared.choices.Choice.{Choice};
+    ghost use Rattle.repo_prune.specs.Forgetting.{forget_rule};
+    ghost use Rattle.repo_prune.specs.ForgetStates.{IsFresh, KnowsForget, choice_in};
+
+    ghost Handed = { Choice };
+
+    ghost handed = { choice_in };
+
+    ghost rule = { forget_rule };
+
+    ghost fresh = { IsFresh };
+
+    ghost knows = { KnowsForget };
+
+    ghost given = { λ f. [] };
+
+    fn is_exclusive(&self) -> bool {
+        true
+    }
+
+    fn opened(&mut self, _holder: &Holder, _config: &Config) -> Ask {
+        self.snapshots.page_ask()
+    }
+
+    fn reply(&mut self, holder: &Holder, ask: &Ask, say: &Say) -> Result<Step, AllocError> {
+        if let Say::Refused(_) = say {
+            return Ok(Step::Away);
+        }
+        match (ask, &self.choice) {
+            (Ask::Delete { .. }, _) => Ok(self.take_delete(holder, ask, say)),
+            (Ask::List { .. }, Choice::Names(_)) => self.take_page(holder, say),
+            _ => self.take_reading(holder, ask, say),
+        }
+    }
+
+    fn emitted(&self) -> &[Emission] {
+        &[]
+    }
+}
+
+/// A client that deletes snapshots: it lists them all, by a policy it reads them all, and then it deletes those that are
+/// chosen, one by one, ascending. Its outcome is `Forgotten`, with the names of these, where nothing went wrong.
+///
+/// Where a policy chooses, bytes that don't have their name, or aren't a snapshot's text, end it as `BadObject`, and a
+/// snapshot of a version that isn't known ends it as `Version`: nothing was deleted then.
+#[derive(Drop)]
+pub struct Forget {
+    session: Session<ForgetJob>,
+}
+
+impl Forget {
+    /// A forget whose ticket is pending. `NoPolicy` is told of a policy of which both counts are 0, and of nothing else.
+    /// It takes no memory.
+    pub fn new(alloc: Global, who: Who, choice: Choice) -> Result<Forget, ForgetError>
+        ensures fits { IfOk result (λ forget. FitsForget forget []) }
+        ensures who { IfOk result (λ forget. who_of forget ≡ who) }
+        ensures choice { IfOk result (λ forget. choice_of forget ≡ choice) }
+        ensures refused { IsErr result ↔ IsNoPolicy choice }
+    {
+        if let Choice::Keep(Policy { last: 0, daily: 0 }) = &choice {
+            return Err(ForgetError::NoPolicy);
+        }
+        Ok(Forget {
+            session: Session::new(alloc, who, ForgetJob::new(alloc, choice)),
+        })
+    }
+}
+
+impl Client for Forget {
+    ghost use Rattle.std.specs.Prelude.{⊤};
+    ghost use Rattle.repo_prune.specs.declared.choices.Choice.{Choice};
+    ghost use Rattle.repo_session.specs.Sessions.{Given, next_in, ended_in, given_by};
+    ghost use Rattle.repo_prune.specs.Forgetting.{forget_task, ForgetAllows, ForgetGives, ForgetConcludes};
+    ghost use Rattle.repo_prune.specs.ForgetStates.{FitsForget, who_of, choice_of};
+    ghost use Rattle.repo_prune.specs.ForgetObedience.{forget_obeys};
+
+    ghost Job = { Given Choice };
+
+    ghost job = { λ f. record { who = who_of f; handed = choice_of f } };
+
+    ghost task = { λ j. forget_task j.who };
+
+    ghost allows = { λ j. ForgetAllows j.handed };
+
+    ghost gives = { λ j. ForgetGives j.handed };
+
+    ghost concludes = { λ j. ForgetConcludes j.handed };
+
+    ghost calm = { λ j. ⊤ };
+
+    ghost fits = { FitsForget };
+
+    ghost next = { λ f. next_in f.session };
+
+    ghost ended = { λ f. ended_in f.session };
+
+    ghost given = { λ f. given_by (λ j. []) f.session };
+
+    ghost obedient = { forget_obeys };
+
+    fn pending(&self) -> Option<&Request> {
+        self.session.pending()
+    }
+
+    fn take(&mut self, reply: &Reply) -> Result<(), AllocError> {
+        self.session.take(reply)
+    }
+
+    fn outcome(&self) -> Option<&Outcome> {
+        self.session.outcome()
+    }
+
+    fn emitted(&self) -> &[Emission] {
+        self.session.emitted()
+    }
+}

@@ -1,0 +1,23 @@
+//! What holds of a forget that is alone with its store, by the definitions alone. Each function is empty, and its
+//! contract is the law.
+
+ghost use Rattle.repo_prune.specs.Laws.{ForgetKeepsSound, ForgetEndsWell, ForgetLeavesTheOthers};
+
+/// A forget alone with its store takes snapshots alone from it, and leaves a sound store sound: after every exchange,
+/// whatever the store answers, and also where the store is one step ahead of it. Premise: no two of the objects, and of
+/// the blobs in packs, have one name.
+pub fn forget_keeps_sound()
+    ensures { ForgetKeepsSound }
+{}
+
+/// A forget alone with a store in which it finds all that it wants, and whose device doesn't fail, ends `Forgotten`, or
+/// the store had no memory.
+pub fn forget_ends_well()
+    ensures { ForgetEndsWell }
+{}
+
+/// Where a forget alone with its store tells what it forgot, the snapshots that stay are just those that aren't chosen:
+/// by names those that weren't given, by a policy those of which it keeps a row among the snapshots of the store.
+pub fn forget_leaves_the_others()
+    ensures { ForgetLeavesTheOthers }
+{}
