@@ -26,8 +26,8 @@ use Rattle.repo_session.specs.Ends.{before_unlock, without_unlock}
 use Rattle.repo_session.specs.Order.{IsPermitted, Obeys}
 use Rattle.repo_session.specs.Rebuilding.{rebuilt}
 use Rattle.repo_session.specs.Talks.{Turn, Talk, trace_of}
-use Rattle.repo_session.specs.Traces.{Exchange, Trace, Exchanged, WasAsked, emitted_in}
-use Rattle.repo_session.proofs.Concluding.{either, was_put}
+use Rattle.repo_session.specs.Traces.{Exchange, Trace, WasAsked, emitted_in}
+use Rattle.repo_session.proofs.Concluding.{exchanged_before, was_put}
 use Rattle.repo_session.proofs.Growing.{Led, led, Shares}
 use Rattle.repo_session.proofs.Unchanging.{same_run, shares_run}
 use Rattle.repo_backup.specs.BackupStates.{backup_task}
@@ -54,11 +54,6 @@ put_then who entries (e ∷ es) token n x o (inl here) = record { older = es; ru
 put_then who entries (e ∷ es) token n x o (inr before) =
     let p = put_then who entries es token n x o.3 before in
     record { older = p.older; rule = p.rule; made = λ folder m. is_made_later entries e es folder (p.made folder m) }
-
--- an exchange before the end of the lock is one of all
-exchanged_before : (es : Trace) (ask : Ask) (say : Say) → Exchanged (before_unlock es) ask say → Exchanged es ask say
-exchanged_before [] ask say h = absurd h
-exchanged_before (e ∷ es) ask say h = ⊎_elim (λ whole. whole) (λ older. inr older) (either (λ t. Exchanged t ask say) e.ask (e ∷ es) es h)
 
 -- what a snapshot in the store was made from
 pub record IsMadeFrom (entries : List Entry) (es : Trace) (objects : Objects) (name : Name) : Type 0 where

@@ -1,5 +1,5 @@
 -- The laws of a forget that is alone with its store.
-use Rattle.std.proofs.Common.{◌≡◌, ◌⊎◌, ◌++◌, ◌∷◌, [], true, List, cond, Option, Some, None, refl, sym, ap, subst, inl, inr, ⊎_elim, ◌∙◌}
+use Rattle.std.proofs.Common.{◌≡◌, ◌⊎◌, ◌++◌, ◌∷◌, [], List, cond, Option, Some, None, refl, sym, ap, subst, inl, inr, ⊎_elim, ◌∙◌}
 use Rattle.repo_name.specs.declared.kinds.Kind.{Kind}
 use Rattle.repo_name.specs.declared.names.Name.{Name}
 use Rattle.repo_name.specs.declared.tokens.Token.{Token}
@@ -17,21 +17,17 @@ use Rattle.repo_session.specs.Ends.{before_unlock}
 use Rattle.repo_session.specs.Order.{IsPermitted, IsReading, Obeys}
 use Rattle.repo_session.specs.Soundness.{IsSound}
 use Rattle.repo_session.specs.Talks.{Talk, trace_of}
-use Rattle.repo_session.specs.Traces.{Trace, same_kind}
+use Rattle.repo_session.specs.Traces.{Trace}
 use Rattle.repo_session.proofs.Changing.{removing_snapshot_keeps_sound}
 use Rattle.repo_session.proofs.Concluding.{IsSoundThroughout, IsUndeleted, calm_of, ends_well}
 use Rattle.repo_session.proofs.Growing.{Led, led, step_moves}
+use Rattle.repo_session.proofs.Rolling.{same_self}
 use Rattle.repo_session.proofs.Spoken.{held_agree}
 use Rattle.repo_prune.specs.declared.choices.Choice.{Choice}
 use Rattle.repo_prune.specs.Forgetting.{forget_task, ForgetAllows, ForgetGives, ForgetConcludes}
 use Rattle.repo_prune.specs.Laws.{IsForgottenOrMemory, AreStoredApart, HasFewerSnapshots, ForgetKeepsSound, ForgetEndsWell}
 
 -- ---- what its rule says
-
-same_as_itself : (k : Kind) → same_kind k k ≡ true
-same_as_itself Kind.Pack = refl
-same_as_itself Kind.Index = refl
-same_as_itself Kind.Snapshot = refl
 
 none_first : {A : Type 0} (xs ys : List A) → xs ++ ys ≡ [] → xs ≡ []
 none_first [] ys h = refl
@@ -43,7 +39,7 @@ none_last (x ∷ xs) ys h = absurd (cc)
 
 no_name : (k : Kind) (token : Token) (n : Name) → name_deleted k (Ask.Delete token k n) ≡ [] → ⊥
 no_name k token n none =
-    let there : name_deleted k (Ask.Delete token k n) ≡ n ∷ [] = ap (λ b. cond b (n ∷ []) []) (same_as_itself k) in
+    let there : name_deleted k (Ask.Delete token k n) ≡ n ∷ [] = ap (λ b. cond b (n ∷ []) []) (same_self k) in
     let both : n ∷ [] ≡ [] = sym there ∙ none in
     absurd (cc)
 

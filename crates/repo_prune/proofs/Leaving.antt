@@ -1,5 +1,5 @@
 -- What a forget leaves that is alone with its store, and tells what it forgot.
-use Rattle.std.proofs.Common.{◌≡◌, ◌⊎◌, ◌++◌, ◌∷◌, [], ℕ, true, false, List, cond, map, Option, Some, refl, sym, ap, subst, inl, inr, ⊎_elim, append-nil, ◌∙◌}
+use Rattle.std.proofs.Common.{◌≡◌, ◌⊎◌, ◌++◌, ◌∷◌, [], ℕ, true, false, List, cond, map, Some, refl, sym, ap, subst, inl, inr, ⊎_elim, append-nil, ◌∙◌}
 use Rattle.std.proofs.lemmas.Option.{same_Some}
 use Rattle.repo_name.specs.declared.kinds.Kind.{Kind}
 use Rattle.repo_name.specs.declared.names.Name.{Name}
@@ -8,7 +8,7 @@ use Rattle.repo_wire.specs.declared.messages.Ask.{Ask}
 use Rattle.repo_wire.specs.declared.messages.Say.{Say}
 use Rattle.repo_tree.specs.SnapshotText.{IsSnapshotText}
 use Rattle.repo_tree.proofs.SnapshotLemmas.{snapshot_texts_one}
-use Rattle.repo_store.specs.Pages.{Has, Above}
+use Rattle.repo_store.specs.Pages.{Has}
 use Rattle.repo_store.specs.StoreMachine.{object_limit, Answers, Step}
 use Rattle.repo_store.specs.Stores.{Store}
 use Rattle.repo_session.specs.declared.outcomes.Outcome.{Outcome}
@@ -16,13 +16,14 @@ use Rattle.repo_session.specs.Askers.{Asker}
 use Rattle.repo_session.specs.Clients.{exchange}
 use Rattle.repo_session.specs.Ends.{before_unlock, without_unlock}
 use Rattle.repo_session.specs.Listings.{IsRow}
-use Rattle.repo_session.specs.Order.{IsPermitted, IsReading, Obeys, last_of}
+use Rattle.repo_session.specs.Order.{IsPermitted, IsReading, Obeys}
 use Rattle.repo_session.specs.Talks.{Talk, trace_of}
 use Rattle.repo_session.specs.Told.{AskedToDelete}
 use Rattle.repo_session.specs.Traces.{Each, Exchange, Trace, Exchanged, WasAsked, Lists, names_in, page_names, is_last_page, is_complete}
-use Rattle.repo_session.proofs.Concluding.{IsUndeleted, either}
-use Rattle.repo_session.proofs.Enumerating.{GivenOrLater, given_more}
+use Rattle.repo_session.proofs.Concluding.{IsUndeleted, exchanged_before, unasked}
+use Rattle.repo_session.proofs.Enumerating.{given_more}
 use Rattle.repo_session.proofs.Growing.{Led, led, step_moves, leaves, comes, answered, no_bytes, got_there}
+use Rattle.repo_session.proofs.PageLemmas.{page_or, GivenOrLater, given_without}
 use Rattle.repo_session.proofs.Telling.{seen_run}
 use Rattle.repo_prune.specs.declared.choices.Choice.{Choice}
 use Rattle.repo_prune.specs.Forgetting.{forget_task, ForgetAllows, ForgetGives, IsKnown, IsChosen, MayForget, IsForgotten}
@@ -35,23 +36,6 @@ abbrev pub IsStored : Store → Row → Type 0
 IsStored store row = (x : List ℕ) × (store.objects Kind.Snapshot row.0 ≡ Some x) × IsSnapshotText x row.1
 
 -- ---- exchanges that list nothing
-
--- an exchange gives names, or is a last page, only where a page was asked for
-abbrev pub IsPage : Ask → Type 0
-IsPage ask = (k : Kind) × (after : Option Name) × (ask ≡ Ask.List k after)
-
-pub page_or : (k : Kind) (ask : Ask) (say : Say) → IsPage ask ⊎ ((page_names k ask say ≡ []) × (is_last_page k ask say ≡ false))
-page_or k (Ask.List j after) say = inl (j, after, refl)
-page_or k Ask.Ticket say = inr (refl, refl)
-page_or k (Ask.Lock row) say = inr (refl, refl)
-page_or k (Ask.Refresh token time) say = inr (refl, refl)
-page_or k (Ask.Unlock token) say = inr (refl, refl)
-page_or k Ask.Locks say = inr (refl, refl)
-page_or k (Ask.Get j n) say = inr (refl, refl)
-page_or k (Ask.Range pack offset len) say = inr (refl, refl)
-page_or k (Ask.Put token j n x) say = inr (refl, refl)
-page_or k (Ask.Delete token j n) say = inr (refl, refl)
-page_or k Ask.Config say = inr (refl, refl)
 
 -- the end of the lock gives no names
 unlock_or : (ask : Ask) (whole older : Trace) → (without_unlock ask whole older ≡ whole) ⊎ ((token : Token) × (ask ≡ Ask.Unlock token) × (without_unlock ask whole older ≡ older))
@@ -76,10 +60,6 @@ complete_before : (k : Kind) (es : Trace) → is_complete k (before_unlock es) �
 complete_before k [] = refl
 complete_before k (e ∷ es) = ⊎_elim (λ same. ap (λ fs. is_complete k fs) same)
     (λ u. ap (λ fs. is_complete k fs) u.2 ∙ sym (ap (λ a. cond (is_last_page k a e.say) true (is_complete k es)) u.1)) (unlock_or e.ask (e ∷ es) es)
-
-exchanged_before : (es : Trace) (ask : Ask) (say : Say) → Exchanged (before_unlock es) ask say → Exchanged es ask say
-exchanged_before [] ask say h = absurd h
-exchanged_before (e ∷ es) ask say h = ⊎_elim (λ whole. whole) (λ older. inr older) (either (λ t. Exchanged t ask say) e.ask (e ∷ es) es h)
 
 was_deleted : (es : Trace) (token : Token) (n : Name) → IsUndeleted es → WasAsked es (Ask.Delete token Kind.Snapshot n) → ⊥
 was_deleted [] token n none h = h
@@ -109,8 +89,7 @@ module _ (who : Asker) (choice : Choice) (from : Store) where
   puts_nothing es token k n x h = (h tt).0
 
   no_put : (es : Trace) (token : Token) (k : Kind) (n : Name) (x : List ℕ) → Keeps es → WasAsked es (Ask.Put token k n x) → ⊥
-  no_put [] token k n x o h = h
-  no_put (e ∷ es) token k n x o h = ⊎_elim (λ now. puts_nothing es token k n x (subst (λ a. IsPermitted (ForgetAllows choice) es a) now o.1)) (λ before. no_put es token k n x o.3 before) h
+  no_put es token k n x o h = unasked (forget_task who) (ForgetAllows choice) (ForgetGives choice) (Ask.Put token k n x) (λ fs may. puts_nothing fs token k n x may) es o h
 
   came : (es : Trace) (old : Store) (ask : Ask) (say : Say) (new : Store) (k : Kind) (n : Name) (x : List ℕ) → IsPermitted (ForgetAllows choice) es ask → Step old ask say new → new.objects k n ≡ Some x → old.objects k n ≡ Some x
   came es old ask say new k n x permitted step h = ⊎_elim (λ was. was) (λ p. absurd (puts_nothing es p.0 k n x (subst (λ a. IsPermitted (ForgetAllows choice) es a) p.1 permitted))) (comes old ask new (step_moves old ask say new step) k n x h)
@@ -149,14 +128,10 @@ module _ (who : Asker) (choice : Choice) (from : Store) where
       let before = given talk h.0 k n x o.3 h.1 there in
       elim (page_or k e.ask e.say) [
         | inl page ↦
-            let reads : IsReading e.ask = subst IsReading (sym page.2) tt in
+            let reads : IsReading e.ask = subst IsReading (sym page.asked) tt in
             let here = stays talk h.0 k n x h.1 (undeleted es (read_first choice es e.ask o.1 reads)) there in
-            given_more (forget_task who) k es h.0 to e n x e.ask e.say refl refl o.0 h.2.step here before
-        | inr none ↦
-            let names : names_in k (e ∷ es) ≡ names_in k es = ap (λ p. names_in k es ++ p) none.0 ∙ append-nil (names_in k es) in
-            let last : is_complete k (e ∷ es) ≡ is_complete k es = ap (λ b. cond b true (is_complete k es)) none.1 in
-            ⊎_elim (λ given'. inl (subst (λ ns. Has ns n) (sym names) given'))
-            (λ later. inr (last ∙ later.0, subst (λ ns. Above (last_of ns) n) (sym names) later.1)) before
+            given_more (forget_task who) k es h.0 to e n x o.0 h.2.step here before
+        | inr none ↦ given_without k e es n none before
       ]
 
   -- the exchanges before a delete listed what all of them did
@@ -175,7 +150,7 @@ module _ (who : Asker) (choice : Choice) (from : Store) where
       (λ before.
       let d = deleted_by es n o.3 (h.0, before) in
       let quiet : page_names Kind.Snapshot e.ask e.say ≡ [] = ⊎_elim
-      (λ page. absurd (was_deleted es h.0 n (undeleted es (read_first choice es e.ask o.1 (subst IsReading (sym page.2) tt))) before)) (λ none. none.0) (page_or Kind.Snapshot e.ask e.say) in
+      (λ page. absurd (was_deleted es h.0 n (undeleted es (read_first choice es e.ask o.1 (subst IsReading (sym page.asked) tt))) before)) (λ none. none.0) (page_or Kind.Snapshot e.ask e.say) in
       record { then = d.then; rule = d.rule; names = d.names ∙ sym (ap (λ p. names_in Kind.Snapshot es ++ p) quiet ∙ append-nil (names_in Kind.Snapshot es)); among = λ ask say g. inr (d.among ask say g) }) h.1
 
   -- ---- the listing, and what stays

@@ -26,13 +26,15 @@ use Rattle.repo_session.specs.Ends.{before_unlock}
 use Rattle.repo_session.specs.Order.{Obeys}
 use Rattle.repo_session.specs.Soundness.{IsHeld, IsSound}
 use Rattle.repo_session.specs.Talks.{Talk, trace_of}
-use Rattle.repo_session.specs.Traces.{Trace, ReadFact}
+use Rattle.repo_session.specs.Told.{AskedToPut}
+use Rattle.repo_session.specs.Traces.{Trace, Lists, ReadFact}
 use Rattle.repo_session.proofs.Causes.{range_length}
 use Rattle.repo_session.proofs.Concluding.{calm_of, either, ends_well, reads_first}
 use Rattle.repo_session.proofs.Descending.{under_grows, needed_grows, broken_grows, root_spells_at, file_spelled, needed_there, unbroken}
-use Rattle.repo_session.proofs.Enumerating.{all_listed}
+use Rattle.repo_session.proofs.Enumerating.{listed_or_put}
 use Rattle.repo_session.proofs.Growing.{Led, Shares, led}
-use Rattle.repo_session.proofs.Unchanging.{OnlyReads, same_run, same_after, same_throughout, shares_run, sound_throughout}
+use Rattle.repo_session.proofs.Telling.{seen_run}
+use Rattle.repo_session.proofs.Unchanging.{OnlyReads, same_run, same_after, puts_nothing, shares_run, sound_throughout}
 use Rattle.repo_session.proofs.Wholeness.{given_held}
 use Rattle.repo_session.proofs.Spoken.{held_agree}
 use Rattle.repo_restore.specs.Laws.{RestoreChangesNothing, ListChangesNothing, IsListedOrMemory, ListEndsWell, IsCompleteOrMemory, RestoreEndsWell}
@@ -160,8 +162,10 @@ module _ (w : Wish) (from : Store) (sound : IsSound from.objects) (agree : Agree
       let s = root_spelled u.version u.root u.found in
       let b = needed_there u.version B agree u.root s.0 u.kind name s.1 (needed_grows u.version (Received (trace_of talk)) B received_held u.root u.kind name u.needed) in
       let held = b.among in
-      let has = same_throughout (restore_task w) (RestoreAllows w.snapshot) (RestoreGives w.snapshot) (restore_never w.snapshot) from talk o in
-      let listed = all_listed (restore_task w) (RestoreAllows w.snapshot) (RestoreGives w.snapshot) Kind.Index from from.objects talk to has o h u.indexes.listed.complete held.index held.text held.listed in
+      let now : to.objects Kind.Index held.index ≡ Some held.text = ap (λ (s : Objects). s Kind.Index held.index) same ∙ held.listed in
+      let listed : Lists (trace_of talk) Kind.Index held.index = ⊎_elim (λ l. l)
+      (λ put. absurd (puts_nothing (restore_task w) (RestoreAllows w.snapshot) (RestoreGives w.snapshot) (restore_never w.snapshot) (trace_of talk) Kind.Index held.index o put))
+      (listed_or_put (AskedToPut (trace_of talk)) (restore_task w) (RestoreAllows w.snapshot) (RestoreGives w.snapshot) Kind.Index held.index (trace_of talk) to.objects held.text o (seen_run from talk to h) u.indexes.listed now) in
       let read = u.indexes.each held.index listed in
       let one : held.text ≡ read.0 = same_Some held.text read.0 (sym held.listed ∙ first Kind.Index held.index read.0 (shares.got Kind.Index held.index read.0 read.1.0)) in
       let fact : ReadFact (trace_of talk) held.fact = record { index = held.index; text = read.0; read = read.1; says = subst (λ (x : List ℕ). Says x held.fact) one held.says } in

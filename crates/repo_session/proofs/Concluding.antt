@@ -31,7 +31,7 @@ use Rattle.repo_session.specs.Ends.{IsCause, Concludes, before_unlock, without_u
 use Rattle.repo_session.specs.Order.{Task, May, MayGet, MayRange, IsPermitted, IsReading, Obeys, locked}
 use Rattle.repo_session.specs.Soundness.{IsSound}
 use Rattle.repo_session.specs.Talks.{Turn, Talk, trace_of, taken_in}
-use Rattle.repo_session.specs.Traces.{Each, Exchange, Trace, WasAsked}
+use Rattle.repo_session.specs.Traces.{Each, Exchange, Trace, Exchanged, WasAsked}
 use Rattle.repo_session.proofs.Calm.{Stands, IsThere, right_step, stands_more}
 use Rattle.repo_session.proofs.Causes.{only_memory}
 use Rattle.repo_session.proofs.Containing.{flat_contains}
@@ -51,6 +51,17 @@ either P (Ask.Range p offset len) whole older h = inl h
 either P (Ask.Put token k n x) whole older h = inl h
 either P (Ask.Delete token k n) whole older h = inl h
 either P Ask.Config whole older h = inl h
+
+-- an exchange before the end of the lock is one of all
+pub exchanged_before : (es : Trace) (ask : Ask) (say : Say) → Exchanged (before_unlock es) ask say → Exchanged es ask say
+exchanged_before [] ask say h = absurd h
+exchanged_before (e ∷ es) ask say h = ⊎_elim (λ whole. whole) (λ older. inr older) (either (λ t. Exchanged t ask say) e.ask (e ∷ es) es h)
+
+-- what a job's rule never permits was not asked
+pub unasked : (task : Task) (Allows : Trace → Ask → Type 0) (Gives : Trace → Exchange → Type 0) (ask : Ask) → ((es : Trace) → IsPermitted Allows es ask → ⊥) → (es : Trace) → Obeys task Allows Gives es → WasAsked es ask → ⊥
+unasked task Allows Gives ask never [] o h = h
+unasked task Allows Gives ask never (e ∷ es) o (inl now) = never es (subst (λ a. IsPermitted Allows es a) now o.1)
+unasked task Allows Gives ask never (e ∷ es) o (inr before) = unasked task Allows Gives ask never es o.3 before
 
 -- the job's rule allows no delete
 abbrev pub DeletesNothing : (Trace → Ask → Type 0) → Type 0

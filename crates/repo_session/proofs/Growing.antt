@@ -1,5 +1,5 @@
 -- What a client alone and its store have in common, where nothing is deleted.
-use Rattle.std.proofs.Common.{◌≡◌, ◌≢◌, ◌⊎◌, ◌≤◌, ◌++◌, ◌∷◌, [], ℕ, Bool, true, false, List, length, cond, Option, Some, None, refl, sym, ap, subst, inl, inr, ⊎_elim, ◌∙◌}
+use Rattle.std.proofs.Common.{◌≡◌, ◌≢◌, ◌⊎◌, ◌≤◌, ◌++◌, ◌∷◌, [], ℕ, Bool, List, length, Option, Some, None, refl, sym, ap, subst, inl, inr, ⊎_elim, ◌∙◌}
 use Rattle.repo_name.specs.Naming as naming
 use Rattle.repo_name.specs.Ranges.{range}
 use Rattle.repo_name.specs.declared.kinds.Kind.{Kind}
@@ -10,16 +10,17 @@ use Rattle.repo_wire.specs.declared.messages.Code.{Code}
 use Rattle.repo_wire.specs.declared.messages.Reply.{Reply}
 use Rattle.repo_wire.specs.declared.messages.Request.{Request}
 use Rattle.repo_wire.specs.declared.messages.Say.{Say}
+use Rattle.repo_wire.specs.Messages.{page_limit}
 use Rattle.repo_store.specs.declared.shelves.Slice.{Slice}
-use Rattle.repo_store.specs.Pages.{Has}
+use Rattle.repo_store.specs.Pages.{Has, IsPage}
 use Rattle.repo_store.specs.Runs.{Replies, Run}
 use Rattle.repo_store.specs.Slices.{IsSlice}
 use Rattle.repo_store.specs.StoreMachine.{object_limit, Answers, Step, GetSays, RangeAnswer, PutAnswer, DeleteAnswer, SliceSays}
 use Rattle.repo_store.specs.Stores.{Store, Objects, Added, Removed}
 use Rattle.repo_session.specs.declared.emissions.Emission.{Emission}
 use Rattle.repo_session.specs.Talks.{Talk, sent_in, taken_in}
-use Rattle.repo_session.specs.Traces.{Trace, Exchanged, WasAsked, Lists, names_in, page_names, same_kind, giving}
-use Rattle.repo_session.proofs.Receiving.{kinds_same}
+use Rattle.repo_session.specs.Traces.{Trace, Exchanged, WasAsked, Lists, names_in, page_names, giving}
+use Rattle.repo_session.proofs.PageLemmas.{page_or, page_gives}
 
 -- ---- a run, step by step
 
@@ -251,43 +252,22 @@ has_either [] ms n h = inr h
 has_either (m ∷ ns) ms n (inl h) = inl (inl h)
 has_either (m ∷ ns) ms n (inr h) = ⊎_elim (λ g. inl (inr g)) inr (has_either ns ms n h)
 
--- a page that has the name
-pub record OnPage (k : Kind) (n : Name) (ask : Ask) (say : Say) : Type 0 where
-  pub after : Option Name
-  pub more : Bool
-  pub names : List Name
-  pub asked : ask ≡ Ask.List k after
-  pub said : say ≡ Say.Names more names
-  pub has : Has names n
+-- a page that was given is one of the store
+pub page_stood : (old : Store) (ask : Ask) (say : Say) (new : Store) (k : Kind) (after : Option Name) (more : Bool) (names : List Name) → ask ≡ Ask.List k after → say ≡ Say.Names more names → Step old ask say new
+    → IsPage old.objects k after page_limit names more
+page_stood old ask say new k after more names q s step =
+    let a : Answers old (Ask.List k after) say new = subst (λ b. Answers old b say new) q (answered old ask say new (no_names say more names s) step) in
+    let told : Say.Names a.1 a.0 ≡ Say.Names more names = sym a.3 ∙ s in
+    let mores : a.1 ≡ more = cc in
+    let same : a.0 ≡ names = cc in
+    subst (λ ns. IsPage old.objects k after page_limit ns more) same (subst (λ b. IsPage old.objects k after page_limit a.0 b) mores a.2)
 
-page_cond : (k j : Kind) (after : Option Name) (more : Bool) (names : List Name) (n : Name) (b : Bool) → same_kind j k ≡ b → Has (cond b names []) n → OnPage k n (Ask.List j after) (Say.Names more names)
-page_cond k j after more names n true s h = record { after = after; more = more; names = names; asked = ap (λ i. Ask.List i after) (kinds_same j k s); said = refl; has = h }
-page_cond k j after more names n false s h = absurd h
-
-pub on_page : (k : Kind) (n : Name) (ask : Ask) (say : Say) → Has (page_names k ask say) n → OnPage k n ask say
-on_page k n (Ask.List j after) (Say.Names more names) h = page_cond k j after more names n (same_kind j k) refl h
-on_page k n (Ask.List j after) (Say.Token token) h = absurd h
-on_page k n (Ask.List j after) Say.Done h = absurd h
-on_page k n (Ask.List j after) (Say.Bytes x) h = absurd h
-on_page k n (Ask.List j after) (Say.LockList rows) h = absurd h
-on_page k n (Ask.List j after) (Say.Refused code) h = absurd h
-on_page k n Ask.Ticket say h = absurd h
-on_page k n (Ask.Lock row) say h = absurd h
-on_page k n (Ask.Refresh token time) say h = absurd h
-on_page k n (Ask.Unlock token) say h = absurd h
-on_page k n Ask.Locks say h = absurd h
-on_page k n (Ask.Get j m) say h = absurd h
-on_page k n (Ask.Range pack offset len) say h = absurd h
-on_page k n (Ask.Put token j m x) say h = absurd h
-on_page k n (Ask.Delete token j m) say h = absurd h
-on_page k n Ask.Config say h = absurd h
-
-pub page_there : (old : Store) (ask : Ask) (say : Say) (new : Store) (k : Kind) (n : Name) → Step old ask say new → OnPage k n ask say → (x : List ℕ) × (old.objects k n ≡ Some x)
-page_there old ask say new k n step p =
-    let a : Answers old ask say new = answered old ask say new (no_names say p.more p.names p.said) step in
-    let b : Answers old (Ask.List k p.after) say new = subst (λ q. Answers old q say new) p.asked a in
-    let same : p.names ≡ b.0 = cc (p.said, b.3) in
-    b.2.there n (subst (λ ns. Has ns n) same p.has)
+-- and each name that it has is there
+pub page_there : (old : Store) (ask : Ask) (say : Say) (new : Store) (k : Kind) (n : Name) → Step old ask say new → Has (page_names k ask say) n → (x : List ℕ) × (old.objects k n ≡ Some x)
+page_there old ask say new k n step has = elim (page_or k ask say) [
+  | inl p ↦ (page_stood old ask say new k p.after p.more p.names p.asked p.said step).there n (subst (λ ns. Has ns n) (page_gives k ask say p) has)
+  | inr none ↦ absurd (subst (λ ns. Has ns n) none.0 has)
+]
 
 module _ (from old new : Store) (es : Trace) (ask : Ask) (say : Say) (emitted : List Emission) (plain : IsNoDelete ask) (step : Step old ask say new) (h : Shares from es old) where
   goes : Goes old ask new
@@ -314,7 +294,7 @@ module _ (from old new : Store) (es : Trace) (ask : Ask) (say : Say) (emitted : 
 
   on_list : (k : Kind) (n : Name) → Has (page_names k ask say) n → (x : List ℕ) × (new.objects k n ≡ Some x)
   on_list k n g =
-      let p = page_there old ask say new k n step (on_page k n ask say g) in
+      let p = page_there old ask say new k n step g in
       (p.0, stays old ask new goes k n p.0 p.1)
 
   pub shares_more : Shares from (giving ask say emitted ∷ es) new

@@ -6,6 +6,7 @@ pub mod Holding
 pub mod Rolling
 pub mod Receiving
 pub mod Cataloguing
+pub mod PageLemmas
 pub mod Growing
 pub mod Descending
 pub mod Reaching

@@ -1,5 +1,5 @@
 -- What its exchanges tell a client that is alone with its store.
-use Rattle.std.proofs.Common.{◌≡◌, ◌⊎◌, ◌∷◌, [], ℕ, Bool, true, List, Option, Some, sym, ap, subst, inl, inr, ⊎_elim, ◌∙◌}
+use Rattle.std.proofs.Common.{◌≡◌, ◌⊎◌, ◌∷◌, [], ℕ, List, Some, sym, subst, inl, inr, ⊎_elim, ◌∙◌}
 use Rattle.std.proofs.lemmas.Option.{none-some}
 use Rattle.repo_name.specs.declared.kinds.Kind.{Kind}
 use Rattle.repo_name.specs.declared.names.Name.{Name}
@@ -7,15 +7,13 @@ use Rattle.repo_name.specs.declared.tokens.Token.{Token}
 use Rattle.repo_wire.specs.declared.messages.Ask.{Ask}
 use Rattle.repo_wire.specs.declared.messages.Code.{Code}
 use Rattle.repo_wire.specs.declared.messages.Say.{Say}
-use Rattle.repo_wire.specs.Messages.{page_limit}
-use Rattle.repo_store.specs.Pages.{Has, Above, Beyond, IsPage}
 use Rattle.repo_store.specs.StoreMachine.{object_limit, Answers, Step, DeleteAnswer}
-use Rattle.repo_store.specs.Stores.{Store, Objects}
+use Rattle.repo_store.specs.Stores.{Store}
 use Rattle.repo_session.specs.declared.emissions.Emission.{Emission}
 use Rattle.repo_session.specs.Talks.{Talk, trace_of}
 use Rattle.repo_session.specs.Told.{AskedToDelete, AskedToPut, Told, Seen}
-use Rattle.repo_session.specs.Traces.{Trace, Exchanged, giving}
-use Rattle.repo_session.proofs.Growing.{Led, Moves, step_moves, leaves, comes, answered, no_done, no_bytes, no_names, put_there, got_there}
+use Rattle.repo_session.specs.Traces.{Trace, giving}
+use Rattle.repo_session.proofs.Growing.{Led, Moves, step_moves, leaves, comes, answered, no_done, no_bytes, put_there, got_there, page_stood, Shares}
 
 gone : (old : Store) (t : Token) (k : Kind) (n : Name) (say : Say) (new : Store) (y : List ℕ) → say ≡ Say.Done → DeleteAnswer old t k n say new → new.objects k n ≡ Some y → ⊥
 gone old t k n say new y s (inl h) there = no_done say s Code.Dead h.1
@@ -56,22 +54,13 @@ module _ (old new : Store) (es : Trace) (ask : Ask) (say : Say) (emitted : List 
   gone_now : (t : Token) (k : Kind) (n : Name) (y : List ℕ) → ask ≡ Ask.Delete t k n → say ≡ Say.Done → new.objects k n ≡ Some y → ⊥
   gone_now t k n y q s there = gone old t k n say new y s (subst (λ a. Answers old a say new) q (answered old ask say new (no_done say s) step)) there
 
-  page_now : (k : Kind) (after : Option Name) (more : Bool) (names : List Name) (n : Name) (y : List ℕ) → ask ≡ Ask.List k after → say ≡ Say.Names more names → new.objects k n ≡ Some y → Above after n
-      → Has names n ⊎ ((more ≡ true) × Beyond names n)
-  page_now k after more names n y q s there above =
-      let a : Answers old (Ask.List k after) say new = subst (λ a. Answers old a say new) q (answered old ask say new (no_names say more names s) step) in
-      let told : Say.Names a.1 a.0 ≡ Say.Names more names = sym a.3 ∙ s in
-      let mores : a.1 ≡ more = cc in
-      let same : a.0 ≡ names = cc in
-      let page : IsPage old.objects k after page_limit names more = subst (λ ns. IsPage old.objects k after page_limit ns more) same (subst (λ b. IsPage old.objects k after page_limit a.0 b) mores a.2) in
-      page.least n y (ap (λ (o : Store). o.objects k n) (sym a.4) ∙ there) above
-
   pub seen_more : Seen (AskedToPut es) es old.objects → Seen (AskedToPut (giving ask say emitted ∷ es)) (giving ask say emitted ∷ es) new.objects
   seen_more h = record {
     deleted = λ t k n y g there. ⊎_elim (λ now. absurd (gone_now t k n y now.0 now.1 there))
         (λ before. ⊎_elim (λ was. (let p = h.deleted t k n y before was in (p.0, p.1, inr p.2))) (λ p. p) (came k n y there)) g;
-    paged = λ k after more names n y g there above. ⊎_elim (λ now. inl (page_now k after more names n y now.0 now.1 there above))
-        (λ before. ⊎_elim (λ was. ⊎_elim inl (λ p. inr (p.0, p.1, inr p.2)) (h.paged k after more names n y before was above)) inr (came k n y there)) g;
+    paged = λ k after more names n y g there above. ⊎_elim
+        (λ was. ⊎_elim (λ now. inl ((page_stood old ask say new k after more names now.0 now.1 step).least n y was above)) (λ before. ⊎_elim inl (λ p. inr (p.0, p.1, inr p.2)) (h.paged k after more names n y before was above)) g)
+        inr (came k n y there);
   }
 
 -- after some turns
@@ -82,3 +71,7 @@ told_run from (turn ∷ talk) to h = told_more h.0 to (trace_of talk) turn.reque
 pub seen_run : (from : Store) (talk : Talk) (to : Store) → Led from talk to → Seen (AskedToPut (trace_of talk)) (trace_of talk) to.objects
 seen_run from [] to h = record { deleted = λ t k n y g there. absurd g; paged = λ k after more names n y g there above. absurd g }
 seen_run from (turn ∷ talk) to h = seen_more h.0 to (trace_of talk) turn.request.ask turn.reply.say turn.emitted h.2.step (seen_run from talk h.0 h.1)
+
+-- where nothing is deleted
+pub shares_tell : (from : Store) (es : Trace) (store : Store) → Shares from es store → Told (λ k n. ⊥) es store.objects
+shares_tell from es store shares = record { got = λ k n x h. inl (shares.got k n x h); put = λ t k n x h. inl (shares.put t k n x h) }

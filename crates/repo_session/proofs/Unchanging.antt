@@ -1,5 +1,7 @@
 -- A job that may neither put nor delete, alone with its store.
 use Rattle.std.proofs.Common.{◌≡◌, ◌∷◌, [], Option, Some, None, refl, sym, ap, subst, inl, inr, ⊎_elim, ◌∙◌}
+use Rattle.repo_name.specs.declared.kinds.Kind.{Kind}
+use Rattle.repo_name.specs.declared.names.Name.{Name}
 use Rattle.repo_wire.specs.declared.messages.Ask.{Ask}
 use Rattle.repo_wire.specs.declared.messages.Request.{Request}
 use Rattle.repo_wire.specs.declared.messages.Say.{Say}
@@ -10,9 +12,9 @@ use Rattle.repo_session.specs.Clients.{IsObedient}
 use Rattle.repo_session.specs.Order.{Task, IsReading, IsPermitted, Obeys}
 use Rattle.repo_session.specs.Soundness.{IsSound}
 use Rattle.repo_session.specs.Talks.{Talk, trace_of, MayStep}
+use Rattle.repo_session.specs.Told.{AskedToPut}
 use Rattle.repo_session.specs.Traces.{Exchange, Trace}
-use Rattle.repo_session.proofs.Concluding.{IsSoundThroughout}
-use Rattle.repo_session.proofs.Enumerating.{HasThroughout}
+use Rattle.repo_session.proofs.Concluding.{IsSoundThroughout, unasked}
 use Rattle.repo_session.proofs.Growing.{Led, IsNoDelete, Shares, step_goes, shares_nothing, shares_more}
 
 -- the job's rule allows what reads alone
@@ -40,9 +42,8 @@ module _ (task : Task) (Allows : Trace → Ask → Type 0) (Gives : Trace → Ex
       ⊎_elim (λ (same : to ≡ mid). ap (λ (s : Store). s.objects) same ∙ same_run from talk mid is.obeys h)
       (λ step. same_step (trace_of talk) mid request.ask step.0.say to (is.pending request refl).permitted step.1.step ∙ same_run from talk mid is.obeys h) may
 
-  pub same_throughout : (from : Store) (talk : Talk) → Obeys task Allows Gives (trace_of talk) → HasThroughout from talk from.objects
-  same_throughout from [] o = refl
-  same_throughout from (turn ∷ talk) o = (same_throughout from talk o.3, λ mid h. same_run from talk mid o.3 h)
+  pub puts_nothing : (es : Trace) (k : Kind) (n : Name) → Obeys task Allows Gives es → AskedToPut es k n → ⊥
+  puts_nothing es k n o put = unasked task Allows Gives (Ask.Put put.0 k n put.1) (λ fs may. never fs (Ask.Put put.0 k n put.1) (may tt)) es o put.2
 
   pub sound_throughout : (from : Store) (talk : Talk) → IsSound from.objects → Obeys task Allows Gives (trace_of talk) → IsSoundThroughout from talk
   sound_throughout from [] sound o = sound

@@ -1,11 +1,16 @@
 //! What holds of traces and of stores, by their definitions alone. Each function is empty, and its contract is the law.
 
-ghost use Rattle.repo_session.specs.Changes.{AddingKeepsSound, RemovingSnapshotKeepsSound, RemovingIndexKeepsSound, RemovingPackKeepsSound};
+ghost use Rattle.repo_session.specs.Changes.{SpelledIsSound, AddingKeepsSound, RemovingSnapshotKeepsSound, RemovingIndexKeepsSound, RemovingPackKeepsSound};
 ghost use Rattle.repo_session.specs.Laws.{OrderCanBeMet};
 
 /// A job can keep the order to its end: one that opens, lists a kind and ends its lock does.
 pub fn order_can_be_met()
     ensures { OrderCanBeMet }
+{}
+
+/// A snapshot whose tree spells some entries in the blobs held is a sound one, where no two blobs held have one name.
+pub fn spelled_snapshot_is_sound()
+    ensures { SpelledIsSound }
 {}
 
 /// A true pack, an index whose packs are there with exactly its blobs, or a snapshot whose tree is whole and spells

@@ -55,7 +55,7 @@ pub use ends::snapshot_end;
 pub use jobs::{Job, Step};
 pub use laws::{
     adding_keeps_sound, order_can_be_met, removing_index_keeps_sound, removing_pack_keeps_sound,
-    removing_snapshot_keeps_sound,
+    removing_snapshot_keeps_sound, spelled_snapshot_is_sound,
 };
 pub use letters::Letter;
 pub use outcomes::{CheckFault, CheckFaults, End, FaultKind, Outcome, Snapshots};

@@ -3,3 +3,5 @@ pub mod BlobLemmas
 pub mod PutLemmas
 pub mod Listings
 pub mod Writings
+pub mod Keeping
+pub mod Replacing

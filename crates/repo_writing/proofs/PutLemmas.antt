@@ -1,6 +1,7 @@
 -- Objects that were put, and what one more put makes of a trace.
 use Rattle.std.proofs.Common.{◌≡◌, ◌↔◌, ◌++◌, ◌∷◌, [], ℕ, zero, suc, true, false, List, map, cond, slice_get, Option, Some, None, sym, ap, subst, inl, inr, ◌∙◌, Contains}
 use Rattle.std.proofs.lemmas.List.{append-nil}
+use Rattle.std.proofs.lemmas.List.Elements.{Contains-append_left, Contains-append_right}
 use Rattle.repo_name.specs.declared.kinds.Kind.{Kind}
 use Rattle.repo_name.specs.declared.names.Name.{Name}
 use Rattle.repo_name.specs.declared.tokens.Token.{Token}
@@ -9,7 +10,7 @@ use Rattle.repo_wire.specs.declared.messages.Say.{Say}
 use Rattle.repo_index.specs.declared.facts.Fact.{Fact}
 use Rattle.repo_store.specs.Pages.{Has, Ascends}
 use Rattle.repo_session.specs.Catalogs.{AreIndexed}
-use Rattle.repo_session.specs.Traces.{Each, Exchange, Trace, Exchanged, Object, page_names, is_last_page, names_in, is_complete, object_put, objects_put, ReadFact}
+use Rattle.repo_session.specs.Traces.{Each, Exchange, Trace, Exchanged, WasAsked, Object, page_names, is_last_page, names_in, is_complete, object_put, objects_put, ReadFact}
 use Rattle.repo_session.proofs.Cataloguing.{fact_stays, fact_before}
 pub use Rattle.repo_session.proofs.Containing.{none_contained, first_contained, later_contained, contained_or, flat_contains, contains_flat}
 use Rattle.repo_session.proofs.Rolling.{same_self}
@@ -57,6 +58,14 @@ pub objects_put_more : (k : Kind) (e : Exchange) (es : Trace) (token : Token) (n
 objects_put_more k e es token n x q =
     let o : Object = record { name = n; bytes = x } in
     ap (λ a. objects_put k es ++ object_put k a) q ∙ ap (λ b. objects_put k es ++ cond b (o ∷ []) []) (same_self k)
+
+-- what was asked to be put is among them
+pub asked_put : (es : Trace) (token : Token) (k : Kind) (n : Name) (x : List ℕ) → WasAsked es (Ask.Put token k n x) → Contains (objects_put k es) (record { name = n; bytes = x })
+asked_put [] token k n x h = absurd h
+asked_put (e ∷ es) token k n x (inl now) =
+    let o : Object = record { name = n; bytes = x } in
+    subst (λ os. Contains os o) (sym (objects_put_more k e es token n x now)) (Contains-append_right (objects_put k es) (o ∷ []) o (first_contained o []))
+asked_put (e ∷ es) token k n x (inr before) = Contains-append_left (objects_put k es) (object_put k e.ask) (record { name = n; bytes = x }) (asked_put es token k n x before)
 
 -- ---- what stays with one exchange more
 

@@ -3,3 +3,4 @@ pub mod Blobs
 pub mod Putting
 pub mod Sealing
 pub mod Writing
+pub mod Laws

@@ -1,5 +1,5 @@
 -- Packs and indexes that were put.
-use Rattle.std.specs.Prelude.{◌≡◌, ◌-◌, ◌^◌, ℕ, List, length, map, min, Contains}
+use Rattle.std.specs.Prelude.{◌≡◌, ◌↔◌, ◌-◌, ◌^◌, ℕ, List, length, map, min, Contains}
 use Rattle.std.specs.List.{flat_map, sum_by}
 use Rattle.repo_name.specs.declared.kinds.BlobKind.{BlobKind}
 use Rattle.repo_name.specs.declared.kinds.Kind.{Kind}
@@ -12,7 +12,7 @@ use Rattle.repo_index.specs.declared.facts.Fact.{Fact}
 use Rattle.repo_index.specs.declared.facts.PackFacts.{PackFacts}
 use Rattle.repo_index.specs.IndexText.{IsIndexText, Says}
 use Rattle.repo_index.specs.Exactness.{AreFactsAt}
-use Rattle.repo_session.specs.Traces.{Each, Trace, Exchanged, Object, objects_put}
+use Rattle.repo_session.specs.Traces.{Each, Trace, Exchanged, Object, objects_put, ReadFact}
 use Rattle.repo_writing.specs.Blobs.{HasItem}
 
 -- the object was put, and that is done
@@ -48,6 +48,10 @@ pub record IsListedPack (es : Trace) (listed : PackFacts) : Type 0 where
   pub put : PutDone es Kind.Pack listed.pack bytes
   pub holds : IsTruePack bytes items
   pub exact : AreFactsAt listed.pack items listed.facts
+
+-- a pack that an index lists is kept: its facts are exactly those that the indexes read give of it
+abbrev pub IsKeptPack : Trace → PackFacts → Type 0
+IsKeptPack es listed = (fact : Fact) → Contains listed.facts fact ↔ (ReadFact es fact × (fact.place.pack ≡ listed.pack))
 
 -- an index of packs that may be listed: it reads, and each pack that it lists is one of these
 pub record IsIndexOf (MayList : PackFacts → Type 0) (x : List ℕ) : Type 0 where

@@ -9,15 +9,18 @@
 //! an index lists what waited. Not promised: which blobs a job adds, and when it puts what; that is the job's own rule.
 //!
 //! The definitions stand in `specs/`: `Blobs` (blobs by kind and name), `Putting` (what was put, and is done; what an
-//! index may list), `Sealing` (a sealed pack, and its listing), `Writing` (what is known of the trace).
+//! index may list), `Sealing` (a sealed pack, and its listing), `Writing` (what is known of the trace), `Laws` (what may
+//! be added to a sound store).
 #![tactic(auto)]
 
 mod counts;
+mod laws;
 mod packers;
 mod puts;
 mod targets;
 
 pub use counts::Counts;
+pub use laws::{given_snapshot_is_sound, listed_index_is_sound};
 pub use packers::Packer;
 pub use puts::{is_full, put_index, put_pack, put_text};
 pub use targets::Target;
