@@ -1,10 +1,13 @@
 #!/usr/bin/env python3
-"""Prints what `bench` has to print for random bytes, a backup and a restore of them, by another program's SHA-256 and JSON:
-a check on the crate's file stdout. Usage: bench/digests.py"""
+"""Prints what `bench` has to print for random bytes, a backup and a restore of them, and for snapshots and those of them that a
+policy keeps, by another program's SHA-256 and JSON: a check on the crate's file stdout. Usage: bench/digests.py"""
 import hashlib
 import json
 
 SIZE = 1000
+HOSTS = ["desktop", "laptop", "mail", "phone", "server"]
+SPAN, DAY = 100_000_000, 86_400
+LAST, DAILY = 10, 30
 
 
 def random_bytes(size):
@@ -23,6 +26,24 @@ def text(value):
     return json.dumps(value, separators=(",", ":"), sort_keys=True).encode()
 
 
+def rows(count):
+    """Snapshots: each one's host, time and name."""
+    for number in range(count):
+        digest = hashlib.sha256(number.to_bytes(8, "big")).digest()
+        yield HOSTS[digest[0] % 5], int.from_bytes(digest[1:5], "big") % SPAN, digest
+
+
+def kept(all_rows):
+    """The names of the last ones of each host, and of the last one of each of its last days."""
+    names = set()
+    for host in HOSTS:
+        own = sorted(row[1:] for row in all_rows if row[0] == host)
+        names |= {name for _, name in own[-LAST:]}
+        last_of = {time // DAY: name for time, name in own}
+        names |= {last_of[day] for day in sorted(last_of)[-DAILY:]}
+    return b"".join(sorted(names))
+
+
 def main():
     content = random_bytes(SIZE)
     file = {"content": [name(content)], "name": "random", "size": SIZE, "type": "file"}
@@ -30,6 +51,9 @@ def main():
     print(f"random {SIZE} {name(content[-64:])}")
     print(f"backup {SIZE} {name(text(snapshot))}")
     print(f"restore {SIZE} {name(content)}")
+    snapshots = list(rows(SIZE))
+    print(f"rows {SIZE} {snapshots[-1][2].hex()}")
+    print(f"keep {SIZE} {name(kept(snapshots))}")
 
 
 main()

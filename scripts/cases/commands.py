@@ -3,7 +3,7 @@
 from dataclasses import dataclass, field
 
 from frames import REPLIES, REQUESTS, Malformed, Message, Stream
-from jobs import Backup, Client, List, Restore, StartRefused
+from jobs import Backup, Client, Forget, List, Restore, StartRefused
 
 INSTANCE = bytes([1]) * 16
 STALE = 1_800
@@ -126,7 +126,7 @@ def unlock(talk, everything):
 def job(talk, core, host):
     outcome = talk.drive(Client(core, INSTANCE, host, talk.server.time))
     word = outcome.text.split(" ")[0]
-    if word not in ("stored", "complete", "listed"):
+    if word not in ("stored", "complete", "listed", "forgotten"):
         raise Failed(outcome.text)
     return outcome
 
@@ -138,6 +138,14 @@ def snapshots(talk):
 
 def restore(talk, name):
     talk.show(job(talk, Restore(name), "vault").text + "\n")
+
+
+def forget(talk, names, policy=None):
+    try:
+        core = Forget(names, policy)
+    except StartRefused:
+        raise Failed("no policy")
+    talk.show("".join(f"forgotten {name.hex()}\n" for name in job(talk, core, "vault").forgotten))
 
 
 def backup(talk, host, entries, skipped):

@@ -1,4 +1,4 @@
-"""The clients: a backup, a restore and a list of snapshots, as what each asks after which replies."""
+"""The clients: a backup, a restore, a list of snapshots and a forget, as what each asks after which replies."""
 
 from dataclasses import dataclass
 
@@ -11,6 +11,7 @@ from texts import (OtherVersion, Unreadable, dir_node, file_node, index_text, is
 DEEPEST = 100
 INDEX_BLOBS = 20_000
 PACK_BLOBS = 4_096
+DAY = 86_400
 
 
 @dataclass
@@ -19,6 +20,7 @@ class Outcome:
     text: str
     name: bytes | None = None
     rows: list | None = None
+    forgotten: list | None = None
 
 
 class End(Exception):
@@ -30,7 +32,7 @@ class End(Exception):
 
 
 class StartRefused(Exception):
-    """Entries that no backup takes, and the number of the reason."""
+    """What no job is begun with, entries or a policy, and the number of the reason."""
 
 
 def refusal(ask, code):
@@ -93,6 +95,15 @@ def facts_of_indexes():
     return facts
 
 
+def snapshots_read():
+    """All snapshots, as rows of name, host, time and token."""
+    rows = []
+    for name in (yield from listed("snapshot")):
+        host, time, token, _ = yield from got("snapshot", name, read_snapshot)
+        rows.append((name, host, time, token))
+    return rows
+
+
 def config_read():
     data, = yield from asked(("config",), "bytes")
     try:
@@ -130,7 +141,7 @@ class Client:
         """All that it asks, from its ticket to its unlock."""
         try:
             self.token, = yield from asked(("ticket",), "token")
-            yield from asked(("lock", self.token, False, self.time, self.host), "done")
+            yield from asked(("lock", self.token, self.job.exclusive, self.time, self.host), "done")
         except End as end:
             self.outcome = end.outcome
             return
@@ -146,19 +157,51 @@ class Client:
 
 class List:
     """A list of the snapshots."""
-    role = "list"
+    role, exclusive = "list", False
 
     def run(self, client):
-        rows = []
-        for name in (yield from listed("snapshot")):
-            host, time, token, _ = yield from got("snapshot", name, read_snapshot)
-            rows.append((name, host, time, token))
+        rows = yield from snapshots_read()
         return Outcome(f"listed {len(rows)}", rows=rows)
+
+
+def kept(rows, last, daily):
+    """The names that a policy keeps of rows (name, host, time, token): of each host, ordered by time and name, the last
+    ones, and the last one of each of the last days that have one."""
+    names = set()
+    for host in {row[1] for row in rows}:
+        own = sorted((row[2], row[0]) for row in rows if row[1] == host)
+        names |= {name for _, name in own[max(len(own) - last, 0):]}
+        days = {time // DAY: name for time, name in own}
+        names |= {days[day] for day in sorted(days, reverse=True)[:daily]}
+    return names
+
+
+class Forget:
+    """A forget of the snapshots of some names, or of those that a policy doesn't keep: (last, daily)."""
+    role, exclusive = "forget", True
+
+    def __init__(self, names=(), policy=None):
+        if policy == (0, 0):
+            raise StartRefused(1)
+        self.names, self.policy = names, policy
+
+    def chosen(self):
+        if self.policy is None:
+            return [name for name in (yield from listed("snapshot")) if name in self.names]
+        rows = yield from snapshots_read()
+        stay = kept(rows, *self.policy)
+        return [row[0] for row in rows if row[0] not in stay]
+
+    def run(self, client):
+        chosen = yield from self.chosen()
+        for name in chosen:
+            yield from asked(("delete", client.token, "snapshot", name), "done")
+        return Outcome(f"forgotten {len(chosen)}", forgotten=chosen)
 
 
 class Restore:
     """A restore of one snapshot."""
-    role = "restore"
+    role, exclusive = "restore", False
 
     def __init__(self, snapshot):
         self.snapshot, self.entries = snapshot, 0
@@ -235,7 +278,7 @@ def check_entries(entries):
 
 class Backup:
     """A backup of entries, each (path, None) or (path, bytes)."""
-    role = "backup"
+    role, exclusive = "backup", False
 
     def __init__(self, entries):
         check_entries(entries)

@@ -3,7 +3,7 @@
 from chunks import chunks, remainder
 from commands import INSTANCE
 from frames import Message
-from jobs import Backup, Client, Restore, StartRefused
+from jobs import Backup, Client, Forget, Restore, StartRefused, kept
 from store import Ledger, Store, name_of
 from texts import (Unreadable, config_text, file_node, index_text, pack_of, read_index, read_snapshot, read_tree, snapshot_text,
                    tree_text)
@@ -93,6 +93,17 @@ def check_jobs():
         raise AssertionError(paths)
 
 
+def check_forgets():
+    rows = [(bytes([byte]) * 32, host, time, 1) for byte, host, time in (
+        (0x11, "a", 86_399), (0x22, "a", 86_400), (0x33, "a", 86_400), (0x44, "a", 100), (0x55, "b", 5))]
+    assert kept(rows, 1, 2) == {bytes([byte]) * 32 for byte in (0x11, 0x33, 0x55)} and kept([], 1, 2) == set()
+    store = new_store()
+    names = [finish(store, Client(Backup([(["x"], b"abc")] + more), INSTANCE, "a", time)).name
+             for time, more in ((1, [(["y"], b"de")]), (2, []))]
+    assert finish(store, Client(Forget([names[0]]), INSTANCE, "play", 0)).text == "forgotten 1"
+    assert list(store.objects["snapshot"]) == [names[1]]
+
+
 def check_tokens():
     ledger = Ledger()
     assert [ledger.ticket() for _ in range(1_025)] == list(range(1, 1_026))
@@ -100,5 +111,5 @@ def check_tokens():
 
 
 def check():
-    for part in (check_chunks, check_frames, check_texts, check_jobs, check_tokens):
+    for part in (check_chunks, check_frames, check_texts, check_jobs, check_forgets, check_tokens):
         part()

@@ -131,6 +131,17 @@ class Lines:
         self.line("restore", name.hex())
         self.ran(commands.run(commands.restore, server, name))
 
+    def forget(self, names, *replies, **shape):
+        server = self.server(*replies, **shape)
+        self.line("forget", *[name.hex() for name in names])
+        self.ran(commands.run(commands.forget, server, names))
+
+    def keep(self, last, daily, *replies, **shape):
+        """A forget by a policy."""
+        server = self.server(*replies, **shape)
+        self.line("keep", last, daily)
+        self.ran(commands.run(commands.forget, server, (), (last, daily)))
+
     def backup(self, host, entries, *replies, skipped=(), **shape):
         server = self.server(*replies, **shape)
         for path in skipped:

@@ -2,7 +2,7 @@
 
 import commands
 from frames import KINDS, Message
-from jobs import Backup, Client, List, Restore, StartRefused
+from jobs import Backup, Client, Forget, List, Restore, StartRefused
 from lines import Lines, digits, frames_of, shown
 from store import Refused, Store
 from texts import config_text
@@ -103,6 +103,19 @@ class Script(Lines):
         self.line("start restore", snapshot)
         return self.seat(Restore(self.seats[snapshot].client.outcome.name), "play", 0)
 
+    def start_forget(self, *snapshots):
+        """Of names, or of what clients stored."""
+        self.line("start forget", *[one.hex() if isinstance(one, bytes) else one for one in snapshots])
+        names = [one if isinstance(one, bytes) else self.seats[one].client.outcome.name for one in snapshots]
+        return self.seat(Forget(names), "play", 0)
+
+    def start_keep(self, last, daily):
+        self.line("start keep", last, daily)
+        try:
+            return self.seat(Forget(policy=(last, daily)), "play", 0)
+        except StartRefused as refused:
+            self.prints("start refused", refused.args[0])
+
     def reply_to(self, request):
         return Message(request.instance, request.sequence, self.store.answer(request.what))
 
@@ -173,6 +186,8 @@ class Script(Lines):
             self.prints("host", host)
             self.prints("time", time)
             self.prints("token", token)
+        for name in outcome.forgotten or []:
+            self.prints("forgot", name.hex())
         if outcome.name is not None:
             self.prints("name", outcome.name.hex())
 

@@ -21,10 +21,19 @@ def bad_arguments(script):
     for words in ("init x --min 63", "init x --max 63", "init x --min 129 --max 128", "init x --max 8388609", "init x --bits 0",
                   "init x --bits 33", "init x --target 1023", "init x --target 16777217", "serve x y --connections 0",
                   "backup x  p", "backup x " + "h" * 256 + " p", "backup x " + "é" * 128 + " p",
-                  "restore x 12 d", "restore x " + UPPER + " d", "restore x " + A.hex() + "0 d", "restore x " + "g" * 64 + " d"):
+                  "restore x 12 d", "restore x " + UPPER + " d", "restore x " + A.hex() + "0 d", "restore x " + "g" * 64 + " d",
+                  "forget x 12", "forget x " + UPPER, "forget x " + A.hex() + " " + "g" * 64, "forget x " + A.hex() + "0 " + A.hex()):
         script.heading("words that make no command")
         script.vault("vault " + words)
         script.ended(2, "", "bad argument\n")
+
+
+def both(script):
+    """Names and a policy."""
+    for words in ("--keep-last 1 " + A.hex(), A.hex() + " --keep-daily 1", f"--keep-last 0 --keep-daily 4294967295 {A.hex()} {E.hex()}"):
+        script.heading("snapshots to be forgotten by their names and by a policy")
+        script.vault("vault forget nowhere " + words)
+        script.ended(2, "", "names and a policy exclude each other\n")
 
 
 def claps(script):
@@ -37,11 +46,16 @@ def claps(script):
             ("vault frames more", "error: unexpected argument 'more' found"),
             ("vault frames --all", "error: unexpected argument '--all' found"),
             ("vault init", missing), ("vault serve x", missing), ("vault backup x h", missing), ("vault restore x", missing),
-            ("vault refresh x", missing), ("vault snapshots", missing), ("vault locks", missing), ("vault unlock", missing),
+            ("vault refresh x", missing), ("vault snapshots", missing), ("vault forget", missing), ("vault locks", missing), ("vault unlock", missing),
             ("vault init x --max -1", "error: unexpected argument '-1' found"),
             ("vault init x --max", "error: a value is required for '--max <N>' but none was supplied"),
             ("vault init x --max y", f"error: invalid value 'y' for '--max <N>': {digits}"),
             ("vault init x --min 1 --min 2", "error: the argument '--min <N>' cannot be used multiple times"),
+            ("vault forget x --keep-last", "error: a value is required for '--keep-last <N>' but none was supplied"),
+            ("vault forget x --keep-last y", f"error: invalid value 'y' for '--keep-last <N>': {digits}"),
+            ("vault forget x --keep-daily 4294967296", "error: invalid value '4294967296' for '--keep-daily <N>': 4294967296 is not in 0..=4294967295"),
+            ("vault forget x --keep-daily 1 --keep-daily 1", "error: the argument '--keep-daily <N>' cannot be used multiple times"),
+            ("vault forget x --keep-weekly 1", "error: unexpected argument '--keep-weekly' found"),
             ("vault refresh x y", f"error: invalid value 'y' for '<TOKEN>': {digits}"),
             ("vault refresh x 18446744073709551616",
              "error: invalid value '18446744073709551616' for '<TOKEN>': number too large to fit in target type"),
@@ -60,7 +74,8 @@ def unreached(script):
     """Addresses that are none: the text that the socket's call refuses."""
     for words in ("locks nowhere", "snapshots nowhere", "refresh nowhere 1", "refresh nowhere 18446744073709551615",
                   "unlock nowhere", "unlock nowhere --remove-all", "backup nowhere " + "h" * 255 + " p", "backup nowhere h p",
-                  "restore nowhere " + A.hex() + " d", "locks 127.0.0.1", "locks 127.0.0.1:x", "locks 127.0.0.1:0", "locks 127.0.0.1:65536"):
+                  "restore nowhere " + A.hex() + " d", "forget nowhere", "forget nowhere --keep-last 1", "forget nowhere --keep-daily 4294967295",
+                  "forget nowhere " + A.hex() + " " + A.hex(), f"forget nowhere {A.hex()} --keep-last 0 {E.hex()} --keep-daily 0", "locks 127.0.0.1", "locks 127.0.0.1:x", "locks 127.0.0.1:0", "locks 127.0.0.1:65536"):
         script.heading("an address that can't be connected to")
         script.vault("vault " + words)
         script.ended(1, "", "not reached\n")
@@ -152,4 +167,4 @@ def bad_streams(script):
         script.frames([ticket], b"00", **shape)
 
 
-ALL = [bad_arguments, claps, unreached, worked, bad_streams]
+ALL = [bad_arguments, both, claps, unreached, worked, bad_streams]

@@ -12,6 +12,7 @@ sys.dont_write_bytecode = True
 import command_cases
 import damage_cases
 import folder_cases
+import forget_cases
 import job_cases
 import known
 import vault_frames
@@ -21,7 +22,7 @@ from script import Script
 
 CRATES = Path(__file__).resolve().parents[2] / "crates"
 PARTS = [command_cases.locks, command_cases.refresh, command_cases.unlock, command_cases.lists, job_cases.restores,
-         job_cases.backups, *word_cases.ALL, *world_cases.ALL, *damage_cases.ALL, *folder_cases.ALL]
+         job_cases.backups, *word_cases.ALL, *world_cases.ALL, *damage_cases.ALL, *folder_cases.ALL, *forget_cases.ALL]
 
 
 def files():

@@ -1,10 +1,11 @@
-//! Kernels to be timed from outside: a word names one, and a number its size in bytes. With no words each
+//! Kernels to be timed from outside: a word names one, and a number its size, in bytes or in snapshots. With no words each
 //! runs on a tiny size. What is printed is the digest of what was made, so that no work can be left out.
 #![tactic(auto)]
 
 use anyhow::{Result, bail};
 use backups::{backed_up, restored};
 use chunk::{chunked, random_bytes};
+use keeping::{kept, last_row};
 use repo_name::{BlobKind, Name, name_of};
 use repo_pack::{PackError, PackView, PackWriter};
 use std::alloc::{AllocError, Global};
@@ -12,6 +13,7 @@ use streams::streamed;
 
 mod backups;
 mod chunk;
+mod keeping;
 mod streams;
 
 /// The size at which each kernel runs with no words.
@@ -40,6 +42,10 @@ enum Kernel {
     Backup,
     /// The same, and a restore of it.
     Restore,
+    /// Snapshots of several hosts alone.
+    Rows,
+    /// Which of them a policy keeps.
+    Keep,
 }
 
 /// So many bytes, with no long run of equal ones.
@@ -86,6 +92,8 @@ fn digest_of(alloc: Global, kernel: Kernel, size: usize) -> Result<Name> {
         Kernel::Chunk => chunked(alloc, &random_bytes(alloc, size)?),
         Kernel::Backup => backed_up(alloc, size),
         Kernel::Restore => restored(alloc, size),
+        Kernel::Rows => last_row(alloc, size),
+        Kernel::Keep => kept(alloc, size),
     }
 }
 
@@ -99,6 +107,8 @@ fn run(rt: &HostRuntime, kernel: Kernel, size: usize) -> Result<()> {
         Kernel::Chunk => "chunk",
         Kernel::Backup => "backup",
         Kernel::Restore => "restore",
+        Kernel::Rows => "rows",
+        Kernel::Keep => "keep",
     };
     println!(rt; "{word} {size} {digest}")?;
     Ok(())
@@ -114,7 +124,9 @@ fn main(rt: HostRuntime) -> Result<()> {
             run(&rt, Kernel::Random, TINY)?;
             run(&rt, Kernel::Chunk, TINY)?;
             run(&rt, Kernel::Backup, TINY)?;
-            run(&rt, Kernel::Restore, TINY)
+            run(&rt, Kernel::Restore, TINY)?;
+            run(&rt, Kernel::Rows, TINY)?;
+            run(&rt, Kernel::Keep, TINY)
         }
         [_, kernel, size] => {
             let size: usize = size.as_str().parse()?;
@@ -126,6 +138,8 @@ fn main(rt: HostRuntime) -> Result<()> {
                 "chunk" => run(&rt, Kernel::Chunk, size),
                 "backup" => run(&rt, Kernel::Backup, size),
                 "restore" => run(&rt, Kernel::Restore, size),
+                "rows" => run(&rt, Kernel::Rows, size),
+                "keep" => run(&rt, Kernel::Keep, size),
                 _ => bail!("no such kernel"),
             }
         }

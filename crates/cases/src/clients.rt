@@ -3,9 +3,11 @@
 use crate::told::Told;
 use repo_backup::Backup;
 use repo_name::{Kind, Name};
+use repo_prune::Forget;
 use repo_restore::{Restore, SnapshotList};
 use repo_session::{Client, Emission, End, Outcome, StepError, lockstep, result_text};
 use repo_store::{FaultShelf, MemShelf};
+use repo_tree::Snapshot;
 use repo_wire::{Ask, Reply, Request, write_request};
 use std::alloc::{AllocError, Global};
 
@@ -15,6 +17,7 @@ pub enum Core {
     Backup(Backup),
     Restore(Restore),
     List(SnapshotList),
+    Forget(Forget),
 }
 
 /// A client, and what it sent last.
@@ -97,6 +100,7 @@ impl Core {
             Core::Backup(_) => "backup",
             Core::Restore(_) => "restore",
             Core::List(_) => "list",
+            Core::Forget(_) => "forget",
         }
     }
 
@@ -106,6 +110,7 @@ impl Core {
             Core::Backup(backup) => backup.outcome(),
             Core::Restore(restore) => restore.outcome(),
             Core::List(list) => list.outcome(),
+            Core::Forget(forget) => forget.outcome(),
         }
     }
 
@@ -115,6 +120,7 @@ impl Core {
             Core::Backup(backup) => backup.pending(),
             Core::Restore(restore) => restore.pending(),
             Core::List(list) => list.pending(),
+            Core::Forget(forget) => forget.pending(),
         }
     }
 
@@ -129,6 +135,7 @@ impl Core {
             Core::Backup(backup) => frame_of(alloc, backup),
             Core::Restore(restore) => frame_of(alloc, restore),
             Core::List(list) => frame_of(alloc, list),
+            Core::Forget(forget) => frame_of(alloc, forget),
         }
     }
 
@@ -138,6 +145,7 @@ impl Core {
             Core::Backup(backup) => taken(backup, reply, told),
             Core::Restore(restore) => taken(restore, reply, told),
             Core::List(list) => taken(list, reply, told),
+            Core::Forget(forget) => taken(forget, reply, told),
         }
     }
 
@@ -152,6 +160,7 @@ impl Core {
             Core::Backup(backup) => finished(alloc, backup, shelf, told),
             Core::Restore(restore) => finished(alloc, restore, shelf, told),
             Core::List(list) => finished(alloc, list, shelf, told),
+            Core::Forget(forget) => finished(alloc, forget, shelf, told),
         }
     }
 
@@ -173,17 +182,32 @@ fn end_name(end: &End) -> Option<Name> {
     }
 }
 
+/// Tells a row of a list.
+fn tell_row(
+    alloc: Global,
+    name: &Name,
+    snapshot: &Snapshot,
+    told: &mut Told,
+) -> Result<(), AllocError> {
+    told.pair("listed", name.to_hex(alloc)?.as_str())?;
+    told.pair("host", snapshot.host.as_str())?;
+    told.number("time", snapshot.time)?;
+    told.number("token", snapshot.token.0)
+}
+
 impl Seat {
-    /// Tells the rows of a list, or the name that an outcome is about.
+    /// Tells the rows of a list, the names that were forgotten, or the name that an outcome is about.
     fn tell_names(&self, alloc: Global, told: &mut Told) -> Result<(), AllocError> {
         let named = match self.core.outcome() {
             Some(Outcome::Listed(rows)) => {
                 for (name, snapshot) in rows.as_slice() {
-                    let digits = name.to_hex(alloc)?;
-                    told.pair("listed", digits.as_str())?;
-                    told.pair("host", snapshot.host.as_str())?;
-                    told.number("time", snapshot.time)?;
-                    told.number("token", snapshot.token.0)?;
+                    tell_row(alloc, name, snapshot, told)?;
+                }
+                None
+            }
+            Some(Outcome::Forgotten(names)) => {
+                for name in names.as_slice() {
+                    told.pair("forgot", name.to_hex(alloc)?.as_str())?;
                 }
                 None
             }

@@ -3,15 +3,16 @@
 ghost use Rattle.std.specs.Prelude.{◌↔◌, IsTrue};
 ghost use Rattle.repo_name.specs.Rows.{IsHost};
 
-use crate::lines::{ScriptError, cut, name, number};
+use crate::lines::{ScriptError, cut, name, names, number, policy};
 use crate::streams::{Inlet, Outlet, Pace};
 use crate::told::Told;
 use repo_files::{Scan, Skipped};
 use repo_name::{Instance, Name, Token};
 use repo_prog::{
-    Caller, Status, backup_found, locks_command, refresh_command, restore_into, snapshots_command,
-    unlock_command,
+    Caller, Status, backup_found, forget_command, locks_command, refresh_command, restore_into,
+    snapshots_command, unlock_command,
 };
+use repo_prune::Choice;
 use repo_session::Emission;
 use repo_tree::Entry;
 use std::alloc::{AllocError, Global};
@@ -127,6 +128,12 @@ impl Talk<'_> {
         restore_into(self.alloc, &self.caller, name, takes, r, w, o, f)
     }
 
+    fn forget(&mut self, choice: Choice) -> Status {
+        let (r, w) = (&mut self.reader, &mut self.sent);
+        let (o, f) = (&mut self.output, &mut self.faults);
+        forget_command(self.alloc, &self.caller, choice, r, w, o, f)
+    }
+
     /// Runs the command of these words.
     fn run(&mut self, words: &str, found: Scan) -> Result<Status, ScriptError> {
         let (word, rest) = cut(words);
@@ -137,6 +144,8 @@ impl Talk<'_> {
             "snapshots" => Ok(self.snapshots()),
             "backup" => self.backup(rest, found),
             "restore" => Ok(self.restore(name(rest)?)),
+            "forget" => Ok(self.forget(Choice::Names(names(self.alloc, rest)?))),
+            "keep" => Ok(self.forget(Choice::Keep(policy(rest)?))),
             _ => Err(ScriptError::Line),
         }
     }

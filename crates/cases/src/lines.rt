@@ -2,6 +2,7 @@
 
 use hex::FromHexError;
 use repo_name::{Bytes, Kind, Name, Text};
+use repo_prune::Policy;
 use repo_tree::{Entry, EntryKind, Path};
 use std::alloc::{AllocError, AllocFailed, Global};
 use thiserror::Error;
@@ -71,6 +72,32 @@ pub fn name(word: &str) -> Result<Name, ScriptError> {
         Ok(name) => Ok(name),
         Err(_) => Err(ScriptError::Line),
     }
+}
+
+/// The names that the words of a text spell.
+pub fn names(alloc: Global, words: &str) -> Result<Vec<Name>, ScriptError> {
+    let mut names = Vec::new(alloc);
+    for word in words.split_whitespace() {
+        names.push(name(word)?)?;
+    }
+    Ok(names)
+}
+
+/// A count that a word spells.
+fn count(word: &str) -> Result<u32, ScriptError> {
+    match word.parse::<u32>() {
+        Ok(count) => Ok(count),
+        Err(_) => Err(ScriptError::Line),
+    }
+}
+
+/// The policy of two counts: `LAST DAILY`.
+pub fn policy(words: &str) -> Result<Policy, ScriptError> {
+    let (last, daily) = cut(words);
+    Ok(Policy {
+        last: count(last)?,
+        daily: count(daily)?,
+    })
 }
 
 /// The kind of object that a word is for.

@@ -1,11 +1,12 @@
 //! One store, and the clients that were started at it.
 
 use crate::clients::{Core, Seat};
-use crate::lines::{ScriptError, cut, name, number};
+use crate::lines::{ScriptError, cut, name, number, policy};
 use crate::stores::{Store, reply_of};
 use crate::told::Told;
 use repo_backup::{Backup, BackupError};
 use repo_name::{Instance, Name};
+use repo_prune::{Choice, Forget, ForgetError};
 use repo_restore::{Restore, SnapshotList};
 use repo_session::{Who, WhoError};
 use repo_tree::Entry;
@@ -97,7 +98,28 @@ impl World {
         self.seat(word)?.core.stored().ok_or(ScriptError::Line)
     }
 
-    /// Starts a client: `backup HOST TIME`, `list`, `restore K` or `restore NAME`.
+    fn start_forget(&mut self, choice: Choice, told: &mut Told) -> Result<(), ScriptError> {
+        let who = self.who("play", 0)?;
+        match Forget::new(self.alloc, who, choice) {
+            Ok(forget) => self.seat_core(Core::Forget(forget)),
+            Err(ForgetError::NoPolicy) => {
+                told.number("start refused", 1)?;
+                Ok(())
+            }
+        }
+    }
+
+    /// The snapshots that these words are for.
+    fn chosen(&mut self, words: &str) -> Result<Choice, ScriptError> {
+        let mut names = Vec::new(self.alloc);
+        for word in words.split_whitespace() {
+            names.push(self.snapshot(word)?)?;
+        }
+        Ok(Choice::Names(names))
+    }
+
+    /// Starts a client: `backup HOST TIME`, `list`, `restore K`, `forget K..` (in place of a number K of a client that
+    /// stored it, a snapshot's name), or `keep LAST DAILY`.
     pub fn start(
         &mut self,
         words: &str,
@@ -116,6 +138,11 @@ impl World {
                 let who = self.who("play", 0)?;
                 self.seat_core(Core::Restore(Restore::new(self.alloc, who, snapshot)))
             }
+            "forget" => {
+                let choice = self.chosen(rest)?;
+                self.start_forget(choice, told)
+            }
+            "keep" => self.start_forget(Choice::Keep(policy(rest)?), told),
             _ => Err(ScriptError::Line),
         }
     }

@@ -7,7 +7,7 @@ use Rattle.repo_wire.specs.declared.messages.Request.{Request}
 use Rattle.repo_session.specs.declared.outcomes.Outcome.{Outcome}
 use Rattle.repo_session.specs.Clients.{IsObedient}
 use Rattle.repo_session.specs.Order.{Task}
-use Rattle.repo_session.specs.Sessions.{who_in, next_in, ended_in}
+use Rattle.repo_session.specs.Sessions.{Given, who_in, next_in, ended_in}
 use Rattle.repo_session.specs.Talks.{Said, Drives, trace_of}
 use Rattle.repo_session.specs.Traces.{Exchange, Trace}
 use Rattle.repo_session.specs.Askers.{Asker, asker}
@@ -19,6 +19,11 @@ use Rattle.repo_backup.specs.BackupStates as backing
 use Rattle.repo_backup.specs.Backups.{Handing, FitsBackup, handed_to}
 use Rattle.repo_backup.specs.Rules as backup
 use Rattle.repo_backup.specs.declared.backups.Backup.{Backup}
+use Rattle.repo_prune.specs.declared.choices.Choice.{Choice}
+use Rattle.repo_prune.specs.declared.forgets.Forget.{Forget}
+use Rattle.repo_prune.specs.ForgetObedience.{forget_obeys}
+use Rattle.repo_prune.specs.ForgetStates as forgetting
+use Rattle.repo_prune.specs.Forgetting.{forget_task, ForgetAllows, ForgetGives, ForgetConcludes}
 use Rattle.repo_restore.specs.Listing.{list_task, ListAllows, ListGives, ListConcludes}
 use Rattle.repo_restore.specs.ListObedience.{list_obeys}
 use Rattle.repo_restore.specs.ListStates.{FitsList, who_of}
@@ -28,7 +33,7 @@ use Rattle.repo_restore.specs.Restoring.{Wish, restore_task, RestoreAllows, Rest
 use Rattle.repo_restore.specs.declared.listings.SnapshotList.{SnapshotList}
 use Rattle.repo_restore.specs.declared.restores.Restore.{Restore}
 use Rattle.repo_prog.specs.Asking.{streams}
-use Rattle.repo_prog.specs.Jobs.{Ended, Lists, Restores, Stores, vault_asker, vault_wish}
+use Rattle.repo_prog.specs.Jobs.{Ended, Forgets, Lists, Restores, Stores, vault_asker, vault_wish}
 use Rattle.repo_prog.specs.declared.callers.Caller.{Caller}
 
 ended : {C : Type 0} (Fits : C → Trace → Type 0) (next : C → Option Request) (old new : C) (n : ℕ) (said : Said) (a b start contents shown now : Option (List ℕ))
@@ -85,3 +90,22 @@ stored caller host entries old new n said a b start contents shown now name blob
     let P : Trace → Handing → Type 0 = λ es j. IsObedient (backing.backup_task j.who) (backup.Allows j.entries) (backup.GivesNothing j.entries) (backup.Ends j.entries) (next_in new.session) (ended_in new.session) es in
     ended FitsBackup (λ (c : Backup). next_in c.session) old new n said a b start contents shown now (backing.backup_task (asker caller.instance host caller.time)) (backup.Allows entries) (backup.GivesNothing entries) (backup.Ends entries)
     (ended_in new.session) (Outcome.Stored name blobs bytes) fits read d (λ es f. subst (P es) job (backup_obeys new es f)) is
+
+-- what a forget was made for
+abbrev pub choosing_of : Forget → Given Choice
+choosing_of f = record { who = forgetting.who_of f; handed = forgetting.choice_of f }
+
+abbrev pub choosing : Caller → Choice → Given Choice
+choosing caller choice = record { who = vault_asker caller; handed = choice }
+
+pub same_choosing : (f : Forget) (caller : Caller) (choice : Choice) → forgetting.who_of f ≡ vault_asker caller → forgetting.choice_of f ≡ choice → choosing_of f ≡ choosing caller choice
+same_choosing f caller choice who handed = λ i. record { who = who i; handed = handed i }
+
+-- a forget
+pub forgotten : (caller : Caller) (choice : Choice) (old new : Forget) (n : ℕ) (said : Said) (a b start contents shown now : Option (List ℕ)) (names : List Name)
+    → forgetting.FitsForget old [] → choosing_of new ≡ choosing caller choice → Consumes a b said.bytes → Drives forgetting.FitsForget (λ (f : Forget). next_in f.session) old (Ok n) new said start contents
+    → ended_in new.session ≡ Some (Outcome.Forgotten names) → Forgets caller choice names (streams a start shown) (streams b contents now)
+forgotten caller choice old new n said a b start contents shown now names fits job read d is =
+    let P : Trace → Given Choice → Type 0 = λ es j. IsObedient (forget_task j.who) (ForgetAllows j.handed) (ForgetGives j.handed) (ForgetConcludes j.handed) (next_in new.session) (ended_in new.session) es in
+    ended forgetting.FitsForget (λ (f : Forget). next_in f.session) old new n said a b start contents shown now (forget_task (vault_asker caller)) (ForgetAllows choice) (ForgetGives choice) (ForgetConcludes choice)
+    (ended_in new.session) (Outcome.Forgotten names) fits read d (λ es f. subst (P es) job (forget_obeys new es f)) is

@@ -44,6 +44,7 @@ abbrev pub IsErrand : Errand → Type 0
 IsErrand (Errand.Backup host folder) = IsHost host
 IsErrand Errand.Snapshots = ⊤
 IsErrand (Errand.Restore name folder) = ⊤
+IsErrand (Errand.Forget choice) = ⊤
 IsErrand Errand.Locks = ⊤
 IsErrand (Errand.Refresh token) = ⊤
 IsErrand (Errand.Unlock all) = ⊤

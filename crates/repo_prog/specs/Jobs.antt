@@ -13,6 +13,8 @@ use Rattle.repo_session.specs.Talks.{Said, IsTurn, IsHeard, frames_of, sent_in, 
 use Rattle.repo_session.specs.Traces.{Each, Exchange, Trace}
 use Rattle.repo_backup.specs.BackupStates.{backup_task}
 use Rattle.repo_backup.specs.Rules as backup
+use Rattle.repo_prune.specs.declared.choices.Choice.{Choice}
+use Rattle.repo_prune.specs.Forgetting.{forget_task, ForgetAllows, ForgetGives, ForgetConcludes}
 use Rattle.repo_restore.specs.Listing.{list_task, ListAllows, ListGives, ListConcludes}
 use Rattle.repo_restore.specs.Restoring.{Wish, restore_task, RestoreAllows, RestoreGives, RestoreConcludes}
 use Rattle.repo_prog.specs.Asking.{Streams}
@@ -32,7 +34,7 @@ pub record Ended (task : Task) (Allows : Trace → Ask → Type 0) (Gives : Trac
 abbrev pub vault_host : List ℕ
 vault_host = codes "vault"
 
--- who lists or restores
+-- who lists, restores or forgets
 abbrev pub vault_asker : Caller → Asker
 vault_asker caller = asker caller.instance vault_host caller.time
 
@@ -47,6 +49,10 @@ vault_wish caller name = record { who = vault_asker caller; snapshot = name }
 -- the snapshot was restored
 abbrev pub Restores : Caller → Name → ℕ → Streams → Streams → Type 0
 Restores caller name entries old new = Ended (restore_task (vault_wish caller name)) (RestoreAllows name) (RestoreGives name) (RestoreConcludes name) (Outcome.Complete entries) old new
+
+-- the chosen snapshots were forgotten: those of these names
+abbrev pub Forgets : Caller → Choice → List Name → Streams → Streams → Type 0
+Forgets caller choice names old new = Ended (forget_task (vault_asker caller)) (ForgetAllows choice) (ForgetGives choice) (ForgetConcludes choice) (Outcome.Forgotten names) old new
 
 -- the entries were stored under this name
 abbrev pub Stores : Caller → List ℕ → List Entry → Name → ℕ → ℕ → Streams → Streams → Type 0

@@ -40,6 +40,14 @@ stored_line name blobs bytes = codes "stored " ++ (hex_of name ++ (codes " " ++ 
 abbrev pub complete_line : ℕ → List ℕ
 complete_line entries = codes "complete " ++ (decimal entries ++ codes "\n")
 
+-- a snapshot was forgotten
+abbrev pub forgotten_line : Name → List ℕ
+forgotten_line name = codes "forgotten " ++ (hex_of name ++ codes "\n")
+
+-- snapshots were forgotten, a line each
+abbrev pub forgotten_lines : List Name → List ℕ
+forgotten_lines names = flat_map forgotten_line names
+
 -- a lock has a new time
 abbrev pub refreshed_line : List ℕ
 refreshed_line = codes "refreshed\n"

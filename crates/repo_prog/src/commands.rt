@@ -9,7 +9,7 @@ use crate::connecting::run_errand;
 use crate::frames_engine::frames;
 use crate::listening::serve_folder;
 use crate::making::init_folder;
-use crate::status::{Status, failed, refuse_words};
+use crate::status::{Status, failed, refuse_both, refuse_words};
 use crate::words::{Order, WordsError, order_of};
 use repo_files::HoldFile;
 use std::alloc::{AllocGlobal, Global};
@@ -59,18 +59,18 @@ pub fn perform<
     R: Read,
     W: Write,
     F: Write,
->(rt: &T, order: &Order, input: &mut R, output: &mut W, faults: &mut F) -> Status
+>(rt: &T, order: Order, input: &mut R, output: &mut W, faults: &mut F) -> Status
 where
     T::File: HoldFile,
-    requires { IsOrder order.now }
+    requires { IsOrder order }
     ensures silent { result ≡ Status.Done → faults.new ≡ faults.old }
     ensures status { result ≢ Status.Usage }
-    ensures unread { order.now ≢ Order.Frames → input.new ≡ input.old }
-    ensures frames { order.now ≡ Order.Frames → (text : List ℕ) → R.remaining input.old ≡ Some text → FramesGives text (W.contents output.old) result (W.contents output.new) }
+    ensures unread { order ≢ Order.Frames → input.new ≡ input.old }
+    ensures frames { order ≡ Order.Frames → (text : List ℕ) → R.remaining input.old ≡ Some text → FramesGives text (W.contents output.old) result (W.contents output.new) }
 {
     match order {
         Order::Frames => frames_command(rt.alloc(), input, output, faults),
-        Order::Init { folder, making } => init_folder(rt, folder.as_str(), making, output, faults),
+        Order::Init { folder, making } => init_folder(rt, folder.as_str(), &making, output, faults),
         Order::Serve {
             folder,
             address,
@@ -80,8 +80,8 @@ where
             rt,
             folder.as_str(),
             address.as_str(),
-            *connections,
-            *idle,
+            connections,
+            idle,
             output,
             faults,
         ),
@@ -105,8 +105,9 @@ where
     ensures usage { result ≡ Status.Usage → (input.new ≡ input.old) × (output.new ≡ output.old) }
 {
     match order_of(rt.alloc(), words) {
-        Ok(order) => perform(rt, &order, input, output, faults),
+        Ok(order) => perform(rt, order, input, output, faults),
         Err(WordsError::Clap(error)) => show(&error, output, faults),
         Err(WordsError::BadArgument) => refuse_words(faults),
+        Err(WordsError::NamesAndPolicy) => refuse_both(faults),
     }
 }

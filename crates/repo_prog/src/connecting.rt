@@ -7,6 +7,7 @@ ghost use Rattle.repo_prog.specs.declared.status.Status.{Status};
 use crate::backing::backup_command;
 use crate::callers::{Caller, caller_now};
 use crate::errands::Errand;
+use crate::forgetting::forget_command;
 use crate::locking::{locks_command, refresh_command, unlock_command};
 use crate::restoring::{restore_command, snapshots_command};
 use crate::status::{Status, failed};
@@ -21,13 +22,13 @@ use std::rt::Clock;
 pub fn do_errand<T: Files + AllocGlobal + Clone + Drop, R: Read, W: Write, O: Write, F: Write>(
     rt: &T,
     caller: &Caller,
-    errand: &Errand,
+    errand: Errand,
     reader: &mut R,
     writer: &mut W,
     output: &mut O,
     faults: &mut F,
 ) -> Status
-    requires { IsErrand errand.now }
+    requires { IsErrand errand }
     ensures silent { result ≡ Status.Done → faults.new ≡ faults.old }
     ensures status { result ≢ Status.Usage }
 {
@@ -47,19 +48,22 @@ pub fn do_errand<T: Files + AllocGlobal + Clone + Drop, R: Read, W: Write, O: Wr
         Errand::Restore { name, folder } => restore_command(
             rt,
             caller,
-            *name,
+            name,
             folder.as_str(),
             reader,
             writer,
             output,
             faults,
         ),
+        Errand::Forget(choice) => forget_command(
+            alloc, caller, choice, reader, writer, output, faults,
+        ),
         Errand::Locks => locks_command(alloc, caller, reader, writer, output, faults),
         Errand::Refresh(token) => refresh_command(
-            alloc, caller, *token, reader, writer, output, faults,
+            alloc, caller, token, reader, writer, output, faults,
         ),
         Errand::Unlock { all } => unlock_command(
-            alloc, caller, *all, reader, writer, output, faults,
+            alloc, caller, all, reader, writer, output, faults,
         ),
     }
 }
@@ -70,8 +74,8 @@ pub fn run_errand<
     T: Files + Net + AllocGlobal + RandomSource + Clock + Clone + Drop,
     O: Write,
     F: Write,
->(rt: &T, address: &str, errand: &Errand, output: &mut O, faults: &mut F) -> Status
-    requires { IsErrand errand.now }
+>(rt: &T, address: &str, errand: Errand, output: &mut O, faults: &mut F) -> Status
+    requires { IsErrand errand }
     ensures silent { result ≡ Status.Done → faults.new ≡ faults.old }
     ensures status { result ≢ Status.Usage }
 {

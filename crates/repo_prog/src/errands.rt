@@ -4,10 +4,12 @@ ghost use Rattle.std.specs.Prelude.{◌↔◌, IfOk, IsTrue};
 ghost use Rattle.repo_name.specs.Rows.{IsHost};
 ghost use Rattle.repo_prog.specs.Commands.{IsErrand};
 
-use crate::help::{BACKUP, LOCKS, REFRESH, RESTORE, SNAPSHOTS, UNLOCK};
+use crate::choosing::{choice_of, choice_words};
+use crate::help::{BACKUP, FORGET, LOCKS, REFRESH, RESTORE, SNAPSHOTS, UNLOCK};
 use crate::words::{WordsError, needed, number_of, word_of};
 use clap::{Arg, ArgAction, ArgMatches, Command};
 use repo_name::{Name, Text, Token};
+use repo_prune::Choice;
 use std::alloc::{AllocError, Global};
 
 /// What a client asks of a server.
@@ -19,6 +21,8 @@ pub enum Errand {
     Snapshots,
     /// Restore a snapshot into a folder.
     Restore { name: Name, folder: String },
+    /// Forget the chosen snapshots.
+    Forget(Choice),
     /// List the live locks.
     Locks,
     /// Give a token's lock a new time.
@@ -54,6 +58,11 @@ fn restore_words<'a>(alloc: Global) -> Result<Command<'a>, AllocError> {
         .arg(needed(alloc, "DIR"))
 }
 
+fn forget_words<'a>(alloc: Global) -> Result<Command<'a>, AllocError> {
+    let about = "Forgets snapshots by their names, or those that a policy doesn't keep";
+    choice_words(alloc, errand_words(alloc, "forget", about, FORGET)?)
+}
+
 fn refresh_words<'a>(alloc: Global) -> Result<Command<'a>, AllocError> {
     let about = "Gives a live lock this moment as its time";
     let token = needed(alloc, "TOKEN").value_parser(clap::value_parser!(u64));
@@ -76,6 +85,7 @@ pub fn with_errands<'a>(alloc: Global, program: Command<'a>) -> Result<Command<'
         .subcommand(backup_words(alloc)?)?
         .subcommand(snapshots)?
         .subcommand(restore_words(alloc)?)?
+        .subcommand(forget_words(alloc)?)?
         .subcommand(locks)?
         .subcommand(refresh_words(alloc)?)?
         .subcommand(unlock_words(alloc)?)
@@ -121,6 +131,7 @@ pub fn errand_of(alloc: Global, command: &str, words: &ArgMatches) -> Result<Err
         "backup" => backup_errand(alloc, words),
         "snapshots" => Ok(Errand::Snapshots),
         "restore" => restore_errand(alloc, words),
+        "forget" => Ok(Errand::Forget(choice_of(alloc, words)?)),
         "locks" => Ok(Errand::Locks),
         "refresh" => {
             let number = number_of(words, "TOKEN")?;

@@ -65,6 +65,22 @@ Exit status:
   1  it isn't, and standard error says why; what was written so far stays
   2  the words make no command, or NAME is no name";
 
+/// Below the help of `vault forget`.
+pub const FORGET: &str = "\
+Either NAMEs are given, or a policy, of which one count at least isn't 0. Of each host a policy keeps the last
+snapshots, so many as --keep-last says, and the last one of each of the last days that have one, so many days
+as --keep-daily says; all others are forgotten. What was stored for them stays in the store.
+
+Example:
+  vault forget 127.0.0.1:7070 --keep-last 3 --keep-daily 14
+  vault forget 127.0.0.1:7070 NAME
+where NAME is the 64 digits that `backup` and `snapshots` print. One that isn't there is passed over.
+
+Exit status:
+  0  each of these snapshots is forgotten, and its name printed
+  1  it ended before, and standard error says why; some may be forgotten
+  2  the words make no command, a NAME is no name, or there are names and a policy";
+
 /// Below the help of `vault locks`.
 pub const LOCKS: &str = "\
 Example:

@@ -2,8 +2,8 @@
 //!
 //! [`frames`] answers request frames in hexadecimal from an empty store in memory. [`init_command`] makes
 //! a store, and [`serve_connections`] serves one. The others are a client's, over a connection: [`backup_command`],
-//! [`snapshots_command`] and [`restore_command`] bring a job to its end, [`locks_command`], [`refresh_command`] and
-//! [`unlock_command`] ask themselves. [`run_errand`] connects, and [`run`] goes by the words.
+//! [`snapshots_command`], [`restore_command`] and [`forget_command`] bring a job to its end, [`locks_command`],
+//! [`refresh_command`] and [`unlock_command`] ask themselves. [`run_errand`] connects, and [`run`] goes by the words.
 //!
 //! Promised: what `frames` writes is the lines of the replies of a run of the store machine, from the
 //! empty store, over the requests of the stream that the input's lines spell; each of its errors comes
@@ -19,10 +19,12 @@
 
 mod backing;
 mod callers;
+mod choosing;
 mod commands;
 mod connecting;
 mod errands;
 mod errors;
+mod forgetting;
 mod frames_engine;
 mod help;
 mod listening;
@@ -41,6 +43,7 @@ pub use commands::{frames_command, perform, run};
 pub use connecting::{do_errand, run_errand};
 pub use errands::Errand;
 pub use errors::FramesError;
+pub use forgetting::forget_command;
 pub use frames_engine::frames;
 pub use listening::{serve_connections, serve_folder};
 pub use locking::{locks_command, refresh_command, unlock_command};

@@ -54,3 +54,11 @@ pub fn refuse_words<F: Write>(faults: &mut F) -> Status
     tell(faults, &"bad argument");
     Status::Usage
 }
+
+/// Tells that snapshots are chosen either by their names or by a policy.
+pub fn refuse_both<F: Write>(faults: &mut F) -> Status
+    ensures { result ≡ Status.Usage }
+{
+    tell(faults, &"names and a policy exclude each other");
+    Status::Usage
+}

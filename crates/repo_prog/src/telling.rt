@@ -2,7 +2,7 @@
 
 ghost use Rattle.std.specs.Prelude.{◌≡◌, IfOk, string_bytes};
 ghost use Rattle.repo_prog.specs.Commands.{IsEnd};
-ghost use Rattle.repo_prog.specs.Tellings.{lock_word, lock_line, lock_lines, snapshot_line, snapshot_lines, stored_line, complete_line, removed_line, Shows};
+ghost use Rattle.repo_prog.specs.Tellings.{lock_word, lock_line, lock_lines, snapshot_line, snapshot_lines, stored_line, complete_line, forgotten_line, forgotten_lines, removed_line, Shows};
 ghost use Rattle.repo_prog.specs.declared.status.Status.{Status};
 
 use crate::status::{Status, failed};
@@ -76,6 +76,26 @@ pub fn complete_line(alloc: Global, entries: u64) -> Result<String, AllocError>
     ensures { IfOk result (λ line. string_bytes line ≡ complete_line entries) }
 {
     format!(in alloc; "complete {entries}\n")
+}
+
+/// The line of a snapshot that was forgotten.
+fn forgotten_line(alloc: Global, name: &Name) -> Result<String, AllocError>
+    ensures { IfOk result (λ line. string_bytes line ≡ forgotten_line name.now) }
+{
+    let name = name.to_hex(alloc)?;
+    format!(in alloc; "forgotten {name}\n")
+}
+
+/// The lines of snapshots that were forgotten.
+pub fn forgotten_lines(alloc: Global, names: &[Name]) -> Result<String, AllocError>
+    ensures { IfOk result (λ lines. string_bytes lines ≡ forgotten_lines names.now) }
+{
+    let mut lines = String::new(alloc);
+    for name in names {
+        let line = forgotten_line(alloc, name)?;
+        lines.push_str(line.as_str())?;
+    }
+    Ok(lines)
 }
 
 /// The line of a lock that was removed.

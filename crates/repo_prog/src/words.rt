@@ -52,8 +52,10 @@ pub enum Order {
 pub enum WordsError {
     /// `clap` says why, or shows its help.
     Clap(clap::Error),
-    /// `clap` takes them, and the program doesn't: a number is outside its limits.
+    /// `clap` takes them, and the program doesn't: a word is outside its limits.
     BadArgument,
+    /// Names are given, and a policy too.
+    NamesAndPolicy,
 }
 
 impl From<clap::Error> for WordsError {
@@ -69,7 +71,7 @@ impl From<AllocError> for WordsError {
 }
 
 /// An option whose word is a number, and the number where it is left out.
-fn number<'a>(alloc: Global, name: &'a str, default: &'a str) -> Result<Arg<'a>, AllocError> {
+pub fn number<'a>(alloc: Global, name: &'a str, default: &'a str) -> Result<Arg<'a>, AllocError> {
     Ok(
         Arg::new(alloc, name)
             .long(name)
