@@ -5,4 +5,5 @@ pub mod Walks
 pub mod Picking
 pub mod ForgetStates
 pub mod ForgetObedience
+pub mod Pruning
 pub mod Laws

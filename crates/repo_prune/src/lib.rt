@@ -12,7 +12,8 @@
 //!
 //! The definitions stand in `specs/`: `Keeping` (what a policy keeps), `Forgetting` (which snapshots a forget may
 //! delete, and how it may end); and what is known on the way: `Walks` (how the rows of a host are gone down), `Picking`,
-//! `ForgetStates` and `ForgetObedience`; `Laws` (a forget alone with its store).
+//! `ForgetStates` and `ForgetObedience`; `Laws` (a forget alone with its store); `Pruning` (what a prune may put and
+//! delete, and how it may end: nothing stands on it yet).
 #![tactic(auto)]
 
 mod choices;
