@@ -1,7 +1,7 @@
 -- What a tree that is added changes.
-use Rattle.std.proofs.Common.{zero, suc, Vec, Global, ◌≡◌, ◌<◌, ◌+◌, ◌⊎◌, ◌++◌, ◌∷◌, [], ℕ, List, Option, Some, None, slice_get, length, refl, sym, ap, subst, inl, inr, ⊎_elim, ◌∙◌, Contains}
+use Rattle.std.proofs.Common.{zero, suc, Vec, Global, ◌≡◌, ◌+◌, ◌⊎◌, ◌++◌, ◌∷◌, [], ℕ, List, Option, Some, None, length, refl, sym, ap, subst, inl, inr, ⊎_elim, ◌∙◌, Contains}
 use Rattle.std.proofs.lemmas.List.Elements.{Contains-append_left, Contains-append_right, Contains-append_cases}
-use Rattle.std.proofs.lemmas.Option.{same_Some, none-some}
+use Rattle.std.proofs.lemmas.Option.{none-some}
 use Rattle.repo_name.specs.NameMaps.{found, Inserted}
 use Rattle.repo_name.specs.Naming as naming
 use Rattle.repo_name.specs.declared.names.Name.{Name}

@@ -1,9 +1,9 @@
 -- One tree of a list is looked at at one depth more.
 use Rattle.std.specs.Prelude.{slice_set}
-use Rattle.std.proofs.Common.{arith, ◌≡◌, ◌≢◌, ◌<◌, ◌≤◌, ◌+◌, ◌⊎◌, ◌∷◌, [], ℕ, zero, suc, Bool, true, false, List, length, slice_get, get_or, Option, Some, None, refl, sym, ap, subst, inl, inr, ⊎_elim, ◌∙◌}
+use Rattle.std.proofs.Common.{arith, ◌≡◌, ◌<◌, ◌≤◌, ◌+◌, ◌⊎◌, ◌∷◌, [], ℕ, zero, suc, Bool, true, false, List, length, slice_get, get_or, Some, refl, sym, ap, subst, inl, inr, ⊎_elim, ◌∙◌}
 use Rattle.std.proofs.lemmas.List.Sums.{sum_by-set}
 use Rattle.std.proofs.lemmas.Option.{same_Some, none-some, slice_get_within, get_or_from_slice_get}
-use Rattle.repo_reach.specs.Walks.{WasAt, Flags, IsSameTree, unset, unlooked}
+use Rattle.repo_reach.specs.Walks.{WasAt, Flags, IsSameTree, unset}
 use Rattle.repo_reach.specs.declared.trees.Seen.{Seen}
 
 pub set_length : {X : Type 0} (xs : List X) (i : ℕ) (y : X) → length (slice_set xs i y) ≡ length xs

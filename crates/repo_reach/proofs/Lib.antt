@@ -6,3 +6,4 @@ pub mod Rewinding
 pub mod Adding
 pub mod Turning
 pub mod Reaching
+pub mod Using

@@ -1,5 +1,5 @@
 -- What a walk that is done came upon is what the roots reach.
-use Rattle.std.proofs.Common.{arith, zero, suc, ◌≡◌, ◌<◌, ◌≤◌, ◌+◌, ◌-◌, ◌⊎◌, ◌++◌, ◌∷◌, ◌↔◌, [], ℕ, List, Option, Some, None, slice_get, length, refl, sym, ap, subst, inl, inr, ⊎_elim, ◌∙◌, Contains}
+use Rattle.std.proofs.Common.{arith, zero, suc, ◌≡◌, ◌≤◌, ◌+◌, ◌-◌, ◌∷◌, [], ℕ, List, Some, slice_get, refl, sym, ap, subst, inl, inr, ⊎_elim, ◌∙◌, Contains}
 use Rattle.std.specs.List.{flat_map}
 use Rattle.std.proofs.lemmas.List.Elements.{Contains-append_left, Contains-append_right, Contains-append_cases}
 use Rattle.std.proofs.lemmas.Option.{slice_get_within}
@@ -14,9 +14,9 @@ use Rattle.repo_tree.specs.declared.nodes.NodeKind.{NodeKind}
 use Rattle.repo_tree.proofs.Containing.{contained_or, first_contained, none_contained}
 use Rattle.repo_tree.proofs.DirectoryLemmas.{tree_once}
 use Rattle.repo_reach.specs.Collected.{tree_blobs, LeadsTo, IsReached}
-use Rattle.repo_reach.specs.Laws.{HoldsAt, IsUsed, IsWhole, UsedIsReached}
-use Rattle.repo_reach.specs.Links.{LeadTo, trees_in, content_in, trees_of, content_of}
-use Rattle.repo_reach.specs.Walks.{WasAt, IsLooked, HasText, IsMet, IsWalk, AreSeen}
+use Rattle.repo_reach.specs.Laws.{IsUsed, IsWhole, UsedIsReached}
+use Rattle.repo_reach.specs.Links.{trees_in, content_in, trees_of, content_of}
+use Rattle.repo_reach.specs.Walks.{WasAt, IsLooked, HasText, IsMet, IsWalk}
 use Rattle.repo_reach.specs.declared.links.Links.{Links}
 use Rattle.repo_reach.specs.declared.trees.Seen.{Seen}
 use Rattle.repo_reach.specs.declared.trees.Trees.{Trees}

@@ -1,15 +1,14 @@
 -- A walk that begins anew, and a tree that is taken back.
-use Rattle.std.proofs.Common.{arith, leb, zero, suc, ◌≡◌, ◌<◌, ◌≤◌, ◌+◌, ◌⊎◌, ◌++◌, ◌∷◌, [], ℕ, List, Option, Some, None, slice_get, slice_set, take, drop, length, refl, sym, ap, subst, inl, inr, ⊎_elim, ◌∙◌, Contains}
+use Rattle.std.proofs.Common.{arith, zero, suc, ◌≡◌, ◌⊎◌, ◌++◌, ◌∷◌, [], ℕ, List, Some, None, slice_get, slice_set, take, drop, length, refl, sym, ap, subst, inl, inr, ⊎_elim, ◌∙◌, Contains}
 use Rattle.std.proofs.lemmas.Option.{same_Some, none-some, slice_get_within}
-use Rattle.repo_name.specs.NameMaps.{found, Inserted, Dropped}
+use Rattle.repo_name.specs.NameMaps.{found}
 use Rattle.repo_name.specs.declared.names.Name.{Name}
 use Rattle.repo_tree.proofs.Containing.{none_contained}
-use Rattle.repo_reach.specs.Walks.{WasAt, IsLooked, IsWalk, StandsAt, AreSeen, HaveMet, IsSameTree, AreSameTrees, IsSameWalk, Rewinds, Adds, Drops}
+use Rattle.repo_reach.specs.Walks.{WasAt, IsWalk, StandsAt, AreSeen, IsSameTree, AreSameTrees, IsSameWalk, Rewinds, Adds, Drops}
 use Rattle.repo_reach.specs.declared.trees.Trees.{Trees}
 use Rattle.repo_reach.specs.declared.trees.Seen.{Seen}
-use Rattle.repo_reach.specs.declared.trees.Visit.{Visit}
 use Rattle.repo_reach.proofs.Flagging.{set_back, set_on, same_tree}
-use Rattle.repo_reach.proofs.Steps.{seen_on, stands_on, all_same}
+use Rattle.repo_reach.proofs.Steps.{seen_on, stands_on}
 
 -- ---- the same trees
 

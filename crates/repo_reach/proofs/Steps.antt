@@ -1,17 +1,16 @@
 -- What a look at a tree changes.
-use Rattle.std.proofs.Common.{arith, leb, Vec, Global, zero, suc, ◌≡◌, ◌<◌, ◌≤◌, ◌+◌, ◌⊎◌, ◌++◌, ◌∷◌, [], ℕ, true, List, Option, Some, None, map, reverse, slice_get, length, refl, sym, ap, subst, inl, inr, ⊎_elim, ◌∙◌, Contains}
+use Rattle.std.proofs.Common.{arith, leb, Vec, Global, suc, ◌≡◌, ◌<◌, ◌≤◌, ◌+◌, ◌⊎◌, ◌∷◌, [], ℕ, List, Option, Some, None, map, reverse, slice_get, length, refl, sym, ap, subst, inl, inr, ⊎_elim, ◌∙◌, Contains}
 use Rattle.std.proofs.lemmas.Bool.{cases_Bool, leb-true, leb-false}
 use Rattle.std.proofs.lemmas.Grind.{reverse_onto}
 use Rattle.std.proofs.lemmas.List.Elements.{Contains-append_left, Contains-append_right, Contains-append_cases}
-use Rattle.std.proofs.lemmas.Option.{same_Some, none-some}
+use Rattle.std.proofs.lemmas.Option.{same_Some}
 use Rattle.repo_name.specs.declared.names.Name.{Name}
 use Rattle.repo_tree.proofs.Containing.{contained_or, first_contained, later_contained, none_contained}
 use Rattle.repo_tree.specs.Spelling.{greatest_depth}
 use Rattle.repo_reach.specs.Collected.{LeadsTo}
-use Rattle.repo_reach.specs.Links.{trees_of}
 use Rattle.repo_name.specs.NameMaps.{found}
 use Rattle.repo_reach.specs.declared.trees.Trees.{Trees}
-use Rattle.repo_reach.specs.Walks.{IsWalk, IsSameSeen, IsSameWalk, WasAt, IsLooked, IsMet, HasText, IsSeen, StandsAt, AreSeen, HaveMet, IsSameTree, AreSameTrees, Flags, Spreads, trees_below}
+use Rattle.repo_reach.specs.Walks.{IsWalk, IsSameSeen, IsSameWalk, IsLooked, IsMet, HasText, IsSeen, StandsAt, AreSeen, HaveMet, AreSameTrees, Flags, Spreads, trees_below}
 use Rattle.repo_reach.specs.declared.links.Links.{Links}
 use Rattle.repo_reach.specs.declared.trees.Seen.{Seen}
 use Rattle.repo_reach.specs.declared.trees.Visit.{Visit}

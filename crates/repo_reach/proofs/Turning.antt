@@ -1,5 +1,5 @@
 -- What comes next of a walk.
-use Rattle.std.proofs.Common.{arith, Vec, Global, ◌≡◌, ◌<◌, ◌≤◌, ℕ, List, Option, Some, None, slice_get, refl, sym, ap, subst, ◌∙◌}
+use Rattle.std.proofs.Common.{arith, Vec, Global, ◌≡◌, ℕ, List, Some, None, slice_get, sym, subst, ◌∙◌}
 use Rattle.repo_name.specs.NameMaps.{found}
 use Rattle.repo_name.specs.declared.names.Name.{Name}
 use Rattle.repo_index.specs.declared.facts.Fact.{Fact}

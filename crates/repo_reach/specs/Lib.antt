@@ -3,3 +3,4 @@ pub mod Links
 pub mod Collected
 pub mod Walks
 pub mod Laws
+pub mod Used

@@ -9,13 +9,15 @@
 //! walks knows of it.
 //!
 //! The definitions stand in `specs/`: `Links` (what a tree's nodes lead to), `Collected` (what is reached), `Walks`
-//! (where a walk stands, and its steps), `Laws` (what a walk that is done came upon).
+//! (where a walk stands, and its steps), `Laws` (what a walk that is done came upon), `Used` (that as a value).
 #![tactic(auto)]
 
 mod laws;
 mod links;
 mod trees;
+mod used;
 
 pub use laws::used_is_reached;
 pub use links::Links;
 pub use trees::{Seen, Trees, Turn};
+pub use used::Used;

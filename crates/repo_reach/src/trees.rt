@@ -21,7 +21,7 @@ use std::alloc::{AllocError, Global};
 use std::collections::BTreeMap;
 
 /// How many components a path has at most.
-const DEPTH: usize = 100;
+pub const DEPTH: usize = 100;
 
 /// A tree that was seen.
 #[derive(Drop)]

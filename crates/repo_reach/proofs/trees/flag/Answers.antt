@@ -1,4 +1,4 @@
-use Rattle.std.proofs.Common.{arith, ◌≡◌, ◌<◌, ℕ, length, slice_get, get_or, Some, true, refl, sym, ap, ◌∙◌}
+use Rattle.std.proofs.Common.{arith, ◌≡◌, ◌<◌, length, slice_get, Some, true, refl, sym, ap, ◌∙◌}
 use Rattle.std.proofs.lemmas.Option.{slice_get-get_or, slice_get_within}
 use Rattle.repo_reach.proofs.Flagging.{flags_same, flags_set, set_past}
 use Rattle.repo_reach.proofs.trees.flag.Goals as goal

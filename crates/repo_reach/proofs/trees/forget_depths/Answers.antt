@@ -1,4 +1,4 @@
-use Rattle.std.proofs.Common.{arith, rules, ◌≡◌, ◌<◌, ℕ, List, Some, slice_get, slice_index_or, slice_set, length, refl, sym, ap, subst, ⊎_elim, ◌∙◌}
+use Rattle.std.proofs.Common.{arith, ◌≡◌, ◌<◌, List, Some, slice_get, slice_index_or, slice_set, length, refl, sym, ap, subst, ⊎_elim, ◌∙◌}
 use Rattle.std.proofs.lemmas.Option.{same_Some, slice_get-get_or, slice_get_within}
 use Rattle.repo_reach.specs.Walks.{WasAt, AreSameTrees}
 use Rattle.repo_reach.specs.declared.trees.Seen.{Seen}

@@ -1,4 +1,4 @@
-use Rattle.std.proofs.Common.{◌≡◌, List, sym, ap, subst, ◌∙◌}
+use Rattle.std.proofs.Common.{List, ap, subst}
 use Rattle.repo_reach.specs.Walks.{Flags}
 use Rattle.repo_reach.specs.declared.trees.Seen.{Seen}
 use Rattle.repo_reach.proofs.Steps.{unlooked_same, walk_looked, same_of}

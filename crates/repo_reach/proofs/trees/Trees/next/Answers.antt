@@ -1,4 +1,4 @@
-use Rattle.std.proofs.Common.{rules, ◌≡◌, ◌<◌, ◌≤◌, List, ℕ, Some, slice_get, sym, ap, subst, ◌∙◌}
+use Rattle.std.proofs.Common.{List, slice_get, sym, ap, subst, ◌∙◌}
 use Rattle.repo_reach.specs.Collected.{LeadsTo}
 use Rattle.repo_reach.specs.declared.trees.Seen.{Seen}
 use Rattle.repo_reach.proofs.Steps.{unlooked_same}

@@ -1,4 +1,4 @@
-use Rattle.std.proofs.Common.{arith, ◌≡◌, ℕ, List, slice_get, subst}
+use Rattle.std.proofs.Common.{arith, subst}
 use Rattle.repo_reach.specs.Walks.{IsLooked}
 use Rattle.repo_reach.proofs.Looking.{root_due, counted, is_no}
 use Rattle.repo_reach.proofs.trees.Trees.next_root.Goals as goal

@@ -1,4 +1,4 @@
-use Rattle.std.proofs.Common.{◌≡◌, ℕ, List, ap, ◌∙◌}
+use Rattle.std.proofs.Common.{◌∙◌}
 use Rattle.repo_reach.proofs.Looking.{waiting_due, walk_popped, waits_within, is_no}
 use Rattle.repo_reach.proofs.trees.Trees.next_waiting.Goals as goal
 

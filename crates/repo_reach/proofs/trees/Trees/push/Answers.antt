@@ -1,4 +1,4 @@
-use Rattle.std.proofs.Common.{rules, arith, ◌≡◌, ℕ, refl, subst, length}
+use Rattle.std.proofs.Common.{rules, ℕ, refl, subst}
 use Rattle.repo_name.specs.NameMaps.{found, Inserted}
 use Rattle.repo_reach.proofs.trees.Trees.push.Goals as goal
 

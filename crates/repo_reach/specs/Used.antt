@@ -1,0 +1,33 @@
+-- The pairs that a walk came upon, as a value.
+use Rattle.std.specs.Prelude.{◌≡◌, ◌⊎◌, ◌↔◌, ℕ, IsTrue, List, slice_get, Some}
+use Rattle.std.specs.BTreeSet.{BTreeSet, contains}
+use Rattle.repo_name.specs.Naming.{name_cmp}
+use Rattle.repo_name.specs.declared.kinds.BlobKind.{BlobKind}
+use Rattle.repo_name.specs.declared.kinds.BlobKind.TheVariants.{Content, Tree}
+use Rattle.repo_name.specs.declared.names.Name.{Name}
+use Rattle.repo_reach.specs.Laws.{HoldsAt}
+use Rattle.repo_reach.specs.Walks.{WasAt}
+use Rattle.repo_reach.specs.declared.trees.Seen.{Seen}
+use Rattle.repo_reach.specs.declared.used.Used.{Used}
+
+-- a name is in a set
+abbrev pub IsIn : BTreeSet Name → Name → Type 0
+IsIn set n = IsTrue (contains name_cmp set n)
+
+-- a pair is one of these
+abbrev pub HasPair : Used → BlobKind → Name → Type 0
+HasPair used Tree n = IsIn used.trees n
+HasPair used Content n = IsIn used.content n
+
+-- a tree that was seen gives a pair: itself, if it was looked at, and its content, if it was above the greatest depth
+abbrev pub GivesPair : Seen → BlobKind → Name → Type 0
+GivesPair seen Tree n = (seen.name ≡ n) × (depth : ℕ) × WasAt seen depth
+GivesPair seen Content n = (depth : ℕ) × HoldsAt seen depth n
+
+-- one of them gives it
+abbrev pub GivenBy : List Seen → BlobKind → Name → Type 0
+GivenBy all k n = (i : ℕ) × (seen : Seen) × (slice_get all i ≡ Some seen) × GivesPair seen k n
+
+-- the pairs that a tree gives came to those that were there
+abbrev pub HaveJoined : Used → Seen → Used → Type 0
+HaveJoined old seen new = (k : BlobKind) (n : Name) → HasPair new k n ↔ (HasPair old k n ⊎ GivesPair seen k n)
