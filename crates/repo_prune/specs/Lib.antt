@@ -6,4 +6,5 @@ pub mod Picking
 pub mod ForgetStates
 pub mod ForgetObedience
 pub mod Pruning
+pub mod Plans
 pub mod Laws

@@ -2,18 +2,21 @@
 //!
 //! [`keep`] gives the names of the snapshots that a [`Policy`] keeps: of each host the last ones, and the last of each
 //! of the last days. A [`Forget`] is a client that deletes snapshots, those of the names given to it or those that a
-//! policy doesn't keep: a session of repo_session around a job of its own.
+//! policy doesn't keep: a session of repo_session around a job of its own. [`Plan`] says what a prune keeps of the packs
+//! and what it moves, by what the indexes say and which blobs are used.
 //!
 //! Promised: `keep` gives just the names of the rows that the policy keeps, whatever their order. A forget is a client
 //! of repo_session, so each request was one that the exchanges before it allow, whoever answers: it deletes a listed
 //! snapshot that is chosen, by a policy once all were read, it puts nothing, and it reads nothing after its first
 //! delete. `Forgotten` comes only once the delete of each chosen one is done. Alone with its store it keeps it sound,
-//! ends well, and leaves just the others (`laws`). Not promised: that a store answers.
+//! ends well, and leaves just the others (`laws`). A plan keeps just the packs of 1 to 4,096 blobs that are all used
+//! copies, and moves just the used copies of the others; of each used blob that an index gives, the used copy is the one
+//! at the least place. Not promised: that a store answers.
 //!
 //! The definitions stand in `specs/`: `Keeping` (what a policy keeps), `Forgetting` (which snapshots a forget may
 //! delete, and how it may end); and what is known on the way: `Walks` (how the rows of a host are gone down), `Picking`,
-//! `ForgetStates` and `ForgetObedience`; `Laws` (a forget alone with its store); `Pruning` (what a prune may put and
-//! delete, and how it may end: nothing stands on it yet).
+//! `ForgetStates` and `ForgetObedience`; `Laws` (a forget alone with its store); `Plans` (what a prune keeps and
+//! moves); `Pruning` (what a prune may put and delete, and how it may end: nothing stands on it yet).
 #![tactic(auto)]
 
 mod choices;
@@ -21,9 +24,11 @@ mod forgets;
 mod keeping;
 mod laws;
 mod picking;
+mod plans;
 mod standings;
 
 pub use choices::{Choice, ForgetError};
 pub use forgets::Forget;
 pub use keeping::{Policy, keep};
 pub use laws::{forget_ends_well, forget_keeps_sound, forget_leaves_the_others};
+pub use plans::Plan;

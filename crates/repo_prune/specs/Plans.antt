@@ -1,0 +1,73 @@
+-- What a prune keeps, and what it moves.
+use Rattle.std.specs.Prelude.{◌≡◌, ◌≢◌, ◌≤◌, ◌⊎◌, ◌++◌, ◌∷◌, ◌↔◌, [], List, map, length, Contains}
+use Rattle.std.specs.List.Sorted.{IsStrictlySortedBy}
+use Rattle.repo_name.specs.Naming.{name_cmp}
+use Rattle.repo_name.specs.declared.names.Name.{Name}
+use Rattle.repo_index.specs.Lookups.{IsLeast, AreFactsOf}
+use Rattle.repo_index.specs.Order.{place_first}
+use Rattle.repo_index.specs.declared.facts.Fact.{Fact}
+use Rattle.repo_index.specs.declared.facts.PackFacts.{PackFacts}
+use Rattle.repo_reach.specs.Used.{HasPair}
+use Rattle.repo_reach.specs.declared.used.Used.{Used}
+use Rattle.repo_prune.specs.declared.plans.Plan.{Plan}
+
+-- the copy of a used pair that is used: the one at the least place
+pub record IsUsedCopy (used : Used) (facts : List Fact) (fact : Fact) : Type 0 where
+  pub is_used : HasPair used fact.kind fact.name
+  pub least : IsLeast facts fact.kind fact.name fact.place
+
+-- a pack stays: these are its facts, 1 to 4,096, and all are used copies
+pub record Stays (used : Used) (facts : List Fact) (listed : PackFacts) : Type 0 where
+  pub all : AreFactsOf facts listed.pack listed.facts
+  pub some : 1 ≤ length listed.facts
+  pub few : length listed.facts ≤ 4_096
+  pub copies : (fact : Fact) → Contains listed.facts fact → IsUsedCopy used facts fact
+
+-- a blob moves: it is a used copy, and its pack doesn't stay
+pub record Moves (used : Used) (facts : List Fact) (fact : Fact) : Type 0 where
+  pub copy : IsUsedCopy used facts fact
+  pub leaves : (listed : PackFacts) → Stays used facts listed → listed.pack ≢ fact.place.pack
+
+-- the packs that stay, and the blobs that move, ascending
+pub record IsPlanOf (used : Used) (facts : List Fact) (plan : Plan) : Type 0 where
+  pub kept : (listed : PackFacts) → Contains plan.kept.items listed ↔ Stays used facts listed
+  pub moves : (fact : Fact) → Contains plan.moves.items fact ↔ Moves used facts fact
+  pub kept_ascend : IsStrictlySortedBy name_cmp (map (λ (listed : PackFacts). listed.pack) plan.kept.items)
+  pub moves_ascend : IsStrictlySortedBy place_first plan.moves.items
+
+-- ---- on the way
+
+-- those of some facts that are used copies, in their order
+pub record AreCopiesOf (used : Used) (facts own copies : List Fact) : Type 0 where
+  pub each : (fact : Fact) → Contains copies fact ↔ (Contains own fact × IsUsedCopy used facts fact)
+  pub ascend : IsStrictlySortedBy place_first own → IsStrictlySortedBy place_first copies
+  pub fewer : length copies ≤ length own
+  pub whole : (length copies ≡ length own) ↔ ((fact : Fact) → Contains own fact → IsUsedCopy used facts fact)
+
+-- a plan for the packs of these names alone
+pub record IsPlanFor (used : Used) (facts : List Fact) (packs : List Name) (plan : Plan) : Type 0 where
+  pub kept : (listed : PackFacts) → Contains plan.kept.items listed ↔ (Contains packs listed.pack × Stays used facts listed)
+  pub moves : (fact : Fact) → Contains plan.moves.items fact ↔ (Contains packs fact.place.pack × Moves used facts fact)
+  pub kept_ascend : IsStrictlySortedBy name_cmp (map (λ (listed : PackFacts). listed.pack) plan.kept.items)
+  pub moves_ascend : IsStrictlySortedBy place_first plan.moves.items
+
+-- it stays, and comes to those that are kept
+pub record PlansStay (used : Used) (facts : List Fact) (pack : Name) (old new : Plan) : Type 0 where
+  pub listed : PackFacts
+  pub named : listed.pack ≡ pack
+  pub stays : Stays used facts listed
+  pub kept : new.kept.items ≡ old.kept.items ++ listed ∷ []
+  pub moves : new.moves.items ≡ old.moves.items
+
+-- it doesn't, and its used copies come to those that move
+pub record PlansMoves (used : Used) (facts : List Fact) (pack : Name) (old new : Plan) : Type 0 where
+  pub copies : List Fact
+  pub each : (fact : Fact) → Contains copies fact ↔ ((fact.place.pack ≡ pack) × IsUsedCopy used facts fact)
+  pub ascend : IsStrictlySortedBy place_first copies
+  pub leaves : (listed : PackFacts) → Stays used facts listed → listed.pack ≢ pack
+  pub moves : new.moves.items ≡ old.moves.items ++ copies
+  pub kept : new.kept.items ≡ old.kept.items
+
+-- one pack more came to the plan
+abbrev pub Plans : Used → List Fact → Name → Plan → Plan → Type 0
+Plans used facts pack old new = PlansStay used facts pack old new ⊎ PlansMoves used facts pack old new
