@@ -5,3 +5,6 @@ pub mod ForgetRuns
 pub mod Leaving
 pub mod Ascending
 pub mod Planning
+pub mod Covering
+pub mod TreeReading
+pub mod Finding

@@ -7,4 +7,6 @@ pub mod ForgetStates
 pub mod ForgetObedience
 pub mod Pruning
 pub mod Plans
+pub mod Reading
+pub mod Unfound
 pub mod Laws

@@ -2,13 +2,17 @@
 use Rattle.std.specs.Prelude.{◌≡◌, ◌≢◌, ◌≤◌, ◌⊎◌, ◌++◌, ◌∷◌, ◌↔◌, [], List, map, length, Contains}
 use Rattle.std.specs.List.Sorted.{IsStrictlySortedBy}
 use Rattle.repo_name.specs.Naming.{name_cmp}
+use Rattle.repo_name.specs.declared.kinds.BlobKind.{BlobKind}
 use Rattle.repo_name.specs.declared.names.Name.{Name}
+use Rattle.repo_index.specs.IndexText.{facts_in}
 use Rattle.repo_index.specs.Lookups.{IsLeast, AreFactsOf}
 use Rattle.repo_index.specs.Order.{place_first}
 use Rattle.repo_index.specs.declared.facts.Fact.{Fact}
 use Rattle.repo_index.specs.declared.facts.PackFacts.{PackFacts}
 use Rattle.repo_reach.specs.Used.{HasPair}
 use Rattle.repo_reach.specs.declared.used.Used.{Used}
+use Rattle.repo_writing.specs.Blobs.{HasFact}
+use Rattle.repo_prune.specs.Pruning.{AreFactsOnce}
 use Rattle.repo_prune.specs.declared.plans.Plan.{Plan}
 
 -- the copy of a used pair that is used: the one at the least place
@@ -34,6 +38,16 @@ pub record IsPlanOf (used : Used) (facts : List Fact) (plan : Plan) : Type 0 whe
   pub moves : (fact : Fact) → Contains plan.moves.items fact ↔ Moves used facts fact
   pub kept_ascend : IsStrictlySortedBy name_cmp (map (λ (listed : PackFacts). listed.pack) plan.kept.items)
   pub moves_ascend : IsStrictlySortedBy place_first plan.moves.items
+
+-- the facts of a plan: those of the packs that stay, and those that move
+abbrev pub planned_facts : Plan → List Fact
+planned_facts plan = facts_in plan.kept.items ++ plan.moves.items
+
+-- they cover what is used: each used pair that has a fact is one of them, each of them is of a used pair, and no two are of one pair
+pub record Covers (used : Used) (facts : List Fact) (plan : Plan) : Type 0 where
+  pub given : (k : BlobKind) (n : Name) → HasPair used k n → HasFact facts k n → HasFact (planned_facts plan) k n
+  pub just : (fact : Fact) → Contains (planned_facts plan) fact → HasPair used fact.kind fact.name
+  pub once : AreFactsOnce (planned_facts plan)
 
 -- ---- on the way
 

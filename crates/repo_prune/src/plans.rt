@@ -3,7 +3,7 @@
 ghost use Rattle.std.specs.Prelude.{◌≡◌, ◌≤◌, ◌↔◌, length, IfOk, OnOk, IsTrue, Contains};
 ghost use Rattle.repo_pack.specs.declared.places.Place.{Place};
 ghost use Rattle.repo_index.specs.Lookups.{IsLeast};
-ghost use Rattle.repo_prune.specs.Plans.{IsUsedCopy, IsPlanOf, AreCopiesOf, Plans};
+ghost use Rattle.repo_prune.specs.Plans.{IsUsedCopy, IsPlanOf, Covers, AreCopiesOf, Plans};
 
 use repo_index::{Fact, Lookup, PackFacts};
 use repo_name::Name;
@@ -97,7 +97,8 @@ impl Plan {
     /// What is kept and what moves, where these blobs are used and the indexes say where they lie. It fails for memory
     /// alone.
     pub fn of(alloc: Global, lookup: &Lookup, used: &Used) -> Result<Plan, AllocError>
-        ensures { IfOk result (IsPlanOf used.now lookup.now) }
+        ensures plan { IfOk result (IsPlanOf used.now lookup.now) }
+        ensures covers { IfOk result (Covers used.now lookup.now) }
     {
         let mut plan = Plan {
             kept: Vec::new(alloc),

@@ -1,0 +1,67 @@
+-- What is known while a prune reads trees.
+use Rattle.std.specs.Prelude.{◌≡◌, ◌⊎◌, ◌++◌, ◌∷◌, [], ℕ, List, length, slice_get, Some, Contains}
+use Rattle.repo_name.specs.Naming as naming
+use Rattle.repo_name.specs.declared.kinds.BlobKind.{BlobKind}
+use Rattle.repo_name.specs.declared.kinds.BlobKind.TheVariants.{Tree}
+use Rattle.repo_name.specs.declared.kinds.Thing.{Thing}
+use Rattle.repo_name.specs.declared.names.Name.{Name}
+use Rattle.repo_wire.specs.declared.messages.Say.{Say}
+use Rattle.repo_index.specs.declared.facts.Fact.{Fact}
+use Rattle.repo_tree.specs.Parts.{Blobs}
+use Rattle.repo_session.specs.Blobs.{range_of}
+use Rattle.repo_session.specs.Catalogs.{IsNowhere}
+use Rattle.repo_session.specs.Ends.{blob_thing, IsBadBlob, IsUnwelcome}
+use Rattle.repo_session.specs.Trees.{Under, IsNeeded, IsBroken}
+use Rattle.repo_session.specs.declared.outcomes.End.{End}
+use Rattle.repo_reach.specs.Collected.{tree_blobs}
+use Rattle.repo_reach.specs.Laws.{IsWhole}
+use Rattle.repo_reach.specs.Walks.{IsWalk, TurnIs}
+use Rattle.repo_reach.specs.declared.links.Links.{Links}
+use Rattle.repo_reach.specs.declared.trees.Seen.{Seen}
+use Rattle.repo_reach.specs.declared.trees.Trees.{Trees}
+use Rattle.repo_reach.specs.declared.trees.Turn.TheVariants as turn
+use Rattle.repo_writing.specs.Blobs.{HasFact}
+use Rattle.repo_prune.specs.declared.reading.Walked.{Walked}
+
+-- each tree that was seen was read, and a fact gives it
+abbrev pub AreFound : List Fact → List Seen → Type 0
+AreFound facts all = (i : ℕ) (seen : Seen) → slice_get all i ≡ Some seen → ((links : Links) × (seen.links ≡ Some links)) × HasFact facts Tree seen.name
+
+-- a walk over trees that were read from these texts
+pub record Walks (facts : List Fact) (texts : List (List ℕ)) (trees : Trees) : Type 0 where
+  pub walk : IsWalk texts trees
+  pub found : AreFound facts trees.seen.items
+
+-- and the tree of this fact is to be asked for
+pub record Awaits (facts : List Fact) (texts : List (List ℕ)) (trees : Trees) (fact : Fact) : Type 0 where
+  pub walks : Walks facts texts trees
+  pub next : TurnIs facts texts trees (turn.Ask fact)
+
+-- why it can't go on: no fact gives a tree that a root needs, or such a tree is broken
+abbrev pub CannotGoOn : List Fact → Blobs → List Name → End → Type 0
+CannotGoOn facts B roots (End.Missing thing name) = (kind : BlobKind) × (thing ≡ blob_thing kind) × IsNowhere facts kind name × ((root : Name) × Contains roots root × IsNeeded 1 B root kind name)
+CannotGoOn facts B roots (End.BadObject thing tree) = (thing ≡ Thing.Tree) × ((root : Name) × Contains roots root × ((path : List (List ℕ)) × Under 1 B root path tree × IsBroken 1 B root path tree))
+CannotGoOn facts B roots _ = ⊥
+
+-- what comes next of it
+abbrev pub WalksOn : List Fact → List (List ℕ) → Trees → Walked → Type 0
+WalksOn facts texts trees (Walked.Ask fact) = Awaits facts texts trees fact
+WalksOn facts texts trees Walked.Done = Walks facts texts trees × IsWhole trees
+WalksOn facts texts trees (Walked.Ended end) = CannotGoOn facts (tree_blobs texts) trees.roots.items end
+WalksOn facts texts trees Walked.Away = ⊥
+
+-- the reply is the blob that a fact promises
+pub record IsPromised (fact : Fact) (say : Say) (x : List ℕ) : Type 0 where
+  pub bytes : say ≡ Say.Bytes x
+  pub named : naming.name x ≡ fact.name
+  pub long : length x ≡ fact.place.length
+
+-- what comes next where the promised blob came
+abbrev pub GoesOnWith : List Fact → List (List ℕ) → Fact → Say → Trees → Walked → Type 0
+GoesOnWith facts texts fact say trees walked = (x : List ℕ) × IsPromised fact say x × WalksOn facts (texts ++ x ∷ []) trees walked
+
+-- what comes of the reply to the request for a tree
+abbrev pub TakesTree : List Fact → List (List ℕ) → Fact → Say → Trees → Walked → Type 0
+TakesTree facts texts fact say trees (Walked.Ended end) = ((x : List ℕ) × (say ≡ Say.Bytes x) × IsBadBlob fact x × (end ≡ End.BadObject Thing.Tree fact.name)) ⊎ GoesOnWith facts texts fact say trees (Walked.Ended end)
+TakesTree facts texts fact say trees Walked.Away = IsUnwelcome (range_of fact) say
+TakesTree facts texts fact say trees walked = GoesOnWith facts texts fact say trees walked

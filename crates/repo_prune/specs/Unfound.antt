@@ -1,0 +1,23 @@
+-- Used blobs that no index gives.
+use Rattle.std.specs.Prelude.{◌≡◌, [], ℕ, List, slice_get, Option, Some, None, Contains}
+use Rattle.repo_name.specs.declared.kinds.BlobKind.TheVariants.{Content}
+use Rattle.repo_name.specs.declared.names.Name.{Name}
+use Rattle.repo_index.specs.declared.facts.Fact.{Fact}
+use Rattle.repo_reach.specs.Used.{HasPair}
+use Rattle.repo_reach.specs.declared.links.Links.{Links}
+use Rattle.repo_reach.specs.declared.trees.Seen.{Seen}
+use Rattle.repo_reach.specs.declared.used.Used.{Used}
+use Rattle.repo_writing.specs.Blobs.{HasFact}
+
+-- the content that a tree which was read names; none of another
+abbrev pub content_in : Option Links → List Name
+content_in None = []
+content_in (Some links) = links.content.items
+
+-- this is the content of a tree that was seen
+abbrev pub IsContentOf : Seen → List Name → Type 0
+IsContentOf seen content = content ≡ content_in seen.links
+
+-- facts give all used content that one of these trees names
+abbrev pub AreGiven : List Fact → Used → List Seen → Type 0
+AreGiven facts used all = (i : ℕ) (seen : Seen) (n : Name) → slice_get all i ≡ Some seen → Contains (content_in seen.links) n → HasPair used Content n → HasFact facts Content n
