@@ -7,3 +7,9 @@ pub mod Safe
 pub mod Laws
 pub mod Bag
 pub mod BagLaws
+pub mod WrongDeletes
+pub mod WrongLocks
+pub mod WrongPacksFirst
+pub mod WrongListedPacks
+pub mod WrongSnapshots
+pub mod WrongReplies

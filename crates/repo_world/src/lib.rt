@@ -13,11 +13,12 @@
 //! Not promised: that a client ever ends, that a message arrives, that what a crashed client put is freed before a prune.
 //!
 //! The definitions stand in `specs/`, in the order in which they are read: `Clients`, `World`, `Failing`, `Events`, `Safe`,
-//! `Laws`; then, for why the laws hold, `Bag` and `BagLaws`.
+//! `Laws`; then, for why the laws hold, `Bag` and `BagLaws`; and wrong rules, a file each, with what they break.
 #![tactic(auto)]
 
 mod bag_laws;
 mod laws;
+mod wrong_rules;
 
 pub use bag_laws::{
     bag_gives_safety, beginning_has_bag, crashes_keep_bag, dead_tokens_keep_bag, delete_keeps_bag,
@@ -27,4 +28,8 @@ pub use bag_laws::{
 pub use laws::{
     each_event_keeps_reports, each_report_holds, every_run_is_safe, failing_is_a_step,
     no_clash_goes_back,
+};
+pub use wrong_rules::{
+    deletes_for_ever_break_bag, grants_again_break_bag, packs_first_break_sound, snapshot_first_breaks_sound,
+    takes_any_break_bag, unkept_break_sound,
 };
