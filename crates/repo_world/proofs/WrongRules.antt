@@ -1,7 +1,6 @@
 -- What wrong rules break.
-use Rattle.std.proofs.Common.{◌≡◌, ◌≢◌, ◌⊎◌, ◌==◌, inl, inr, ⊎_elim, ℕ, suc, zero, Bool, true, false, cond, List, [], ◌∷◌, refl, sym, ◌∙◌, ap, subst, Option, Some, None}
+use Rattle.std.proofs.Common.{◌≡◌, ◌≢◌, inl, ⊎_elim, ℕ, suc, zero, List, [], refl, sym, ◌∙◌, ap, subst, Some, None}
 use Rattle.std.proofs.lemmas.Option.{none-some}
-use Rattle.repo_name.specs.Naming as naming
 use Rattle.repo_name.specs.declared.kinds.BlobKind.{BlobKind}
 use Rattle.repo_name.specs.declared.kinds.BlobKind.TheVariants.{Tree}
 use Rattle.repo_name.specs.declared.kinds.Kind.{Kind}
@@ -9,13 +8,10 @@ use Rattle.repo_name.specs.declared.names.Name.{Name}
 use Rattle.repo_name.specs.declared.rows.LockRow.{LockRow}
 use Rattle.repo_name.specs.declared.tokens.Token.{Token}
 use Rattle.repo_wire.specs.declared.messages.Ask.{Ask}
-use Rattle.repo_wire.specs.declared.messages.Reply.{Reply}
-use Rattle.repo_wire.specs.declared.messages.Request.{Request}
 use Rattle.repo_wire.specs.declared.messages.Say.{Say}
-use Rattle.repo_locks.specs.declared.outcomes.Grant.{Grant}
-use Rattle.repo_locks.specs.TokenMachine.{Tokens, live_as, granted}
+use Rattle.repo_locks.specs.TokenMachine.{Tokens, live_as}
 use Rattle.repo_locks.proofs.Changed.{kind_among-with_row_same}
-use Rattle.repo_store.specs.Stores.{Store, Objects, Added, Removed}
+use Rattle.repo_store.specs.Stores.{Objects, Added, Removed}
 use Rattle.repo_index.specs.IndexText.{Says}
 use Rattle.repo_index.specs.declared.facts.Fact.{Fact}
 use Rattle.repo_tree.specs.Parts.{Blobs, IsPartBy}
@@ -26,7 +22,7 @@ use Rattle.repo_tree.proofs.SnapshotLemmas.{snapshot_texts_one}
 use Rattle.repo_session.specs.Soundness.{IsHeld, IsSound, IsSoundSnapshot}
 use Rattle.repo_session.specs.Traces.{Exchanged}
 use Rattle.repo_session.proofs.Wholeness.{given_held}
-use Rattle.repo_world.specs.Bag.{HasDeleted, IsLive, StillSays, HasBag}
+use Rattle.repo_world.specs.Bag.{StillSays}
 use Rattle.repo_world.specs.Safe.{Took}
 use Rattle.repo_world.specs.World.{World, client}
 use Rattle.repo_world.specs.WrongDeletes.{DeletesForEverBreakBag}
@@ -36,7 +32,6 @@ use Rattle.repo_world.specs.WrongPacksFirst.{PacksFirstBreakSound}
 use Rattle.repo_world.specs.WrongReplies.{TakesAnyBreakBag}
 use Rattle.repo_world.specs.WrongSnapshots.{SnapshotFirstBreaksSound}
 use Rattle.repo_world.proofs.Knowing.{put_named}
-use Rattle.repo_world.proofs.Staying.{served}
 
 -- ---- a delete under a token that isn't live
 

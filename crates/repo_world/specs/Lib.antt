@@ -7,6 +7,7 @@ pub mod Safe
 pub mod Laws
 pub mod Bag
 pub mod BagLaws
+pub mod Lone
 pub mod WrongDeletes
 pub mod WrongLocks
 pub mod WrongPacksFirst

@@ -1,5 +1,6 @@
 //! What holds of all runs, by the definitions alone. Each function is empty, and its contract is the law.
 
+ghost use Rattle.repo_world.specs.Lone.{LoneTalkIsARun};
 ghost use Rattle.repo_world.specs.Laws.{EachEventKeepsReports, EachReportHolds, EveryRunIsSafe, FailingIsAStep, NoClashGoesBack};
 
 /// A step in which a call of the store's device fails, as it was called for, is a step of the store machine.
@@ -27,4 +28,10 @@ pub fn each_report_holds()
 /// snapshot's backup is one list: where no two byte lists clash in the last world.
 pub fn every_run_is_safe()
     ensures { EveryRunIsSafe }
+{}
+
+/// A client that talks alone with the world's store, from its ticket to its end, as it owes it, is a part of a run: so a run
+/// may come to all that jobs come to one after another, each alone with the store that the one before it left.
+pub fn lone_talk_is_a_run()
+    ensures { LoneTalkIsARun }
 {}

@@ -30,6 +30,6 @@ pub use laws::{
     no_clash_goes_back,
 };
 pub use wrong_rules::{
-    deletes_for_ever_break_bag, grants_again_break_bag, packs_first_break_sound, snapshot_first_breaks_sound,
-    takes_any_break_bag, unkept_break_sound,
+    deletes_for_ever_break_bag, grants_again_break_bag, packs_first_break_sound,
+    snapshot_first_breaks_sound, takes_any_break_bag, unkept_break_sound,
 };
