@@ -8,6 +8,7 @@ pub mod Laws
 pub mod Bag
 pub mod BagLaws
 pub mod Lone
+pub mod Example
 pub mod WrongDeletes
 pub mod WrongLocks
 pub mod WrongPacksFirst

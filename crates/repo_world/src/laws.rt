@@ -1,5 +1,6 @@
 //! What holds of all runs, by the definitions alone. Each function is empty, and its contract is the law.
 
+ghost use Rattle.repo_world.specs.Example.{ExampleIsARun};
 ghost use Rattle.repo_world.specs.Lone.{LoneTalkIsARun};
 ghost use Rattle.repo_world.specs.Laws.{EachEventKeepsReports, EachReportHolds, EveryRunIsSafe, FailingIsAStep, NoClashGoesBack};
 
@@ -34,4 +35,10 @@ pub fn every_run_is_safe()
 /// may come to all that jobs come to one after another, each alone with the store that the one before it left.
 pub fn lone_talk_is_a_run()
     ensures { LoneTalkIsARun }
+{}
+
+/// The definitions can be met: eight events are a run, in which a call of the store's device fails, a message is delivered late,
+/// a lock is removed and the store is opened anew, and no two byte lists clash in its last world.
+pub fn example_is_a_run()
+    ensures { ExampleIsARun }
 {}
