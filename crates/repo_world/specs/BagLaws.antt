@@ -1,0 +1,101 @@
+-- Why every run is safe: what keeps the bag invariant, and what it gives.
+use Rattle.std.specs.Prelude.{◌≡◌, ⊤, ℕ, List}
+use Rattle.repo_name.specs.declared.kinds.Kind.{Kind}
+use Rattle.repo_name.specs.declared.names.Name.{Name}
+use Rattle.repo_name.specs.declared.tokens.Token.{Token}
+use Rattle.repo_wire.specs.declared.messages.Ask.{Ask}
+use Rattle.repo_wire.specs.declared.messages.Reply.{Reply}
+use Rattle.repo_wire.specs.declared.messages.Request.{Request}
+use Rattle.repo_store.specs.StoreMachine.{Step}
+use Rattle.repo_store.specs.Stores.{Store}
+use Rattle.repo_world.specs.Bag.{IsLive, IsExclusive, HasBag}
+use Rattle.repo_world.specs.Clients.{Job}
+use Rattle.repo_world.specs.Events.{Event, Applied, Happens, Serves, Takes, Starts, Crashes, Unlocks}
+use Rattle.repo_world.specs.Laws.{IsEmpty}
+use Rattle.repo_world.specs.Safe.{HandedIsOne, HasNoClash, IsSafe}
+use Rattle.repo_world.specs.World.{World, Has, Asked, Said, beginning}
+
+-- where nothing was sent the bag is in order
+abbrev pub BeginningHasBag : Type 0
+BeginningHasBag = (store : Store) → IsEmpty store → HasBag (beginning store)
+
+-- a request among the messages is delivered, and the store makes a step
+abbrev pub IsServed : World → ℕ → Request → World → Type 0
+IsServed w k request v = Has w.messages (Asked k request) × Serves Step w k request v
+
+-- ---- requests that may change objects
+
+-- a put under a live token
+abbrev pub PutKeepsBag : Type 0
+PutKeepsBag = (w v : World) (k : ℕ) (request : Request) (t : Token) (j : Kind) (n : Name) (x : List ℕ) → HasBag w → HasNoClash v → IsServed w k request v
+    → request.ask ≡ Ask.Put t j n x → IsLive w t → HasBag v
+
+-- a delete under a live exclusive token
+abbrev pub DeleteKeepsBag : Type 0
+DeleteKeepsBag = (w v : World) (k : ℕ) (request : Request) (t : Token) (j : Kind) (n : Name) → HasBag w → HasNoClash v → IsServed w k request v
+    → request.ask ≡ Ask.Delete t j n → IsExclusive w t → HasBag v
+
+-- a put under a token that isn't live, or a delete under one that isn't live and exclusive
+abbrev pub IsOfDead : World → Ask → Type 0
+IsOfDead w (Ask.Put t j n x) = ¬ IsLive w t
+IsOfDead w (Ask.Delete t j n) = ¬ IsExclusive w t
+IsOfDead w _ = ⊥
+
+-- it changes no object
+abbrev pub DeadKeepBag : Type 0
+DeadKeepBag = (w v : World) (k : ℕ) (request : Request) → HasBag w → HasNoClash v → IsServed w k request v → IsOfDead w request.ask → HasBag v × (v.store.objects ≡ w.store.objects)
+
+-- ---- the other requests
+
+-- a request that reads
+abbrev pub IsRead : Ask → Type 0
+IsRead (Ask.List j after) = ⊤
+IsRead (Ask.Get j n) = ⊤
+IsRead (Ask.Range pack offset len) = ⊤
+IsRead Ask.Config = ⊤
+IsRead Ask.Locks = ⊤
+IsRead _ = ⊥
+
+-- it changes nothing
+abbrev pub ReadsKeepBag : Type 0
+ReadsKeepBag = (w v : World) (k : ℕ) (request : Request) → HasBag w → HasNoClash v → IsServed w k request v → IsRead request.ask → HasBag v × (v.store ≡ w.store)
+
+-- a request on tickets and locks
+abbrev pub IsOnLocks : Ask → Type 0
+IsOnLocks Ask.Ticket = ⊤
+IsOnLocks (Ask.Lock row) = ⊤
+IsOnLocks (Ask.Refresh t time) = ⊤
+IsOnLocks (Ask.Unlock t) = ⊤
+IsOnLocks _ = ⊥
+
+-- it changes no object
+abbrev pub LocksKeepBag : Type 0
+LocksKeepBag = (w v : World) (k : ℕ) (request : Request) → HasBag w → HasNoClash v → IsServed w k request v → IsOnLocks request.ask → HasBag v × (v.store.objects ≡ w.store.objects)
+
+-- ---- the other events
+
+-- a reply among the messages is taken
+abbrev pub RepliesKeepBag : Type 0
+RepliesKeepBag = (w v : World) (k : ℕ) (reply : Reply) → HasBag w → Has w.messages (Said k reply) → Takes w k reply v → HasBag v
+
+-- a client starts
+abbrev pub StartsKeepBag : Type 0
+StartsKeepBag = (w v : World) (job : Job) (host : List ℕ) (time : ℕ) → HasBag w → Starts w job host time v → HasBag v
+
+-- a client stops for good
+abbrev pub CrashesKeepBag : Type 0
+CrashesKeepBag = (w v : World) (k : ℕ) → HasBag w → Crashes w k v → HasBag v
+
+-- a lock is removed
+abbrev pub RemovedLocksKeepBag : Type 0
+RemovedLocksKeepBag = (w v : World) (t : Token) → HasBag w → Unlocks w t v → HasBag v
+
+-- ---- all together
+
+-- any event
+abbrev pub EachEventKeepsBag : Type 0
+EachEventKeepsBag = (w v : World) (e : Event) (applied : Applied) → HasBag w → HasNoClash v → Happens ⊤ w e applied v → HasBag v
+
+-- the bag gives safety
+abbrev pub BagGivesSafety : Type 0
+BagGivesSafety = (w : World) → HasBag w → HasNoClash w → IsSafe w × HandedIsOne w

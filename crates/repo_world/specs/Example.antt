@@ -1,0 +1,70 @@
+-- A run, as an example: a lock is granted but a failure told, the client's request is delivered once more, the client ends, its lock is removed, and the store
+-- is closed and opened.
+use Rattle.std.specs.Prelude.{◌∷◌, [], ℕ, true, false, List, Some, None}
+use Rattle.repo_name.specs.declared.rows.LockRow.{LockRow}
+use Rattle.repo_name.specs.declared.tokens.Token.{Token}
+use Rattle.repo_wire.specs.declared.messages.Ask.{Ask}
+use Rattle.repo_wire.specs.declared.messages.Code.{Code}
+use Rattle.repo_wire.specs.declared.messages.Reply.{Reply}
+use Rattle.repo_wire.specs.declared.messages.Request.{Request}
+use Rattle.repo_wire.specs.declared.messages.Say.{Say}
+use Rattle.repo_locks.specs.TokenMachine.{Tokens, start, issued, granted, unlocked}
+use Rattle.repo_store.specs.declared.faults.Fail.{Fail}
+use Rattle.repo_store.specs.Stores.{Store, empty}
+use Rattle.repo_session.specs.Askers.{asker, row_of}
+use Rattle.repo_session.specs.Clients.{exchange}
+use Rattle.repo_session.specs.declared.outcomes.End.{End}
+use Rattle.repo_session.specs.declared.outcomes.Outcome.{Outcome}
+use Rattle.repo_world.specs.Clients.{Backup, Client}
+use Rattle.repo_world.specs.Events.{Event, Start, Deliver, Fault, Unlock, Restart, Run}
+use Rattle.repo_world.specs.Safe.{HasNoClash}
+use Rattle.repo_world.specs.World.{World, Asked, Said, beginning, instance_of, first_of}
+
+-- the client's host, and its token
+abbrev pub host : List ℕ
+host = 97 ∷ []
+
+abbrev pub token : Token
+token = record { 0 = 1 }
+
+-- what it sends and is told: a ticket; a lock, with a failure and then without
+abbrev pub given : Reply
+given = record { instance = instance_of 0; sequence = 1; say = Say.Token token }
+
+abbrev pub row : LockRow
+row = row_of token false 5 host
+
+abbrev pub second : Request
+second = record { instance = instance_of 0; sequence = 2; ask = Ask.Lock row }
+
+abbrev pub failed : Reply
+failed = record { instance = instance_of 0; sequence = 2; say = Say.Refused Code.Fault }
+
+abbrev pub done : Reply
+done = record { instance = instance_of 0; sequence = 2; say = Say.Done }
+
+-- the store without objects, with these tokens
+abbrev pub with_tokens : Tokens → Store
+with_tokens tokens = record { config = None; objects = λ k n. None; tokens = tokens }
+
+-- the client at its end: its lock was answered by a failure
+abbrev pub refused : Client
+refused = record {
+  job = Backup [];
+  who = asker (instance_of 0) host 5;
+  trace = exchange second failed [] ∷ exchange (first_of 0) given [] ∷ [];
+  next = None;
+  outcome = Some (Outcome.Ended (End.Refused Code.Fault));
+  crashed = false;
+}
+
+-- the world at the end
+abbrev pub last : World
+last = record { store = with_tokens (unlocked (granted (issued start) row) token); clients = refused ∷ []; messages = Asked 0 (first_of 0) ∷ Said 0 given ∷ Asked 0 second ∷ Said 0 failed ∷ Said 0 done ∷ [] }
+
+abbrev pub events : List Event
+events = Start (Backup []) host 5 ∷ Deliver 0 ∷ Deliver 1 ∷ Fault 2 (Fail.Write true) ∷ Deliver 2 ∷ Deliver 3 ∷ Unlock token ∷ Restart ∷ []
+
+-- these events are a run from an empty store to this world, in which nothing clashes
+abbrev pub ExampleIsARun : Type 0
+ExampleIsARun = Run (beginning empty) events last × HasNoClash last

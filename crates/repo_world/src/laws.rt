@@ -1,0 +1,44 @@
+//! What holds of all runs, by the definitions alone. Each function is empty, and its contract is the law.
+
+ghost use Rattle.repo_world.specs.Example.{ExampleIsARun};
+ghost use Rattle.repo_world.specs.Lone.{LoneTalkIsARun};
+ghost use Rattle.repo_world.specs.Laws.{EachEventKeepsReports, EachReportHolds, EveryRunIsSafe, FailingIsAStep, NoClashGoesBack};
+
+/// A step in which a call of the store's device fails, as it was called for, is a step of the store machine.
+pub fn failing_is_a_step()
+    ensures { FailingIsAStep }
+{}
+
+/// Where no two byte lists clash after an event, none did before it.
+pub fn no_clash_goes_back()
+    ensures { NoClashGoesBack }
+{}
+
+/// Over any event each client stands where the order and its job's rule allow, and an outcome that is there stays.
+pub fn each_event_keeps_reports()
+    ensures { EachEventKeepsReports }
+{}
+
+/// A snapshot that a client once reported as stored is there, or its deletion was asked for, at every later time; and what
+/// this client was handed is what is known as handed to the snapshot's backup.
+pub fn each_report_holds()
+    ensures { EachReportHolds }
+{}
+
+/// From a store without objects, after any events, whatever comes after them, the world is safe, and what was handed to a
+/// snapshot's backup is one list: where no two byte lists clash in the last world.
+pub fn every_run_is_safe()
+    ensures { EveryRunIsSafe }
+{}
+
+/// A client that talks alone with the world's store, from its ticket to its end, as it owes it, is a part of a run: so a run
+/// may come to all that jobs come to one after another, each alone with the store that the one before it left.
+pub fn lone_talk_is_a_run()
+    ensures { LoneTalkIsARun }
+{}
+
+/// The definitions can be met: eight events are a run, in which a call of the store's device fails, a message is delivered late,
+/// a lock is removed and the store is opened anew, and no two byte lists clash in its last world.
+pub fn example_is_a_run()
+    ensures { ExampleIsARun }
+{}

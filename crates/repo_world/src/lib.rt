@@ -1,0 +1,35 @@
+//! The world: one store, any number of clients, and all messages that were ever sent between them; and the laws of all
+//! its runs.
+//!
+//! Promised: from a store without objects, over every list of events (clients start and stop for good, messages are
+//! delivered late, again, in any order or never, calls of the store's device fail, locks are removed by anybody, the store is
+//! closed and opened), every world is safe ([`every_run_is_safe`]): each snapshot in the store has all its blobs there and
+//! spells just the names and the bytes that were handed to its backup, each restore that is complete gave out just these,
+//! and a snapshot that was reported as stored is there until its deletion is asked for.
+//!
+//! Premises: no two of the byte lists that were sent, that stand as blobs in these, or that a backup made, have one name; the store
+//! makes steps of the store machine; the clients are those of this repository, each by the rule of its job.
+//!
+//! Not promised: that a client ever ends, that a message arrives, that what a crashed client put is freed before a prune.
+//!
+//! The definitions stand in `specs/`, in the order in which they are read: `Clients`, `World`, `Failing`, `Events`, `Safe`,
+//! `Laws`; then, for why the laws hold, `Bag` and `BagLaws`; and wrong rules, a file each, with what they break.
+#![tactic(auto)]
+
+mod bag_laws;
+mod laws;
+mod wrong_rules;
+
+pub use bag_laws::{
+    bag_gives_safety, beginning_has_bag, crashes_keep_bag, dead_tokens_keep_bag, delete_keeps_bag,
+    each_event_keeps_bag, locks_keep_bag, put_keeps_bag, reads_keep_bag, removed_locks_keep_bag,
+    replies_keep_bag, starts_keep_bag,
+};
+pub use laws::{
+    each_event_keeps_reports, each_report_holds, every_run_is_safe, example_is_a_run,
+    failing_is_a_step, lone_talk_is_a_run, no_clash_goes_back,
+};
+pub use wrong_rules::{
+    deletes_for_ever_break_bag, grants_again_break_bag, packs_first_break_sound,
+    snapshot_first_breaks_sound, takes_any_break_bag, unkept_break_sound,
+};
