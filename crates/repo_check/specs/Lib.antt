@@ -1,0 +1,5 @@
+-- The definitions that the contracts of this crate cite.
+pub mod Answers
+pub mod Findings
+pub mod Checking
+pub mod Laws

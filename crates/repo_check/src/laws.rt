@@ -1,0 +1,19 @@
+//! What holds of what a check tells, by the definitions alone. Each function is empty, and its contract is the law.
+
+ghost use Rattle.repo_check.specs.Laws.{WellIsSound, CleanIsSound, FoundOnce};
+
+/// Where all things are well in what was received, the objects received are a sound store. Premise: no two of the objects
+/// and trees received, and of the blobs in the packs, have one name.
+pub fn well_is_sound()
+    ensures { WellIsSound }
+{}
+
+/// Where a check is clean, the objects that it received are a sound store. The premise is the same.
+pub fn clean_is_sound()
+    ensures { CleanIsSound }
+{}
+
+/// Of each thing one thing is found: that it is well, or one fault.
+pub fn found_once()
+    ensures { FoundOnce }
+{}

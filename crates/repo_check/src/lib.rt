@@ -1,0 +1,6 @@
+//! The check of a store: whether every snapshot can be restored, and else what is wrong.
+#![tactic(auto)]
+
+mod laws;
+
+pub use laws::{clean_is_sound, found_once, well_is_sound};
