@@ -1,1 +1,3 @@
 -- Lemmas that the proofs of this crate share.
+pub mod Sounding
+pub mod Finding
