@@ -1,5 +1,5 @@
 -- One thing is found of each.
-use Rattle.std.proofs.Common.{◌≡◌, ◌≢◌, ◌∷◌, [], ℕ, zero, suc, List, Option, Some, None, map, refl, sym, ap, subst, inl, inr, ◌∙◌, ◌⊎◌, false, Contains}
+use Rattle.std.proofs.Common.{◌≡◌, ◌≢◌, ◌∷◌, [], ℕ, List, Option, Some, None, map, refl, sym, ap, subst, inl, inr, ◌∙◌, ◌⊎◌, false, Contains}
 use Rattle.std.proofs.lemmas.Cmp.{tied_itself}
 use Rattle.std.specs.Ordering.{ordering_then, ordering_reverse, is_gt}
 use Rattle.std.specs.declared.cmp.Ordering.{Ordering}
@@ -26,7 +26,7 @@ use Rattle.repo_tree.proofs.TreeLemmas.{tree_texts_one}
 use Rattle.repo_session.specs.declared.outcomes.FaultKind.{FaultKind}
 use Rattle.repo_session.specs.Traces.{Trace}
 use Rattle.repo_check.specs.Answers.{Answer, Answers, LiesAt, LiesNowhere}
-use Rattle.repo_check.specs.Checking.{IsFound, OfBlob, OfObject, AreAnswers, AreGot}
+use Rattle.repo_check.specs.Checking.{OfObject, AreAnswers, AreGot}
 use Rattle.repo_check.specs.Findings.{Reads, IsExactOf, IsFitting, IsMisplaced, ObjectIs, Measure, IsMeasured, IsMismeasured, IsWellTree, IsIllTree, IsTreeAt, TreeIs, ContentIs, BlobIs}
 use Rattle.repo_check.specs.Laws.{FoundOnce}
 

@@ -1,3 +1,6 @@
 -- Lemmas that the proofs of this crate share.
 pub mod Sounding
 pub mod Finding
+pub mod Arriving
+pub mod Measuring
+pub mod TreeLooks

@@ -1,5 +1,5 @@
 -- Where all things are well, what came is a sound store.
-use Rattle.std.proofs.Common.{arith, ◌≡◌, ◌+◌, ◌-◌, ◌++◌, ◌∷◌, [], ℕ, zero, suc, List, Option, Some, None, length, slice_get, refl, sym, ap, subst, inl, inr, ◌∙◌, length-append, Contains}
+use Rattle.std.proofs.Common.{arith, ◌≡◌, ◌+◌, ◌-◌, ◌++◌, ◌∷◌, [], ℕ, zero, suc, List, Some, length, slice_get, refl, sym, ap, subst, inl, inr, ◌∙◌, length-append, Contains}
 use Rattle.std.proofs.lemmas.Option.{slice_get_within, get_or_from_slice_get}
 use Rattle.std.specs.List.{All}
 use Rattle.repo_name.specs.Naming as naming
@@ -9,7 +9,6 @@ use Rattle.repo_name.specs.declared.kinds.BlobKind.TheVariants.{Content, Tree}
 use Rattle.repo_name.specs.declared.kinds.Kind.{Kind}
 use Rattle.repo_name.specs.declared.names.Name.{Name}
 use Rattle.repo_pack.specs.PackLayout.{Item, IsNamed, offset_of}
-use Rattle.repo_pack.specs.declared.places.Place.{Place}
 use Rattle.repo_pack.proofs.Offsets.{range_is}
 use Rattle.repo_index.specs.declared.facts.Fact.{Fact}
 use Rattle.repo_index.specs.declared.facts.PackFacts.{PackFacts}
@@ -17,18 +16,16 @@ use Rattle.repo_index.specs.IndexText.{fact_of, facts_in}
 use Rattle.repo_index.proofs.OneLemmas.{index_texts_one}
 use Rattle.repo_tree.specs.Parts.{Blobs, IsTree, HasNode}
 use Rattle.repo_tree.specs.Spelling.{Joined, NodeSpells, NodesSpell, SpellsTo, Spells, ReachTo, Reach, greatest_depth, dir_entry, file_entry}
-use Rattle.repo_tree.specs.SnapshotText.{IsSnapshotText}
 use Rattle.repo_tree.specs.declared.entries.Entry.{Entry}
 use Rattle.repo_tree.specs.declared.nodes.Node.{Node}
 use Rattle.repo_tree.specs.declared.nodes.NodeKind.{NodeKind}
-use Rattle.repo_tree.specs.declared.snapshots.Snapshot.{Snapshot}
 use Rattle.repo_tree.proofs.Containing.{first_contained, later_contained}
 use Rattle.repo_store.specs.Stores.{Objects}
 use Rattle.repo_session.specs.Changes.{AreHeldApart}
 use Rattle.repo_session.specs.Soundness.{IsHeld, IsExactPack, IsSoundIndex, IsSoundSnapshot, IsSound}
 use Rattle.repo_session.specs.Trees.{Under}
 use Rattle.repo_session.proofs.Wholeness.{spelled_sound}
-use Rattle.repo_check.specs.Answers.{Answer, Answers, Came, Gives, LiesAt, TreesOf, HasRoot, IsReached, IsDeepest}
+use Rattle.repo_check.specs.Answers.{Answers, Came, Gives, TreesOf, HasRoot, IsReached, IsDeepest}
 use Rattle.repo_check.specs.Checking.{AreWell}
 use Rattle.repo_check.specs.Findings.{IsFitting, IsExactOf, Measure, IsMeasured, IsWellTree}
 use Rattle.repo_check.specs.Laws.{AreObjects, HasNoClash, IsSpoken, WellIsSound}

@@ -1,5 +1,5 @@
 -- Which faults a check tells, when it may tell that all is well, and what it may ask.
-use Rattle.std.specs.Prelude.{◌≡◌, ◌≢◌, ◌⊎◌, ◌↔◌, ◌^◌, ◌-◌, [], ⊤, ℕ, true, List, length, map, min, Option, Some, None, Contains}
+use Rattle.std.specs.Prelude.{◌≡◌, ◌≢◌, ◌⊎◌, ◌↔◌, ◌^◌, ◌-◌, [], ℕ, true, List, length, map, min, Option, Some, None, Contains}
 use Rattle.std.specs.List.Sorted.{IsStrictlySortedBy}
 use Rattle.std.specs.Ordering.{nat_cmp, ordering_then}
 use Rattle.std.specs.declared.cmp.Ordering.{Ordering}
@@ -165,6 +165,6 @@ CheckConcludes es (Outcome.Clean snapshots indexes packs blobs) = IsClean es sna
 CheckConcludes es (Outcome.Faults faults) = IsAtFault es faults
 CheckConcludes es _ = ⊥
 
--- its rule, as a job's
+-- its rule, as a job's; a refusal may be a fault, which is noted, so it may want memory
 abbrev pub check_rule : Rule
-check_rule = record { exclusive = true; snapshot = None; calm = ⊤; allows = CheckAllows; gives = CheckGives; concludes = CheckConcludes }
+check_rule = record { exclusive = true; snapshot = None; calm = ⊥; allows = CheckAllows; gives = CheckGives; concludes = CheckConcludes }

@@ -1,5 +1,5 @@
 -- What holds of what a check tells, by the definitions alone.
-use Rattle.std.specs.Prelude.{◌≡◌, ◌↔◌, ℕ, List, Option, Some, None, Contains}
+use Rattle.std.specs.Prelude.{◌≡◌, ◌↔◌, ℕ, List, Option, Some, Contains}
 use Rattle.repo_name.specs.Naming as naming
 use Rattle.repo_name.specs.Ranges.{range}
 use Rattle.repo_name.specs.declared.kinds.Kind.{Kind}
@@ -10,7 +10,7 @@ use Rattle.repo_store.specs.Stores.{Objects}
 use Rattle.repo_session.specs.declared.outcomes.FaultKind.{FaultKind}
 use Rattle.repo_session.specs.Soundness.{IsSound}
 use Rattle.repo_session.specs.Traces.{Trace}
-use Rattle.repo_check.specs.Answers.{Answer, Answers, Gives}
+use Rattle.repo_check.specs.Answers.{Answers, Gives}
 use Rattle.repo_check.specs.Checking.{IsFound, AreWell, IsClean, AreAnswers}
 
 -- the objects that came, under the names for which they came

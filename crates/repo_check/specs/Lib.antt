@@ -2,4 +2,6 @@
 pub mod Answers
 pub mod Findings
 pub mod Checking
+pub mod Arrivals
+pub mod Measures
 pub mod Laws

@@ -1,6 +1,10 @@
 //! The check of a store: whether every snapshot can be restored, and else what is wrong.
 #![tactic(auto)]
 
+mod arrivals;
 mod laws;
+mod measures;
+mod objects;
+mod trees;
 
 pub use laws::{clean_is_sound, found_once, well_is_sound};
