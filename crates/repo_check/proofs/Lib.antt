@@ -3,4 +3,5 @@ pub mod Sounding
 pub mod Finding
 pub mod Arriving
 pub mod Measuring
+pub mod Fittings
 pub mod TreeLooks

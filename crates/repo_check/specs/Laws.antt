@@ -10,7 +10,11 @@ use Rattle.repo_store.specs.Stores.{Objects}
 use Rattle.repo_session.specs.declared.outcomes.FaultKind.{FaultKind}
 use Rattle.repo_session.specs.Soundness.{IsSound}
 use Rattle.repo_session.specs.Traces.{Trace}
-use Rattle.repo_check.specs.Answers.{Answers, Gives}
+use Rattle.repo_check.specs.Findings.{IsFitting, IsMisplaced}
+use Rattle.repo_check.specs.Fitting.{FactsOfPacks, AreKnown, Fits, Misfits}
+use Rattle.repo_index.specs.IndexText.{IsIndexText}
+use Rattle.repo_index.specs.declared.facts.PackFacts.{PackFacts}
+use Rattle.repo_check.specs.Answers.{Answer, Answers, Gives}
 use Rattle.repo_check.specs.Checking.{IsFound, AreWell, IsClean, AreAnswers}
 
 -- the objects that came, under the names for which they came
@@ -41,3 +45,9 @@ CleanIsSound = (es : Trace) (snapshots indexes packs blobs : ℕ) (objects : Obj
 abbrev pub FoundOnce : Type 0
 FoundOnce = (es : Trace) (answers : Answers) → AreAnswers es answers → (thing : Thing) (n : Name) (one other : Option FaultKind)
     → IsFound answers thing n one → IsFound answers thing n other → one ≡ other
+
+-- an index that reads is found well, or misplaced, by what is known of the packs
+abbrev pub FitsAsFound : Type 0
+FitsAsFound = (answers : Answers) (packs : FactsOfPacks) (x : List ℕ) (text : List PackFacts) → AreKnown answers packs
+    → ((a b : Answer) → Contains (answers.objects Kind.Pack) a → Contains (answers.objects Kind.Pack) b → a.name ≡ b.name → a ≡ b)
+    → IsIndexText x text → (Fits text packs → IsFitting answers Kind.Index x) × (Misfits text packs → IsMisplaced answers Kind.Index x)

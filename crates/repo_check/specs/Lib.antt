@@ -4,4 +4,5 @@ pub mod Findings
 pub mod Checking
 pub mod Arrivals
 pub mod Measures
+pub mod Fitting
 pub mod Laws

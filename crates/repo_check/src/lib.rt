@@ -2,9 +2,10 @@
 #![tactic(auto)]
 
 mod arrivals;
+mod fitting;
 mod laws;
 mod measures;
 mod objects;
 mod trees;
 
-pub use laws::{clean_is_sound, found_once, well_is_sound};
+pub use laws::{clean_is_sound, fits_as_found, found_once, well_is_sound};
