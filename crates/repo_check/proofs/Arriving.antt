@@ -1,0 +1,77 @@
+-- What a reply tells of one object.
+use Rattle.std.proofs.Common.{arith, ◌≡◌, ◌≢◌, ◌<◌, ◌≤◌, ◌+◌, ◌++◌, ℕ, List, Some, None, length, refl, sym, ap, subst, ◌∙◌, length-append}
+use Rattle.std.proofs.lemmas.List.Elements.{recursion_from_All}
+use Rattle.std.specs.Int.{w32, to_le_bytes}
+use Rattle.std.specs.Prelude.{slice_get, IfOk, Result, Ok, Err}
+use Rattle.repo_name.specs.Naming as naming
+use Rattle.repo_name.specs.declared.kinds.Kind.{Kind}
+use Rattle.repo_name.specs.declared.names.Name.{Name}
+use Rattle.repo_tree.specs.SnapshotText.{IsSnapshotText, SnapshotFault}
+use Rattle.repo_tree.specs.declared.faults.TextError.{TextError}
+use Rattle.repo_tree.specs.declared.snapshots.Snapshot.{Snapshot}
+use Rattle.repo_session.specs.Ends.{IsOfOtherVersion}
+use Rattle.repo_wire.specs.declared.messages.Ask.{Ask}
+use Rattle.repo_wire.specs.declared.messages.Code.{Code}
+use Rattle.repo_wire.specs.declared.messages.Say.{Say}
+use Rattle.repo_pack.specs.PackLayout.{Item, IsPack, IsItem, IsNamed, blobs_of, header_of}
+use Rattle.repo_pack.proofs.Entries.{length-header_of}
+use Rattle.repo_session.specs.declared.outcomes.FaultKind.{FaultKind}
+use Rattle.repo_check.specs.Answers.{Answer}
+use Rattle.repo_check.specs.Arrivals.{IsAnswer, IsFaulty, LooksAtSnapshot, MisreadAs}
+use Rattle.repo_check.specs.declared.objects.SnapshotLook.{SnapshotLook}
+use Rattle.repo_check.specs.Findings.{Reads}
+
+-- the answer of a reply that brings these bytes
+abbrev pub with_bytes : Name → List ℕ → Answer
+with_bytes n x = record { name = n; bytes = Some x }
+
+pub is_answer : (n : Name) (x : List ℕ) (say : Say) → say ≡ Say.Bytes x → IsAnswer n say (with_bytes n x)
+is_answer n x say h = subst (λ s. IsAnswer n s (with_bytes n x)) (sym h) (refl, refl)
+
+-- an answer that is at fault
+abbrev pub FaultyOf : Kind → Name → Say → FaultKind → Type 0
+FaultyOf k n say what = (a : Answer) × IsAnswer n say a × IsFaulty k a what
+
+pub misnamed : (k : Kind) (n : Name) (say : Say) → (x : List ℕ) × (say ≡ Say.Bytes x) × (naming.name x ≢ n) → FaultyOf k n say FaultKind.Name
+misnamed k n say h = (with_bytes n h.0, is_answer n h.0 say h.1, λ answers. (h.0, refl, h.2))
+
+pub absent : (k : Kind) (n : Name) (say : Say) → say ≡ Say.Refused Code.Missing → FaultyOf k n say FaultKind.Missing
+absent k n say h =
+    let a : Answer = record { name = n; bytes = None } in
+    (a, subst (λ s. IsAnswer n s a) (sym h) (refl, refl), λ answers. refl)
+
+pub misread : (k : Kind) (n : Name) (x : List ℕ) (say : Say) → say ≡ Say.Bytes x → naming.name x ≡ n → ¬ Reads k x → FaultyOf k n say FaultKind.Unreadable
+misread k n x say h named none = (with_bytes n x, is_answer n x say h, λ answers. (x, refl, named, none))
+
+-- ---- packs
+
+-- a pack is little longer than its blobs
+pub pack_length : (bytes : List ℕ) (items : List Item) → IsPack bytes items → length bytes ≤ length (blobs_of items) + 151_556
+pack_length bytes items h =
+    let tail = to_le_bytes w32 (length (header_of items)) in
+    let whole = ap length h.layout ∙ length-append (blobs_of items ++ header_of items) tail in
+    let front = length-append (blobs_of items) (header_of items) in
+    let header = length-header_of items (recursion_from_All IsItem items h.each) in
+    let few = h.count.1 in
+    let four : length tail ≡ 4 = refl in
+    omega (arith, whole, front, header, few, four)
+
+-- the items up to a place have their names
+abbrev pub HoldsTo : List Item → ℕ → Type 0
+HoldsTo items place = (k : ℕ) (item : Item) → k < place → slice_get items k ≡ Some item → IsNamed item
+
+-- ---- what can't be read
+
+pub snapshot_misread : (n : Name) (x : List ℕ) (say : Say) (error : TextError) (look : SnapshotLook) → say ≡ Say.Bytes x → naming.name x ≡ n → SnapshotFault x error
+    → (error ≢ TextError.Memory → (s : Snapshot) → ¬ IsSnapshotText x s) → MisreadAs error look → LooksAtSnapshot n say look
+snapshot_misread n x say error (SnapshotLook.Root root) h named fault none is = absurd is
+snapshot_misread n x say error (SnapshotLook.Fault what) h named fault none is =
+    subst (λ w. FaultyOf Kind.Snapshot n say w) (sym is.0) (misread Kind.Snapshot n x say h named (λ r. none is.1 r.0 r.1))
+snapshot_misread n x say error SnapshotLook.Version h named fault none is =
+    subst (λ s. IsOfOtherVersion (Ask.Get Kind.Snapshot n) s) (sym h) (named, subst (λ e. SnapshotFault x e) is fault)
+snapshot_misread n x say error SnapshotLook.Unwelcome h named fault none is = absurd is
+
+-- what holds of a result holds of it in other words
+pub ok_then : {T E : Type 0} (P Q : T → Type 0) (r : Result T E) → ((x : T) → P x → Q x) → IfOk r P → IfOk r Q
+ok_then P Q (Ok x) f h = f x h
+ok_then P Q (Err e) f h = h

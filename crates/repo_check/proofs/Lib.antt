@@ -1,0 +1,7 @@
+-- Lemmas that the proofs of this crate share.
+pub mod Sounding
+pub mod Finding
+pub mod Arriving
+pub mod Measuring
+pub mod Fittings
+pub mod TreeLooks

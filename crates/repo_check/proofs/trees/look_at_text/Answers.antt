@@ -1,0 +1,33 @@
+use Rattle.std.proofs.Common.{List, refl, subst}
+use Rattle.repo_wire.specs.declared.messages.Say.{Say}
+use Rattle.repo_tree.specs.declared.nodes.Node.{Node}
+use Rattle.repo_reach.specs.Links.{LeadTo}
+use Rattle.repo_check.specs.Answers.{Answers}
+use Rattle.repo_check.specs.Measures.{AreGiven, Judges}
+use Rattle.repo_check.proofs.Arriving.{with_bytes}
+use Rattle.repo_check.proofs.Measuring.{judged}
+use Rattle.repo_check.proofs.TreeLooks.{tree_unread}
+use Rattle.repo_check.proofs.trees.look_at_text.Goals as goal
+
+pub returns-in_ok-links-in-Ok : goal.returns-in_ok-links-in-Ok
+returns-in_ok-links-in-Ok c =
+    let x = c.args.bytes.now in
+    let n = c.args.fact.name in
+    let nodes = c.in-Ok.nodes.items in
+    let links = c.in_ok-links-in-Ok.links in (
+      with_bytes n x,
+      (refl, refl),
+      record {
+        bytes = x;
+        nodes = nodes;
+        has = (refl, c.requires.0);
+        tree = record { len = c.requires.1; reads = c.in-Ok.ensures.ok };
+        lead = subst (λ (ns : List Node). LeadTo ns links) c.as_slice.ensures.value c.in_ok-links-in-Ok.ensures;
+        judged = let P : List Node → Type 0 = λ ns. (answers : Answers) → AreGiven answers c.args.lookup.now → Judges answers ns c.all_suit-right.result in
+            subst P c.as_slice-in-Ok.ensures.value (judged c.args.lookup.now c.as_slice-in-Ok.result.now c.all_suit-right.result c.all_suit-right.ensures.all c.all_suit-right.ensures.some);
+      },
+    )
+
+pub returns-in_ok-check_misread-in-Err : goal.returns-in_ok-check_misread-in-Err
+returns-in_ok-check_misread-in-Err c =
+    tree_unread c.args.fact c.args.bytes.now (Say.Bytes c.args.bytes.now) refl c.requires.0 (λ nodes tree. c.in-Err.ensures.none c.in_ok-check_misread-in-Err.ensures nodes tree.reads)

@@ -1,0 +1,86 @@
+-- What a reply brings of a thing that was asked for.
+use Rattle.std.specs.Prelude.{◌≡◌, ◌≢◌, ◌⊎◌, ◌<◌, [], ℕ, List, length, Some, None}
+use Rattle.repo_name.specs.Naming as naming
+use Rattle.repo_name.specs.declared.kinds.Kind.{Kind}
+use Rattle.repo_name.specs.declared.names.Name.{Name}
+use Rattle.repo_wire.specs.declared.messages.Ask.{Ask}
+use Rattle.repo_wire.specs.declared.messages.Code.{Code}
+use Rattle.repo_wire.specs.declared.messages.Say.{Say}
+use Rattle.repo_pack.specs.PackLayout.{Item, IsTruePack, blobs_of}
+use Rattle.repo_index.specs.Exactness.{AreFactsAt}
+use Rattle.repo_index.specs.IndexText.{IsIndexText}
+use Rattle.repo_index.specs.declared.facts.Fact.{Fact}
+use Rattle.repo_index.specs.declared.facts.PackFacts.{PackFacts}
+use Rattle.repo_tree.specs.SnapshotText.{IsSnapshotText}
+use Rattle.repo_tree.specs.declared.faults.TextError.{TextError}
+use Rattle.repo_tree.specs.declared.snapshots.Snapshot.{Snapshot}
+use Rattle.repo_session.specs.Ends.{IsOfOtherVersion, IsUnwelcome}
+use Rattle.repo_session.specs.declared.outcomes.FaultKind.{FaultKind}
+use Rattle.repo_check.specs.Answers.{Answer, Answers}
+use Rattle.repo_check.specs.Findings.{ObjectIs}
+use Rattle.repo_check.specs.declared.arrivals.Arrival.{Arrival}
+use Rattle.repo_check.specs.declared.objects.IndexLook.{IndexLook}
+use Rattle.repo_check.specs.declared.objects.PackLook.{PackLook}
+use Rattle.repo_check.specs.declared.objects.SnapshotLook.{SnapshotLook}
+
+-- a reply to the request for an object, and the answer that it is
+abbrev pub IsAnswer : Name → Say → Answer → Type 0
+IsAnswer n (Say.Bytes x) a = (a.name ≡ n) × (a.bytes ≡ Some x)
+IsAnswer n (Say.Refused Code.Missing) a = (a.name ≡ n) × (a.bytes ≡ None)
+IsAnswer n _ a = ⊥
+
+-- bytes of the name; others; none, as it isn't there; or the reply is another refusal, or of another sort
+abbrev pub Arrives : Kind → Name → Say → Arrival → Type 0
+Arrives k n say (Arrival.Named bytes) = (say ≡ Say.Bytes bytes.now) × (naming.name bytes.now ≡ n)
+Arrives k n say Arrival.Misnamed = (x : List ℕ) × (say ≡ Say.Bytes x) × (naming.name x ≢ n)
+Arrives k n say Arrival.Absent = say ≡ Say.Refused Code.Missing
+Arrives k n say Arrival.Unwelcome = IsUnwelcome (Ask.Get k n) say
+
+-- the answer's bytes have its name
+abbrev pub HasBytes : Answer → List ℕ → Type 0
+HasBytes a x = (a.bytes ≡ Some x) × (naming.name x ≡ a.name)
+
+-- the answer is at fault, whatever else came
+abbrev pub IsFaulty : Kind → Answer → FaultKind → Type 0
+IsFaulty k a what = (answers : Answers) → ObjectIs answers k a (Some what)
+
+-- it is a snapshot with this tree
+abbrev pub IsRootOf : Answer → Name → Type 0
+IsRootOf a root = (x : List ℕ) × (snapshot : Snapshot) × HasBytes a x × IsSnapshotText x snapshot × (snapshot.tree ≡ root)
+
+-- it is the index of these packs
+abbrev pub IsIndexOf : Answer → List PackFacts → Type 0
+IsIndexOf a packs = (x : List ℕ) × HasBytes a x × IsIndexText x packs
+
+-- the facts of a pack of these items; none where the blobs end beyond all places that an index can list
+abbrev pub AreToldOf : Name → List Item → List Fact → Type 0
+AreToldOf pack items facts = AreFactsAt pack items facts ⊎ ((facts ≡ []) × (25_165_823 < length (blobs_of items)))
+
+-- it is a pack with these facts
+abbrev pub IsPackOf : Answer → List Fact → Type 0
+IsPackOf a facts = (x : List ℕ) × (items : List Item) × HasBytes a x × IsTruePack x items × AreToldOf a.name items facts
+
+-- what a reply tells of a snapshot
+abbrev pub LooksAtSnapshot : Name → Say → SnapshotLook → Type 0
+LooksAtSnapshot n say (SnapshotLook.Root root) = (a : Answer) × IsAnswer n say a × IsRootOf a root
+LooksAtSnapshot n say (SnapshotLook.Fault what) = (a : Answer) × IsAnswer n say a × IsFaulty Kind.Snapshot a what
+LooksAtSnapshot n say SnapshotLook.Version = IsOfOtherVersion (Ask.Get Kind.Snapshot n) say
+LooksAtSnapshot n say SnapshotLook.Unwelcome = IsUnwelcome (Ask.Get Kind.Snapshot n) say
+
+-- why a snapshot can't be read, and what is told of it then
+abbrev pub MisreadAs : TextError → SnapshotLook → Type 0
+MisreadAs error SnapshotLook.Version = error ≡ TextError.Version
+MisreadAs error (SnapshotLook.Fault what) = (what ≡ FaultKind.Unreadable) × (error ≢ TextError.Memory)
+MisreadAs error _ = ⊥
+
+-- of an index
+abbrev pub LooksAtIndex : Name → Say → IndexLook → Type 0
+LooksAtIndex n say (IndexLook.Read packs) = (a : Answer) × IsAnswer n say a × IsIndexOf a packs
+LooksAtIndex n say (IndexLook.Fault what) = (a : Answer) × IsAnswer n say a × IsFaulty Kind.Index a what
+LooksAtIndex n say IndexLook.Unwelcome = IsUnwelcome (Ask.Get Kind.Index n) say
+
+-- of a pack
+abbrev pub LooksAtPack : Name → Say → PackLook → Type 0
+LooksAtPack n say (PackLook.Read facts) = (a : Answer) × IsAnswer n say a × IsPackOf a facts
+LooksAtPack n say (PackLook.Fault what) = (a : Answer) × IsAnswer n say a × IsFaulty Kind.Pack a what
+LooksAtPack n say PackLook.Unwelcome = IsUnwelcome (Ask.Get Kind.Pack n) say

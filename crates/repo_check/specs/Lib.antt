@@ -1,0 +1,8 @@
+-- The definitions that the contracts of this crate cite.
+pub mod Answers
+pub mod Findings
+pub mod Checking
+pub mod Arrivals
+pub mod Measures
+pub mod Fitting
+pub mod Laws

@@ -1,0 +1,81 @@
+-- What a tree's text comes to, by the facts that are known.
+use Rattle.std.specs.Prelude.{◌≡◌, ◌≢◌, ◌+◌, ◌⊎◌, ◌↔◌, ◌∷◌, [], ⊤, ℕ, Bool, IsTrue, IsFalse, List, Some, None, Contains}
+use Rattle.repo_name.specs.declared.kinds.BlobKind.TheVariants.{Content}
+use Rattle.repo_name.specs.declared.names.Name.{Name}
+use Rattle.repo_pack.specs.declared.places.Place.{Place}
+use Rattle.repo_wire.specs.declared.messages.Code.{Code}
+use Rattle.repo_wire.specs.declared.messages.Say.{Say}
+use Rattle.repo_index.specs.IndexText.{fact_of}
+use Rattle.repo_index.specs.Lookups.{IsLeast}
+use Rattle.repo_index.specs.declared.facts.Fact.{Fact}
+use Rattle.repo_reach.specs.Links.{LeadTo}
+use Rattle.repo_reach.specs.declared.links.Links.{Links}
+use Rattle.repo_tree.specs.declared.nodes.Node.{Node}
+use Rattle.repo_tree.specs.declared.nodes.NodeKind.{NodeKind}
+use Rattle.repo_session.specs.Blobs.{range_of}
+use Rattle.repo_session.specs.Ends.{IsUnwelcome}
+use Rattle.repo_session.specs.declared.outcomes.FaultKind.{FaultKind}
+use Rattle.repo_check.specs.Answers.{Answer, Answers, Gives}
+use Rattle.repo_check.specs.Arrivals.{HasBytes}
+use Rattle.repo_check.specs.Findings.{IsMeasured, IsMismeasured, IsTreeAt, TreeIs}
+use Rattle.repo_check.specs.declared.trees.TreeLook.{TreeLook}
+
+-- no fact gives content of this name
+abbrev pub IsLost : List Fact → Name → Type 0
+IsLost facts n = (place : Place) → ¬ Contains facts (fact_of Content n place)
+
+-- by the facts, these content blobs have so many bytes together
+abbrev pub Measures : List Fact → List Name → ℕ → Type 0
+Measures facts [] size = size ≡ 0
+Measures facts (n ∷ names) size = (place : Place) × (rest : ℕ) × IsLeast facts Content n place × Measures facts names rest × (size ≡ place.length + rest)
+
+-- one of the names is lost
+abbrev pub HasLost : List Fact → List Name → Type 0
+HasLost facts names = (n : Name) × Contains names n × IsLost facts n
+
+-- a file's blobs have its size, or one of them is lost
+abbrev pub Suits : List Fact → NodeKind → Type 0
+Suits facts (NodeKind.File size content) = Measures facts content size ⊎ HasLost facts content
+Suits facts (NodeKind.Dir subtree) = ⊤
+
+-- they have another size
+abbrev pub IsUnsuited : List Fact → NodeKind → Type 0
+IsUnsuited facts (NodeKind.File size content) = (sum : ℕ) × Measures facts content sum × (sum ≢ size)
+IsUnsuited facts (NodeKind.Dir subtree) = ⊥
+
+-- the facts are those that were given
+abbrev pub AreGiven : Answers → List Fact → Type 0
+AreGiven answers facts = (fact : Fact) → Contains facts fact ↔ Gives answers fact
+
+-- whether the sizes of the files among some nodes are right
+pub record Judges (answers : Answers) (nodes : List Node) (right : Bool) : Type 0 where
+  pub well : IsTrue right → (node : Node) → Contains nodes node → IsMeasured answers node.what
+  pub ill : IsFalse right → (node : Node) × Contains nodes node × IsMismeasured answers node.what
+
+-- a reply to the request for a tree, and the answer that it is
+abbrev pub IsTreeAnswer : Name → Say → Answer → Type 0
+IsTreeAnswer n (Say.Bytes x) a = (a.name ≡ n) × (a.bytes ≡ Some x)
+IsTreeAnswer n (Say.Refused Code.Missing) a = (a.name ≡ n) × (a.bytes ≡ None)
+IsTreeAnswer n (Say.Refused Code.Range) a = (a.name ≡ n) × (a.bytes ≡ None)
+IsTreeAnswer n _ a = ⊥
+
+-- it is a tree of which the nodes lead to these, with sizes that are right or aren't
+pub record IsReadAs (facts : List Fact) (place : Place) (a : Answer) (links : Links) (right : Bool) : Type 0 where
+  pub bytes : List ℕ
+  pub nodes : List Node
+  pub has : HasBytes a bytes
+  pub tree : IsTreeAt place bytes nodes
+  pub lead : LeadTo nodes links
+  pub judged : (answers : Answers) → AreGiven answers facts → Judges answers nodes right
+
+-- what a reply tells of a tree that was asked for at its place
+abbrev pub LooksAtTree : List Fact → Fact → Say → TreeLook → Type 0
+LooksAtTree facts fact say (TreeLook.Read links right) = (a : Answer) × IsTreeAnswer fact.name say a × IsReadAs facts fact.place a links right
+LooksAtTree facts fact say (TreeLook.Fault what) = (a : Answer) × IsTreeAnswer fact.name say a × ((answers : Answers) → TreeIs answers fact.place a (Some what))
+LooksAtTree facts fact say TreeLook.Unwelcome = IsUnwelcome (range_of fact) say
+
+-- of one that brings no bytes
+abbrev pub LooksAtNone : Say → TreeLook → Type 0
+LooksAtNone say (TreeLook.Read links right) = ⊥
+LooksAtNone say (TreeLook.Fault what) = (what ≡ FaultKind.Missing) × ((say ≡ Say.Refused Code.Missing) ⊎ (say ≡ Say.Refused Code.Range))
+LooksAtNone say TreeLook.Unwelcome = ⊤

@@ -1,0 +1,162 @@
+//! What is found of one object by itself.
+
+ghost use Rattle.std.specs.Prelude.{◌≡◌, ◌↔◌, ◌≢◌, IfOk, IfSome, OnOk, IsTrue, None};
+ghost use Rattle.repo_index.specs.declared.faults.IndexError.{IndexError};
+ghost use Rattle.std.specs.List.{All};
+ghost use Rattle.repo_pack.specs.PackLayout.{IsNamed, IsPack, IsTruePack};
+ghost use Rattle.repo_name.specs.declared.kinds.Kind.{Kind};
+ghost use Rattle.repo_check.specs.Findings.{Reads};
+ghost use Rattle.repo_check.specs.Arrivals.{LooksAtSnapshot, LooksAtIndex, LooksAtPack, AreToldOf, MisreadAs};
+
+use crate::arrivals::{Arrival, arrival_of};
+use repo_index::{Facts, IndexError, IndexText, PackFacts};
+use repo_name::{Kind, Name};
+use repo_pack::PackView;
+use repo_session::FaultKind;
+use repo_tree::{Snapshot, TextError};
+use repo_wire::Say;
+use std::alloc::{AllocError, Global};
+
+/// A pack of so many bytes is larger than any that an index can list.
+const LARGE: usize = 1 << 32;
+
+/// What a reply tells of a snapshot.
+#[derive(Clone, Copy, Debug)]
+pub enum SnapshotLook {
+    /// It is well, and this is its tree.
+    Root(Name),
+    /// It is at fault.
+    Fault(FaultKind),
+    /// It is of a version that isn't known.
+    Version,
+    /// Another refusal, or a reply of another sort.
+    Unwelcome,
+}
+
+/// What a reply tells of an index.
+#[derive(Drop)]
+pub enum IndexLook {
+    /// It reads.
+    Read(IndexText),
+    /// It is at fault.
+    Fault(FaultKind),
+    /// Another refusal, or a reply of another sort.
+    Unwelcome,
+}
+
+/// What a reply tells of a pack.
+#[derive(Drop)]
+pub enum PackLook {
+    /// It is well, and has these facts. One of 2^32 bytes or more is told without facts: no index can list it.
+    Read(Facts),
+    /// It is at fault.
+    Fault(FaultKind),
+    /// Another refusal, or a reply of another sort.
+    Unwelcome,
+}
+
+/// What a snapshot's bytes come to that can't be read. It fails where there was no memory to read them.
+fn misread_snapshot(error: TextError) -> Result<SnapshotLook, AllocError>
+    ensures { IfOk result (MisreadAs error) }
+{
+    match error {
+        TextError::Memory => Err(AllocError),
+        TextError::Version => Ok(SnapshotLook::Version),
+        _ => Ok(SnapshotLook::Fault(FaultKind::Unreadable)),
+    }
+}
+
+/// Fails where there was no memory to read an index: else its bytes are at fault.
+fn check_misread(error: IndexError) -> Result<(), AllocError>
+    ensures { OnOk result (error ≢ IndexError.Memory) }
+{
+    match error {
+        IndexError::Memory => Err(AllocError),
+        _ => Ok(()),
+    }
+}
+
+/// What a reply tells of a snapshot of this name. It fails for memory alone.
+pub fn look_at_snapshot(alloc: Global, name: Name, say: &Say) -> Result<SnapshotLook, AllocError>
+    ensures { IfOk result (LooksAtSnapshot name say.now) }
+{
+    let bytes = match arrival_of(Kind::Snapshot, name, say) {
+        Arrival::Named(bytes) => bytes,
+        Arrival::Misnamed => return Ok(SnapshotLook::Fault(FaultKind::Name)),
+        Arrival::Absent => return Ok(SnapshotLook::Fault(FaultKind::Missing)),
+        Arrival::Unwelcome => return Ok(SnapshotLook::Unwelcome),
+    };
+    match Snapshot::read(alloc, bytes) {
+        Ok(snapshot) => Ok(SnapshotLook::Root(snapshot.tree)),
+        Err(error) => misread_snapshot(error),
+    }
+}
+
+/// What a reply tells of an index of this name. It fails for memory alone.
+pub fn look_at_index(alloc: Global, name: Name, say: &Say) -> Result<IndexLook, AllocError>
+    ensures { IfOk result (LooksAtIndex name say.now) }
+{
+    let bytes = match arrival_of(Kind::Index, name, say) {
+        Arrival::Named(bytes) => bytes,
+        Arrival::Misnamed => return Ok(IndexLook::Fault(FaultKind::Name)),
+        Arrival::Absent => return Ok(IndexLook::Fault(FaultKind::Missing)),
+        Arrival::Unwelcome => return Ok(IndexLook::Unwelcome),
+    };
+    match IndexText::read(alloc, bytes) {
+        Ok(text) => Ok(IndexLook::Read(text)),
+        Err(error) => {
+            check_misread(error)?;
+            Ok(IndexLook::Fault(FaultKind::Unreadable))
+        }
+    }
+}
+
+/// Whether each blob of a pack has the name that the pack gives it.
+fn names_hold(view: &PackView) -> bool
+    ensures { IsTrue result ↔ All IsNamed view.now }
+{
+    for place in 0..view.len() {
+        if !view.name_holds(place) {
+            return false;
+        }
+    }
+    true
+}
+
+/// The facts of a pack's blobs, in the pack's order; none of one of 2^32 bytes or more. It fails for memory alone.
+fn facts_of(alloc: Global, name: Name, bytes: &[u8], view: &PackView) -> Result<Facts, AllocError>
+    requires { IsPack bytes.now view.now }
+    ensures { IfOk result (AreToldOf name view.now) }
+{
+    if bytes.len() >= LARGE {
+        return Ok(Facts::of(Vec::new(alloc)));
+    }
+    Ok(PackFacts::of_pack(alloc, &name, view)?.facts)
+}
+
+/// The pack in these bytes, if they are one, and each blob has its name. It takes no memory.
+fn true_pack<'a>(bytes: &'a [u8]) -> Option<PackView<'a>>
+    ensures some { IfSome result (IsTruePack bytes.now) }
+    ensures none { result ≡ None → ¬ Reads Kind.Pack bytes.now }
+{
+    match PackView::read(bytes) {
+        Ok(view) => if names_hold(&view) { Some(view) } else { None },
+        Err(_) => None,
+    }
+}
+
+/// What a reply tells of a pack of this name. It fails for memory alone.
+pub fn look_at_pack(alloc: Global, name: Name, say: &Say) -> Result<PackLook, AllocError>
+    ensures { IfOk result (LooksAtPack name say.now) }
+{
+    let bytes = match arrival_of(Kind::Pack, name, say) {
+        Arrival::Named(bytes) => bytes,
+        Arrival::Misnamed => return Ok(PackLook::Fault(FaultKind::Name)),
+        Arrival::Absent => return Ok(PackLook::Fault(FaultKind::Missing)),
+        Arrival::Unwelcome => return Ok(PackLook::Unwelcome),
+    };
+    let Some(view) = true_pack(bytes) else {
+        return Ok(PackLook::Fault(FaultKind::Unreadable));
+    };
+    Ok(PackLook::Read(facts_of(alloc, name, bytes, &view)?))
+}
