@@ -8,3 +8,4 @@ pub mod Planning
 pub mod Covering
 pub mod TreeReading
 pub mod Finding
+pub mod Repacking

@@ -9,4 +9,5 @@ pub mod Pruning
 pub mod Plans
 pub mod Reading
 pub mod Unfound
+pub mod Moving
 pub mod Laws

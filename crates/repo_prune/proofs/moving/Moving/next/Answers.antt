@@ -1,0 +1,22 @@
+use Rattle.std.proofs.Common.{Vec, Global, ap, inl, refl, sym, ◌∙◌}
+use Rattle.std.proofs.lemmas.Result.{on_err_weaker}
+use Rattle.repo_index.specs.declared.facts.PackFacts.{PackFacts}
+use Rattle.repo_prune.proofs.Repacking.{unsealed}
+use Rattle.repo_prune.proofs.moving.Moving.next.Goals as goal
+
+pub returns-then-is_due-clause-err : goal.returns-then-is_due-clause-err
+returns-then-is_due-clause-err c = on_err_weaker c.send.result
+    (λ stays sent sealed moving.
+    let m = c.in_ok-seal.ensures.moving sent sealed moving in
+    let s = stays sent m.0 m.1 in
+    let kept = c.seal.ensures.kept in
+    record { sealed = s.sealed; moving = s.moving; listed = s.listed ∙ ap (λ (v : Vec PackFacts Global). v.items) c.seal.ensures.listed; moves = s.moves ∙ kept.0; added = s.added ∙ kept.1; asked = s.asked ∙ kept.2 })
+    c.send.ensures.err
+
+pub returns-in-Some-clause-on : goal.returns-in-Some-clause-on
+returns-in-Some-clause-on c = λ sent sealed moving.
+    let m = c.args.self.now in
+    let room = c.if-is_due.ensures.open refl in
+    let alone = unsealed m sent sealed room.0 moving in
+    let there = rw c.as_slice.ensures.value at c.in-Some.ensures in
+    (record { moving = record { sealed_is = alone.sealed_is; moved = alone.moved; within = alone.within; counted = alone.counted }; asked = sym there; next = inl (refl, room.1, room.0) }, refl)

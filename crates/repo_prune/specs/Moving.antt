@@ -1,0 +1,81 @@
+-- What is known while a prune moves blobs to new packs.
+use Rattle.std.specs.Prelude.{◌≡◌, ◌≤◌, ◌⊎◌, ◌+◌, ◌++◌, ◌∷◌, [], List, length, map, take, slice_get, Some, None}
+use Rattle.repo_name.specs.declared.kinds.BlobKind.{BlobKind}
+use Rattle.repo_name.specs.declared.names.Name.{Name}
+use Rattle.repo_pack.specs.PackLayout.{Item}
+use Rattle.repo_pack.specs.PackWriting.{IsOpen}
+use Rattle.repo_pack.specs.declared.writers.Sealed.{Sealed}
+use Rattle.repo_index.specs.declared.facts.Fact.{Fact}
+use Rattle.repo_index.specs.declared.facts.PackFacts.{PackFacts}
+use Rattle.repo_writing.specs.Sealing.{IsSealed, IsListed}
+use Rattle.repo_writing.specs.Writing.{AreCounts}
+use Rattle.repo_prune.specs.declared.moving.Moved.{Moved}
+use Rattle.repo_prune.specs.declared.moving.Moving.{Moving}
+
+-- a blob's kind and name
+pub record Pair : Type 0 where
+  pub kind : BlobKind
+  pub name : Name
+
+-- those of a blob in a pack, and those of a fact
+abbrev pub pair_of_item : Item → Pair
+pair_of_item item = record { kind = item.kind; name = item.name }
+
+abbrev pub pair_of_fact : Fact → Pair
+pair_of_fact fact = record { kind = fact.kind; name = fact.name }
+
+-- the blobs so far: those of the packs sent, of the pack that is sealed, and of the pack that is being written
+abbrev pub items_so_far : List Item → List Item → Moving → List Item
+items_so_far sent sealed m = (sent ++ sealed) ++ m.packer.writer.items
+
+-- of the packs sent these were the blobs, of the sealed one these; all are those of the first facts, in order; and those sent are counted
+pub record IsMoving (m : Moving) (sent sealed : List Item) : Type 0 where
+  pub sealed_is : IsSealed m.packer.sealed sealed
+  pub moved : map pair_of_item (items_so_far sent sealed m) ≡ map pair_of_fact (take m.added m.moves.items)
+  pub within : m.added ≤ length m.moves.items
+  pub counted : AreCounts m.counts sent
+
+-- the blob of this fact is to be asked for: it is the next one, or it was added, and nothing more was sent since
+pub record AwaitsBlob (m : Moving) (fact : Fact) (sent sealed : List Item) : Type 0 where
+  pub moving : IsMoving m sent sealed
+  pub asked : slice_get m.moves.items m.asked ≡ Some fact
+  pub next : ((m.added ≡ m.asked) × IsOpen m.packer.writer × (m.packer.sealed ≡ None)) ⊎ (m.added ≡ m.asked + 1)
+
+-- a pack is sent: it has these blobs, and is listed with exactly them behind those listed before
+pub record Sends (sent : List Item) (old : List PackFacts) (sealed : Sealed) (new : Moving) : Type 0 where
+  pub items : List Item
+  pub listed : PackFacts
+  pub lists : IsListed (Some sealed) items sealed listed
+  pub behind : new.listed.items ≡ old ++ listed ∷ []
+  pub moving : IsMoving new (sent ++ items) []
+  pub none : new.packer.sealed ≡ None
+
+-- what comes next: a pack; a blob; or nothing, once all were sent
+abbrev pub MovesOn : List Item → List PackFacts → Moved → Moving → Type 0
+MovesOn sent old (Moved.Ask fact) new = AwaitsBlob new fact sent [] × (new.listed.items ≡ old)
+MovesOn sent old (Moved.Put sealed) new = Sends sent old sealed new
+MovesOn sent old Moved.Done new = IsMoving new sent [] × (new.packer.writer.items ≡ []) × (length new.moves.items ≤ new.added) × (new.listed.items ≡ old)
+MovesOn sent old Moved.Nothing new = ⊥
+
+-- where memory was wanting, the pack that is sealed may be another, and all else that is known stays
+pub record StaysMoving (old new : Moving) (sent : List Item) : Type 0 where
+  pub sealed : List Item
+  pub moving : IsMoving new sent sealed
+  pub listed : new.listed.items ≡ old.listed.items
+  pub moves : new.moves ≡ old.moves
+  pub added : new.added ≡ old.added
+  pub asked : new.asked ≡ old.asked
+
+-- where memory was wanting, the blob that was awaited is awaited
+pub record AwaitsStill (old new : Moving) (fact : Fact) (sent : List Item) : Type 0 where
+  pub sealed : List Item
+  pub awaits : AwaitsBlob new fact sent sealed
+  pub listed : new.listed.items ≡ old.listed.items
+
+-- a blob was added to the pack that is being written
+pub record Added (old new : Moving) (sent sealed : List Item) : Type 0 where
+  pub moving : IsMoving new sent sealed
+  pub listed : new.listed ≡ old.listed
+  pub moves : new.moves ≡ old.moves
+  pub added : new.added ≡ new.asked + 1
+  pub asked : new.asked ≡ old.asked
