@@ -26,7 +26,7 @@ pub use bag_laws::{
     replies_keep_bag, starts_keep_bag,
 };
 pub use laws::{
-    each_event_keeps_reports, each_report_holds, every_run_is_safe, example_is_a_run,
+    backup_is_a_run, each_event_keeps_reports, each_report_holds, every_run_is_safe, example_is_a_run,
     failing_is_a_step, lone_talk_is_a_run, no_clash_goes_back,
 };
 pub use wrong_rules::{
