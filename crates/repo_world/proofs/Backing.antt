@@ -63,23 +63,23 @@ is_itself : (n : Name) → is_eq (name_cmp n n) ≡ true
 is_itself n = ap is_eq (own_order (name_cmp n n) (nat_list_cmp_total.antisymm n.0 n.0))
 
 -- it is this kind and this name
-abbrev is_here : Kind → Name → Kind → Name → Bool
+abbrev pub is_here : Kind → Name → Kind → Name → Bool
 is_here k n j m = same_kind j k && is_eq (name_cmp m n)
 
-abbrev with_object : Objects → Kind → Name → List ℕ → Objects
+abbrev pub with_object : Objects → Kind → Name → List ℕ → Objects
 with_object old k n x = λ j m. cond (is_here k n j m) (Some x) (old j m)
 
 and_both : (a b : Bool) → (a && b) ≡ true → (a ≡ true) × (b ≡ true)
 and_both true b h = (refl, h)
 and_both false b h = absurd (cc)
 
-here_is : (k : Kind) (n : Name) (j : Kind) (m : Name) → is_here k n j m ≡ true → (j ≡ k) × (m ≡ n)
+pub here_is : (k : Kind) (n : Name) (j : Kind) (m : Name) → is_here k n j m ≡ true → (j ≡ k) × (m ≡ n)
 here_is k n j m h = let p = and_both (same_kind j k) (is_eq (name_cmp m n)) h in (kinds_same j k p.0, same_name m n p.1)
 
 at_here : (k : Kind) (n : Name) → is_here k n k n ≡ true
 at_here k n = ap (λ b. b && is_eq (name_cmp n n)) (same_self k) ∙ is_itself n
 
-there_now : (old : Objects) (k : Kind) (n : Name) (x : List ℕ) → with_object old k n x k n ≡ Some x
+pub there_now : (old : Objects) (k : Kind) (n : Name) (x : List ℕ) → with_object old k n x k n ≡ Some x
 there_now old k n x = ap (λ b. cond b (Some x) (old k n)) (at_here k n)
 
 module _ (old : Objects) (k : Kind) (n : Name) (x : List ℕ) (free : old k n ≡ None) where
@@ -100,7 +100,7 @@ module _ (old : Objects) (k : Kind) (n : Name) (x : List ℕ) (free : old k n �
 
 -- ---- the backup
 
-abbrev token : Token
+abbrev pub token : Token
 token = record { 0 = 1 }
 
 done_no_dead : Say.Done ≡ Say.Refused Code.Dead → ⊥
@@ -125,10 +125,10 @@ module _ (host : List ℕ) (time : ℕ) (config pack index snapshot : List ℕ) 
   abbrev indexing : Trace
   indexing = silent (Ask.Put token Kind.Index (naming.name index) index) Say.Done ∷ packing
 
-  abbrev storing : Trace
+  abbrev pub storing : Trace
   storing = silent (Ask.Put token Kind.Snapshot (naming.name snapshot) snapshot) Say.Done ∷ indexing
 
-  abbrev all : Trace
+  abbrev pub all : Trace
   all = silent (Ask.Unlock token) Say.Done ∷ storing
 
   -- ---- it works
@@ -297,7 +297,7 @@ module _ (host : List ℕ) (time : ℕ) (config pack index snapshot : List ℕ) 
     };
   }
 
-  dutiful : IsDutiful (ended 0 (Backup []) host time all (Some (stored snapshot)))
+  pub dutiful : IsDutiful (ended 0 (Backup []) host time all (Some (stored snapshot)))
   dutiful = record {
     obeys = obeys;
     pending = λ r h. absurd (none-some r h);
@@ -310,25 +310,25 @@ module _ (host : List ℕ) (time : ℕ) (config pack index snapshot : List ℕ) 
 
   -- ---- the store's steps
 
-  abbrev first_objects : Objects
+  abbrev pub first_objects : Objects
   first_objects = λ k n. None
 
-  abbrev with_pack : Objects
+  abbrev pub with_pack : Objects
   with_pack = with_object first_objects Kind.Pack (naming.name pack) pack
 
-  abbrev with_index : Objects
+  abbrev pub with_index : Objects
   with_index = with_object with_pack Kind.Index (naming.name index) index
 
-  abbrev with_snapshot : Objects
+  abbrev pub with_snapshot : Objects
   with_snapshot = with_object with_index Kind.Snapshot (naming.name snapshot) snapshot
 
-  abbrev tokens : Tokens
+  abbrev pub tokens : Tokens
   tokens = granted (issued start) (lock_row task token)
 
-  abbrev store_of : Objects → Tokens → Store
+  abbrev pub store_of : Objects → Tokens → Store
   store_of objects l = record { config = Some config; objects = objects; tokens = l }
 
-  abbrev last_store : Store
+  abbrev pub last_store : Store
   last_store = store_of with_snapshot (unlocked tokens token)
 
   put_step : (old : Objects) (k : Kind) (x : List ℕ) → length x ≤ object_limit k → old k (naming.name x) ≡ None → Step (store_of old tokens) (Ask.Put token k (naming.name x) x) Say.Done (store_of (with_object old k (naming.name x) x) tokens)
@@ -337,23 +337,36 @@ module _ (host : List ℕ) (time : ℕ) (config pack index snapshot : List ℕ) 
   list_step : Step (store_of first_objects tokens) (Ask.List Kind.Index None) (Say.Names false []) (store_of first_objects tokens)
   list_step = inl ([], false, record { ascends = tt; few = lit≤ tt; there = λ n h. absurd h; least = λ n x h above. absurd (none-some x h); follow = λ q. absurd (cc) }, refl, refl)
 
-  steps : Stepped (beginning (configured config)) (Backup []) host time tt limits (configured config) all last_store
-  steps =
-      (store_of with_snapshot tokens,
-      (store_of with_index tokens,
-      (store_of with_pack tokens,
-      (store_of first_objects tokens,
-      (store_of first_objects tokens,
-      (store_of first_objects tokens,
-      (store_of first_objects (issued start),
-      (configured config, refl, inl (record { result = Ok token; tokens = issued start; step = (omega arith, refl, refl); says = refl; saves = (refl, refl, refl) })),
-      inl (record { result = Ok Grant.New; tokens = tokens; step = ((refl, refl, refl, omega arith), refl); says = refl; saves = (refl, refl, refl) })),
-      inl (inl (texts.config_short, refl), refl)),
-      list_step),
-      put_step first_objects Kind.Pack pack texts.pack_short refl),
-      put_step with_pack Kind.Index index texts.index_short refl),
-      put_step with_index Kind.Snapshot snapshot texts.snapshot_short refl),
-      inl (record { result = true; tokens = unlocked tokens token; step = (refl, refl); says = refl; saves = (refl, refl, refl) }))
+  pub steps : Stepped (beginning (configured config)) (Backup []) host time tt limits (configured config) all last_store
+  steps = (
+    store_of with_snapshot tokens,
+    (
+      store_of with_index tokens,
+      (
+        store_of with_pack tokens,
+        (
+          store_of first_objects tokens,
+          (
+            store_of first_objects tokens,
+            (
+              store_of first_objects tokens,
+              (
+                store_of first_objects (issued start),
+                (configured config, refl, inl (record { result = Ok token; tokens = issued start; step = (omega arith, refl, refl); says = refl; saves = (refl, refl, refl) })),
+                inl (record { result = Ok Grant.New; tokens = tokens; step = ((refl, refl, refl, omega arith), refl); says = refl; saves = (refl, refl, refl) }),
+              ),
+              inl (inl (texts.config_short, refl), refl),
+            ),
+            list_step,
+          ),
+          put_step first_objects Kind.Pack pack texts.pack_short refl,
+        ),
+        put_step with_pack Kind.Index index texts.index_short refl,
+      ),
+      put_step with_index Kind.Snapshot snapshot texts.snapshot_short refl,
+    ),
+    inl (record { result = true; tokens = unlocked tokens token; step = (refl, refl); says = refl; saves = (refl, refl, refl) }),
+  )
 
   pub is_backed_up : IsBackedUp config snapshot
   is_backed_up =

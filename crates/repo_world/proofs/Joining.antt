@@ -44,7 +44,7 @@ joined [] [] zs a b = refl
 joined [] (y ∷ ys) zs a b = ap (λ (ms : List Message). y ∷ ms) (joined [] ys zs a b)
 joined (x ∷ xs) ys zs a b = ap (λ (ms : List Message). x ∷ ms) (joined xs ys zs a b)
 
-run_more : (w : World) (es fs : List Event) (u v : World) → Run w es u → Run u fs v → Run w (es ++ fs) v
+pub run_more : (w : World) (es fs : List Event) (u v : World) → Run w es u → Run u fs v → Run w (es ++ fs) v
 run_more w [] fs u v h g = subst (λ (x : World). Run x fs v) h g
 run_more w (e ∷ es) fs u v h g = (h.0, h.1, run_more h.0 es fs u v h.2 g)
 

@@ -1,4 +1,4 @@
--- A backup, as an example: an empty folder is backed up to a store without objects, and its snapshot is reported as stored.
+-- A backup and a restore, as examples: an empty folder is backed up to a store without objects, its snapshot is reported as stored, and then restored.
 use Rattle.std.specs.Prelude.{◌≡◌, ◌≤◌, ◌<◌, ◌^◌, ◌-◌, ◌+◌, ◌∷◌, [], ℕ, List, length, min, Some, None}
 use Rattle.repo_name.specs.Naming as naming
 use Rattle.repo_name.specs.Rows.{IsHost}
@@ -19,6 +19,7 @@ use Rattle.repo_store.specs.Stores.{Store}
 use Rattle.repo_session.specs.declared.outcomes.Outcome.{Outcome}
 use Rattle.repo_backup.specs.Folders.{nothing, tree_of}
 use Rattle.repo_writing.specs.Writing.{bytes_of}
+use Rattle.repo_world.specs.Clients.{Restore}
 use Rattle.repo_world.specs.Events.{Event, Run}
 use Rattle.repo_world.specs.World.{World, client, beginning}
 
@@ -60,3 +61,16 @@ pub record IsBackedUp (config snapshot : List ℕ) : Type 0 where
 -- with any such texts there is such a run
 abbrev pub BackupIsARun : Type 0
 BackupIsARun = (host : List ℕ) (time : ℕ) (config pack index snapshot : List ℕ) → (time < 2 ^ 64) × IsHost host → AreTexts host time config pack index snapshot → IsBackedUp config snapshot
+
+-- the same, and then a second client, a restore of the snapshot, is complete: the folder has no entry, as what was backed up
+pub record IsGivenBack (config snapshot : List ℕ) : Type 0 where
+  pub events : List Event
+  pub last : World
+  pub run : Run (beginning (configured config)) events last
+  pub reported : (client last 0).outcome ≡ Some (stored snapshot)
+  pub restores : (client last 1).job ≡ Restore (naming.name snapshot)
+  pub complete : (client last 1).outcome ≡ Some (Outcome.Complete 0)
+
+-- with any such texts there is such a run
+abbrev pub RestoreIsARun : Type 0
+RestoreIsARun = (host : List ℕ) (time : ℕ) (config pack index snapshot : List ℕ) → (time < 2 ^ 64) × IsHost host → AreTexts host time config pack index snapshot → IsGivenBack config snapshot

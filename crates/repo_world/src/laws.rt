@@ -1,6 +1,6 @@
 //! What holds of all runs, by the definitions alone. Each function is empty, and its contract is the law.
 
-ghost use Rattle.repo_world.specs.Backed.{BackupIsARun};
+ghost use Rattle.repo_world.specs.Backed.{BackupIsARun, RestoreIsARun};
 ghost use Rattle.repo_world.specs.Example.{ExampleIsARun};
 ghost use Rattle.repo_world.specs.Lone.{LoneTalkIsARun};
 ghost use Rattle.repo_world.specs.Laws.{EachEventKeepsReports, EachReportHolds, EveryRunIsSafe, FailingIsAStep, NoClashGoesBack};
@@ -48,4 +48,9 @@ pub fn example_is_a_run()
 /// empty folder is reported as stored, and its snapshot is there.
 pub fn backup_is_a_run()
     ensures { BackupIsARun }
+{}
+
+/// So can that of a restore: after the backup, a restore of its snapshot by a second client is complete.
+pub fn restore_is_a_run()
+    ensures { RestoreIsARun }
 {}
