@@ -1,5 +1,5 @@
 -- A backup of an empty folder is a run.
-use Rattle.std.proofs.Common.{◌≡◌, ◌≢◌, ◌⊎◌, ◌<◌, ◌≤◌, ◌^◌, ◌+◌, ◌-◌, ◌&&◌, lit≤, min, inl, inr, ⊎_elim, ℕ, Bool, true, false, cond, ◌∷◌, ◌++◌, [], List, length, refl, sym, ◌∙◌, ap, subst, Option, Some, None, arith, Result, Ok, Err, Contains}
+use Rattle.std.proofs.Common.{◌≡◌, ◌⊎◌, ◌<◌, ◌≤◌, ◌^◌, ◌-◌, ◌&&◌, lit≤, min, inl, inr, ⊎_elim, ℕ, Bool, true, false, cond, ◌∷◌, [], List, length, refl, sym, ◌∙◌, ap, subst, Option, Some, None, arith, Ok, Contains}
 use Rattle.std.specs.declared.cmp.Ordering.{Ordering}
 use Rattle.std.specs.declared.cmp.Ordering.TheVariants.{Less, Equal, Greater}
 use Rattle.std.specs.Cmp.Lexicographic.{nat_list_cmp_total}
@@ -22,26 +22,22 @@ use Rattle.repo_pack.specs.PackLayout.{Item, item_of}
 use Rattle.repo_index.specs.declared.facts.Fact.{Fact}
 use Rattle.repo_index.specs.declared.facts.PackFacts.{PackFacts}
 use Rattle.repo_index.specs.Exactness.{fact_at}
-use Rattle.repo_index.specs.IndexText.{facts_in}
 use Rattle.repo_index.proofs.ExactLemmas.{fact_there}
-use Rattle.repo_tree.specs.Spelling.{Spells}
 use Rattle.repo_tree.specs.TreeWriting.{tree_text}
 use Rattle.repo_tree.proofs.SpellingLemmas.{empty_spelled}
 use Rattle.repo_store.specs.StoreMachine.{Step, object_limit}
 use Rattle.repo_store.specs.Stores.{Store, Objects, Added}
-use Rattle.repo_session.specs.Askers.{Asker, asker}
+use Rattle.repo_session.specs.Askers.{asker}
 use Rattle.repo_session.specs.Catalogs.{AreIndexed}
 use Rattle.repo_session.specs.Ends as ends
-use Rattle.repo_session.specs.Order.{Task, IsWorking, Holds, Obeys, May, IsNoUnlock, opened, locked, lock_row}
-use Rattle.repo_session.specs.Traces.{Exchange, Trace, Exchanged, Object, objects_put, IsGiven, silent, same_kind}
-use Rattle.repo_session.specs.declared.outcomes.Outcome.{Outcome}
+use Rattle.repo_session.specs.Order.{Task, IsWorking, Obeys, opened, lock_row}
+use Rattle.repo_session.specs.Traces.{Trace, Exchanged, Object, IsGiven, silent, same_kind}
 use Rattle.repo_session.proofs.Containing.{none_contained, first_contained, contained_or, contains_flat}
 use Rattle.repo_session.proofs.Holding.{working_more, holds_of, opened_working}
 use Rattle.repo_session.proofs.Meeting.{first_page}
 use Rattle.repo_session.proofs.Rolling.{same_self}
 use Rattle.repo_session.proofs.Receiving.{kinds_same}
-use Rattle.repo_writing.specs.Blobs.{HasItem}
-use Rattle.repo_writing.specs.Putting.{PutDone, AreDone, IsPacked, IsIndexed, IsListedPack}
+use Rattle.repo_writing.specs.Putting.{PutDone, AreDone, IsIndexed, IsListedPack}
 use Rattle.repo_writing.specs.Writing.{bytes_of}
 use Rattle.repo_writing.proofs.PutLemmas.{indexed_later}
 use Rattle.repo_backup.specs.Folders.{nothing, tree_of, blobs_of}
@@ -49,7 +45,7 @@ use Rattle.repo_backup.specs.Rules as backing
 use Rattle.repo_world.specs.Backed.{configured, snapshot_of, AreTexts, stored, IsBackedUp, BackupIsARun}
 use Rattle.repo_world.specs.Clients.{Backup, task_of, Allows, Gives, Concludes, IsDutiful}
 use Rattle.repo_world.specs.Lone.{ended}
-use Rattle.repo_world.specs.World.{World, client, beginning, instance_of}
+use Rattle.repo_world.specs.World.{beginning, instance_of}
 use Rattle.repo_world.proofs.Joining.{Stepped, finished, held_end}
 
 -- ---- objects that are put where nothing was
@@ -103,7 +99,7 @@ module _ (old : Objects) (k : Kind) (n : Name) (x : List ℕ) (free : old k n �
 abbrev pub token : Token
 token = record { 0 = 1 }
 
-done_no_dead : Say.Done ≡ Say.Refused Code.Dead → ⊥
+pub done_no_dead : Say.Done ≡ Say.Refused Code.Dead → ⊥
 done_no_dead h = absurd (cc)
 
 put_no_unlock : (t : Token) (k : Kind) (n : Name) (x : List ℕ) (u : Token) → Ask.Put t k n x ≡ Ask.Unlock u → ⊥

@@ -1,5 +1,5 @@
 -- A restore of what the backup stored is a run.
-use Rattle.std.proofs.Common.{◌≡◌, ◌≢◌, ◌⊎◌, ◌<◌, ◌≤◌, ◌^◌, lit≤, inl, inr, ⊎_elim, ℕ, Bool, true, false, cond, ◌∷◌, ◌++◌, [], List, length, refl, sym, ◌∙◌, ap, subst, Option, Some, None, arith, Result, Ok, Err}
+use Rattle.std.proofs.Common.{◌≡◌, ◌<◌, ◌≤◌, ◌^◌, lit≤, inl, inr, ⊎_elim, ℕ, Bool, true, false, cond, ◌∷◌, ◌++◌, [], List, length, refl, sym, ◌∙◌, ap, subst, Option, Some, None, arith, Ok}
 use Rattle.std.specs.Ordering.{is_eq}
 use Rattle.std.proofs.lemmas.Option.{none-some, same_Some}
 use Rattle.repo_name.specs.Naming as naming
@@ -25,14 +25,14 @@ use Rattle.repo_index.proofs.ExactLemmas.{fact_there}
 use Rattle.repo_tree.specs.TreeWriting.{tree_text}
 use Rattle.repo_tree.proofs.SpellingLemmas.{empty_spelled}
 use Rattle.repo_store.specs.declared.shelves.Slice.{Slice}
-use Rattle.repo_store.specs.Pages.{Has, Above, IsPage}
+use Rattle.repo_store.specs.Pages.{IsPage}
 use Rattle.repo_store.specs.StoreMachine.{Step, object_limit, GetSays}
 use Rattle.repo_store.specs.Stores.{Store, Objects}
-use Rattle.repo_session.specs.Askers.{Asker, asker}
+use Rattle.repo_session.specs.Askers.{asker}
 use Rattle.repo_session.specs.Ends as ends
-use Rattle.repo_session.specs.Order.{Task, IsWorking, Obeys, May, opened, lock_row}
+use Rattle.repo_session.specs.Order.{Task, IsWorking, Obeys, opened, lock_row}
 use Rattle.repo_session.specs.Received.{Received}
-use Rattle.repo_session.specs.Traces.{Exchange, Trace, Exchanged, ReadFact, silent}
+use Rattle.repo_session.specs.Traces.{Trace, Exchanged, ReadFact, silent}
 use Rattle.repo_session.specs.declared.outcomes.Outcome.{Outcome}
 use Rattle.repo_session.proofs.Containing.{first_contained, contains_flat}
 use Rattle.repo_session.proofs.Holding.{working_more, holds_of, opened_working}
@@ -42,19 +42,19 @@ use Rattle.repo_world.specs.Backed.{configured, snapshot_of, AreTexts, stored, I
 use Rattle.repo_world.specs.Clients.{Backup, Restore, task_of, Allows, Gives, Concludes, Client, IsDutiful}
 use Rattle.repo_world.specs.Events.{Event, Run}
 use Rattle.repo_world.specs.Lone.{ended}
-use Rattle.repo_world.specs.World.{World, client, client_at, beginning, instance_of}
+use Rattle.repo_world.specs.World.{World, client_at, beginning, instance_of}
 use Rattle.repo_world.proofs.Backing as backup
 use Rattle.repo_world.proofs.Backing.{is_here, with_object, there_now}
 use Rattle.repo_world.proofs.Joining.{Stepped, finished, held_end, run_more}
 
-bytes_no_dead : (x : List ℕ) → Say.Bytes x ≡ Say.Refused Code.Dead → ⊥
+pub bytes_no_dead : (x : List ℕ) → Say.Bytes x ≡ Say.Refused Code.Dead → ⊥
 bytes_no_dead x h = absurd (cc)
 
-names_no_dead : (more : Bool) (names : List Name) → Say.Names more names ≡ Say.Refused Code.Dead → ⊥
+pub names_no_dead : (more : Bool) (names : List Name) → Say.Names more names ≡ Say.Refused Code.Dead → ⊥
 names_no_dead more names h = absurd (cc)
 
 -- the second token
-abbrev token : Token
+abbrev pub token : Token
 token = record { 0 = 2 }
 
 module _ (host : List ℕ) (time : ℕ) (config pack index snapshot : List ℕ) (limits : (time < 2 ^ 64) × IsHost host) (texts : AreTexts host time config pack index snapshot) where

@@ -1,9 +1,10 @@
--- A backup and a restore, as examples: an empty folder is backed up to a store without objects, its snapshot is reported as stored, and then restored.
-use Rattle.std.specs.Prelude.{◌≡◌, ◌≤◌, ◌<◌, ◌^◌, ◌-◌, ◌+◌, ◌∷◌, [], ℕ, List, length, min, Some, None}
+-- A backup, a restore and a prune, as examples: an empty folder is backed up to a store without objects, and its snapshot is reported as stored; then it is
+-- restored, or the store is pruned.
+use Rattle.std.specs.Prelude.{◌≡◌, ◌≤◌, ◌<◌, ◌^◌, ◌-◌, ◌∷◌, [], ℕ, List, length, min, Some, None}
 use Rattle.repo_name.specs.Naming as naming
 use Rattle.repo_name.specs.Rows.{IsHost}
 use Rattle.repo_name.specs.declared.kinds.Kind.{Kind}
-use Rattle.repo_pack.specs.PackLayout.{Item, IsTruePack}
+use Rattle.repo_pack.specs.PackLayout.{IsTruePack}
 use Rattle.repo_index.specs.declared.facts.Fact.{Fact}
 use Rattle.repo_index.specs.Exactness.{AreFactsAt}
 use Rattle.repo_index.specs.IndexText.{IsIndexText}
@@ -19,7 +20,7 @@ use Rattle.repo_store.specs.Stores.{Store}
 use Rattle.repo_session.specs.declared.outcomes.Outcome.{Outcome}
 use Rattle.repo_backup.specs.Folders.{nothing, tree_of}
 use Rattle.repo_writing.specs.Writing.{bytes_of}
-use Rattle.repo_world.specs.Clients.{Restore}
+use Rattle.repo_world.specs.Clients.{Restore, Prune}
 use Rattle.repo_world.specs.Events.{Event, Run}
 use Rattle.repo_world.specs.World.{World, client, beginning}
 
@@ -74,3 +75,16 @@ pub record IsGivenBack (config snapshot : List ℕ) : Type 0 where
 -- with any such texts there is such a run
 abbrev pub RestoreIsARun : Type 0
 RestoreIsARun = (host : List ℕ) (time : ℕ) (config pack index snapshot : List ℕ) → (time < 2 ^ 64) × IsHost host → AreTexts host time config pack index snapshot → IsGivenBack config snapshot
+
+-- the same, and then a second client, a prune, is done: it keeps the pack, and puts its index again
+pub record IsTidied (config snapshot : List ℕ) : Type 0 where
+  pub events : List Event
+  pub last : World
+  pub run : Run (beginning (configured config)) events last
+  pub reported : (client last 0).outcome ≡ Some (stored snapshot)
+  pub prunes : (client last 1).job ≡ Prune
+  pub pruned : (client last 1).outcome ≡ Some (Outcome.Pruned 0 0)
+
+-- with any such texts there is such a run
+abbrev pub PruneIsARun : Type 0
+PruneIsARun = (host : List ℕ) (time : ℕ) (config pack index snapshot : List ℕ) → (time < 2 ^ 64) × IsHost host → AreTexts host time config pack index snapshot → IsTidied config snapshot

@@ -1,6 +1,6 @@
 //! What holds of all runs, by the definitions alone. Each function is empty, and its contract is the law.
 
-ghost use Rattle.repo_world.specs.Backed.{BackupIsARun, RestoreIsARun};
+ghost use Rattle.repo_world.specs.Backed.{BackupIsARun, PruneIsARun, RestoreIsARun};
 ghost use Rattle.repo_world.specs.Example.{ExampleIsARun};
 ghost use Rattle.repo_world.specs.Lone.{LoneTalkIsARun};
 ghost use Rattle.repo_world.specs.Laws.{EachEventKeepsReports, EachReportHolds, EveryRunIsSafe, FailingIsAStep, NoClashGoesBack};
@@ -53,4 +53,10 @@ pub fn backup_is_a_run()
 /// So can that of a restore: after the backup, a restore of its snapshot by a second client is complete.
 pub fn restore_is_a_run()
     ensures { RestoreIsARun }
+{}
+
+/// So can that of a prune: after the backup, a prune by a second client, under a lock of its own, is done. It keeps the pack, whose tree
+/// the snapshot needs, and puts its index again.
+pub fn prune_is_a_run()
+    ensures { PruneIsARun }
 {}
