@@ -3,5 +3,6 @@ pub mod Sounding
 pub mod Finding
 pub mod Arriving
 pub mod Measuring
+pub mod Tellings
 pub mod Fittings
 pub mod TreeLooks

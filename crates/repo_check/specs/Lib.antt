@@ -5,4 +5,5 @@ pub mod Checking
 pub mod Arrivals
 pub mod Measures
 pub mod Fitting
+pub mod Telling
 pub mod Laws
