@@ -204,12 +204,12 @@ module _ (answers : Answers) (objects : Objects) (well : AreWell answers) (are :
     spelled (suc depth) t path s =
         let w = tree_well t (reached Tree t (s.lift Tree t (self_reached (suc depth) t))) in
         let one : (name : List ℕ) (what : NodeKind) → Contains w.nodes (record { name = name; what = what }) → (entries : List Entry) × NodeSpells H (SpellsTo 1 depth H) (path ++ name ∷ []) what entries =
-            λ name. elim [
-              | NodeKind.File size content ↦ λ among.
-                  (file_spells (path ++ name ∷ []) size content (λ n c. reached Content n (s.lift Content n (inr (record { name = name; what = NodeKind.File size content }, has_node t w.nodes (record { name = name; what = NodeKind.File size content }) w.tree among, (refl, c)))))
-                      (w.fit.measured (record { name = name; what = NodeKind.File size content }) among))
-              | NodeKind.Dir subtree ↦ λ among. (let inside = spelled depth subtree (path ++ name ∷ []) (below depth t path w.nodes name subtree s w.tree among) in (dir_entry (path ++ name ∷ []) ∷ inside.0, (inside.0, inside.1, refl)))
-            ] in
+        λ name. elim [
+          | NodeKind.File size content ↦ λ among.
+              (file_spells (path ++ name ∷ []) size content (λ n c. reached Content n (s.lift Content n (inr (record { name = name; what = NodeKind.File size content }, has_node t w.nodes (record { name = name; what = NodeKind.File size content }) w.tree among, (refl, c)))))
+              (w.fit.measured (record { name = name; what = NodeKind.File size content }) among))
+          | NodeKind.Dir subtree ↦ λ among. (let inside = spelled depth subtree (path ++ name ∷ []) (below depth t path w.nodes name subtree s w.tree among) in (dir_entry (path ++ name ∷ []) ∷ inside.0, (inside.0, inside.1, refl)))
+        ] in
         let all = each_spelled H (SpellsTo 1 depth H) path w.nodes (λ node c. one node.name node.what c) in
         (all.0, (w.nodes, w.held, all.1))
 

@@ -19,10 +19,7 @@ use std::alloc::{AllocError, Global};
 pub enum TreeLook {
     /// It reads, and leads to these blobs; and whether the sizes of its files are right, as far as their blobs lie
     /// somewhere.
-    Read {
-        links: Links,
-        right: bool,
-    },
+    Read { links: Links, right: bool },
     /// It is at fault.
     Fault(FaultKind),
     /// Another refusal, or a reply of another sort.

@@ -9,4 +9,4 @@ pub loop-pack-preserved : goal.loop-pack-preserved
 loop-pack-preserved c = λ rest.
     let no_name : Name = record { 0 = [] } in
     c.loop-pack.invariant (left_each (λ pack. ListsAsKnown c.args.own.now (found c.args.packs.now) pack) c.args.names.now c.loop-pack.pack-index no_name c.loop-pack-test.true
-        (c.in_ok-lists_as_known.ensures.yes c.if-not-branch.false) rest)
+    (c.in_ok-lists_as_known.ensures.yes c.if-not-branch.false) rest)

@@ -20,14 +20,14 @@ pub returns-in_default : goal.returns-in_default
 returns-in_default c = (
   λ never. absurd (cc never),
   λ m. absurd (let split = left_at c.args.content.now c.loop-name.name-index no_name c.loop-name-test.true in
-    measures_lost c.args.lookup.now _ _ c.loop-name.left c.in_default.ensures.none (subst (λ ns. Measures c.args.lookup.now ns c.loop-name.left) split (c.loop-name.invariant.0 m))),
+      measures_lost c.args.lookup.now _ _ c.loop-name.left c.in_default.ensures.none (subst (λ ns. Measures c.args.lookup.now ns c.loop-name.left) split (c.loop-name.invariant.0 m))),
 )
 
 pub returns-in_default-checked_sub : goal.returns-in_default-checked_sub
 returns-in_default-checked_sub c = (
   λ never. absurd (cc never),
   λ m. absurd (let split = left_at c.args.content.now c.loop-name.name-index no_name c.loop-name-test.true in
-    let short = c.in_default-checked_sub.ensures in
-    let less : c.loop-name.left < c.in-Some.place.length = omega (arith, short) in
-    measures_short c.args.lookup.now _ _ c.loop-name.left c.in-Some.place c.in-Some.ensures.found less (subst (λ ns. Measures c.args.lookup.now ns c.loop-name.left) split (c.loop-name.invariant.0 m))),
+      let short = c.in_default-checked_sub.ensures in
+      let less : c.loop-name.left < c.in-Some.place.length = omega (arith, short) in
+      measures_short c.args.lookup.now _ _ c.loop-name.left c.in-Some.place c.in-Some.ensures.found less (subst (λ ns. Measures c.args.lookup.now ns c.loop-name.left) split (c.loop-name.invariant.0 m))),
 )
