@@ -239,7 +239,7 @@ module _ (answers : Answers) where
 not_before : (n : Name) → Before n n → ⊥
 not_before n h = let self = tied_itself names_total n in cc (self, h)
 
-beyond : (n : Name) (names : List Name) → Ascends (Some n) names → (m : Name) → Has names m → Before n m
+pub beyond : (n : Name) (names : List Name) → Ascends (Some n) names → (m : Name) → Has names m → Before n m
 beyond n [] h m has = absurd has
 beyond n (first ∷ names) h m (inl is) = subst (λ o. Before n o) (sym is) h.0
 beyond n (first ∷ names) h m (inr more) = names_total.trans n first m h.0 (beyond first names h.1 m more)

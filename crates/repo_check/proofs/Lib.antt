@@ -3,5 +3,7 @@ pub mod Sounding
 pub mod Finding
 pub mod Arriving
 pub mod Measuring
+pub mod Leveling
+pub mod Tellings
 pub mod Fittings
 pub mod TreeLooks

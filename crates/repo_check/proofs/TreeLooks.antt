@@ -40,4 +40,4 @@ tree_none facts fact say (TreeLook.Read links right) unwelcome h = absurd h
 tree_none facts fact say (TreeLook.Fault what) unwelcome h =
     let a : Answer = record { name = fact.name; bytes = None } in
     subst (λ w. TreeFaultOf fact say w) (sym h.0) (a, absent fact.name say h.1, λ answers. refl)
-tree_none facts fact say TreeLook.Unwelcome unwelcome h = unwelcome
+tree_none facts fact say TreeLook.Unwelcome unwelcome h = (unwelcome, h)

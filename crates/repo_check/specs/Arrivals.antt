@@ -34,7 +34,7 @@ abbrev pub Arrives : Kind → Name → Say → Arrival → Type 0
 Arrives k n say (Arrival.Named bytes) = (say ≡ Say.Bytes bytes.now) × (naming.name bytes.now ≡ n)
 Arrives k n say Arrival.Misnamed = (x : List ℕ) × (say ≡ Say.Bytes x) × (naming.name x ≢ n)
 Arrives k n say Arrival.Absent = say ≡ Say.Refused Code.Missing
-Arrives k n say Arrival.Unwelcome = IsUnwelcome (Ask.Get k n) say
+Arrives k n say Arrival.Unwelcome = IsUnwelcome (Ask.Get k n) say × (say ≢ Say.Refused Code.Missing)
 
 -- the answer's bytes have its name
 abbrev pub HasBytes : Answer → List ℕ → Type 0
@@ -65,22 +65,22 @@ abbrev pub LooksAtSnapshot : Name → Say → SnapshotLook → Type 0
 LooksAtSnapshot n say (SnapshotLook.Root root) = (a : Answer) × IsAnswer n say a × IsRootOf a root
 LooksAtSnapshot n say (SnapshotLook.Fault what) = (a : Answer) × IsAnswer n say a × IsFaulty Kind.Snapshot a what
 LooksAtSnapshot n say SnapshotLook.Version = IsOfOtherVersion (Ask.Get Kind.Snapshot n) say
-LooksAtSnapshot n say SnapshotLook.Unwelcome = IsUnwelcome (Ask.Get Kind.Snapshot n) say
+LooksAtSnapshot n say SnapshotLook.Unwelcome = IsUnwelcome (Ask.Get Kind.Snapshot n) say × (say ≢ Say.Refused Code.Missing)
 
 -- why a snapshot can't be read, and what is told of it then
 abbrev pub MisreadAs : TextError → SnapshotLook → Type 0
 MisreadAs error SnapshotLook.Version = error ≡ TextError.Version
-MisreadAs error (SnapshotLook.Fault what) = (what ≡ FaultKind.Unreadable) × (error ≢ TextError.Memory)
+MisreadAs error (SnapshotLook.Fault what) = (what ≡ FaultKind.Unreadable) × (error ≢ TextError.Memory) × (error ≢ TextError.Version)
 MisreadAs error _ = ⊥
 
 -- of an index
 abbrev pub LooksAtIndex : Name → Say → IndexLook → Type 0
 LooksAtIndex n say (IndexLook.Read packs) = (a : Answer) × IsAnswer n say a × IsIndexOf a packs
 LooksAtIndex n say (IndexLook.Fault what) = (a : Answer) × IsAnswer n say a × IsFaulty Kind.Index a what
-LooksAtIndex n say IndexLook.Unwelcome = IsUnwelcome (Ask.Get Kind.Index n) say
+LooksAtIndex n say IndexLook.Unwelcome = IsUnwelcome (Ask.Get Kind.Index n) say × (say ≢ Say.Refused Code.Missing)
 
 -- of a pack
 abbrev pub LooksAtPack : Name → Say → PackLook → Type 0
 LooksAtPack n say (PackLook.Read facts) = (a : Answer) × IsAnswer n say a × IsPackOf a facts
 LooksAtPack n say (PackLook.Fault what) = (a : Answer) × IsAnswer n say a × IsFaulty Kind.Pack a what
-LooksAtPack n say PackLook.Unwelcome = IsUnwelcome (Ask.Get Kind.Pack n) say
+LooksAtPack n say PackLook.Unwelcome = IsUnwelcome (Ask.Get Kind.Pack n) say × (say ≢ Say.Refused Code.Missing)

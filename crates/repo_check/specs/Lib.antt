@@ -5,4 +5,6 @@ pub mod Checking
 pub mod Arrivals
 pub mod Measures
 pub mod Fitting
+pub mod Levels
+pub mod Telling
 pub mod Laws

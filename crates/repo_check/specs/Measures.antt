@@ -72,10 +72,10 @@ pub record IsReadAs (facts : List Fact) (place : Place) (a : Answer) (links : Li
 abbrev pub LooksAtTree : List Fact → Fact → Say → TreeLook → Type 0
 LooksAtTree facts fact say (TreeLook.Read links right) = (a : Answer) × IsTreeAnswer fact.name say a × IsReadAs facts fact.place a links right
 LooksAtTree facts fact say (TreeLook.Fault what) = (a : Answer) × IsTreeAnswer fact.name say a × ((answers : Answers) → TreeIs answers fact.place a (Some what))
-LooksAtTree facts fact say TreeLook.Unwelcome = IsUnwelcome (range_of fact) say
+LooksAtTree facts fact say TreeLook.Unwelcome = IsUnwelcome (range_of fact) say × ((say ≢ Say.Refused Code.Missing) × (say ≢ Say.Refused Code.Range))
 
 -- of one that brings no bytes
 abbrev pub LooksAtNone : Say → TreeLook → Type 0
 LooksAtNone say (TreeLook.Read links right) = ⊥
 LooksAtNone say (TreeLook.Fault what) = (what ≡ FaultKind.Missing) × ((say ≡ Say.Refused Code.Missing) ⊎ (say ≡ Say.Refused Code.Range))
-LooksAtNone say TreeLook.Unwelcome = ⊤
+LooksAtNone say TreeLook.Unwelcome = (say ≢ Say.Refused Code.Missing) × (say ≢ Say.Refused Code.Range)
