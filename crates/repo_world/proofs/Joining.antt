@@ -44,7 +44,7 @@ joined [] [] zs a b = refl
 joined [] (y ∷ ys) zs a b = ap (λ (ms : List Message). y ∷ ms) (joined [] ys zs a b)
 joined (x ∷ xs) ys zs a b = ap (λ (ms : List Message). x ∷ ms) (joined xs ys zs a b)
 
-run_more : (w : World) (es fs : List Event) (u v : World) → Run w es u → Run u fs v → Run w (es ++ fs) v
+pub run_more : (w : World) (es fs : List Event) (u v : World) → Run w es u → Run u fs v → Run w (es ++ fs) v
 run_more w [] fs u v h g = subst (λ (x : World). Run x fs v) h g
 run_more w (e ∷ es) fs u v h g = (h.0, h.1, run_more h.0 es fs u v h.2 g)
 
@@ -73,7 +73,7 @@ abbrev first_ask : Trace → Ask
 first_ask [] = Ask.Ticket
 first_ask (e ∷ es) = e.ask
 
-held_end : (task : Task) (token : Token) (later : Trace) (e : Exchange) (es : Trace) → e ∷ es ≡ later ++ locked task token → Each IsNoUnlock later → IsUnlock e.ask → ⊥
+pub held_end : (task : Task) (token : Token) (later : Trace) (e : Exchange) (es : Trace) → e ∷ es ≡ later ++ locked task token → Each IsNoUnlock later → IsUnlock e.ask → ⊥
 held_end task token [] e es since none u = let q : e.ask ≡ Ask.Lock _ = ap first_ask since in subst IsUnlock q u
 held_end task token (x ∷ later) e es since none u = no_unlock_head x none.0 (subst IsUnlock (ap first_ask since) u)
 
@@ -213,7 +213,7 @@ module _ (w : World) (job : Job) (host : List ℕ) (time : ℕ) (accepted : Acce
   Shows o a es = ((¬ IsUnlock a) × (o ≡ None)) ⊎ (IsUnlock a × ((x : Outcome) × (o ≡ Some x) × ends.Concludes (Concludes job) es x))
 
   -- the store's steps over these exchanges
-  abbrev Stepped : Store → Trace → Store → Type 0
+  abbrev pub Stepped : Store → Trace → Store → Type 0
   Stepped from [] to = to ≡ from
   Stepped from (e ∷ es) to = (mid : Store) × Stepped from es mid × Step mid e.ask e.say to
 
@@ -299,7 +299,7 @@ module _ (w : World) (job : Job) (host : List ℕ) (time : ℕ) (accepted : Acce
         run_more w before.0 last.0 (at es (Some (asked_of (length w.clients) es e.ask)) p steps.0) (at (e ∷ es) None outcome to) before.1 last.1,
       )
 
-  finished : (e : Exchange) (es : Trace) (to : Store) (outcome : Option Outcome) → Stepped w.store (e ∷ es) to → IsDutiful (talking (e ∷ es) None outcome) → (events : List Event) × Run w events (at (e ∷ es) None outcome to)
+  pub finished : (e : Exchange) (es : Trace) (to : Store) (outcome : Option Outcome) → Stepped w.store (e ∷ es) to → IsDutiful (talking (e ∷ es) None outcome) → (events : List Event) × Run w events (at (e ∷ es) None outcome to)
   finished e es to outcome steps dutiful = by_end (is_unlock e.ask)
     where
       some_of : (o : Option Outcome) → o ≢ None → (x : Outcome) × (o ≡ Some x)

@@ -83,7 +83,7 @@ own_part (suc zero) B t = refl
 own_part (suc (suc zero)) B t = ([], refl)
 own_part (suc (suc (suc version))) B t = refl
 
-reaches_itself : (depth version : ℕ) (B : Blobs) (t : Name) → ReachTo version depth B t Tree t
+pub reaches_itself : (depth version : ℕ) (B : Blobs) (t : Name) → ReachTo version depth B t Tree t
 reaches_itself zero version B t = (refl, own_part version B t)
 reaches_itself (suc depth) version B t = inl (refl, own_part version B t)
 

@@ -9,6 +9,7 @@ pub mod Bag
 pub mod BagLaws
 pub mod Lone
 pub mod Example
+pub mod Backed
 pub mod WrongDeletes
 pub mod WrongLocks
 pub mod WrongPacksFirst

@@ -1,5 +1,6 @@
 //! What holds of all runs, by the definitions alone. Each function is empty, and its contract is the law.
 
+ghost use Rattle.repo_world.specs.Backed.{BackupIsARun, PruneIsARun, RestoreIsARun};
 ghost use Rattle.repo_world.specs.Example.{ExampleIsARun};
 ghost use Rattle.repo_world.specs.Lone.{LoneTalkIsARun};
 ghost use Rattle.repo_world.specs.Laws.{EachEventKeepsReports, EachReportHolds, EveryRunIsSafe, FailingIsAStep, NoClashGoesBack};
@@ -41,4 +42,21 @@ pub fn lone_talk_is_a_run()
 /// a lock is removed and the store is opened anew, and no two byte lists clash in its last world.
 pub fn example_is_a_run()
     ensures { ExampleIsARun }
+{}
+
+/// The rule of a backup can be met to its end: with any texts as they are written, a run leads to a world in which a backup of an
+/// empty folder is reported as stored, and its snapshot is there.
+pub fn backup_is_a_run()
+    ensures { BackupIsARun }
+{}
+
+/// So can that of a restore: after the backup, a restore of its snapshot by a second client is complete.
+pub fn restore_is_a_run()
+    ensures { RestoreIsARun }
+{}
+
+/// So can that of a prune: after the backup, a prune by a second client, under a lock of its own, is done. It keeps the pack, whose tree
+/// the snapshot needs, and puts its index again.
+pub fn prune_is_a_run()
+    ensures { PruneIsARun }
 {}

@@ -26,8 +26,9 @@ pub use bag_laws::{
     replies_keep_bag, starts_keep_bag,
 };
 pub use laws::{
-    each_event_keeps_reports, each_report_holds, every_run_is_safe, example_is_a_run,
-    failing_is_a_step, lone_talk_is_a_run, no_clash_goes_back,
+    backup_is_a_run, each_event_keeps_reports, each_report_holds, every_run_is_safe,
+    example_is_a_run, failing_is_a_step, lone_talk_is_a_run, no_clash_goes_back, prune_is_a_run,
+    restore_is_a_run,
 };
 pub use wrong_rules::{
     deletes_for_ever_break_bag, grants_again_break_bag, packs_first_break_sound,
