@@ -9,3 +9,4 @@ pub mod Covering
 pub mod TreeReading
 pub mod Finding
 pub mod Repacking
+pub mod Cutting

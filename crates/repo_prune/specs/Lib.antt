@@ -10,4 +10,5 @@ pub mod Plans
 pub mod Reading
 pub mod Unfound
 pub mod Moving
+pub mod Indexing
 pub mod Laws

@@ -16,12 +16,13 @@
 //! The definitions stand in `specs/`: `Keeping` (what a policy keeps), `Forgetting` (which snapshots a forget may
 //! delete, and how it may end); and what is known on the way: `Walks` (how the rows of a host are gone down), `Picking`,
 //! `ForgetStates` and `ForgetObedience`; `Laws` (a forget alone with its store); `Plans` (what a prune keeps and
-//! moves); `Reading` and `Unfound` (its reading of trees); `Moving` (its new packs); `Pruning` (what a prune may
-//! put and delete, and how it may end: nothing stands on it yet).
+//! moves); `Reading` and `Unfound` (its reading of trees); `Moving` (its new packs); `Indexing` (its new indexes);
+//! `Pruning` (what a prune may put and delete, and how it may end: nothing stands on it yet).
 #![tactic(auto)]
 
 mod choices;
 mod forgets;
+mod indexing;
 mod keeping;
 mod laws;
 mod moving;
