@@ -72,7 +72,7 @@ and_both false b h = absurd (cc)
 pub here_is : (k : Kind) (n : Name) (j : Kind) (m : Name) → is_here k n j m ≡ true → (j ≡ k) × (m ≡ n)
 here_is k n j m h = let p = and_both (same_kind j k) (is_eq (name_cmp m n)) h in (kinds_same j k p.0, same_name m n p.1)
 
-at_here : (k : Kind) (n : Name) → is_here k n k n ≡ true
+pub at_here : (k : Kind) (n : Name) → is_here k n k n ≡ true
 at_here k n = ap (λ b. b && is_eq (name_cmp n n)) (same_self k) ∙ is_itself n
 
 pub there_now : (old : Objects) (k : Kind) (n : Name) (x : List ℕ) → with_object old k n x k n ≡ Some x

@@ -64,7 +64,7 @@ use Rattle.repo_world.proofs.Joining.{Stepped, finished, held_end, run_more}
 use Rattle.repo_world.proofs.WrongRules.{reaches_itself}
 
 -- a list of one element
-only : {A : Type 0} (a b : A) → Contains (a ∷ []) b → a ≡ b
+pub only : {A : Type 0} (a b : A) → Contains (a ∷ []) b → a ≡ b
 only a b c = ⊎_elim (λ same. same) (λ none. absurd (none_contained b none)) (contained_or a [] b c)
 
 -- ---- the one tree has no nodes

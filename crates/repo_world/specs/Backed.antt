@@ -1,9 +1,11 @@
 -- A backup, a restore and a prune, as examples: an empty folder is backed up to a store without objects, and its snapshot is reported as stored; then it is
--- restored, or the store is pruned.
-use Rattle.std.specs.Prelude.{◌≡◌, ◌≤◌, ◌<◌, ◌^◌, ◌-◌, ◌∷◌, [], ℕ, List, length, min, Some, None}
+-- restored, or the store is pruned, or it is forgotten and the store pruned.
+use Rattle.std.specs.Prelude.{◌≡◌, ◌≤◌, ◌<◌, ◌^◌, ◌-◌, ◌∷◌, [], ℕ, List, length, min, Some, None, Vec, Contains}
+use Rattle.std.specs.Global.{Global}
 use Rattle.repo_name.specs.Naming as naming
 use Rattle.repo_name.specs.Rows.{IsHost}
 use Rattle.repo_name.specs.declared.kinds.Kind.{Kind}
+use Rattle.repo_name.specs.declared.names.Name.{Name}
 use Rattle.repo_pack.specs.PackLayout.{IsTruePack}
 use Rattle.repo_index.specs.declared.facts.Fact.{Fact}
 use Rattle.repo_index.specs.Exactness.{AreFactsAt}
@@ -20,7 +22,8 @@ use Rattle.repo_store.specs.Stores.{Store}
 use Rattle.repo_session.specs.declared.outcomes.Outcome.{Outcome}
 use Rattle.repo_backup.specs.Folders.{nothing, tree_of}
 use Rattle.repo_writing.specs.Writing.{bytes_of}
-use Rattle.repo_world.specs.Clients.{Restore, Prune}
+use Rattle.repo_prune.specs.declared.choices.Choice.{Choice}
+use Rattle.repo_world.specs.Clients.{Restore, Forget, Prune}
 use Rattle.repo_world.specs.Events.{Event, Run}
 use Rattle.repo_world.specs.World.{World, client, beginning}
 
@@ -88,3 +91,19 @@ pub record IsTidied (config snapshot : List ℕ) : Type 0 where
 -- with any such texts there is such a run
 abbrev pub PruneIsARun : Type 0
 PruneIsARun = (host : List ℕ) (time : ℕ) (config pack index snapshot : List ℕ) → (time < 2 ^ 64) × IsHost host → AreTexts host time config pack index snapshot → IsTidied config snapshot
+
+-- the same; then a second client, a forget of names, forgets the snapshot; then a third, a prune, deletes the index and the pack, and no object is left
+pub record IsForgotten (names : Vec Name Global) (config snapshot : List ℕ) : Type 0 where
+  pub events : List Event
+  pub last : World
+  pub run : Run (beginning (configured config)) events last
+  pub forgets : (client last 1).job ≡ Forget (Choice.Names names)
+  pub forgotten : (client last 1).outcome ≡ Some (Outcome.Forgotten (naming.name snapshot ∷ []))
+  pub prunes : (client last 2).job ≡ Prune
+  pub pruned : (client last 2).outcome ≡ Some (Outcome.Pruned 1 0)
+  pub none_left : (k : Kind) (n : Name) → last.store.objects k n ≡ None
+
+-- with any such texts, and any names that the snapshot's is among, there is such a run
+abbrev pub ForgetIsARun : Type 0
+ForgetIsARun = (host : List ℕ) (time : ℕ) (config pack index snapshot : List ℕ) (names : Vec Name Global) → (time < 2 ^ 64) × IsHost host → AreTexts host time config pack index snapshot → Contains names.items (naming.name snapshot)
+    → IsForgotten names config snapshot

@@ -1,6 +1,6 @@
 //! What holds of all runs, by the definitions alone. Each function is empty, and its contract is the law.
 
-ghost use Rattle.repo_world.specs.Backed.{BackupIsARun, PruneIsARun, RestoreIsARun};
+ghost use Rattle.repo_world.specs.Backed.{BackupIsARun, ForgetIsARun, PruneIsARun, RestoreIsARun};
 ghost use Rattle.repo_world.specs.Example.{ExampleIsARun};
 ghost use Rattle.repo_world.specs.Lone.{LoneTalkIsARun};
 ghost use Rattle.repo_world.specs.Laws.{EachEventKeepsReports, EachReportHolds, EveryRunIsSafe, FailingIsAStep, NoClashGoesBack};
@@ -59,4 +59,10 @@ pub fn restore_is_a_run()
 /// the snapshot needs, and puts its index again.
 pub fn prune_is_a_run()
     ensures { PruneIsARun }
+{}
+
+/// So can those of a forget and of a prune that deletes: after the backup, a second client forgets the snapshot, and a third
+/// prunes the store, until no object is left.
+pub fn forget_is_a_run()
+    ensures { ForgetIsARun }
 {}
