@@ -26,9 +26,9 @@ use Rattle.repo_tree.proofs.TreeLemmas.{tree_texts_one}
 use Rattle.repo_session.specs.declared.outcomes.FaultKind.{FaultKind}
 use Rattle.repo_session.specs.Traces.{Trace}
 use Rattle.repo_check.specs.Answers.{Answer, Answers, LiesAt, LiesNowhere}
-use Rattle.repo_check.specs.Checking.{OfObject, AreAnswers, AreGot}
+use Rattle.repo_check.specs.Checking.{IsFound, OfBlob, OfObject, AreAnswers, AreGot, AreWell}
 use Rattle.repo_check.specs.Findings.{Reads, IsExactOf, IsFitting, IsMisplaced, ObjectIs, Measure, IsMeasured, IsMismeasured, IsWellTree, IsIllTree, IsTreeAt, TreeIs, ContentIs, BlobIs}
-use Rattle.repo_check.specs.Laws.{FoundOnce}
+use Rattle.repo_check.specs.Laws.{FoundOnce, WellHasNoFault}
 
 -- ---- places
 
@@ -275,3 +275,25 @@ found_once es answers are Thing.Index n f g h i = of_object_once es answers are 
 found_once es answers are Thing.Snapshot n f g h i = of_object_once es answers are Kind.Snapshot n f g h i
 found_once es answers are Thing.Content n f g h i = blob_once answers are.trees.once Content n f g h.1 i.1
 found_once es answers are Thing.Tree n f g h i = blob_once answers are.trees.once Tree n f g h.1 i.1
+
+-- ---- well, and no fault
+
+never : (what : FaultKind) → None ≡ Some what → ⊥
+never what h = cc h
+
+module _ (es : Trace) (answers : Answers) (are : AreAnswers es answers) (well : AreWell answers) where
+  no_object : (k : Kind) (n : Name) (what : FaultKind) → OfObject answers k n (Some what) → ⊥
+  no_object k n what h = never what (object_once answers k h.0 None (Some what) (well.objects k h.0 h.1) h.3)
+
+  no_blob : (k : BlobKind) (n : Name) (what : FaultKind) → OfBlob answers k n (Some what) → ⊥
+  no_blob k n what h = never what (blob_once answers are.trees.once k n None (Some what) (well.blobs k n h.0) h.1)
+
+  no_thing : (thing : Thing) (n : Name) (what : FaultKind) → IsFound answers thing n (Some what) → ⊥
+  no_thing Thing.Pack n what h = no_object Kind.Pack n what h
+  no_thing Thing.Index n what h = no_object Kind.Index n what h
+  no_thing Thing.Snapshot n what h = no_object Kind.Snapshot n what h
+  no_thing Thing.Content n what h = no_blob Content n what h
+  no_thing Thing.Tree n what h = no_blob Tree n what h
+
+pub well_has_no_fault : WellHasNoFault
+well_has_no_fault es answers are well fault h = no_thing es answers are well fault.thing fault.name fault.what h

@@ -7,6 +7,7 @@ use Rattle.repo_name.specs.declared.kinds.Thing.{Thing}
 use Rattle.repo_name.specs.declared.names.Name.{Name}
 use Rattle.repo_index.specs.declared.facts.Fact.{Fact}
 use Rattle.repo_store.specs.Stores.{Objects}
+use Rattle.repo_session.specs.declared.outcomes.CheckFault.{CheckFault}
 use Rattle.repo_session.specs.declared.outcomes.FaultKind.{FaultKind}
 use Rattle.repo_session.specs.Soundness.{IsSound}
 use Rattle.repo_session.specs.Traces.{Trace}
@@ -15,7 +16,7 @@ use Rattle.repo_check.specs.Fitting.{FactsOfPacks, AreKnown, Fits, Misfits}
 use Rattle.repo_index.specs.IndexText.{IsIndexText}
 use Rattle.repo_index.specs.declared.facts.PackFacts.{PackFacts}
 use Rattle.repo_check.specs.Answers.{Answer, Answers, Gives}
-use Rattle.repo_check.specs.Checking.{IsFound, AreWell, IsClean, AreAnswers}
+use Rattle.repo_check.specs.Checking.{IsFault, IsFound, AreWell, IsClean, AreAnswers}
 
 -- the objects that came, under the names for which they came
 abbrev pub AreObjects : Answers → Objects → Type 0
@@ -51,3 +52,7 @@ abbrev pub FitsAsFound : Type 0
 FitsAsFound = (answers : Answers) (packs : FactsOfPacks) (x : List ℕ) (text : List PackFacts) → AreKnown answers packs
     → ((a b : Answer) → Contains (answers.objects Kind.Pack) a → Contains (answers.objects Kind.Pack) b → a.name ≡ b.name → a ≡ b)
     → IsIndexText x text → (Fits text packs → IsFitting answers Kind.Index x) × (Misfits text packs → IsMisplaced answers Kind.Index x)
+
+-- where all things are well, none is at fault
+abbrev pub WellHasNoFault : Type 0
+WellHasNoFault = (es : Trace) (answers : Answers) → AreAnswers es answers → AreWell answers → (fault : CheckFault) → ¬ IsFault answers fault

@@ -1,6 +1,6 @@
 //! What holds of what a check tells, by the definitions alone. Each function is empty, and its contract is the law.
 
-ghost use Rattle.repo_check.specs.Laws.{WellIsSound, CleanIsSound, FoundOnce, FitsAsFound};
+ghost use Rattle.repo_check.specs.Laws.{WellIsSound, CleanIsSound, FoundOnce, FitsAsFound, WellHasNoFault};
 
 /// Where all things are well in what was received, the objects received are a sound store. Premise: no two of the objects
 /// and trees received, and of the blobs in the packs, have one name.
@@ -22,4 +22,9 @@ pub fn found_once()
 /// are known of these packs.
 pub fn fits_as_found()
     ensures { FitsAsFound }
+{}
+
+/// Where all things are well, none is at fault.
+pub fn well_has_no_fault()
+    ensures { WellHasNoFault }
 {}

@@ -8,7 +8,8 @@
 //! below those of one depth ([`below`]), and the list of faults in order ([`tell`]).
 //!
 //! Promised: where each thing is found well, the objects received are a sound store, if no two of what was received have
-//! one name ([`well_is_sound`], [`clean_is_sound`]). Each pack's bytes are hashed once for its name and once for its blobs.
+//! one name ([`well_is_sound`], [`clean_is_sound`]); and none is at fault ([`well_has_no_fault`]). Each pack's bytes are
+//! hashed once for its name and once for its blobs.
 //!
 //! The definitions stand in `specs/`: `Answers` (what was received, and what that gives and reaches), `Findings` (what is
 //! found of each thing), `Checking` (faults, their order, clean, and the rule), `Laws`; and those of the parts: `Arrivals`
@@ -25,7 +26,7 @@ mod telling;
 mod trees;
 
 pub use fitting::fits;
-pub use laws::{clean_is_sound, fits_as_found, found_once, well_is_sound};
+pub use laws::{clean_is_sound, fits_as_found, found_once, well_has_no_fault, well_is_sound};
 pub use levels::below;
 pub use objects::{
     IndexLook, PackLook, SnapshotLook, look_at_index, look_at_pack, look_at_snapshot,
