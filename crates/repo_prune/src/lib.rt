@@ -17,7 +17,8 @@
 //! delete, and how it may end); and what is known on the way: `Walks` (how the rows of a host are gone down), `Picking`,
 //! `ForgetStates` and `ForgetObedience`; `Laws` (a forget alone with its store); `Plans` (what a prune keeps and
 //! moves); `Reading` and `Unfound` (its reading of trees); `Moving` (its new packs); `Indexing` (its new indexes);
-//! `Pruning` (what a prune may put and delete, and how it may end: nothing stands on it yet).
+//! `Pruning` (what a prune may put and delete, and how it may end: no code goes by it yet, but the laws of all runs are
+//! over it).
 #![tactic(auto)]
 
 mod choices;
