@@ -1,9 +1,9 @@
 #!/usr/bin/env bash
 # Times vault by real processes over the loopback: a backup, the same backup again, and a restore of a large file of
-# random bytes and of many small files, with the seconds and the greatest resident set of client and server; and restic on
-# the same files, in the same run, where it is installed. restic encrypts what it stores, and vault doesn't; restic's
-# compression is off. Its second backup is run twice: as it is (files whose times haven't changed aren't read), and with all
-# files read again, as vault does.
+# random bytes and of many small files; and a prune after half of the small files were forgotten; with the seconds and the
+# greatest resident set of client and server; and restic on the same files, in the same run, where it is installed. restic
+# encrypts what it stores, and vault doesn't; restic's compression is off. Its second backup is run twice: as it is (files
+# whose times haven't changed aren't read), and with all files read again, as vault does.
 #
 # Usage: bench/backup.sh [MIB [FILES]]. Without words: one file of 512 MiB, and 20,000 files of 2 KiB. The port is 7073, or
 # PORT. All that it makes lies in a temporary folder, which is removed at the end.
@@ -88,3 +88,17 @@ for folder in large small; do
         rm -r "$work/again"
     fi
 done
+
+# Half of the small files stay, in a snapshot of their own; the others are forgotten.
+find "$work/small" -type f -name '*[02468]' -delete
+with_server "backup of half of small" backup "$address" host "$work/small"
+keep=$(cut -d ' ' -f 2 "$work/told")
+with_server "snapshots" snapshots "$address"
+mapfile -t names < <(cut -d ' ' -f 1 "$work/told" | grep -v "$keep")
+with_server "forget" forget "$address" "${names[@]}"
+with_server "prune" prune "$address"
+if command -v restic >/dev/null; then
+    with_restic "backup of half of small" backup --compression off "$work/small"
+    with_restic "forget" forget --keep-last 1 --group-by ''
+    with_restic "prune" prune --max-unused 0
+fi

@@ -1,8 +1,18 @@
 #!/usr/bin/env python3
 """Prints what `bench` has to print for random bytes, a backup and a restore of them, and for snapshots and those of them that a
-policy keeps, by another program's SHA-256 and JSON: a check on the crate's file stdout. Usage: bench/digests.py"""
+policy keeps, by another program's SHA-256 and JSON, and for a prune by the reference of the cases: a check on the
+crate's file stdout. Usage: bench/digests.py"""
 import hashlib
 import json
+import sys
+from pathlib import Path
+
+sys.dont_write_bytecode = True
+sys.path.insert(0, str(Path(__file__).resolve().parents[1] / "scripts/cases"))
+
+from jobs import Backup, Client, Forget
+from prunes import Prune
+from store import Store
 
 SIZE = 1000
 HOSTS = ["desktop", "laptop", "mail", "phone", "server"]
@@ -44,6 +54,27 @@ def kept(all_rows):
     return b"".join(sorted(names))
 
 
+def finished(store, core):
+    """How a client of a store ends."""
+    client = Client(core, bytes([1]) * 16, "bench", 0)
+    while client.pending:
+        reply = store.answer(client.pending.what)
+        client.take(type(client.pending)(client.instance, client.sequence, reply))
+    return client.outcome
+
+
+def half_forgotten(count):
+    """A store with a backup of every other one of so many files, after one of all was forgotten, and the snapshot's name."""
+    store = Store()
+    store.config = text({"chunk_bits": 20, "chunk_max": 8388608, "chunk_min": 524288, "id": "0" * 32,
+                         "pack_target": max(1024, count * 64 // 50), "version": 1})
+    files = [([f"{number:08}"], b"%064d" % number) for number in range(count)]
+    first = finished(store, Backup(files))
+    second = finished(store, Backup(files[::2]))
+    finished(store, Forget([first.name]))
+    return store, second.name
+
+
 def main():
     content = random_bytes(SIZE)
     file = {"content": [name(content)], "name": "random", "size": SIZE, "type": "file"}
@@ -54,6 +85,8 @@ def main():
     snapshots = list(rows(SIZE))
     print(f"rows {SIZE} {snapshots[-1][2].hex()}")
     print(f"keep {SIZE} {name(kept(snapshots))}")
+    print(f"forget {SIZE} {half_forgotten(SIZE)[1].hex()}")
+    print(f"prune {SIZE} {name(finished(half_forgotten(SIZE)[0], Prune()).text.encode())}")
 
 
 main()

@@ -4,6 +4,7 @@ from dataclasses import dataclass, field
 
 from frames import REPLIES, REQUESTS, Malformed, Message, Stream
 from jobs import Backup, Client, Forget, List, Restore, StartRefused
+from prunes import Prune
 
 INSTANCE = bytes([1]) * 16
 STALE = 1_800
@@ -126,7 +127,7 @@ def unlock(talk, everything):
 def job(talk, core, host):
     outcome = talk.drive(Client(core, INSTANCE, host, talk.server.time))
     word = outcome.text.split(" ")[0]
-    if word not in ("stored", "complete", "listed", "forgotten"):
+    if word not in ("stored", "complete", "listed", "forgotten", "pruned", "clean", "faults"):
         raise Failed(outcome.text)
     return outcome
 
@@ -138,6 +139,10 @@ def snapshots(talk):
 
 def restore(talk, name):
     talk.show(job(talk, Restore(name), "vault").text + "\n")
+
+
+def prune(talk):
+    talk.show(job(talk, Prune(), "vault").text + "\n")
 
 
 def forget(talk, names, policy=None):

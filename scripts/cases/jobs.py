@@ -21,6 +21,7 @@ class Outcome:
     name: bytes | None = None
     rows: list | None = None
     forgotten: list | None = None
+    faults: list | None = None
 
 
 class End(Exception):

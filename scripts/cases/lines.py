@@ -131,6 +131,11 @@ class Lines:
         self.line("restore", name.hex())
         self.ran(commands.run(commands.restore, server, name))
 
+    def prune(self, *replies, **shape):
+        server = self.server(*replies, **shape)
+        self.line("prune")
+        self.ran(commands.run(commands.prune, server))
+
     def forget(self, names, *replies, **shape):
         server = self.server(*replies, **shape)
         self.line("forget", *[name.hex() for name in names])

@@ -16,6 +16,8 @@ sys.dont_write_bytecode = True
 
 from command_cases import NO_NAMES, OPENED, row, says
 from job_cases import FILE_TREE, indexed, restore_of, tree_first
+from prune_cases import mixed, replies_to
+from prunes import Prune
 from script import Script
 from store import name_of
 from texts import snapshot_text, tree_text
@@ -43,11 +45,21 @@ def chosen():
     script.heading("restore")
     good = indexed(FILE_TREE, tree_first(FILE_TREE, b"abc")) + [("bytes", FILE_TREE), ("bytes", b"abc"), ("done",)]
     restore_of(script, FILE_TREE, *good)
+    rows = [snapshot_text(host, time, 1, name_of(tree_text([]))) for host, time in (("a", 1), ("a", 2), ("b", 1))]
+    rows.sort(key=name_of)
+    page = ("names", False, [name_of(row) for row in rows])
+    script.heading("forget, by names")
+    script.forget([name_of(row) for row in rows[1:]], says(*OPENED, page, *[("done",)] * 3))
+    script.heading("forget, by a policy")
+    script.keep(1, 0, says(*OPENED, page, *[("bytes", row) for row in rows], ("done",), ("done",)))
+    script.heading("prune")
+    script.prune(says(*replies_to(Prune(), mixed())))
     script.heading("frames")
     script.frames(["0000001901010101010101010101010101010101010000000000000001"] * 2)
     script.heading("a store and its clients")
     script.fresh()
-    for client in (script.start_backup([(["x"], b"abc")]), script.start_list(), script.start_backup([])):
+    for client in (script.start_backup([(["x"], b"abc")]), script.start_list(), script.start_backup([]),
+                   script.start_forget(name_of(b"")), script.start_prune()):
         script.steps(client)
     script.report()
     return script

@@ -4,6 +4,7 @@ import commands
 from frames import KINDS, Message
 from jobs import Backup, Client, Forget, List, Restore, StartRefused
 from lines import Lines, digits, frames_of, shown
+from prunes import Prune
 from store import Refused, Store
 from texts import config_text
 
@@ -116,6 +117,10 @@ class Script(Lines):
         except StartRefused as refused:
             self.prints("start refused", refused.args[0])
 
+    def start_prune(self):
+        self.line("start prune")
+        return self.seat(Prune(), "play", 0)
+
     def reply_to(self, request):
         return Message(request.instance, request.sequence, self.store.answer(request.what))
 
@@ -188,6 +193,8 @@ class Script(Lines):
             self.prints("token", token)
         for name in outcome.forgotten or []:
             self.prints("forgot", name.hex())
+        for thing, name, what in outcome.faults or []:
+            self.prints("fault", thing, name.hex(), what)
         if outcome.name is not None:
             self.prints("name", outcome.name.hex())
 

@@ -132,6 +132,22 @@ def read_index(data):
     return facts
 
 
+def read_pack(data):
+    """The blobs of a pack, of which each has its name: (kind, name, offset, length)."""
+    want(len(data) >= 4)
+    header = int.from_bytes(data[-4:], "little")
+    blobs, offset = len(data) - 4 - header, 0
+    want(0 < header <= 37 * 4_096 and header % 37 == 0 and blobs >= 0)
+    rows = []
+    for at in range(blobs, len(data) - 4, 37):
+        kind, length, name = data[at], int.from_bytes(data[at + 1:at + 5], "little"), data[at + 5:at + 37]
+        want(kind in (0, 1) and 1 <= length <= BLOB_LARGEST and name_of(data[offset:offset + length]) == name)
+        rows.append(("tree" if kind else "content", name, offset, length))
+        offset += length
+    want(offset == blobs)
+    return rows
+
+
 def is_component(name):
     return 1 <= len(name.encode()) <= 255 and "/" not in name and "\0" not in name and name not in (".", "..")
 

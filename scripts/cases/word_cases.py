@@ -46,7 +46,8 @@ def claps(script):
             ("vault frames more", "error: unexpected argument 'more' found"),
             ("vault frames --all", "error: unexpected argument '--all' found"),
             ("vault init", missing), ("vault serve x", missing), ("vault backup x h", missing), ("vault restore x", missing),
-            ("vault refresh x", missing), ("vault snapshots", missing), ("vault forget", missing), ("vault locks", missing), ("vault unlock", missing),
+            ("vault refresh x", missing), ("vault snapshots", missing), ("vault forget", missing), ("vault prune", missing),
+            ("vault locks", missing), ("vault unlock", missing),
             ("vault init x --max -1", "error: unexpected argument '-1' found"),
             ("vault init x --max", "error: a value is required for '--max <N>' but none was supplied"),
             ("vault init x --max y", f"error: invalid value 'y' for '--max <N>': {digits}"),
@@ -62,6 +63,7 @@ def claps(script):
             ("vault serve x y --connections z", f"error: invalid value 'z' for '--connections <N>': {digits}"),
             ("vault locks x y", "error: unexpected argument 'y' found"),
             ("vault snapshots x y", "error: unexpected argument 'y' found"),
+            ("vault prune x y", "error: unexpected argument 'y' found"),
             ("vault unlock x --all", "error: unexpected argument '--all' found")):
         script.heading("words that clap refuses")
         script.clap(words, 2, faults=fault)
@@ -74,7 +76,7 @@ def unreached(script):
     """Addresses that are none: the text that the socket's call refuses."""
     for words in ("locks nowhere", "snapshots nowhere", "refresh nowhere 1", "refresh nowhere 18446744073709551615",
                   "unlock nowhere", "unlock nowhere --remove-all", "backup nowhere " + "h" * 255 + " p", "backup nowhere h p",
-                  "restore nowhere " + A.hex() + " d", "forget nowhere", "forget nowhere --keep-last 1", "forget nowhere --keep-daily 4294967295",
+                  "restore nowhere " + A.hex() + " d", "prune nowhere", "forget nowhere", "forget nowhere --keep-last 1", "forget nowhere --keep-daily 4294967295",
                   "forget nowhere " + A.hex() + " " + A.hex(), f"forget nowhere {A.hex()} --keep-last 0 {E.hex()} --keep-daily 0", "locks 127.0.0.1", "locks 127.0.0.1:x", "locks 127.0.0.1:0", "locks 127.0.0.1:65536"):
         script.heading("an address that can't be connected to")
         script.vault("vault " + words)

@@ -15,6 +15,7 @@ import folder_cases
 import forget_cases
 import job_cases
 import known
+import prune_cases
 import vault_frames
 import word_cases
 import world_cases
@@ -22,7 +23,8 @@ from script import Script
 
 CRATES = Path(__file__).resolve().parents[2] / "crates"
 PARTS = [command_cases.locks, command_cases.refresh, command_cases.unlock, command_cases.lists, job_cases.restores,
-         job_cases.backups, *word_cases.ALL, *world_cases.ALL, *damage_cases.ALL, *folder_cases.ALL, *forget_cases.ALL]
+         job_cases.backups, *word_cases.ALL, *world_cases.ALL, *damage_cases.ALL, *folder_cases.ALL, *forget_cases.ALL,
+         *prune_cases.ALL]
 
 
 def files():

@@ -1,4 +1,4 @@
-//! A backup of random bytes into a shelf in memory, and a restore of it.
+//! A backup of random bytes into a shelf in memory, and a restore of it; and what other clients need for a shelf in memory.
 
 use crate::chunk::random_bytes;
 use anyhow::{Result, bail};
@@ -10,9 +10,8 @@ use repo_store::{MemShelf, Shelf};
 use repo_tree::{Entry, EntryKind, Path};
 use std::alloc::{AllocError, Global};
 
-/// The default config.
-const CONFIG: &str =
-    r#"{"chunk_bits":20,"chunk_max":8388608,"chunk_min":524288,"id":"00000000000000000000000000000000","pack_target":16777216,"version":1}"#;
+/// The default target of a pack.
+const TARGET: usize = 16_777_216;
 
 /// One file of these bytes.
 fn one_file(alloc: Global, bytes: Vec<u8>) -> Result<Vec<Entry>, AllocError> {
@@ -27,7 +26,7 @@ fn one_file(alloc: Global, bytes: Vec<u8>) -> Result<Vec<Entry>, AllocError> {
 }
 
 /// Who asks.
-fn who(alloc: Global) -> Result<Who> {
+pub(crate) fn who(alloc: Global) -> Result<Who> {
     let Ok(who) = Who::new(alloc, Instance([1; 16]), "bench", 0) else {
         bail!("no host");
     };
@@ -40,39 +39,51 @@ fn back_up(alloc: Global, shelf: &mut MemShelf, size: usize) -> Result<Name> {
     let Ok(mut backup) = Backup::new(alloc, who(alloc)?, entries) else {
         bail!("entries are refused");
     };
-    let mut out = Vec::new(alloc);
-    if lockstep(alloc, &mut backup, shelf, &mut out).is_err() {
-        bail!("the backup stopped");
-    }
+    finish(alloc, &mut backup, shelf)?;
     match backup.outcome() {
         Some(Outcome::Stored { name, .. }) => Ok(*name),
         _ => bail!("not stored"),
     }
 }
 
-/// A shelf with the default config.
-fn new_shelf(alloc: Global) -> Result<MemShelf> {
+/// A shelf with the default config, but for the bytes of a pack.
+pub(crate) fn shelf_with(alloc: Global, target: usize) -> Result<MemShelf> {
+    let rule = r#"{"chunk_bits":20,"chunk_max":8388608,"chunk_min":524288"#;
+    let id = "00000000000000000000000000000000";
+    let config = format!(in alloc;
+        "{rule},\"id\":\"{id}\",\"pack_target\":{target},\"version\":1}}"
+    )?;
     let mut shelf = MemShelf::new(alloc);
-    if shelf.save_config(CONFIG.as_bytes()).is_err() {
+    if shelf.save_config(config.as_bytes()).is_err() {
         bail!("no config");
     }
     Ok(shelf)
 }
 
+/// Brings a client to its end, and gives what it gave out.
+pub(crate) fn finish<C: Client>(
+    alloc: Global,
+    client: &mut C,
+    shelf: &mut MemShelf,
+) -> Result<Vec<Emission>> {
+    let mut out = Vec::new(alloc);
+    if lockstep(alloc, client, shelf, &mut out).is_err() {
+        bail!("a client stopped");
+    }
+    Ok(out)
+}
+
 /// The name of the snapshot of a backup of so many random bytes.
 pub(crate) fn backed_up(alloc: Global, size: usize) -> Result<Name> {
-    back_up(alloc, &mut new_shelf(alloc)?, size)
+    back_up(alloc, &mut shelf_with(alloc, TARGET)?, size)
 }
 
 /// The name of the last piece that a restore of such a backup gives out.
 pub(crate) fn restored(alloc: Global, size: usize) -> Result<Name> {
-    let mut shelf = new_shelf(alloc)?;
+    let mut shelf = shelf_with(alloc, TARGET)?;
     let snapshot = back_up(alloc, &mut shelf, size)?;
     let mut restore = Restore::new(alloc, who(alloc)?, snapshot);
-    let mut out = Vec::new(alloc);
-    if lockstep(alloc, &mut restore, &mut shelf, &mut out).is_err() {
-        bail!("the restore stopped");
-    }
+    let out = finish(alloc, &mut restore, &mut shelf)?;
     let mut last: &[u8] = &[];
     for emission in out.as_slice() {
         if let Emission::Piece(bytes) = emission {

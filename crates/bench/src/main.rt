@@ -1,4 +1,4 @@
-//! Kernels to be timed from outside: a word names one, and a number its size, in bytes or in snapshots. With no words each
+//! Kernels to be timed from outside: a word names one, and a number its size, in bytes, in snapshots or in files. With no words each
 //! runs on a tiny size. What is printed is the digest of what was made, so that no work can be left out.
 #![tactic(auto)]
 
@@ -6,6 +6,7 @@ use anyhow::{Result, bail};
 use backups::{backed_up, restored};
 use chunk::{chunked, random_bytes};
 use keeping::{kept, last_row};
+use pruning::{forgotten, pruned};
 use repo_name::{BlobKind, Name, name_of};
 use repo_pack::{PackError, PackView, PackWriter};
 use std::alloc::{AllocError, Global};
@@ -14,6 +15,7 @@ use streams::streamed;
 mod backups;
 mod chunk;
 mod keeping;
+mod pruning;
 mod streams;
 
 /// The size at which each kernel runs with no words.
@@ -46,6 +48,10 @@ enum Kernel {
     Rows,
     /// Which of them a policy keeps.
     Keep,
+    /// Backups of small files, of which one is forgotten.
+    Forget,
+    /// The same, and a prune of their store.
+    Prune,
 }
 
 /// So many bytes, with no long run of equal ones.
@@ -94,6 +100,8 @@ fn digest_of(alloc: Global, kernel: Kernel, size: usize) -> Result<Name> {
         Kernel::Restore => restored(alloc, size),
         Kernel::Rows => last_row(alloc, size),
         Kernel::Keep => kept(alloc, size),
+        Kernel::Forget => forgotten(alloc, size),
+        Kernel::Prune => pruned(alloc, size),
     }
 }
 
@@ -109,6 +117,8 @@ fn run(rt: &HostRuntime, kernel: Kernel, size: usize) -> Result<()> {
         Kernel::Restore => "restore",
         Kernel::Rows => "rows",
         Kernel::Keep => "keep",
+        Kernel::Forget => "forget",
+        Kernel::Prune => "prune",
     };
     println!(rt; "{word} {size} {digest}")?;
     Ok(())
@@ -126,7 +136,9 @@ fn main(rt: HostRuntime) -> Result<()> {
             run(&rt, Kernel::Backup, TINY)?;
             run(&rt, Kernel::Restore, TINY)?;
             run(&rt, Kernel::Rows, TINY)?;
-            run(&rt, Kernel::Keep, TINY)
+            run(&rt, Kernel::Keep, TINY)?;
+            run(&rt, Kernel::Forget, TINY)?;
+            run(&rt, Kernel::Prune, TINY)
         }
         [_, kernel, size] => {
             let size: usize = size.as_str().parse()?;
@@ -140,6 +152,8 @@ fn main(rt: HostRuntime) -> Result<()> {
                 "restore" => run(&rt, Kernel::Restore, size),
                 "rows" => run(&rt, Kernel::Rows, size),
                 "keep" => run(&rt, Kernel::Keep, size),
+                "forget" => run(&rt, Kernel::Forget, size),
+                "prune" => run(&rt, Kernel::Prune, size),
                 _ => bail!("no such kernel"),
             }
         }

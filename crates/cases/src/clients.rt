@@ -3,7 +3,7 @@
 use crate::told::Told;
 use repo_backup::Backup;
 use repo_name::{Kind, Name};
-use repo_prune::Forget;
+use repo_prune::{Forget, Prune};
 use repo_restore::{Restore, SnapshotList};
 use repo_session::{Client, Emission, End, Outcome, StepError, lockstep, result_text};
 use repo_store::{FaultShelf, MemShelf};
@@ -18,6 +18,7 @@ pub enum Core {
     Restore(Restore),
     List(SnapshotList),
     Forget(Forget),
+    Prune(Prune),
 }
 
 /// A client, and what it sent last.
@@ -101,6 +102,7 @@ impl Core {
             Core::Restore(_) => "restore",
             Core::List(_) => "list",
             Core::Forget(_) => "forget",
+            Core::Prune(_) => "prune",
         }
     }
 
@@ -111,6 +113,7 @@ impl Core {
             Core::Restore(restore) => restore.outcome(),
             Core::List(list) => list.outcome(),
             Core::Forget(forget) => forget.outcome(),
+            Core::Prune(prune) => prune.outcome(),
         }
     }
 
@@ -121,6 +124,7 @@ impl Core {
             Core::Restore(restore) => restore.pending(),
             Core::List(list) => list.pending(),
             Core::Forget(forget) => forget.pending(),
+            Core::Prune(prune) => prune.pending(),
         }
     }
 
@@ -136,6 +140,7 @@ impl Core {
             Core::Restore(restore) => frame_of(alloc, restore),
             Core::List(list) => frame_of(alloc, list),
             Core::Forget(forget) => frame_of(alloc, forget),
+            Core::Prune(prune) => frame_of(alloc, prune),
         }
     }
 
@@ -146,6 +151,7 @@ impl Core {
             Core::Restore(restore) => taken(restore, reply, told),
             Core::List(list) => taken(list, reply, told),
             Core::Forget(forget) => taken(forget, reply, told),
+            Core::Prune(prune) => taken(prune, reply, told),
         }
     }
 
@@ -161,6 +167,7 @@ impl Core {
             Core::Restore(restore) => finished(alloc, restore, shelf, told),
             Core::List(list) => finished(alloc, list, shelf, told),
             Core::Forget(forget) => finished(alloc, forget, shelf, told),
+            Core::Prune(prune) => finished(alloc, prune, shelf, told),
         }
     }
 
@@ -196,7 +203,8 @@ fn tell_row(
 }
 
 impl Seat {
-    /// Tells the rows of a list, the names that were forgotten, or the name that an outcome is about.
+    /// Tells the rows of a list, the names that were forgotten, the faults that were found, or the name that an outcome
+    /// is about.
     fn tell_names(&self, alloc: Global, told: &mut Told) -> Result<(), AllocError> {
         let named = match self.core.outcome() {
             Some(Outcome::Listed(rows)) => {

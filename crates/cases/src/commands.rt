@@ -9,8 +9,8 @@ use crate::told::Told;
 use repo_files::{Scan, Skipped};
 use repo_name::{Instance, Name, Token};
 use repo_prog::{
-    Caller, Status, backup_found, forget_command, locks_command, refresh_command, restore_into,
-    snapshots_command, unlock_command,
+    Caller, Status, backup_found, forget_command, locks_command, prune_command, refresh_command,
+    restore_into, snapshots_command, unlock_command,
 };
 use repo_prune::Choice;
 use repo_session::Emission;
@@ -134,6 +134,12 @@ impl Talk<'_> {
         forget_command(self.alloc, &self.caller, choice, r, w, o, f)
     }
 
+    fn prune(&mut self) -> Status {
+        let (r, w) = (&mut self.reader, &mut self.sent);
+        let (o, f) = (&mut self.output, &mut self.faults);
+        prune_command(self.alloc, &self.caller, r, w, o, f)
+    }
+
     /// Runs the command of these words.
     fn run(&mut self, words: &str, found: Scan) -> Result<Status, ScriptError> {
         let (word, rest) = cut(words);
@@ -145,6 +151,7 @@ impl Talk<'_> {
             "backup" => self.backup(rest, found),
             "restore" => Ok(self.restore(name(rest)?)),
             "forget" => Ok(self.forget(Choice::Names(names(self.alloc, rest)?))),
+            "prune" => Ok(self.prune()),
             "keep" => Ok(self.forget(Choice::Keep(policy(rest)?))),
             _ => Err(ScriptError::Line),
         }

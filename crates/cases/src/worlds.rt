@@ -6,7 +6,7 @@ use crate::stores::{Store, reply_of};
 use crate::told::Told;
 use repo_backup::{Backup, BackupError};
 use repo_name::{Instance, Name};
-use repo_prune::{Choice, Forget, ForgetError};
+use repo_prune::{Choice, Forget, ForgetError, Prune};
 use repo_restore::{Restore, SnapshotList};
 use repo_session::{Who, WhoError};
 use repo_tree::Entry;
@@ -119,7 +119,7 @@ impl World {
     }
 
     /// Starts a client: `backup HOST TIME`, `list`, `restore K`, `forget K..` (in place of a number K of a client that
-    /// stored it, a snapshot's name), or `keep LAST DAILY`.
+    /// stored it, a snapshot's name), `keep LAST DAILY` or `prune`.
     pub fn start(
         &mut self,
         words: &str,
@@ -141,6 +141,10 @@ impl World {
             "forget" => {
                 let choice = self.chosen(rest)?;
                 self.start_forget(choice, told)
+            }
+            "prune" => {
+                let who = self.who("play", 0)?;
+                self.seat_core(Core::Prune(Prune::new(self.alloc, who)))
             }
             "keep" => self.start_forget(Choice::Keep(policy(rest)?), told),
             _ => Err(ScriptError::Line),

@@ -27,6 +27,7 @@ use Rattle.repo_writing.proofs.PutLemmas.{objects_put_other}
 use Rattle.repo_backup.proofs.Recutting.{recut}
 use Rattle.repo_backup.proofs.Ruling.{begin_backs, is_made_later, pack_is_done, index_is_done}
 use Rattle.repo_backup.proofs.Staging.{walked_of}
+use Rattle.repo_name.specs.Limits.{facts_limit}
 
 -- ---- the config
 
@@ -76,7 +77,7 @@ begun_later entries b e es none h = record {
   none_put = λ k. objects_put_other k e es (none k) ∙ h.none_put k;
 }
 
-none_waiting : (waiting : List PackFacts) → waiting ≡ [] → length (facts_in waiting) < 20000
+none_waiting : (waiting : List PackFacts) → waiting ≡ [] → length (facts_in waiting) < facts_limit
 none_waiting waiting h = let n : length (facts_in waiting) ≡ 0 = ap (λ ws. length (facts_in ws)) h in omega (arith, n)
 
 -- where every index was read, the work may go on
@@ -116,14 +117,14 @@ pack_goes entries facts b token n x e es h q s =
     let ask : e.ask ≡ Ask.Put token Kind.Pack h.put.pack.name h.put.pack.bytes = q ∙ ap (λ o. Ask.Put token Kind.Pack o.name o.bytes) same in
     pack_is_done entries facts b.waiting b.counts h.folder h.puts h.put token e es h.backs ask s
 
-pub few_left : (b : Bool) (n : ℕ) → IsTrue b ↔ (20000 ≤ n) → b ≡ false → n < 20000
+pub few_left : (b : Bool) (n : ℕ) → IsTrue b ↔ (facts_limit ≤ n) → b ≡ false → n < facts_limit
 few_left b n is not_full =
-    let under : (20000 ≤ n) → ⊥ = λ le. (let yes : b ≡ true = is.1 le in absurd (cc)) in
+    let under : (facts_limit ≤ n) → ⊥ = λ le. (let yes : b ≡ true = is.1 le in absurd (cc)) in
     omega (arith, under)
 
 -- and the work may go on where fewer than 20,000 facts wait
 pub pack_room : (entries : List Entry) (facts : List Fact) (b : Backing) (token : Token) (n : Name) (x : List ℕ) (e : Exchange) (es : Trace) → PutsPack entries facts b n x es → e.ask ≡ Ask.Put token Kind.Pack n x → e.say ≡ Say.Done
-    → length (facts_in b.waiting) < 20000 → MayGoOn entries facts false b (e ∷ es)
+    → length (facts_in b.waiting) < facts_limit → MayGoOn entries facts false b (e ∷ es)
 pack_room entries facts b token n x e es h q s room = record { folder = h.folder; puts = h.puts ++ h.put ∷ []; backs = pack_goes entries facts b token n x e es h q s; work = h.work; room = room }
 
 -- the put of an index is done

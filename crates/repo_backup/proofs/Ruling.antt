@@ -27,7 +27,8 @@ use Rattle.repo_writing.specs.Putting.{IsIndexed, IsListedPack}
 use Rattle.repo_writing.specs.Writing.{Put, IsPut, items_of, AreCounts, AreListed}
 use Rattle.repo_writing.specs.declared.counts.Counts.{Counts}
 use Rattle.repo_writing.proofs.BlobLemmas.{once_apart, once_behind}
-use Rattle.repo_writing.proofs.PutLemmas.{each_contained, contains_map, objects_put_other, put_done_now, gives_later, indexed_later}
+use Rattle.repo_name.proofs.Containing.{contains_map}
+use Rattle.repo_writing.proofs.PutLemmas.{each_contained, objects_put_other, put_done_now, gives_later, indexed_later}
 use Rattle.repo_writing.proofs.Writings.{listing_of, none_put, none_listed, packs_stay, lists_stay, pack_sent, pack_done, packed_one, put_listed, waits_more, index_of, index_done, put_indexed, all_done, counted}
 use Rattle.repo_backup.specs.Backing.{Backs}
 use Rattle.repo_backup.specs.Folders.{Folder, nothing, file_then, dir_then, entries_of, nodes_of, tree_of, blobs_below, blobs_of}
@@ -35,6 +36,7 @@ use Rattle.repo_backup.specs.Packings.{IsCovered}
 use Rattle.repo_backup.specs.Plans.{IsLawful, IsWithinDepth, AreTreeTexts}
 use Rattle.repo_backup.specs.Rules.{IsMade, PackRule, IndexRule, SnapshotRule, IsStored, IsTooLarge}
 use Rattle.repo_backup.proofs.FolderLemmas.{folder_spells}
+use Rattle.repo_name.specs.Limits.{blob_limit}
 
 -- ---- at the begin
 
@@ -209,5 +211,5 @@ module _ (entries : List Entry) (known : List Fact) where
 
   -- a directory's tree text is too large
   pub too_large : (waiting : List PackFacts) (counts : Counts) (folder : Folder) (puts next : List Put) (es : Trace) (text : List ℕ) → Backs entries known waiting counts folder puts next es
-      → Contains (blobs_of folder) (item_of Tree text) → 8388608 < length text → IsTooLarge entries es
+      → Contains (blobs_of folder) (item_of Tree text) → blob_limit < length text → IsTooLarge entries es
   too_large waiting counts folder puts next es text b made large = record { folder = folder; cut = b.made; text = text; made = made; large = large }

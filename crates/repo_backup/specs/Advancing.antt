@@ -16,6 +16,7 @@ use Rattle.repo_backup.specs.declared.walks.OpenFile.{OpenFile}
 use Rattle.repo_backup.specs.declared.walks.Walk.{Walk}
 use Rattle.repo_backup.specs.declared.works.Stepped.{Stepped}
 use Rattle.repo_session.specs.Traces.{Each}
+use Rattle.repo_name.specs.Limits.{blob_limit}
 
 -- the step that comes next, if there is one
 abbrev pub next_step : Walk → Option WalkStep
@@ -67,7 +68,7 @@ work_left walk = work_and walk.node (work_with walk.file (drop walk.at walk.step
 
 -- a directory's tree text is too large
 abbrev pub HasLargeTree : Folder → Type 0
-HasLargeTree folder = (text : List ℕ) × Contains (blobs_of folder) (item_of Tree text) × (8388608 < length text)
+HasLargeTree folder = (text : List ℕ) × Contains (blobs_of folder) (item_of Tree text) × (blob_limit < length text)
 
 -- the folder's tree has this name, and all its blobs are known or among these
 pub record IsMade (known : List Fact) (folder : Folder) (items : List Item) (root : Name) : Type 0 where

@@ -29,6 +29,7 @@ use Rattle.repo_backup.specs.Works.{IsWork}
 use Rattle.repo_backup.specs.declared.backing.Backing.{Backing}
 use Rattle.repo_backup.specs.declared.backing.Next.{Next}
 use Rattle.repo_backup.specs.declared.stages.Stage.{Stage}
+use Rattle.repo_name.specs.Limits.{facts_limit}
 
 -- a backup is made under a shared lock
 abbrev pub backup_task : Asker → Task
@@ -159,7 +160,7 @@ pub record MayGoOn (entries : List Entry) (facts : List Fact) (anew : Bool) (b :
   pub puts : List Put
   pub backs : Backs entries facts (cond anew [] b.waiting) b.counts folder puts [] es
   pub work : IsAtWork facts folder (items_of puts) b
-  pub room : length (facts_in (cond anew [] b.waiting)) < 20000
+  pub room : length (facts_in (cond anew [] b.waiting)) < facts_limit
 
 -- the packs that wait, or none where they are indexed, and the work may go on
 abbrev pub GoesOnFrom : Stage → List Fact → Bool → Trace → Type 0

@@ -7,6 +7,7 @@ use Rattle.repo_tree.specs.Spelling.{dir_entry, greatest_depth}
 use Rattle.repo_tree.specs.declared.entries.Entry.{Entry}
 use Rattle.repo_tree.specs.declared.entries.EntryKind.{EntryKind}
 use Rattle.repo_tree.specs.declared.entries.EntryKind.TheVariants as kind
+use Rattle.repo_name.specs.Limits.{file_end}
 
 -- the path is above that of the last of these entries, if there is one
 abbrev pub StandsAfter : List Entry → List (List ℕ) → Type 0
@@ -19,7 +20,7 @@ HasParent before path = (parent : List (List ℕ)) × (name : List ℕ) × (path
 -- a file is below 2^48 bytes
 abbrev pub IsSmall : EntryKind → Type 0
 IsSmall kind.Dir = ⊤
-IsSmall (kind.File bytes) = length bytes < 2 ^ 48
+IsSmall (kind.File bytes) = length bytes < file_end
 
 -- the entry may come after these
 pub record MayFollow (before : List Entry) (entry : Entry) : Type 0 where

@@ -16,6 +16,7 @@ use Rattle.repo_backup.specs.declared.backing.Next.{Next}
 use Rattle.repo_backup.specs.declared.works.Work.{Work}
 use Rattle.repo_session.specs.Traces.{Each}
 use Rattle.repo_writing.specs.Sealing.{IsListed}
+use Rattle.repo_name.specs.Limits.{blob_limit}
 
 -- a pack is sealed of these items, and listed so
 pub record IsPackReady (known : List Fact) (folder : Folder) (sent : List Item) (new : Work) (items : List Item) (sealed : Sealed) (listed : PackFacts) : Type 0 where
@@ -35,6 +36,6 @@ Readies known folder sent anew waiting Next.Pack new waiting' = (items : List It
     × (waiting' ≡ cond anew [] waiting ++ listed ∷ [])
 Readies known folder sent anew waiting Next.Index new waiting' = ((root : Name) × IsAllDone known folder sent new root) × (anew ≡ false) × (waiting ≢ []) × (waiting' ≡ waiting)
 Readies known folder sent anew waiting (Next.Snapshot root) new waiting' = IsAllDone known folder sent new root × (cond anew [] waiting ≡ []) × (waiting' ≡ waiting)
-Readies known folder sent anew waiting Next.TooLarge new waiting' = (sealed : List Item) × IsWork new known folder sent sealed × ((text : List ℕ) × Contains (blobs_of folder) (item_of Tree text) × (8388608 < length text))
+Readies known folder sent anew waiting Next.TooLarge new waiting' = (sealed : List Item) × IsWork new known folder sent sealed × ((text : List ℕ) × Contains (blobs_of folder) (item_of Tree text) × (blob_limit < length text))
     × (waiting' ≡ waiting)
 Readies known folder sent anew waiting Next.Nothing new waiting' = ⊥

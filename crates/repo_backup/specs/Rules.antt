@@ -22,6 +22,7 @@ use Rattle.repo_session.specs.Traces.{Exchange, Trace, Exchanged, objects_put, I
 use Rattle.repo_writing.specs.Blobs.{AreOnce}
 use Rattle.repo_writing.specs.Putting.{PutDone, AreDone, IsPacked, IsIndexed, IsListedPack, IsIndexOf, AreCounted}
 use Rattle.repo_backup.specs.Folders.{Folder, IsFolderOf, blobs_of}
+use Rattle.repo_name.specs.Limits.{blob_limit}
 
 -- by the config that was read, this folder is that of the entries
 pub record IsMade (entries : List Entry) (es : Trace) (folder : Folder) : Type 0 where
@@ -102,7 +103,7 @@ pub record IsTooLarge (entries : List Entry) (es : Trace) : Type 0 where
   pub cut : IsMade entries es folder
   pub text : List ℕ
   pub made : Contains (blobs_of folder) (item_of Tree text)
-  pub large : 8388608 < length text
+  pub large : blob_limit < length text
 
 -- how a backup may end
 abbrev pub Ends : List Entry → Trace → Outcome → Type 0

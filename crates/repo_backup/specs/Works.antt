@@ -16,6 +16,7 @@ use Rattle.repo_backup.specs.declared.walks.Walk.{Walk}
 use Rattle.repo_backup.specs.declared.works.Progress.{Progress}
 use Rattle.repo_backup.specs.declared.works.Work.{Work}
 use Rattle.repo_session.specs.Traces.{Each}
+use Rattle.repo_name.specs.Limits.{blob_limit}
 
 -- one folder behind another
 abbrev pub both : Folder → Folder → Folder
@@ -99,4 +100,4 @@ GoesOn known folder sent Progress.Pack new = (sealed : List Item) × IsWork new 
 GoesOn known folder sent (Progress.Done root) new = IsWork new known folder sent [] × (new.packing.packer.sealed ≡ None) × (new.packing.packer.writer.items ≡ []) × (root ≡ naming.name (tree_text (nodes_of folder))) × AreTreeTexts folder
     × Each (λ item. IsCovered known sent item) (blobs_of folder)
 GoesOn known folder sent Progress.TooLarge new = (sealed : List Item) × IsWork new known folder sent sealed
-    × ((text : List ℕ) × Contains (blobs_of folder) (item_of Tree text) × (8388608 < length text))
+    × ((text : List ℕ) × Contains (blobs_of folder) (item_of Tree text) × (blob_limit < length text))

@@ -5,14 +5,11 @@ ghost use Rattle.repo_backup.specs.Handed.{StandsAfter, HasParent, IsSmall, MayF
 ghost use Rattle.repo_tree.specs.Spelling.{greatest_depth};
 
 use crate::faults::BackupError;
-use repo_name::Text;
+use repo_name::{FILE_END, Text};
 use repo_tree::{Entry, EntryKind, is_below, is_path};
 
 /// How many components a path has at most.
 const DEEPEST: usize = 100;
-
-/// Files are below this many bytes.
-const FILE_END: usize = 1 << 48;
 
 /// Whether a path is above that of the last entry, if there is one.
 fn stands_after(before: &[Entry], path: &[Text]) -> bool
@@ -70,7 +67,7 @@ fn is_small(what: &EntryKind) -> bool
 {
     match what {
         EntryKind::Dir => true,
-        EntryKind::File(bytes) => bytes.as_slice().len() < FILE_END,
+        EntryKind::File(bytes) => bytes.as_slice().len() < FILE_END as usize,
     }
 }
 

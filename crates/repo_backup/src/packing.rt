@@ -6,6 +6,7 @@ ghost use Rattle.repo_index.specs.declared.facts.Fact.{Fact};
 ghost use Rattle.repo_pack.specs.PackLayout.{Item, item_of};
 ghost use Rattle.repo_pack.specs.PackWriting.{IsOpen};
 ghost use Rattle.repo_backup.specs.Packings.{IsPacking, Gains, all_items};
+ghost use Rattle.repo_name.specs.Limits.{blob_limit};
 
 use crate::added::Added;
 use repo_index::Lookup;
@@ -44,7 +45,7 @@ impl Packing {
         bytes: &[u8],
     ) -> Result<(), AllocError>
         requires room { IsOpen self.old.packer.writer }
-        requires some { (1 ≤ length bytes.now) × (length bytes.now ≤ 8_388_608) }
+        requires some { (1 ≤ length bytes.now) × (length bytes.now ≤ blob_limit) }
         requires named { name.now ≡ naming.name bytes.now }
         ensures ok { OnOk result ((sent sealed : List Item) → IsPacking self.old lookup.now sent sealed
             → IsPacking self.new lookup.now sent sealed × Gains lookup.now (all_items sent sealed self.old) self.old.packer.writer.items self.new.packer.writer.items (item_of kind bytes.now)) }

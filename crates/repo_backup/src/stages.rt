@@ -7,11 +7,13 @@ ghost use Rattle.repo_backup.specs.Stages.{handed_in, IsPlanned, IsBegun, GoesRe
 ghost use Rattle.repo_backup.specs.declared.backing.Backing.{Backing};
 ghost use Rattle.repo_backup.specs.declared.steps.WalkStep.{WalkStep};
 ghost use Rattle.repo_backup.specs.declared.stages.Stage.{Stage};
+ghost use Rattle.repo_name.specs.Limits.{facts_limit};
 
 use crate::backing::{Backing, Next};
 use crate::steps::WalkStep;
 use crate::works::Work;
 use repo_index::Lookup;
+use repo_name::{GREATEST_TARGET, LEAST_TARGET};
 use repo_pack::Sealed;
 use repo_tree::Config;
 use repo_writing::{Counts, Target, is_full};
@@ -37,7 +39,7 @@ impl Stage {
             return;
         };
         let steps = mem::replace(steps, Vec::new(alloc));
-        let target = Target::of(config.target.clamp(1_024, 16_777_216) as u32);
+        let target = Target::of(config.target.clamp(LEAST_TARGET, GREATEST_TARGET) as u32);
         let work = Work::new(alloc, config.params, target, steps);
         *self = Stage::Working(Backing::new(alloc, work));
     }
@@ -71,7 +73,7 @@ impl Stage {
 
     /// Whether 20,000 facts or more wait to be indexed.
     pub fn is_full(&self) -> bool
-        ensures { (b : Backing) → self.now ≡ Stage.Working b → IsTrue result ↔ (20_000 ≤ length (facts_in b.waiting)) }
+        ensures { (b : Backing) → self.now ≡ Stage.Working b → IsTrue result ↔ (facts_limit ≤ length (facts_in b.waiting)) }
     {
         match self {
             Stage::Planned(_) => false,

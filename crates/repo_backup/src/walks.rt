@@ -11,6 +11,7 @@ ghost use Rattle.repo_backup.specs.Chunks.{IsFirstChunk};
 ghost use Rattle.repo_backup.specs.Folders.{Folder};
 ghost use Rattle.repo_backup.specs.Works.{IsWalkable, IsWalking};
 ghost use Rattle.repo_backup.specs.Advancing.{next_step, bytes_left, IsSameWay, Stays, work_left};
+ghost use Rattle.repo_name.specs.Limits.{blob_limit};
 
 use crate::chunks::first_chunk;
 use crate::steps::WalkStep;
@@ -85,7 +86,7 @@ impl Walk {
         ensures first { 1 ≤ length result.now → IsFirstChunk self.now.params (bytes_left self.now) (length result.now) }
         ensures front { result.now ≡ take (length result.now) (bytes_left self.now) }
         ensures within { length result.now ≤ length (bytes_left self.now) }
-        ensures small { length result.now ≤ 8_388_608 }
+        ensures small { length result.now ≤ blob_limit }
     {
         let Some(file) = &self.file else {
             return &[];

@@ -16,6 +16,7 @@ ghost use Rattle.repo_backup.specs.Packings.{IsCovered, all_items};
 ghost use Rattle.repo_backup.specs.Plans.{IsLawful, steps_of};
 ghost use Rattle.repo_backup.specs.Works.{IsWork, GoesOn};
 ghost use Rattle.repo_backup.specs.Advancing.{next_step, work_left, IsMade, Tells};
+ghost use Rattle.repo_name.specs.Limits.{blob_limit};
 
 use crate::packing::Packing;
 use crate::steps::WalkStep;
@@ -174,7 +175,7 @@ impl Work {
             → IsWork self.old lookup.now folder sent sealed → IsWork self.new lookup.now folder sent sealed }
         ensures covered { IfOk result (λ made. IsSome made → (folder : Folder) (sent sealed : List Item) → IsWork self.old lookup.now folder sent sealed
             → IsCovered lookup.now (all_items sent sealed self.new.packing) (item_of Tree (tree_text self.old.walk.nodes.items))) }
-        ensures named { IfOk result (λ made. MatchOption made (8_388_608 < length (tree_text self.old.walk.nodes.items))
+        ensures named { IfOk result (λ made. MatchOption made (blob_limit < length (tree_text self.old.walk.nodes.items))
             (λ name. (name ≡ naming.name (tree_text self.old.walk.nodes.items)) × IsTreeText (tree_text self.old.walk.nodes.items) self.old.walk.nodes.items)) }
         ensures walk { self.new.walk ≡ self.old.walk }
         ensures sealed { self.new.packing.packer.sealed ≡ self.old.packing.packer.sealed }

@@ -6,9 +6,8 @@ use Rattle.std.specs.Prelude.{slice_get, IfOk, Result, Ok, Err}
 use Rattle.repo_name.specs.Naming as naming
 use Rattle.repo_name.specs.declared.kinds.Kind.{Kind}
 use Rattle.repo_name.specs.declared.names.Name.{Name}
-use Rattle.repo_tree.specs.SnapshotText.{IsSnapshotText, SnapshotFault}
+use Rattle.repo_tree.specs.SnapshotText.{SnapshotFault}
 use Rattle.repo_tree.specs.declared.faults.TextError.{TextError}
-use Rattle.repo_tree.specs.declared.snapshots.Snapshot.{Snapshot}
 use Rattle.repo_session.specs.Ends.{IsOfOtherVersion}
 use Rattle.repo_wire.specs.declared.messages.Ask.{Ask}
 use Rattle.repo_wire.specs.declared.messages.Code.{Code}
@@ -19,7 +18,7 @@ use Rattle.repo_session.specs.declared.outcomes.FaultKind.{FaultKind}
 use Rattle.repo_check.specs.Answers.{Answer}
 use Rattle.repo_check.specs.Arrivals.{IsAnswer, IsFaulty, LooksAtSnapshot, MisreadAs}
 use Rattle.repo_check.specs.declared.objects.SnapshotLook.{SnapshotLook}
-use Rattle.repo_check.specs.Findings.{Reads}
+use Rattle.repo_check.specs.Findings.{IsIllegible}
 
 -- the answer of a reply that brings these bytes
 abbrev pub with_bytes : Name → List ℕ → Answer
@@ -40,7 +39,7 @@ absent k n say h =
     let a : Answer = record { name = n; bytes = None } in
     (a, subst (λ s. IsAnswer n s a) (sym h) (refl, refl), λ answers. refl)
 
-pub misread : (k : Kind) (n : Name) (x : List ℕ) (say : Say) → say ≡ Say.Bytes x → naming.name x ≡ n → ¬ Reads k x → FaultyOf k n say FaultKind.Unreadable
+pub misread : (k : Kind) (n : Name) (x : List ℕ) (say : Say) → say ≡ Say.Bytes x → naming.name x ≡ n → IsIllegible k x → FaultyOf k n say FaultKind.Unreadable
 misread k n x say h named none = (with_bytes n x, is_answer n x say h, λ answers. (x, refl, named, none))
 
 -- ---- packs
@@ -62,14 +61,13 @@ HoldsTo items place = (k : ℕ) (item : Item) → k < place → slice_get items 
 
 -- ---- what can't be read
 
-pub snapshot_misread : (n : Name) (x : List ℕ) (say : Say) (error : TextError) (look : SnapshotLook) → say ≡ Say.Bytes x → naming.name x ≡ n → SnapshotFault x error
-    → (error ≢ TextError.Memory → (s : Snapshot) → ¬ IsSnapshotText x s) → MisreadAs error look → LooksAtSnapshot n say look
-snapshot_misread n x say error (SnapshotLook.Root root) h named fault none is = absurd is
-snapshot_misread n x say error (SnapshotLook.Fault what) h named fault none is =
-    subst (λ w. FaultyOf Kind.Snapshot n say w) (sym is.0) (misread Kind.Snapshot n x say h named (λ r. none is.1 r.0 r.1))
-snapshot_misread n x say error SnapshotLook.Version h named fault none is =
+pub snapshot_misread : (n : Name) (x : List ℕ) (say : Say) (error : TextError) (look : SnapshotLook) → say ≡ Say.Bytes x → naming.name x ≡ n → SnapshotFault x error → MisreadAs error look → LooksAtSnapshot n say look
+snapshot_misread n x say error (SnapshotLook.Root root) h named fault is = absurd is
+snapshot_misread n x say error (SnapshotLook.Fault what) h named fault is =
+    subst (λ w. FaultyOf Kind.Snapshot n say w) (sym is.0) (misread Kind.Snapshot n x say h named (error, fault, is.2, is.1))
+snapshot_misread n x say error SnapshotLook.Version h named fault is =
     subst (λ s. IsOfOtherVersion (Ask.Get Kind.Snapshot n) s) (sym h) (named, subst (λ e. SnapshotFault x e) is fault)
-snapshot_misread n x say error SnapshotLook.Unwelcome h named fault none is = absurd is
+snapshot_misread n x say error SnapshotLook.Unwelcome h named fault is = absurd is
 
 -- what holds of a result holds of it in other words
 pub ok_then : {T E : Type 0} (P Q : T → Type 0) (r : Result T E) → ((x : T) → P x → Q x) → IfOk r P → IfOk r Q

@@ -1,5 +1,5 @@
 -- One thing is found of each.
-use Rattle.std.proofs.Common.{◌≡◌, ◌≢◌, ◌∷◌, [], ℕ, List, Option, Some, None, map, refl, sym, ap, subst, inl, inr, ◌∙◌, ◌⊎◌, false, Contains}
+use Rattle.std.proofs.Common.{arith, ◌≡◌, ◌≢◌, ◌∷◌, [], ℕ, List, Option, Some, None, map, refl, sym, ap, subst, inl, inr, ◌∙◌, ◌⊎◌, false, Contains}
 use Rattle.std.proofs.lemmas.Cmp.{tied_itself}
 use Rattle.std.specs.Ordering.{ordering_then, ordering_reverse, is_gt}
 use Rattle.std.specs.declared.cmp.Ordering.{Ordering}
@@ -19,15 +19,18 @@ use Rattle.repo_index.specs.declared.facts.PackFacts.{PackFacts}
 use Rattle.repo_index.proofs.OneLemmas.{index_texts_one}
 use Rattle.repo_index.proofs.OrderLemmas.{place_first_exact}
 use Rattle.repo_store.specs.Pages.{Has, Ascends}
+use Rattle.repo_tree.specs.SnapshotText.{HasSnapshot, IsSnapshotText, SnapshotFault}
+use Rattle.repo_tree.specs.declared.faults.TextError.{TextError}
+use Rattle.repo_tree.specs.declared.snapshots.Snapshot.{Snapshot}
 use Rattle.repo_tree.specs.declared.nodes.Node.{Node}
 use Rattle.repo_tree.specs.declared.nodes.NodeKind.{NodeKind}
-use Rattle.repo_tree.proofs.Containing.{none_contained, contained_or}
+use Rattle.repo_name.proofs.Containing.{none_contained, contained_or}
 use Rattle.repo_tree.proofs.TreeLemmas.{tree_texts_one}
 use Rattle.repo_session.specs.declared.outcomes.FaultKind.{FaultKind}
 use Rattle.repo_session.specs.Traces.{Trace}
 use Rattle.repo_check.specs.Answers.{Answer, Answers, LiesAt, LiesNowhere}
 use Rattle.repo_check.specs.Checking.{IsFound, OfBlob, OfObject, AreAnswers, AreGot, AreWell}
-use Rattle.repo_check.specs.Findings.{Reads, IsExactOf, IsFitting, IsMisplaced, ObjectIs, Measure, IsMeasured, IsMismeasured, IsWellTree, IsIllTree, IsTreeAt, TreeIs, ContentIs, BlobIs}
+use Rattle.repo_check.specs.Findings.{Reads, IsIllegible, IsExactOf, IsFitting, IsMisplaced, ObjectIs, Measure, IsMeasured, IsMismeasured, IsWellTree, IsIllTree, IsTreeAt, TreeIs, ContentIs, BlobIs}
 use Rattle.repo_check.specs.Laws.{FoundOnce, WellHasNoFault}
 
 -- ---- places
@@ -50,6 +53,24 @@ place_one a b ab ba =
     let rest = then_equal (place_cmp a a) _ self in
     let whole : place_first (fact_of Content n a) (fact_of Content n b) ≡ Equal = ap (λ o. ordering_then o (ordering_then (kind_cmp Content Content) (name_cmp n n))) same ∙ rest in
     ap (λ (f : Fact). f.place) (place_first_exact (fact_of Content n a) (fact_of Content n b) whole)
+
+-- ---- what can't be read, doesn't
+
+unreadable_not : (x : List ℕ) (error : TextError) (s : Snapshot) → SnapshotFault x error → error ≢ TextError.Version → error ≢ TextError.Memory → IsSnapshotText x s → ⊥
+unreadable_not x TextError.TooLarge s fault v m is = let short = is.json.short in omega (arith, short, fault)
+unreadable_not x TextError.Json s fault v m is = fault.1 is.root is.json
+unreadable_not x TextError.Shape s fault v m is =
+    let same : is.root ≡ fault.0 = (let p = is.json.is.reads in let q = fault.1.is.reads in cc (p, q)) in
+    let has = subst (λ d. HasSnapshot d s) same is.members in
+    elim fault.2 [ inl none ↦ none s.version has.version | inr misses ↦ misses.1 s has ]
+unreadable_not x TextError.Version s fault v m is = v refl
+unreadable_not x TextError.Params s fault v m is = fault
+unreadable_not x TextError.Memory s fault v m is = m refl
+
+pub illegible_not : (k : Kind) (x : List ℕ) → IsIllegible k x → Reads k x → ⊥
+illegible_not Kind.Pack x none is = none is
+illegible_not Kind.Index x none is = none is
+illegible_not Kind.Snapshot x none is = unreadable_not x none.0 is.0 none.1 none.2 none.3 is.1
 
 module _ (answers : Answers) where
   pub lies_one : (k : BlobKind) (n : Name) (a b : Place) → LiesAt answers k n a → LiesAt answers k n b → a ≡ b
@@ -118,19 +139,19 @@ module _ (answers : Answers) where
   Inside k None x = IsFitting answers k x
   Inside k (Some FaultKind.Missing) x = ⊥
   Inside k (Some FaultKind.Name) x = ⊥
-  Inside k (Some FaultKind.Unreadable) x = ¬ Reads k x
+  Inside k (Some FaultKind.Unreadable) x = IsIllegible k x
   Inside k (Some FaultKind.Place) x = IsMisplaced answers k x
   Inside k (Some FaultKind.Unindexed) x = ⊥
 
   inside_once : (k : Kind) (x : List ℕ) (f g : Option FaultKind) → Inside k f x → Inside k g x → f ≡ g
   inside_once k x None None a b = refl
-  inside_once k x None (Some FaultKind.Unreadable) a b = absurd (b (fitting_reads k x a))
+  inside_once k x None (Some FaultKind.Unreadable) a b = absurd (illegible_not k x b (fitting_reads k x a))
   inside_once k x None (Some FaultKind.Place) a b = absurd (fitting_not_misplaced k x a b)
-  inside_once k x (Some FaultKind.Unreadable) None a b = absurd (a (fitting_reads k x b))
+  inside_once k x (Some FaultKind.Unreadable) None a b = absurd (illegible_not k x a (fitting_reads k x b))
   inside_once k x (Some FaultKind.Unreadable) (Some FaultKind.Unreadable) a b = refl
-  inside_once k x (Some FaultKind.Unreadable) (Some FaultKind.Place) a b = absurd (a (misplaced_reads k x b))
+  inside_once k x (Some FaultKind.Unreadable) (Some FaultKind.Place) a b = absurd (illegible_not k x a (misplaced_reads k x b))
   inside_once k x (Some FaultKind.Place) None a b = absurd (fitting_not_misplaced k x b a)
-  inside_once k x (Some FaultKind.Place) (Some FaultKind.Unreadable) a b = absurd (b (misplaced_reads k x a))
+  inside_once k x (Some FaultKind.Place) (Some FaultKind.Unreadable) a b = absurd (illegible_not k x b (misplaced_reads k x a))
   inside_once k x (Some FaultKind.Place) (Some FaultKind.Place) a b = refl
   inside_once k x (Some FaultKind.Missing) g a b = absurd a
   inside_once k x (Some FaultKind.Name) g a b = absurd a

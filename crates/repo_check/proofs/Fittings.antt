@@ -14,9 +14,8 @@ use Rattle.repo_index.specs.declared.facts.PackFacts.{PackFacts}
 use Rattle.repo_index.specs.IndexWriting.{AreLawful}
 use Rattle.repo_index.proofs.OneLemmas.{index_texts_lawful}
 use Rattle.repo_index.proofs.SameLemmas.{exact_same}
-use Rattle.repo_session.proofs.Containing.{flat_contains}
+use Rattle.repo_name.proofs.Containing.{flat_contains, none_contained}
 use Rattle.std.proofs.lemmas.List.Elements.{All-contains}
-use Rattle.repo_tree.proofs.Containing.{none_contained}
 use Rattle.repo_check.specs.Answers.{Answer, Answers}
 use Rattle.repo_check.specs.Findings.{IsExactOf, IsFitting, IsMisplaced}
 use Rattle.repo_check.specs.Laws.{FitsAsFound}

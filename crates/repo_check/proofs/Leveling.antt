@@ -14,7 +14,7 @@ use Rattle.repo_name.specs.declared.names.Name.{Name}
 use Rattle.repo_index.specs.Order.{names_total}
 use Rattle.repo_index.proofs.OrderLemmas.{names_exact}
 use Rattle.repo_reach.specs.declared.links.Links.{Links}
-use Rattle.repo_tree.proofs.Containing.{none_contained, first_contained, later_contained, contained_or}
+use Rattle.repo_name.proofs.Containing.{none_contained, first_contained, later_contained, contained_or}
 use Rattle.repo_check.specs.Levels.{LinksOfTrees, IsBelow, AreBelow, HasBelow, AddsNames, AddsBelow}
 use Rattle.repo_check.proofs.Measuring.{left_at}
 

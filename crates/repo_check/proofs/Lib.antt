@@ -7,3 +7,15 @@ pub mod Leveling
 pub mod Tellings
 pub mod Fittings
 pub mod TreeLooks
+pub mod Rounding
+pub mod Walking
+pub mod Gatherings
+pub mod Reading
+pub mod Surveying
+pub mod Trailing
+pub mod Gathered
+pub mod Reached
+pub mod PackFinds
+pub mod ObjectFaults
+pub mod TreeFaults
+pub mod LoneChecks

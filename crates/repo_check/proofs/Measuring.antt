@@ -11,7 +11,7 @@ use Rattle.repo_index.specs.Lookups.{IsLeast}
 use Rattle.repo_index.specs.declared.facts.Fact.{Fact}
 use Rattle.repo_tree.specs.declared.nodes.Node.{Node}
 use Rattle.repo_tree.specs.declared.nodes.NodeKind.{NodeKind}
-use Rattle.repo_tree.proofs.Containing.{contained_or}
+use Rattle.repo_name.proofs.Containing.{contained_or}
 use Rattle.repo_check.specs.Answers.{Answers, LiesAt}
 use Rattle.repo_check.specs.Findings.{Measure, IsMeasured, IsMismeasured}
 use Rattle.repo_check.specs.Measures.{IsLost, Measures, Suits, IsUnsuited, AreGiven, Judges}

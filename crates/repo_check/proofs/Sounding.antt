@@ -19,7 +19,7 @@ use Rattle.repo_tree.specs.Spelling.{Joined, NodeSpells, NodesSpell, SpellsTo, S
 use Rattle.repo_tree.specs.declared.entries.Entry.{Entry}
 use Rattle.repo_tree.specs.declared.nodes.Node.{Node}
 use Rattle.repo_tree.specs.declared.nodes.NodeKind.{NodeKind}
-use Rattle.repo_tree.proofs.Containing.{first_contained, later_contained}
+use Rattle.repo_name.proofs.Containing.{first_contained, later_contained}
 use Rattle.repo_store.specs.Stores.{Objects}
 use Rattle.repo_session.specs.Changes.{AreHeldApart}
 use Rattle.repo_session.specs.Soundness.{IsHeld, IsExactPack, IsSoundIndex, IsSoundSnapshot, IsSound}

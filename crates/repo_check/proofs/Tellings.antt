@@ -11,7 +11,7 @@ use Rattle.repo_name.specs.Naming.{name_cmp, Before}
 use Rattle.repo_name.specs.declared.kinds.Thing.{Thing}
 use Rattle.repo_name.specs.declared.names.Name.{Name}
 use Rattle.repo_store.specs.Pages.{Has, Ascends}
-use Rattle.repo_tree.proofs.Containing.{none_contained, first_contained, later_contained, contained_or}
+use Rattle.repo_name.proofs.Containing.{none_contained, first_contained, later_contained, contained_or}
 use Rattle.repo_session.specs.declared.outcomes.CheckFault.{CheckFault}
 use Rattle.repo_session.specs.declared.outcomes.FaultKind.{FaultKind}
 use Rattle.repo_check.specs.Checking.{rank, fault_cmp}
@@ -60,7 +60,7 @@ all_each : {X : Type 0} (P : X → Type 0) (xs : List X) → AllByRecursion P xs
 all_each P [] h x c = absurd (none_contained x c)
 all_each P (y ∷ xs) h x c = elim (contained_or y xs x c) [ inl same ↦ subst P same h.0 | inr more ↦ all_each P xs h.1 x more ]
 
-has_at : (names : List Name) (k : ℕ) (n : Name) → slice_get names k ≡ Some n → Has names n
+pub has_at : (names : List Name) (k : ℕ) (n : Name) → slice_get names k ≡ Some n → Has names n
 has_at [] k n h = absurd (cc h)
 has_at (m ∷ names) zero n h = inl (cc h)
 has_at (m ∷ names) (suc k) n h = inr (has_at names k n h)

@@ -1,5 +1,5 @@
 -- What a reply tells of one tree.
-use Rattle.std.proofs.Common.{◌≡◌, ◌≢◌, ℕ, List, Some, None, length, refl, inl, inr, ◌⊎◌, sym, subst}
+use Rattle.std.proofs.Common.{◌≡◌, ◌≢◌, ℕ, List, None, length, refl, inl, inr, ◌⊎◌, sym, subst}
 use Rattle.repo_name.specs.Naming as naming
 use Rattle.repo_name.specs.declared.names.Name.{Name}
 use Rattle.repo_wire.specs.declared.messages.Code.{Code}
@@ -9,9 +9,9 @@ use Rattle.repo_tree.specs.declared.nodes.Node.{Node}
 use Rattle.repo_session.specs.Blobs.{range_of}
 use Rattle.repo_session.specs.Ends.{IsUnwelcome}
 use Rattle.repo_session.specs.declared.outcomes.FaultKind.{FaultKind}
-use Rattle.repo_check.specs.Answers.{Answer, Answers}
-use Rattle.repo_check.specs.Findings.{TreeIs, IsTreeAt}
-use Rattle.repo_check.specs.Measures.{IsTreeAnswer, LooksAtTree, LooksAtNone}
+use Rattle.repo_check.specs.Answers.{Answer}
+use Rattle.repo_check.specs.Findings.{IsTreeAt}
+use Rattle.repo_check.specs.Measures.{IsFaultyTree, IsTreeAnswer, LooksAtTree, LooksAtNone}
 use Rattle.repo_check.specs.declared.trees.TreeLook.{TreeLook}
 use Rattle.repo_check.proofs.Arriving.{with_bytes}
 
@@ -20,13 +20,13 @@ tree_answer n x say h = subst (λ s. IsTreeAnswer n s (with_bytes n x)) (sym h) 
 
 -- an answer that is at fault
 abbrev pub TreeFaultOf : Fact → Say → FaultKind → Type 0
-TreeFaultOf fact say what = (a : Answer) × IsTreeAnswer fact.name say a × ((answers : Answers) → TreeIs answers fact.place a (Some what))
+TreeFaultOf fact say what = (a : Answer) × IsTreeAnswer fact.name say a × IsFaultyTree fact.place a what
 
 pub tree_misnamed : (fact : Fact) (say : Say) → (x : List ℕ) × (say ≡ Say.Bytes x) × (naming.name x ≢ fact.name) → TreeFaultOf fact say FaultKind.Name
-tree_misnamed fact say h = (with_bytes fact.name h.0, tree_answer fact.name h.0 say h.1, λ answers. (h.0, refl, h.2))
+tree_misnamed fact say h = (with_bytes fact.name h.0, tree_answer fact.name h.0 say h.1, (h.0, refl, h.2))
 
 pub tree_unread : (fact : Fact) (x : List ℕ) (say : Say) → say ≡ Say.Bytes x → naming.name x ≡ fact.name → ((nodes : List Node) → ¬ IsTreeAt fact.place x nodes) → TreeFaultOf fact say FaultKind.Unreadable
-tree_unread fact x say h named none = (with_bytes fact.name x, tree_answer fact.name x say h, λ answers. (x, refl, named, inl none))
+tree_unread fact x say h named none = (with_bytes fact.name x, tree_answer fact.name x say h, (x, (refl, named), none))
 
 pub tree_uneven : (fact : Fact) (say : Say) → (x : List ℕ) × (say ≡ Say.Bytes x) × (naming.name x ≡ fact.name) × (length x ≢ fact.place.length) → TreeFaultOf fact say FaultKind.Unreadable
 tree_uneven fact say h = tree_unread fact h.0 say h.1 h.2 (λ nodes tree. h.3 tree.len)
@@ -39,5 +39,5 @@ pub tree_none : (facts : List Fact) (fact : Fact) (say : Say) (look : TreeLook) 
 tree_none facts fact say (TreeLook.Read links right) unwelcome h = absurd h
 tree_none facts fact say (TreeLook.Fault what) unwelcome h =
     let a : Answer = record { name = fact.name; bytes = None } in
-    subst (λ w. TreeFaultOf fact say w) (sym h.0) (a, absent fact.name say h.1, λ answers. refl)
+    subst (λ w. TreeFaultOf fact say w) (sym h.0) (a, absent fact.name say h.1, refl)
 tree_none facts fact say TreeLook.Unwelcome unwelcome h = (unwelcome, h)

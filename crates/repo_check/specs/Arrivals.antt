@@ -40,8 +40,9 @@ Arrives k n say Arrival.Unwelcome = IsUnwelcome (Ask.Get k n) say × (say ≢ Sa
 abbrev pub HasBytes : Answer → List ℕ → Type 0
 HasBytes a x = (a.bytes ≡ Some x) × (naming.name x ≡ a.name)
 
--- the answer is at fault, whatever else came
+-- the answer is at fault by itself, whatever else came
 abbrev pub IsFaulty : Kind → Answer → FaultKind → Type 0
+IsFaulty k a FaultKind.Place = ⊥
 IsFaulty k a what = (answers : Answers) → ObjectIs answers k a (Some what)
 
 -- it is a snapshot with this tree

@@ -142,10 +142,15 @@ pub record IsClean (es : Trace) (snapshots indexes packs blobs : ℕ) : Type 0 w
   pub well : AreWell answers
   pub counts : AreCounts answers snapshots indexes packs blobs
 
--- not clean: all was received, and these are the faults, of which there is one
+-- each object is well, or at fault; a snapshot of a version that isn't known is neither
+abbrev pub AreJudged : Answers → Type 0
+AreJudged answers = (k : Kind) (a : Answer) → Contains (answers.objects k) a → (found : Option FaultKind) × ObjectIs answers k a found
+
+-- not clean: all was received and judged, and these are the faults, of which there is one
 pub record IsAtFault (es : Trace) (faults : List CheckFault) : Type 0 where
   pub answers : Answers
   pub received : AreAnswers es answers
+  pub judged : AreJudged answers
   pub are : AreFaults answers faults
   pub some : faults ≢ []
 

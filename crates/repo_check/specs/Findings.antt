@@ -16,6 +16,7 @@ use Rattle.repo_tree.specs.TreeText.{IsTreeText}
 use Rattle.repo_tree.specs.declared.nodes.Node.{Node}
 use Rattle.repo_tree.specs.declared.nodes.NodeKind.{NodeKind}
 use Rattle.repo_tree.specs.declared.snapshots.Snapshot.{Snapshot}
+use Rattle.repo_session.specs.Ends.{IsUnreadable}
 use Rattle.repo_session.specs.declared.outcomes.FaultKind.{FaultKind}
 use Rattle.repo_check.specs.Answers.{Answer, Answers, Came, LiesAt, LiesNowhere, IsDeepest}
 
@@ -26,6 +27,11 @@ abbrev pub Reads : Kind → List ℕ → Type 0
 Reads Kind.Pack x = (items : List Item) × IsTruePack x items
 Reads Kind.Index x = (packs : List PackFacts) × IsIndexText x packs
 Reads Kind.Snapshot x = (snapshot : Snapshot) × IsSnapshotText x snapshot
+
+-- they can't; a snapshot of a version that isn't known is no such fault
+abbrev pub IsIllegible : Kind → List ℕ → Type 0
+IsIllegible Kind.Snapshot x = IsUnreadable Kind.Snapshot x
+IsIllegible k x = ¬ Reads k x
 
 -- a pack came that reads, and these facts of it are exactly its blobs
 pub record IsExactOf (answers : Answers) (packs : List PackFacts) (pack : Name) : Type 0 where
@@ -50,7 +56,7 @@ abbrev pub ObjectIs : Answers → Kind → Answer → Option FaultKind → Type 
 ObjectIs answers k a None = (x : List ℕ) × (a.bytes ≡ Some x) × (naming.name x ≡ a.name) × IsFitting answers k x
 ObjectIs answers k a (Some FaultKind.Missing) = a.bytes ≡ None
 ObjectIs answers k a (Some FaultKind.Name) = (x : List ℕ) × (a.bytes ≡ Some x) × (naming.name x ≢ a.name)
-ObjectIs answers k a (Some FaultKind.Unreadable) = (x : List ℕ) × (a.bytes ≡ Some x) × (naming.name x ≡ a.name) × ¬ Reads k x
+ObjectIs answers k a (Some FaultKind.Unreadable) = (x : List ℕ) × (a.bytes ≡ Some x) × (naming.name x ≡ a.name) × IsIllegible k x
 ObjectIs answers k a (Some FaultKind.Place) = (x : List ℕ) × (a.bytes ≡ Some x) × (naming.name x ≡ a.name) × IsMisplaced answers k x
 ObjectIs answers k a (Some FaultKind.Unindexed) = ⊥
 

@@ -1,5 +1,7 @@
 -- Whether an index fits the packs that it names, by the facts of those packs.
-use Rattle.std.specs.Prelude.{◌≡◌, ◌≢◌, ◌⊎◌, [], ℕ, List, Option, Some, None, Contains}
+use Rattle.std.specs.Prelude.{◌≡◌, ◌≢◌, ◌⊎◌, ◌∷◌, [], ℕ, List, Option, Some, None, Contains, cond}
+use Rattle.std.specs.Ordering.{is_eq}
+use Rattle.repo_name.specs.Naming.{name_cmp}
 use Rattle.repo_name.specs.declared.kinds.Kind.{Kind}
 use Rattle.repo_name.specs.declared.names.Name.{Name}
 use Rattle.repo_pack.specs.PackLayout.{Item, IsTruePack}
@@ -9,10 +11,23 @@ use Rattle.repo_index.specs.declared.facts.Fact.{Fact}
 use Rattle.repo_index.specs.declared.facts.PackFacts.{PackFacts}
 use Rattle.repo_check.specs.Answers.{Answers, Came}
 use Rattle.repo_check.specs.Arrivals.{AreToldOf}
+use Rattle.repo_check.specs.Gathering.{well_noted}
+use Rattle.repo_check.specs.Rounds.{RoundView}
+use Rattle.repo_check.specs.declared.rounds.Note.{Note}
 
 -- the facts of each pack that came and reads
 abbrev pub FactsOfPacks : Type 0
 FactsOfPacks = Name → Option (List Fact)
+
+-- the facts of packs, by their names and by what was noted of the first of them
+abbrev pub facts_at : List Name → List (Note (List Fact)) → FactsOfPacks
+facts_at [] notes pack = None
+facts_at (n ∷ names) [] pack = None
+facts_at (n ∷ names) (note ∷ notes) pack = cond (is_eq (name_cmp n pack)) (well_noted note) (facts_at names notes pack)
+
+-- by a round over packs
+abbrev pub facts_by : RoundView (List Fact) → FactsOfPacks
+facts_by round = facts_at round.names round.notes
 
 -- the pack's facts are known: those of the pack that came; none came, where there are none
 abbrev pub IsKnownAs : Answers → Name → Option (List Fact) → Type 0

@@ -7,4 +7,9 @@ pub mod Measures
 pub mod Fitting
 pub mod Levels
 pub mod Telling
+pub mod Rounds
+pub mod Walks
+pub mod Gathering
+pub mod Surveys
 pub mod Laws
+pub mod LoneLaws

@@ -1,6 +1,7 @@
 -- What a tree's text comes to, by the facts that are known.
 use Rattle.std.specs.Prelude.{◌≡◌, ◌≢◌, ◌+◌, ◌⊎◌, ◌↔◌, ◌∷◌, [], ⊤, ℕ, Bool, IsTrue, IsFalse, List, Some, None, Contains}
 use Rattle.repo_name.specs.declared.kinds.BlobKind.TheVariants.{Content}
+use Rattle.repo_name.specs.Naming as naming
 use Rattle.repo_name.specs.declared.names.Name.{Name}
 use Rattle.repo_pack.specs.declared.places.Place.{Place}
 use Rattle.repo_wire.specs.declared.messages.Code.{Code}
@@ -17,7 +18,7 @@ use Rattle.repo_session.specs.Ends.{IsUnwelcome}
 use Rattle.repo_session.specs.declared.outcomes.FaultKind.{FaultKind}
 use Rattle.repo_check.specs.Answers.{Answer, Answers, Gives}
 use Rattle.repo_check.specs.Arrivals.{HasBytes}
-use Rattle.repo_check.specs.Findings.{IsMeasured, IsMismeasured, IsTreeAt, TreeIs}
+use Rattle.repo_check.specs.Findings.{IsMeasured, IsMismeasured, IsTreeAt}
 use Rattle.repo_check.specs.declared.trees.TreeLook.{TreeLook}
 
 -- no fact gives content of this name
@@ -68,10 +69,18 @@ pub record IsReadAs (facts : List Fact) (place : Place) (a : Answer) (links : Li
   pub lead : LeadTo nodes links
   pub judged : (answers : Answers) → AreGiven answers facts → Judges answers nodes right
 
+-- it is at fault by itself, whatever else came: one whose bytes are a tree's text isn't
+abbrev pub IsFaultyTree : Place → Answer → FaultKind → Type 0
+IsFaultyTree place a FaultKind.Missing = a.bytes ≡ None
+IsFaultyTree place a FaultKind.Name = (x : List ℕ) × (a.bytes ≡ Some x) × (naming.name x ≢ a.name)
+IsFaultyTree place a FaultKind.Unreadable = (x : List ℕ) × HasBytes a x × ((nodes : List Node) → ¬ IsTreeAt place x nodes)
+IsFaultyTree place a FaultKind.Place = ⊥
+IsFaultyTree place a FaultKind.Unindexed = ⊥
+
 -- what a reply tells of a tree that was asked for at its place
 abbrev pub LooksAtTree : List Fact → Fact → Say → TreeLook → Type 0
 LooksAtTree facts fact say (TreeLook.Read links right) = (a : Answer) × IsTreeAnswer fact.name say a × IsReadAs facts fact.place a links right
-LooksAtTree facts fact say (TreeLook.Fault what) = (a : Answer) × IsTreeAnswer fact.name say a × ((answers : Answers) → TreeIs answers fact.place a (Some what))
+LooksAtTree facts fact say (TreeLook.Fault what) = (a : Answer) × IsTreeAnswer fact.name say a × IsFaultyTree fact.place a what
 LooksAtTree facts fact say TreeLook.Unwelcome = IsUnwelcome (range_of fact) say × ((say ≢ Say.Refused Code.Missing) × (say ≢ Say.Refused Code.Range))
 
 -- of one that brings no bytes

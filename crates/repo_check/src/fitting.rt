@@ -1,14 +1,16 @@
 //! Whether an index fits the packs that it names.
 
-ghost use Rattle.std.specs.Prelude.{◌≡◌, ◌↔◌, IfOk, IsTrue, IsFalse, Contains};
-ghost use Rattle.repo_name.specs.NameMaps.{found};
+ghost use Rattle.std.specs.Prelude.{◌≡◌, ◌↔◌, None, option_map, IfOk, IsTrue, IsFalse, Contains};
 ghost use Rattle.repo_name.specs.declared.names.Name.{Name};
-ghost use Rattle.repo_check.specs.Fitting.{ListsAsKnown, ListsOtherwise, Fits, Misfits};
+ghost use Rattle.repo_store.specs.Pages.{Ascends};
+ghost use Rattle.repo_check.specs.Fitting.{ListsAsKnown, ListsOtherwise, Fits, Misfits, facts_by};
+ghost use Rattle.repo_check.specs.Gathering.{well_noted};
+ghost use Rattle.repo_check.specs.Rounds.{round_of};
 
+use crate::rounds::{Note, Round};
 use repo_index::{Fact, Facts, IndexText, Lookup};
 use repo_name::Name;
 use std::alloc::{AllocError, Global};
-use std::collections::BTreeMap;
 
 /// Whether two facts are one.
 fn is_same(a: &Fact, b: &Fact) -> bool
@@ -32,16 +34,34 @@ fn are_same(a: &[Fact], b: &[Fact]) -> bool
     true
 }
 
-/// Whether an index lists a pack just as it is known. It fails for memory alone.
-fn lists_as_known(
-    own: &Lookup,
-    packs: &BTreeMap<Name, Facts>,
-    pack: &Name,
-) -> Result<bool, AllocError>
-    ensures yes { IfOk result (λ is. IsTrue is → ListsAsKnown own.now (found packs.now) pack.now) }
-    ensures no { IfOk result (λ is. IsFalse is → ListsOtherwise own.now (found packs.now) pack.now) }
+/// What an object gives, if it reads. It takes no memory.
+fn well_of(note: &Note<Facts>) -> Option<&Facts>
+    ensures { option_map (λ facts. facts.now) result ≡ well_noted note.now }
 {
-    let Some(known) = packs.get(pack) else {
+    match note {
+        Note::Well(facts) => Some(facts),
+        Note::Fault(_) => None,
+    }
+}
+
+/// The facts of a pack, if it was noted and reads. The names that were listed ascend, so they are searched by halves. It
+/// takes no memory.
+fn facts_of<'a>(packs: &'a Round<Facts>, pack: &Name) -> Option<&'a Facts>
+    ensures { Ascends None packs.now.roll.names.items → option_map (λ facts. facts.now) result ≡ facts_by (round_of packs.now) pack.now }
+{
+    let Ok(place) = packs.roll.names.as_slice().binary_search(pack) else {
+        return None;
+    };
+    let note = packs.notes.get(place)?;
+    well_of(note)
+}
+
+/// Whether an index lists a pack just as it is known. It fails for memory alone.
+fn lists_as_known(own: &Lookup, packs: &Round<Facts>, pack: &Name) -> Result<bool, AllocError>
+    ensures yes { Ascends None packs.now.roll.names.items → IfOk result (λ is. IsTrue is → ListsAsKnown own.now (facts_by (round_of packs.now)) pack.now) }
+    ensures no { Ascends None packs.now.roll.names.items → IfOk result (λ is. IsFalse is → ListsOtherwise own.now (facts_by (round_of packs.now)) pack.now) }
+{
+    let Some(known) = facts_of(packs, pack) else {
         return Ok(false);
     };
     let facts = own.facts_of(pack)?;
@@ -49,13 +69,9 @@ fn lists_as_known(
 }
 
 /// Whether it lists all of these packs so. It fails for memory alone.
-fn all_as_known(
-    own: &Lookup,
-    packs: &BTreeMap<Name, Facts>,
-    names: &[Name],
-) -> Result<bool, AllocError>
-    ensures yes { IfOk result (λ are. IsTrue are → (pack : Name) → Contains names.now pack → ListsAsKnown own.now (found packs.now) pack) }
-    ensures no { IfOk result (λ are. IsFalse are → (pack : Name) × Contains names.now pack × ListsOtherwise own.now (found packs.now) pack) }
+fn all_as_known(own: &Lookup, packs: &Round<Facts>, names: &[Name]) -> Result<bool, AllocError>
+    ensures yes { Ascends None packs.now.roll.names.items → IfOk result (λ are. IsTrue are → (pack : Name) → Contains names.now pack → ListsAsKnown own.now (facts_by (round_of packs.now)) pack) }
+    ensures no { Ascends None packs.now.roll.names.items → IfOk result (λ are. IsFalse are → (pack : Name) × Contains names.now pack × ListsOtherwise own.now (facts_by (round_of packs.now)) pack) }
 {
     for pack in names {
         if !lists_as_known(own, packs, pack)? {
@@ -65,15 +81,11 @@ fn all_as_known(
     Ok(true)
 }
 
-/// Whether an index lists each pack that it names just as it is known, by the facts of the packs that came and read. No
-/// walk over a pack's blobs is made for each fact: both lists are in one order. It fails for memory alone.
-pub fn fits(
-    alloc: Global,
-    text: &IndexText,
-    packs: &BTreeMap<Name, Facts>,
-) -> Result<bool, AllocError>
-    ensures yes { IfOk result (λ is. IsTrue is → Fits text.now (found packs.now)) }
-    ensures no { IfOk result (λ is. IsFalse is → Misfits text.now (found packs.now)) }
+/// Whether an index lists each pack that it names just as it is known, by what was noted of the packs, whose names
+/// ascend. No walk over a pack's blobs is made for each fact: both lists are in one order. It fails for memory alone.
+pub fn fits(alloc: Global, text: &IndexText, packs: &Round<Facts>) -> Result<bool, AllocError>
+    ensures yes { Ascends None packs.now.roll.names.items → IfOk result (λ is. IsTrue is → Fits text.now (facts_by (round_of packs.now))) }
+    ensures no { Ascends None packs.now.roll.names.items → IfOk result (λ is. IsFalse is → Misfits text.now (facts_by (round_of packs.now))) }
 {
     let mut own = Lookup::new(alloc);
     own.add(text)?;

@@ -1,5 +1,7 @@
 //! What holds of what a check tells, by the definitions alone. Each function is empty, and its contract is the law.
 
+ghost use Rattle.repo_check.specs.LoneLaws.{CheckChangesNothing, CleanIsOfSound};
+ghost use Rattle.repo_check.specs.Surveys.{SurveyedIsReceived, LevelsAreReached, ContentIsReached, SnapshotsAreTold, PacksAreTold, TreesAreTold, ContentIsTold};
 ghost use Rattle.repo_check.specs.Laws.{WellIsSound, CleanIsSound, FoundOnce, FitsAsFound, WellHasNoFault};
 
 /// Where all things are well in what was received, the objects received are a sound store. Premise: no two of the objects
@@ -27,4 +29,53 @@ pub fn fits_as_found()
 /// Where all things are well, none is at fault.
 pub fn well_has_no_fault()
     ensures { WellHasNoFault }
+{}
+
+/// What a survey received, once it is over, is what a check has to receive: each object that is listed, and each tree that
+/// is reached and lies somewhere, once and from its least place.
+pub fn surveyed_is_received()
+    ensures { SurveyedIsReceived }
+{}
+
+/// Once a survey is over, the trees in its levels are those that the snapshots reach, and those in the last level are the
+/// trees to which as many names lead as a path may have.
+pub fn levels_are_reached()
+    ensures { LevelsAreReached }
+{}
+
+/// And the content that is reached is that of the trees in the levels above the last.
+pub fn content_is_reached()
+    ensures { ContentIsReached }
+{}
+
+/// Once a survey is over, the faults told of its snapshots are just those of the snapshots that came.
+pub fn snapshots_are_told()
+    ensures { SnapshotsAreTold }
+{}
+
+/// So are those told of its packs.
+pub fn packs_are_told()
+    ensures { PacksAreTold }
+{}
+
+/// And what is told of a tree that is reached is what is found of it.
+pub fn trees_are_told()
+    ensures { TreesAreTold }
+{}
+
+/// So is what is told of content.
+pub fn content_is_told()
+    ensures { ContentIsTold }
+{}
+
+/// A check alone with its store changes no object: after every exchange, whatever the store answers, and also where the store is
+/// one step ahead.
+pub fn check_changes_nothing()
+    ensures { CheckChangesNothing }
+{}
+
+/// A check alone with a store, whatever that is, is clean only where the store is sound. Premise: no two of the objects, and of
+/// the blobs in packs, have one name.
+pub fn clean_is_of_sound()
+    ensures { CleanIsOfSound }
 {}

@@ -12,7 +12,7 @@ use std::alloc::{AllocError, Global};
 use std::collections::{BTreeMap, BTreeSet};
 
 /// Adds some names to a set. It fails for memory alone.
-fn add_names(set: &mut BTreeSet<Name>, names: &[Name]) -> Result<(), AllocError>
+pub fn add_names(set: &mut BTreeSet<Name>, names: &[Name]) -> Result<(), AllocError>
     ensures { OnOk result (AddsNames set.old names.now set.new) }
 {
     for name in names {
@@ -36,7 +36,7 @@ fn add_below(
 }
 
 /// The names of a set, ascending. It fails for memory alone.
-fn names_of(alloc: Global, set: &BTreeSet<Name>) -> Result<Vec<Name>, AllocError>
+pub fn names_of(alloc: Global, set: &BTreeSet<Name>) -> Result<Vec<Name>, AllocError>
     ensures names { IfOk result (λ names. names.items ≡ set.now.keys) }
     ensures ascend { IfOk result (λ names. IsStrictlySortedBy name_cmp names.items) }
 {

@@ -10,6 +10,7 @@ use Rattle.repo_chunk.specs.Runs.{stream_of, IsCalledAt, HoldsLength, IsUnderWay
 use Rattle.repo_chunk.specs.declared.chunkers.Chunker.{Chunker}
 use Rattle.repo_chunk.proofs.CutLaws.{cuts_lie_in_front, uncut_is_short}
 use Rattle.repo_chunk.proofs.FirstCuts.{first_cuts_grow, first_cuts_gain, first_cuts_end}
+use Rattle.repo_name.specs.Limits.{blob_limit}
 
 -- the stream of the first pieces and the next
 pub stream_more : (pieces : List (Bor (List ℕ))) (i : ℕ) (d : Bor (List ℕ)) → i < length pieces
@@ -22,7 +23,7 @@ stream_more pieces i d within =
 
 -- a piece that was taken whole leaves a chunk under the greatest length
 pub fits_more : (old : Chunker) (before : ℕ) (piece : List ℕ) → HoldsLength old before
-    → ((m : List ℕ) → Holds old m → HasNoCut (params_of old) (m ++ piece)) → before + length piece < 8388608
+    → ((m : List ℕ) → Holds old m → HasNoCut (params_of old) (m ++ piece)) → before + length piece < blob_limit
 fits_more old before piece held uncut =
     let short : length (held.rest ++ piece) < (params_of old).max =
     uncut_is_short (params_of old) (held.rest ++ piece) held.lawful (uncut held.rest held.held) in

@@ -1,5 +1,6 @@
 -- The parameters of the chunk rule.
 use Rattle.std.specs.Prelude.{ℕ, ◌≤◌}
+use Rattle.repo_name.specs.Limits.{blob_limit}
 
 -- the least and the greatest length of a chunk in bytes, and how many low bits of a remainder are zero at a cut
 pub record Parameters : Type 0 where
@@ -11,6 +12,6 @@ pub record Parameters : Type 0 where
 pub record AreLawful (params : Parameters) : Type 0 where
   pub least : 64 ≤ params.min
   pub ordered : params.min ≤ params.max
-  pub greatest : params.max ≤ 8388608
+  pub greatest : params.max ≤ blob_limit
   pub some_bits : 1 ≤ params.bits
   pub few_bits : params.bits ≤ 32

@@ -2,7 +2,9 @@
 
 ghost use Rattle.std.specs.Prelude.{◌≡◌, ◌<◌, ◌≤◌, ◌↔◌, ◌⊎◌, IfOk, IsOk, IsErrOf};
 ghost use Rattle.repo_chunk.specs.Parameters.{AreLawful};
+ghost use Rattle.repo_name.specs.Limits.{blob_limit};
 
+use repo_name::BLOB_LIMIT;
 use std::marker::Model;
 use thiserror::Error;
 
@@ -48,14 +50,14 @@ impl Params {
         ensures ok { IfOk result (λ p. p ≡ record { min = min; max = max; bits = bits }) }
         ensures lawful { IsOk result ↔ AreLawful (record { min = min; max = max; bits = bits }) }
         ensures least { IsErrOf result ParamError.Least ↔ (min < 64) }
-        ensures greatest { IsErrOf result ParamError.Greatest ↔ ((64 ≤ min) × ((max < min) ⊎ (8388608 < max))) }
+        ensures greatest { IsErrOf result ParamError.Greatest ↔ ((64 ≤ min) × ((max < min) ⊎ (blob_limit < max))) }
         ensures bits { IsErrOf result ParamError.Bits
-            ↔ ((64 ≤ min) × (min ≤ max) × (max ≤ 8388608) × ((bits ≡ 0) ⊎ (32 < bits))) }
+            ↔ ((64 ≤ min) × (min ≤ max) × (max ≤ blob_limit) × ((bits ≡ 0) ⊎ (32 < bits))) }
     {
         if min < 64 {
             return Err(ParamError::Least);
         }
-        if max < min || max > 8_388_608 {
+        if max < min || max > BLOB_LIMIT as u64 {
             return Err(ParamError::Greatest);
         }
         if bits == 0 || bits > 32 {

@@ -11,21 +11,7 @@ use Rattle.repo_index.specs.IndexWriting.{AreLawful}
 use Rattle.repo_index.specs.declared.facts.Fact.{Fact}
 use Rattle.repo_index.specs.declared.facts.PackFacts.{PackFacts}
 use Rattle.repo_index.proofs.LookupLemmas.{facts_split}
-use Rattle.repo_index.proofs.PackLemmas.{none_in, here, later, here_or_later}
-
--- what a list has at an index it contains
-get_in : {X : Type 0} (xs : List X) (k : ℕ) (x : X) → slice_get xs k ≡ Some x → Contains xs x
-get_in [] zero x h = cc h
-get_in [] (suc k) x h = cc h
-get_in (y ∷ xs) zero x h = let e : y ≡ x = cc h in subst (Contains (y ∷ xs)) e (here y xs)
-get_in (y ∷ xs) (suc k) x h = later y xs x (get_in xs k x h)
-
-in_get : {X : Type 0} (xs : List X) (x : X) → Contains xs x → (k : ℕ) × (slice_get xs k ≡ Some x)
-in_get [] x h = absurd (none_in x h)
-in_get (y ∷ xs) x h = elim (here_or_later y xs x h) [
-  | inl same ↦ (0, ap Some same)
-  | inr more ↦ let k = in_get xs x more in (suc k.0, k.1)
-]
+use Rattle.repo_name.proofs.Containing.{contains_got, stands_at, flat_contains, contains_flat}
 
 -- a list of the same length has something there too
 get_both : {X Y : Type 0} (xs : List X) (ys : List Y) (k : ℕ) (x : X) → length xs ≡ length ys → slice_get xs k ≡ Some x → (y : Y) × (slice_get ys k ≡ Some y)
@@ -45,7 +31,7 @@ listed_exact before after pack items facts are others fact =
         | inl first ↦ absurd (others fact (Contains-append_left (facts_in before) (facts_in after) fact first) h.1)
         | inr rest ↦ elim (Contains-append_cases facts (facts_in after) fact rest) [
           | inl own ↦
-              let k = in_get facts fact own in
+              let k = stands_at facts fact own in
               let item = get_both facts items k.0 fact are.count k.1 in
               let there = are.each k.0 item.0 item.1 in
               let same : fact ≡ fact_at pack items k.0 item.0 = cc (k.1, there) in
@@ -54,7 +40,7 @@ listed_exact before after pack items facts are others fact =
         ]
       ],
       λ h.
-          let there = get_in facts h.0 (fact_at pack items h.0 h.1) (are.each h.0 h.1 h.2) in
+          let there = contains_got facts h.0 (fact_at pack items h.0 h.1) (are.each h.0 h.1 h.2) in
           let own = subst (Contains facts) (sym h.3) there in (
             subst (λ (fs : List Fact). Contains fs fact) (sym all)
                 (Contains-append_right (facts_in before) (facts ++ facts_in after) fact (Contains-append_left facts (facts_in after) fact own)),
@@ -62,33 +48,15 @@ listed_exact before after pack items facts are others fact =
           ),
     )
 
--- ---- listings
-
--- a fact of an index is one of a listing
-listing_of : (packs : List PackFacts) (fact : Fact) → Contains (facts_in packs) fact → (listed : PackFacts) × Contains packs listed × Contains listed.facts fact
-listing_of [] fact h = absurd (none_in fact h)
-listing_of (p ∷ ps) fact h = elim (Contains-append_cases p.facts (facts_in ps) fact h) [
-  | inl first ↦ (p, here p ps, first)
-  | inr rest ↦ let more = listing_of ps fact rest in (more.0, later p ps more.0 more.1, more.2)
-]
-
--- a listing's facts are those of the index
-of_listing : (packs : List PackFacts) (listed : PackFacts) (fact : Fact) → Contains packs listed → Contains listed.facts fact → Contains (facts_in packs) fact
-of_listing [] listed fact h is = absurd (none_in listed h)
-of_listing (p ∷ ps) listed fact h is = elim (here_or_later p ps listed h) [
-  | inl same ↦ Contains-append_left p.facts (facts_in ps) fact (subst (λ (q : PackFacts). Contains q.facts fact) (sym same) is)
-  | inr more ↦ Contains-append_right p.facts (facts_in ps) fact (of_listing ps listed fact more is)
-]
-
 -- a fact at an item's place is one of the facts of the items, and each of these is at one
 pub fact_there : (pack : Name) (items : List Item) (facts : List Fact) (k : ℕ) (item : Item) → AreFactsAt pack items facts
     → slice_get items k ≡ Some item → Contains facts (fact_at pack items k item)
-fact_there pack items facts k item are h = get_in facts k (fact_at pack items k item) (are.each k item h)
+fact_there pack items facts k item are h = contains_got facts k (fact_at pack items k item) (are.each k item h)
 
 pub item_there : (pack : Name) (items : List Item) (facts : List Fact) (fact : Fact) → AreFactsAt pack items facts → Contains facts fact
     → (k : ℕ) × (item : Item) × (slice_get items k ≡ Some item) × (fact ≡ fact_at pack items k item)
 item_there pack items facts fact are h =
-    let k = in_get facts fact h in
+    let k = stands_at facts fact h in
     let item = get_both facts items k.0 fact are.count k.1 in
     let there = are.each k.0 item.0 item.1 in
     let same : fact ≡ fact_at pack items k.0 item.0 = cc (k.1, there) in
@@ -97,12 +65,12 @@ item_there pack items facts fact are h =
 pub each_listed_exact : (packs : List PackFacts) (pack : Name) (items : List Item) → AreLawful packs → ListsItems packs pack items → IsExactFor packs pack items
 each_listed_exact packs pack items lawful lists fact = (
   λ h.
-      let listing = listing_of packs fact h.0 in
+      let listing = flat_contains (λ p. p.facts) packs fact h.0 in
       let own = All-contains (λ (p : PackFacts). All (λ f. (f.place.pack ≡ p.pack) × IsWithin f.place.offset f.place.length) p.facts) packs listing.0 lawful listing.1 in
       let is = All-contains (λ (f : Fact). (f.place.pack ≡ listing.0.pack) × IsWithin f.place.offset f.place.length) listing.0.facts fact own listing.2 in
       item_there pack items listing.0.facts fact (lists.each listing.0 listing.1 (sym is.0 ∙ h.1)) listing.2,
   λ h.
       let are = lists.each lists.some.0 lists.some.1 lists.some.2 in
       let there = subst (Contains lists.some.0.facts) (sym h.3) (fact_there pack items lists.some.0.facts h.0 h.1 are h.2) in
-      (of_listing packs lists.some.0 fact lists.some.1 there, ap (λ (f : Fact). f.place.pack) h.3),
+      (contains_flat (λ p. p.facts) packs lists.some.0 fact lists.some.1 there, ap (λ (f : Fact). f.place.pack) h.3),
 )

@@ -4,16 +4,19 @@ use Rattle.serde_json.specs.Data.{Data, Items}
 use Rattle.serde_json.specs.Find.{as_array}
 use Rattle.repo_name.specs.declared.names.Name.{Name}
 use Rattle.repo_pack.specs.PackLayout.{IsWithin}
-use Rattle.repo_index.specs.JsonText.{IsJson, items_at}
-use Rattle.repo_index.specs.Listing.{AreAll}
-use Rattle.repo_index.specs.IndexText.{IsId, BlobSays, PackLists, IsNameText, HasSuperseded, IndexLists, IsIndexText}
-use Rattle.repo_index.specs.IndexFaults.{NamesNothing, BlobFault, PackFault, NameFault, SupersededFault, RootFault, IndexFault}
+use Rattle.repo_json.specs.JsonText.{IsJson, items_at}
+use Rattle.repo_json.specs.Listing.{AreAll}
+use Rattle.repo_index.specs.IndexText.{BlobSays, PackLists, IsNameText, HasSuperseded, IndexLists, IsIndexText}
+use Rattle.repo_index.specs.IndexFaults.{BlobFault, PackFault, NameFault, SupersededFault, RootFault, IndexFault, index_error}
+use Rattle.repo_json.specs.JsonNames.{IsId, NamesNothing}
+use Rattle.repo_json.specs.declared.parsing.JsonError.{JsonError}
+use Rattle.repo_json.specs.declared.parsing.JsonError.TheVariants as json
 use Rattle.repo_index.specs.declared.facts.Fact.{Fact}
 use Rattle.repo_index.specs.declared.facts.PackFacts.{PackFacts}
 use Rattle.repo_index.specs.declared.faults.IndexError.{IndexError}
 use Rattle.repo_index.specs.declared.faults.IndexError.TheVariants as fault
-use Rattle.repo_index.proofs.NameLemmas.{id_one}
-use Rattle.repo_index.proofs.ListingLemmas.{listed_here}
+use Rattle.repo_json.proofs.NameLemmas.{id_one}
+use Rattle.repo_json.proofs.ListingLemmas.{listed_here}
 
 nothing_named : (x y : List ℕ) (n : Name) → x ≡ y → NamesNothing x → IsId y n → ⊥
 nothing_named x y n same none is = none n (subst (λ (t : List ℕ). IsId t n) (sym same) is)
@@ -112,3 +115,8 @@ told_fault bytes d fault.Shape json h = (d, json, h (λ e. cc))
 told_fault bytes d fault.Name json h = (d, json, h (λ e. cc))
 told_fault bytes d fault.Range json h = (d, json, h (λ e. cc))
 told_fault bytes d fault.Memory json h = tt
+
+-- what is told where no value is read
+pub unread_fault : (bytes : List ℕ) (e : JsonError) → (e ≢ json.Memory → (d : Data) → ¬ IsJson bytes d) → IndexFault (index_error e) bytes
+unread_fault bytes json.Json none = none (λ e. cc)
+unread_fault bytes json.Memory none = tt

@@ -1,5 +1,3 @@
-pub mod NameLemmas
-pub mod ListingLemmas
 pub mod FaultLemmas
 pub mod WritingLemmas
 pub mod LengthLemmas

@@ -7,12 +7,12 @@ use Rattle.repo_name.specs.declared.names.Name.{Name}
 use Rattle.repo_name.specs.declared.kinds.BlobKind.{BlobKind}
 use Rattle.repo_name.specs.declared.kinds.BlobKind.TheVariants.{Content, Tree}
 use Rattle.repo_pack.specs.PackLayout.{IsWithin}
-use Rattle.repo_index.specs.Listing.{AreAll}
+use Rattle.repo_json.specs.Listing.{AreAll}
 use Rattle.repo_index.specs.IndexText.{type_text, BlobSays, PackLists, IndexLists, IsIndexText}
 use Rattle.repo_index.specs.IndexWriting.{AreLawful}
 use Rattle.repo_index.specs.declared.facts.Fact.{Fact}
 use Rattle.repo_index.specs.declared.facts.PackFacts.{PackFacts}
-use Rattle.repo_index.proofs.NameLemmas.{id_one}
+use Rattle.repo_json.proofs.NameLemmas.{id_one}
 
 -- items are those of one list
 lists_one : {X : Type 0} (Is : Data → X → Type 0) → ((d : Data) (x y : X) → Is d x → Is d y → x ≡ y) → (items : Items) (xs ys : List X)

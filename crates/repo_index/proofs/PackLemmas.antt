@@ -4,7 +4,7 @@ use Rattle.std.specs.Prelude.{slice_get}
 use Rattle.std.specs.List.{filter, AllByRecursion}
 use Rattle.std.specs.List.Sorted.{IsStrictlySortedBy}
 use Rattle.std.proofs.lemmas.Bool.{and_parts}
-use Rattle.std.proofs.lemmas.List.Elements.{All-contains, All-filter, All-contains_itself, filter_passes, Contains-append_left, Contains-append_right, Contains-append_cases, Contains-push, Contains-push_cases}
+use Rattle.std.proofs.lemmas.List.Elements.{All-contains, All-filter, All-contains_itself, filter_passes, Contains-append_left, Contains-append_right, Contains-push, Contains-push_cases}
 use Rattle.std.proofs.lemmas.List.Kept.{IsStrictlySortedBy-filter}
 use Rattle.std.proofs.lemmas.Map.Keys.{sorted_head, sorted_tail}
 use Rattle.std.specs.Ordering.{nat_cmp, ordering_then, ordering_reverse, is_gt, is_lt, is_le}
@@ -13,6 +13,7 @@ use Rattle.std.specs.declared.cmp.Ordering.TheVariants.{Less, Equal, Greater}
 use Rattle.std.specs.declared.ops.Bound.TheVariants.{Included}
 use Rattle.std.specs.BTreeMap.Range.{IsLeBy, range_contains}
 use Rattle.std.specs.BTreeSet.{BTreeSet, keys_between, IsOrdered}
+use Rattle.repo_name.proofs.Containing.{none_contained, first_contained, later_contained, contained_or}
 use Rattle.repo_name.specs.Naming.{name_cmp}
 use Rattle.repo_name.specs.declared.names.Name.{Name}
 use Rattle.repo_index.specs.IndexText.{IsFact}
@@ -25,20 +26,8 @@ use Rattle.repo_index.proofs.LookupLemmas.{has}
 
 -- ---- members of lists
 
-pub none_in : {X : Type 0} (x : X) → Contains [] x → ⊥
-none_in x h = absurd (omega (arith, h.1))
-
 only : {X : Type 0} (x y : X) → Contains (x ∷ []) y → x ≡ y
-only x y h = elim (Contains-push_cases [] x y h) [ inl none ↦ absurd (none_in y none) | inr same ↦ same ]
-
-pub here_or_later : {X : Type 0} (x : X) (xs : List X) (y : X) → Contains (x ∷ xs) y → (x ≡ y) ⊎ Contains xs y
-here_or_later x xs y h = elim (Contains-append_cases (x ∷ []) xs y h) [ inl here ↦ inl (only x y here) | inr later ↦ inr later ]
-
-pub here : {X : Type 0} (x : X) (xs : List X) → Contains (x ∷ xs) x
-here x xs = Contains-append_left (x ∷ []) xs x (Contains-push [] x)
-
-pub later : {X : Type 0} (x : X) (xs : List X) (y : X) → Contains xs y → Contains (x ∷ xs) y
-later x xs y h = Contains-append_right (x ∷ []) xs y h
+only x y h = elim (contained_or x [] y h) [ inl same ↦ same | inr none ↦ absurd (none_contained y none) ]
 
 filtered : {X : Type 0} (p : X → Bool) (xs : List X) (y : X) → Contains (filter p xs) y → Contains xs y
 filtered p xs y h = All-contains (Contains xs) (filter p xs) y (All-filter p (Contains xs) xs (All-contains_itself xs)) h
@@ -48,15 +37,15 @@ passes p xs y h = All-contains (λ x. p x ≡ true) (filter p xs) y (filter_pass
 
 kept : {X : Type 0} (p : X → Bool) (xs : List X) (y : X) → Contains xs y → p y ≡ true → Contains (filter p xs) y
 kept p [] y h passed = h
-kept {X} p (x ∷ xs) y h passed = elim (here_or_later x xs y h) [
+kept {X} p (x ∷ xs) y h passed = elim (contained_or x xs y h) [
   | inl same ↦
       let e : p x ≡ true = ap p same ∙ passed in
-      subst (λ (b : Bool). Contains (cond b (x ∷ filter p xs) (filter p xs)) y) (sym e) (subst (Contains (x ∷ filter p xs)) same (here x (filter p xs)))
+      subst (λ (b : Bool). Contains (cond b (x ∷ filter p xs) (filter p xs)) y) (sym e) (subst (Contains (x ∷ filter p xs)) same (first_contained x (filter p xs)))
   | inr rest ↦ more x (p x) y (kept p xs y rest passed)
 ]
   where
     more : (x : X) (b : Bool) (y : X) → Contains (filter p xs) y → Contains (cond b (x ∷ filter p xs) (filter p xs)) y
-    more x true y h = later x (filter p xs) y h
+    more x true y h = later_contained x (filter p xs) y h
     more x false y h = h
 
 -- ---- a pack's facts
@@ -138,18 +127,18 @@ sorted_push : {K : Type 0} (c : K → K → Ordering) (ks : List K) (k : K) → 
     → IsStrictlySortedBy c (ks ++ k ∷ [])
 unfolding IsStrictlySortedBy
 sorted_push c [] k h g = (tt, tt)
-sorted_push {K} c (x ∷ ks) k h g = (less_push (λ (y : K). c x y ≡ Less) ks k h.0 (g x (here x ks)), sorted_push c ks k h.1 (λ y is. g y (later x ks y is)))
+sorted_push {K} c (x ∷ ks) k h g = (less_push (λ (y : K). c x y ≡ Less) ks k h.0 (g x (first_contained x ks)), sorted_push c ks k h.1 (λ y is. g y (later_contained x ks y is)))
 
 -- what stands before a key in order is less
 less_in : {K : Type 0} (P : K → Type 0) (xs : List K) (x : K) → AllByRecursion P xs → Contains xs x → P x
-less_in P [] x all h = absurd (none_in x h)
-less_in P (y ∷ xs) x all h = elim (here_or_later y xs x h) [ inl same ↦ subst P same all.0 | inr more ↦ less_in P xs x all.1 more ]
+less_in P [] x all h = absurd (none_contained x h)
+less_in P (y ∷ xs) x all h = elim (contained_or y xs x h) [ inl same ↦ subst P same all.0 | inr more ↦ less_in P xs x all.1 more ]
 
 less_before : {K : Type 0} (c : K → K → Ordering) (xs : List K) (k : K) (rest : List K) (x : K) → IsStrictlySortedBy c (xs ++ k ∷ rest) → Contains xs x → c x k ≡ Less
-less_before c [] k rest x sorted h = absurd (none_in x h)
-less_before {K} c (y ∷ xs) k rest x sorted h = elim (here_or_later y xs x h) [
+less_before c [] k rest x sorted h = absurd (none_contained x h)
+less_before {K} c (y ∷ xs) k rest x sorted h = elim (contained_or y xs x h) [
   | inl same ↦ subst (λ (z : K). c z k ≡ Less) same
-      (less_in (λ (z : K). c y z ≡ Less) (xs ++ k ∷ rest) k (sorted_head c y (xs ++ k ∷ rest) sorted) (Contains-append_right xs (k ∷ rest) k (here k rest)))
+      (less_in (λ (z : K). c y z ≡ Less) (xs ++ k ∷ rest) k (sorted_head c y (xs ++ k ∷ rest) sorted) (Contains-append_right xs (k ∷ rest) k (first_contained k rest)))
   | inr more ↦ less_before c xs k rest x (sorted_tail c y (xs ++ k ∷ rest) sorted) more
 ]
 
@@ -159,14 +148,14 @@ last_there y [] = (y, refl)
 last_there y (z ∷ ys) = let k = last_there z ys in (k.0, k.1)
 
 last_in : {K : Type 0} (y : K) (ys : List K) (last : K) → slice_get (y ∷ ys) (length ys) ≡ Some last → Contains (y ∷ ys) last
-last_in y [] last h = let e : y ≡ last = cc h in subst (Contains (y ∷ [])) e (here y [])
-last_in y (z ∷ ys) last h = later y (z ∷ ys) last (last_in z ys last h)
+last_in y [] last h = let e : y ≡ last = cc h in subst (Contains (y ∷ [])) e (first_contained y [])
+last_in y (z ∷ ys) last h = later_contained y (z ∷ ys) last (last_in z ys last h)
 
 -- in a list in order it stands at or after all others
 last_greatest : {K : Type 0} (c : K → K → Ordering) (y : K) (ys : List K) (last x : K) → slice_get (y ∷ ys) (length ys) ≡ Some last
     → IsStrictlySortedBy c (y ∷ ys) → Contains (y ∷ ys) x → (x ≡ last) ⊎ (c x last ≡ Less)
 last_greatest c y [] last x h sorted is = let e : y ≡ last = cc h in inl (sym (only y x is) ∙ e)
-last_greatest {K} c y (z ∷ ys) last x h sorted is = elim (here_or_later y (z ∷ ys) x is) [
+last_greatest {K} c y (z ∷ ys) last x h sorted is = elim (contained_or y (z ∷ ys) x is) [
   | inl same ↦ inr (subst (λ (w : K). c w last ≡ Less) same
       (less_in (λ (w : K). c y w ≡ Less) (z ∷ ys) last (sorted_head c y (z ∷ ys) sorted) (last_in z ys last h)))
   | inr more ↦ last_greatest c z ys last x h (sorted_tail c y (z ∷ ys) sorted) more
@@ -197,7 +186,7 @@ before_next done k rest packs sorted are p is =
 -- where they don't end with the next fact's pack it isn't among them
 not_among : (packs : List Name) (pack : Name) → IsStrictlySortedBy name_cmp packs → ((p : Name) → Contains packs p → is_gt (name_cmp p pack) ≡ false)
     → (EndsWith packs pack → ⊥) → Contains packs pack → ⊥
-not_among [] pack sorted before other is = none_in pack is
+not_among [] pack sorted before other is = none_contained pack is
 not_among (y ∷ ys) pack sorted before other is =
     let last = last_there y ys in
     let size : suc (length ys) - 1 ≡ length ys = omega arith in
@@ -258,7 +247,7 @@ unfolding IsStrictlySortedBy
 none_sorted = tt
 
 pub packs_none : ArePacksOf [] []
-packs_none = record { each = λ p. (λ h. absurd (none_in p h), λ h. absurd (none_in h.0 h.1)); ascend = none_sorted }
+packs_none = record { each = λ p. (λ h. absurd (none_contained p h), λ h. absurd (none_contained h.0 h.1)); ascend = none_sorted }
 
 -- what is left begins with the next fact
 pub next_fact : (all done rest new : List Fact) (k : Fact) → all ≡ done ++ rest → rest ≡ k ∷ new → all ≡ (done ++ k ∷ []) ++ new

@@ -23,14 +23,14 @@ use Rattle.repo_index.specs.Order.{kind_cmp, place_first, place_first_total, nam
 use Rattle.repo_index.specs.declared.facts.Fact.{Fact}
 use Rattle.repo_index.specs.declared.facts.PackFacts.{PackFacts}
 use Rattle.repo_index.proofs.ExactLemmas.{fact_there, item_there}
-use Rattle.repo_index.proofs.PackLemmas.{none_in, here, later, here_or_later}
+use Rattle.repo_name.proofs.Containing.{none_contained, first_contained, later_contained, contained_or}
 
 -- ---- strictly sorted lists with the same elements are one
 
 -- what holds of all holds of each
 each_one : {X : Type 0} (P : X → Type 0) (xs : List X) (x : X) → AllByRecursion P xs → Contains xs x → P x
-each_one P [] x h is = absurd (none_in x is)
-each_one P (y ∷ ys) x h is = elim (here_or_later y ys x is) [ inl same ↦ subst P same h.0 | inr more ↦ each_one P ys x h.1 more ]
+each_one P [] x h is = absurd (none_contained x is)
+each_one P (y ∷ ys) x h is = elim (contained_or y ys x is) [ inl same ↦ subst P same h.0 | inr more ↦ each_one P ys x h.1 more ]
 
 less_back : (a b : Ordering) → b ≡ ordering_reverse a → a ≡ Less → b ≡ Less → ⊥
 less_back Less b e h g = let f : Greater ≡ Less = sym e ∙ g in cc f
@@ -43,9 +43,9 @@ not_itself o e h = let f : Equal ≡ Less = sym e ∙ h in cc f
 module _ {K : Type 0} (c : K → K → Ordering) (total : IsTotalOrder c) where
   heads_same : (x : K) (xs : List K) (y : K) (ys : List K) → IsStrictlySortedBy c (x ∷ xs) → IsStrictlySortedBy c (y ∷ ys)
       → Contains (y ∷ ys) x → Contains (x ∷ xs) y → x ≡ y
-  heads_same x xs y ys h g is back = elim (here_or_later y ys x is) [
+  heads_same x xs y ys h g is back = elim (contained_or y ys x is) [
     | inl same ↦ sym same
-    | inr more ↦ elim (here_or_later x xs y back) [
+    | inr more ↦ elim (contained_or x xs y back) [
       | inl same ↦ same
       | inr other ↦ absurd (less_back (c x y) (c y x) (total.antisymm y x)
           (each_one (λ z. c x z ≡ Less) xs y (sorted_head c x xs h) other) (each_one (λ z. c y z ≡ Less) ys x (sorted_head c y ys g) more))
@@ -55,7 +55,7 @@ module _ {K : Type 0} (c : K → K → Ordering) (total : IsTotalOrder c) where
   -- a later element of one list is a later one of the other
   tail_in : (x : K) (xs : List K) (y : K) (ys : List K) → x ≡ y → IsStrictlySortedBy c (x ∷ xs) → ((z : K) → Contains (x ∷ xs) z → Contains (y ∷ ys) z)
       → (z : K) → Contains xs z → Contains ys z
-  tail_in x xs y ys same h into z is = elim (here_or_later y ys z (into z (later x xs z is))) [
+  tail_in x xs y ys same h into z is = elim (contained_or y ys z (into z (later_contained x xs z is))) [
     | inl first ↦
         let less : c x z ≡ Less = each_one (λ w. c x w ≡ Less) xs z (sorted_head c x xs h) is in
         let equal : c x z ≡ Equal = subst (λ (w : K). c x w ≡ Equal) (same ∙ first) (tied_itself total x) in
@@ -66,10 +66,10 @@ module _ {K : Type 0} (c : K → K → Ordering) (total : IsTotalOrder c) where
   pub sorted_same : (xs ys : List K) → IsStrictlySortedBy c xs → IsStrictlySortedBy c ys → ((z : K) → Contains xs z → Contains ys z)
       → ((z : K) → Contains ys z → Contains xs z) → xs ≡ ys
   sorted_same [] [] h g into back = refl
-  sorted_same [] (y ∷ ys) h g into back = absurd (none_in y (back y (here y ys)))
-  sorted_same (x ∷ xs) [] h g into back = absurd (none_in x (into x (here x xs)))
+  sorted_same [] (y ∷ ys) h g into back = absurd (none_contained y (back y (first_contained y ys)))
+  sorted_same (x ∷ xs) [] h g into back = absurd (none_contained x (into x (first_contained x xs)))
   sorted_same (x ∷ xs) (y ∷ ys) h g into back =
-      let same = heads_same x xs y ys h g (into x (here x xs)) (back y (here y ys)) in
+      let same = heads_same x xs y ys h g (into x (first_contained x xs)) (back y (first_contained y ys)) in
       let rest = sorted_same xs ys (sorted_tail c x xs h) (sorted_tail c y ys g) (tail_in x xs y ys same h into)
       (tail_in y ys x xs (sym same) g back) in
       cc (same, rest)
@@ -167,7 +167,7 @@ pub exact_same : (packs : List PackFacts) (facts : List Fact) (pack : Name) (ite
     → IsExactFor packs pack items ↔ (own ≡ listed)
 exact_same packs facts pack items own listed joins are at each =
     let sorted : IsStrictlySortedBy place_first listed = subst (IsStrictlySortedBy place_first) (sym (listed_is pack items listed at)) (facts_sorted pack 0 items each) in
-    let held : (f : Fact) → Contains facts f → Contains (facts_in packs) f = λ f h. elim ((joins f).0 h) [ inl none ↦ absurd (none_in f none) | inr is ↦ is ] in (
+    let held : (f : Fact) → Contains facts f → Contains (facts_in packs) f = λ f h. elim ((joins f).0 h) [ inl none ↦ absurd (none_contained f none) | inr is ↦ is ] in (
       λ exact. sorted_same place_first place_first_total own listed are.ascend sorted
           (λ f h.
           let is = (are.each f).0 h in

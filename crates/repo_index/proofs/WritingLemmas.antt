@@ -11,7 +11,7 @@ use Rattle.serde_json.specs.declared.value.Value.{Value}
 use Rattle.repo_name.specs.Naming.{hex_of, IsName}
 use Rattle.repo_name.specs.declared.names.Name.{Name}
 use Rattle.repo_pack.specs.PackLayout.{IsWithin}
-use Rattle.repo_index.specs.Listing.{AreAll}
+use Rattle.repo_json.specs.Listing.{AreAll}
 use Rattle.repo_index.specs.IndexText.{IsFact, BlobSays, PackLists, IsIndexText}
 use Rattle.repo_index.specs.IndexWriting.{fact_data, fact_items, pack_data, pack_items, index_data, index_text, AreLawful, ArePacks}
 use Rattle.repo_index.specs.declared.facts.Fact.{Fact}

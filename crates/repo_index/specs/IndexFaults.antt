@@ -5,16 +5,14 @@ use Rattle.serde_json.specs.Find.{get, as_str}
 use Rattle.repo_name.specs.declared.names.Name.{Name}
 use Rattle.repo_name.specs.declared.kinds.BlobKind.{BlobKind}
 use Rattle.repo_pack.specs.PackLayout.{IsWithin}
-use Rattle.repo_index.specs.JsonText.{IsJson, items_at}
-use Rattle.repo_index.specs.Listing.{AreAll, HasFault}
-use Rattle.repo_index.specs.IndexText.{IsId, HasBlob, BlobSays, HasPack, PackLists, IsNameText}
+use Rattle.repo_json.specs.JsonNames.{IsId, NamesNothing}
+use Rattle.repo_json.specs.JsonText.{IsJson, items_at}
+use Rattle.repo_json.specs.Listing.{AreAll, HasFault}
+use Rattle.repo_json.specs.declared.parsing.JsonError.{JsonError}
+use Rattle.repo_index.specs.IndexText.{HasBlob, BlobSays, HasPack, PackLists, IsNameText}
 use Rattle.repo_index.specs.declared.faults.IndexError.{IndexError}
 use Rattle.repo_index.specs.declared.faults.IndexError.TheVariants as fault
 use Rattle.repo_index.specs.declared.facts.PackFacts.{PackFacts}
-
--- the text is that of no name
-abbrev pub NamesNothing : List ℕ → Type 0
-NamesNothing id = (name : Name) → ¬ IsId id name
 
 -- the first fault of a blob's object: a member is missing or of another type, its id is no name, it lies out of range
 abbrev pub BlobFault : IndexError → Data → Type 0
@@ -57,3 +55,8 @@ IndexFault fault.Shape bytes = (d : Data) × IsJson bytes d × RootFault fault.S
 IndexFault fault.Name bytes = (d : Data) × IsJson bytes d × RootFault fault.Name d
 IndexFault fault.Range bytes = (d : Data) × IsJson bytes d × RootFault fault.Range d
 IndexFault fault.Memory bytes = ⊤
+
+-- what a fault of JSON is to an index
+abbrev pub index_error : JsonError → IndexError
+index_error JsonError.Json = IndexError.Json
+index_error JsonError.Memory = IndexError.Memory

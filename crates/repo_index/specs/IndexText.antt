@@ -3,14 +3,15 @@ use Rattle.std.specs.Prelude.{◌≡◌, ◌<◌, ◌^◌, ◌⊎◌, ℕ, List,
 use Rattle.std.specs.List.{flat_map}
 use Rattle.serde_json.specs.Data.{Data, Items}
 use Rattle.serde_json.specs.Find.{get, as_str}
-use Rattle.repo_name.specs.Naming.{hex_of, IsName}
+use Rattle.repo_name.specs.Naming.{IsName}
 use Rattle.repo_name.specs.declared.names.Name.{Name}
 use Rattle.repo_name.specs.declared.kinds.BlobKind.{BlobKind}
 use Rattle.repo_name.specs.declared.kinds.BlobKind.TheVariants.{Content, Tree}
 use Rattle.repo_pack.specs.PackLayout.{IsWithin}
 use Rattle.repo_pack.specs.declared.places.Place.{Place}
-use Rattle.repo_index.specs.JsonText.{IsJson, number_at, text_at, items_at}
-use Rattle.repo_index.specs.Listing.{AreAll}
+use Rattle.repo_json.specs.JsonNames.{IsId}
+use Rattle.repo_json.specs.JsonText.{IsJson, number_at, text_at, items_at}
+use Rattle.repo_json.specs.Listing.{AreAll}
 use Rattle.repo_index.specs.declared.facts.Fact.{Fact}
 use Rattle.repo_index.specs.declared.facts.PackFacts.{PackFacts}
 
@@ -33,10 +34,6 @@ pub record IsFact (fact : Fact) : Type 0 where
 abbrev pub type_text : BlobKind → List ℕ
 type_text Content = codes "data"
 type_text Tree = codes "tree"
-
--- a text is that of a name
-abbrev pub IsId : List ℕ → Name → Type 0
-IsId id name = IsName name × (id ≡ hex_of name)
 
 -- the members of a blob's object; what other members it has is of no account
 pub record HasBlob (d : Data) (id : List ℕ) (length offset : ℕ) (kind : BlobKind) : Type 0 where

@@ -1,6 +1,4 @@
 -- The definitions that the contracts of this crate cite.
-pub mod JsonText
-pub mod Listing
 pub mod IndexText
 pub mod IndexFaults
 pub mod IndexWriting

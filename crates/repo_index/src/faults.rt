@@ -1,5 +1,9 @@
 //! Why bytes are no index, and why an index isn't written.
 
+ghost use Rattle.std.specs.Prelude.{◌≡◌, ◌≢◌, OnOk, OnErr};
+ghost use Rattle.repo_index.specs.declared.faults.IndexError.{IndexError};
+
+use repo_json::JsonError;
 use std::alloc::AllocError;
 use thiserror::Error;
 
@@ -27,6 +31,19 @@ pub enum IndexError {
     Memory,
 }
 
+impl IndexError {
+    /// Fails where there was no memory to read an index, and there alone: else its bytes are at fault.
+    pub fn check_fault(self) -> Result<(), AllocError>
+        ensures fault { OnOk result (self ≢ IndexError.Memory) }
+        ensures memory { OnErr result (self ≡ IndexError.Memory) }
+    {
+        match self {
+            IndexError::Memory => Err(AllocError),
+            _ => Ok(()),
+        }
+    }
+}
+
 impl From<AllocError> for IndexError {
     ghost use Rattle.std.specs.Prelude.{◌≡◌};
     ghost use Rattle.repo_index.specs.declared.faults.IndexError.{IndexError};
@@ -35,5 +52,19 @@ impl From<AllocError> for IndexError {
 
     fn from(_: AllocError) -> IndexError {
         IndexError::Memory
+    }
+}
+
+impl From<JsonError> for IndexError {
+    ghost use Rattle.std.specs.Prelude.{◌≡◌};
+    ghost use Rattle.repo_index.specs.IndexFaults.{index_error};
+
+    ghost from_gives = { λ e r. r ≡ index_error e };
+
+    fn from(error: JsonError) -> IndexError {
+        match error {
+            JsonError::Json => IndexError::Json,
+            JsonError::Memory => IndexError::Memory,
+        }
     }
 }

@@ -21,7 +21,6 @@ mod bounds;
 mod facts;
 mod faults;
 mod index_text;
-mod json;
 mod keys;
 pub mod laws;
 mod lookups;

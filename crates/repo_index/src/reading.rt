@@ -6,7 +6,7 @@ ghost use Rattle.repo_name.specs.Naming.{IsName};
 ghost use Rattle.repo_name.specs.declared.names.Name.{Name};
 ghost use Rattle.repo_name.specs.declared.kinds.BlobKind.{BlobKind};
 ghost use Rattle.repo_pack.specs.PackLayout.{IsWithin};
-ghost use Rattle.repo_index.specs.Listing.{AreAll, HasFault};
+ghost use Rattle.repo_json.specs.Listing.{AreAll, HasFault};
 ghost use Rattle.repo_index.specs.IndexText.{type_text, BlobSays, PackLists, IsNameText, HasSuperseded, IndexLists, IsIndexText};
 ghost use Rattle.repo_index.specs.IndexFaults.{BlobFault, PackFault, NameFault, SupersededFault, RootFault, IndexFault};
 ghost use Rattle.repo_index.specs.declared.facts.PackFacts.{PackFacts};
@@ -15,17 +15,11 @@ ghost use Rattle.repo_index.specs.declared.faults.IndexError.{IndexError};
 use crate::facts::{Fact, Facts, PackFacts};
 use crate::faults::IndexError;
 use crate::index_text::IndexText;
-use crate::json::{name_of, parse};
-use repo_name::{BlobKind, Name};
+use repo_json::{hex_name, parse};
+use repo_name::{BLOB_LIMIT, BlobKind, CONTENTS_LIMIT, Name};
 use repo_pack::Place;
 use serde_json::Value;
 use std::alloc::Global;
-
-/// The greatest length of a blob, in bytes.
-const LONGEST_BLOB: u64 = 8_388_608;
-
-/// How many bytes of a pack its blobs lie within.
-const LONGEST_PACK: u64 = 25_165_823;
 
 /// The kind whose `type` this is.
 fn kind_of(text: &str) -> Option<BlobKind>
@@ -46,7 +40,7 @@ fn place_of(pack: Name, offset: u64, length: u64) -> Option<Place>
     ensures variant { IsSome result ↔ IsWithin offset length }
     ensures place { IfSome result (λ p. p ≡ record { pack = pack; offset = offset; length = length }) }
 {
-    if length == 0 || length > LONGEST_BLOB || offset > LONGEST_PACK - length {
+    if length == 0 || length > BLOB_LIMIT as u64 || offset > CONTENTS_LIMIT as u64 - length {
         return None;
     }
     let (offset, length) = (offset as u32, length as u32);
@@ -74,7 +68,7 @@ fn fact_of(pack: Name, value: &Value) -> Result<Fact, IndexError>
     let Some(kind) = value.get("type").and_then(Value::as_str).and_then(kind_of) else {
         return Err(IndexError::Shape);
     };
-    let Some(name) = name_of(id) else {
+    let Some(name) = hex_name(id) else {
         return Err(IndexError::Name);
     };
     let Some(place) = place_of(pack, offset, length) else {
@@ -107,7 +101,7 @@ fn pack_of(alloc: Global, value: &Value) -> Result<PackFacts, IndexError>
     let Some(id) = value.get("id").and_then(Value::as_str) else {
         return Err(IndexError::Shape);
     };
-    let Some(pack) = name_of(id) else {
+    let Some(pack) = hex_name(id) else {
         return Err(IndexError::Name);
     };
     let facts = facts_of(alloc, pack, blobs.as_slice())?;
@@ -135,7 +129,7 @@ fn check_name(value: &Value) -> Result<(), IndexError>
     let Some(id) = value.as_str() else {
         return Err(IndexError::Shape);
     };
-    if name_of(id).is_none() {
+    if hex_name(id).is_none() {
         return Err(IndexError::Name);
     }
     Ok(())

@@ -7,6 +7,7 @@ ghost use Rattle.repo_name.specs.Naming.{hex_of, IsName};
 ghost use Rattle.repo_index.specs.IndexText.{type_text, IsFact, IsIndexText, facts_in};
 ghost use Rattle.repo_index.specs.IndexWriting.{fact_data, fact_items, pack_data, pack_items, index_data, index_text, AreLawful, AreFew, ArePacks};
 ghost use Rattle.repo_index.specs.declared.faults.IndexError.{IndexError};
+ghost use Rattle.repo_name.specs.Limits.{index_limit};
 
 use crate::facts::{Fact, PackFacts};
 use crate::faults::IndexError;
@@ -93,7 +94,7 @@ impl IndexText {
         ensures text { IfOk result (λ text. text.items ≡ index_text self.now) }
         ensures reads { IfOk result (λ text. AreLawful self.now → IsIndexText text.items self.now) }
         ensures adds { IfOk result (λ text. length text.items ≤ 28 + 128 * (length (facts_in self.now) + length self.now)) }
-        ensures short { IfOk result (λ text. AreFew self.now → length text.items ≤ 8_388_608) }
+        ensures short { IfOk result (λ text. AreFew self.now → length text.items ≤ index_limit) }
         ensures memory { IfErr result (λ e. e ≡ IndexError.Memory) }
     {
         let value = index_value(alloc, self.packs())?;

@@ -1,17 +1,11 @@
 use Rattle.std.specs.Prelude.{◌≡◌, ◌≤◌, ◌<◌, ◌^◌, ◌++◌, ℕ, List, length, All}
 use Rattle.std.specs.List.{flat_map}
-use Rattle.std.specs.Int.{w16, to_be_bytes}
-use Rattle.repo_name.specs.Rows.{number, row_bytes, IsRow}
-use Rattle.repo_name.specs.declared.rows.LockRow.{LockRow}
+use Rattle.repo_name.specs.Rows.{number, count, rows_bytes, IsRow}
 use Rattle.repo_name.specs.declared.rows.RowError.{RowError}
 use Rattle.repo_name.specs.declared.tokens.Token.{Token}
 use Rattle.repo_locks.specs.declared.outcomes.LedgerError.{LedgerError}
 use Rattle.repo_locks.specs.TokenMachine.{Tokens, fresh_limit, live_limit}
 use Rattle.repo_locks.specs.Lawful.{IsLedger}
-
--- a count in two bytes, the higher first
-abbrev pub count_bytes : ℕ → List ℕ
-count_bytes n = to_be_bytes w16 n
 
 -- a token in bytes
 abbrev pub token_bytes : Token → List ℕ
@@ -19,15 +13,11 @@ token_bytes t = number t.0
 
 -- fresh numbers in bytes: how many, and each
 abbrev pub fresh_bytes : List Token → List ℕ
-fresh_bytes ts = count_bytes (length ts) ++ flat_map token_bytes ts
-
--- live rows in bytes: how many, and each
-abbrev pub live_bytes : List LockRow → List ℕ
-live_bytes rs = count_bytes (length rs) ++ flat_map row_bytes rs
+fresh_bytes ts = count (length ts) ++ flat_map token_bytes ts
 
 -- a ledger in bytes: the next number, the fresh ones, and the rows of the live ones
 abbrev pub ledger_bytes : Tokens → List ℕ
-ledger_bytes l = number l.next ++ fresh_bytes l.fresh ++ live_bytes l.live
+ledger_bytes l = number l.next ++ fresh_bytes l.fresh ++ rows_bytes l.live
 
 -- a number of 64 bits
 abbrev pub IsNumber : Token → Type 0

@@ -14,8 +14,8 @@ use crate::reading::{Parts, parts_of};
 use crate::searches::{
     bring_up, has_exclusive, is_among, kind_among, leave_out, leave_out_rows, place_of,
 };
-use crate::writing::{append_fresh, append_live, append_number};
-use repo_name::{LockRow, LockRows, Text, Token};
+use crate::writing::{append_fresh, append_number};
+use repo_name::{LockRow, LockRows, Text, Token, append_rows};
 use std::alloc::{AllocError, Global};
 use std::marker::Model;
 
@@ -217,7 +217,7 @@ impl Ledger {
         let mut bytes = Vec::new(*self.fresh.allocator());
         append_number(self.next, &mut bytes)?;
         append_fresh(&self.fresh, &mut bytes)?;
-        append_live(&self.live, &mut bytes)?;
+        append_rows(&self.live, &mut bytes)?;
         Ok(bytes)
     }
 

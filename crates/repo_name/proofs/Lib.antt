@@ -1,2 +1,4 @@
+pub mod Containing
+pub mod CountLemmas
 pub mod NameMaps
 pub mod RowLemmas

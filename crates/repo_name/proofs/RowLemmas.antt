@@ -1,4 +1,5 @@
-use Rattle.std.proofs.Common.{◌≡◌, ◌++◌, ◌∷◌, ◌<◌, ◌^◌, ℕ, Bool, true, false, List, length, refl, sym, ap, arith, ◌∙◌, take, drop}
+use Rattle.std.proofs.Common.{◌≡◌, ◌++◌, ◌∷◌, ◌<◌, ◌^◌, ℕ, Bool, true, false, List, length, refl, sym, ap, arith, ◌∙◌, take, drop, Result, Ok, Err}
+use Rattle.std.specs.Result.{IsErrOf, IsErrAnd}
 use Rattle.std.specs.Int.{w64, from_be_bytes}
 use Rattle.std.proofs.Math.Seq.{take-append_seam, drop-append_seam}
 use Rattle.std.proofs.lemmas.Nat.{from_be_bytes-to_be_bytes_8}
@@ -40,3 +41,8 @@ rows_one a b x y ra rb h =
     let m = numbers_one a.time b.time (host_field a.host ++ x) (host_field b.host ++ y) ra.time rb.time e.1 in
     let g = hosts_one a.host b.host x y m.1 in
     (λ i. record { token = record { 0 = t.0 i }; exclusive = k i; time = m.0 i; host = g.0 i }, g.1)
+
+-- an error that is handed on is the same
+pub same_error : {A E : Type 0} (r : Result A E) (x e : E) → IsErrOf r x → IsErrAnd r (λ y. y ≡ e) → e ≡ x
+same_error (Ok a) x e s h = absurd h
+same_error (Err y) x e s h = let k : y ≡ x = cc s in sym h ∙ k

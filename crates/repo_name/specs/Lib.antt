@@ -1,3 +1,4 @@
+pub mod Limits
 pub mod NameMaps
 pub mod Naming
 pub mod Ranges

@@ -1,10 +1,15 @@
 use Rattle.std.specs.Prelude.{◌≡◌, ◌≤◌, ◌<◌, ◌^◌, ◌++◌, ◌∷◌, ℕ, Bool, true, false, List, length, IsUtf8}
-use Rattle.std.specs.Int.{w64, to_be_bytes}
+use Rattle.std.specs.Int.{w16, w64, to_be_bytes}
+use Rattle.std.specs.List.{flat_map}
 use Rattle.repo_name.specs.declared.rows.LockRow.{LockRow}
 
 -- a number of 64 bits in bytes, the highest first
 abbrev pub number : ℕ → List ℕ
 number n = to_be_bytes w64 n
+
+-- a count in two bytes, the higher first
+abbrev pub count : ℕ → List ℕ
+count n = to_be_bytes w16 n
 
 -- a truth value in a byte
 abbrev pub truth : Bool → ℕ
@@ -28,6 +33,10 @@ pub record IsRow (row : LockRow) : Type 0 where
 -- a row in bytes: token, whether it is exclusive, time, and host
 abbrev pub row_bytes : LockRow → List ℕ
 row_bytes row = number row.token.0 ++ truth row.exclusive ∷ number row.time ++ host_field row.host
+
+-- rows in bytes: how many, and each
+abbrev pub rows_bytes : List LockRow → List ℕ
+rows_bytes rows = count (length rows) ++ flat_map row_bytes rows
 
 -- numbers in bytes read in one way, whatever follows them
 abbrev pub NumbersAreOne : Type 0

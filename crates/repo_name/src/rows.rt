@@ -1,11 +1,13 @@
 //! A live lock's row, and the one form in bytes that frames and the ledger share.
 
-ghost use Rattle.std.specs.Prelude.{◌≡◌, ◌≢◌, ◌≤◌, ◌++◌, ◌∷◌, [], ℕ, List, length, IfOk, IsErrOf, OnOk, OnErr};
-ghost use Rattle.repo_name.specs.Rows.{number, truth, IsHost, IsRow, row_bytes, RowsAreOne};
+ghost use Rattle.std.specs.Prelude.{◌≡◌, ◌≢◌, ◌≤◌, ◌<◌, ◌^◌, ◌++◌, ◌∷◌, [], ℕ, List, length, All, IfOk, IsErrOf, OnOk, OnErr};
+ghost use Rattle.std.specs.List.{flat_map};
+ghost use Rattle.std.specs.Io.{StartsWith};
+ghost use Rattle.repo_name.specs.Rows.{number, truth, IsHost, IsRow, row_bytes, rows_bytes, RowsAreOne};
 ghost use Rattle.repo_name.specs.declared.rows.LockRow.{LockRow};
 ghost use Rattle.repo_name.specs.declared.rows.RowError.{RowError};
 
-use crate::fields::{host_at, number_at, truth_at};
+use crate::fields::{append_count, count_at, host_at, number_at, truth_at};
 use crate::payloads::Text;
 use crate::tokens::Token;
 use byteorder::{BigEndian, ByteOrder};
@@ -100,6 +102,55 @@ pub fn read_row(alloc: Global, bytes: &[u8]) -> Result<(LockRow, &[u8]), RowErro
         },
         rest,
     ))
+}
+
+/// Appends rows behind their count. It fails for memory alone, and then the bytes are at least those that
+/// were there.
+pub fn append_rows(rows: &[LockRow], out: &mut Vec<u8>) -> Result<(), AllocError>
+    requires few { length rows.now < 2 ^ 16 }
+    requires rows { All IsRow rows.now }
+    ensures ok { OnOk result (out.new.items ≡ out.old.items ++ rows_bytes rows.now) }
+    ensures kept { StartsWith out.new.items out.old.items }
+{
+    append_count(rows.len(), out)?;
+    for row in rows {
+        append_row(row, out)?;
+    }
+    Ok(())
+}
+
+/// So many rows at the front, and the bytes after them.
+fn rows_at(alloc: Global, count: usize, bytes: &[u8]) -> Result<(Vec<LockRow>, &[u8]), RowError>
+    ensures found { IfOk result (λ x. (length x.0.items ≡ count) × All IsRow x.0.items × (bytes.now ≡ flat_map row_bytes x.0.items ++ x.1.now)) }
+    ensures shape { IsErrOf result RowError.Shape → (rows : List LockRow) (rest : List ℕ) → length rows ≡ count → All IsRow rows → bytes.now ≢ flat_map row_bytes rows ++ rest }
+{
+    let mut rows = Vec::with_capacity(alloc, count)?;
+    let mut rest = bytes;
+    for _ in 0..count {
+        let (row, after) = read_row(alloc, rest)?;
+        rows.push(row).map_err(|_| RowError::Memory)?;
+        rest = after;
+    }
+    Ok((rows, rest))
+}
+
+/// The rows at the front behind their count, at most so many, and the bytes after them.
+///
+/// `Shape` comes exactly where the bytes of no such rows stand at the front.
+pub fn read_rows(
+    alloc: Global,
+    limit: usize,
+    bytes: &[u8],
+) -> Result<(Vec<LockRow>, &[u8]), RowError>
+    requires { limit < 2 ^ 16 }
+    ensures found { IfOk result (λ x. (length x.0.items ≤ limit) × All IsRow x.0.items × (bytes.now ≡ rows_bytes x.0.items ++ x.1.now)) }
+    ensures shape { IsErrOf result RowError.Shape → (rows : List LockRow) (rest : List ℕ) → length rows ≤ limit → All IsRow rows → bytes.now ≢ rows_bytes rows ++ rest }
+{
+    let (count, rest) = count_at(bytes).ok_or(RowError::Shape)?;
+    if count > limit {
+        return Err(RowError::Shape);
+    }
+    rows_at(alloc, count, rest)
 }
 
 /// Rows in bytes read in one way, whatever follows them.

@@ -17,6 +17,7 @@ use Rattle.repo_pack.specs.PackReading.{kind_of, length_in, row_in, rows_in, ite
 use Rattle.repo_pack.specs.PackWriting.{row_of, rows_bytes}
 use Rattle.repo_pack.proofs.Entries.{Each, entry, length-header_of}
 use Rattle.repo_pack.proofs.RowLemmas.{length-rows_in}
+use Rattle.repo_name.specs.Limits.{header_limit}
 
 -- each number of a list is a byte's
 abbrev pub AreBytes : List ℕ → Type 0
@@ -123,7 +124,7 @@ rows_each (suc n) header h le lengths =
     ((lengths.0, name_at_front header h (omega arith)), rows_each n (drop 37 header) (AreBytes-drop 37 header h) (omega (arith, length-drop 37 header)) lengths.1)
 
 -- a header and the bytes before it that pass the tests are those of the items that they show
-pub laid_out : (header blobs : List ℕ) → AreBytes header → length header % 37 ≡ 0 → length header ≤ 151_552 → HasKinds header → HasLengths header blobs
+pub laid_out : (header blobs : List ℕ) → AreBytes header → length header % 37 ≡ 0 → length header ≤ header_limit → HasKinds header → HasLengths header blobs
     → IsLaidOut header blobs (items_in header blobs)
 laid_out header blobs h whole few kinds lengths =
     let n = length header / 37 in
@@ -159,7 +160,7 @@ parts_are bytes h has =
     let all = take-append-drop (length bytes - 4) bytes in
     (n, sym all ∙ ap (λ t. front ++ t) (tail_spelled bytes h has.0 ∙ ap (to_le_bytes w32) (sym n)) ∙ ap (λ t. t ++ to_le_bytes w32 (length (header_in bytes))) (sym halves))
 
-pub whole_header : (bytes : List ℕ) → AreBytes bytes → HasHeader bytes → (length (header_in bytes) % 37 ≡ 0) × (length (header_in bytes) ≤ 151_552)
+pub whole_header : (bytes : List ℕ) → AreBytes bytes → HasHeader bytes → (length (header_in bytes) % 37 ≡ 0) × (length (header_in bytes) ≤ header_limit)
 whole_header bytes h has =
     let n = (parts_are bytes h has).0 in
     (ap (λ m. m % 37) n ∙ has.2, omega (arith, has.3))

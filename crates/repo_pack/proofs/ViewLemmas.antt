@@ -11,6 +11,7 @@ use Rattle.repo_pack.specs.PackWriting.{row_of}
 use Rattle.repo_pack.proofs.Entries.{Each, length-header_of, rows_in-header_of, drop-header_of, row_in-entry}
 use Rattle.repo_pack.proofs.Offsets.{length-blobs_of, blob_fits, blob_at}
 use Rattle.repo_pack.proofs.Passes.{rows_sum}
+use Rattle.repo_name.specs.Limits.{blobs_limit}
 
 pub found_at : (items : List Item) (place : ℕ) → place < length items → (item : Item) × (slice_get items place ≡ Some item)
 found_at [] place h = absurd (omega arith)
@@ -46,7 +47,7 @@ module _ (header blobs : List ℕ) (items : List Item) (laid : IsLaidOut header 
   header_length : length header ≡ 37 * length items
   header_length = ap length laid.header_is ∙ length-header_of items each
 
-  pub count_there : (length items ≤ 4_096) × (length header ≡ 37 * length items)
+  pub count_there : (length items ≤ blobs_limit) × (length header ≡ 37 * length items)
   count_there = (laid.few, header_length)
 
   pub row_there : (place : ℕ) (item : Item) → slice_get items place ≡ Some item → row_in (drop (37 * place) header) ≡ row_of item

@@ -16,12 +16,13 @@ use Rattle.repo_pack.proofs.Entries.{items_of-rows, length-header_of}
 use Rattle.repo_pack.proofs.Offsets.{offset_of-cons}
 use Rattle.repo_pack.proofs.Passes.{rows_sum}
 use Rattle.repo_pack.proofs.Stands.{header_spelled}
+use Rattle.repo_name.specs.Limits.{blobs_limit, contents_limit, greatest_target, least_target, pack_limit}
 
 -- rows and bytes of some items show these
 pub filled_shows : (rows : List Row) (blobs : List ℕ) (items : List Item) → rows ≡ map row_of items → blobs ≡ blobs_of items → items_of rows blobs ≡ items
 filled_shows rows blobs items r b = ap (λ x. items_of x blobs) r ∙ ap (items_of (map row_of items)) b ∙ items_of-rows items
 
-pub filled_none : (target : ℕ) → 1_024 ≤ target → target ≤ 16_777_216 → IsFilled [] [] target (items_of [] [])
+pub filled_none : (target : ℕ) → least_target ≤ target → target ≤ greatest_target → IsFilled [] [] target (items_of [] [])
 unfolding items_of
 filled_none target low high = record {
   bounds = (low, high);
@@ -51,7 +52,7 @@ module _ (rows : List Row) (blobs : List ℕ) (target : ℕ) (items : List Item)
   shows_push item = filled_shows (rows ++ row_of item ∷ []) (blobs ++ item.bytes) (items ++ item ∷ []) (rows_push item) (blobs_push item)
 
   -- one more item, where there is room
-  pub filled_push : (item : Item) → IsItem item → IsNamed item → length items < 4_096 → length blobs < target
+  pub filled_push : (item : Item) → IsItem item → IsNamed item → length items < blobs_limit → length blobs < target
       → IsFilled (rows ++ row_of item ∷ []) (blobs ++ item.bytes) target (items ++ item ∷ [])
   filled_push item is named few room =
       let small = is.0.1 in
@@ -80,7 +81,7 @@ module _ (rows : List Row) (blobs : List ℕ) (target : ℕ) (items : List Item)
     named = filled.named;
   }
 
-  pub sealed_length : length (blobs ++ ending_of rows) ≤ 25_317_379
+  pub sealed_length : length (blobs ++ ending_of rows) ≤ pack_limit
   sealed_length =
       let header = ap length rows_bytes_are ∙ length-header_of items (recursion_from_All IsItem items filled.each) in
       let few = filled.few in
@@ -124,7 +125,7 @@ placed_are pack items = record {
 }
 
 -- they are within range, where the items' bytes are
-placed_in_range : (pack : Name) (offset : ℕ) (items : List Item) → All IsItem items → offset + length (blobs_of items) ≤ 25_165_823
+placed_in_range : (pack : Name) (offset : ℕ) (items : List Item) → All IsItem items → offset + length (blobs_of items) ≤ contents_limit
     → All (λ (blob : PlacedBlob). IsWithin blob.place.offset blob.place.length) (placed_from pack offset (map row_of items))
 unfolding placed_from
 placed_in_range pack offset [] each room = All-nil (λ (blob : PlacedBlob). IsWithin blob.place.offset blob.place.length)

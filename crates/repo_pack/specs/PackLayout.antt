@@ -6,6 +6,7 @@ use Rattle.repo_name.specs.declared.kinds.BlobKind.{BlobKind}
 use Rattle.repo_name.specs.declared.kinds.BlobKind.TheVariants.{Content, Tree}
 use Rattle.repo_name.specs.Naming as naming
 use Rattle.repo_name.specs.Ranges.{range}
+use Rattle.repo_name.specs.Limits.{blob_limit, blobs_limit, contents_limit}
 
 -- a blob as a pack holds it: its kind, its name and its bytes
 pub record Item : Type 0 where
@@ -19,12 +20,12 @@ item_of kind bytes = record { kind = kind; name = naming.name bytes; bytes = byt
 
 -- a blob has 1 to 8,388,608 bytes
 abbrev pub IsBlobLength : ℕ → Type 0
-IsBlobLength n = (1 ≤ n) × (n ≤ 8_388_608)
+IsBlobLength n = (1 ≤ n) × (n ≤ blob_limit)
 
 -- a blob ends within the first 25,165,823 bytes of its pack, as every blob of a pack that is written does
 pub record IsWithin (offset size : ℕ) : Type 0 where
   pub blob : IsBlobLength size
-  pub ends : offset + size ≤ 25_165_823
+  pub ends : offset + size ≤ contents_limit
 
 -- what a pack can hold: a blob under a name of 32 bytes
 abbrev pub IsItem : Item → Type 0
@@ -57,7 +58,7 @@ pack_bytes items = blobs_of items ++ header_of items ++ to_le_bytes w32 (length 
 
 -- the bytes are the pack of these items, of which there are 1 to 4,096
 pub record IsPack (bytes : List ℕ) (items : List Item) : Type 0 where
-  pub count : (1 ≤ length items) × (length items ≤ 4_096)
+  pub count : (1 ≤ length items) × (length items ≤ blobs_limit)
   pub each : All IsItem items
   pub layout : bytes ≡ pack_bytes items
 

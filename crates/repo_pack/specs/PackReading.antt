@@ -8,6 +8,7 @@ use Rattle.repo_pack.specs.declared.places.Entry.{Entry}
 use Rattle.repo_pack.specs.declared.faults.PackError.{PackError}
 use Rattle.repo_pack.specs.declared.faults.PackError.TheVariants as faults
 use Rattle.repo_pack.specs.PackLayout.{Item, IsBlobLength, IsItem, blobs_of, header_of}
+use Rattle.repo_name.specs.Limits.{blobs_limit, header_limit}
 
 -- what a pack tells of an item that begins at this offset
 abbrev pub entry_of : Item → ℕ → Entry
@@ -49,7 +50,7 @@ items_in header blobs = items_of (header_rows header) blobs
 
 -- a header and the bytes before it are those of these items
 pub record IsLaidOut (header blobs : List ℕ) (items : List Item) : Type 0 where
-  pub few : length items ≤ 4_096
+  pub few : length items ≤ blobs_limit
   pub each : All IsItem items
   pub header_is : header ≡ header_of items
   pub blobs_is : blobs ≡ blobs_of items
@@ -73,7 +74,7 @@ blobs_in bytes = take (length (front_of bytes) - header_len bytes) (front_of byt
 -- a header's length: whole entries, 1 to 4,096 of them, and no more than the bytes before the length
 abbrev pub HasHeader : List ℕ → Type 0
 HasHeader bytes = (4 ≤ length bytes) × (header_len bytes ≢ 0) × (header_len bytes % 37 ≡ 0)
-    × (header_len bytes ≤ 151_552) × (header_len bytes + 4 ≤ length bytes)
+    × (header_len bytes ≤ header_limit) × (header_len bytes + 4 ≤ length bytes)
 
 -- the kind of each entry is 0 or 1
 abbrev pub HasKinds : List ℕ → Type 0

@@ -8,6 +8,7 @@ use Rattle.repo_pack.specs.declared.places.PlacedBlob.{PlacedBlob}
 use Rattle.repo_pack.specs.declared.faults.PackError.{PackError}
 use Rattle.repo_pack.specs.declared.faults.PackError.TheVariants as faults
 use Rattle.repo_pack.specs.PackLayout.{Item, IsItem, IsNamed, entry_bytes, blobs_of, offset_of}
+use Rattle.repo_name.specs.Limits.{blob_limit, blobs_limit, greatest_target, least_target}
 
 -- a pack that is being written: the items added, in order, and the bytes to aim at
 pub record Packing : Type 0 where
@@ -16,11 +17,11 @@ pub record Packing : Type 0 where
 
 -- the blobs' bytes reach the target, or there are 4,096 blobs
 abbrev pub IsDue : Packing → Type 0
-IsDue packing = (packing.target ≤ length (blobs_of packing.items)) ⊎ (4_096 ≤ length packing.items)
+IsDue packing = (packing.target ≤ length (blobs_of packing.items)) ⊎ (blobs_limit ≤ length packing.items)
 
 -- neither
 abbrev pub IsOpen : Packing → Type 0
-IsOpen packing = (length (blobs_of packing.items) < packing.target) × (length packing.items < 4_096)
+IsOpen packing = (length (blobs_of packing.items) < packing.target) × (length packing.items < blobs_limit)
 
 -- the same with an item at its end
 abbrev pub with_item : Packing → Item → Packing
@@ -29,8 +30,8 @@ with_item packing item = record { items = packing.items ++ item ∷ []; target =
 -- Why a blob of so many bytes isn't added: the first reason in this order.
 abbrev pub IsRefusal : Packing → ℕ → PackError → Type 0
 IsRefusal packing n faults.Closed = IsDue packing
-IsRefusal packing n faults.TooLarge = IsOpen packing × (8_388_608 < n)
-IsRefusal packing n faults.Memory = IsOpen packing × (n ≤ 8_388_608)
+IsRefusal packing n faults.TooLarge = IsOpen packing × (blob_limit < n)
+IsRefusal packing n faults.Memory = IsOpen packing × (n ≤ blob_limit)
 IsRefusal packing n faults.Short = ⊥
 IsRefusal packing n faults.Empty = ⊥
 IsRefusal packing n faults.HeaderLength = ⊥
@@ -51,9 +52,9 @@ ending_of rows = rows_bytes rows ++ to_le_bytes w32 (length (rows_bytes rows))
 
 -- rows and bytes are those of these items, whose names are true, and within what the target allows
 pub record IsFilled (rows : List Row) (blobs : List ℕ) (target : ℕ) (items : List Item) : Type 0 where
-  pub bounds : (1_024 ≤ target) × (target ≤ 16_777_216)
-  pub few : length items ≤ 4_096
-  pub room : length blobs < target + 8_388_608
+  pub bounds : (least_target ≤ target) × (target ≤ greatest_target)
+  pub few : length items ≤ blobs_limit
+  pub room : length blobs < target + blob_limit
   pub each : All IsItem items
   pub named : All IsNamed items
   pub rows_are : rows ≡ map row_of items

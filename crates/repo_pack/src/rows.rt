@@ -6,16 +6,14 @@ ghost use Rattle.repo_name.specs.Naming.{IsName};
 ghost use Rattle.repo_pack.specs.PackLayout.{IsBlobLength, kind_number};
 ghost use Rattle.repo_pack.specs.PackReading.{kind_of, length_in, row_in, rows_in, header_rows, HasKinds, HasLengths};
 ghost use Rattle.repo_pack.specs.PackWriting.{ending_of};
+ghost use Rattle.repo_name.specs.Limits.{blobs_limit, header_limit};
 
 use byteorder::{ByteOrder, LittleEndian};
-use repo_name::{BlobKind, Name};
+use repo_name::{BLOB_LIMIT, BlobKind, Name};
 use std::alloc::{AllocError, Global};
 
 /// The bytes of an entry.
 pub const ENTRY_BYTES: usize = 37;
-
-/// The most bytes of a blob.
-pub const BLOB_LIMIT: usize = 8_388_608;
 
 /// An entry of a pack's header: what a blob is, under which name, and how long.
 #[derive(Clone, Copy, Debug)]
@@ -97,7 +95,7 @@ pub fn has_kinds(header: &[u8]) -> bool
 
 /// The sum of the lengths, if each is a blob's.
 fn total_length(header: &[u8]) -> Option<u64>
-    requires { length header.now ≤ 151_552 }
+    requires { length header.now ≤ header_limit }
     ensures each { IsSome result ↔ All (λ row. IsBlobLength row.length) (header_rows header.now) }
     ensures total { IfSome result (λ total. total ≡ sum_by (λ row. row.length) (header_rows header.now)) }
 {
@@ -114,7 +112,7 @@ fn total_length(header: &[u8]) -> Option<u64>
 
 /// Whether each length is a blob's, and together they are these bytes.
 pub fn has_lengths(header: &[u8], blobs: &[u8]) -> bool
-    requires { length header.now ≤ 151_552 }
+    requires { length header.now ≤ header_limit }
     ensures { IsTrue result ↔ HasLengths header.now blobs.now }
 {
     match total_length(header) {
@@ -125,7 +123,7 @@ pub fn has_lengths(header: &[u8], blobs: &[u8]) -> bool
 
 /// The entry at a place, and the sum of the lengths before it.
 pub fn row_and_offset(header: &[u8], place: usize) -> (Row, u64)
-    requires { (37 * place + 37 ≤ length header.now) × (length header.now ≤ 151_552) }
+    requires { (37 * place + 37 ≤ length header.now) × (length header.now ≤ header_limit) }
     ensures row { result.0 ≡ row_in (drop (37 * place) header.now) }
     ensures offset { result.1 ≡ sum_by (λ row. row.length) (rows_in place header.now) }
 {
@@ -138,7 +136,7 @@ pub fn row_and_offset(header: &[u8], place: usize) -> (Row, u64)
 
 /// The header of these entries, and behind it its length.
 pub fn header_bytes(alloc: Global, rows: &[Row]) -> Result<Vec<u8>, AllocError>
-    requires { length rows.now ≤ 4_096 }
+    requires { length rows.now ≤ blobs_limit }
     ensures { IfOk result (λ header. header.items ≡ ending_of rows.now) }
 {
     let mut header = Vec::new(alloc);

@@ -9,14 +9,11 @@ use crate::faults::PackError;
 use crate::places::Entry;
 use crate::rows::{ENTRY_BYTES, has_kinds, has_lengths, row_and_offset};
 use byteorder::{ByteOrder, LittleEndian};
-use repo_name::name_of;
+use repo_name::{HEADER_LIMIT, name_of};
 use std::marker::Model;
 
 /// The bytes of a header's length.
 const LENGTH_BYTES: usize = 4;
-
-/// The most bytes of a header, those of 4,096 entries.
-const HEADER_LIMIT: usize = 151_552;
 
 /// A pack that was read, lent by its bytes. A clause sees its items.
 #[derive(Debug, Drop)]

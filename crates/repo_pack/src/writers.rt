@@ -5,17 +5,15 @@ ghost use Rattle.std.specs.List.{All, sum_by};
 ghost use Rattle.repo_name.specs.Naming as naming;
 ghost use Rattle.repo_pack.specs.PackLayout.{item_of, IsTruePack, IsWithin};
 ghost use Rattle.repo_pack.specs.PackWriting.{IsDue, IsOpen, IsRefusal, with_item, ending_of, placed_from, ArePlaced};
+ghost use Rattle.repo_name.specs.Limits.{blob_limit, blobs_limit, greatest_target, least_target, pack_limit};
 
 use crate::faults::PackError;
 use crate::places::{Place, PlacedBlob};
-use crate::rows::{BLOB_LIMIT, Row, header_bytes};
-use repo_name::{BlobKind, Bytes, Name, name_of};
+use crate::rows::{Row, header_bytes};
+use repo_name::{BLOB_LIMIT, BLOBS_LIMIT, BlobKind, Bytes, Name, name_of};
 use std::alloc::{AllocError, Global};
 use std::marker::Model;
 use thiserror::Error;
-
-/// The most blobs of a pack.
-const COUNT_LIMIT: usize = 4_096;
 
 /// A pack that is being written. A clause sees the items added, in order, and the target.
 #[derive(Debug, Drop)]
@@ -84,7 +82,7 @@ fn add_placed(placed: &mut Vec<PlacedBlob>, pack: Name, rows: &[Row])
 
 /// Ends the bytes with the header of these entries, and answers their name and the blobs with their places.
 fn finish(blobs: &mut Vec<u8>, rows: &[Row]) -> Result<(Name, Vec<PlacedBlob>), AllocError>
-    requires few { length rows.now ≤ 4_096 }
+    requires few { length rows.now ≤ blobs_limit }
     requires small { sum_by (λ row. row.length) rows.now < 2 ^ 32 }
     ensures ok { OnOk result (blobs.new.items ≡ blobs.old.items ++ ending_of rows.now) }
     ensures name { IfOk result (λ x. x.0 ≡ naming.name blobs.new.items) }
@@ -103,7 +101,7 @@ fn finish(blobs: &mut Vec<u8>, rows: &[Row]) -> Result<(Name, Vec<PlacedBlob>), 
 impl PackWriter {
     /// A pack with no blob, to be sealed once its blobs reach the target: 1,024 to 16,777,216 bytes.
     pub fn new(alloc: Global, target: u32) -> PackWriter
-        requires { (1_024 ≤ target) × (target ≤ 16_777_216) }
+        requires { (least_target ≤ target) × (target ≤ greatest_target) }
         ensures { result ≡ record { items = []; target = target } }
     {
         let blobs = Vec::new(alloc);
@@ -135,12 +133,12 @@ impl PackWriter {
         ensures due { IsTrue result ↔ IsDue self.now }
         ensures some { IsTrue result → 1 ≤ length self.now.items }
     {
-        self.blobs.len() >= self.target as usize || self.rows.len() >= COUNT_LIMIT
+        self.blobs.len() >= self.target as usize || self.rows.len() >= BLOBS_LIMIT
     }
 
     /// Whether a blob of so many bytes has room. It answers the first reason against it that stands.
     fn check_room(&self, size: usize) -> Result<(), PackError>
-        ensures ok { OnOk result (IsOpen self.now × (size ≤ 8_388_608)) }
+        ensures ok { OnOk result (IsOpen self.now × (size ≤ blob_limit)) }
         ensures refusal { IfErr result (IsRefusal self.now size) }
         ensures memory { ¬ IsErrOf result PackError.Memory }
     {
@@ -156,7 +154,7 @@ impl PackWriter {
     /// Adds a blob that has room. It fails for memory alone, and then changes nothing.
     fn append(&mut self, row: Row, bytes: &[u8]) -> Result<(), AllocError>
         requires room { IsOpen self.old }
-        requires size { (1 ≤ length bytes.now) × (length bytes.now ≤ 8_388_608) }
+        requires size { (1 ≤ length bytes.now) × (length bytes.now ≤ blob_limit) }
         requires row { row.length ≡ length bytes.now }
         requires name { row.name ≡ naming.name bytes.now }
         requires whole { naming.IsName row.name }
@@ -176,7 +174,7 @@ impl PackWriter {
     pub fn add(&mut self, kind: BlobKind, bytes: &[u8]) -> Result<(), PackError>
         requires { 1 ≤ length bytes.now }
         ensures ok { OnOk result (self.new ≡ with_item self.old (item_of kind bytes.now)) }
-        ensures room { OnOk result (IsOpen self.old × (length bytes.now ≤ 8_388_608)) }
+        ensures room { OnOk result (IsOpen self.old × (length bytes.now ≤ blob_limit)) }
         ensures refusal { IfErr result (IsRefusal self.old (length bytes.now)) }
         ensures err { OnErr result (self.new ≡ self.old) }
     {
@@ -190,7 +188,7 @@ impl PackWriter {
         requires some { 1 ≤ length bytes.now }
         requires named { name.now ≡ naming.name bytes.now }
         ensures ok { OnOk result (self.new ≡ with_item self.old (item_of kind bytes.now)) }
-        ensures room { OnOk result (IsOpen self.old × (length bytes.now ≤ 8_388_608)) }
+        ensures room { OnOk result (IsOpen self.old × (length bytes.now ≤ blob_limit)) }
         ensures refusal { IfErr result (IsRefusal self.old (length bytes.now)) }
         ensures err { OnErr result (self.new ≡ self.old) }
     {
@@ -206,7 +204,7 @@ impl PackWriter {
         ensures name { IfOk result (λ sealed. sealed.name ≡ naming.name sealed.bytes) }
         ensures placed { IfOk result (λ sealed. ArePlaced sealed.name self.items sealed.blobs.items) }
         ensures within { IfOk result (λ sealed. All (λ blob. IsWithin blob.place.offset blob.place.length) sealed.blobs.items) }
-        ensures size { IfOk result (λ sealed. length sealed.bytes ≤ 25_317_379) }
+        ensures size { IfOk result (λ sealed. length sealed.bytes ≤ pack_limit) }
         ensures err { IfErr result (λ unsealed. unsealed.writer ≡ self) }
     {
         let PackWriter {

@@ -23,6 +23,10 @@ use Rattle.repo_prune.specs.declared.choices.Choice.{Choice}
 use Rattle.repo_prune.specs.declared.forgets.Forget.{Forget}
 use Rattle.repo_prune.specs.ForgetObedience.{forget_obeys}
 use Rattle.repo_prune.specs.ForgetStates as forgetting
+use Rattle.repo_prune.specs.PruneObedience.{prune_obeys}
+use Rattle.repo_prune.specs.PruneStates as pruning
+use Rattle.repo_prune.specs.Pruning.{prune_task, PruneAllows, PruneGives, PruneConcludes}
+use Rattle.repo_prune.specs.declared.prunes.Prune.{Prune}
 use Rattle.repo_prune.specs.Forgetting.{forget_task, ForgetAllows, ForgetGives, ForgetConcludes}
 use Rattle.repo_restore.specs.Listing.{list_task, ListAllows, ListGives, ListConcludes}
 use Rattle.repo_restore.specs.ListObedience.{list_obeys}
@@ -33,7 +37,7 @@ use Rattle.repo_restore.specs.Restoring.{Wish, restore_task, RestoreAllows, Rest
 use Rattle.repo_restore.specs.declared.listings.SnapshotList.{SnapshotList}
 use Rattle.repo_restore.specs.declared.restores.Restore.{Restore}
 use Rattle.repo_prog.specs.Asking.{streams}
-use Rattle.repo_prog.specs.Jobs.{Ended, Forgets, Lists, Restores, Stores, vault_asker, vault_wish}
+use Rattle.repo_prog.specs.Jobs.{Ended, Forgets, Lists, Prunes, Restores, Stores, vault_asker, vault_wish}
 use Rattle.repo_prog.specs.declared.callers.Caller.{Caller}
 
 ended : {C : Type 0} (Fits : C → Trace → Type 0) (next : C → Option Request) (old new : C) (n : ℕ) (said : Said) (a b start contents shown now : Option (List ℕ))
@@ -109,3 +113,12 @@ forgotten caller choice old new n said a b start contents shown now names fits j
     let P : Trace → Given Choice → Type 0 = λ es j. IsObedient (forget_task j.who) (ForgetAllows j.handed) (ForgetGives j.handed) (ForgetConcludes j.handed) (next_in new.session) (ended_in new.session) es in
     ended forgetting.FitsForget (λ (f : Forget). next_in f.session) old new n said a b start contents shown now (forget_task (vault_asker caller)) (ForgetAllows choice) (ForgetGives choice) (ForgetConcludes choice)
     (ended_in new.session) (Outcome.Forgotten names) fits read d (λ es f. subst (P es) job (forget_obeys new es f)) is
+
+-- a prune
+pub pruned : (caller : Caller) (old new : Prune) (n : ℕ) (said : Said) (a b start contents shown now : Option (List ℕ)) (packs bytes : ℕ)
+    → pruning.FitsPrune old [] → pruning.pruner_of new ≡ vault_asker caller → Consumes a b said.bytes → Drives pruning.FitsPrune (λ (p : Prune). next_in p.session) old (Ok n) new said start contents
+    → ended_in new.session ≡ Some (Outcome.Pruned packs bytes) → Prunes caller packs bytes (streams a start shown) (streams b contents now)
+pruned caller old new n said a b start contents shown now packs bytes fits who read d is =
+    let P : Trace → Asker → Type 0 = λ es w. IsObedient (prune_task w) PruneAllows PruneGives PruneConcludes (next_in new.session) (ended_in new.session) es in
+    ended pruning.FitsPrune (λ (p : Prune). next_in p.session) old new n said a b start contents shown now (prune_task (vault_asker caller)) PruneAllows PruneGives PruneConcludes
+    (ended_in new.session) (Outcome.Pruned packs bytes) fits read d (λ es f. subst (P es) who (prune_obeys new es f)) is

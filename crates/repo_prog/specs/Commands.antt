@@ -45,6 +45,7 @@ IsErrand (Errand.Backup host folder) = IsHost host
 IsErrand Errand.Snapshots = ⊤
 IsErrand (Errand.Restore name folder) = ⊤
 IsErrand (Errand.Forget choice) = ⊤
+IsErrand Errand.Prune = ⊤
 IsErrand Errand.Locks = ⊤
 IsErrand (Errand.Refresh token) = ⊤
 IsErrand (Errand.Unlock all) = ⊤

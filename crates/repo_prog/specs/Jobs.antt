@@ -15,6 +15,7 @@ use Rattle.repo_backup.specs.BackupStates.{backup_task}
 use Rattle.repo_backup.specs.Rules as backup
 use Rattle.repo_prune.specs.declared.choices.Choice.{Choice}
 use Rattle.repo_prune.specs.Forgetting.{forget_task, ForgetAllows, ForgetGives, ForgetConcludes}
+use Rattle.repo_prune.specs.Pruning.{prune_task, PruneAllows, PruneGives, PruneConcludes}
 use Rattle.repo_restore.specs.Listing.{list_task, ListAllows, ListGives, ListConcludes}
 use Rattle.repo_restore.specs.Restoring.{Wish, restore_task, RestoreAllows, RestoreGives, RestoreConcludes}
 use Rattle.repo_prog.specs.Asking.{Streams}
@@ -34,7 +35,7 @@ pub record Ended (task : Task) (Allows : Trace → Ask → Type 0) (Gives : Trac
 abbrev pub vault_host : List ℕ
 vault_host = codes "vault"
 
--- who lists, restores or forgets
+-- who lists, restores, forgets or prunes
 abbrev pub vault_asker : Caller → Asker
 vault_asker caller = asker caller.instance vault_host caller.time
 
@@ -53,6 +54,10 @@ Restores caller name entries old new = Ended (restore_task (vault_wish caller na
 -- the chosen snapshots were forgotten: those of these names
 abbrev pub Forgets : Caller → Choice → List Name → Streams → Streams → Type 0
 Forgets caller choice names old new = Ended (forget_task (vault_asker caller)) (ForgetAllows choice) (ForgetGives choice) (ForgetConcludes choice) (Outcome.Forgotten names) old new
+
+-- what no snapshot needs was removed: so many packs were deleted, and so many bytes of blobs put
+abbrev pub Prunes : Caller → ℕ → ℕ → Streams → Streams → Type 0
+Prunes caller packs bytes old new = Ended (prune_task (vault_asker caller)) PruneAllows PruneGives PruneConcludes (Outcome.Pruned packs bytes) old new
 
 -- the entries were stored under this name
 abbrev pub Stores : Caller → List ℕ → List Entry → Name → ℕ → ℕ → Streams → Streams → Type 0

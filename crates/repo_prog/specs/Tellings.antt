@@ -48,6 +48,10 @@ forgotten_line name = codes "forgotten " ++ (hex_of name ++ codes "\n")
 abbrev pub forgotten_lines : List Name → List ℕ
 forgotten_lines names = flat_map forgotten_line names
 
+-- what snapshots don't need was removed: so many packs, and so many bytes of blobs were put into new ones
+abbrev pub pruned_line : ℕ → ℕ → List ℕ
+pruned_line packs bytes = codes "pruned " ++ (decimal packs ++ (codes " " ++ (decimal bytes ++ codes "\n")))
+
 -- a lock has a new time
 abbrev pub refreshed_line : List ℕ
 refreshed_line = codes "refreshed\n"

@@ -13,7 +13,7 @@ ghost use Rattle.repo_prog.specs.Tellings.{stored_line};
 ghost use Rattle.repo_prog.specs.declared.status.Status.{Status};
 
 use crate::callers::Caller;
-use crate::status::{Status, failed, tell};
+use crate::status::{Status, failed, flawed, tell};
 use crate::telling::{show, stored_line, unfinished};
 use repo_backup::{Backup, BackupError};
 use repo_files::{Scan, ScanError, Skipped, scan};
@@ -94,17 +94,6 @@ pub fn backup_entries<R: Read, W: Write, O: Write, F: Write>(
     match drive(alloc, &mut backup, reader, writer, |_| true) {
         Ok(_) => show_stored(alloc, backup.outcome(), output, faults),
         Err(error) => failed(faults, &error),
-    }
-}
-
-/// The status of a backup that left entries out.
-fn flawed(status: Status) -> Status
-    ensures done { status ≡ Status.Done → result ≡ Status.Flawed }
-    ensures same { status ≢ Status.Done → result ≡ status }
-{
-    match status {
-        Status::Done => Status::Flawed,
-        other => other,
     }
 }
 

@@ -9,6 +9,7 @@ use crate::callers::{Caller, caller_now};
 use crate::errands::Errand;
 use crate::forgetting::forget_command;
 use crate::locking::{locks_command, refresh_command, unlock_command};
+use crate::pruning::prune_command;
 use crate::restoring::{restore_command, snapshots_command};
 use crate::status::{Status, failed};
 use std::alloc::AllocGlobal;
@@ -58,6 +59,7 @@ pub fn do_errand<T: Files + AllocGlobal + Clone + Drop, R: Read, W: Write, O: Wr
         Errand::Forget(choice) => forget_command(
             alloc, caller, choice, reader, writer, output, faults,
         ),
+        Errand::Prune => prune_command(alloc, caller, reader, writer, output, faults),
         Errand::Locks => locks_command(alloc, caller, reader, writer, output, faults),
         Errand::Refresh(token) => refresh_command(
             alloc, caller, token, reader, writer, output, faults,

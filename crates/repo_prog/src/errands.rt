@@ -1,14 +1,13 @@
 //! The words of what a client asks of a server.
 
-ghost use Rattle.std.specs.Prelude.{◌↔◌, IfOk, IsTrue};
-ghost use Rattle.repo_name.specs.Rows.{IsHost};
+ghost use Rattle.std.specs.Prelude.{IfOk};
 ghost use Rattle.repo_prog.specs.Commands.{IsErrand};
 
 use crate::choosing::{choice_of, choice_words};
-use crate::help::{BACKUP, FORGET, LOCKS, REFRESH, RESTORE, SNAPSHOTS, UNLOCK};
+use crate::help::{BACKUP, FORGET, LOCKS, PRUNE, REFRESH, RESTORE, SNAPSHOTS, UNLOCK};
 use crate::words::{WordsError, needed, number_of, word_of};
 use clap::{Arg, ArgAction, ArgMatches, Command};
-use repo_name::{Name, Text, Token};
+use repo_name::{Name, Text, Token, is_host};
 use repo_prune::Choice;
 use std::alloc::{AllocError, Global};
 
@@ -23,6 +22,8 @@ pub enum Errand {
     Restore { name: Name, folder: String },
     /// Forget the chosen snapshots.
     Forget(Choice),
+    /// Remove what no snapshot needs.
+    Prune,
     /// List the live locks.
     Locks,
     /// Give a token's lock a new time.
@@ -80,22 +81,17 @@ fn unlock_words<'a>(alloc: Global) -> Result<Command<'a>, AllocError> {
 /// The commands that go to a server, added to those of the program.
 pub fn with_errands<'a>(alloc: Global, program: Command<'a>) -> Result<Command<'a>, AllocError> {
     let snapshots = errand_words(alloc, "snapshots", "Lists the snapshots", SNAPSHOTS)?;
+    let prune = errand_words(alloc, "prune", "Removes what no snapshot needs", PRUNE)?;
     let locks = errand_words(alloc, "locks", "Lists the live locks", LOCKS)?;
     program
         .subcommand(backup_words(alloc)?)?
         .subcommand(snapshots)?
         .subcommand(restore_words(alloc)?)?
         .subcommand(forget_words(alloc)?)?
+        .subcommand(prune)?
         .subcommand(locks)?
         .subcommand(refresh_words(alloc)?)?
         .subcommand(unlock_words(alloc)?)
-}
-
-/// Whether the word may name a machine.
-fn is_host(word: &str) -> bool
-    ensures { IsTrue result ↔ IsHost word.now }
-{
-    !word.is_empty() && word.len() <= 255
 }
 
 fn backup_errand(alloc: Global, words: &ArgMatches) -> Result<Errand, WordsError>
@@ -132,6 +128,7 @@ pub fn errand_of(alloc: Global, command: &str, words: &ArgMatches) -> Result<Err
         "snapshots" => Ok(Errand::Snapshots),
         "restore" => restore_errand(alloc, words),
         "forget" => Ok(Errand::Forget(choice_of(alloc, words)?)),
+        "prune" => Ok(Errand::Prune),
         "locks" => Ok(Errand::Locks),
         "refresh" => {
             let number = number_of(words, "TOKEN")?;

@@ -81,6 +81,19 @@ Exit status:
   1  it ended before, and standard error says why; some may be forgotten
   2  the words make no command, a NAME is no name, or there are names and a policy";
 
+/// Below the help of `vault prune`.
+pub const PRUNE: &str = "\
+What was forgotten takes up room until then. Nobody else can use the store while it runs. Where it ends before it is
+done, every snapshot still has all that it needs, and the next prune goes on.
+
+Example:
+  vault prune 127.0.0.1:7070
+
+Exit status:
+  0  it is done; printed is how many packs are deleted, and how many bytes of blobs are in new ones
+  1  it isn't, and standard error says why
+  2  the words make no command";
+
 /// Below the help of `vault locks`.
 pub const LOCKS: &str = "\
 Example:

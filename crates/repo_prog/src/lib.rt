@@ -2,7 +2,7 @@
 //!
 //! [`frames`] answers request frames in hexadecimal from an empty store in memory. [`init_command`] makes
 //! a store, and [`serve_connections`] serves one. The others are a client's, over a connection: [`backup_command`],
-//! [`snapshots_command`], [`restore_command`] and [`forget_command`] bring a job to its end, [`locks_command`],
+//! [`snapshots_command`], [`restore_command`], [`forget_command`] and [`prune_command`] bring a job to its end, [`locks_command`],
 //! [`refresh_command`] and [`unlock_command`] ask themselves. [`run_errand`] connects, and [`run`] goes by the words.
 //!
 //! Promised: what `frames` writes is the lines of the replies of a run of the store machine, from the
@@ -31,6 +31,7 @@ mod listening;
 mod locking;
 mod making;
 mod output;
+mod pruning;
 mod restoring;
 mod status;
 mod talks;
@@ -48,6 +49,7 @@ pub use frames_engine::frames;
 pub use listening::{serve_connections, serve_folder};
 pub use locking::{locks_command, refresh_command, unlock_command};
 pub use making::{init_command, init_folder, random_instance};
+pub use pruning::prune_command;
 pub use restoring::{restore_command, restore_into, snapshots_command};
 pub use status::{Status, refuse_words};
 pub use words::{Making, Order, WordsError, order_of};

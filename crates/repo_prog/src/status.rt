@@ -1,6 +1,6 @@
 //! How the program ends, and what it says then.
 
-ghost use Rattle.std.specs.Prelude.{◌≡◌};
+ghost use Rattle.std.specs.Prelude.{◌≡◌, ◌≢◌};
 ghost use Rattle.repo_prog.specs.Commands.{status_code};
 ghost use Rattle.repo_prog.specs.declared.status.Status.{Status};
 
@@ -31,6 +31,17 @@ impl Status {
             Status::Usage => 2,
             Status::Flawed => 3,
         }
+    }
+}
+
+/// The status of what is done, where something wasn't as it should be; a failure stays one.
+pub fn flawed(status: Status) -> Status
+    ensures done { status ≡ Status.Done → result ≡ Status.Flawed }
+    ensures same { status ≢ Status.Done → result ≡ status }
+{
+    match status {
+        Status::Done => Status::Flawed,
+        other => other,
     }
 }
 

@@ -2,7 +2,7 @@
 
 ghost use Rattle.std.specs.Prelude.{◌≡◌, IfOk, string_bytes};
 ghost use Rattle.repo_prog.specs.Commands.{IsEnd};
-ghost use Rattle.repo_prog.specs.Tellings.{lock_word, lock_line, lock_lines, snapshot_line, snapshot_lines, stored_line, complete_line, forgotten_line, forgotten_lines, removed_line, Shows};
+ghost use Rattle.repo_prog.specs.Tellings.{lock_word, lock_line, lock_lines, snapshot_line, snapshot_lines, stored_line, complete_line, forgotten_line, forgotten_lines, pruned_line, removed_line, Shows};
 ghost use Rattle.repo_prog.specs.declared.status.Status.{Status};
 
 use crate::status::{Status, failed};
@@ -96,6 +96,13 @@ pub fn forgotten_lines(alloc: Global, names: &[Name]) -> Result<String, AllocErr
         lines.push_str(line.as_str())?;
     }
     Ok(lines)
+}
+
+/// The line of a prune: so many packs were deleted, and so many bytes of blobs put into new ones.
+pub fn pruned_line(alloc: Global, packs: u64, bytes: u64) -> Result<String, AllocError>
+    ensures { IfOk result (λ line. string_bytes line ≡ pruned_line packs bytes) }
+{
+    format!(in alloc; "pruned {packs} {bytes}\n")
 }
 
 /// The line of a lock that was removed.

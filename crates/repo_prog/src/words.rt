@@ -10,6 +10,7 @@ use crate::errands::{Errand, errand_of, with_errands};
 use crate::help::{FRAMES, INIT, SERVE};
 use clap::{Arg, ArgAction, ArgMatches, Command};
 use repo_chunk::Params;
+use repo_name::{GREATEST_TARGET, LEAST_TARGET};
 use std::alloc::{AllocError, Global};
 use std::time::Duration;
 
@@ -155,7 +156,7 @@ fn making_by(min: u64, max: u64, bits: u64, target: u64) -> Option<Making>
     let Ok(params) = Params::new(min, max, bits) else {
         return None;
     };
-    if target < 1_024 || target > 16_777_216 {
+    if target < LEAST_TARGET || target > GREATEST_TARGET {
         return None;
     }
     Some(Making { params, target })

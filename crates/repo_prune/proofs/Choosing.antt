@@ -1,10 +1,9 @@
 -- What a forget knows while it reads, and while it deletes.
-use Rattle.std.proofs.Common.{arith, ◌≡◌, ◌<◌, ◌+◌, ◌++◌, ◌∷◌, [], ℕ, true, List, Option, Some, None, Vec, Global, length, map, take, slice_get, suc, refl, sym, ap, subst, inl, inr, ◌∙◌, Contains}
+use Rattle.std.proofs.Common.{◌≡◌, ◌<◌, ◌+◌, ◌++◌, ◌∷◌, [], ℕ, true, List, Option, Some, None, Vec, Global, length, map, take, slice_get, refl, sym, subst, inl, inr, Contains}
 use Rattle.std.specs.List.Sorted.{IsStrictlySortedBy}
 use Rattle.std.specs.List.{AllByRecursion}
 use Rattle.std.specs.declared.cmp.Ordering.TheVariants.{Less}
-use Rattle.std.proofs.lemmas.Option.{slice_get_within, get_or_from_slice_get}
-use Rattle.std.proofs.Math.Seq.{take-suc}
+use Rattle.std.proofs.lemmas.Option.{slice_get_within}
 use Rattle.repo_name.specs.Naming.{name_cmp, Before}
 use Rattle.repo_name.specs.declared.kinds.Kind.{Kind}
 use Rattle.repo_name.specs.declared.names.Name.{Name}
@@ -21,10 +20,11 @@ use Rattle.repo_session.specs.Order.{IsReading}
 use Rattle.repo_session.specs.Readings.{IsDue, KnowsRoll}
 use Rattle.repo_session.specs.declared.rolls.Roll.{Roll}
 use Rattle.repo_session.specs.Traces.{Each, Exchange, Trace, silent, names_in, IsListed}
-use Rattle.repo_session.proofs.Containing.{none_contained, first_contained, later_contained, contained_or}
+use Rattle.repo_name.proofs.Containing.{none_contained, first_contained, later_contained, contained_or}
 use Rattle.repo_session.proofs.Deleting.{DeletesNone, ListsNone, delete_lists_none, done_stays, listed_stays, listing_stays, names_stay, none_deleted_on}
 use Rattle.repo_session.specs.Rolls.{IsRolled}
 use Rattle.repo_session.proofs.Receiving.{each_more, is_listed}
+use Rattle.repo_prune.proofs.Repacking.{one_taken}
 use Rattle.repo_prune.specs.declared.choices.Choice.{Choice}
 use Rattle.repo_prune.specs.declared.forgets.ForgetJob.{ForgetJob}
 use Rattle.repo_prune.specs.Forgetting.{IsKnown, AreChosen, ForgetAllows, forget_rule, forget_task}
@@ -71,12 +71,12 @@ none_read roll ask say es h none = none_deleted_on (silent ask say) es (roll_del
 
 -- ---- choosing
 
-has_contained : (names : List Name) (n : Name) → Has names n → Contains names n
+pub has_contained : (names : List Name) (n : Name) → Has names n → Contains names n
 has_contained [] n h = elim h [ ]
 has_contained (m ∷ names) n (inl is) = subst (λ z. Contains (z ∷ names) n) is (first_contained n names)
 has_contained (m ∷ names) n (inr more) = later_contained m names n (has_contained names n more)
 
-contained_has : (names : List Name) (n : Name) → Contains names n → Has names n
+pub contained_has : (names : List Name) (n : Name) → Contains names n → Has names n
 contained_has [] n h = absurd (none_contained n h)
 contained_has (m ∷ names) n h = elim (contained_or m names n h) [ inl is ↦ inl (sym is) | inr more ↦ inr (contained_has names n more) ]
 
@@ -141,11 +141,6 @@ each_end : (P : Name → Type 0) (xs : List Name) (x : Name) → Each P xs → P
 each_end P [] x h p = (p, tt)
 each_end P (y ∷ xs) x h p = (h.0, each_end P xs x h.1 p)
 
-one_more : (names : List Name) (i : ℕ) (m : Name) → slice_get names i ≡ Some m → take (i + 1) names ≡ take i names ++ m ∷ []
-one_more names i m q =
-    let s : i + 1 ≡ suc i = omega arith in
-    ap (λ j. take j names) s ∙ take-suc names i m (slice_get_within names i m q) ∙ ap (λ y. take i names ++ y ∷ []) (get_or_from_slice_get names i m m q)
-
 -- one more is deleted
 pub one_deleted : (choice : Choice) (names : List Name) (i j : ℕ) (token : Token) (n : Name) (ask : Ask) (say : Say) (es : Trace) → ask ≡ Ask.Delete token Kind.Snapshot n → say ≡ Say.Done → slice_get names i ≡ Some n → (i < length names → j ≡ i + 1)
     → Deletes choice names i es → Deletes choice names j (silent ask say ∷ es)
@@ -154,7 +149,7 @@ one_deleted choice names i j token n ask say es asked said at more h =
     let P : Name → Type 0 = λ m. DeleteDone (e ∷ es) Kind.Snapshot m in
     let before : Each P (take i names) = each_more (λ m. DeleteDone es Kind.Snapshot m) P (take i names) (λ m d. done_stays e es Kind.Snapshot m d) h.gone in
     let now : Each P (take i names ++ n ∷ []) = each_end P (take i names) n before (token, inl (refl, refl)) in
-    let d : Deletes choice names (i + 1) (e ∷ es) = record { chosen = chosen_stays choice e es names (delete_lists_none Kind.Snapshot token Kind.Snapshot n Say.Done []) h.chosen; gone = subst (Each P) (sym (one_more names i n at)) now } in
+    let d : Deletes choice names (i + 1) (e ∷ es) = record { chosen = chosen_stays choice e es names (delete_lists_none Kind.Snapshot token Kind.Snapshot n Say.Done []) h.chosen; gone = subst (Each P) (sym (one_taken names i n at)) now } in
     subst (λ a. Deletes choice names j (silent a say ∷ es)) (sym asked) (subst (λ z. Deletes choice names j (silent (Ask.Delete token Kind.Snapshot n) z ∷ es)) (sym said)
     (subst (λ m. Deletes choice names m (e ∷ es)) (sym (more (slice_get_within names i n at))) d))
 

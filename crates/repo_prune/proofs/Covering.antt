@@ -20,8 +20,7 @@ use Rattle.repo_index.specs.Order.{place_cmp, place_first, IsAtMost, places_tota
 use Rattle.repo_index.specs.declared.facts.Fact.{Fact}
 use Rattle.repo_index.specs.declared.facts.PackFacts.{PackFacts}
 use Rattle.repo_reach.specs.declared.used.Used.{Used}
-use Rattle.repo_session.proofs.Containing.{none_contained, first_contained, later_contained, contained_or, flat_contains, contains_flat}
-use Rattle.repo_writing.proofs.PutLemmas.{contains_map}
+use Rattle.repo_name.proofs.Containing.{none_contained, first_contained, later_contained, contained_or, flat_contains, contains_flat, contains_map}
 use Rattle.repo_writing.specs.Blobs.{HasFact}
 use Rattle.repo_prune.proofs.Ascending.{each_all}
 use Rattle.repo_prune.proofs.Planning.{least_one}

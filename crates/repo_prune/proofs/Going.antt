@@ -18,7 +18,7 @@ use Rattle.repo_name.specs.declared.names.Name.{Name}
 use Rattle.std.proofs.lemmas.List.Sorted.{Contains-permutation, IsPermutation-sym, sum_by-IsPermutation}
 use Rattle.std.proofs.lemmas.List.Sums.{sum_by-append, count_by_more_yes}
 use Rattle.std.proofs.lemmas.List.Elements.{Contains-append_left, Contains-append_right, Contains-append_cases}
-use Rattle.repo_session.proofs.Containing.{none_contained, first_contained, later_contained, contained_or}
+use Rattle.repo_name.proofs.Containing.{none_contained, first_contained, later_contained, contained_or}
 use Rattle.repo_index.proofs.OrderLemmas.{names_exact}
 use Rattle.repo_index.proofs.SameLemmas.{sorted_same}
 use Rattle.repo_prune.proofs.Picks.{is_equal}

@@ -38,7 +38,7 @@ IsStored store row = (x : List ℕ) × (store.objects Kind.Snapshot row.0 ≡ So
 -- ---- exchanges that list nothing
 
 -- the end of the lock gives no names
-unlock_or : (ask : Ask) (whole older : Trace) → (without_unlock ask whole older ≡ whole) ⊎ ((token : Token) × (ask ≡ Ask.Unlock token) × (without_unlock ask whole older ≡ older))
+pub unlock_or : (ask : Ask) (whole older : Trace) → (without_unlock ask whole older ≡ whole) ⊎ ((token : Token) × (ask ≡ Ask.Unlock token) × (without_unlock ask whole older ≡ older))
 unlock_or (Ask.Unlock token) whole older = inr (token, refl, refl)
 unlock_or Ask.Ticket whole older = inl refl
 unlock_or (Ask.Lock row) whole older = inl refl

@@ -10,3 +10,15 @@ pub mod TreeReading
 pub mod Finding
 pub mod Repacking
 pub mod Cutting
+pub mod PruneRuns
+pub mod PruneEnds
+pub mod PruneLeaves
+pub mod Relistings
+pub mod Asides
+pub mod PruneListing
+pub mod PruneStages
+pub mod PruneTrees
+pub mod PruneDeletes
+pub mod Pairs
+pub mod PruneMoves
+pub mod PrunePacks

@@ -19,7 +19,7 @@ use Rattle.repo_prune.specs.declared.choices.Choice.{Choice}
 use Rattle.repo_prune.specs.declared.keeping.Policy.{Policy}
 use Rattle.repo_prune.specs.Keeping.{Row, AreKept}
 use Rattle.repo_prune.specs.Picking.{ArePicked, AreChosenOf}
-use Rattle.repo_session.proofs.Containing.{none_contained, first_contained, later_contained, contained_or}
+use Rattle.repo_name.proofs.Containing.{none_contained, first_contained, later_contained, contained_or}
 
 module _ {A : Type 0} (p : A → Bool) where
   more_if : (b : Bool) (y x : A) (xs : List A) → (p x ≡ true → Contains xs x → Contains (filter p xs) x) → p y ≡ b → p x ≡ true → Contains (y ∷ xs) x → Contains (cond b (y ∷ filter p xs) (filter p xs)) x

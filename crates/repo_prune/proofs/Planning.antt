@@ -21,8 +21,7 @@ use Rattle.repo_index.specs.declared.facts.Fact.{Fact}
 use Rattle.repo_index.specs.declared.facts.PackFacts.{PackFacts}
 use Rattle.repo_reach.proofs.Using.{one_more}
 use Rattle.repo_reach.specs.declared.used.Used.{Used}
-use Rattle.repo_session.proofs.Containing.{none_contained, first_contained, later_contained, contained_or}
-use Rattle.repo_writing.proofs.PutLemmas.{map_contains}
+use Rattle.repo_name.proofs.Containing.{none_contained, first_contained, later_contained, contained_or, map_contains}
 use Rattle.repo_prune.proofs.Ascending.{sorted_none, sorted_one, sorted_append, sorted_left, less_across}
 use Rattle.repo_prune.specs.Plans.{IsUsedCopy, Stays, IsPlanOf, AreCopiesOf, IsPlanFor, PlansStay, PlansMoves, Plans}
 use Rattle.repo_prune.specs.declared.plans.Plan.{Plan}

@@ -1,6 +1,6 @@
 -- The moving of used blobs to new packs.
-use Rattle.std.proofs.Common.{arith, zero, suc, Vec, Global, ◌≡◌, ◌+◌, ◌++◌, ◌∷◌, [], ℕ, List, Option, Some, None, length, map, take, slice_get, sym, ap, subst, ◌∙◌, append_assoc}
-use Rattle.std.proofs.lemmas.List.{map-append}
+use Rattle.std.proofs.Common.{arith, zero, suc, Vec, Global, ◌≡◌, ◌≤◌, ◌+◌, ◌++◌, ◌∷◌, [], ℕ, List, Option, Some, None, length, map, take, slice_get, sym, ap, subst, ◌∙◌, append_assoc}
+use Rattle.std.proofs.lemmas.List.{length-append, length-map, length-take, map-append}
 use Rattle.std.proofs.lemmas.Option.{none-some, same_Some, slice_get_within}
 use Rattle.repo_name.specs.Naming as naming
 use Rattle.repo_pack.specs.PackLayout.{Item, item_of}
@@ -16,8 +16,40 @@ use Rattle.repo_prune.specs.declared.moving.Moving.{Moving}
 pub unsealed : (m : Moving) (sent sealed : List Item) → m.packer.sealed ≡ None → IsMoving m sent sealed → IsMoving m sent []
 unsealed m sent sealed none h = let empty : sealed ≡ [] = subst (λ (o : Option Sealed). IsSealed o sealed) none h.sealed_is in subst (IsMoving m sent) empty h
 
+-- what was sent is of facts that were added
+pub sent_before : (m : Moving) (sent sealed : List Item) → IsMoving m sent sealed → length sent ≤ m.added
+sent_before m sent sealed h =
+    let all : List Item = items_so_far sent sealed m in
+    let facts : List Fact = take m.added m.moves.items in
+    let a : length (map pair_of_item all) ≡ length (map pair_of_fact facts) = ap length h.moved in
+    let b = length-map all pair_of_item in
+    let c = length-map facts pair_of_fact in
+    let d = length-take m.added m.moves.items in
+    let e = length-append (sent ++ sealed) m.packer.writer.items in
+    let f = length-append sent sealed in
+    let w = h.within in
+    omega (arith, a, b, c, d, e, f, w)
+
+-- where all was sent, no blob is awaited
+pub none_awaited : (m n : Moving) (fact : Fact) (sent sealed : List Item) → AwaitsBlob m fact sent sealed → n.moves ≡ m.moves → IsMoving n sent [] → n.packer.writer.items ≡ [] → length n.moves.items ≤ n.added → ⊥
+none_awaited m n fact sent sealed a moves h none all =
+    let few = slice_get_within m.moves.items m.asked fact a.asked in
+    let long : length n.moves.items ≡ length m.moves.items = ap (λ (v : Vec Fact Global). length v.items) moves in
+    let so_far : List Item = items_so_far sent [] n in
+    let facts : List Fact = take n.added n.moves.items in
+    let same : length (map pair_of_item so_far) ≡ length (map pair_of_fact facts) = ap length h.moved in
+    let b = length-map so_far pair_of_item in
+    let c = length-map facts pair_of_fact in
+    let d = length-take n.added n.moves.items in
+    let e = length-append (sent ++ []) n.packer.writer.items in
+    let f = length-append sent [] in
+    let w : length n.packer.writer.items ≡ 0 = ap length none in
+    let before = a.before in
+    let within = h.within in
+    absurd (omega (arith, few, long, same, b, c, d, e, f, w, before, within, all))
+
 -- the first of a list, and the next one
-one_taken : {X : Type 0} (xs : List X) (i : ℕ) (x : X) → slice_get xs i ≡ Some x → take (i + 1) xs ≡ take i xs ++ x ∷ []
+pub one_taken : {X : Type 0} (xs : List X) (i : ℕ) (x : X) → slice_get xs i ≡ Some x → take (i + 1) xs ≡ take i xs ++ x ∷ []
 one_taken [] i x h = absurd (none-some x h)
 one_taken (y ∷ xs) zero x h = ap (λ z. z ∷ []) (same_Some y x h)
 one_taken (y ∷ xs) (suc i) x h = let s : suc i + 1 ≡ suc (i + 1) = omega arith in ap (λ j. take j (y ∷ xs)) s ∙ ap (λ zs. y ∷ zs) (one_taken xs i x h)

@@ -14,7 +14,7 @@ use Rattle.repo_tree.specs.Spelling.{greatest_depth}
 use Rattle.repo_tree.specs.TreeText.{IsTreeText}
 use Rattle.repo_tree.specs.declared.nodes.Node.{Node}
 use Rattle.repo_tree.specs.declared.nodes.NodeKind.{NodeKind}
-use Rattle.repo_session.proofs.Containing.{none_contained, first_contained, contained_or, flat_contains}
+use Rattle.repo_name.proofs.Containing.{none_contained, first_contained, contained_or, flat_contains}
 use Rattle.repo_session.proofs.Descending.{under_more, under_grows}
 use Rattle.repo_session.specs.Trees.{Under}
 use Rattle.repo_session.specs.declared.outcomes.End.{End}

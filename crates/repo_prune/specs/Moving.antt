@@ -35,9 +35,10 @@ pub record IsMoving (m : Moving) (sent sealed : List Item) : Type 0 where
   pub within : m.added ≤ length m.moves.items
   pub counted : AreCounts m.counts sent
 
--- the blob of this fact is to be asked for: it is the next one, or it was added, and nothing more was sent since
+-- the blob of this fact is to be asked for: it is the next one, or it was added, and nothing more was sent since; what was sent is of facts before it
 pub record AwaitsBlob (m : Moving) (fact : Fact) (sent sealed : List Item) : Type 0 where
   pub moving : IsMoving m sent sealed
+  pub before : length sent ≤ m.asked
   pub asked : slice_get m.moves.items m.asked ≡ Some fact
   pub next : ((m.added ≡ m.asked) × IsOpen m.packer.writer × (m.packer.sealed ≡ None)) ⊎ (m.added ≡ m.asked + 1)
 
@@ -71,6 +72,7 @@ pub record AwaitsStill (old new : Moving) (fact : Fact) (sent : List Item) : Typ
   pub sealed : List Item
   pub awaits : AwaitsBlob new fact sent sealed
   pub listed : new.listed.items ≡ old.listed.items
+  pub moves : new.moves ≡ old.moves
 
 -- a blob was added to the pack that is being written
 pub record Added (old new : Moving) (sent sealed : List Item) : Type 0 where

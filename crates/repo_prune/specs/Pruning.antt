@@ -74,13 +74,14 @@ abbrev pub ListsPack : List PackFacts → Name → Type 0
 ListsPack packs n = (listed : PackFacts) × Contains packs listed × (listed.pack ≡ n)
 
 -- Deletes may begin: each listed snapshot and each listed index was read, and reads; all that was put is done; and these are the packs that the indexes
--- put list, each pack put among them, and they give what the snapshots need.
+-- put list, each with a blob, each pack put among them, and they give what the snapshots need.
 pub record IsSettled (es : Trace) (packs : List PackFacts) : Type 0 where
   pub rows : List Row
   pub snapshots : IsListing es rows
   pub indexes : AreIndexed es
   pub done : AreDone es
   pub listed : AreListed packs [] es
+  pub full : (listed : PackFacts) → Contains packs listed → (fact : Fact) × Contains listed.facts fact
   pub stand : (object : Object) → Contains (objects_put Kind.Pack es) object → ListsPack packs object.name
   pub covered : AreCovered es rows packs
 
@@ -137,6 +138,11 @@ pub record IsPruned (es : Trace) (deleted bytes : ℕ) : Type 0 where
   pub blobs : ℕ
   pub counted : AreCounted es blobs bytes
 
+-- nothing was put, and nothing deleted
+pub record IsUntouched (es : Trace) : Type 0 where
+  pub none_put : (k : Kind) → objects_put k es ≡ []
+  pub none_deleted : NoneDeleted es
+
 -- a tree to which a path leads from the root of a listed snapshot, that was received, and that no directory has
 pub record IsBadTree (es : Trace) (tree : Name) : Type 0 where
   pub snapshot : Name
@@ -164,11 +170,12 @@ PruneAllows es ask = IsReading ask × NoneDeleted es
 abbrev pub PruneGives : Trace → Exchange → Type 0
 PruneGives es e = ⊥
 
--- it tells that it is done, or of a blob that a listed snapshot needs, that no index gives it, or that it is bad
+-- it tells that it is done; or, while nothing was put and nothing deleted, of a blob that a listed snapshot needs, that no index gives it, or of a tree, that
+-- it is bad
 abbrev pub PruneConcludes : Trace → Outcome → Type 0
 PruneConcludes es (Outcome.Pruned packs bytes) = IsPruned es packs bytes
-PruneConcludes es (Outcome.Ended (End.BadObject Thing.Tree tree)) = IsBadTree es tree
-PruneConcludes es (Outcome.Ended (End.Missing thing name)) = (snapshot : Name) × Lists es Kind.Snapshot snapshot × IsUnindexed es snapshot thing name
+PruneConcludes es (Outcome.Ended (End.BadObject Thing.Tree tree)) = IsUntouched es × IsBadTree es tree
+PruneConcludes es (Outcome.Ended (End.Missing thing name)) = IsUntouched es × ((snapshot : Name) × Lists es Kind.Snapshot snapshot × IsUnindexed es snapshot thing name)
 PruneConcludes es _ = ⊥
 
 -- its rule, as a job's

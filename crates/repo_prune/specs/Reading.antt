@@ -15,7 +15,7 @@ use Rattle.repo_session.specs.Trees.{Under, IsNeeded, IsBroken}
 use Rattle.repo_session.specs.declared.outcomes.End.{End}
 use Rattle.repo_reach.specs.Collected.{tree_blobs}
 use Rattle.repo_reach.specs.Laws.{IsWhole}
-use Rattle.repo_reach.specs.Walks.{IsWalk, TurnIs}
+use Rattle.repo_reach.specs.Walks.{IsWalk, TurnIs, Adds, IsSameWalk}
 use Rattle.repo_reach.specs.declared.links.Links.{Links}
 use Rattle.repo_reach.specs.declared.trees.Seen.{Seen}
 use Rattle.repo_reach.specs.declared.trees.Trees.{Trees}
@@ -65,3 +65,11 @@ abbrev pub TakesTree : List Fact → List (List ℕ) → Fact → Say → Trees 
 TakesTree facts texts fact say trees (Walked.Ended end) = ((x : List ℕ) × (say ≡ Say.Bytes x) × IsBadBlob fact x × (end ≡ End.BadObject Thing.Tree fact.name)) ⊎ GoesOnWith facts texts fact say trees (Walked.Ended end)
 TakesTree facts texts fact say trees Walked.Away = IsUnwelcome (range_of fact) say
 TakesTree facts texts fact say trees walked = GoesOnWith facts texts fact say trees walked
+
+-- a tree of this name was seen behind those that were, and the walk went on over all of them
+pub record HasTaken (before : Trees) (name : Name) (after : Trees) : Type 0 where
+  pub added : Trees
+  pub seen : Seen
+  pub named : seen.name ≡ name
+  pub adds : Adds before seen added
+  pub same : IsSameWalk added after

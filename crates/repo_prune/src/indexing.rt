@@ -58,13 +58,20 @@ fn copy_of(alloc: Global, listed: &PackFacts) -> Result<PackFacts, AllocError>
     })
 }
 
+/// Some packs, copied. It fails for memory alone.
+pub fn copies_of(alloc: Global, packs: &[PackFacts]) -> Result<Vec<PackFacts>, AllocError>
+    ensures { IfOk result (λ copies. copies.items ≡ packs.now) }
+{
+    let mut copies = Vec::new(alloc);
+    for pack in packs {
+        copies.push(copy_of(alloc, pack)?)?;
+    }
+    Ok(copies)
+}
+
 /// An index of some packs. It fails for memory alone.
 pub fn index_of(alloc: Global, packs: &[PackFacts]) -> Result<IndexText, AllocError>
     ensures { IfOk result (λ text. text ≡ packs.now) }
 {
-    let mut text = IndexText::of(Vec::new(alloc));
-    for pack in packs {
-        text.push(copy_of(alloc, pack)?)?;
-    }
-    Ok(text)
+    Ok(IndexText::of(copies_of(alloc, packs)?))
 }

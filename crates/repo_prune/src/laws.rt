@@ -2,6 +2,7 @@
 //! contract is the law.
 
 ghost use Rattle.repo_prune.specs.Laws.{ForgetKeepsSound, ForgetEndsWell, ForgetLeavesTheOthers};
+ghost use Rattle.repo_prune.specs.PruneLaws.{PruneKeepsSound, PruneEndsWell, PruneLeavesWhatIsNeeded};
 
 /// A forget alone with its store takes snapshots alone from it, and leaves a sound store sound: after every exchange,
 /// whatever the store answers, and also where the store is one step ahead of it. Premise: no two of the objects, and of
@@ -20,4 +21,23 @@ pub fn forget_ends_well()
 /// by names those that weren't given, by a policy those of which it keeps a row among the snapshots of the store.
 pub fn forget_leaves_the_others()
     ensures { ForgetLeavesTheOthers }
+{}
+
+/// A prune alone with its store leaves the snapshots as they are, and a sound store sound: after every exchange, whatever the
+/// store answers, and also where the store is one step ahead. Premise: no two of the objects, of those that are put, and of the
+/// blobs in their packs, have one name.
+pub fn prune_keeps_sound()
+    ensures { PruneKeepsSound }
+{}
+
+/// A prune alone with a store in which it finds all that it wants, and whose device doesn't fail, is done at its end, or the
+/// store had no memory. Premise: as above.
+pub fn prune_ends_well()
+    ensures { PruneEndsWell }
+{}
+
+/// Where a prune alone with its sound store is done, the store has just what its snapshots need, once: the facts of its
+/// indexes are of blobs that snapshots reach, each such blob has one fact, and so has each blob of each pack. Premise: as above.
+pub fn prune_leaves_what_is_needed()
+    ensures { PruneLeavesWhatIsNeeded }
 {}

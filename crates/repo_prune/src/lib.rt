@@ -2,8 +2,9 @@
 //!
 //! [`keep`] gives the names of the snapshots that a [`Policy`] keeps: of each host the last ones, and the last of each
 //! of the last days. A [`Forget`] is a client that deletes snapshots, those of the names given to it or those that a
-//! policy doesn't keep: a session of repo_session around a job of its own. [`Plan`] says what a prune keeps of the packs
-//! and what it moves, by what the indexes say and which blobs are used.
+//! policy doesn't keep: a session of repo_session around a job of its own. A [`Prune`] is one that removes what no
+//! snapshot needs: it moves used blobs to new packs, lists the packs that stay in new indexes, and deletes the others.
+//! [`Plan`] says what a prune keeps of the packs and what it moves, by what the indexes say and which blobs are used.
 //!
 //! Promised: `keep` gives just the names of the rows that the policy keeps, whatever their order. A forget is a client
 //! of repo_session, so each request was one that the exchanges before it allow, whoever answers: it deletes a listed
@@ -11,30 +12,43 @@
 //! delete. `Forgotten` comes only once the delete of each chosen one is done. Alone with its store it keeps it sound,
 //! ends well, and leaves just the others (`laws`). A plan keeps just the packs of 1 to 4,096 blobs that are all used
 //! copies, and moves just the used copies of the others; of each used blob that an index gives, the used copy is the one
-//! at the least place. Not promised: that a store answers.
+//! at the least place. A prune deletes nothing before all that it puts is done and gives each blob that a listed snapshot
+//! needs, and no pack before the old indexes; it reads nothing after its first delete, and ends `Pruned` once each old
+//! index and each pack that no new index lists is deleted. Not promised: that a store answers.
 //!
 //! The definitions stand in `specs/`: `Keeping` (what a policy keeps), `Forgetting` (which snapshots a forget may
 //! delete, and how it may end); and what is known on the way: `Walks` (how the rows of a host are gone down), `Picking`,
 //! `ForgetStates` and `ForgetObedience`; `Laws` (a forget alone with its store); `Plans` (what a prune keeps and
-//! moves); `Reading` and `Unfound` (its reading of trees); `Moving` (its new packs); `Indexing` (its new indexes);
-//! `Pruning` (what a prune may put and delete, and how it may end: no code goes by it yet, but the laws of all runs are
-//! over it).
+//! moves); `Reading`, `Unfound` and `Deciding` (its reading of trees, and what it decides by them); `Moving` (its new
+//! packs); `Indexing` and `Relisting` (its new indexes); `Deleting` (its deletes); `PruneStates` and `PruneObedience`
+//! (what is known in each of its stages); `Pruning` (what a prune may put and delete, and how it may end).
 #![tactic(auto)]
 
+mod advancing;
 mod choices;
+mod deciding;
+mod deleting;
 mod forgets;
 mod indexing;
 mod keeping;
 mod laws;
+mod listings;
 mod moving;
 mod picking;
 mod plans;
+mod prunes;
 mod reading;
+mod relisting;
+mod replies;
 mod standings;
 mod unfound;
 
 pub use choices::{Choice, ForgetError};
 pub use forgets::Forget;
 pub use keeping::{Policy, keep};
-pub use laws::{forget_ends_well, forget_keeps_sound, forget_leaves_the_others};
+pub use laws::{
+    forget_ends_well, forget_keeps_sound, forget_leaves_the_others, prune_ends_well,
+    prune_keeps_sound, prune_leaves_what_is_needed,
+};
 pub use plans::Plan;
+pub use prunes::Prune;

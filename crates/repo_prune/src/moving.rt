@@ -48,10 +48,10 @@ fn fact_at(facts: &[Fact], at: usize) -> Option<Fact>
 }
 
 impl Moving {
-    /// Nothing was moved yet. It takes no memory.
-    pub fn new(alloc: Global, target: Target, moves: Vec<Fact>) -> Moving
+    /// Nothing was moved yet, and these packs are listed. It takes no memory.
+    pub fn new(alloc: Global, target: Target, listed: Vec<PackFacts>, moves: Vec<Fact>) -> Moving
         ensures moving { IsMoving result [] [] }
-        ensures listed { result.listed.items ≡ [] }
+        ensures listed { result.listed ≡ listed }
         ensures moves { result.moves ≡ moves }
     {
         Moving {
@@ -59,9 +59,16 @@ impl Moving {
             added: 0,
             asked: 0,
             packer: Packer::new(alloc, target),
-            listed: Vec::new(alloc),
+            listed,
             counts: Counts::none(),
         }
+    }
+
+    /// The fact of the blob that was asked for.
+    pub fn awaited(&self) -> Option<Fact>
+        ensures { result ≡ slice_get self.now.moves.items self.now.asked }
+    {
+        fact_at(self.moves.as_slice(), self.asked)
     }
 
     /// Whether a pack is to be sent: one is sealed; or the one that is being written is due, or has the last blobs.
@@ -94,6 +101,7 @@ impl Moving {
         requires { self.old.packer.sealed ≢ None }
         ensures on { IfOk result (λ moved. (sent sealed : List Item) → IsMoving self.old sent sealed → MovesOn sent self.old.listed.items moved self.new) }
         ensures err { OnErr result ((sent sealed : List Item) → IsMoving self.old sent sealed → StaysMoving self.old self.new sent) }
+        ensures moves { self.new.moves ≡ self.old.moves }
     {
         let Some(listed) = self.packer.facts()? else {
             return Ok(Moved::Nothing);
@@ -113,6 +121,7 @@ impl Moving {
     pub fn next(&mut self) -> Result<Moved, AllocError>
         ensures on { IfOk result (λ moved. (sent sealed : List Item) → IsMoving self.old sent sealed → MovesOn sent self.old.listed.items moved self.new) }
         ensures err { OnErr result ((sent sealed : List Item) → IsMoving self.old sent sealed → StaysMoving self.old self.new sent) }
+        ensures moves { self.new.moves ≡ self.old.moves }
     {
         if self.is_due() {
             self.seal()?;
@@ -138,6 +147,7 @@ impl Moving {
         requires named { fact.name ≡ naming.name bytes.now }
         ensures ok { OnOk result ((sent sealed : List Item) → AwaitsBlob self.old fact sent sealed → self.old.added ≡ self.old.asked → Added self.old self.new sent sealed) }
         ensures err { OnErr result ((sent sealed : List Item) → AwaitsBlob self.old fact sent sealed → AwaitsStill self.old self.new fact sent) }
+        ensures moves { self.new.moves ≡ self.old.moves }
     {
         self.packer.add(fact.kind, &fact.name, bytes)?;
         self.added = self.added.saturating_add(1);
@@ -150,6 +160,7 @@ impl Moving {
         requires { fact.name ≡ naming.name bytes.now }
         ensures on { IfOk result (λ moved. (sent sealed : List Item) → AwaitsBlob self.old fact sent sealed → IsBlobLength (length bytes.now) → MovesOn sent self.old.listed.items moved self.new) }
         ensures err { OnErr result ((sent sealed : List Item) → AwaitsBlob self.old fact sent sealed → AwaitsStill self.old self.new fact sent) }
+        ensures moves { self.new.moves ≡ self.old.moves }
     {
         if self.added == self.asked {
             if !self.has_room(bytes) {

@@ -44,7 +44,7 @@ fn those(
 
 /// Those of a list that stand among some names, or those that don't, in the order of the list. It fails for memory
 /// alone.
-fn pick(
+pub fn pick(
     alloc: Global,
     listed: &[Name],
     names: &[Name],

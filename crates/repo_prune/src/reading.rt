@@ -7,7 +7,7 @@ ghost use Rattle.repo_index.specs.declared.facts.Fact.{Fact};
 ghost use Rattle.repo_tree.specs.TreeText.{IsTreeText};
 ghost use Rattle.repo_tree.specs.declared.faults.TreeError.{TreeError};
 ghost use Rattle.repo_reach.specs.Walks.{TurnIs, IsSameWalk};
-ghost use Rattle.repo_prune.specs.Reading.{Walks, Awaits, WalksOn, TakesTree};
+ghost use Rattle.repo_prune.specs.Reading.{Walks, Awaits, WalksOn, TakesTree, HasTaken};
 ghost use Rattle.repo_prune.specs.declared.reading.Walked.{Walked};
 ghost use Rattle.repo_reach.specs.declared.trees.Trees.{Trees};
 ghost use Rattle.repo_session.specs.declared.outcomes.End.{End};
@@ -83,6 +83,7 @@ fn add_tree(
     ensures on { IfOk result (λ walked. (texts : List (List ℕ)) (fact : Fact) (text : List ℕ) → Awaits lookup.now texts trees.old fact → fact.name ≡ name → naming.name text ≡ name → IsTreeText text nodes.now
         → WalksOn lookup.now (texts ++ text ∷ []) trees.new walked) }
     ensures still { OnErr result ((texts : List (List ℕ)) (fact : Fact) → fact.name ≡ name → Awaits lookup.now texts trees.old fact → Awaits lookup.now texts trees.new fact) }
+    ensures taken { IfOk result (λ walked. HasTaken trees.old name trees.new) }
     ensures roots { trees.new.roots ≡ trees.old.roots }
 {
     trees.add(name, nodes)?;
@@ -105,6 +106,7 @@ fn take_bytes(
 ) -> Result<Walked, AllocError>
     ensures on { IfOk result (λ walked. (texts : List (List ℕ)) (fact : Fact) → Awaits lookup.now texts trees.old fact → fact.name ≡ name → naming.name bytes.now ≡ name → WalksOn lookup.now (texts ++ bytes.now ∷ []) trees.new walked) }
     ensures still { OnErr result ((texts : List (List ℕ)) (fact : Fact) → fact.name ≡ name → Awaits lookup.now texts trees.old fact → Awaits lookup.now texts trees.new fact) }
+    ensures taken { IfOk result (λ walked. walked ≡ Walked.Done → HasTaken trees.old name trees.new) }
     ensures roots { trees.new.roots ≡ trees.old.roots }
 {
     match read_tree(alloc, bytes) {
@@ -126,6 +128,7 @@ pub fn take_tree(
 ) -> Result<Walked, AllocError>
     ensures takes { IfOk result (λ walked. (texts : List (List ℕ)) → Awaits lookup.now texts trees.old fact → TakesTree lookup.now texts fact say.now trees.new walked) }
     ensures still { OnErr result ((texts : List (List ℕ)) → Awaits lookup.now texts trees.old fact → Awaits lookup.now texts trees.new fact) }
+    ensures taken { IfOk result (λ walked. walked ≡ Walked.Done → HasTaken trees.old fact.name trees.new) }
     ensures roots { trees.new.roots ≡ trees.old.roots }
 {
     match blob_of(fact, say) {
@@ -134,4 +137,12 @@ pub fn take_tree(
         Fetched::Uneven => Ok(bad_tree(fact.name)),
         Fetched::Unwelcome => Ok(Walked::Away),
     }
+}
+
+/// Takes back the tree of this fact, which was taken last: it is awaited as before. It takes no memory.
+pub fn untake(trees: &mut Trees)
+    ensures still { (facts : List Fact) (texts : List (List ℕ)) (before : Trees) (fact : Fact) → HasTaken before fact.name trees.old → Awaits facts texts before fact → Awaits facts texts trees.new fact }
+    ensures roots { trees.new.roots ≡ trees.old.roots }
+{
+    trees.take_back();
 }

@@ -5,7 +5,7 @@ use Rattle.std.proofs.lemmas.Option.{none-some}
 use Rattle.repo_name.specs.NameMaps.{found, Inserted}
 use Rattle.repo_name.specs.Naming as naming
 use Rattle.repo_name.specs.declared.names.Name.{Name}
-use Rattle.repo_tree.proofs.Containing.{contained_or, first_contained, none_contained}
+use Rattle.repo_name.proofs.Containing.{contained_or, first_contained, none_contained}
 use Rattle.repo_tree.specs.TreeText.{IsTreeText}
 use Rattle.repo_tree.specs.declared.nodes.Node.{Node}
 use Rattle.repo_reach.specs.Collected.{LeadsTo}

@@ -1,11 +1,11 @@
 -- What is known of the trees that were looked at.
-use Rattle.std.proofs.Common.{arith, leb, not, true, false, IsTrue, IsFalse, zero, suc, Vec, Global, ◌≡◌, ◌<◌, ◌≤◌, ◌+◌, ◌⊎◌, ◌++◌, ◌∷◌, [], ℕ, Bool, List, Some, Result, Ok, Err, OnOk, OnErr, slice_get, refl, sym, ap, subst, inl, inr, ⊎_elim, ◌∙◌, Contains}
+use Rattle.std.proofs.Common.{arith, leb, not, true, false, IsTrue, IsFalse, Vec, Global, ◌≡◌, ◌<◌, ◌≤◌, ◌+◌, ◌⊎◌, ◌++◌, ◌∷◌, [], ℕ, Bool, List, Some, Result, Ok, Err, OnOk, OnErr, slice_get, refl, sym, ap, subst, inl, inr, ⊎_elim, ◌∙◌, Contains}
 use Rattle.std.proofs.lemmas.Bool.{cases_Bool, leb-true, leb-false}
 use Rattle.std.proofs.lemmas.List.Elements.{Contains-append_left, Contains-append_right, Contains-append_cases}
-use Rattle.std.proofs.lemmas.Option.{same_Some, none-some}
+use Rattle.std.proofs.lemmas.Option.{same_Some}
 use Rattle.repo_name.specs.NameMaps.{found}
 use Rattle.repo_name.specs.declared.names.Name.{Name}
-use Rattle.repo_tree.proofs.Containing.{contained_or, first_contained, later_contained, none_contained}
+use Rattle.repo_name.proofs.Containing.{contained_or, contains_got, first_contained, none_contained}
 use Rattle.repo_tree.specs.Spelling.{greatest_depth}
 use Rattle.repo_reach.specs.Collected.{LeadsTo}
 use Rattle.repo_reach.specs.Walks.{WasAt, IsLooked, IsMet, StandsAt, AreSeen, HaveMet, IsWalk, IsDue, IsSameSeen}
@@ -52,17 +52,12 @@ counted texts roots root all waiting n there looked h = record {
   to_look = h.to_look;
 }
 
-pub got_in : {X : Type 0} (xs : List X) (i : ℕ) (x : X) → slice_get xs i ≡ Some x → Contains xs x
-got_in [] i x h = absurd (none-some x h)
-got_in (y ∷ xs) zero x h = subst (λ z. Contains (y ∷ xs) z) (same_Some y x h) (first_contained y xs)
-got_in (y ∷ xs) (suc i) x h = later_contained y xs x (got_in xs i x h)
-
 -- ---- over the code's own type
 
 -- what is next of a walk
 pub root_due : (texts : List (List ℕ)) (c : Trees) (visit : Visit) → visit.depth ≡ 0 → slice_get c.roots.items c.root ≡ Some visit.tree → ¬ IsLooked c.seen.items visit.tree visit.depth → IsDue texts c visit
 root_due texts c visit top there fresh = record {
-  leads = subst (λ d. LeadsTo texts c.roots.items d visit.tree) (sym top) (got_in c.roots.items c.root visit.tree there);
+  leads = subst (λ d. LeadsTo texts c.roots.items d visit.tree) (sym top) (contains_got c.roots.items c.root visit.tree there);
   within = omega (arith, top);
   fresh = fresh;
 }

@@ -1,7 +1,5 @@
 -- What a walk that is done came upon is what the roots reach.
-use Rattle.std.proofs.Common.{arith, zero, suc, ◌≡◌, ◌≤◌, ◌+◌, ◌-◌, ◌∷◌, [], ℕ, List, Some, slice_get, refl, sym, ap, subst, inl, inr, ⊎_elim, ◌∙◌, Contains}
-use Rattle.std.specs.List.{flat_map}
-use Rattle.std.proofs.lemmas.List.Elements.{Contains-append_left, Contains-append_right, Contains-append_cases}
+use Rattle.std.proofs.Common.{arith, zero, suc, ◌≡◌, ◌≤◌, ◌+◌, ◌-◌, [], ℕ, List, Some, slice_get, refl, sym, ap, subst, inl, inr, ⊎_elim, ◌∙◌, Contains}
 use Rattle.std.proofs.lemmas.Option.{slice_get_within}
 use Rattle.repo_name.specs.declared.kinds.BlobKind.{BlobKind}
 use Rattle.repo_name.specs.declared.kinds.BlobKind.TheVariants.{Content, Tree}
@@ -11,7 +9,7 @@ use Rattle.repo_tree.specs.Parts.{IsTree, HasNode}
 use Rattle.repo_tree.specs.Spelling.{greatest_depth, NodeReaches, ReachTo}
 use Rattle.repo_tree.specs.declared.nodes.Node.{Node}
 use Rattle.repo_tree.specs.declared.nodes.NodeKind.{NodeKind}
-use Rattle.repo_tree.proofs.Containing.{contained_or, first_contained, none_contained}
+use Rattle.repo_name.proofs.Containing.{contained_or, contains_flat, first_contained, flat_contains, none_contained, stands_at}
 use Rattle.repo_tree.proofs.DirectoryLemmas.{tree_once}
 use Rattle.repo_reach.specs.Collected.{tree_blobs, LeadsTo, IsReached}
 use Rattle.repo_reach.specs.Laws.{IsUsed, IsWhole, UsedIsReached}
@@ -21,22 +19,6 @@ use Rattle.repo_reach.specs.declared.links.Links.{Links}
 use Rattle.repo_reach.specs.declared.trees.Seen.{Seen}
 use Rattle.repo_reach.specs.declared.trees.Trees.{Trees}
 use Rattle.repo_reach.specs.declared.trees.Visit.{Visit}
-
--- ---- lists of lists
-
-in_flat : {X Y : Type 0} (f : X → List Y) (xs : List X) (x : X) (y : Y) → Contains xs x → Contains (f x) y → Contains (flat_map f xs) y
-in_flat f [] x y h g = absurd (none_contained x h)
-in_flat f (z ∷ xs) x y h g = ⊎_elim (λ same. Contains-append_left (f z) (flat_map f xs) y (subst (λ w. Contains (f w) y) (sym same) g))
-    (λ more. Contains-append_right (f z) (flat_map f xs) y (in_flat f xs x y more g)) (contained_or z xs x h)
-
-of_flat : {X Y : Type 0} (f : X → List Y) (xs : List X) (y : Y) → Contains (flat_map f xs) y → (x : X) × Contains xs x × Contains (f x) y
-of_flat f [] y h = absurd (none_contained y h)
-of_flat f (z ∷ xs) y h = ⊎_elim (λ here. (z, first_contained z xs, here))
-    (λ more. (let o = of_flat f xs y more in (o.0, Contains-append_right (z ∷ []) xs o.0 o.1, o.2))) (Contains-append_cases (f z) (flat_map f xs) y h)
-
-place_in : {X : Type 0} (xs : List X) (x : X) → Contains xs x → (i : ℕ) × (slice_get xs i ≡ Some x)
-place_in [] x h = absurd (none_contained x h)
-place_in (y ∷ xs) x h = ⊎_elim (λ same. (0, ap Some same)) (λ more. (let p = place_in xs x more in (suc p.0, p.1))) (contained_or y xs x h)
 
 module _ (texts : List (List ℕ)) (c : Trees) (w : IsWalk texts c) where
   abbrev B : BlobKind → List ℕ → Type 0
@@ -69,7 +51,7 @@ module _ (texts : List (List ℕ)) (c : Trees) (w : IsWalk texts c) where
   up zero t led e k n reach total sum = (t, led, subst (λ d. ReachTo 1 d B t k n) (omega (arith, sum)) reach)
   up (suc depth) t led e k n reach total sum =
       let nodes = led.1 in
-      let from = of_flat (λ (node : Node). trees_in node.what) nodes t led.4 in
+      let from = flat_contains (λ (node : Node). trees_in node.what) nodes t led.4 in
       up depth led.0 led.2 (suc e) k n (inr (from.0, listed led.0 nodes from.0 led.3 from.1, dir_reaches (ReachTo 1 e B) from.0.what t k n from.2 reach)) total (omega (arith, sum))
 
   within : (i : ℕ) (seen : Seen) (depth : ℕ) → slice_get all i ≡ Some seen → WasAt seen depth → depth ≤ greatest_depth
@@ -90,7 +72,7 @@ module _ (texts : List (List ℕ)) (c : Trees) (w : IsWalk texts c) where
       let above = holds.above in
       let text : HasText texts seen.name (Some holds.links) = subst (λ ls. HasText texts seen.name ls) holds.read (w.seen.each h.0 seen h.3).text in
       let nodes = text.1 in
-      let from = of_flat (λ (node : Node). content_in node.what) nodes n (subst (λ ns. Contains ns n) text.5.content holds.among) in
+      let from = flat_contains (λ (node : Node). content_in node.what) nodes n (subst (λ ns. Contains ns n) text.5.content holds.among) in
       let tree : IsTree B seen.name nodes = record { text = text.0; among = (refl, text.2); named = text.3; reads = text.4 } in
       let e = greatest_depth - depth - 1 in
       up depth seen.name (w.met.looked h.0 seen depth h.3 holds.was) (suc e) Content n (inr (from.0, listed seen.name nodes from.0 tree from.1, file_reaches (ReachTo 1 e B) from.0.what n from.2)) greatest_depth (omega (arith, above))
@@ -124,11 +106,11 @@ module _ (texts : List (List ℕ)) (c : Trees) (w : IsWalk texts c) where
         → (node : Node) (what : NodeKind) → Contains nodes node → node.what ≡ what → (k : BlobKind) (n : Name) → NodeReaches (ReachTo 1 d B) what k n → IsUsed all k n
     through d deeper depth sum seen i nodes there was tree node (NodeKind.File size content) among is k n h =
         let links = lead seen i nodes there tree in
-        let has : Contains links.0.content.items n = subst (λ ns. Contains ns n) (sym links.3) (in_flat (λ (z : Node). content_in z.what) nodes node n among (subst (λ z. Contains (content_in z) n) (sym is) h.1)) in
+        let has : Contains links.0.content.items n = subst (λ ns. Contains ns n) (sym links.3) (contains_flat (λ (z : Node). content_in z.what) nodes node n among (subst (λ z. Contains (content_in z) n) (sym is) h.1)) in
         subst (λ j. IsUsed all j n) (sym h.0) (i, seen, depth, there, record { links = links.0; read = links.1; was = was; above = omega (arith, sum); among = has })
     through d deeper depth sum seen i nodes there was tree node (NodeKind.Dir t) among is k n h =
         let links = lead seen i nodes there tree in
-        let has : Contains links.0.trees.items t = subst (λ ns. Contains ns t) (sym links.2) (in_flat (λ (z : Node). trees_in z.what) nodes node t among (subst (λ z. Contains (trees_in z) t) (sym is) (first_contained t []))) in
+        let has : Contains links.0.trees.items t = subst (λ ns. Contains ns t) (sym links.2) (contains_flat (λ (z : Node). trees_in z.what) nodes node t among (subst (λ z. Contains (trees_in z) t) (sym is) (first_contained t []))) in
         deeper (depth + 1) (omega (arith, sum)) t (now_looked t (depth + 1) (w.met.below i seen links.0 depth t there links.1 was (omega (arith, sum)) has)) k n h
 
     down : (d : ℕ) → Down d
@@ -138,7 +120,7 @@ module _ (texts : List (List ℕ)) (c : Trees) (w : IsWalk texts c) where
 
     to_used : (k : BlobKind) (n : Name) → IsReached texts roots k n → IsUsed all k n
     to_used k n h =
-        let p = place_in roots h.0 h.1 in
+        let p = stands_at roots h.0 h.1 in
         let inside = slice_get_within roots p.0 h.0 p.1 in
         let counted = done.roots in
         down greatest_depth 0 (omega arith) h.0 (w.met.begun p.0 h.0 (omega (arith, inside, counted)) p.1) k n h.2

@@ -3,7 +3,7 @@ use Rattle.std.proofs.Common.{arith, zero, suc, ◌≡◌, ◌⊎◌, ◌++◌, 
 use Rattle.std.proofs.lemmas.Option.{same_Some, none-some, slice_get_within}
 use Rattle.repo_name.specs.NameMaps.{found}
 use Rattle.repo_name.specs.declared.names.Name.{Name}
-use Rattle.repo_tree.proofs.Containing.{none_contained}
+use Rattle.repo_name.proofs.Containing.{none_contained}
 use Rattle.repo_reach.specs.Walks.{WasAt, IsWalk, StandsAt, AreSeen, IsSameTree, AreSameTrees, IsSameWalk, Rewinds, Adds, Drops}
 use Rattle.repo_reach.specs.declared.trees.Trees.{Trees}
 use Rattle.repo_reach.specs.declared.trees.Seen.{Seen}

@@ -5,7 +5,7 @@ use Rattle.std.proofs.lemmas.Grind.{reverse_onto}
 use Rattle.std.proofs.lemmas.List.Elements.{Contains-append_left, Contains-append_right, Contains-append_cases}
 use Rattle.std.proofs.lemmas.Option.{same_Some}
 use Rattle.repo_name.specs.declared.names.Name.{Name}
-use Rattle.repo_tree.proofs.Containing.{contained_or, first_contained, later_contained, none_contained}
+use Rattle.repo_name.proofs.Containing.{contained_or, first_contained, later_contained, none_contained}
 use Rattle.repo_tree.specs.Spelling.{greatest_depth}
 use Rattle.repo_reach.specs.Collected.{LeadsTo}
 use Rattle.repo_name.specs.NameMaps.{found}

@@ -16,7 +16,7 @@ use Rattle.repo_name.specs.Naming.{name_cmp}
 use Rattle.repo_name.specs.declared.kinds.BlobKind.{BlobKind}
 use Rattle.repo_name.specs.declared.kinds.BlobKind.TheVariants.{Content, Tree}
 use Rattle.repo_name.specs.declared.names.Name.{Name}
-use Rattle.repo_tree.proofs.Containing.{contained_or, first_contained, none_contained}
+use Rattle.repo_name.proofs.Containing.{contained_or, first_contained, none_contained}
 use Rattle.repo_tree.specs.Spelling.{greatest_depth}
 use Rattle.repo_reach.proofs.Rewinding.{got_left, got_last, got_or}
 use Rattle.repo_reach.specs.Laws.{IsUsed}

@@ -202,6 +202,7 @@ impl Trees {
     /// A walk from some roots that hasn't begun. It takes no memory.
     pub fn new(alloc: Global, roots: Vec<Name>) -> Trees
         ensures walk { IsWalk [] result }
+        ensures none { result.seen.items ≡ [] }
         ensures roots { result.roots ≡ roots }
     {
         Trees {

@@ -24,7 +24,8 @@ use Rattle.repo_restore.specs.Walking.{NodeBegins, StandsIn, WaitsAs, WaitsIn, W
 use Rattle.repo_session.specs.Catalogs.{IsNowhere}
 use Rattle.repo_restore.specs.Walks.{IsWriting, Sums, AtLevel, AtOpen}
 use Rattle.repo_restore.proofs.Rebuilds.{rebuilt_both, writing_new}
-use Rattle.repo_restore.proofs.Trees.{contains_got, node_at, open_more, open_all, close_level}
+use Rattle.repo_name.proofs.Containing.{contains_got}
+use Rattle.repo_restore.proofs.Trees.{node_at, open_more, open_all, close_level}
 
 split : (old mid new last : List Emission) → new ≡ mid ++ last → old ++ new ≡ (old ++ mid) ++ last
 split old mid new last p = ap (λ m. old ++ m) p ∙ sym (append_assoc old mid last)

@@ -26,7 +26,8 @@ use Rattle.repo_restore.specs.Walks.{IsOpen, IsBegun, IsFile, IsWriting, Leads, 
 use Rattle.repo_session.proofs.Descending.{under_more}
 use Rattle.repo_restore.proofs.Rebuilds.{rebuilt_length, writing_more, writing_done}
 use Rattle.repo_restore.proofs.Summing.{one_more, sums_drop}
-use Rattle.repo_restore.proofs.Trees.{LastOpen, leads_push, leads_pop, contains_got, node_at, open_more}
+use Rattle.repo_name.proofs.Containing.{contains_got}
+use Rattle.repo_restore.proofs.Trees.{LastOpen, leads_push, leads_pop, node_at, open_more}
 use Rattle.repo_tree.proofs.SpellingLemmas.{joined_push}
 
 -- what is counted goes on

@@ -1,7 +1,8 @@
 -- What open directories spell.
-use Rattle.std.proofs.Common.{arith, ◌≡◌, ◌≤◌, ◌<◌, ◌+◌, ◌++◌, ◌∷◌, [], ℕ, zero, suc, List, length, take, slice_get, Some, refl, sym, ap, subst, inl, inr, ◌⊎◌, append_assoc, ◌∙◌, Contains}
+use Rattle.std.proofs.Common.{arith, ◌≡◌, ◌≤◌, ◌<◌, ◌+◌, ◌++◌, ◌∷◌, [], ℕ, zero, suc, List, length, take, slice_get, Some, refl, sym, ap, subst, inl, inr, ◌⊎◌, append_assoc, ◌∙◌}
 use Rattle.std.proofs.lemmas.List.{take_all}
-use Rattle.std.proofs.lemmas.Option.{slice_get_within, get_or_from_slice_get}
+use Rattle.std.proofs.lemmas.Option.{slice_get_within}
+use Rattle.repo_name.proofs.Containing.{contains_got}
 use Rattle.repo_name.specs.declared.names.Name.{Name}
 use Rattle.repo_tree.specs.declared.entries.Entry.{Entry}
 use Rattle.repo_tree.specs.declared.nodes.Node.{Node}
@@ -13,9 +14,6 @@ use Rattle.repo_restore.specs.declared.nodes.Level.{Level}
 use Rattle.repo_session.specs.Trees.{IsNodeAt}
 use Rattle.repo_restore.specs.Walks.{IsOpen, IsBegun, Leads, AtLevel, AtOpen}
 use Rattle.repo_restore.proofs.Summing.{one_more}
-
-pub contains_got : {A : Type 0} (xs : List A) (i : ℕ) (x : A) → slice_get xs i ≡ Some x → Contains xs x
-contains_got xs i x p = (i, slice_get_within xs i x p, get_or_from_slice_get xs i x x p)
 
 -- one more node
 pub open_more : (B : Blobs) (root tree : Name) (path : List (List ℕ)) (nodes : List Node) (at : ℕ) (inside : List Entry) (node : Node) (more : List Entry) → IsOpen B root tree path nodes at inside → slice_get nodes at ≡ Some node

@@ -1,11 +1,10 @@
 //! A walk over the trees of a snapshot, node by node.
 
-ghost use Rattle.std.specs.Prelude.{◌≡◌, ◌≢◌, ◌⊎◌, ◌≤◌, ◌<◌, ◌+◌, ◌++◌, ◌∷◌, [], ℕ, List, Bool, true, false, length, take, slice_get, Some, option_map, IfOk, OnOk, OnErr, IsTrue, IsFalse};
+ghost use Rattle.std.specs.Prelude.{◌≡◌, ◌≢◌, ◌⊎◌, ◌≤◌, ◌<◌, ◌+◌, ◌++◌, ◌∷◌, [], ℕ, List, Bool, true, false, length, take, slice_get, Some, option_map, IfOk, OnErr, IsTrue, IsFalse};
 ghost use Rattle.repo_name.specs.Naming as naming;
 ghost use Rattle.repo_name.specs.declared.kinds.BlobKind.{BlobKind};
 ghost use Rattle.repo_name.specs.declared.names.Name.{Name};
 ghost use Rattle.repo_index.specs.declared.facts.Fact.{Fact};
-ghost use Rattle.repo_tree.specs.declared.faults.TreeError.{TreeError};
 ghost use Rattle.repo_tree.specs.declared.nodes.Node.{Node};
 ghost use Rattle.repo_tree.specs.declared.nodes.NodeKind.{NodeKind};
 ghost use Rattle.repo_tree.specs.Parts.{IsTree};
@@ -24,7 +23,7 @@ use crate::steps::{Stop, count_entries, go_on};
 use repo_index::{Fact, Lookup};
 use repo_name::{BlobKind, Bytes, Name, Thing};
 use repo_session::{Emission, End};
-use repo_tree::{Node, NodeKind, Path, TreeError, read_tree};
+use repo_tree::{Node, NodeKind, Path, read_tree};
 use std::alloc::{AllocError, Global};
 
 /// What comes next of a walk.
@@ -50,16 +49,6 @@ pub struct Walk {
 
 /// How many components a path has at most.
 const DEPTH: usize = 100;
-
-/// Fails where there was no memory to read a tree: else its bytes are at fault.
-fn check_fault(error: TreeError) -> Result<(), AllocError>
-    ensures { OnOk result (error ≢ TreeError.Memory) }
-{
-    match error {
-        TreeError::Memory => Err(AllocError),
-        _ => Ok(()),
-    }
-}
 
 /// Some bytes, copied. It fails for memory alone.
 fn copy_of(alloc: Global, bytes: &[u8]) -> Result<Bytes, AllocError>
@@ -287,7 +276,7 @@ impl Walk {
             BlobKind::Tree => match read_tree(self.alloc, bytes) {
                 Ok(nodes) => self.enter(lookup, fact.name, nodes, out),
                 Err(error) => {
-                    check_fault(error)?;
+                    error.check_fault()?;
                     let end = End::BadObject(Thing::Tree, fact.name);
                     Ok(Turn::Ended(end))
                 }

@@ -109,10 +109,10 @@ snapshot_faultless : (x : List ℕ) (s : Snapshot) (fault : TextError) → IsSna
 snapshot_faultless x s TextError.TooLarge reads h = let short = reads.json.short in absurd (omega (arith, h, short))
 snapshot_faultless x s TextError.Json reads h = absurd (h.1 reads.root reads.json)
 snapshot_faultless x s TextError.Shape reads h =
-    let members : HasSnapshot h.0 s = subst (λ d. HasSnapshot d s) (same_Some reads.root h.0 (sym reads.json.reads ∙ h.1.reads)) reads.members in
+    let members : HasSnapshot h.0 s = subst (λ d. HasSnapshot d s) (same_Some reads.root h.0 (sym reads.json.is.reads ∙ h.1.is.reads)) reads.members in
     absurd (⊎_elim (λ misses. misses s.version members.version) (λ misses. misses.1 s members) h.2)
 snapshot_faultless x s TextError.Version reads h =
-    let members : HasSnapshot h.0 s = subst (λ d. HasSnapshot d s) (same_Some reads.root h.0 (sym reads.json.reads ∙ h.2.reads)) reads.members in
+    let members : HasSnapshot h.0 s = subst (λ d. HasSnapshot d s) (same_Some reads.root h.0 (sym reads.json.is.reads ∙ h.2.is.reads)) reads.members in
     absurd (h.4 (same_Some h.1 s.version (sym h.3 ∙ members.version) ∙ reads.known))
 snapshot_faultless x s TextError.Params reads h = absurd h
 snapshot_faultless x s TextError.Memory reads h = refl
@@ -126,13 +126,13 @@ config_faultless : (x : List ℕ) (c : Config) (fault : TextError) → IsConfigT
 config_faultless x c TextError.TooLarge reads h = let short = reads.json.short in absurd (omega (arith, h, short))
 config_faultless x c TextError.Json reads h = absurd (h.1 reads.root reads.json)
 config_faultless x c TextError.Shape reads h =
-    let members : HasConfig h.0 c = subst (λ d. HasConfig d c) (same_Some reads.root h.0 (sym reads.json.reads ∙ h.1.reads)) reads.members in
+    let members : HasConfig h.0 c = subst (λ d. HasConfig d c) (same_Some reads.root h.0 (sym reads.json.is.reads ∙ h.1.is.reads)) reads.members in
     absurd (⊎_elim (λ misses. misses c.version members.version) (λ misses. misses.1 c members) h.2)
 config_faultless x c TextError.Version reads h =
-    let members : HasConfig h.0 c = subst (λ d. HasConfig d c) (same_Some reads.root h.0 (sym reads.json.reads ∙ h.2.reads)) reads.members in
+    let members : HasConfig h.0 c = subst (λ d. HasConfig d c) (same_Some reads.root h.0 (sym reads.json.is.reads ∙ h.2.is.reads)) reads.members in
     absurd (h.4 (same_Some h.1 c.version (sym h.3 ∙ members.version) ∙ reads.known))
 config_faultless x c TextError.Params reads h =
-    let members : HasConfig h.0 c = subst (λ d. HasConfig d c) (same_Some reads.root h.0 (sym reads.json.reads ∙ h.2.reads)) reads.members in
+    let members : HasConfig h.0 c = subst (λ d. HasConfig d c) (same_Some reads.root h.0 (sym reads.json.is.reads ∙ h.2.is.reads)) reads.members in
     let there = h.3 in
     let mins : c.params.min ≡ h.1.params.min = cc (members.min, there.min) in
     let maxs : c.params.max ≡ h.1.params.max = cc (members.max, there.max) in

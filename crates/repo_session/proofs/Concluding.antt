@@ -34,7 +34,7 @@ use Rattle.repo_session.specs.Talks.{Turn, Talk, trace_of, taken_in}
 use Rattle.repo_session.specs.Traces.{Each, Exchange, Trace, Exchanged, WasAsked}
 use Rattle.repo_session.proofs.Calm.{Stands, IsThere, right_step, stands_more}
 use Rattle.repo_session.proofs.Causes.{only_memory}
-use Rattle.repo_session.proofs.Containing.{flat_contains}
+use Rattle.repo_name.proofs.Containing.{flat_contains}
 use Rattle.repo_session.proofs.Growing.{Led, IsNoDelete, Shares, shares_nothing, shares_more, step_config}
 use Rattle.repo_session.proofs.Wholeness.{given_held}
 

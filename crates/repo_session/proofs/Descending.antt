@@ -15,7 +15,7 @@ use Rattle.repo_tree.specs.Laws.{Agree, Grows}
 use Rattle.repo_tree.specs.Parts.{Blobs, IsPart, IsPartText, Chain, GoesOn, IsDirectory, IsPartBy, ListsBy, HasNode}
 use Rattle.repo_tree.specs.Spelling.{Joined, NodeSpells, NodesSpell, SpellsTo, Spells, HasPair, greatest_depth}
 use Rattle.repo_tree.specs.TreeText.{AreInOrder, IsTreeText}
-use Rattle.repo_tree.proofs.Containing.{none_contained, first_contained, contained_or}
+use Rattle.repo_name.proofs.Containing.{none_contained, first_contained, contained_or}
 use Rattle.repo_tree.proofs.DirectoryLemmas.{part_once, lists_once, lists_grow, lists_there, part_grows, node_grows, directory_among, directory_has}
 use Rattle.repo_session.specs.declared.catalogs.Catalog.{Catalog}
 use Rattle.repo_session.specs.Catalogs.{Catalogs, IsAll, IsNowhere}

@@ -21,6 +21,7 @@ use Rattle.repo_session.specs.declared.emissions.Emission.{Emission}
 use Rattle.repo_session.specs.Talks.{Talk, sent_in, taken_in}
 use Rattle.repo_session.specs.Traces.{Trace, Exchanged, WasAsked, Lists, names_in, page_names, giving}
 use Rattle.repo_session.proofs.PageLemmas.{page_or, page_gives}
+use Rattle.repo_name.specs.Limits.{text_limit}
 
 -- ---- a run, step by step
 
@@ -290,7 +291,7 @@ module _ (from old new : Store) (es : Trace) (ask : Ask) (say : Say) (emitted : 
   on_config : (x : List ℕ) → ask ≡ Ask.Config → say ≡ Say.Bytes x → from.config ≡ Some x
   on_config x q s =
       let a : Answers old Ask.Config say new = subst (λ a. Answers old a say new) q (answered old ask say new (no_bytes say x s) step) in
-      sym h.config ∙ got_there 65536 old.config say x s a.0
+      sym h.config ∙ got_there text_limit old.config say x s a.0
 
   on_list : (k : Kind) (n : Name) → Has (page_names k ask say) n → (x : List ℕ) × (new.objects k n ≡ Some x)
   on_list k n g =

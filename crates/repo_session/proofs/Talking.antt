@@ -152,16 +152,16 @@ pub unasked : (request : Request) (contents : Option (List ℕ)) → AskGives re
 unasked request contents = (refl, ([], refl), (0, Appends-nil contents))
 
 -- what asking over a new connection gives
-pub once_asked : (request : Request) (result : Result Reply DriveError) (bytes : List ℕ) (passed : List Reply) (new : Connection) (a b c d : Option (List ℕ)) → Consumes a b bytes
+pub once_asked : (request : Request) → FitsFrame requests request → (result : Result Reply DriveError) (bytes : List ℕ) (passed : List Reply) (new : Connection) (a b c d : Option (List ℕ)) → Consumes a b bytes
     → Each (λ reply. ¬ Answers request reply) passed → Asks request result bytes [] passed new c d → (said : Said) × Consumes a b said.bytes × AskGives request result said c d
-once_asked request (Ok reply) bytes passed new a b c d read others asks =
+once_asked request fits (Ok reply) bytes passed new a b c d read others asks =
     let turn : Turn = record { request = request; passed = passed; reply = reply; emitted = [] } in
     let talk : Talk = turn ∷ [] in
     let heard : BeginsWith bytes (passed ++ reply ∷ []) = begins bytes (passed ++ reply ∷ []) new asks.0.1 in (
       record { bytes = bytes; talk = talk; more = [] },
       read,
-      (passed, refl, (record { passed = others; answers = asks.0.0 }, tt), heard_all bytes talk heard, refl, subst (λ x. Appends c d x) (sym (append-nil (frame (request_body request)))) asks.1),
+      (passed, refl, (record { fits = fits; passed = others; answers = asks.0.0 }, tt), heard_all bytes talk heard, refl, subst (λ x. Appends c d x) (sym (append-nil (frame (request_body request)))) asks.1),
     )
-once_asked request (Err error) bytes passed new a b c d read others asks =
+once_asked request fits (Err error) bytes passed new a b c d read others asks =
     let r = unanswered error request bytes [] passed new (Some request) c c d refl others asks (Appends-nil c) in
     (record { bytes = bytes; talk = []; more = passed }, read, (refl, r.0, r.1))

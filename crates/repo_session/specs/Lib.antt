@@ -9,6 +9,7 @@ pub mod Received
 pub mod Trees
 pub mod Soundness
 pub mod Talks
+pub mod Joined
 pub mod Alone
 pub mod Connections
 pub mod Laws

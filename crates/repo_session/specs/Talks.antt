@@ -5,8 +5,8 @@ use Rattle.std.specs.Io.KnownBytes.{Appends}
 use Rattle.repo_wire.specs.declared.faults.Fault.{Fault}
 use Rattle.repo_wire.specs.declared.messages.Reply.{Reply}
 use Rattle.repo_wire.specs.declared.messages.Request.{Request}
-use Rattle.repo_wire.specs.Messages.{replies, request_body}
-use Rattle.repo_wire.specs.Stream.{frame, AreFrames, IsStream, Fails}
+use Rattle.repo_wire.specs.Messages.{replies, requests, request_body}
+use Rattle.repo_wire.specs.Stream.{frame, FitsFrame, AreFrames, IsStream, Fails}
 use Rattle.repo_store.specs.Runs.{Replies, Run}
 use Rattle.repo_store.specs.Serving.{HaveCause}
 use Rattle.repo_store.specs.Stores.{Store}
@@ -27,8 +27,9 @@ pub record Turn : Type 0 where
 abbrev pub Talk : Type 0
 Talk = List Turn
 
--- the reply is to the request, and those passed over aren't
+-- the request fits a frame; the reply is to it, and those passed over aren't
 pub record IsTurn (turn : Turn) : Type 0 where
+  pub fits : FitsFrame requests turn.request
   pub passed : Each (λ reply. ¬ Answers turn.request reply) turn.passed
   pub answers : Answers turn.request turn.reply
 

@@ -54,13 +54,14 @@ pub use emissions::Emission;
 pub use ends::snapshot_end;
 pub use jobs::{Job, Step};
 pub use laws::{
-    adding_keeps_sound, order_can_be_met, removing_index_keeps_sound, removing_pack_keeps_sound,
-    removing_snapshot_keeps_sound, spelled_snapshot_is_sound,
+    adding_keeps_sound, driving_says, joined_talk_is_a_run, order_can_be_met,
+    removing_index_keeps_sound, removing_pack_keeps_sound, removing_snapshot_keeps_sound,
+    serving_serves, spelled_snapshot_is_sound,
 };
 pub use letters::Letter;
 pub use outcomes::{CheckFault, CheckFaults, End, FaultKind, Outcome, Snapshots};
 pub use readings::Reading;
-pub use results::result_text;
+pub use results::{result_text, thing_word};
 pub use rolls::{Got, Paging, Roll};
 pub use sessions::Session;
 pub use snapshot_rolls::{Mark, SnapshotReading, SnapshotRoll};

@@ -4,6 +4,7 @@ use Rattle.std.specs.Prelude.{ok_or}
 use Rattle.std.proofs.KnownBytes.{Appends-trans}
 use Rattle.std.proofs.Math.Seq.{take-length, take-append_seam, take-append-add}
 use Rattle.std.proofs.lemmas.Bool.{cases_lt}
+use Rattle.std.proofs.lemmas.List.Elements.{All-push}
 use Rattle.std.proofs.lemmas.List.{append-nil}
 use Rattle.std.proofs.lemmas.List.Concat.{flat_map-append}
 use Rattle.repo_wire.specs.declared.faults.Fault.{Fault}
@@ -12,9 +13,10 @@ use Rattle.repo_wire.specs.declared.messages.Code.{Code}
 use Rattle.repo_wire.specs.declared.messages.Reply.{Reply}
 use Rattle.repo_wire.specs.declared.messages.Request.{Request}
 use Rattle.repo_wire.specs.declared.messages.Say.{Say}
+use Rattle.repo_wire.specs.Messages as messages
 use Rattle.repo_wire.specs.Messages.{requests, reply_body}
 use Rattle.repo_wire.specs.Reading.{Reading, Follows, NextMessage, fed}
-use Rattle.repo_wire.specs.Stream.{frame, AreFrames, IsStream, Waits, Fails}
+use Rattle.repo_wire.specs.Stream.{frame, FitsFrame, AreFrames, IsStream, Waits, Fails}
 use Rattle.repo_wire.proofs.Streams.{readers_follow}
 use Rattle.repo_store.specs.declared.services.Service.{Service}
 use Rattle.repo_store.specs.declared.forms.ServiceError.{ServiceError}
@@ -98,12 +100,13 @@ module _ (form : List ℕ → List ℕ) (before : Moment) where
 
   pub answered_next : {F : Type 0} (service : Service F) (new : Reading) (past : Past) (mid after : Moment) (request : Request) (reply : Reply)
       → Has form before service past mid → NextMessage requests service.reader (Ok (Some request)) new → Replies mid.store request reply after.store
-      → SaysFault mid.failures reply.say after.failures → Answered new (with_reply past request reply) after
-  answered_next service new past mid after request reply has given replies cause = record {
+      → SaysFault mid.failures reply.say after.failures → FitsFrame messages.replies reply → Answered new (with_reply past request reply) after
+  answered_next service new past mid after request reply has given replies cause fits = record {
     follows = (readers_follow requests).given past.bytes past.asked request service.reader new has.reader given;
     answered = (
       run_on before.store past.asked past.replies mid.store request reply after.store has.answered.0 replies,
       causes_on before.failures mid.failures after.failures past.replies reply has.answered.1 cause,
+      All-push (FitsFrame messages.replies) past.replies reply has.answered.2 fits,
     );
   }
 

@@ -1,12 +1,13 @@
-use Rattle.std.specs.Prelude.{◌≡◌, ◌≢◌, ◌⊎◌, ◌≤◌, ◌<◌, ◌^◌, ◌++◌, ◌∷◌, [], ℕ, List, length, take, flat_map, Option, Result, Ok, Err}
+use Rattle.std.specs.Prelude.{◌≡◌, ◌≢◌, ◌⊎◌, ◌≤◌, ◌<◌, ◌^◌, ◌++◌, ◌∷◌, [], ℕ, List, All, length, take, flat_map, Option, Result, Ok, Err}
 use Rattle.std.specs.Io.KnownBytes.{Appends, Consumes, IsAtEnd}
 use Rattle.repo_wire.specs.declared.faults.Fault.{Fault}
 use Rattle.repo_wire.specs.declared.messages.Code.{Code}
 use Rattle.repo_wire.specs.declared.messages.Reply.{Reply}
 use Rattle.repo_wire.specs.declared.messages.Request.{Request}
 use Rattle.repo_wire.specs.declared.messages.Say.{Say}
+use Rattle.repo_wire.specs.Messages as messages
 use Rattle.repo_wire.specs.Messages.{requests, reply_body}
-use Rattle.repo_wire.specs.Stream.{frame, AreFrames, IsStream, Ending, Waits, Fails}
+use Rattle.repo_wire.specs.Stream.{frame, FitsFrame, AreFrames, IsStream, Ending, Waits, Fails}
 use Rattle.repo_store.specs.declared.serving.ServeError.{ServeError}
 use Rattle.repo_store.specs.Laws.{greatest_count}
 use Rattle.repo_store.specs.Runs.{Run}
@@ -44,9 +45,9 @@ TellsFault (reply ∷ replies) = (reply.say ≡ Say.Refused Code.Fault) ⊎ Tell
 abbrev pub HaveCause : ℕ → List Reply → ℕ → Type 0
 HaveCause old replies new = (old ≤ new) × (TellsFault replies → (old < new) ⊎ (new ≡ greatest_count))
 
--- a run of the machine over the requests gave the replies, and led from one store to the other
+-- a run of the machine over the requests gave the replies, and led from one store to the other; and each reply fits a frame
 abbrev pub IsAnswered : Moment → Past → Moment → Type 0
-IsAnswered before past after = Run before.store past.asked past.replies after.store × HaveCause before.failures past.replies after.failures
+IsAnswered before past after = Run before.store past.asked past.replies after.store × HaveCause before.failures past.replies after.failures × All (FitsFrame messages.replies) past.replies
 
 -- the bytes read as the requests and this ending, each was answered, and the frames of all replies were written
 pub record AllServed (form : List ℕ → List ℕ) (before : Moment) (past : Past) (ending : Ending) (after : Moment) : Type 0 where

@@ -20,20 +20,21 @@ use Rattle.repo_store.specs.Laws.{greatest_count}
 use Rattle.repo_store.specs.Pages.{IsPage}
 use Rattle.repo_store.specs.Slices.{IsSlice}
 use Rattle.repo_store.specs.Stores.{Store, PutsObject, RemovesObject, SavesTokens}
+use Rattle.repo_name.specs.Limits.{blob_limit, index_limit, pack_limit, text_limit}
 
 -- the most bytes of an object of each kind
 abbrev pub object_limit : Kind → ℕ
-object_limit Kind.Pack = 25317379
-object_limit Kind.Index = 8388608
-object_limit Kind.Snapshot = 65536
+object_limit Kind.Pack = pack_limit
+object_limit Kind.Index = index_limit
+object_limit Kind.Snapshot = text_limit
 
 -- the most bytes of a config
 abbrev pub config_limit : ℕ
-config_limit = 65536
+config_limit = text_limit
 
 -- the most bytes that are asked for of a pack at once
 abbrev pub range_limit : ℕ
-range_limit = 8388608
+range_limit = blob_limit
 
 -- a length that may be asked for of a pack
 abbrev pub IsRangeLength : ℕ → Type 0

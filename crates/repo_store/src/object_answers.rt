@@ -5,35 +5,32 @@ ghost use Rattle.repo_name.specs.declared.names.Name.{Name};
 ghost use Rattle.repo_wire.specs.declared.messages.Ask.{Ask};
 ghost use Rattle.repo_wire.specs.Messages.{IsSay, IsShortSay};
 ghost use Rattle.repo_store.specs.StoreMachine.{object_limit, config_limit, range_limit, GetSays, IsRuledOut, Step, SaysFault};
+ghost use Rattle.repo_name.specs.Limits.{fields_limit};
 
 use crate::answers::refusal;
 use crate::shelves::{Shelf, Slice};
-use repo_name::{Bytes, Kind, Name, Token, name_of};
+use repo_name::{
+    BLOB_LIMIT, Bytes, INDEX_LIMIT, Kind, Name, PACK_LIMIT, TEXT_LIMIT, Token, name_of,
+};
 use repo_wire::{Code, Say};
 
 /// The most names of a page.
 const PAGE: usize = 256;
-
-/// The most bytes of a config.
-const CONFIG: usize = 65_536;
-
-/// The most bytes that are asked for of a pack at once.
-const RANGE: u32 = 8_388_608;
 
 /// The most bytes of an object of this kind.
 fn limit_of(kind: Kind) -> usize
     ensures { result ≡ object_limit kind }
 {
     match kind {
-        Kind::Pack => 25_317_379,
-        Kind::Index => 8_388_608,
-        Kind::Snapshot => 65_536,
+        Kind::Pack => PACK_LIMIT,
+        Kind::Index => INDEX_LIMIT,
+        Kind::Snapshot => TEXT_LIMIT,
     }
 }
 
 /// What is said of bytes that are there or not, and have a limit.
 fn say_of(found: Option<Bytes>, limit: usize) -> Say
-    requires { limit ≤ 26214375 }
+    requires { limit ≤ fields_limit }
     ensures says { GetSays limit found result }
     ensures within { IsSay result × IsShortSay result }
 {
@@ -88,7 +85,7 @@ pub fn answer_config<S: Shelf>(shelf: &mut S) -> Say
     ensures within { IsSay result × IsShortSay result }
 {
     match shelf.config() {
-        Ok(found) => say_of(found, CONFIG),
+        Ok(found) => say_of(found, TEXT_LIMIT),
         Err(error) => refusal(error),
     }
 }
@@ -101,7 +98,7 @@ pub fn answer_range<S: Shelf>(shelf: &mut S, pack: &Name, offset: u32, length: u
     ensures quiet { S.writes shelf.new ≡ S.writes shelf.old }
     ensures within { IsSay result × IsShortSay result }
 {
-    if length == 0 || length > RANGE {
+    if length == 0 || length as usize > BLOB_LIMIT {
         return Say::Refused(Code::Malformed);
     }
     match shelf.range(pack, offset, length) {

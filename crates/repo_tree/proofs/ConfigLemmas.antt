@@ -10,10 +10,11 @@ use Rattle.repo_name.specs.declared.names.Instance.{Instance}
 use Rattle.repo_chunk.specs.Parameters.{AreLawful}
 use Rattle.repo_tree.specs.ConfigText.{HasConfig, IsTarget, IsConfigText, config_data, config_text}
 use Rattle.repo_tree.specs.declared.configs.Config.{Config}
-use Rattle.repo_tree.proofs.LengthLemmas.{text_short, decimal_short, member_short}
+use Rattle.repo_json.proofs.LengthLemmas.{text_short, decimal_short, member_short}
+use Rattle.repo_name.specs.Limits.{text_limit}
 
 -- it is far from 65,536 bytes
-pub config_short : (c : Config) → AreLawful c.params → IsTarget c.target → IsInstance c.id → c.version ≡ 1 → length (config_text c) ≤ 65536
+pub config_short : (c : Config) → AreLawful c.params → IsTarget c.target → IsInstance c.id → c.version ≡ 1 → length (config_text c) ≤ text_limit
 config_short c lawful target instance version =
     let sixth : Members = member (codes "version") (number (unsigned c.version)) no_members in
     let fifth : Members = member (codes "pack_target") (number (unsigned c.target)) sixth in
@@ -49,7 +50,7 @@ pub config_reads : (c : Config) (text : List ℕ) → AreLawful c.params → IsT
     → text ≡ config_text c → IsUtf8 text → read text ≡ Some (config_data c) → IsConfigText text c
 config_reads c text lawful target instance version is utf8 reads = record {
   root = config_data c;
-  json = record { short = rw is (config_short c lawful target instance version); utf8 = utf8; reads = reads };
+  json = record { short = rw is (config_short c lawful target instance version); is = record { utf8 = utf8; reads = reads } };
   members = record { version = refl; id = refl; instance = instance; min = refl; max = refl; bits = refl; target = refl };
   known = version;
   allowed = (lawful, target);
@@ -66,7 +67,7 @@ instance_one a b ia ib h =
 -- a text is that of one config
 pub config_texts_one : (bytes : List ℕ) (c d : Config) → IsConfigText bytes c → IsConfigText bytes d → c ≡ d
 config_texts_one bytes c d h g =
-    let roots : g.root ≡ h.root = cc (h.json.reads, g.json.reads) in
+    let roots : g.root ≡ h.root = cc (h.json.is.reads, g.json.is.reads) in
     let k : HasConfig h.root d = subst (λ (r : Data). HasConfig r d) roots g.members in
     let versions : c.version ≡ d.version = cc (h.members.version, k.version) in
     let texts : encode_lower c.id.0 ≡ encode_lower d.id.0 = cc (h.members.id, k.id) in

@@ -1,9 +1,7 @@
 pub mod NameLemmas
 pub mod TreeLemmas
-pub mod Containing
 pub mod DirectoryLemmas
 pub mod SpellingLemmas
-pub mod LengthLemmas
 pub mod SnapshotLemmas
 pub mod ConfigLemmas
 pub mod ItemLemmas

@@ -9,12 +9,13 @@ use Rattle.repo_name.specs.Naming.{hex_of, IsName}
 use Rattle.repo_name.specs.Rows.{IsHost}
 use Rattle.repo_tree.specs.SnapshotText.{HasSnapshot, IsSnapshotText, snapshot_data, snapshot_text}
 use Rattle.repo_tree.specs.declared.snapshots.Snapshot.{Snapshot}
-use Rattle.repo_tree.proofs.NameLemmas.{hex_one}
-use Rattle.repo_tree.proofs.LengthLemmas.{text_short, decimal_short, member_short}
+use Rattle.repo_json.proofs.NameLemmas.{hex_one}
+use Rattle.repo_json.proofs.LengthLemmas.{text_short, decimal_short, member_short}
+use Rattle.repo_name.specs.Limits.{text_limit}
 
 -- it is far from 65,536 bytes
 pub snapshot_short : (s : Snapshot) → IsHost s.host → s.time < 2 ^ 64 → s.token.0 < 2 ^ 64 → IsName s.tree → s.version ≡ 1
-    → length (snapshot_text s) ≤ 65536
+    → length (snapshot_text s) ≤ text_limit
 snapshot_short s host time token tree version =
     let last = member_short true (codes "version") (number (unsigned s.version)) no_members in
     let fourth = member_short true (codes "tree") (string (hex_of s.tree)) (member (codes "version") (number (unsigned s.version)) no_members) in
@@ -43,7 +44,7 @@ pub snapshot_reads : (s : Snapshot) (text : List ℕ) → IsHost s.host → s.ti
     → text ≡ snapshot_text s → IsUtf8 text → read text ≡ Some (snapshot_data s) → IsSnapshotText text s
 snapshot_reads s text host time token tree version is utf8 reads = record {
   root = snapshot_data s;
-  json = record { short = rw is (snapshot_short s host time token tree version); utf8 = utf8; reads = reads };
+  json = record { short = rw is (snapshot_short s host time token tree version); is = record { utf8 = utf8; reads = reads } };
   members = record { version = refl; host = refl; lawful = host; time = refl; token = refl; tree = refl; named = tree };
   known = version;
 }
@@ -51,7 +52,7 @@ snapshot_reads s text host time token tree version is utf8 reads = record {
 -- a text is that of one snapshot
 pub snapshot_texts_one : (bytes : List ℕ) (s r : Snapshot) → IsSnapshotText bytes s → IsSnapshotText bytes r → s ≡ r
 snapshot_texts_one bytes s r h g =
-    let roots : g.root ≡ h.root = cc (h.json.reads, g.json.reads) in
+    let roots : g.root ≡ h.root = cc (h.json.is.reads, g.json.is.reads) in
     let k : HasSnapshot h.root r = subst (λ (d : Data). HasSnapshot d r) roots g.members in
     let hosts : s.host ≡ r.host = cc (h.members.host, k.host) in
     let times : s.time ≡ r.time = cc (h.members.time, k.time) in

@@ -11,17 +11,19 @@ use Rattle.serde_json.specs.declared.value.Value.{Value}
 use Rattle.repo_name.specs.Naming.{hex_of}
 use Rattle.repo_name.specs.declared.names.Name.{Name}
 use Rattle.repo_tree.specs.Components.{IsComponent}
-use Rattle.repo_tree.specs.JsonText.{text_at}
+use Rattle.repo_json.specs.JsonText.{text_at}
 use Rattle.repo_tree.specs.Named.{AreNamed}
-use Rattle.repo_tree.specs.TreeText.{name_items, IsKind, BeginsWith, AreInOrder, Follows, IsTreeText}
+use Rattle.repo_tree.specs.TreeText.{name_items, IsKind, IsNode, AreInOrder, Follows, IsTreeText}
+use Rattle.repo_json.specs.Listing.{AreAll}
 use Rattle.repo_tree.specs.TreeWriting.{kind_data, node_items, tree_data, tree_text, IsSized, AreWritable, NodeFault, NodesFault}
 use Rattle.repo_tree.specs.declared.faults.TreeError.{TreeError}
 use Rattle.repo_tree.specs.declared.faults.TreeError.TheVariants as fault
 use Rattle.repo_tree.specs.declared.nodes.Node.{Node}
 use Rattle.repo_tree.specs.declared.nodes.NodeKind.{NodeKind}
 use Rattle.repo_tree.specs.declared.nodes.NodeKind.TheVariants.{File, Dir}
-use Rattle.repo_tree.proofs.ItemLemmas.{drop_here}
+use Rattle.repo_json.proofs.ListingLemmas.{drop_here}
 use Rattle.repo_tree.proofs.OrderLemmas.{in_order_push, in_order_at}
+use Rattle.repo_name.specs.Limits.{blob_limit}
 
 -- ---- lists that grow at their end
 
@@ -142,7 +144,7 @@ kind_reads : (name : List ℕ) (k : NodeKind) → IsSized k → AreNamed k → (
 kind_reads name (File size content) sized named = (refl, (refl, refl, sized, refl, named))
 kind_reads name (Dir subtree) sized named = (refl, (refl, refl, named))
 
-nodes_read : (ns : List Node) → All (λ n. IsSized n.what) ns → All (λ n. AreNamed n.what) ns → BeginsWith (node_items ns) ns no_items
+nodes_read : (ns : List Node) → All (λ n. IsSized n.what) ns → All (λ n. AreNamed n.what) ns → AreAll IsNode (node_items ns) ns
 nodes_read [] sized named = refl
 nodes_read (n ∷ ns) sized named = (
   kind_reads n.name n.what (All-head (λ m. IsSized m.what) n ns sized) (All-head (λ m. AreNamed m.what) n ns named),
@@ -150,10 +152,10 @@ nodes_read (n ∷ ns) sized named = (
 )
 
 -- the written text is that of the tree
-pub tree_reads : (ns : List Node) (text : List ℕ) → AreWritable ns → All (λ n. AreNamed n.what) ns → length text ≤ 8388608 → IsUtf8 text
+pub tree_reads : (ns : List Node) (text : List ℕ) → AreWritable ns → All (λ n. AreNamed n.what) ns → length text ≤ blob_limit → IsUtf8 text
     → read text ≡ Some (tree_data ns) → IsTreeText text ns
 tree_reads ns text writable named short utf8 reads = record {
   root = tree_data ns;
-  json = record { short = short; utf8 = utf8; reads = reads };
+  json = record { short = short; is = record { utf8 = utf8; reads = reads } };
   tree = record { items = node_items ns; listed = refl; nodes_are = nodes_read ns writable.0 named; ordered = writable.1 };
 }

@@ -5,10 +5,12 @@ use Rattle.serde_json.specs.Written.{compact_text}
 use Rattle.hex.specs.Hex.{encode_lower}
 use Rattle.repo_name.specs.Naming.{IsInstance}
 use Rattle.repo_chunk.specs.Parameters.{AreLawful}
-use Rattle.repo_tree.specs.JsonText.{IsJson, number_at, text_at}
+use Rattle.repo_json.specs.JsonText.{number_at, text_at}
+use Rattle.repo_tree.specs.ShortJson.{IsShortJson}
 use Rattle.repo_tree.specs.declared.configs.Config.{Config}
 use Rattle.repo_tree.specs.declared.faults.TextError.{TextError}
 use Rattle.repo_tree.specs.declared.faults.TextError.TheVariants as fault
+use Rattle.repo_name.specs.Limits.{greatest_target, least_target, text_limit}
 
 -- the value has the members of this config; what other members it has is of no account
 pub record HasConfig (d : Data) (c : Config) : Type 0 where
@@ -22,7 +24,7 @@ pub record HasConfig (d : Data) (c : Config) : Type 0 where
 
 -- the length at which a pack is closed is between 1,024 and 16,777,216 bytes
 abbrev pub IsTarget : ℕ → Type 0
-IsTarget target = (1024 ≤ target) × (target ≤ 16777216)
+IsTarget target = (least_target ≤ target) × (target ≤ greatest_target)
 
 -- the parameters are ones that a repository may have
 abbrev pub AreAllowed : Config → Type 0
@@ -31,7 +33,7 @@ AreAllowed c = AreLawful c.params × IsTarget c.target
 -- The text of a config: at most 65,536 bytes of JSON with its members, of the one version that is known.
 pub record IsConfigText (bytes : List ℕ) (c : Config) : Type 0 where
   pub root : Data
-  pub json : IsJson 65536 bytes root
+  pub json : IsShortJson text_limit bytes root
   pub members : HasConfig root c
   pub known : c.version ≡ 1
   pub allowed : AreAllowed c
@@ -53,12 +55,12 @@ MissesConfig d = ((v : ℕ) → number_at (codes "version") d ≢ Some v)
 
 -- The first fault of bytes that are no config's text. Without memory it isn't known whether they are one.
 abbrev pub ConfigFault : List ℕ → TextError → Type 0
-ConfigFault bytes fault.TooLarge = 65536 < length bytes
-ConfigFault bytes fault.Json = (length bytes ≤ 65536) × ((d : Data) → ¬ IsJson 65536 bytes d)
-ConfigFault bytes fault.Shape = (d : Data) × IsJson 65536 bytes d × MissesConfig d
-ConfigFault bytes fault.Version = (d : Data) × (v : ℕ) × IsJson 65536 bytes d × (number_at (codes "version") d ≡ Some v) × (v ≢ 1)
-ConfigFault bytes fault.Params = (d : Data) × (c : Config) × IsJson 65536 bytes d × HasConfig d c × (c.version ≡ 1) × ¬ AreAllowed c
-ConfigFault bytes fault.Memory = length bytes ≤ 65536
+ConfigFault bytes fault.TooLarge = text_limit < length bytes
+ConfigFault bytes fault.Json = (length bytes ≤ text_limit) × ((d : Data) → ¬ IsShortJson text_limit bytes d)
+ConfigFault bytes fault.Shape = (d : Data) × IsShortJson text_limit bytes d × MissesConfig d
+ConfigFault bytes fault.Version = (d : Data) × (v : ℕ) × IsShortJson text_limit bytes d × (number_at (codes "version") d ≡ Some v) × (v ≢ 1)
+ConfigFault bytes fault.Params = (d : Data) × (c : Config) × IsShortJson text_limit bytes d × HasConfig d c × (c.version ≡ 1) × ¬ AreAllowed c
+ConfigFault bytes fault.Memory = length bytes ≤ text_limit
 
 -- the first fault of a config that has no text
 abbrev pub ConfigIsUnwritable : Config → TextError → Type 0

@@ -1,13 +1,13 @@
 -- The definitions that the contracts of this crate cite.
 pub mod Components
-pub mod JsonText
-pub mod Faults
-pub mod SnapshotText
 pub mod ConfigText
-pub mod TreeText
-pub mod TreeWriting
+pub mod Faults
+pub mod Laws
 pub mod Named
 pub mod Parts
-pub mod Spelling
-pub mod Laws
 pub mod Paths
+pub mod ShortJson
+pub mod SnapshotText
+pub mod Spelling
+pub mod TreeText
+pub mod TreeWriting

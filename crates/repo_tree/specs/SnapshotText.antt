@@ -4,10 +4,12 @@ use Rattle.serde_json.specs.Data.{Data, string, number, unsigned, object, member
 use Rattle.serde_json.specs.Written.{compact_text}
 use Rattle.repo_name.specs.Naming.{hex_of, IsName}
 use Rattle.repo_name.specs.Rows.{IsHost}
-use Rattle.repo_tree.specs.JsonText.{IsJson, number_at, text_at}
+use Rattle.repo_json.specs.JsonText.{number_at, text_at}
+use Rattle.repo_tree.specs.ShortJson.{IsShortJson}
 use Rattle.repo_tree.specs.declared.snapshots.Snapshot.{Snapshot}
 use Rattle.repo_tree.specs.declared.faults.TextError.{TextError}
 use Rattle.repo_tree.specs.declared.faults.TextError.TheVariants as fault
+use Rattle.repo_name.specs.Limits.{text_limit}
 
 -- the value has the members of this snapshot; what other members it has is of no account
 pub record HasSnapshot (d : Data) (s : Snapshot) : Type 0 where
@@ -22,7 +24,7 @@ pub record HasSnapshot (d : Data) (s : Snapshot) : Type 0 where
 -- The text of a snapshot: at most 65,536 bytes of JSON with its members, of the one version that is known.
 pub record IsSnapshotText (bytes : List ℕ) (s : Snapshot) : Type 0 where
   pub root : Data
-  pub json : IsJson 65536 bytes root
+  pub json : IsShortJson text_limit bytes root
   pub members : HasSnapshot root s
   pub known : s.version ≡ 1
 
@@ -43,12 +45,12 @@ MissesSnapshot d = ((v : ℕ) → number_at (codes "version") d ≢ Some v)
 
 -- The first fault of bytes that are no snapshot's text. Without memory it isn't known whether they are one.
 abbrev pub SnapshotFault : List ℕ → TextError → Type 0
-SnapshotFault bytes fault.TooLarge = 65536 < length bytes
-SnapshotFault bytes fault.Json = (length bytes ≤ 65536) × ((d : Data) → ¬ IsJson 65536 bytes d)
-SnapshotFault bytes fault.Shape = (d : Data) × IsJson 65536 bytes d × MissesSnapshot d
-SnapshotFault bytes fault.Version = (d : Data) × (v : ℕ) × IsJson 65536 bytes d × (number_at (codes "version") d ≡ Some v) × (v ≢ 1)
+SnapshotFault bytes fault.TooLarge = text_limit < length bytes
+SnapshotFault bytes fault.Json = (length bytes ≤ text_limit) × ((d : Data) → ¬ IsShortJson text_limit bytes d)
+SnapshotFault bytes fault.Shape = (d : Data) × IsShortJson text_limit bytes d × MissesSnapshot d
+SnapshotFault bytes fault.Version = (d : Data) × (v : ℕ) × IsShortJson text_limit bytes d × (number_at (codes "version") d ≡ Some v) × (v ≢ 1)
 SnapshotFault bytes fault.Params = ⊥
-SnapshotFault bytes fault.Memory = length bytes ≤ 65536
+SnapshotFault bytes fault.Memory = length bytes ≤ text_limit
 
 -- the first fault of a snapshot that has no text
 abbrev pub SnapshotIsUnwritable : Snapshot → TextError → Type 0

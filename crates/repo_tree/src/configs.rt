@@ -6,7 +6,7 @@ ghost use Rattle.hex.specs.Hex.{encode_lower};
 ghost use Rattle.repo_name.specs.Naming.{IsInstance};
 ghost use Rattle.repo_name.specs.declared.names.Instance.{Instance};
 ghost use Rattle.repo_chunk.specs.Parameters.{AreLawful};
-ghost use Rattle.repo_tree.specs.JsonText.{number_at, text_at};
+ghost use Rattle.repo_json.specs.JsonText.{number_at, text_at};
 ghost use Rattle.repo_tree.specs.ConfigText.{HasConfig, IsTarget, AreAllowed, IsConfigText, config_data, config_text, ConfigFault, ConfigIsUnwritable};
 ghost use Rattle.repo_tree.specs.declared.configs.Config.{Config};
 ghost use Rattle.repo_tree.specs.declared.faults.TextError.{TextError};
@@ -15,12 +15,9 @@ use crate::faults::TextError;
 use crate::json::{known_version, parse};
 use hex::FromHex;
 use repo_chunk::Params;
-use repo_name::Instance;
+use repo_name::{GREATEST_TARGET, Instance, LEAST_TARGET, TEXT_LIMIT};
 use serde_json::{Value, json};
 use std::alloc::{AllocError, Global};
-
-/// The greatest length of a config's text, in bytes.
-const LIMIT: usize = 65_536;
 
 /// What is fixed when a repository is made.
 #[derive(Clone, Copy, Debug, PartialEq, Eq)]
@@ -64,7 +61,7 @@ fn digits_of(alloc: Global, id: Instance) -> Result<String, AllocError>
 fn is_target(target: u64) -> bool
     ensures { IsTrue result ↔ IsTarget target }
 {
-    (1_024..=16_777_216).contains(&target)
+    (LEAST_TARGET..=GREATEST_TARGET).contains(&target)
 }
 
 /// The config whose members a value of a known version has.
@@ -137,7 +134,7 @@ impl Config {
         ensures fault { IfErr result (ConfigFault bytes.now) }
         ensures none { IfErr result (λ e. e ≢ TextError.Memory → (c : Config) → ¬ IsConfigText bytes.now c) }
     {
-        let value = parse(alloc, bytes, LIMIT)?;
+        let value = parse(alloc, bytes, TEXT_LIMIT)?;
         match known_version(&value) {
             None => Err(TextError::Shape),
             Some(false) => Err(TextError::Version),

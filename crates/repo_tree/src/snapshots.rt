@@ -4,19 +4,16 @@ ghost use Rattle.std.specs.Prelude.{◌≡◌, ◌≢◌, ◌<◌, ◌^◌, leng
 ghost use Rattle.serde_json.specs.Data.{Data};
 ghost use Rattle.serde_json.specs.View.{view};
 ghost use Rattle.repo_name.specs.Naming.{IsName};
-ghost use Rattle.repo_tree.specs.JsonText.{number_at};
+ghost use Rattle.repo_json.specs.JsonText.{number_at};
 ghost use Rattle.repo_tree.specs.SnapshotText.{HasSnapshot, IsSnapshotText, snapshot_data, snapshot_text, SnapshotFault, SnapshotIsUnwritable};
 ghost use Rattle.repo_tree.specs.declared.snapshots.Snapshot.{Snapshot};
 ghost use Rattle.repo_tree.specs.declared.faults.TextError.{TextError};
 
 use crate::faults::TextError;
-use crate::json::{is_host, known_version, name_at, parse};
-use repo_name::{Name, Text, Token};
+use crate::json::{known_version, name_at, parse};
+use repo_name::{Name, TEXT_LIMIT, Text, Token, is_host};
 use serde_json::{Value, json};
 use std::alloc::{AllocError, Global};
-
-/// The greatest length of a snapshot's text, in bytes.
-const LIMIT: usize = 65_536;
 
 /// What a backup of a host left: the name of a tree.
 #[derive(Clone, Debug, Drop)]
@@ -90,7 +87,7 @@ impl Snapshot {
         ensures fault { IfErr result (SnapshotFault bytes.now) }
         ensures none { IfErr result (λ e. e ≢ TextError.Memory → (s : Snapshot) → ¬ IsSnapshotText bytes.now s) }
     {
-        let value = parse(alloc, bytes, LIMIT)?;
+        let value = parse(alloc, bytes, TEXT_LIMIT)?;
         match known_version(&value) {
             None => Err(TextError::Shape),
             Some(false) => Err(TextError::Version),

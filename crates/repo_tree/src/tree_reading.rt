@@ -1,31 +1,27 @@
 //! Tree texts, read.
 
 ghost use Rattle.std.specs.Prelude.{◌≡◌, ◌≢◌, ◌<◌, ◌↔◌, ℕ, List, length, codes, Some, Err, IfOk, IfErr, IfSome, IfNone, OnOk, IsErrOf, IsTrue, All};
-ghost use Rattle.serde_json.specs.Data.{string, Items, no_items};
+ghost use Rattle.serde_json.specs.Data.{string, Items};
 ghost use Rattle.serde_json.specs.View.{view, items_view};
 ghost use Rattle.repo_name.specs.Naming.{hex_of, IsName};
 ghost use Rattle.repo_name.specs.declared.names.Name.{Name};
-ghost use Rattle.repo_tree.specs.JsonText.{text_at};
+ghost use Rattle.repo_json.specs.JsonText.{text_at};
+ghost use Rattle.repo_json.specs.Listing.{AreAll};
 ghost use Rattle.repo_tree.specs.Components.{IsComponent};
-ghost use Rattle.repo_tree.specs.TreeText.{name_items, IsKind, IsNode, BeginsWith, AreInOrder, Follows, NextFault, ItemsFault, RootFault, TreeFault, IsTreeData, IsTreeText};
+ghost use Rattle.repo_tree.specs.TreeText.{name_items, IsKind, IsNode, AreInOrder, Follows, NextFault, ItemsFault, RootFault, TreeFault, IsTreeData, IsTreeText};
 ghost use Rattle.repo_tree.specs.declared.nodes.Node.{Node};
 ghost use Rattle.repo_tree.specs.declared.nodes.NodeKind.{NodeKind};
 ghost use Rattle.repo_tree.specs.declared.faults.TreeError.{TreeError};
 
 use crate::components::is_component;
 use crate::faults::TreeError;
-use crate::json::{name_at, name_of, parse};
+use crate::json::{name_at, parse};
 use crate::nodes::{Node, NodeKind};
-use repo_name::{Name, Names, Text};
+use repo_json::hex_name;
+use repo_name::{BLOB_LIMIT, FILE_END, Name, Names, Text};
 use serde_json::Value;
 use std::alloc::Global;
 use std::cmp::Ordering;
-
-/// The greatest length of a tree's text, in bytes.
-pub(crate) const LIMIT: usize = 8_388_608;
-
-/// Files are shorter than this, in bytes.
-pub(crate) const FILE_END: u64 = 1 << 48;
 
 /// The name whose text a value is.
 fn name_in(value: &Value) -> Option<Name>
@@ -36,7 +32,7 @@ fn name_in(value: &Value) -> Option<Name>
     let Some(text) = value.as_str() else {
         return None;
     };
-    name_of(text)
+    hex_name(text)
 }
 
 /// The names whose texts some values are.
@@ -156,7 +152,7 @@ fn next_of(alloc: Global, nodes: &[Node], value: &Value) -> Result<Node, TreeErr
 
 /// The nodes whose members some values have, in order.
 fn nodes_of(alloc: Global, values: &[Value]) -> Result<Vec<Node>, TreeError>
-    ensures ok { IfOk result (λ nodes. BeginsWith (items_view values.now) nodes.items no_items) }
+    ensures ok { IfOk result (λ nodes. AreAll IsNode (items_view values.now) nodes.items) }
     ensures ordered { IfOk result (λ nodes. AreInOrder nodes.items) }
     ensures fault { IfErr result (λ e. e ≢ TreeError.Memory → ItemsFault (items_view values.now) e) }
 {
@@ -187,6 +183,6 @@ pub fn read_tree(alloc: Global, bytes: &[u8]) -> Result<Vec<Node>, TreeError>
     ensures fault { IfErr result (TreeFault bytes.now) }
     ensures none { IfErr result (λ e. e ≢ TreeError.Memory → (nodes : List Node) → ¬ IsTreeText bytes.now nodes) }
 {
-    let value = parse(alloc, bytes, LIMIT)?;
+    let value = parse(alloc, bytes, BLOB_LIMIT)?;
     tree_of(alloc, &value)
 }

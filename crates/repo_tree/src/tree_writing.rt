@@ -13,8 +13,8 @@ ghost use Rattle.repo_tree.specs.declared.faults.TreeError.{TreeError};
 
 use crate::faults::TreeError;
 use crate::nodes::{Node, NodeKind};
-use crate::tree_reading::{FILE_END, LIMIT, admit};
-use repo_name::Name;
+use crate::tree_reading::admit;
+use repo_name::{BLOB_LIMIT, FILE_END, Name};
 use serde_json::{Value, json};
 use std::alloc::{AllocError, Global};
 
@@ -137,7 +137,7 @@ pub fn write_tree(alloc: Global, nodes: &[Node]) -> Result<Vec<u8>, TreeError>
     check_nodes(nodes)?;
     let value = tree_value(alloc, nodes)?;
     let text = value.to_vec(alloc)?;
-    if text.len() > LIMIT {
+    if text.len() > BLOB_LIMIT {
         return Err(TreeError::TooLarge);
     }
     Ok(text)

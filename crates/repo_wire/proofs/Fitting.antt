@@ -12,6 +12,7 @@ use Rattle.repo_wire.specs.declared.messages.Say.{Say}
 use Rattle.repo_wire.specs.Messages.{short_number, names_bytes, ask_tag, ask_fields, IsAsk, IsRequest, IsShortAsk, requests, say_tag, say_fields, IsSay, IsReply, IsShortSay, replies}
 use Rattle.repo_wire.specs.Stream.{FitsFrame}
 use Rattle.repo_wire.proofs.Bodies.{length-body}
+use Rattle.repo_name.specs.Limits.{fields_limit}
 
 -- names take 32 bytes each
 pub length-names : (names : List Name) → All IsName names → length (names_bytes names) ≡ 32 * length names
@@ -30,7 +31,7 @@ length-rows (r ∷ rs) h =
     omega (arith, length-append (row_bytes r) (flat_map row_bytes rs))
 
 -- the fields of a short say leave room for the body's other parts
-short_fields : (say : Say) → IsSay say → IsShortSay say → length (say_fields say) ≤ 26214375
+short_fields : (say : Say) → IsSay say → IsShortSay say → length (say_fields say) ≤ fields_limit
 short_fields (Say.Token token) ok short = omega arith
 short_fields Say.Done ok short = omega arith
 short_fields (Say.Names more names) ok short = omega (arith, length-names names ok.1)
@@ -46,7 +47,7 @@ reply_fits reply ok short =
     (ok, (omega arith, omega arith))
 
 -- the fields of a short ask leave room for the body's other parts
-short_asks : (ask : Ask) → IsAsk ask → IsShortAsk ask → length (ask_fields ask) ≤ 26214375
+short_asks : (ask : Ask) → IsAsk ask → IsShortAsk ask → length (ask_fields ask) ≤ fields_limit
 short_asks Ask.Ticket ok short = omega arith
 short_asks (Ask.Lock row) ok short = let few = ok.host.1 in omega arith
 short_asks (Ask.Refresh token time) ok short = omega arith
@@ -69,16 +70,16 @@ request_fits request ok short =
 
 -- a page of names fits where it is within its limits
 pub names_fit : (say : Say) (more : Bool) (names : List Name) (r : Bool) → say ≡ Say.Names more names
-    → IsTrue r ↔ ((length names ≤ 256) × All IsName names) → IsTrue r ↔ (IsSay say × (length (say_fields say) ≤ 26214375))
+    → IsTrue r ↔ ((length names ≤ 256) × All IsName names) → IsTrue r ↔ (IsSay say × (length (say_fields say) ≤ fields_limit))
 names_fit say more names r is k =
-    let P : Say → Type 0 = λ s. IsTrue r ↔ (IsSay s × (length (say_fields s) ≤ 26214375)) in
+    let P : Say → Type 0 = λ s. IsTrue r ↔ (IsSay s × (length (say_fields s) ≤ fields_limit)) in
     subst P (sym is) (λ yes. (k.0 yes, short_fields (Say.Names more names) (k.0 yes) tt), λ fits. k.1 fits.0)
 
 -- a list of locks fits where it is within its limits
 pub rows_fit : (say : Say) (rows list : List LockRow) (r : Bool) → say ≡ Say.LockList rows → list ≡ rows
-    → IsTrue r ↔ ((length list ≤ 256) × All IsRow list) → IsTrue r ↔ (IsSay say × (length (say_fields say) ≤ 26214375))
+    → IsTrue r ↔ ((length list ≤ 256) × All IsRow list) → IsTrue r ↔ (IsSay say × (length (say_fields say) ≤ fields_limit))
 rows_fit say rows list r is same h =
-    let P : Say → Type 0 = λ s. IsTrue r ↔ (IsSay s × (length (say_fields s) ≤ 26214375)) in
+    let P : Say → Type 0 = λ s. IsTrue r ↔ (IsSay s × (length (say_fields s) ≤ fields_limit)) in
     let Q : List LockRow → Type 0 = λ l. IsTrue r ↔ ((length l ≤ 256) × All IsRow l) in
     let k = subst Q same h in
     subst P (sym is) (λ yes. (k.0 yes, short_fields (Say.LockList rows) (k.0 yes) tt), λ fits. k.1 fits.0)
@@ -91,7 +92,7 @@ length-page say more names list is same ok =
 
 -- a request within its limits fits a frame where its fields leave room
 pub request_room : (request : Request) → IsInstance request.instance → request.sequence < 2 ^ 64
-    → (IsAsk request.ask × (length (ask_fields request.ask) ≤ 26214375)) ↔ FitsFrame requests request
+    → (IsAsk request.ask × (length (ask_fields request.ask) ≤ fields_limit)) ↔ FitsFrame requests request
 request_room request instance sequence =
     let all = length-body (ask_tag request.ask) request.instance.0 (ask_fields request.ask) request.sequence instance.0 in (
       λ h. let few = h.1 in (record { instance = instance; sequence = sequence; ask = h.0 }, (omega arith, omega arith)),
@@ -100,7 +101,7 @@ request_room request instance sequence =
 
 -- a reply within its limits fits a frame where its fields leave room
 pub reply_room : (reply : Reply) → IsInstance reply.instance → reply.sequence < 2 ^ 64
-    → (IsSay reply.say × (length (say_fields reply.say) ≤ 26214375)) ↔ FitsFrame replies reply
+    → (IsSay reply.say × (length (say_fields reply.say) ≤ fields_limit)) ↔ FitsFrame replies reply
 reply_room reply instance sequence =
     let all = length-body (say_tag reply.say) reply.instance.0 (say_fields reply.say) reply.sequence instance.0 in (
       λ h. let few = h.1 in (record { instance = instance; sequence = sequence; say = h.0 }, (omega arith, omega arith)),

@@ -1,21 +1,23 @@
 use Rattle.std.proofs.Common.{◌≡◌, ◌≢◌, ◌≤◌, ◌<◌, ◌^◌, ◌++◌, ◌∷◌, [], ℕ, Bool, false, Option, Some, None, List, length, refl, sym, ap, subst, arith, ◌∙◌, append-nil, Ok, Err, slice_index}
 use Rattle.std.specs.Option.{ok_or}
-use Rattle.std.specs.List.{All, flat_map}
+use Rattle.std.specs.List.{All}
 use Rattle.repo_name.proofs.RowLemmas.{firsts_are_one, truths_are_one, numbers_one, rows_one}
 use Rattle.repo_name.specs.declared.names.Instance.{Instance}
 use Rattle.repo_name.specs.declared.names.Name.{Name}
 use Rattle.repo_name.specs.declared.rows.LockRow.{LockRow}
 use Rattle.repo_name.specs.Naming.{IsInstance, IsName}
-use Rattle.repo_name.specs.Rows.{number, truth, row_bytes, IsRow}
+use Rattle.repo_name.specs.Rows.{number, count, truth, row_bytes, rows_bytes, IsRow}
+use Rattle.repo_name.specs.declared.rows.RowError.{RowError}
+use Rattle.repo_name.proofs.CountLemmas.{counted_one, counted_alone}
 use Rattle.repo_wire.specs.declared.faults.Fault.{Fault}
 use Rattle.repo_wire.specs.declared.faults.WireError.{WireError}
 use Rattle.repo_wire.specs.declared.messages.Code.{Code}
 use Rattle.repo_wire.specs.declared.messages.Reply.{Reply}
 use Rattle.repo_wire.specs.declared.messages.Say.{Say}
-use Rattle.repo_wire.specs.Messages.{count, names_bytes, code_number, say_tag, say_fields, IsSay, IsReply, reply_body, replies}
-use Rattle.repo_wire.specs.Parsing.{SayFound, SayRead, MessageRead}
+use Rattle.repo_wire.specs.Messages.{names_bytes, code_number, say_tag, say_fields, IsSay, IsReply, reply_body, replies}
+use Rattle.repo_wire.specs.Parsing.{SayFound, SayRead, MessageRead, fields_fault}
 use Rattle.repo_wire.proofs.Bodies.{parts_one}
-use Rattle.repo_wire.proofs.Lists.{names_one, counted_one, NoPage}
+use Rattle.repo_wire.proofs.Lists.{names_one, NoPage}
 
 -- a body whose fields are of no reply is of none
 pub reply_refused : (body : List ℕ) (tag : ℕ) (instance : List ℕ) (sequence : ℕ) (fields : List ℕ) (e : WireError)
@@ -69,7 +71,7 @@ no_names : (fields : List ℕ) → ((more : Bool) (names : List Name) → length
 no_names fields h (Say.Names more names) ok tag same = h more names ok.0 ok.1 same
 no_names fields h _ ok tag same = absurd (omega arith)
 
-no_rows : (fields : List ℕ) → NoPage row_bytes IsRow rows_one fields → SayFound 133 fields None
+no_rows : (fields : List ℕ) → ((rows : List LockRow) → length rows ≤ 256 → All IsRow rows → fields ≢ rows_bytes rows) → SayFound 133 fields None
 no_rows fields h (Say.LockList rows) ok tag same = h rows ok.0 ok.1 same
 no_rows fields h _ ok tag same = absurd (omega arith)
 
@@ -85,21 +87,34 @@ names_without_page fields rest more spelled h = (
       h names few is (firsts_are_one (truth more) (truth other) rest (count (length names) ++ names_bytes names) (sym spelled ∙ same)).1),
 )
 
--- no page of rows is there
-pub rows_without_page : (fields : List ℕ) → NoPage row_bytes IsRow rows_one fields → SayRead 133 fields (Err (WireError.Fault Fault.Fields))
-rows_without_page fields h = (knows_lock_list, no_rows fields h)
+-- rows that aren't read are no list of locks
+pub rows_unread : (fields : List ℕ) (e : RowError)
+    → (e ≡ RowError.Shape → (rows : List LockRow) (rest : List ℕ) → length rows ≤ 256 → All IsRow rows → fields ≢ rows_bytes rows ++ rest)
+    → SayRead 133 fields (Err (fields_fault e))
+rows_unread fields RowError.Shape none = (
+  knows_lock_list,
+  no_rows fields (λ rows few are same. none refl rows [] few are (same ∙ sym (append-nil (rows_bytes rows)))),
+)
+rows_unread fields RowError.Memory none = tt
 
--- so many rows behind their count, with nothing after them, are a list of locks
-pub rows_said : (fields rest left : List ℕ) (rows list : List LockRow) (n : ℕ) → n ≤ 256 → fields ≡ count n ++ rest → length rows ≡ n → All IsRow rows
-    → rest ≡ flat_map row_bytes rows ++ left → length left < 1 → list ≡ rows → SayRead 133 fields (Ok (Say.LockList list))
-rows_said fields rest [] rows list n few spelled counted are read none same =
+-- rows with more behind them are none
+pub rows_with_more : (fields rest : List ℕ) (rows : List LockRow) → length rows ≤ 256 → All IsRow rows → fields ≡ rows_bytes rows ++ rest → 0 < length rest
+    → SayRead 133 fields (Err (WireError.Fault Fault.Fields))
+rows_with_more fields rest rows few are spelled more = (
+  knows_lock_list,
+  no_rows fields (λ list short is same.
+      let one = counted_one row_bytes IsRow rows_one rows list rest [] (omega arith) (omega arith) are is (sym spelled ∙ same ∙ sym (append-nil (rows_bytes list))) in
+      let none : length rest ≡ 0 = ap length one.1 in
+      omega arith),
+)
+
+-- rows with nothing behind them are a list of locks
+pub rows_said : (fields rest : List ℕ) (rows list : List LockRow) → length rows ≤ 256 → All IsRow rows → fields ≡ rows_bytes rows ++ rest → length rest ≡ 0 → list ≡ rows
+    → SayRead 133 fields (Ok (Say.LockList list))
+rows_said fields [] rows list few are spelled none same =
     let P : List LockRow → Type 0 = λ l. SayRead 133 fields (Ok (Say.LockList l)) in
-    subst P (sym same) (
-      (omega arith, are),
-      refl,
-      spelled ∙ ap (λ k. count k ++ rest) (sym counted) ∙ ap (λ x. count (length rows) ++ x) (read ∙ append-nil (flat_map row_bytes rows)),
-    )
-rows_said fields rest (b ∷ left) rows list n few spelled counted are read none same = absurd (omega arith)
+    subst P (sym same) ((few, are), refl, spelled ∙ append-nil (rows_bytes rows))
+rows_said fields (b ∷ rest) rows list few are spelled none same = absurd (omega arith)
 
 -- codes of one number are one
 codes_one : (a b : Code) → code_number a ≡ code_number b → a ≡ b
@@ -127,11 +142,11 @@ says_one Say.Done Say.Done ha hb t f = refl
 says_one (Say.Names more names) (Say.Names other named) ha hb t f =
     let a = firsts_are_one (truth more) (truth other) (count (length names) ++ names_bytes names) (count (length named) ++ names_bytes named) f in
     let m = truths_are_one more other a.0 in
-    let n = counted_one (λ name. name.0) IsName names_one names named (omega arith) (omega arith) ha.1 hb.1 a.1 in
+    let n = counted_alone (λ name. name.0) IsName names_one names named (omega arith) (omega arith) ha.1 hb.1 a.1 in
     λ i. Say.Names (m i) (n i)
 says_one (Say.Bytes bytes) (Say.Bytes other) ha hb t f = ap Say.Bytes f
 says_one (Say.LockList rows) (Say.LockList others) ha hb t f =
-    ap Say.LockList (counted_one row_bytes IsRow rows_one rows others (omega arith) (omega arith) ha.1 hb.1 f)
+    ap Say.LockList (counted_alone row_bytes IsRow rows_one rows others (omega arith) (omega arith) ha.1 hb.1 f)
 says_one (Say.Refused code) (Say.Refused other) ha hb t f = ap Say.Refused (codes_one code other (firsts_are_one (code_number code) (code_number other) [] [] f).0)
 says_one _ _ ha hb t f = absurd (omega arith)
 

@@ -1,16 +1,17 @@
 use Rattle.std.specs.Prelude.{◌≡◌, ◌≤◌, ◌<◌, ◌^◌, ◌++◌, ◌∷◌, [], ⊤, ℕ, true, false, List, length, All, Option, Some, None}
 use Rattle.std.specs.List.{flat_map}
-use Rattle.std.specs.Int.{w16, w32, to_be_bytes}
+use Rattle.std.specs.Int.{w32, to_be_bytes}
 use Rattle.repo_name.specs.declared.kinds.Kind.{Kind}
 use Rattle.repo_name.specs.declared.names.Name.{Name}
 use Rattle.repo_name.specs.Naming.{IsInstance, IsName}
-use Rattle.repo_name.specs.Rows.{number, truth, row_bytes, IsRow}
+use Rattle.repo_name.specs.Rows.{number, count, truth, row_bytes, rows_bytes, IsRow}
 use Rattle.repo_wire.specs.declared.messages.Ask.{Ask}
 use Rattle.repo_wire.specs.declared.messages.Code.{Code}
 use Rattle.repo_wire.specs.declared.messages.Request.{Request}
 use Rattle.repo_wire.specs.declared.messages.Reply.{Reply}
 use Rattle.repo_wire.specs.declared.messages.Say.{Say}
 use Rattle.repo_wire.specs.Stream.{Sort, FitsFrame}
+use Rattle.repo_name.specs.Limits.{fields_limit, put_limit}
 
 -- how many names or rows a reply may hold
 abbrev pub page_limit : ℕ
@@ -19,10 +20,6 @@ page_limit = 256
 -- a number of 32 bits in bytes, the highest first
 abbrev pub short_number : ℕ → List ℕ
 short_number n = to_be_bytes w32 n
-
--- a count in two bytes, the higher first
-abbrev pub count : ℕ → List ℕ
-count n = to_be_bytes w16 n
 
 -- the number of each kind of object
 abbrev pub kind_number : Kind → ℕ
@@ -106,7 +103,7 @@ IsShortAsk Ask.Locks = ⊤
 IsShortAsk (Ask.List kind after) = ⊤
 IsShortAsk (Ask.Get kind name) = ⊤
 IsShortAsk (Ask.Range pack offset len) = ⊤
-IsShortAsk (Ask.Put token kind name bytes) = length bytes ≤ 26214334
+IsShortAsk (Ask.Put token kind name bytes) = length bytes ≤ put_limit
 IsShortAsk (Ask.Delete token kind name) = ⊤
 IsShortAsk Ask.Config = ⊤
 
@@ -149,7 +146,7 @@ say_fields (Say.Token token) = number token.0
 say_fields Say.Done = []
 say_fields (Say.Names more names) = truth more ∷ count (length names) ++ names_bytes names
 say_fields (Say.Bytes bytes) = bytes
-say_fields (Say.LockList rows) = count (length rows) ++ flat_map row_bytes rows
+say_fields (Say.LockList rows) = rows_bytes rows
 say_fields (Say.Refused code) = code_number code ∷ []
 
 -- what is said is within its limits
@@ -180,7 +177,7 @@ abbrev pub IsShortSay : Say → Type 0
 IsShortSay (Say.Token token) = ⊤
 IsShortSay Say.Done = ⊤
 IsShortSay (Say.Names more names) = ⊤
-IsShortSay (Say.Bytes bytes) = length bytes ≤ 26214375
+IsShortSay (Say.Bytes bytes) = length bytes ≤ fields_limit
 IsShortSay (Say.LockList rows) = ⊤
 IsShortSay (Say.Refused code) = ⊤
 

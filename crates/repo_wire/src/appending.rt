@@ -1,15 +1,14 @@
 //! The fields of messages, appended to some bytes. Each call fails for memory alone, and then some first
 //! bytes of the fields may have been appended.
 
-ghost use Rattle.std.specs.Prelude.{◌≡◌, ◌≤◌, ◌<◌, ◌^◌, ◌++◌, ◌∷◌, [], length, All, OnOk};
-ghost use Rattle.std.specs.List.{flat_map};
+ghost use Rattle.std.specs.Prelude.{◌≡◌, ◌≤◌, ◌++◌, ◌∷◌, length, OnOk};
 ghost use Rattle.std.specs.Io.{StartsWith};
-ghost use Rattle.repo_name.specs.Rows.{number, truth, row_bytes, IsRow};
-ghost use Rattle.repo_wire.specs.Messages.{page_limit, count, kind_number, given_name, names_bytes, ask_fields, IsAsk, say_fields, IsSay};
+ghost use Rattle.repo_name.specs.Rows.{number, count, truth};
+ghost use Rattle.repo_wire.specs.Messages.{page_limit, kind_number, given_name, names_bytes, ask_fields, IsAsk, say_fields, IsSay};
 ghost use Rattle.repo_wire.specs.Parsing.{object_bytes, range_bytes};
 
 use crate::messages::{Ask, Say};
-use repo_name::{Kind, LockRow, Name, Token, append_row};
+use repo_name::{Kind, Name, Token, append_count, append_row, append_rows};
 use std::alloc::AllocError;
 
 fn kind_byte(kind: Kind) -> u8
@@ -20,15 +19,6 @@ fn kind_byte(kind: Kind) -> u8
         Kind::Index => 1,
         Kind::Snapshot => 2,
     }
-}
-
-/// Appends a count in two bytes, the higher first.
-fn append_count(number: usize, out: &mut Vec<u8>) -> Result<(), AllocError>
-    requires { number ≤ page_limit }
-    ensures ok { OnOk result (out.new.items ≡ out.old.items ++ count number) }
-    ensures kept { StartsWith out.new.items out.old.items }
-{
-    out.extend_from_slice(&(number as u16).to_be_bytes())
 }
 
 /// Appends a name that may be given, behind whether it is.
@@ -126,20 +116,6 @@ fn append_names(more: bool, names: &[Name], out: &mut Vec<u8>) -> Result<(), All
     append_count(names.len(), out)?;
     for name in names {
         out.extend_from_slice(&name.0)?;
-    }
-    Ok(())
-}
-
-/// Appends a list of locks: their count, and each row.
-fn append_rows(rows: &[LockRow], out: &mut Vec<u8>) -> Result<(), AllocError>
-    requires few { length rows.now ≤ page_limit }
-    requires rows { All IsRow rows.now }
-    ensures ok { OnOk result (out.new.items ≡ out.old.items ++ count (length rows.now) ++ flat_map row_bytes rows.now) }
-    ensures kept { StartsWith out.new.items out.old.items }
-{
-    append_count(rows.len(), out)?;
-    for row in rows {
-        append_row(row, out)?;
     }
     Ok(())
 }

@@ -3,7 +3,7 @@
 ghost use Rattle.std.specs.Prelude.{◌≡◌, ◌≢◌, ◌<◌, ◌^◌, ◌++◌, ◌∷◌, ◌↔◌, ℕ, List, length, IfOk, IfSome, IfNone, IsNone};
 ghost use Rattle.repo_name.specs.Naming.{IsName};
 ghost use Rattle.repo_name.specs.declared.kinds.Kind.{Kind};
-ghost use Rattle.repo_wire.specs.Messages.{short_number, count, kind_number, code_number};
+ghost use Rattle.repo_wire.specs.Messages.{short_number, kind_number, code_number};
 ghost use Rattle.repo_wire.specs.declared.messages.Code.{Code};
 
 use crate::messages::Code;
@@ -21,17 +21,6 @@ pub fn short_number_at(bytes: &[u8]) -> Option<(u32, &[u8])>
         return None;
     }
     Some((BigEndian::read_u32(bytes), &bytes[4..]))
-}
-
-/// The count at the front, two bytes, the higher first. `None` where there are fewer than two bytes.
-pub fn count_at(bytes: &[u8]) -> Option<(usize, &[u8])>
-    ensures found { IfSome result (λ x. (x.0 < 2 ^ 16) × (bytes.now ≡ count x.0 ++ x.1.now)) }
-    ensures none { IsNone result ↔ (length bytes.now < 2) }
-{
-    if bytes.len() < 2 {
-        return None;
-    }
-    Some((BigEndian::read_u16(bytes) as usize, &bytes[2..]))
 }
 
 /// The kind at the front, a byte 0, 1 or 2. `None` where no kind stands there.

@@ -6,29 +6,22 @@ ghost use Rattle.repo_name.specs.Naming.{IsName};
 ghost use Rattle.repo_name.specs.Rows.{IsRow};
 ghost use Rattle.repo_wire.specs.Messages.{page_limit, ask_fields, IsAsk, say_fields, IsSay, requests, replies};
 ghost use Rattle.repo_wire.specs.Stream.{FitsFrame};
+ghost use Rattle.repo_name.specs.Limits.{fields_limit};
 
 use crate::messages::{Ask, PAGE_LIMIT, Reply, Request, Say};
-use crate::parts::{GREATEST, LEAST};
 use crate::ranges::{is_number, is_short_number};
-use repo_name::{LockRow, Names};
-
-/// The greatest length of a message's fields.
-const FIELDS_LIMIT: usize = GREATEST - LEAST;
-
-/// The length of a Put's fields before the bytes to be stored: token, kind and name.
-const PUT_HEAD: usize = 41;
+use repo_name::{FIELDS_LIMIT, LockRow, Names, PUT_LIMIT, is_host};
 
 /// Whether the row's host is within its limits, 1 to 255 bytes.
 fn has_host(row: &LockRow) -> bool
     ensures { IsTrue result ↔ IsRow row.now }
 {
-    let length = row.host.as_str().len();
-    is_number(row.token.0) && is_number(row.time) && 1 <= length && length <= 255
+    is_number(row.token.0) && is_number(row.time) && is_host(row.host.as_str())
 }
 
 /// Whether the request's fields are within their limits, and leave room for the body's other parts.
 fn ask_fits(ask: &Ask) -> bool
-    ensures { IsTrue result ↔ (IsAsk ask.now × (length (ask_fields ask.now) ≤ FIELDS_LIMIT)) }
+    ensures { IsTrue result ↔ (IsAsk ask.now × (length (ask_fields ask.now) ≤ fields_limit)) }
 {
     match ask {
         Ask::Ticket | Ask::Locks | Ask::Config => true,
@@ -52,9 +45,7 @@ fn ask_fits(ask: &Ask) -> bool
             bytes,
             ..
         } => {
-            is_number(token.0)
-                && name.to_bytes().len() == 32
-                && bytes.as_slice().len() <= FIELDS_LIMIT - PUT_HEAD
+            is_number(token.0) && name.to_bytes().len() == 32 && bytes.as_slice().len() <= PUT_LIMIT
         }
         Ask::Delete { token, name, .. } => is_number(token.0) && name.to_bytes().len() == 32,
     }
@@ -88,7 +79,7 @@ fn is_lock_list(rows: &[LockRow]) -> bool
 
 /// Whether the reply's fields are within their limits, and leave room for the body's other parts.
 fn say_fits(say: &Say) -> bool
-    ensures { IsTrue result ↔ (IsSay say.now × (length (say_fields say.now) ≤ FIELDS_LIMIT)) }
+    ensures { IsTrue result ↔ (IsSay say.now × (length (say_fields say.now) ≤ fields_limit)) }
 {
     match say {
         Say::Token(token) => is_number(token.0),

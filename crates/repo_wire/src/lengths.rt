@@ -4,13 +4,14 @@ ghost use Rattle.std.specs.Prelude.{◌≡◌, ◌≤◌, length};
 ghost use Rattle.std.specs.List.{flat_map};
 ghost use Rattle.repo_name.specs.Rows.{row_bytes};
 ghost use Rattle.repo_wire.specs.Messages.{ask_fields, say_fields, IsAsk, IsSay};
+ghost use Rattle.repo_name.specs.Limits.{fields_limit};
 
 use crate::messages::{Ask, Say};
 use repo_name::LockRow;
 
 /// The length of a row's bytes.
 fn row_length(row: &LockRow) -> u32
-    requires { length (row_bytes row.now) ≤ 26_214_375 }
+    requires { length (row_bytes row.now) ≤ fields_limit }
     ensures { result ≡ length (row_bytes row.now) }
 {
     18 + row.host.as_str().len() as u32
@@ -18,7 +19,7 @@ fn row_length(row: &LockRow) -> u32
 
 /// The length of all rows' bytes.
 fn rows_length(rows: &[LockRow]) -> u32
-    requires { length (flat_map row_bytes rows.now) ≤ 26_214_375 }
+    requires { length (flat_map row_bytes rows.now) ≤ fields_limit }
     ensures { result ≡ length (flat_map row_bytes rows.now) }
 {
     let mut length = 0;
@@ -31,7 +32,7 @@ fn rows_length(rows: &[LockRow]) -> u32
 /// The length of a request's fields.
 pub fn ask_length(ask: &Ask) -> u32
     requires within { IsAsk ask.now }
-    requires short { length (ask_fields ask.now) ≤ 26_214_375 }
+    requires short { length (ask_fields ask.now) ≤ fields_limit }
     ensures { result ≡ length (ask_fields ask.now) }
 {
     match ask {
@@ -51,7 +52,7 @@ pub fn ask_length(ask: &Ask) -> u32
 /// The length of a reply's fields.
 pub fn say_length(say: &Say) -> u32
     requires within { IsSay say.now }
-    requires short { length (say_fields say.now) ≤ 26_214_375 }
+    requires short { length (say_fields say.now) ≤ fields_limit }
     ensures { result ≡ length (say_fields say.now) }
 {
     match say {

@@ -32,7 +32,7 @@ use Rattle.repo_session.specs.Catalogs.{AreIndexed}
 use Rattle.repo_session.specs.Ends as ends
 use Rattle.repo_session.specs.Order.{Task, IsWorking, Obeys, opened, lock_row}
 use Rattle.repo_session.specs.Traces.{Trace, Exchanged, Object, IsGiven, silent, same_kind}
-use Rattle.repo_session.proofs.Containing.{none_contained, first_contained, contained_or, contains_flat}
+use Rattle.repo_name.proofs.Containing.{none_contained, first_contained, contained_or, contains_flat}
 use Rattle.repo_session.proofs.Holding.{working_more, holds_of, opened_working}
 use Rattle.repo_session.proofs.Meeting.{first_page}
 use Rattle.repo_session.proofs.Rolling.{same_self}

@@ -9,7 +9,7 @@ use Rattle.repo_store.specs.Stores.{Objects, Removed}
 use Rattle.repo_session.specs.Soundness.{IsSound}
 use Rattle.repo_session.proofs.Changing.{removing_snapshot_keeps_sound}
 use Rattle.repo_world.specs.Bag.{AskedAt, IsExclusive, HasBag}
-use Rattle.repo_world.specs.Clients.{Job, Backup, Restore, Listing, Forget, Prune}
+use Rattle.repo_world.specs.Clients.{Job, Backup, Restore, Listing, Forget, Prune, Check}
 use Rattle.repo_world.specs.Safe.{HasNoClash}
 use Rattle.repo_world.specs.World.{World, client, Has, Asked}
 use Rattle.repo_world.proofs.Deleting.{delete_keeps_sound}
@@ -26,6 +26,7 @@ module _ (w : World) (bag : HasBag w) (clash : HasNoClash w) where
   removed_sound k q t j n (Backup entries) e h live new removed = absurd ((sent_as w bag k q (Ask.Delete t j n) (Backup entries) e h).permitted tt)
   removed_sound k q t j n (Restore s) e h live new removed = absurd ((sent_as w bag k q (Ask.Delete t j n) (Restore s) e h).permitted tt)
   removed_sound k q t j n Listing e h live new removed = absurd ((sent_as w bag k q (Ask.Delete t j n) Listing e h).permitted tt)
+  removed_sound k q t j n Check e h live new removed = absurd ((sent_as w bag k q (Ask.Delete t j n) Check e h).permitted tt)
 
   -- whatever a request that is delivered does to the objects
   pub move_keeps_sound : (k : ℕ) (request : Request) → Has w.messages (Asked k request) → (O : Objects) → ObjectsMove w.store.tokens w.store.objects request.ask O → IsSound O

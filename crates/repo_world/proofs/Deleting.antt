@@ -19,13 +19,14 @@ use Rattle.repo_tree.specs.declared.snapshots.Snapshot.{Snapshot}
 use Rattle.repo_store.specs.Stores.{Removed, Objects}
 use Rattle.repo_session.specs.Soundness.{IsHeld, IsSound}
 use Rattle.repo_session.specs.Traces.{Trace, WasAsked}
-use Rattle.repo_session.proofs.Containing.{flat_contains, contains_flat}
+use Rattle.repo_name.proofs.Containing.{flat_contains, contains_flat}
 use Rattle.repo_session.proofs.Spoken.{was_asked}
 use Rattle.repo_writing.specs.Blobs.{HasFact}
 use Rattle.repo_writing.specs.Putting.{PutDone, IsIndexed}
 use Rattle.repo_writing.specs.Writing.{Listing, packs_of, IsDone, AreListed}
 use Rattle.repo_writing.proofs.PutLemmas.{each_contained}
 use Rattle.repo_writing.proofs.Replacing.{IsReplaced, snapshot_row, index_delete_keeps_sound, put_says, each_index_put, pack_delete_keeps_sound}
+use Rattle.repo_prune.proofs.PruneRuns.{row_replaced}
 use Rattle.repo_prune.specs.Keeping.{Row}
 use Rattle.repo_prune.specs.Pruning.{AreCovered, IsSettled, PruneAllows}
 use Rattle.repo_world.specs.Bag.{AskedAt, HasPut, HasDeleted, IsExclusive, with_next, HasBag}
@@ -34,41 +35,6 @@ use Rattle.repo_world.specs.Safe.{Took, HasNoClash}
 use Rattle.repo_world.specs.World.{World, client}
 use Rattle.repo_world.proofs.Knowing.{rule_at, sent_as, received_known, held_known, held_apart, stand_of, live_of, told_of, seen_of}
 use Rattle.repo_world.proofs.Sending.{Within, asked_within, exchange_asked, trace_asked, Deleting, deleting}
-
--- ---- what a prune's indexes give
-
--- a tree that lists is there
-lists_pair : (version : ℕ) (B : Blobs) (t : Name) (nodes : List Node) → ListsBy version B t nodes → HasPair B Tree t
-lists_pair zero B t nodes h = record { bytes = h.text; among = h.among; named = h.named }
-lists_pair (suc zero) B t nodes h = record { bytes = h.text; among = h.among; named = h.named }
-lists_pair (suc (suc zero)) B t nodes h = record { bytes = h.1.text; among = h.1.among; named = h.1.named }
-lists_pair (suc (suc (suc version))) B t nodes h = record { bytes = h.text; among = h.among; named = h.named }
-
--- a fact of the packs that were listed, an index gives that was put
-listed_given : (es : Trace) (packs : List PackFacts) → AreListed packs [] es → (k : BlobKind) (n : Name) → HasFact (facts_in packs) k n → IsIndexed es k n
-listed_given es packs g k n (place, among) =
-    let fact : Fact = fact_of k n place in
-    let own = flat_contains (λ (p : PackFacts). p.facts) packs (fact_of k n place) among in
-    let all : packs ≡ packs_of g.listings = g.lists ∙ append-nil (packs_of g.listings) in
-    let from = flat_contains (λ (l : Listing). l.packs) g.listings own.0 (subst (λ (ps : List PackFacts). Contains ps own.0) all own.1) in
-    let listing : Listing = from.0 in
-    let done : IsDone es listing = each_contained (IsDone es) g.listings from.0 g.read_back from.1 in
-    record {
-      index = listing.index.name;
-      text = listing.index.bytes;
-      fact = fact;
-      put = done.put;
-      says = record { packs = listing.packs; text = done.reads; among = contains_flat (λ (p : PackFacts). p.facts) listing.packs own.0 (fact_of k n place) from.2 own.2 };
-      kind = refl;
-      name = refl;
-    }
-
--- what a snapshot of a row needs is replaced
-row_replaced : (es : Trace) (rows : List Row) (packs : List PackFacts) → AreListed packs [] es → (c : AreCovered es rows packs) → (row : Row) → Contains rows row → IsReplaced (tree_blobs c.texts) es row.1
-row_replaced es rows packs listed c row among = record {
-  walked = λ n r. (let h = c.walked row n among r in lists_pair row.1.version (tree_blobs c.texts) n h.0 h.1);
-  given = λ k n r. listed_given es packs listed k n (c.given k n (record { row = row; among = among; reaches = r }));
-}
 
 -- ---- in the world
 

@@ -25,7 +25,7 @@ use Rattle.repo_session.specs.Listings.{IsListing}
 use Rattle.repo_session.specs.Order.{Task, IsWorking, Obeys, opened, lock_row}
 use Rattle.repo_session.specs.Traces.{Trace, Exchanged, WasAsked, Object, silent}
 use Rattle.repo_session.specs.declared.outcomes.Outcome.{Outcome}
-use Rattle.repo_session.proofs.Containing.{none_contained, first_contained}
+use Rattle.repo_name.proofs.Containing.{none_contained, first_contained}
 use Rattle.repo_session.proofs.Holding.{working_more, holds_of, opened_working}
 use Rattle.repo_session.proofs.Meeting.{first_page}
 use Rattle.repo_prune.specs.Pruning.{AreCovered, IsSettled, IsPruned}
@@ -337,6 +337,7 @@ module _ (host : List ℕ) (time : ℕ) (config pack index snapshot : List ℕ) 
         indexes = indexed;
         done = λ k object c. absurd (none_contained object (subst (λ (os : List Object). Contains os object) (none k) c));
         listed = record { listings = []; indexes = sym (none Kind.Index); read_back = tt; lists = refl };
+        full = λ l c. absurd (none_contained l c);
         stand = λ object c. absurd (none_contained object (subst (λ (os : List Object). Contains os object) (none Kind.Pack) c));
         covered = nothing_covered es;
       }

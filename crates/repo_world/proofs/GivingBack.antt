@@ -34,7 +34,7 @@ use Rattle.repo_session.specs.Order.{Task, IsWorking, Obeys, opened, lock_row}
 use Rattle.repo_session.specs.Received.{Received}
 use Rattle.repo_session.specs.Traces.{Trace, Exchanged, ReadFact, silent}
 use Rattle.repo_session.specs.declared.outcomes.Outcome.{Outcome}
-use Rattle.repo_session.proofs.Containing.{first_contained, contains_flat}
+use Rattle.repo_name.proofs.Containing.{first_contained, contains_flat}
 use Rattle.repo_session.proofs.Holding.{working_more, holds_of, opened_working}
 use Rattle.repo_backup.specs.Folders.{nothing, tree_of}
 use Rattle.repo_restore.specs.Restoring.{IsRestored}

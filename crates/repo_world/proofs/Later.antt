@@ -6,7 +6,7 @@ use Rattle.repo_wire.specs.declared.messages.Ask.{Ask}
 use Rattle.repo_wire.specs.declared.messages.Say.{Say}
 use Rattle.repo_session.specs.Traces.{Trace, Exchanged}
 use Rattle.repo_world.specs.Bag.{AskedAt, AskedIn, with_next, HasPut, HasDeleted}
-use Rattle.repo_world.specs.Clients.{Job, Backup, Restore, Listing, Forget, Prune, MadeOf, Client}
+use Rattle.repo_world.specs.Clients.{Job, Backup, Restore, Listing, Forget, Prune, MadeOf, Client, Check}
 use Rattle.repo_world.specs.Safe.{IsPutBy, IsAsked, IsSpoken, by_put, by_reply, IsKnown, known_spoken, known_part, known_made, HasNoClash}
 use Rattle.repo_world.specs.World.{World, client, Message, Has, Asked, Said}
 use Rattle.repo_world.proofs.Sending.{Within}
@@ -31,6 +31,7 @@ made_more (Restore s) es fs within x m = m
 made_more Listing es fs within x m = m
 made_more (Forget choice) es fs within x m = m
 made_more Prune es fs within x m = m
+made_more Check es fs within x m = m
 
 -- a client of the same job that took more
 pub grows_with : (c d : Client) → d.job ≡ c.job → Within c.trace d.trace → ((q : ℕ) (a : Ask) → AskedAt c q a → AskedAt d q a) → Grows c d

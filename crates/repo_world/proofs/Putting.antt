@@ -21,7 +21,7 @@ use Rattle.repo_writing.specs.Putting.{PutDone, IsIndexOf}
 use Rattle.repo_writing.proofs.Keeping.{IsKept, index_put_is_sound, snapshot_put_is_sound}
 use Rattle.repo_writing.proofs.PutLemmas.{asked_put}
 use Rattle.repo_world.specs.Bag.{AskedIn, AskedAt, with_next, HasDeleted, IsLive, HasBag}
-use Rattle.repo_world.specs.Clients.{Job, Backup, Restore, Listing, Forget, Prune, MadeOf}
+use Rattle.repo_world.specs.Clients.{Job, Backup, Restore, Listing, Forget, Prune, MadeOf, Check}
 use Rattle.repo_world.specs.Safe.{IsPutBy, Took, IsKnown, known_made, HasNoClash}
 use Rattle.repo_world.specs.World.{World, client}
 use Rattle.repo_world.proofs.Deleting.{delete_of, keeps_put}
@@ -137,6 +137,7 @@ module _ (w : World) (bag : HasBag w) (clash : HasNoClash w) (k : ℕ) (t : Toke
   object_ok Prune e Kind.Snapshot q h = absurd ((sent_as w bag k q (Ask.Put t Kind.Snapshot n x) Prune e h).permitted tt)
   object_ok (Restore s) e j q h = absurd ((sent_as w bag k q (Ask.Put t j n x) (Restore s) e h).permitted tt)
   object_ok Listing e j q h = absurd ((sent_as w bag k q (Ask.Put t j n x) Listing e h).permitted tt)
+  object_ok Check e j q h = absurd ((sent_as w bag k q (Ask.Put t j n x) Check e h).permitted tt)
   object_ok (Forget choice) e j q h = absurd ((sent_as w bag k q (Ask.Put t j n x) (Forget choice) e h).permitted tt).0
 
   -- a put under a live token

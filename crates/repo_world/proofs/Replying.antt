@@ -23,6 +23,7 @@ use Rattle.repo_store.specs.Pages.{IsPage}
 use Rattle.repo_store.specs.StoreMachine.{Step, Answers, PutAnswer, DeleteAnswer, GetSays, TicketSays, TicketAnswer, LockAnswer, LockSays, RangeAnswer, SliceSays, object_limit}
 use Rattle.repo_store.specs.Stores.{Store}
 use Rattle.repo_session.proofs.Growing.{answered, no_done}
+use Rattle.repo_name.specs.Limits.{text_limit}
 
 pub put_told : (old : Store) (t : Token) (k : Kind) (n : Name) (x : List ℕ) (new : Store) → Step old (Ask.Put t k n x) Say.Done new → (y : List ℕ) × (new.objects k n ≡ Some y)
 put_told old t k n x new s = go (answered old (Ask.Put t k n x) Say.Done new (no_done Say.Done refl) s)
@@ -132,7 +133,7 @@ token_answer old (Ask.Put u k n x) t new (inr (inr (inr a))) = let e : Say.Token
 token_answer old (Ask.Delete u k n) t new (inl a) = absurd (no_token t Code.Dead a.1)
 token_answer old (Ask.Delete u k n) t new (inr (inl a)) = absurd (no_token t Code.NotExclusive a.1)
 token_answer old (Ask.Delete u k n) t new (inr (inr a)) = let e : Say.Token t ≡ Say.Done = a.1 in absurd (cc)
-token_answer old Ask.Config t new a = absurd (bytes_no_token 65536 old.config t a.0)
+token_answer old Ask.Config t new a = absurd (bytes_no_token text_limit old.config t a.0)
 
 pub token_told : (old : Store) (ask : Ask) (t : Token) (new : Store) → Step old ask (Say.Token t) new → (t.0 ≡ old.tokens.next) × (new.tokens.next ≡ old.tokens.next + 1)
 token_told old ask t new s = token_answer old ask t new (answered old ask (Say.Token t) new (no_token t) s)

@@ -29,7 +29,7 @@ use Rattle.repo_backup.specs.Rules as backing
 use Rattle.repo_writing.specs.Putting.{PutDone}
 use Rattle.repo_restore.specs.Restoring.{IsRestored, IsForBlob, RestoreAllows, RestoreGives}
 use Rattle.repo_world.specs.Bag.{AskedAt, HasBag}
-use Rattle.repo_world.specs.Clients.{Job, Backup, Restore, Listing, Forget, Prune, task_of, Concludes, handed_to, MadeOf}
+use Rattle.repo_world.specs.Clients.{Job, Backup, Restore, Listing, Forget, Prune, task_of, Concludes, handed_to, MadeOf, Check}
 use Rattle.repo_world.specs.Safe.{IsPutBy, IsThereOrAsked, Took, Handed, IsKnown, known_made, HasNoClash, IsSafe, HandedIsOne, known_spoken, by_put}
 use Rattle.repo_world.specs.World.{World, client}
 use Rattle.repo_world.proofs.Knowing.{rule_at, sent_as, put_named, held_known, received_known, owner_of}
@@ -94,6 +94,7 @@ module _ (w : World) (bag : HasBag w) (clash : HasNoClash w) where
   made_by x n k q t Prune e h = absurd ((sent_as w bag k q (Ask.Put t Kind.Snapshot n x) Prune e h).permitted tt)
   made_by x n k q t (Restore s) e h = absurd ((sent_as w bag k q (Ask.Put t Kind.Snapshot n x) (Restore s) e h).permitted tt)
   made_by x n k q t Listing e h = absurd ((sent_as w bag k q (Ask.Put t Kind.Snapshot n x) Listing e h).permitted tt)
+  made_by x n k q t Check e h = absurd ((sent_as w bag k q (Ask.Put t Kind.Snapshot n x) Check e h).permitted tt)
   made_by x n k q t (Forget choice) e h = absurd ((sent_as w bag k q (Ask.Put t Kind.Snapshot n x) (Forget choice) e h).permitted tt).0
 
   source_of : (n : Name) (x : List ℕ) → IsPutBy w Kind.Snapshot n x → (entries : List Entry) × Source w x entries
@@ -145,6 +146,7 @@ module _ (w : World) (bag : HasBag w) (clash : HasNoClash w) where
   stored_by k s blobs bytes Listing r = absurd r
   stored_by k s blobs bytes (Forget choice) r = absurd r
   stored_by k s blobs bytes Prune r = absurd r
+  stored_by k s blobs bytes Check r = absurd r
 
   spelled_in : (s : Name) (x : List ℕ) (snapshot : Snapshot) → w.store.objects Kind.Snapshot s ≡ Some x → IsSnapshotText x snapshot → (entries : List Entry) × Handed w s entries × Spells snapshot.version (IsHeld w.store.objects) snapshot.tree [] entries
   spelled_in s x snapshot here reads =
@@ -186,6 +188,7 @@ module _ (w : World) (bag : HasBag w) (clash : HasNoClash w) where
   own_of k s blobs bytes Listing entries job same r = absurd r
   own_of k s blobs bytes (Forget choice) entries job same r = absurd r
   own_of k s blobs bytes Prune entries job same r = absurd r
+  own_of k s blobs bytes Check entries job same r = absurd r
 
   pub stored_own : (k : ℕ) (s : Name) (blobs bytes : ℕ) (entries : List Entry) → handed_to (client w k).job ≡ Some entries → (client w k).outcome ≡ Some (Outcome.Stored s blobs bytes) → Handed w s entries
   stored_own k s blobs bytes entries same outcome = own_of k s blobs bytes (client w k).job entries refl same ((ruled (client w k) (bag.behave k)).concluded (Outcome.Stored s blobs bytes) outcome)

@@ -42,7 +42,7 @@ use Rattle.repo_session.specs.Order.{Task, IsWorking, Obeys, opened, lock_row}
 use Rattle.repo_session.specs.Received.{Received}
 use Rattle.repo_session.specs.Traces.{Trace, Exchanged, WasAsked, Object, ReadFact, silent}
 use Rattle.repo_session.specs.declared.outcomes.Outcome.{Outcome}
-use Rattle.repo_session.proofs.Containing.{none_contained, first_contained, contained_or, contains_flat, flat_contains}
+use Rattle.repo_name.proofs.Containing.{none_contained, first_contained, contained_or, contains_flat, flat_contains}
 use Rattle.repo_session.proofs.Holding.{working_more, holds_of, opened_working}
 use Rattle.repo_session.proofs.Meeting.{first_page}
 use Rattle.repo_writing.specs.Blobs.{HasFact}
@@ -339,6 +339,7 @@ module _ (host : List ℕ) (time : ℕ) (config pack index snapshot : List ℕ) 
       indexes = indexed_later (silent (Ask.Put token Kind.Index ni index) Say.Done) t6 token Kind.Index ni index refl indexed;
       done = done;
       listed = record { listings = record { index = record { name = ni; bytes = index }; packs = listed ∷ [] } ∷ []; indexes = refl; read_back = (record { reads = texts.indexed; put = (token, inl (refl, refl)) }, tt); lists = refl };
+      full = λ l c. (fact, subst (λ (p : PackFacts). Contains p.facts fact) (only listed l c) fact_here);
       stand = λ object c. absurd (none_contained object c);
       covered = covered;
     }

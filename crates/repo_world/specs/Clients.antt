@@ -19,8 +19,9 @@ use Rattle.repo_restore.specs.Restoring.{restore_rule}
 use Rattle.repo_prune.specs.declared.choices.Choice.{Choice}
 use Rattle.repo_prune.specs.Forgetting.{IsNoPolicy, forget_rule}
 use Rattle.repo_prune.specs.Pruning.{prune_rule}
+use Rattle.repo_check.specs.Checking.{check_rule}
 
--- ---- what is said of each job. (This is the place where one more sort of job joins, as a check: with its rule, and with what it is handed.)
+-- ---- what is said of each job. (This is the place where one more sort of job joins: with its rule, and with what it is handed.)
 
 -- what a client is for, with what it was handed
 pub data Job : Type 0 where
@@ -29,6 +30,7 @@ pub data Job : Type 0 where
   Listing : Job
   Forget : (choice : Choice) → Job
   Prune : Job
+  Check : Job
 
 -- the rule by which it goes
 abbrev pub rule_of : Job → Rule
@@ -37,6 +39,7 @@ rule_of (Restore snapshot) = restore_rule snapshot
 rule_of Listing = list_rule
 rule_of (Forget choice) = forget_rule choice
 rule_of Prune = prune_rule
+rule_of Check = check_rule
 
 -- the entries that it was handed, if it is a backup
 abbrev pub handed_to : Job → Option (List Entry)

@@ -5,7 +5,7 @@ use Rattle.repo_name.specs.declared.kinds.BlobKind.{BlobKind}
 use Rattle.repo_name.specs.declared.names.Name.{Name}
 use Rattle.repo_pack.specs.PackLayout.{Item}
 use Rattle.repo_session.specs.Traces.{Each}
-use Rattle.repo_session.proofs.Containing.{none_contained}
+use Rattle.repo_name.proofs.Containing.{none_contained}
 use Rattle.repo_writing.specs.Blobs.{HasItem, AreOnce}
 
 only : {A : Type 0} (k x : A) → Contains (k ∷ []) x → k ≡ x

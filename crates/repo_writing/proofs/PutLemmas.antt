@@ -1,5 +1,5 @@
 -- Objects that were put, and what one more put makes of a trace.
-use Rattle.std.proofs.Common.{◌≡◌, ◌↔◌, ◌++◌, ◌∷◌, [], ℕ, zero, suc, true, false, List, map, cond, slice_get, Option, Some, None, sym, ap, subst, inl, inr, ◌∙◌, Contains}
+use Rattle.std.proofs.Common.{◌≡◌, ◌↔◌, ◌++◌, ◌∷◌, [], ℕ, true, false, List, cond, Option, None, sym, ap, subst, inl, inr, ◌∙◌, Contains}
 use Rattle.std.proofs.lemmas.List.{append-nil}
 use Rattle.std.proofs.lemmas.List.Elements.{Contains-append_left, Contains-append_right}
 use Rattle.repo_name.specs.declared.kinds.Kind.{Kind}
@@ -12,39 +12,14 @@ use Rattle.repo_store.specs.Pages.{Has, Ascends}
 use Rattle.repo_session.specs.Catalogs.{AreIndexed}
 use Rattle.repo_session.specs.Traces.{Each, Exchange, Trace, Exchanged, WasAsked, Object, page_names, is_last_page, names_in, is_complete, object_put, objects_put, ReadFact}
 use Rattle.repo_session.proofs.Cataloguing.{fact_stays, fact_before}
-pub use Rattle.repo_session.proofs.Containing.{none_contained, first_contained, later_contained, contained_or, flat_contains, contains_flat}
+use Rattle.repo_name.proofs.Containing.{none_contained, first_contained, contained_or}
 use Rattle.repo_session.proofs.Rolling.{same_self}
 use Rattle.repo_writing.specs.Putting.{PutDone}
 
--- ---- each of a list, and what a list contains
-
+-- each of a list holds of what it contains
 pub each_contained : {A : Type 0} (P : A → Type 0) (xs : List A) (x : A) → Each P xs → Contains xs x → P x
 each_contained P [] x each h = absurd (none_contained x h)
 each_contained P (y ∷ xs) x each h = elim (contained_or y xs x h) [ inl same ↦ subst P same each.0 | inr more ↦ each_contained P xs x each.1 more ]
-
--- what a list of images contains is the image of something
-pub map_contains : {A B : Type 0} (f : A → B) (xs : List A) (y : B) → Contains (map f xs) y → (x : A) × Contains xs x × (f x ≡ y)
-map_contains f [] y h = absurd (none_contained y h)
-map_contains f (x ∷ xs) y h = elim (contained_or (f x) (map f xs) y h) [
-  | inl same ↦ (x, first_contained x xs, same)
-  | inr more ↦ let found = map_contains f xs y more in (found.0, later_contained x xs found.0 found.1, found.2)
-]
-
--- and the image of what it contains is there
-pub contains_map : {A B : Type 0} (f : A → B) (xs : List A) (x : A) → Contains xs x → Contains (map f xs) (f x)
-contains_map f [] x h = absurd (none_contained x h)
-contains_map f (y ∷ xs) x h = elim (contained_or y xs x h) [
-  | inl same ↦ subst (λ z. Contains (f y ∷ map f xs) (f z)) same (first_contained (f y) (map f xs))
-  | inr more ↦ later_contained (f y) (map f xs) (f x) (contains_map f xs x more)
-]
-
--- what a list contains stands at an index
-pub stands_at : {A : Type 0} (xs : List A) (x : A) → Contains xs x → (k : ℕ) × (slice_get xs k ≡ Some x)
-stands_at [] x h = absurd (none_contained x h)
-stands_at (y ∷ xs) x h = elim (contained_or y xs x h) [
-  | inl same ↦ (zero, ap Some same)
-  | inr more ↦ let k = stands_at xs x more in (suc k.0, k.1)
-]
 
 -- ---- objects that were put
 

@@ -33,7 +33,8 @@ use Rattle.repo_writing.specs.Laws.{StandAsPut}
 use Rattle.repo_writing.specs.Putting.{PutDone, IsIndexed}
 use Rattle.repo_writing.specs.Writing.{Listing, packs_of, IsDone, AreListed}
 use Rattle.repo_writing.proofs.Keeping.{put_is_there, fact_of_listed}
-use Rattle.repo_writing.proofs.PutLemmas.{each_contained, map_contains, asked_put, first_contained, later_contained, flat_contains, contains_flat}
+use Rattle.repo_name.proofs.Containing.{map_contains, first_contained, later_contained, flat_contains, contains_flat}
+use Rattle.repo_writing.proofs.PutLemmas.{each_contained, asked_put}
 
 -- ---- the snapshots
 

@@ -29,7 +29,8 @@ use Rattle.repo_writing.specs.Sealing.{IsSealedOf, IsListed}
 use Rattle.repo_writing.specs.Writing.{Put, IsPut, items_of, bytes_of, AreCounts, ArePut, Listing, packs_of, IsDone, AreListed, FewWait}
 use Rattle.repo_writing.specs.declared.counts.Counts.{Counts}
 use Rattle.repo_writing.proofs.Listings.{placed_sum}
-use Rattle.repo_writing.proofs.PutLemmas.{none_contained, first_contained, later_contained, each_contained, map_contains, flat_contains, contains_flat, stands_at, objects_put_other, objects_put_more, put_done_later, put_done_now}
+use Rattle.repo_name.proofs.Containing.{none_contained, first_contained, later_contained, map_contains, flat_contains, contains_flat, stands_at}
+use Rattle.repo_writing.proofs.PutLemmas.{each_contained, objects_put_other, objects_put_more, put_done_later, put_done_now}
 
 -- how it is listed
 abbrev pub listing_of : Put → PackFacts

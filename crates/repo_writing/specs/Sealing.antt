@@ -9,6 +9,7 @@ use Rattle.repo_pack.specs.declared.writers.Sealed.{Sealed}
 use Rattle.repo_index.specs.declared.facts.Fact.{Fact}
 use Rattle.repo_index.specs.declared.facts.PackFacts.{PackFacts}
 use Rattle.repo_index.specs.Exactness.{AreFactsAt}
+use Rattle.repo_name.specs.Limits.{pack_limit}
 
 -- a pack that was sealed of these items: a true pack of at most 25,317,379 bytes, under its name, with their places
 pub record IsSealedOf (sealed : Sealed) (items : List Item) : Type 0 where
@@ -16,7 +17,7 @@ pub record IsSealedOf (sealed : Sealed) (items : List Item) : Type 0 where
   pub named : sealed.name ≡ naming.name sealed.bytes
   pub placed : ArePlaced sealed.name items sealed.blobs.items
   pub within : All (λ (blob : PlacedBlob). IsWithin blob.place.offset blob.place.length) sealed.blobs.items
-  pub small : length sealed.bytes ≤ 25317379
+  pub small : length sealed.bytes ≤ pack_limit
 
 -- a sealed pack, if there is one, has these items
 abbrev pub IsSealed : Option Sealed → List Item → Type 0

@@ -7,6 +7,7 @@ ghost use Rattle.repo_pack.specs.PackLayout.{Item, item_of};
 ghost use Rattle.repo_pack.specs.PackWriting.{IsOpen, with_item};
 ghost use Rattle.repo_pack.specs.declared.writers.Sealed.{Sealed};
 ghost use Rattle.repo_writing.specs.Sealing.{IsSealed, IsListed};
+ghost use Rattle.repo_name.specs.Limits.{blob_limit};
 
 use crate::targets::Target;
 use repo_index::PackFacts;
@@ -44,7 +45,7 @@ impl Packer {
     /// changed.
     pub fn add(&mut self, kind: BlobKind, name: &Name, bytes: &[u8]) -> Result<(), AllocError>
         requires room { IsOpen self.old.writer }
-        requires some { (1 ≤ length bytes.now) × (length bytes.now ≤ 8_388_608) }
+        requires some { (1 ≤ length bytes.now) × (length bytes.now ≤ blob_limit) }
         requires named { name.now ≡ naming.name bytes.now }
         ensures ok { OnOk result (self.new.writer ≡ with_item self.old.writer (item_of kind bytes.now)) }
         ensures err { OnErr result (self.new.writer ≡ self.old.writer) }

@@ -11,20 +11,18 @@ ghost use Rattle.repo_session.specs.declared.jobs.Step.{Step};
 ghost use Rattle.repo_store.specs.StoreMachine.{object_limit};
 ghost use Rattle.repo_wire.specs.declared.messages.Ask.{Ask};
 ghost use Rattle.repo_writing.specs.Sealing.{IsSealedOf};
+ghost use Rattle.repo_name.specs.Limits.{facts_limit, index_limit, put_limit};
 
 use repo_index::IndexText;
-use repo_name::{Bytes, Kind, Name, Token, name_of};
+use repo_name::{Bytes, FACTS_LIMIT, Kind, Name, PUT_LIMIT, Token, name_of};
 use repo_pack::Sealed;
 use repo_session::Step;
 use repo_wire::Ask;
 use std::alloc::{AllocError, Global};
 
-/// The most bytes that a request may hold.
-const LONGEST: usize = 26_214_334;
-
 /// The request that puts an object.
 fn put_ask(token: Token, kind: Kind, name: Name, bytes: Bytes) -> Ask
-    requires { length bytes ≤ 26_214_334 }
+    requires { length bytes ≤ put_limit }
     ensures ask { result ≡ Ask.Put token kind name bytes }
     ensures short { IsShort result }
 {
@@ -42,7 +40,7 @@ fn put(token: Token, kind: Kind, name: Name, bytes: Bytes) -> Step
     ensures puts { length bytes ≤ object_limit kind → result ≡ Step.Ask (Ask.Put token kind name bytes) }
     ensures short { IsShortStep result }
 {
-    if bytes.as_slice().len() > LONGEST {
+    if bytes.as_slice().len() > PUT_LIMIT {
         return Step::Away;
     }
     Step::Ask(put_ask(token, kind, name, bytes))
@@ -67,7 +65,7 @@ pub fn put_pack(token: Token, sealed: Sealed) -> Step
 
 /// Puts an index of the packs that wait. It fails for memory alone.
 pub fn put_index(alloc: Global, token: Token, waiting: &IndexText) -> Result<Step, AllocError>
-    ensures puts { IfOk result (λ step. AreLawful waiting.now → AreFew waiting.now → (x : List ℕ) × IsIndexText x waiting.now × (length x ≤ 8_388_608)
+    ensures puts { IfOk result (λ step. AreLawful waiting.now → AreFew waiting.now → (x : List ℕ) × IsIndexText x waiting.now × (length x ≤ index_limit)
         × (step ≡ Step.Ask (Ask.Put token Kind.Index (naming.name x) x))) }
     ensures short { IfOk result IsShortStep }
 {
@@ -79,12 +77,12 @@ pub fn put_index(alloc: Global, token: Token, waiting: &IndexText) -> Result<Ste
 
 /// Whether the packs that wait have 20,000 facts or more, and are to be listed.
 pub fn is_full(waiting: &IndexText) -> bool
-    ensures { IsTrue result ↔ (20_000 ≤ length (facts_in waiting.now)) }
+    ensures { IsTrue result ↔ (facts_limit ≤ length (facts_in waiting.now)) }
 {
     let packs = waiting.packs();
     let mut count: usize = 0;
     for pack in packs {
         count = count.saturating_add(pack.facts.as_slice().len());
     }
-    count >= 20_000
+    count >= FACTS_LIMIT
 }

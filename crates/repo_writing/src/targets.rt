@@ -1,6 +1,7 @@
 //! How large packs are.
 
 ghost use Rattle.std.specs.Prelude.{◌≡◌, ◌≤◌, []};
+ghost use Rattle.repo_name.specs.Limits.{greatest_target, least_target};
 
 use repo_pack::PackWriter;
 use std::alloc::Global;
@@ -9,13 +10,13 @@ use std::alloc::Global;
 #[derive(Clone, Copy, Debug)]
 pub struct Target {
     bytes: u32,
-    ghost bounded: { (1_024 ≤ bytes) × (bytes ≤ 16_777_216) },
+    ghost bounded: { (least_target ≤ bytes) × (bytes ≤ greatest_target) },
 }
 
 impl Target {
     /// The target of so many bytes.
     pub fn of(bytes: u32) -> Target
-        requires { (1_024 ≤ bytes) × (bytes ≤ 16_777_216) }
+        requires { (least_target ≤ bytes) × (bytes ≤ greatest_target) }
         ensures { result.bytes ≡ bytes }
     {
         Target { bytes }

@@ -1,6 +1,6 @@
 use Rattle.std.proofs.Common.{arith, subst, Contains, List}
 use Rattle.repo_tree.specs.declared.nodes.Node.{Node}
-use Rattle.repo_tree.proofs.Containing.{none_contained}
+use Rattle.repo_name.proofs.Containing.{none_contained}
 use Rattle.repo_check.specs.Measures.{Suits}
 use Rattle.repo_check.proofs.Measuring.{left_each, left_none}
 use Rattle.repo_check.proofs.measures.all_suit.Goals as goal

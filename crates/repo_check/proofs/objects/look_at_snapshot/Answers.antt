@@ -20,4 +20,4 @@ returns-in-Err c =
     let n = c.args.name in
     let say = c.args.say.now in
     ok_then (MisreadAs c.in-Err.error) (LooksAtSnapshot n say) c.misread_snapshot.result
-    (λ look is. snapshot_misread n c.in-Named.bytes.now say c.in-Err.error look c.in-Named.ensures.0 c.in-Named.ensures.1 c.in-Err.ensures.fault c.in-Err.ensures.none is) c.misread_snapshot.ensures
+    (λ look is. snapshot_misread n c.in-Named.bytes.now say c.in-Err.error look c.in-Named.ensures.0 c.in-Named.ensures.1 c.in-Err.ensures.fault is) c.misread_snapshot.ensures

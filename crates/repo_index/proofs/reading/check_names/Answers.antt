@@ -1,6 +1,6 @@
 use Rattle.std.proofs.Common.{◌++◌, ◌∷◌, []}
 use Rattle.repo_index.specs.IndexText.{IsNameText}
-use Rattle.repo_index.proofs.ListingLemmas.{begins_more}
+use Rattle.repo_json.proofs.ListingLemmas.{begins_more}
 use Rattle.repo_index.proofs.reading.check_names.Goals as goal
 
 pub loop-value-preserved : goal.loop-value-preserved

@@ -2,7 +2,7 @@
 use Rattle.std.proofs.Common.{drop, List}
 use Rattle.serde_json.specs.View.{items_view}
 use Rattle.repo_name.specs.declared.names.Name.{Name}
-use Rattle.repo_index.specs.Listing.{BeginsWith}
+use Rattle.repo_json.specs.Listing.{BeginsWith}
 use Rattle.repo_index.specs.IndexText.{IsNameText}
 use Rattle.repo_index.proofs.reading.check_names.Given as goal
 

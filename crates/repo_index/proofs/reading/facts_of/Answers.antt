@@ -2,7 +2,7 @@ use Rattle.std.proofs.Common.{rules, ◌≡◌, ◌++◌, ◌∷◌, []}
 use Rattle.std.proofs.lemmas.Result.{err_from_is_err_and}
 use Rattle.repo_index.specs.IndexText.{BlobSays}
 use Rattle.repo_index.specs.IndexFaults.{BlobFault}
-use Rattle.repo_index.proofs.ListingLemmas.{begins_more, fault_here}
+use Rattle.repo_json.proofs.ListingLemmas.{begins_more, fault_here}
 use Rattle.repo_index.proofs.reading.facts_of.Goals as goal
 
 pub returns-in_err-fact-clause-fault : goal.returns-in_err-fact-clause-fault

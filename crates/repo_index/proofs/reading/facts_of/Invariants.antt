@@ -1,7 +1,7 @@
 -- The values begin with those of the facts so far, and the ones that are left follow.
 use Rattle.std.proofs.Common.{drop}
 use Rattle.serde_json.specs.View.{items_view}
-use Rattle.repo_index.specs.Listing.{BeginsWith}
+use Rattle.repo_json.specs.Listing.{BeginsWith}
 use Rattle.repo_index.specs.IndexText.{BlobSays}
 use Rattle.repo_index.proofs.reading.facts_of.Given as goal
 

@@ -1,6 +1,7 @@
 use Rattle.std.proofs.Common.{arith, rules, ◌∙◌, sym, length, ◌<◌}
 use Rattle.repo_locks.specs.LedgerBytes.{token_bytes, IsNumber}
-use Rattle.repo_locks.proofs.Texts.{too_few, tokens_one, no_token}
+use Rattle.repo_name.proofs.CountLemmas.{too_few}
+use Rattle.repo_locks.proofs.Texts.{tokens_one, no_token}
 use Rattle.repo_locks.proofs.reading.numbers_at.Goals as goal
 
 pub returns-in_err-number-clause-shape : goal.returns-in_err-number-clause-shape

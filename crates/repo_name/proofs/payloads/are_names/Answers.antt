@@ -1,4 +1,4 @@
-use Rattle.std.proofs.Common.{[], List, subst, arith, take, All}
+use Rattle.std.proofs.Common.{[], List, subst, arith, All}
 use Rattle.std.proofs.Math.Seq.{take_all}
 use Rattle.std.proofs.lemmas.List.Elements.{All-more}
 use Rattle.repo_name.specs.declared.names.Name.{Name}

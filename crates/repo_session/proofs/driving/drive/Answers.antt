@@ -78,7 +78,7 @@ returns-then-not-hand_out-clause-carries g c =
     let end = g.W.Write.contents c.ask.new.writer in
     let n = c.in_ok-reply-in-Some.ensures i.0 (read_in i.1) i.3 in
     let turn : Turn = record { request = c.in-Some.request.now; passed = n.2; reply = c.in_ok-reply-in-Some.reply; emitted = g.C.Client.given c.take.new.self } in
-    let is : IsTurn turn = record { passed = n.3; answers = n.4.0.0 } in
+    let is : IsTurn turn = record { fits = c.pending.ensures.frame c.in-Some.request.now pending; passed = n.3; answers = n.4.0.0 } in
     let talk : Talk = turn ∷ i.1 in
     let said : Said = record { bytes = i.0 ++ n.0; talk = talk; more = [] } in
     let written = written_on start (g.W.Write.contents c.loop-turn.writer) end (sent_in i.1) c.in-Some.request.now i.6 n.4.1 in (
@@ -99,7 +99,7 @@ loop-turn-preserved g c =
     let end = g.W.Write.contents c.ask.new.writer in
     let n = c.in_ok-reply-in-Some.ensures i.0 (read_in i.1) i.3 in
     let turn : Turn = record { request = c.in-Some.request.now; passed = n.2; reply = c.in_ok-reply-in-Some.reply; emitted = g.C.Client.given c.take.new.self } in
-    let is : IsTurn turn = record { passed = n.3; answers = n.4.0.0 } in
+    let is : IsTurn turn = record { fits = c.pending.ensures.frame c.in-Some.request.now pending; passed = n.3; answers = n.4.0.0 } in
     record {
       gone = (
         i.0 ++ n.0,

@@ -39,7 +39,7 @@ returns-in_err-keep-clause-steps g c honest =
     let pending : g.C.Client.next c.loop-turn.client ≡ Some c.in-Some.request.now = sym c.pending.ensures.next ∙ ap (option_map (λ r. r.now)) c.in-Some.is in
     let answer = c.answer-reply.ensures.replies h in
     let turn : Turn = record { request = c.in-Some.request.now; passed = []; reply = c.answer-reply.result; emitted = g.C.Client.given c.take.new.self } in
-    let is : IsTurn turn = record { passed = tt; answers = c.answer-reply.ensures.repeats } in
+    let is : IsTurn turn = record { fits = c.pending.ensures.frame c.in-Some.request.now pending; passed = tt; answers = c.answer-reply.ensures.repeats } in
     let taken = c.in_ok-take.ensures.taken c.in-Some.request.now pending is.answers in
     let part = c.in_err-keep.ensures.err in
     rw (p.1, p.2) (
@@ -63,7 +63,7 @@ returns-in_err-keep-clause-went g c =
     let i = c.loop-turn.invariant.gone in
     let pending : g.C.Client.next c.loop-turn.client ≡ Some c.in-Some.request.now = sym c.pending.ensures.next ∙ ap (option_map (λ r. r.now)) c.in-Some.is in
     let turn : Turn = record { request = c.in-Some.request.now; passed = []; reply = c.answer-reply.result; emitted = g.C.Client.given c.take.new.self } in
-    let is : IsTurn turn = record { passed = tt; answers = c.answer-reply.ensures.repeats } in
+    let is : IsTurn turn = record { fits = c.pending.ensures.frame c.in-Some.request.now pending; passed = tt; answers = c.answer-reply.ensures.repeats } in
     let taken = c.in_ok-take.ensures.taken c.in-Some.request.now pending is.answers in
     (turn ∷ i.0, went_on g.C.Client.fits c.args.client.now c.loop-turn.client c.take.new.self i.0 turn i.1 is taken)
 
@@ -72,7 +72,7 @@ loop-turn-preserved g c =
     let i = c.loop-turn.invariant.gone in
     let pending : g.C.Client.next c.loop-turn.client ≡ Some c.in-Some.request.now = sym c.pending.ensures.next ∙ ap (option_map (λ r. r.now)) c.in-Some.is in
     let turn : Turn = record { request = c.in-Some.request.now; passed = []; reply = c.answer-reply.result; emitted = g.C.Client.given c.take.new.self } in
-    let is : IsTurn turn = record { passed = tt; answers = c.answer-reply.ensures.repeats } in
+    let is : IsTurn turn = record { fits = c.pending.ensures.frame c.in-Some.request.now pending; passed = tt; answers = c.answer-reply.ensures.repeats } in
     let taken = c.in_ok-take.ensures.taken c.in-Some.request.now pending is.answers in
     record {
       gone = (

@@ -17,11 +17,12 @@ use Rattle.repo_backup.specs.declared.stages.Stage.{Stage}
 use Rattle.repo_backup.proofs.Ruling.{index_rule}
 use Rattle.repo_backup.proofs.Staging.{same_working, if_ok}
 use Rattle.repo_backup.proofs.jobs.BackupJob.send_index.Goals as goal
+use Rattle.repo_name.specs.Limits.{index_limit}
 
 -- the index of what waits may be asked for
 puts_index : (j : BackupJob) (holding : Holding) (token : Token) (es : Trace) (b : Backing) (step : Step) → IsWorking (backup_task holding.who) holding.token es → j.stage ≡ Stage.Working b
     → IsIndexNext (handed_to j) j.catalog.lookup b es → token ≡ holding.token
-    → (x : List ℕ) × IsIndexText x b.waiting × (length x ≤ 8388608) × (step ≡ Step.Ask (Ask.Put token Kind.Index (naming.name x) x))
+    → (x : List ℕ) × IsIndexText x b.waiting × (length x ≤ index_limit) × (step ≡ Step.Ask (Ask.Put token Kind.Index (naming.name x) x))
     → IsNextStep (handed_to j) holding.who (Knows j) step es
 puts_index j holding token es b step working at h own (x, reads, short, is) =
     let S : Step → Type 0 = λ step. IsNextStep (handed_to j) holding.who (Knows j) step es in

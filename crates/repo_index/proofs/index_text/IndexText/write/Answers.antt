@@ -1,6 +1,7 @@
 use Rattle.std.proofs.Common.{◌≡◌, ◌≤◌, ◌+◌, ◌*◌, ◌∙◌, ℕ, List, length, Some, ap, subst, sym}
 use Rattle.serde_json.specs.Data.{depth}
 use Rattle.serde_json.specs.View.{view}
+use Rattle.repo_name.specs.Limits.{index_limit}
 use Rattle.repo_index.specs.IndexText.{facts_in}
 use Rattle.repo_index.specs.IndexWriting.{index_data, ArePacks}
 use Rattle.repo_index.specs.declared.facts.PackFacts.{PackFacts}
@@ -32,4 +33,4 @@ returns-clause-short c few =
     let text = text_is (view c.in_ok-value.value) c.in_ok-to_vec.field-0.items c.packs.result.now c.args.self.now c.packs.ensures c.in_ok-value.ensures.value
     c.in_ok-to_vec.ensures.text in
     let made = subst (λ (ps : List PackFacts). ArePacks ps) c.packs.ensures c.in_ok-value.ensures.made in
-    subst (λ (t : List ℕ). length t ≤ 8_388_608) (sym text) (few_short c.args.self.now made few)
+    subst (λ (t : List ℕ). length t ≤ index_limit) (sym text) (few_short c.args.self.now made few)

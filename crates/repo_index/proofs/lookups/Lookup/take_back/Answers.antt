@@ -1,4 +1,4 @@
-use Rattle.std.proofs.Common.{List, ◌↔◌, subst, arith, take, Contains}
+use Rattle.std.proofs.Common.{List, ◌↔◌, subst, arith, Contains}
 use Rattle.std.proofs.Math.Seq.{take_all}
 use Rattle.repo_index.specs.declared.facts.Fact.{Fact}
 use Rattle.repo_index.proofs.LookupLemmas.{taken_more, taken_whole}

@@ -1,4 +1,4 @@
-use Rattle.std.proofs.Common.{rules, ◌≡◌, sym, ◌∙◌, ap, Ok, nat_eq, true}
+use Rattle.std.proofs.Common.{rules, ◌≡◌, sym, ◌∙◌, ap, nat_eq, true}
 use Rattle.std.specs.Cmp.Lexicographic.{pointwise, lists_equiv}
 use Rattle.std.specs.Cmp.{nat_eq_equiv}
 use Rattle.hex.specs.Hex.{decode_sized, encode_lower}

@@ -1,7 +1,7 @@
-use Rattle.std.proofs.Common.{Vec, Global, ap, inl, refl, sym, ◌∙◌}
+use Rattle.std.proofs.Common.{[], Vec, Global, ap, inl, refl, sym, ◌∙◌}
 use Rattle.std.proofs.lemmas.Result.{on_err_weaker}
 use Rattle.repo_index.specs.declared.facts.PackFacts.{PackFacts}
-use Rattle.repo_prune.proofs.Repacking.{unsealed}
+use Rattle.repo_prune.proofs.Repacking.{unsealed, sent_before}
 use Rattle.repo_prune.proofs.moving.Moving.next.Goals as goal
 
 pub returns-then-is_due-clause-err : goal.returns-then-is_due-clause-err
@@ -19,4 +19,4 @@ returns-in-Some-clause-on c = λ sent sealed moving.
     let room = c.if-is_due.ensures.open refl in
     let alone = unsealed m sent sealed room.0 moving in
     let there = rw c.as_slice.ensures.value at c.in-Some.ensures in
-    (record { moving = record { sealed_is = alone.sealed_is; moved = alone.moved; within = alone.within; counted = alone.counted }; asked = sym there; next = inl (refl, room.1, room.0) }, refl)
+    (record { moving = record { sealed_is = alone.sealed_is; moved = alone.moved; within = alone.within; counted = alone.counted }; before = sent_before m sent [] alone; asked = sym there; next = inl (refl, room.1, room.0) }, refl)

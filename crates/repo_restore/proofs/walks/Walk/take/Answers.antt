@@ -14,5 +14,5 @@ returns-in_ok-check_fault-in-Err-clause-ok c = λ gs root old h received named l
     let R : BlobKind → Type 0 = λ kind. Received gs kind c.args.bytes.now in
     let E : List Emission → Type 0 = λ out. Each (MayGive 1 (Received gs) root) out in
     let waits = subst K c.in-Tree.is h.waits in
-    let unread = c.in-Err.ensures.none c.in_ok-check_fault-in-Err.ensures in
+    let unread = c.in-Err.ensures.none c.in_ok-check_fault-in-Err.ensures.fault in
     ((refl, (waits.0, waits.2, inl (inl (c.args.bytes.now, subst R c.in-Tree.is received, named, unread)))), subst E (sym none) tt)

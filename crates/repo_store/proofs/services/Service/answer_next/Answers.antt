@@ -23,7 +23,7 @@ returns-in_err-write_reply-clause-next g c honest before past has =
     let now = seen (g.S.Shelf.store c.args.shelf.now) (g.S.Shelf.failed c.args.shelf.now) contents in
     let after = seen (g.S.Shelf.store c.answer-reply.new.shelf) (g.S.Shelf.failed c.answer-reply.new.shelf) contents in
     let answered = answered_next g.F.Form.shown before c.args.self.now c.next_request.new.self past now after c.in-Some.request c.answer-reply.result has given
-    (c.answer-reply.ensures.replies honest) (c.answer-reply.ensures.cause honest) in
+    (c.answer-reply.ensures.replies honest) (c.answer-reply.ensures.cause honest) c.answer-reply.ensures.fits in
     rw (p.1, p.2) (frame_refused g.F.Form.shown before c.next_request.new.self past after c.in-Some.request c.answer-reply.result answered has.written)
 
 pub returns-in_err-show-clause-next : goal.returns-in_err-show-clause-next
@@ -35,7 +35,7 @@ returns-in_err-show-clause-next g c honest before past has =
     let now = seen (g.S.Shelf.store c.args.shelf.now) (g.S.Shelf.failed c.args.shelf.now) contents in
     let after = seen (g.S.Shelf.store c.answer-reply.new.shelf) (g.S.Shelf.failed c.answer-reply.new.shelf) contents in
     let answered = answered_next g.F.Form.shown before c.args.self.now c.next_request.new.self past now after c.in-Some.request c.answer-reply.result has given
-    (c.answer-reply.ensures.replies honest) (c.answer-reply.ensures.cause honest) in
+    (c.answer-reply.ensures.replies honest) (c.answer-reply.ensures.cause honest) c.answer-reply.ensures.fits in
     rw (p.1, p.2) (frame_refused g.F.Form.shown before c.next_request.new.self past after c.in-Some.request c.answer-reply.result answered has.written)
 
 pub returns-in_err-write_whole-clause-next : goal.returns-in_err-write_whole-clause-next
@@ -48,7 +48,7 @@ returns-in_err-write_whole-clause-next g c honest before past has =
     let failures = g.S.Shelf.failed c.answer-reply.new.shelf in
     let now = seen (g.S.Shelf.store c.args.shelf.now) (g.S.Shelf.failed c.args.shelf.now) contents in
     let answered = answered_next g.F.Form.shown before c.args.self.now c.next_request.new.self past now (seen store failures contents) c.in-Some.request c.answer-reply.result has given
-    (c.answer-reply.ensures.replies honest) (c.answer-reply.ensures.cause honest) in
+    (c.answer-reply.ensures.replies honest) (c.answer-reply.ensures.cause honest) c.answer-reply.ensures.fits in
     let frames = c.in_ok-write_reply.ensures.ok ∙ ap (λ x. x ++ frame (reply_body c.answer-reply.result)) c.clear.ensures.items in
     let bytes = c.as_slice.ensures.value ∙ c.in_ok-show.ensures ∙ ap g.F.Form.shown frames in
     rw (p.1, p.2) (frame_cut g.F.Form.shown before c.next_request.new.self past store failures contents (g.W.Write.contents c.write_whole.new.writer) c.in-Some.request c.answer-reply.result
@@ -63,7 +63,7 @@ returns-clause-next g c honest before past has =
     let failures = g.S.Shelf.failed c.answer-reply.new.shelf in
     let now = seen (g.S.Shelf.store c.args.shelf.now) (g.S.Shelf.failed c.args.shelf.now) contents in
     let answered = answered_next g.F.Form.shown before c.args.self.now c.next_request.new.self past now (seen store failures contents) c.in-Some.request c.answer-reply.result has given
-    (c.answer-reply.ensures.replies honest) (c.answer-reply.ensures.cause honest) in
+    (c.answer-reply.ensures.replies honest) (c.answer-reply.ensures.cause honest) c.answer-reply.ensures.fits in
     let frames = c.in_ok-write_reply.ensures.ok ∙ ap (λ x. x ++ frame (reply_body c.answer-reply.result)) c.clear.ensures.items in
     let bytes = c.as_slice.ensures.value ∙ c.in_ok-show.ensures ∙ ap g.F.Form.shown frames in (
       c.in-Some.request,

@@ -1,0 +1,291 @@
+-- A round over the objects of one kind.
+use Rattle.std.proofs.Common.{arith, ◌≡◌, ◌≤◌, ◌+◌, ◌++◌, ◌∷◌, [], ℕ, Bool, true, false, List, length, map, take, slice_get, suc, cond, Option, Some, None, refl, sym, ap, subst, inl, inr, ◌∙◌, length-append}
+use Rattle.std.proofs.lemmas.List.{append-nil, take_all}
+use Rattle.std.proofs.lemmas.Option.{slice_get_within, get_or_from_slice_get}
+use Rattle.std.proofs.Math.Seq.{take-suc}
+use Rattle.std.specs.Prelude.{Result, Ok, Err, IfOk, OnErr, OnOk}
+use Rattle.repo_name.specs.declared.kinds.Kind.{Kind}
+use Rattle.repo_name.specs.declared.names.Name.{Name}
+use Rattle.repo_name.specs.declared.tokens.Token.{Token}
+use Rattle.repo_wire.specs.declared.messages.Ask.{Ask}
+use Rattle.repo_wire.specs.declared.messages.Code.{Code}
+use Rattle.repo_wire.specs.declared.messages.Say.{Say}
+use Rattle.repo_store.specs.Pages.{Has}
+use Rattle.repo_session.specs.Order.{Task, IsWorking, May}
+use Rattle.repo_session.specs.Readings.{KnowsRoll}
+use Rattle.repo_session.specs.Rolls.{IsNamed, IsPaged, IsRolled}
+use Rattle.repo_session.specs.Traces.{Each, Exchange, Trace, Object, same_kind, page_names, is_last_page, object_got, objects_in, silent}
+use Rattle.repo_session.proofs.Rolling.{has_got, paged_on}
+use Rattle.repo_check.specs.Answers.{Answer}
+use Rattle.repo_check.specs.Arrivals.{IsAnswer}
+use Rattle.repo_check.specs.Checking.{IsGot, AreGot}
+use Rattle.repo_check.specs.Rounds.{IsUntouched, IsListing, IsWhole, AsksNext, KnowsRound, TurnsOn, Takes, Match, IsNoted, AreNoted, RoundView, round_of}
+use Rattle.repo_check.specs.declared.rounds.Note.{Note}
+use Rattle.repo_check.specs.declared.rounds.Round.{Round}
+use Rattle.repo_check.specs.declared.rounds.Turn.{Turn}
+
+-- ---- what comes next
+
+-- a listed name may be got
+may_get : (task : Task) (token : Token) (k : Kind) (names : List Name) (i : ℕ) (n : Name) (es : Trace) → IsWorking task token es → IsPaged k names true es → slice_get names i ≡ Some n → May task es (Ask.Get k n)
+may_get task token k names i n es w paged next = ((token, w), inl (paged.rise, subst (λ ns. Has ns n) (sym paged.listed) (has_got names i n next)))
+
+module _ {T : Type 0} where
+  pub next_on : (task : Task) (token : Token) (k : Kind) (round : RoundView T) (turn : Turn) (e : Exchange) (es : Trace) → IsWorking task token (e ∷ es) → round.kind ≡ k → IsPaged k round.names true (e ∷ es)
+      → AsksNext round turn → TurnsOn task k round turn e es
+  next_on task token k round (Turn.Ask ask) e es w kind paged asks =
+      let n = asks.0 in
+      let is : Ask.Get k n ≡ ask = ap (λ j. Ask.Get j n) (sym kind) ∙ sym asks.1 in
+      subst (λ a. KnowsRound k round a (e ∷ es) × May task (e ∷ es) a) is
+      ((refl, record { of_kind = kind; paged = paged; next = asks.2 }), may_get task token k round.names (length round.notes) n (e ∷ es) w paged asks.2)
+  next_on task token k round Turn.All e es w kind paged asks = record { of_kind = kind; paged = paged; all = asks }
+  next_on task token k round Turn.Senseless e es w kind paged asks = absurd asks
+  next_on task token k round Turn.Version e es w kind paged asks = absurd asks
+  next_on task token k round Turn.Away e es w kind paged asks = absurd asks
+
+  -- what the roll knows while its pages come
+  pub listing_rolls : (k : Kind) (own : Round T) (after : Option Name) (es : Trace) → IsListing k (round_of own) es → KnowsRoll own.roll (Ask.List k after) es
+  listing_rolls k own after es h =
+      let round = round_of own in
+      let R : Kind → ℕ → Type 0 = λ j read. IsRolled j round.names read false es in
+      (sym h.of_kind, h.none_read, subst (λ j. R j round.read) (sym h.of_kind) (subst (λ read. R k read) (sym h.none_read) h.rolled))
+
+  -- and what the round knows of it
+  pub roll_known : (k : Kind) (own : Round T) (ask : Ask) (es : Trace) → own.roll.kind ≡ k → own.roll.read ≡ 0 → own.notes.items ≡ [] → KnowsRoll own.roll ask es → KnowsRound k (round_of own) ask es
+  roll_known k own (Ask.List j after) es kind read none h =
+      let round = round_of own in
+      let R : Kind → ℕ → Type 0 = λ i n. IsRolled i round.names n false es in
+      (h.0 ∙ kind, record { of_kind = kind; none_read = read; rolled = subst (λ i. R i 0) kind (subst (λ n. R round.kind n) read h.2); none = none })
+  roll_known k own (Ask.Get j n) es kind read none h =
+      let round = round_of own in (
+        h.0 ∙ kind,
+        record {
+          of_kind = kind;
+          paged = subst (λ i. IsPaged i round.names true es) kind h.2.paged;
+          next = ap (λ i. slice_get round.names i) (ap length none ∙ sym read) ∙ h.1;
+        },
+      )
+  roll_known k own Ask.Ticket es kind read none h = absurd h
+  roll_known k own (Ask.Lock row) es kind read none h = absurd h
+  roll_known k own (Ask.Refresh token time) es kind read none h = absurd h
+  roll_known k own (Ask.Unlock token) es kind read none h = absurd h
+  roll_known k own Ask.Locks es kind read none h = absurd h
+  roll_known k own (Ask.Range pack offset len) es kind read none h = absurd h
+  roll_known k own (Ask.Put token j n x) es kind read none h = absurd h
+  roll_known k own (Ask.Delete token j n) es kind read none h = absurd h
+  roll_known k own Ask.Config es kind read none h = absurd h
+
+-- ---- exchanges of another kind
+
+-- the request is of another kind, or for a place
+abbrev pub IsAside : Kind → Ask → Type 0
+IsAside k (Ask.List j after) = same_kind j k ≡ false
+IsAside k (Ask.Get j n) = same_kind j k ≡ false
+IsAside k (Ask.Range pack offset len) = Unit {0}
+IsAside k _ = ⊥
+
+module _ (k : Kind) where
+  no_names : (ask : Ask) (say : Say) → IsAside k ask → page_names k ask say ≡ []
+  no_names (Ask.List j after) (Say.Names more names) h = ap (λ b. cond b names []) h
+  no_names (Ask.List j after) (Say.Token token) h = refl
+  no_names (Ask.List j after) Say.Done h = refl
+  no_names (Ask.List j after) (Say.Bytes x) h = refl
+  no_names (Ask.List j after) (Say.LockList rows) h = refl
+  no_names (Ask.List j after) (Say.Refused code) h = refl
+  no_names (Ask.Get j n) say h = refl
+  no_names (Ask.Range pack offset len) say h = refl
+  no_names Ask.Ticket say h = absurd h
+  no_names (Ask.Lock row) say h = absurd h
+  no_names (Ask.Refresh token time) say h = absurd h
+  no_names (Ask.Unlock token) say h = absurd h
+  no_names Ask.Locks say h = absurd h
+  no_names (Ask.Put token j n x) say h = absurd h
+  no_names (Ask.Delete token j n) say h = absurd h
+  no_names Ask.Config say h = absurd h
+
+  no_last : (ask : Ask) (say : Say) → IsAside k ask → is_last_page k ask say ≡ false
+  no_last (Ask.List j after) (Say.Names true names) h = refl
+  no_last (Ask.List j after) (Say.Names false names) h = h
+  no_last (Ask.List j after) (Say.Token token) h = refl
+  no_last (Ask.List j after) Say.Done h = refl
+  no_last (Ask.List j after) (Say.Bytes x) h = refl
+  no_last (Ask.List j after) (Say.LockList rows) h = refl
+  no_last (Ask.List j after) (Say.Refused code) h = refl
+  no_last (Ask.Get j n) say h = refl
+  no_last (Ask.Range pack offset len) say h = refl
+  no_last Ask.Ticket say h = absurd h
+  no_last (Ask.Lock row) say h = absurd h
+  no_last (Ask.Refresh token time) say h = absurd h
+  no_last (Ask.Unlock token) say h = absurd h
+  no_last Ask.Locks say h = absurd h
+  no_last (Ask.Put token j n x) say h = absurd h
+  no_last (Ask.Delete token j n) say h = absurd h
+  no_last Ask.Config say h = absurd h
+
+  no_object : (ask : Ask) (say : Say) → IsAside k ask → object_got k ask say ≡ []
+  no_object (Ask.List j after) say h = refl
+  no_object (Ask.Get j n) (Say.Bytes x) h = ap (λ b. cond b (record { name = n; bytes = x } ∷ []) []) h
+  no_object (Ask.Get j n) (Say.Names more names) h = refl
+  no_object (Ask.Get j n) (Say.Token token) h = refl
+  no_object (Ask.Get j n) Say.Done h = refl
+  no_object (Ask.Get j n) (Say.LockList rows) h = refl
+  no_object (Ask.Get j n) (Say.Refused code) h = refl
+  no_object (Ask.Range pack offset len) say h = refl
+  no_object Ask.Ticket say h = absurd h
+  no_object (Ask.Lock row) say h = absurd h
+  no_object (Ask.Refresh token time) say h = absurd h
+  no_object (Ask.Unlock token) say h = absurd h
+  no_object Ask.Locks say h = absurd h
+  no_object (Ask.Put token j n x) say h = absurd h
+  no_object (Ask.Delete token j n) say h = absurd h
+  no_object Ask.Config say h = absurd h
+
+  other_self : (j : Kind) → same_kind j k ≡ false → j ≡ k → ⊥
+  other_self j h same = let self : same_kind k k ≡ false = subst (λ i. same_kind i k ≡ false) same h in itself k self
+    where
+      itself : (i : Kind) → same_kind i i ≡ false → ⊥
+      itself Kind.Pack p = absurd (cc p)
+      itself Kind.Index p = absurd (cc p)
+      itself Kind.Snapshot p = absurd (cc p)
+
+  no_list : (ask : Ask) → IsAside k ask → (after : Option Name) → ask ≡ Ask.List k after → ⊥
+  no_list (Ask.List j before) h after is = other_self j h (let p = is in cc)
+  no_list (Ask.Get j n) h after is = absurd (cc is)
+  no_list (Ask.Range pack offset len) h after is = absurd (cc is)
+  no_list Ask.Ticket h after is = absurd h
+  no_list (Ask.Lock row) h after is = absurd h
+  no_list (Ask.Refresh token time) h after is = absurd h
+  no_list (Ask.Unlock token) h after is = absurd h
+  no_list Ask.Locks h after is = absurd h
+  no_list (Ask.Put token j n x) h after is = absurd h
+  no_list (Ask.Delete token j n) h after is = absurd h
+  no_list Ask.Config h after is = absurd h
+
+  pub paged_aside : (names : List Name) (whole : Bool) (e : Exchange) (es : Trace) → IsAside k e.ask → IsPaged k names whole es → IsPaged k names whole (e ∷ es)
+  paged_aside names whole e es aside h = paged_on k e names whole es (no_names e.ask e.say aside) (no_last e.ask e.say aside) (no_list e.ask aside) h
+
+  pub untouched_aside : (e : Exchange) (es : Trace) → IsAside k e.ask → IsUntouched k es → IsUntouched k (e ∷ es)
+  untouched_aside e es aside h =
+      let same : objects_in k es ++ object_got k e.ask e.say ≡ objects_in k es = ap (λ os. objects_in k es ++ os) (no_object e.ask e.say aside) ∙ append-nil (objects_in k es) in
+      record {
+        paged = paged_aside [] false e es aside h.paged;
+        within = h.within;
+        received = ap (λ os. map (λ (o : Object). o.name) os) same ∙ h.received;
+        named = subst (λ os. Each IsNamed os) (sym same) h.named;
+      }
+
+-- ---- notes
+
+got_grows : (e : Exchange) (es : Trace) (k : Kind) (n : Name) (bytes : Option (List ℕ)) → IsGot es k n bytes → IsGot (e ∷ es) k n bytes
+got_grows e es k n (Some x) h = inr h
+got_grows e es k n None h = inr h
+
+all_grow : (e : Exchange) (es : Trace) (k : Kind) (answers : List Answer) → Each (λ (a : Answer). IsGot es k a.name a.bytes) answers → Each (λ (a : Answer). IsGot (e ∷ es) k a.name a.bytes) answers
+all_grow e es k [] h = tt
+all_grow e es k (a ∷ answers) h = (got_grows e es k a.name a.bytes h.0, all_grow e es k answers h.1)
+
+-- what came just now
+got_now : (k : Kind) (n : Name) (say : Say) (a : Answer) (es : Trace) → IsAnswer n say a → (a.name ≡ n) × IsGot (silent (Ask.Get k n) say ∷ es) k a.name a.bytes
+got_now k n (Say.Bytes x) a es h =
+    let fs : Trace = silent (Ask.Get k n) (Say.Bytes x) ∷ es in
+    (h.0, subst (λ m. IsGot fs k m a.bytes) (sym h.0) (subst (λ (b : Option (List ℕ)). IsGot fs k n b) (sym h.1) (inl (refl, refl))))
+got_now k n (Say.Refused Code.Missing) a es h =
+    let fs : Trace = silent (Ask.Get k n) (Say.Refused Code.Missing) ∷ es in
+    (h.0, subst (λ m. IsGot fs k m a.bytes) (sym h.0) (subst (λ (b : Option (List ℕ)). IsGot fs k n b) (sym h.1) (inl (refl, refl))))
+got_now k n (Say.Refused Code.Malformed) a es h = absurd h
+got_now k n (Say.Refused Code.Dead) a es h = absurd h
+got_now k n (Say.Refused Code.Busy) a es h = absurd h
+got_now k n (Say.Refused Code.NotExclusive) a es h = absurd h
+got_now k n (Say.Refused Code.NameMismatch) a es h = absurd h
+got_now k n (Say.Refused Code.TooLarge) a es h = absurd h
+got_now k n (Say.Refused Code.Range) a es h = absurd h
+got_now k n (Say.Refused Code.OtherKind) a es h = absurd h
+got_now k n (Say.Refused Code.Fault) a es h = absurd h
+got_now k n (Say.Refused Code.NoMemory) a es h = absurd h
+got_now k n (Say.Refused Code.Full) a es h = absurd h
+got_now k n (Say.Refused Code.Exhausted) a es h = absurd h
+got_now k n (Say.Token token) a es h = absurd h
+got_now k n Say.Done a es h = absurd h
+got_now k n (Say.Names more names) a es h = absurd h
+got_now k n (Say.LockList rows) a es h = absurd h
+
+each_end : {A : Type 0} (P : A → Type 0) (xs : List A) (a : A) → Each P xs → P a → Each P (xs ++ a ∷ [])
+each_end P [] a h p = (p, tt)
+each_end P (x ∷ xs) a h p = (h.0, each_end P xs a h.1 p)
+
+map_end : {A B : Type 0} (f : A → B) (xs : List A) (a : A) → map f (xs ++ a ∷ []) ≡ map f xs ++ f a ∷ []
+map_end f [] a = refl
+map_end f (x ∷ xs) a = ap (λ l. f x ∷ l) (map_end f xs a)
+
+one_more : (names : List Name) (i : ℕ) (n : Name) → slice_get names i ≡ Some n → take (i + 1) names ≡ take i names ++ n ∷ []
+one_more names i n q =
+    let s : i + 1 ≡ suc i = omega arith in
+    ap (λ j. take j names) s ∙ take-suc names i n (slice_get_within names i n q) ∙ ap (λ y. take i names ++ y ∷ []) (get_or_from_slice_get names i n n q)
+
+pub match_end : {A B : Type 0} (R : A → B → Type 0) (xs : List A) (ys : List B) (a : A) (b : B) → Match R xs ys → R a b → Match R (xs ++ a ∷ []) (ys ++ b ∷ [])
+match_end R [] [] a b h r = (r, tt)
+match_end R (x ∷ xs) (y ∷ ys) a b h r = (h.0, match_end R xs ys a b h.1 r)
+match_end R [] (y ∷ ys) a b h r = absurd h
+match_end R (x ∷ xs) [] a b h r = absurd h
+
+module _ {T : Type 0} (k : Kind) (Gives : Answer → T → Type 0) where
+  -- nothing is noted yet
+  pub none_noted : (names : List Name) (notes : List (Note T)) (es : Trace) → notes ≡ [] → AreNoted k Gives names notes es
+  none_noted names notes es none = subst (λ ns. AreNoted k Gives names ns es) (sym none) (record { answers = []; named = refl; got = tt; noted = tt })
+
+  pub noted_grow : (names : List Name) (notes : List (Note T)) (e : Exchange) (es : Trace) → AreNoted k Gives names notes es → AreNoted k Gives names notes (e ∷ es)
+  noted_grow names notes e es h = record { answers = h.answers; named = h.named; got = all_grow e es k h.answers h.got; noted = h.noted }
+
+  -- one more note
+  pub noted_more : (names : List Name) (notes more : List (Note T)) (note : Note T) (n : Name) (say : Say) (a : Answer) (es : Trace) → AreNoted k Gives names notes es → slice_get names (length notes) ≡ Some n → IsAnswer n say a
+      → IsNoted k Gives a note → more ≡ notes ++ note ∷ [] → AreNoted k Gives names more (silent (Ask.Get k n) say ∷ es)
+  noted_more names notes more note n say a es h next answer noted is =
+      let e = silent (Ask.Get k n) say in
+      let now = got_now k n say a es answer in
+      let long : length (notes ++ note ∷ []) ≡ length notes + 1 = length-append notes (note ∷ []) in
+      let f : Answer → Name = λ b. b.name in
+      subst (λ ns. AreNoted k Gives names ns (e ∷ es)) (sym is) (record {
+        answers = h.answers ++ a ∷ [];
+        named = map_end f h.answers a ∙ ap (λ l. l ++ a.name ∷ []) h.named ∙ ap (λ m. take (length notes) names ++ m ∷ []) now.0 ∙ sym (one_more names (length notes) n next) ∙ ap (λ i. take i names) (sym long);
+        got = each_end (λ (b : Answer). IsGot (e ∷ es) k b.name b.bytes) h.answers a (all_grow e es k h.answers h.got) now.1;
+        noted = match_end (IsNoted k Gives) h.answers notes a note h.noted noted;
+      })
+
+  -- what is known after an object was noted
+  pub taken : (old new : RoundView T) (note : Note T) (n : Name) (say : Say) (turn : Turn) → ((a : Answer) × IsAnswer n say a × IsNoted k Gives a note) → new.kind ≡ old.kind → new.names ≡ old.names → new.notes ≡ old.notes ++ note ∷ [] → AsksNext new turn → Takes k Gives old n say turn new
+  taken old new note n say turn look kind names notes asks = λ task token es w getting noted.
+      let e = silent (Ask.Get k n) say in
+      let paged = paged_on k e old.names true es refl refl (λ after same. absurd (cc same)) getting.paged in
+      let more = noted_more old.names old.notes new.notes note n say look.0 es noted getting.next look.1 look.2 notes in
+      (next_on task token k new turn e es w (kind ∙ getting.of_kind) (subst (λ ns. IsPaged k ns true (e ∷ es)) (sym names) paged) asks, subst (λ ns. AreNoted k Gives ns new.notes (e ∷ es)) (sym names) more)
+
+  -- a reply that ends the round notes nothing
+  pub ended : (round : RoundView T) (n : Name) (say : Say) (turn : Turn) → ((task : Task) (es : Trace) → TurnsOn task k round turn (silent (Ask.Get k n) say) es) → Takes k Gives round n say turn round
+  ended round n say turn turns = λ task token es w getting noted. (turns task es, noted_grow round.names round.notes (silent (Ask.Get k n) say) es noted)
+
+  -- once all are noted they were received
+  pub all_got : (round : RoundView T) (es : Trace) → IsWhole k round es → (h : AreNoted k Gives round.names round.notes es) → AreGot es k h.answers
+  all_got round es whole h = record {
+    listed = record { complete = whole.paged.complete; rise = whole.paged.rise };
+    names = h.named ∙ take_all (length round.notes) round.names whole.all ∙ sym whole.paged.listed;
+    each = h.got;
+  }
+
+-- what two clauses say of a result
+pub ok_with : {T E : Type 0} (r : Result T E) (A : Type 0) (P Q : T → Type 0) → ((x : T) → A → P x → Q x) → OnOk r A → IfOk r P → IfOk r Q
+ok_with (Ok x) A P Q f a p = f x a p
+ok_with (Err e) A P Q f a p = p
+
+pub on_any : {T E P : Type 0} (r : Result T E) → P → OnErr r P
+on_any (Ok x) p = tt
+on_any (Err e) p = p
+
+-- a page after which nothing is to be asked for brought nothing
+pub none_brought : (old page : List Name) (n : ℕ) → n ≡ 0 → length (old ++ page) ≤ n → old ++ page ≡ old
+none_brought [] [] n none few = refl
+none_brought [] (x ∷ page) n none few = absurd (omega (arith, none, few))
+none_brought (x ∷ old) page n none few = absurd (omega (arith, none, few))
+
+pub err_with : {T E A B : Type 0} (r : Result T E) → (A → B) → OnErr r A → OnErr r B
+err_with (Ok x) f a = tt
+err_with (Err e) f a = f a

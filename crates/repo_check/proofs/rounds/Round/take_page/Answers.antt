@@ -1,0 +1,37 @@
+use Rattle.std.proofs.Common.{true, [], ◌∷◌, subst, ◌∙◌}
+use Rattle.repo_wire.specs.declared.messages.Ask.{Ask}
+use Rattle.repo_session.specs.Rolls.{IsPaged}
+use Rattle.repo_session.specs.Traces.{silent}
+use Rattle.repo_check.specs.Rounds.{round_of}
+use Rattle.repo_check.specs.declared.rounds.Round.{Round}
+use Rattle.repo_check.proofs.Rounding.{listing_rolls, next_on, roll_known}
+use Rattle.repo_check.proofs.rounds.Round.take_page.Goals as goal
+
+pub returns-in-Ask-clause-pages : goal.returns-in-Ask-clause-pages
+returns-in-Ask-clause-pages g c = λ task token k after es w may listing.
+    let old = c.args.self.now in
+    let new : Round g.row.T.Denot = record { roll = c.add_page.new.self; notes = old.notes } in
+    let e = silent (Ask.List k after) c.args.say.now in
+    let pages = rw c.in-Ask.is at c.in_ok-ask.ensures.pages in
+    let due = pages task token k after [] es w may (listing_rolls k old after es listing) in
+    (roll_known k new c.in-Ask.ask (e ∷ es) (c.add_page.ensures.kind ∙ listing.of_kind) (c.add_page.ensures.read ∙ listing.none_read) listing.none due.knows, due.may)
+
+pub returns-in-Last-clause-pages : goal.returns-in-Last-clause-pages
+returns-in-Last-clause-pages g c = λ task token k after es w may listing.
+    let old = c.args.self.now in
+    let new : Round g.row.T.Denot = record { roll = c.add_page.new.self; notes = old.notes } in
+    let e = silent (Ask.List k after) c.args.say.now in
+    let pages = rw c.in-Last.is at c.in_ok-ask.ensures.pages in
+    let last = pages task token k after [] es w may (listing_rolls k old after es listing) in
+    let kind = c.add_page.ensures.kind ∙ listing.of_kind in
+    next_on task token k (round_of new) c.next.result e es w kind (subst (λ j. IsPaged j new.roll.names.items true (e ∷ es)) kind last.1.paged) c.next.ensures.next
+
+pub returns-in-Senseless-clause-pages : goal.returns-in-Senseless-clause-pages
+returns-in-Senseless-clause-pages g c = λ task token k after es w may listing.
+    let pages = rw c.in-Senseless.is at c.in_ok-ask.ensures.pages in
+    pages task token k after [] es w may (listing_rolls k c.args.self.now after es listing)
+
+pub returns-in-Unwelcome-clause-pages : goal.returns-in-Unwelcome-clause-pages
+returns-in-Unwelcome-clause-pages g c = λ task token k after es w may listing.
+    let pages = rw c.in-Unwelcome.is at c.in_ok-ask.ensures.pages in
+    pages task token k after [] es w may (listing_rolls k c.args.self.now after es listing)

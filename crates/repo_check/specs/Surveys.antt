@@ -1,0 +1,246 @@
+-- What a survey of a store knows of the trace.
+use Rattle.std.specs.Prelude.{◌≡◌, ◌⊎◌, ◌∷◌, [], ⊤, List, flat_map, Option, Some, None, ◌<◌, ◌↔◌, ℕ, slice_get, Contains, map, Bool, IsTrue}
+use Rattle.repo_name.specs.declared.kinds.BlobKind.TheVariants.{Content, Tree}
+use Rattle.repo_name.specs.declared.kinds.Kind.{Kind}
+use Rattle.repo_name.specs.declared.kinds.Thing.{Thing}
+use Rattle.repo_name.specs.declared.names.Name.{Name}
+use Rattle.repo_name.specs.declared.tokens.Token.{Token}
+use Rattle.repo_wire.specs.declared.messages.Ask.{Ask}
+use Rattle.repo_wire.specs.declared.messages.Say.{Say}
+use Rattle.repo_index.specs.Lookups.{Joins}
+use Rattle.repo_index.specs.declared.facts.Fact.{Fact}
+use Rattle.repo_index.specs.declared.facts.PackFacts.{PackFacts}
+use Rattle.repo_session.specs.declared.outcomes.CheckFault.{CheckFault}
+use Rattle.repo_session.specs.declared.outcomes.FaultKind.{FaultKind}
+use Rattle.repo_session.specs.Blobs.{range_of}
+use Rattle.repo_session.specs.Ends.{IsOfOtherVersion, IsSenseless, IsUnwelcome}
+use Rattle.repo_session.specs.Jobs.{IsShort}
+use Rattle.repo_session.specs.Order.{Task, IsWorking, May, last_of}
+use Rattle.repo_session.specs.Traces.{Exchange, Trace, silent}
+use Rattle.repo_reach.specs.declared.links.Links.{Links}
+use Rattle.repo_tree.specs.Spelling.{greatest_depth}
+use Rattle.repo_check.specs.Answers.{Answer, Answers, IsDeepest, IsReached}
+use Rattle.repo_check.specs.Arrivals.{IsIndexOf, IsPackOf, IsRootOf}
+use Rattle.repo_check.specs.Checking.{AreAnswers, IsFault}
+use Rattle.repo_check.specs.Findings.{BlobIs}
+use Rattle.repo_check.specs.Gathering.{AreOnce, facts_noted, fault_noted, root_noted}
+use Rattle.repo_check.specs.Rounds.{AreNoted, HasOneMore, IsFreshRound, IsUntouched, IsWhole, KnowsRound, RoundView, round_of}
+use Rattle.repo_check.specs.Telling.{told}
+use Rattle.repo_check.specs.Walks.{ContentFault, Awaits, HasNoted, IsFreshKnown, IsOver, IsWalkMark, Reads, WalkView, Walks, WalksOn, tree_fault}
+use Rattle.repo_check.specs.declared.knowing.TreeNote.{TreeNote}
+use Rattle.repo_check.specs.declared.rounds.Turn.{Turn}
+use Rattle.repo_check.specs.declared.surveys.Next.{Next}
+use Rattle.repo_check.specs.declared.surveys.Survey.{Survey}
+use Rattle.repo_check.specs.declared.surveys.SurveyMark.{SurveyMark}
+
+-- the rounds over the three kinds
+pub record RoundsView : Type 0 where
+  pub snapshots : RoundView Name
+  pub indexes : RoundView (List PackFacts)
+  pub packs : RoundView (List Fact)
+
+-- the code's own
+abbrev pub rounds_of : Survey → RoundsView
+rounds_of s = record { snapshots = round_of s.snapshots; indexes = round_of s.indexes; packs = round_of s.packs }
+
+-- the notes say what came
+pub record KnowsNotes (rounds : RoundsView) (es : Trace) : Type 0 where
+  pub snapshots : AreNoted Kind.Snapshot IsRootOf rounds.snapshots.names rounds.snapshots.notes es
+  pub indexes : AreNoted Kind.Index IsIndexOf rounds.indexes.names rounds.indexes.notes es
+  pub packs : AreNoted Kind.Pack IsPackOf rounds.packs.names rounds.packs.notes es
+
+-- ---- what is known where this is pending
+
+-- a page of snapshots, or a snapshot
+pub record AtSnapshots (rounds : RoundsView) (ask : Ask) (es : Trace) : Type 0 where
+  pub snapshots : KnowsRound Kind.Snapshot rounds.snapshots ask es
+  pub indexes : IsFreshRound Kind.Index rounds.indexes
+  pub no_indexes : IsUntouched Kind.Index es
+  pub packs : IsFreshRound Kind.Pack rounds.packs
+  pub no_packs : IsUntouched Kind.Pack es
+
+-- a page of indexes, or an index
+pub record AtIndexes (rounds : RoundsView) (ask : Ask) (es : Trace) : Type 0 where
+  pub snapshots : IsWhole Kind.Snapshot rounds.snapshots es
+  pub indexes : KnowsRound Kind.Index rounds.indexes ask es
+  pub packs : IsFreshRound Kind.Pack rounds.packs
+  pub no_packs : IsUntouched Kind.Pack es
+
+-- a page of packs, or a pack
+pub record AtPacks (rounds : RoundsView) (ask : Ask) (es : Trace) : Type 0 where
+  pub snapshots : IsWhole Kind.Snapshot rounds.snapshots es
+  pub indexes : IsWhole Kind.Index rounds.indexes es
+  pub packs : KnowsRound Kind.Pack rounds.packs ask es
+
+-- all objects came; the walk goes by the facts of the indexes that read, from the trees of the snapshots that read
+pub record HasObjects (rounds : RoundsView) (walk : WalkView) (roots : List Name) (es : Trace) : Type 0 where
+  pub snapshots : IsWhole Kind.Snapshot rounds.snapshots es
+  pub indexes : IsWhole Kind.Index rounds.indexes es
+  pub packs : IsWhole Kind.Pack rounds.packs es
+  pub facts : Joins [] (flat_map facts_noted rounds.indexes.notes) walk.known.facts
+  pub roots_are : AreOnce (flat_map root_noted rounds.snapshots.notes) roots
+
+-- a tree
+pub record AtTrees (rounds : RoundsView) (walk : WalkView) (ask : Ask) (es : Trace) : Type 0 where
+  pub roots : List Name
+  pub objects : HasObjects rounds walk roots es
+  pub fact : Fact
+  pub asked : ask ≡ range_of fact
+  pub awaits : Awaits roots walk fact
+  pub answers : List Answer
+  pub reads : Reads walk answers es
+
+-- one of these
+abbrev pub Surveys : RoundsView → WalkView → Ask → Trace → Type 0
+Surveys rounds walk ask es = KnowsNotes rounds es × (AtSnapshots rounds ask es ⊎ (AtIndexes rounds ask es ⊎ (AtPacks rounds ask es ⊎ AtTrees rounds walk ask es)))
+
+-- all came
+pub record IsSurveyed (rounds : RoundsView) (walk : WalkView) (es : Trace) : Type 0 where
+  pub notes : KnowsNotes rounds es
+  pub roots : List Name
+  pub objects : HasObjects rounds walk roots es
+  pub over : IsOver roots walk
+  pub answers : List Answer
+  pub reads : Reads walk answers es
+
+-- ---- steps
+
+-- what comes next after an exchange
+abbrev pub SurveysOn : Task → RoundsView → WalkView → Next → Exchange → Trace → Type 0
+SurveysOn task rounds walk (Next.Ask ask) e es = Surveys rounds walk ask (e ∷ es) × May task (e ∷ es) ask
+SurveysOn task rounds walk Next.Over e es = IsSurveyed rounds walk (e ∷ es)
+SurveysOn task rounds walk Next.Senseless e es = IsSenseless e.ask e.say
+SurveysOn task rounds walk Next.Version e es = IsOfOtherVersion e.ask e.say
+SurveysOn task rounds walk Next.Away e es = IsUnwelcome e.ask e.say
+
+-- what is asked next fits a frame
+abbrev pub IsShortNext : Next → Type 0
+IsShortNext (Next.Ask ask) = IsShort ask
+IsShortNext _ = ⊤
+
+-- what comes next is what a turn is; after the last one of a kind it is this
+abbrev pub GoesAfter : Turn → Next → Next → Type 0
+GoesAfter (Turn.Ask ask) last next = next ≡ Next.Ask ask
+GoesAfter Turn.All last next = next ≡ last
+GoesAfter Turn.Senseless last next = next ≡ Next.Senseless
+GoesAfter Turn.Version last next = next ≡ Next.Version
+GoesAfter Turn.Away last next = next ≡ Next.Away
+
+-- the first page of a kind is asked for
+abbrev pub first_page : {T : Type 0} → RoundView T → Next
+first_page round = Next.Ask (Ask.List round.kind (last_of round.names))
+
+-- what a reply comes to, after each trace at whose end its request was pending
+abbrev pub TakesSurvey : RoundsView → WalkView → Ask → Say → Next → RoundsView → WalkView → Type 0
+TakesSurvey rounds walk ask say next rounds' walk' = (task : Task) (token : Token) (es : Trace) → IsWorking task token (silent ask say ∷ es) → May task es ask → Surveys rounds walk ask es
+    → SurveysOn task rounds' walk' next (silent ask say) es
+
+-- ---- the walk
+
+-- a walk goes by the facts of the indexes that read, and begins at the trees of the snapshots that read; nothing is known of trees
+pub record HasBegun (rounds : RoundsView) (walk : WalkView) : Type 0 where
+  pub roots : List Name
+  pub roots_are : AreOnce (flat_map root_noted rounds.snapshots.notes) roots
+  pub facts : Joins [] (flat_map facts_noted rounds.indexes.notes) walk.known.facts
+  pub fresh : IsFreshKnown walk.known.facts walk.known
+  pub walks : Walks roots walk
+
+-- the next tree is asked for, or all was received
+abbrev pub next_of : Option Fact → Next
+next_of (Some fact) = Next.Ask (range_of fact)
+next_of None = Next.Over
+
+-- it went on to the first tree that is to be asked for
+pub record Begins (rounds : RoundsView) (walk : WalkView) (next : Next) : Type 0 where
+  pub roots : List Name
+  pub roots_are : AreOnce (flat_map root_noted rounds.snapshots.notes) roots
+  pub facts : Joins [] (flat_map facts_noted rounds.indexes.notes) walk.known.facts
+  pub fresh : IsFreshKnown walk.known.facts walk.known
+  pub fact : Option Fact
+  pub on : WalksOn roots walk fact
+  pub is : next ≡ next_of fact
+
+-- what comes next is what a turn of the packs is; after the last one the walk begins
+abbrev pub GoesToTrees : RoundsView → WalkView → Turn → Next → Type 0
+GoesToTrees rounds walk (Turn.Ask ask) next = next ≡ Next.Ask ask
+GoesToTrees rounds walk Turn.All next = Begins rounds walk next
+GoesToTrees rounds walk Turn.Senseless next = next ≡ Next.Senseless
+GoesToTrees rounds walk Turn.Version next = next ≡ Next.Version
+GoesToTrees rounds walk Turn.Away next = next ≡ Next.Away
+
+-- ---- taking back
+
+-- how far a survey has come: the tree that is asked for, if one is, and where the walk stands
+abbrev pub IsSurveyMark : WalkView → SurveyMark → Type 0
+IsSurveyMark walk mark = IsWalkMark walk mark.walk × ((roots : List Name) (fact : Fact) → Awaits roots walk fact → mark.tree ≡ Some fact.name)
+
+-- what was taken with the reply to a request, after which all had come: a page without names, one more note of a pack, or a note of a tree
+abbrev pub HasTaken : RoundsView → WalkView → Ask → RoundsView → WalkView → Type 0
+HasTaken rounds walk (Ask.List k after) rounds' walk' = (es : Trace) → Surveys rounds walk (Ask.List k after) es → rounds' ≡ rounds
+HasTaken rounds walk (Ask.Get k n) rounds' walk' = (rounds'.snapshots ≡ rounds.snapshots) × (rounds'.indexes ≡ rounds.indexes) × HasOneMore rounds.packs rounds'.packs
+HasTaken rounds walk (Ask.Range pack offset len) rounds' walk' = (rounds' ≡ rounds) × ((es : Trace) → Surveys rounds walk (Ask.Range pack offset len) es → (roots : List Name) × (fact : Fact) × (note : TreeNote) × Awaits roots walk fact × HasNoted walk fact.name note walk')
+HasTaken rounds walk _ rounds' walk' = ⊥
+
+-- ---- the beginning
+
+-- nothing was listed
+pub record IsFreshSurvey (rounds : RoundsView) : Type 0 where
+  pub snapshots : IsFreshRound Kind.Snapshot rounds.snapshots
+  pub indexes : IsFreshRound Kind.Index rounds.indexes
+  pub packs : IsFreshRound Kind.Pack rounds.packs
+
+-- the first request may be sent, and what is known then
+abbrev pub IsFirst : Task → RoundsView → WalkView → Trace → Ask → Type 0
+IsFirst task rounds walk es ask = May task es ask × Surveys rounds walk ask es
+
+-- ---- what a survey received
+
+-- the answers that came for the objects of a kind
+abbrev pub objects_in : {rounds : RoundsView} {es : Trace} → KnowsNotes rounds es → Kind → List Answer
+objects_in notes Kind.Pack = notes.packs.answers
+objects_in notes Kind.Index = notes.indexes.answers
+objects_in notes Kind.Snapshot = notes.snapshots.answers
+
+-- all answers that came
+abbrev pub answers_in : {rounds : RoundsView} {walk : WalkView} {es : Trace} → IsSurveyed rounds walk es → Answers
+answers_in s = record { objects = objects_in s.notes; trees = s.answers }
+
+-- where all came, the answers are what the definitions ask for
+abbrev pub SurveyedIsReceived : Type 0
+SurveyedIsReceived = (rounds : RoundsView) (walk : WalkView) (es : Trace) (s : IsSurveyed rounds walk es) → AreAnswers es (answers_in s)
+
+-- a tree stands in the level of a depth
+abbrev pub StandsIn : List (List Name) → ℕ → Name → Type 0
+StandsIn levels d n = (level : List Name) × (slice_get levels d ≡ Some level) × Contains level n
+
+-- and the trees that are reached are those of the levels; those of the last level are the deepest
+abbrev pub LevelsAreReached : Type 0
+LevelsAreReached = (rounds : RoundsView) (walk : WalkView) (es : Trace) (s : IsSurveyed rounds walk es) (n : Name)
+    → (IsReached (answers_in s) Tree n ↔ ((d : ℕ) × StandsIn walk.levels d n)) × (IsDeepest (answers_in s) n ↔ StandsIn walk.levels greatest_depth n)
+
+-- a tree that reads, in a level above the last, leads to the content
+abbrev pub HoldsContent : WalkView → Name → Type 0
+HoldsContent walk n = (d : ℕ) × (t : Name) × (links : Links) × (d < greatest_depth) × StandsIn walk.levels d t × (walk.known.links t ≡ Some links) × Contains links.content.items n
+
+-- so is the content that is reached
+abbrev pub ContentIsReached : Type 0
+ContentIsReached = (rounds : RoundsView) (walk : WalkView) (es : Trace) (s : IsSurveyed rounds walk es) (n : Name) → IsReached (answers_in s) Content n ↔ HoldsContent walk n
+
+-- what is told of the snapshots by their notes is what is at fault of snapshots
+abbrev pub SnapshotsAreTold : Type 0
+SnapshotsAreTold = (rounds : RoundsView) (walk : WalkView) (es : Trace) (s : IsSurveyed rounds walk es) (fault : CheckFault)
+    → Contains (told Thing.Snapshot rounds.snapshots.names (map fault_noted rounds.snapshots.notes)) fault ↔ ((fault.thing ≡ Thing.Snapshot) × IsFault (answers_in s) fault)
+
+-- so are the packs
+abbrev pub PacksAreTold : Type 0
+PacksAreTold = (rounds : RoundsView) (walk : WalkView) (es : Trace) (s : IsSurveyed rounds walk es) (fault : CheckFault)
+    → Contains (told Thing.Pack rounds.packs.names (map fault_noted rounds.packs.notes)) fault ↔ ((fault.thing ≡ Thing.Pack) × IsFault (answers_in s) fault)
+
+-- what is told of a tree that is reached is what is found of it
+abbrev pub TreesAreTold : Type 0
+TreesAreTold = (rounds : RoundsView) (walk : WalkView) (es : Trace) (s : IsSurveyed rounds walk es) (n : Name) (deepest : Bool) → IsReached (answers_in s) Tree n → (IsTrue deepest ↔ StandsIn walk.levels greatest_depth n)
+    → BlobIs (answers_in s) Tree n (tree_fault (walk.known.faults n) (walk.known.links n) deepest)
+
+-- so is what is told of content
+abbrev pub ContentIsTold : Type 0
+ContentIsTold = (rounds : RoundsView) (walk : WalkView) (es : Trace) (s : IsSurveyed rounds walk es) (n : Name) (found : Option FaultKind) → ContentFault walk.known.facts n found → BlobIs (answers_in s) Content n found

@@ -1,0 +1,72 @@
+//! What the replies to the requests for objects come to.
+
+ghost use Rattle.std.specs.Prelude.{◌≡◌, IfOk, OnErr};
+ghost use Rattle.repo_name.specs.declared.kinds.Kind.{Kind};
+ghost use Rattle.repo_check.specs.Arrivals.{IsIndexOf, IsPackOf, IsRootOf};
+ghost use Rattle.repo_check.specs.Rounds.{HasOneMore, IsShortTurn, Takes, round_of};
+ghost use Rattle.repo_check.specs.declared.rounds.Turn.{Turn};
+
+use crate::objects::{
+    IndexLook, PackLook, SnapshotLook, look_at_index, look_at_pack, look_at_snapshot,
+};
+use crate::rounds::{Note, Round, Turn};
+use repo_index::{Facts, IndexText};
+use repo_name::Name;
+use repo_wire::Say;
+use std::alloc::{AllocError, Global};
+
+/// Takes the reply to the request for a snapshot. It fails for memory alone, and then nothing changed.
+pub fn take_snapshot(
+    alloc: Global,
+    round: &mut Round<Name>,
+    name: Name,
+    say: &Say,
+) -> Result<Turn, AllocError>
+    ensures takes { IfOk result (λ turn. Takes Kind.Snapshot IsRootOf (round_of round.old) name say.now turn (round_of round.new)) }
+    ensures short { IfOk result IsShortTurn }
+    ensures same { OnErr result (round_of round.new ≡ round_of round.old) }
+{
+    match look_at_snapshot(alloc, name, say)? {
+        SnapshotLook::Root(root) => round.go_on(Note::Well(root)),
+        SnapshotLook::Fault(what) => round.go_on(Note::Fault(what)),
+        SnapshotLook::Version => Ok(Turn::Version),
+        SnapshotLook::Unwelcome => Ok(Turn::Away),
+    }
+}
+
+/// Takes the reply to the request for an index. It fails for memory alone, and then nothing changed.
+pub fn take_index(
+    alloc: Global,
+    round: &mut Round<IndexText>,
+    name: Name,
+    say: &Say,
+) -> Result<Turn, AllocError>
+    ensures takes { IfOk result (λ turn. Takes Kind.Index IsIndexOf (round_of round.old) name say.now turn (round_of round.new)) }
+    ensures short { IfOk result IsShortTurn }
+    ensures same { OnErr result (round_of round.new ≡ round_of round.old) }
+{
+    match look_at_index(alloc, name, say)? {
+        IndexLook::Read(text) => round.go_on(Note::Well(text)),
+        IndexLook::Fault(what) => round.go_on(Note::Fault(what)),
+        IndexLook::Unwelcome => Ok(Turn::Away),
+    }
+}
+
+/// Takes the reply to the request for a pack. It fails for memory alone, and then nothing changed.
+pub fn take_pack(
+    alloc: Global,
+    round: &mut Round<Facts>,
+    name: Name,
+    say: &Say,
+) -> Result<Turn, AllocError>
+    ensures takes { IfOk result (λ turn. Takes Kind.Pack IsPackOf (round_of round.old) name say.now turn (round_of round.new)) }
+    ensures short { IfOk result IsShortTurn }
+    ensures noted { IfOk result (λ turn. turn ≡ Turn.All → HasOneMore (round_of round.old) (round_of round.new)) }
+    ensures same { OnErr result (round_of round.new ≡ round_of round.old) }
+{
+    match look_at_pack(alloc, name, say)? {
+        PackLook::Read(facts) => round.go_on(Note::Well(facts)),
+        PackLook::Fault(what) => round.go_on(Note::Fault(what)),
+        PackLook::Unwelcome => Ok(Turn::Away),
+    }
+}

@@ -1,0 +1,3 @@
+pub mod LengthLemmas
+pub mod ListingLemmas
+pub mod NameLemmas

@@ -1,0 +1,3 @@
+pub mod JsonNames
+pub mod JsonText
+pub mod Listing

@@ -1,0 +1,62 @@
+//! `vault prune`.
+
+ghost use Rattle.std.specs.Prelude.{◌≡◌, ℕ, Some, option_map};
+ghost use Rattle.std.specs.Io.KnownBytes.{Appends};
+ghost use Rattle.repo_session.specs.declared.outcomes.Outcome.{Outcome};
+ghost use Rattle.repo_prog.specs.Asking.{streams};
+ghost use Rattle.repo_prog.specs.Commands.{IsEnd};
+ghost use Rattle.repo_prog.specs.Jobs.{Prunes};
+ghost use Rattle.repo_prog.specs.Tellings.{pruned_line};
+ghost use Rattle.repo_prog.specs.declared.status.Status.{Status};
+
+use crate::callers::{Caller, HOST};
+use crate::status::{Status, failed};
+use crate::telling::{pruned_line, show, unfinished};
+use repo_prune::Prune;
+use repo_session::{Client, DriveError, Outcome, drive};
+use std::alloc::Global;
+use std::io::{Read, Write};
+
+/// Writes the line of a prune that is done, or tells how the job ended else.
+fn show_pruned<O: Write, F: Write>(
+    alloc: Global,
+    outcome: Option<&Outcome>,
+    output: &mut O,
+    faults: &mut F,
+) -> Status
+    ensures pruned { result ≡ Status.Done → (packs : ℕ) × (bytes : ℕ) × (option_map (λ o. o.now) outcome.entry ≡ Some (Outcome.Pruned packs bytes)) × Appends (O.contents output.old) (O.contents output.new) (pruned_line packs bytes) }
+    ensures silent { result ≡ Status.Done → faults.new ≡ faults.old }
+    ensures status { IsEnd result }
+{
+    let Some(Outcome::Pruned { packs, bytes }) = outcome else {
+        return unfinished(alloc, outcome, faults);
+    };
+    match pruned_line(alloc, *packs, *bytes) {
+        Ok(line) => show(line.as_str(), output, faults),
+        Err(_) => failed(faults, &DriveError::Memory),
+    }
+}
+
+/// `vault prune`: removes what no snapshot needs, and tells how many packs it deleted, and how many bytes of blobs it
+/// put into new ones. Where it ends before, each snapshot still has all that it needs.
+pub fn prune_command<R: Read, W: Write, O: Write, F: Write>(
+    alloc: Global,
+    caller: &Caller,
+    reader: &mut R,
+    writer: &mut W,
+    output: &mut O,
+    faults: &mut F,
+) -> Status
+    ensures pruned { result ≡ Status.Done → (packs : ℕ) × (bytes : ℕ) × Prunes caller.now packs bytes (streams (R.remaining reader.old) (W.contents writer.old) (O.contents output.old)) (streams (R.remaining reader.new) (W.contents writer.new) (O.contents output.new)) × Appends (O.contents output.old) (O.contents output.new) (pruned_line packs bytes) }
+    ensures silent { result ≡ Status.Done → faults.new ≡ faults.old }
+    ensures status { IsEnd result }
+{
+    let Ok(who) = caller.who(alloc, HOST) else {
+        return failed(faults, &DriveError::Memory);
+    };
+    let mut prune = Prune::new(alloc, who);
+    match drive(alloc, &mut prune, reader, writer, |_| true) {
+        Ok(_) => show_pruned(alloc, prune.outcome(), output, faults),
+        Err(error) => failed(faults, &error),
+    }
+}

@@ -1,0 +1,156 @@
+-- How a prune ends that is alone with its store.
+use Rattle.std.proofs.Common.{◌≡◌, ◌⊎◌, ◌∷◌, [], ℕ, List, Option, Some, None, refl, sym, ap, subst, inl, ⊎_elim, Contains, ◌∙◌}
+use Rattle.std.proofs.lemmas.Option.{same_Some}
+use Rattle.repo_name.specs.declared.kinds.BlobKind.{BlobKind}
+use Rattle.repo_name.specs.declared.kinds.Kind.{Kind}
+use Rattle.repo_name.specs.declared.kinds.Thing.{Thing}
+use Rattle.repo_name.specs.declared.names.Name.{Name}
+use Rattle.repo_name.specs.declared.tokens.Token.{Token}
+use Rattle.repo_wire.specs.declared.messages.Ask.{Ask}
+use Rattle.repo_wire.specs.declared.messages.Code.{Code}
+use Rattle.repo_index.specs.IndexText.{Says}
+use Rattle.repo_tree.specs.Laws.{Agree}
+use Rattle.repo_tree.specs.Parts.{Blobs}
+use Rattle.repo_tree.specs.Spelling.{Spells}
+use Rattle.repo_tree.specs.declared.entries.Entry.{Entry}
+use Rattle.repo_tree.specs.declared.snapshots.Snapshot.{Snapshot}
+use Rattle.repo_tree.proofs.SnapshotLemmas.{snapshot_texts_one}
+use Rattle.repo_store.specs.Stores.{Store, Objects}
+use Rattle.repo_session.specs.declared.outcomes.End.{End}
+use Rattle.repo_session.specs.declared.outcomes.Outcome.{Outcome}
+use Rattle.repo_session.specs.Alone.{IsFit, IsSent, EndsWell}
+use Rattle.repo_session.specs.Askers.{Asker}
+use Rattle.repo_session.specs.Deletions.{NoneDeleted}
+use Rattle.repo_session.specs.Ends.{before_unlock}
+use Rattle.repo_session.specs.Order.{IsPermitted, IsReading, Obeys}
+use Rattle.repo_session.specs.Received.{Received}
+use Rattle.repo_session.specs.Soundness.{IsHeld, IsSound}
+use Rattle.repo_session.specs.Talks.{Talk, trace_of}
+use Rattle.repo_session.specs.Told.{AskedToPut}
+use Rattle.repo_session.specs.Traces.{Trace, Object, WasAsked, Lists, ReadFact}
+use Rattle.repo_session.specs.Trees.{HasRoot, IsUnindexed}
+use Rattle.repo_session.proofs.Concluding.{calm_of, either, ends_well, known}
+use Rattle.repo_name.proofs.Containing.{none_contained}
+use Rattle.repo_session.proofs.Descending.{under_grows, needed_grows, broken_grows, needed_there, unbroken}
+use Rattle.repo_session.proofs.Enumerating.{listed_or_put}
+use Rattle.repo_session.proofs.Growing.{Led, Shares, led}
+use Rattle.repo_session.proofs.Spoken.{held_agree}
+use Rattle.repo_session.proofs.Telling.{seen_run}
+use Rattle.repo_writing.proofs.PutLemmas.{asked_put}
+use Rattle.repo_prune.specs.PruneLaws.{IsPrunedOrMemory, AreApart, PruneEndsWell}
+use Rattle.repo_prune.specs.Pruning.{prune_task, IsUntouched, IsBadTree, PruneAllows, PruneGives, PruneConcludes}
+use Rattle.repo_prune.proofs.ForgetRuns.{undeleted}
+use Rattle.repo_prune.proofs.PruneRuns.{throughout}
+
+pub prune_reads_first : (es : Trace) (ask : Ask) → IsPermitted PruneAllows es ask → IsReading ask → NoneDeleted es
+prune_reads_first es (Ask.List k after) h r = (h tt).1
+prune_reads_first es (Ask.Get k n) h r = (h tt).1
+prune_reads_first es (Ask.Range pack offset len) h r = (h tt).1
+prune_reads_first es Ask.Ticket h r = absurd r
+prune_reads_first es (Ask.Lock row) h r = absurd r
+prune_reads_first es (Ask.Refresh token time) h r = absurd r
+prune_reads_first es (Ask.Unlock token) h r = absurd r
+prune_reads_first es Ask.Locks h r = absurd r
+prune_reads_first es (Ask.Put token k n x) h r = absurd r
+prune_reads_first es (Ask.Delete token k n) h r = absurd r
+prune_reads_first es Ask.Config h r = absurd r
+
+module _ (who : Asker) (from : Store) (fit : IsFit from) (agree : Agree (IsHeld from.objects) (IsHeld from.objects)) (talk : Talk) (to : Store) (o : Obeys (prune_task who) PruneAllows PruneGives (trace_of talk)) (h : Led from talk to)
+    (untouched : IsUntouched (trace_of talk)) where
+  abbrev B : Blobs
+  B = IsHeld from.objects
+
+  shares : Shares from (trace_of talk) to
+  shares = (known (prune_task who) PruneAllows PruneGives from fit talk to h o).shares (undeleted (trace_of talk) untouched.none_deleted)
+
+  unput : (token : Token) (k : Kind) (n : Name) (x : List ℕ) → WasAsked (trace_of talk) (Ask.Put token k n x) → ⊥
+  unput token k n x asked =
+      let object : Object = record { name = n; bytes = x } in
+      none_contained object (subst (λ os. Contains os object) (untouched.none_put k) (asked_put (trace_of talk) token k n x asked))
+
+  -- what is there was there at first
+  first : (k : Kind) (n : Name) (x : List ℕ) → to.objects k n ≡ Some x → from.objects k n ≡ Some x
+  first k n x there = ⊎_elim (λ was. was) (λ p. absurd (unput p.0 k n x p.1)) (shares.origin k n x there)
+
+  received_held : (k : BlobKind) (x : List ℕ) → Received (trace_of talk) k x → B k x
+  received_held k x r =
+      let pack = shares.ranged r.fact.place.pack r.fact.place.offset r.fact.place.length x r.replied in
+      record {
+        index = r.given.index;
+        text = r.given.text;
+        fact = r.fact;
+        pack = pack.0;
+        listed = first Kind.Index r.given.index r.given.text (shares.got Kind.Index r.given.index r.given.text r.given.read.0);
+        says = r.given.says;
+        of_kind = r.of_kind;
+        named = sym r.named;
+        there = first Kind.Pack r.fact.place.pack pack.0 pack.1;
+        stands = pack.2;
+      }
+
+  root_spelled : (name : Name) (version : ℕ) (root : Name) → HasRoot (trace_of talk) name version root → (e : List Entry) × Spells version B root [] e
+  root_spelled name version root found =
+      let there = first Kind.Snapshot name found.0 (shares.got Kind.Snapshot name found.0 found.2.0) in
+      let s = fit.sound.snapshots name found.0 there in
+      let one : s.snapshot ≡ found.1 = snapshot_texts_one found.0 s.snapshot found.1 s.reads found.3 in
+      let spells : Spells found.1.version B found.1.tree [] s.entries = subst (λ (x : Snapshot). Spells x.version B x.tree [] s.entries) one s.spells in
+      (s.entries, subst (λ v. Spells v B root [] s.entries) found.4 (subst (λ t. Spells found.1.version B t [] s.entries) found.5 spells))
+
+  no_bad_tree : (tree : Name) → IsBadTree (trace_of talk) tree → ⊥
+  no_bad_tree tree b =
+      let got : Blobs = Received (trace_of talk) in
+      let s = root_spelled b.snapshot b.version b.root b.found in
+      unbroken b.version B agree b.root s.0 b.path tree s.1 (under_grows b.version got B received_held b.root b.path tree b.leads) (broken_grows b.version got B received_held b.root b.path tree b.broken)
+
+  no_unindexed : (snapshot : Name) (thing : Thing) (name : Name) → IsUnindexed (trace_of talk) snapshot thing name → ⊥
+  no_unindexed snapshot thing name u =
+      let s = root_spelled snapshot u.version u.root u.found in
+      let b = needed_there u.version B agree u.root s.0 u.kind name s.1 (needed_grows u.version (Received (trace_of talk)) B received_held u.root u.kind name u.needed) in
+      let held = b.among in
+      let now : to.objects Kind.Index held.index ≡ Some held.text = shares.kept Kind.Index held.index held.text held.listed in
+      let listed : Lists (trace_of talk) Kind.Index held.index = ⊎_elim (λ l. l) (λ p. absurd (unput p.0 Kind.Index held.index p.1 p.2))
+      (listed_or_put (AskedToPut (trace_of talk)) (prune_task who) PruneAllows PruneGives Kind.Index held.index (trace_of talk) to.objects held.text o (seen_run from talk to h) u.indexes.listed now) in
+      let read = u.indexes.each held.index listed in
+      let one : held.text ≡ read.0 = same_Some held.text read.0 (sym held.listed ∙ first Kind.Index held.index read.0 (shares.got Kind.Index held.index read.0 read.1.0)) in
+      let fact : ReadFact (trace_of talk) held.fact = record { index = held.index; text = read.0; read = read.1; says = subst (λ (x : List ℕ). Says x held.fact) one held.says } in
+      u.ungiven (held.fact, fact, held.of_kind, held.named ∙ b.named)
+
+module _ (who : Asker) (from : Store) (fit : IsFit from) (agree : Agree (IsHeld from.objects) (IsHeld from.objects)) where
+  own_well : (talk : Talk) (to : Store) → Obeys (prune_task who) PruneAllows PruneGives (trace_of talk) → Led from talk to → (outcome : Outcome) → PruneConcludes (trace_of talk) outcome → IsPrunedOrMemory (Some outcome)
+  own_well talk to o h (Outcome.Pruned packs bytes) own = tt
+  own_well talk to o h (Outcome.Stored name blobs bytes) own = absurd own
+  own_well talk to o h (Outcome.Complete entries) own = absurd own
+  own_well talk to o h (Outcome.Listed rows) own = absurd own
+  own_well talk to o h (Outcome.Forgotten names) own = absurd own
+  own_well talk to o h (Outcome.Clean snapshots indexes packs blobs) own = absurd own
+  own_well talk to o h (Outcome.Faults faults) own = absurd own
+  own_well talk to o h (Outcome.Ended (End.BadObject Thing.Tree tree)) own = absurd (no_bad_tree who from fit agree talk to o h own.0 tree own.1)
+  own_well talk to o h (Outcome.Ended (End.BadObject Thing.Content name)) own = absurd own
+  own_well talk to o h (Outcome.Ended (End.BadObject Thing.Pack name)) own = absurd own
+  own_well talk to o h (Outcome.Ended (End.BadObject Thing.Index name)) own = absurd own
+  own_well talk to o h (Outcome.Ended (End.BadObject Thing.Snapshot name)) own = absurd own
+  own_well talk to o h (Outcome.Ended (End.Missing thing name)) own = absurd (no_unindexed who from fit agree talk to o h own.0 own.1.0 thing name own.1.2)
+  own_well talk to o h (Outcome.Ended End.Busy) own = absurd own
+  own_well talk to o h (Outcome.Ended End.Fenced) own = absurd own
+  own_well talk to o h (Outcome.Ended (End.Refused code)) own = absurd own
+  own_well talk to o h (Outcome.Ended End.BadReply) own = absurd own
+  own_well talk to o h (Outcome.Ended End.Version) own = absurd own
+  own_well talk to o h (Outcome.Ended End.DirectoryTooLarge) own = absurd own
+
+  own_before : (talk : Talk) (to : Store) → Obeys (prune_task who) PruneAllows PruneGives (trace_of talk) → Led from talk to → (outcome : Outcome) → PruneConcludes (before_unlock (trace_of talk)) outcome → IsPrunedOrMemory (Some outcome)
+  own_before [] to o h outcome own = own_well [] to o h outcome own
+  own_before (turn ∷ talk) to o h outcome own =
+      ⊎_elim (λ now. own_well (turn ∷ talk) to o h outcome now) (λ before. own_well talk h.0 o.3 h.1 outcome before)
+      (either (λ es. PruneConcludes es outcome) turn.request.ask (trace_of (turn ∷ talk)) (trace_of talk) own)
+
+prune_well : (es : Trace) (outcome : Option Outcome) → ((o : Outcome) → PruneConcludes (before_unlock es) o → IsPrunedOrMemory (Some o)) → EndsWell PruneConcludes es outcome → IsPrunedOrMemory outcome
+prune_well es None own h = h
+prune_well es (Some outcome) own h = ⊎_elim (λ (q : outcome ≡ Outcome.Ended (End.Refused Code.NoMemory)). subst (λ x. IsPrunedOrMemory (Some x)) (sym q) refl) (own outcome) h
+
+pub prune_ends : PruneEndsWell
+prune_ends who from to failed talk outcome fit apart low ran few is =
+    let h = led from talk to ran.run in
+    let agree = held_agree from (IsSent (trace_of talk) None) (λ x. ⊥) apart from.objects (λ k n x p. inl (n, p)) fit.sound.named in
+    prune_well (trace_of talk) outcome (own_before who from fit agree talk to is.obeys h)
+    (ends_well (prune_task who) PruneAllows PruneGives PruneConcludes (λ es ask o permitted reading. undeleted es (prune_reads_first es ask permitted reading)) from fit tt talk to outcome is h
+    (throughout who from fit.sound (IsSent (trace_of talk) None) apart talk is.obeys (λ ask w. w)) (calm_of failed talk low ran.cause) few)

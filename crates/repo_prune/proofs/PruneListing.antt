@@ -1,0 +1,389 @@
+-- What is known while a prune lists and reads.
+use Rattle.std.proofs.Common.{◌≡◌, ◌≢◌, ◌∷◌, [], ℕ, Bool, true, false, cond, List, Option, refl, sym, ap, subst, inl, ◌∙◌}
+use Rattle.repo_name.specs.declared.kinds.Kind.{Kind}
+use Rattle.repo_name.specs.declared.names.Name.{Name}
+use Rattle.repo_wire.specs.declared.messages.Ask.{Ask}
+use Rattle.repo_wire.specs.declared.messages.Say.{Say}
+use Rattle.repo_session.specs.declared.catalogs.Catalog.{Catalog}
+use Rattle.repo_session.specs.declared.rolls.Roll.{Roll}
+use Rattle.repo_session.specs.declared.jobs.Step.{Step}
+use Rattle.repo_session.specs.Askers.{Asker}
+use Rattle.repo_session.specs.Catalogs.{Catalogs, IsAll}
+use Rattle.repo_session.specs.Jobs.{MayAsk, MayStep}
+use Rattle.repo_session.specs.Listings.{IsListing}
+use Rattle.repo_session.specs.Order.{last_of}
+use Rattle.repo_session.specs.Readings.{IsDue, KnowsIndexes, KnowsRoll}
+use Rattle.repo_session.specs.Rolls.{IsPaged, IsRolled}
+use Rattle.repo_session.specs.Traces.{Exchange, Trace, silent, same_kind, page_names, is_last_page, object_got}
+use Rattle.repo_session.proofs.Cataloguing.{are_indexed, catalog_on, rolled_on}
+use Rattle.repo_session.proofs.Rolling.{paged_on, same_self}
+use Rattle.repo_session.proofs.Deleting.{ListsNone, listing_stays}
+use Rattle.repo_session.specs.Deletions.{NoneDeleted}
+use Rattle.repo_prune.specs.Pruning.{IsUntouched, prune_rule, prune_task, PruneAllows}
+use Rattle.repo_prune.specs.PruneStates.{Known, HaveRead, AreUnlisted, ReadsSnapshots, ReadsIndexes, ListsPacks, IsListingOf, KnowsPrune, KnowsStage, IsNextStep, known_in}
+use Rattle.repo_prune.specs.declared.prunes.Onward.{Onward}
+use Rattle.repo_prune.specs.declared.prunes.PruneJob.{PruneJob}
+use Rattle.repo_prune.specs.declared.prunes.Stage.{Stage}
+use Rattle.repo_prune.proofs.Asides.{IsNoChange, untouched_same}
+
+-- ---- another kind
+
+other_page : (j k : Kind) (ask : Ask) (say : Say) → same_kind j k ≡ false → IsListingOf j ask → page_names k ask say ≡ []
+other_page j k Ask.Ticket say other h = absurd h
+other_page j k (Ask.Lock row) say other h = absurd h
+other_page j k (Ask.Refresh t time) say other h = absurd h
+other_page j k (Ask.Unlock t) say other h = absurd h
+other_page j k Ask.Locks say other h = absurd h
+other_page j k (Ask.List i after) (Say.Token t) other h = refl
+other_page j k (Ask.List i after) Say.Done other h = refl
+other_page j k (Ask.List i after) (Say.Names more names) other h = let o : same_kind i k ≡ false = subst (λ z. same_kind z k ≡ false) (sym h) other in ap (λ b. cond b names []) o
+other_page j k (Ask.List i after) (Say.Bytes x) other h = refl
+other_page j k (Ask.List i after) (Say.LockList rows) other h = refl
+other_page j k (Ask.List i after) (Say.Refused code) other h = refl
+other_page j k (Ask.Get i n) (Say.Token t) other h = refl
+other_page j k (Ask.Get i n) Say.Done other h = refl
+other_page j k (Ask.Get i n) (Say.Names more names) other h = refl
+other_page j k (Ask.Get i n) (Say.Bytes x) other h = refl
+other_page j k (Ask.Get i n) (Say.LockList rows) other h = refl
+other_page j k (Ask.Get i n) (Say.Refused code) other h = refl
+other_page j k (Ask.Range pack offset len) say other h = absurd h
+other_page j k (Ask.Put t i n x) say other h = absurd h
+other_page j k (Ask.Delete t i n) say other h = absurd h
+other_page j k Ask.Config say other h = absurd h
+
+other_last_page : (j k i : Kind) (after : Option Name) (more : Bool) (names : List Name) → same_kind j k ≡ false → i ≡ j → is_last_page k (Ask.List i after) (Say.Names more names) ≡ false
+other_last_page j k i after true names other h = refl
+other_last_page j k i after false names other h = subst (λ z. same_kind z k ≡ false) (sym h) other
+
+other_last : (j k : Kind) (ask : Ask) (say : Say) → same_kind j k ≡ false → IsListingOf j ask → is_last_page k ask say ≡ false
+other_last j k Ask.Ticket say other h = absurd h
+other_last j k (Ask.Lock row) say other h = absurd h
+other_last j k (Ask.Refresh t time) say other h = absurd h
+other_last j k (Ask.Unlock t) say other h = absurd h
+other_last j k Ask.Locks say other h = absurd h
+other_last j k (Ask.List i after) (Say.Token t) other h = refl
+other_last j k (Ask.List i after) Say.Done other h = refl
+other_last j k (Ask.List i after) (Say.Names more names) other h = other_last_page j k i after more names other h
+other_last j k (Ask.List i after) (Say.Bytes x) other h = refl
+other_last j k (Ask.List i after) (Say.LockList rows) other h = refl
+other_last j k (Ask.List i after) (Say.Refused code) other h = refl
+other_last j k (Ask.Get i n) (Say.Token t) other h = refl
+other_last j k (Ask.Get i n) Say.Done other h = refl
+other_last j k (Ask.Get i n) (Say.Names more names) other h = refl
+other_last j k (Ask.Get i n) (Say.Bytes x) other h = refl
+other_last j k (Ask.Get i n) (Say.LockList rows) other h = refl
+other_last j k (Ask.Get i n) (Say.Refused code) other h = refl
+other_last j k (Ask.Range pack offset len) say other h = absurd h
+other_last j k (Ask.Put t i n x) say other h = absurd h
+other_last j k (Ask.Delete t i n) say other h = absurd h
+other_last j k Ask.Config say other h = absurd h
+
+other_object : (j k : Kind) (ask : Ask) (say : Say) → same_kind j k ≡ false → IsListingOf j ask → object_got k ask say ≡ []
+other_object j k Ask.Ticket say other h = absurd h
+other_object j k (Ask.Lock row) say other h = absurd h
+other_object j k (Ask.Refresh t time) say other h = absurd h
+other_object j k (Ask.Unlock t) say other h = absurd h
+other_object j k Ask.Locks say other h = absurd h
+other_object j k (Ask.List i after) (Say.Token t) other h = refl
+other_object j k (Ask.List i after) Say.Done other h = refl
+other_object j k (Ask.List i after) (Say.Names more names) other h = refl
+other_object j k (Ask.List i after) (Say.Bytes x) other h = refl
+other_object j k (Ask.List i after) (Say.LockList rows) other h = refl
+other_object j k (Ask.List i after) (Say.Refused code) other h = refl
+other_object j k (Ask.Get i n) (Say.Token t) other h = refl
+other_object j k (Ask.Get i n) Say.Done other h = refl
+other_object j k (Ask.Get i n) (Say.Names more names) other h = refl
+other_object j k (Ask.Get i n) (Say.Bytes x) other h = let o : same_kind i k ≡ false = subst (λ z. same_kind z k ≡ false) (sym h) other in ap (λ b. cond b (record { name = n; bytes = x } ∷ []) []) o
+other_object j k (Ask.Get i n) (Say.LockList rows) other h = refl
+other_object j k (Ask.Get i n) (Say.Refused code) other h = refl
+other_object j k (Ask.Range pack offset len) say other h = absurd h
+other_object j k (Ask.Put t i n x) say other h = absurd h
+other_object j k (Ask.Delete t i n) say other h = absurd h
+other_object j k Ask.Config say other h = absurd h
+
+module _ (j k : Kind) (e : Exchange) (other : same_kind j k ≡ false) (listing : IsListingOf j e.ask) where
+  no_page_of : (after : Option Name) → e.ask ≢ Ask.List k after
+  no_page_of after is =
+      let same : k ≡ j = subst (IsListingOf j) is listing in
+      let itself : same_kind k k ≡ false = subst (λ z. same_kind z k ≡ false) (sym same) other in
+      let yes = same_self k in
+      absurd (cc)
+
+  pub other_lists : ListsNone k e
+  other_lists = record { page = other_page j k e.ask e.say other listing; last = other_last j k e.ask e.say other listing; ask = no_page_of }
+
+  pub no_get_of : (n : Name) (x : List ℕ) → e.ask ≡ Ask.Get k n → e.say ≡ Say.Bytes x → ⊥
+  no_get_of n x is said =
+      let same : k ≡ j = subst (IsListingOf j) is listing in
+      let itself : same_kind k k ≡ false = subst (λ z. same_kind z k ≡ false) (sym same) other in
+      let yes = same_self k in
+      absurd (cc)
+
+  pub other_rolled : (names : List Name) (read : ℕ) (whole : Bool) (es : Trace) → IsRolled k names read whole es → IsRolled k names read whole (e ∷ es)
+  other_rolled names read whole es h = rolled_on k e names read whole es (other_page j k e.ask e.say other listing) (other_last j k e.ask e.say other listing) (other_object j k e.ask e.say other listing) no_page_of h
+
+pub unlisted_same : (j : Kind) (e : Exchange) (es : Trace) (packs : Roll) → same_kind j Kind.Pack ≡ false → IsListingOf j e.ask → AreUnlisted packs es → AreUnlisted packs (e ∷ es)
+unlisted_same j e es packs other listing h = record {
+  of_packs = h.of_packs;
+  none_read = h.none_read;
+  rolled = subst (λ k. IsRolled k packs.names.items packs.read false (e ∷ es)) (sym h.of_packs)
+      (other_rolled j Kind.Pack e other listing packs.names.items packs.read false es (subst (λ k. IsRolled k packs.names.items packs.read false es) h.of_packs h.rolled));
+}
+
+pub catalog_same : (j : Kind) (e : Exchange) (es : Trace) (c : Catalog) (whole : Bool) → same_kind j Kind.Index ≡ false → IsListingOf j e.ask → Catalogs c whole es → Catalogs c whole (e ∷ es)
+catalog_same j e es c whole other listing h = catalog_on e c.roll.kind c.roll.names.items c.roll.read c.lookup whole es (other_page j Kind.Index e.ask e.say other listing) (other_last j Kind.Index e.ask e.say other listing)
+    (other_object j Kind.Index e.ask e.say other listing) (no_page_of j Kind.Index e other listing) (no_get_of j Kind.Index e other listing) h
+
+-- ---- what a listing asks for
+
+pub listing_same : (j : Kind) (ask : Ask) → IsListingOf j ask → IsNoChange ask
+listing_same j Ask.Ticket h = absurd h
+listing_same j (Ask.Lock row) h = absurd h
+listing_same j (Ask.Refresh t time) h = absurd h
+listing_same j (Ask.Unlock t) h = absurd h
+listing_same j Ask.Locks h = absurd h
+listing_same j (Ask.List i after) h = record { puts = λ k. refl; deletes = λ k. refl }
+listing_same j (Ask.Get i n) h = record { puts = λ k. refl; deletes = λ k. refl }
+listing_same j (Ask.Range pack offset len) h = absurd h
+listing_same j (Ask.Put t i n x) h = absurd h
+listing_same j (Ask.Delete t i n) h = absurd h
+listing_same j Ask.Config h = absurd h
+
+pub listing_reads : (j : Kind) (ask : Ask) → IsListingOf j ask → (es : Trace) → NoneDeleted es → PruneAllows es ask
+listing_reads j Ask.Ticket h = absurd h
+listing_reads j (Ask.Lock row) h = absurd h
+listing_reads j (Ask.Refresh t time) h = absurd h
+listing_reads j (Ask.Unlock t) h = absurd h
+listing_reads j Ask.Locks h = absurd h
+listing_reads j (Ask.List i after) h = λ es none. (tt, none)
+listing_reads j (Ask.Get i n) h = λ es none. (tt, none)
+listing_reads j (Ask.Range pack offset len) h = absurd h
+listing_reads j (Ask.Put t i n x) h = absurd h
+listing_reads j (Ask.Delete t i n) h = absurd h
+listing_reads j Ask.Config h = absurd h
+
+pub listing_untouched : (j : Kind) (e : Exchange) (es : Trace) → IsListingOf j e.ask → IsUntouched es → IsUntouched (e ∷ es)
+listing_untouched j e es h u = untouched_same e es (listing_same j e.ask h) u
+
+pub roll_listing : (roll : Roll) (ask : Ask) (es : Trace) → KnowsRoll roll ask es → IsListingOf roll.kind ask
+roll_listing roll Ask.Ticket es h = absurd h
+roll_listing roll (Ask.Lock row) es h = absurd h
+roll_listing roll (Ask.Refresh t time) es h = absurd h
+roll_listing roll (Ask.Unlock t) es h = absurd h
+roll_listing roll Ask.Locks es h = absurd h
+roll_listing roll (Ask.List i after) es h = h.0
+roll_listing roll (Ask.Get i n) es h = h.0
+roll_listing roll (Ask.Range pack offset len) es h = absurd h
+roll_listing roll (Ask.Put t i n x) es h = absurd h
+roll_listing roll (Ask.Delete t i n) es h = absurd h
+roll_listing roll Ask.Config es h = absurd h
+
+pub index_listing : (c : Catalog) (ask : Ask) (es : Trace) → KnowsIndexes c ask es → IsListingOf Kind.Index ask
+index_listing c Ask.Ticket es h = absurd h
+index_listing c (Ask.Lock row) es h = absurd h
+index_listing c (Ask.Refresh t time) es h = absurd h
+index_listing c (Ask.Unlock t) es h = absurd h
+index_listing c Ask.Locks es h = absurd h
+index_listing c (Ask.List i after) es h = h.0
+index_listing c (Ask.Get i n) es h = h.0
+index_listing c (Ask.Range pack offset len) es h = absurd h
+index_listing c (Ask.Put t i n x) es h = absurd h
+index_listing c (Ask.Delete t i n) es h = absurd h
+index_listing c Ask.Config es h = absurd h
+
+-- ---- what the job knows of it
+
+pub snapshots_known : (j : PruneJob) (ask : Ask) (es : Trace) → IsListingOf Kind.Snapshot ask → KnowsPrune j ask es → ReadsSnapshots j ask es
+snapshots_known j Ask.Ticket es is h = absurd is
+snapshots_known j (Ask.Lock row) es is h = absurd is
+snapshots_known j (Ask.Refresh t time) es is h = absurd is
+snapshots_known j (Ask.Unlock t) es is h = absurd is
+snapshots_known j Ask.Locks es is h = absurd is
+snapshots_known j (Ask.List Kind.Snapshot after) es is h = h
+snapshots_known j (Ask.List Kind.Index after) es is h = absurd (cc)
+snapshots_known j (Ask.List Kind.Pack after) es is h = absurd (cc)
+snapshots_known j (Ask.Get Kind.Snapshot n) es is h = h
+snapshots_known j (Ask.Get Kind.Index n) es is h = absurd (cc)
+snapshots_known j (Ask.Get Kind.Pack n) es is h = absurd (cc)
+snapshots_known j (Ask.Range pack offset len) es is h = absurd is
+snapshots_known j (Ask.Put t i n x) es is h = absurd is
+snapshots_known j (Ask.Delete t i n) es is h = absurd is
+snapshots_known j Ask.Config es is h = absurd is
+
+pub snapshots_back : (j : PruneJob) (ask : Ask) (es : Trace) → IsListingOf Kind.Snapshot ask → ReadsSnapshots j ask es → KnowsPrune j ask es
+snapshots_back j Ask.Ticket es is h = absurd is
+snapshots_back j (Ask.Lock row) es is h = absurd is
+snapshots_back j (Ask.Refresh t time) es is h = absurd is
+snapshots_back j (Ask.Unlock t) es is h = absurd is
+snapshots_back j Ask.Locks es is h = absurd is
+snapshots_back j (Ask.List Kind.Snapshot after) es is h = h
+snapshots_back j (Ask.List Kind.Index after) es is h = absurd (cc)
+snapshots_back j (Ask.List Kind.Pack after) es is h = absurd (cc)
+snapshots_back j (Ask.Get Kind.Snapshot n) es is h = h
+snapshots_back j (Ask.Get Kind.Index n) es is h = absurd (cc)
+snapshots_back j (Ask.Get Kind.Pack n) es is h = absurd (cc)
+snapshots_back j (Ask.Range pack offset len) es is h = absurd is
+snapshots_back j (Ask.Put t i n x) es is h = absurd is
+snapshots_back j (Ask.Delete t i n) es is h = absurd is
+snapshots_back j Ask.Config es is h = absurd is
+
+pub indexes_known : (j : PruneJob) (ask : Ask) (es : Trace) → IsListingOf Kind.Index ask → KnowsPrune j ask es → ReadsIndexes j ask es
+indexes_known j Ask.Ticket es is h = absurd is
+indexes_known j (Ask.Lock row) es is h = absurd is
+indexes_known j (Ask.Refresh t time) es is h = absurd is
+indexes_known j (Ask.Unlock t) es is h = absurd is
+indexes_known j Ask.Locks es is h = absurd is
+indexes_known j (Ask.List Kind.Snapshot after) es is h = absurd (cc)
+indexes_known j (Ask.List Kind.Index after) es is h = h
+indexes_known j (Ask.List Kind.Pack after) es is h = absurd (cc)
+indexes_known j (Ask.Get Kind.Snapshot n) es is h = absurd (cc)
+indexes_known j (Ask.Get Kind.Index n) es is h = h
+indexes_known j (Ask.Get Kind.Pack n) es is h = absurd (cc)
+indexes_known j (Ask.Range pack offset len) es is h = absurd is
+indexes_known j (Ask.Put t i n x) es is h = absurd is
+indexes_known j (Ask.Delete t i n) es is h = absurd is
+indexes_known j Ask.Config es is h = absurd is
+
+pub indexes_back : (j : PruneJob) (ask : Ask) (es : Trace) → IsListingOf Kind.Index ask → ReadsIndexes j ask es → KnowsPrune j ask es
+indexes_back j Ask.Ticket es is h = absurd is
+indexes_back j (Ask.Lock row) es is h = absurd is
+indexes_back j (Ask.Refresh t time) es is h = absurd is
+indexes_back j (Ask.Unlock t) es is h = absurd is
+indexes_back j Ask.Locks es is h = absurd is
+indexes_back j (Ask.List Kind.Snapshot after) es is h = absurd (cc)
+indexes_back j (Ask.List Kind.Index after) es is h = h
+indexes_back j (Ask.List Kind.Pack after) es is h = absurd (cc)
+indexes_back j (Ask.Get Kind.Snapshot n) es is h = absurd (cc)
+indexes_back j (Ask.Get Kind.Index n) es is h = h
+indexes_back j (Ask.Get Kind.Pack n) es is h = absurd (cc)
+indexes_back j (Ask.Range pack offset len) es is h = absurd is
+indexes_back j (Ask.Put t i n x) es is h = absurd is
+indexes_back j (Ask.Delete t i n) es is h = absurd is
+indexes_back j Ask.Config es is h = absurd is
+
+pub packs_known : (j : PruneJob) (ask : Ask) (es : Trace) → IsListingOf Kind.Pack ask → KnowsPrune j ask es → ListsPacks j ask es
+packs_known j Ask.Ticket es is h = absurd is
+packs_known j (Ask.Lock row) es is h = absurd is
+packs_known j (Ask.Refresh t time) es is h = absurd is
+packs_known j (Ask.Unlock t) es is h = absurd is
+packs_known j Ask.Locks es is h = absurd is
+packs_known j (Ask.List Kind.Snapshot after) es is h = absurd (cc)
+packs_known j (Ask.List Kind.Index after) es is h = absurd (cc)
+packs_known j (Ask.List Kind.Pack after) es is h = h
+packs_known j (Ask.Get Kind.Snapshot n) es is h = absurd (cc)
+packs_known j (Ask.Get Kind.Index n) es is h = absurd (cc)
+packs_known j (Ask.Get Kind.Pack n) es is h = h
+packs_known j (Ask.Range pack offset len) es is h = absurd is
+packs_known j (Ask.Put t i n x) es is h = absurd is
+packs_known j (Ask.Delete t i n) es is h = absurd is
+packs_known j Ask.Config es is h = absurd is
+
+pub packs_back : (j : PruneJob) (ask : Ask) (es : Trace) → IsListingOf Kind.Pack ask → ListsPacks j ask es → KnowsPrune j ask es
+packs_back j Ask.Ticket es is h = absurd is
+packs_back j (Ask.Lock row) es is h = absurd is
+packs_back j (Ask.Refresh t time) es is h = absurd is
+packs_back j (Ask.Unlock t) es is h = absurd is
+packs_back j Ask.Locks es is h = absurd is
+packs_back j (Ask.List Kind.Snapshot after) es is h = absurd (cc)
+packs_back j (Ask.List Kind.Index after) es is h = absurd (cc)
+packs_back j (Ask.List Kind.Pack after) es is h = h
+packs_back j (Ask.Get Kind.Snapshot n) es is h = absurd (cc)
+packs_back j (Ask.Get Kind.Index n) es is h = absurd (cc)
+packs_back j (Ask.Get Kind.Pack n) es is h = h
+packs_back j (Ask.Range pack offset len) es is h = absurd is
+packs_back j (Ask.Put t i n x) es is h = absurd is
+packs_back j (Ask.Delete t i n) es is h = absurd is
+packs_back j Ask.Config es is h = absurd is
+
+-- ---- from a stage to the job
+
+no_listing : (k : Known) (stage : Stage) (ask : Ask) (j : Kind) (es : Trace) → IsListingOf j ask → KnowsStage k stage ask es → ⊥
+no_listing k stage Ask.Ticket j es is h = is
+no_listing k stage (Ask.Lock row) j es is h = is
+no_listing k stage (Ask.Refresh t time) j es is h = is
+no_listing k stage (Ask.Unlock t) j es is h = is
+no_listing k stage Ask.Locks j es is h = is
+no_listing k Stage.Listing (Ask.List i after) j es is h = h
+no_listing k (Stage.Walking trees fact) (Ask.List i after) j es is h = let asks = h.asks in absurd (cc)
+no_listing k (Stage.Moving m) (Ask.List i after) j es is h = h
+no_listing k (Stage.Relisting r) (Ask.List i after) j es is h = h
+no_listing k (Stage.Deleting d) (Ask.List i after) j es is h = h
+no_listing k Stage.Listing (Ask.Get i n) j es is h = h
+no_listing k (Stage.Walking trees fact) (Ask.Get i n) j es is h = let asks = h.asks in absurd (cc)
+no_listing k (Stage.Moving m) (Ask.Get i n) j es is h = h
+no_listing k (Stage.Relisting r) (Ask.Get i n) j es is h = h
+no_listing k (Stage.Deleting d) (Ask.Get i n) j es is h = h
+no_listing k stage (Ask.Range pack offset len) j es is h = is
+no_listing k stage (Ask.Put t i n x) j es is h = is
+no_listing k stage (Ask.Delete t i n) j es is h = is
+no_listing k stage Ask.Config j es is h = is
+
+pub later_known : (j : PruneJob) (ask : Ask) (es : Trace) → KnowsStage (known_in j) j.stage ask es → KnowsPrune j ask es
+later_known j Ask.Ticket es h = h
+later_known j (Ask.Lock row) es h = h
+later_known j (Ask.Refresh t time) es h = h
+later_known j (Ask.Unlock t) es h = h
+later_known j Ask.Locks es h = h
+later_known j (Ask.List Kind.Snapshot after) es h = absurd (no_listing (known_in j) j.stage (Ask.List Kind.Snapshot after) Kind.Snapshot es refl h)
+later_known j (Ask.List Kind.Index after) es h = absurd (no_listing (known_in j) j.stage (Ask.List Kind.Index after) Kind.Index es refl h)
+later_known j (Ask.List Kind.Pack after) es h = absurd (no_listing (known_in j) j.stage (Ask.List Kind.Pack after) Kind.Pack es refl h)
+later_known j (Ask.Get Kind.Snapshot n) es h = absurd (no_listing (known_in j) j.stage (Ask.Get Kind.Snapshot n) Kind.Snapshot es refl h)
+later_known j (Ask.Get Kind.Index n) es h = absurd (no_listing (known_in j) j.stage (Ask.Get Kind.Index n) Kind.Index es refl h)
+later_known j (Ask.Get Kind.Pack n) es h = absurd (no_listing (known_in j) j.stage (Ask.Get Kind.Pack n) Kind.Pack es refl h)
+later_known j (Ask.Range pack offset len) es h = h
+later_known j (Ask.Put t i n x) es h = h
+later_known j (Ask.Delete t i n) es h = h
+later_known j Ask.Config es h = h
+
+-- the next step is one that the job may take
+pub may_step : (j : PruneJob) (who : Asker) (e : Exchange) (es : Trace) (step : Step) → e.emitted ≡ [] → IsNextStep (known_in j) who j.stage step (e ∷ es) → MayStep prune_rule who (KnowsPrune j) es e step
+may_step j who e es (Step.Ask ask) none h = (inl none, record { work = h.work; may = h.may; allowed = h.allowed; knows = later_known j ask (e ∷ es) h.knows })
+may_step j who e es (Step.Finish outcome) none h = (inl none, h)
+may_step j who e es Step.Away none h = absurd h
+
+-- the stage and the step of what comes next
+pub gone_on : (k : Known) (who : Asker) (onward : Onward) (j : PruneJob) (step : Step) (es : Trace) → step ≡ onward.step → j.stage ≡ onward.stage → known_in j ≡ k → IsNextStep k who onward.stage onward.step es
+    → IsNextStep (known_in j) who j.stage step es
+gone_on k who onward j step es step_is stage_is same h =
+    subst (λ z. IsNextStep z who j.stage step es) (sym same) (subst (λ s. IsNextStep k who s step es) (sym stage_is) (subst (λ s. IsNextStep k who onward.stage s es) (sym step_is) h))
+
+-- ---- a page of packs
+
+-- it may be asked for
+pub pack_page : (j : PruneJob) (who : Asker) (es : Trace) (ask : Ask) → Ask.List j.packs.kind (last_of j.packs.names.items) ≡ ask → IsDue (prune_task who) (KnowsRoll j.packs) es ask → ListsPacks j ask es
+    → MayAsk prune_rule who (KnowsPrune j) es ask
+pack_page j who es ask is due h =
+    let page : Ask = Ask.List Kind.Pack (last_of j.packs.names.items) in
+    let same : page ≡ ask = ap (λ k. Ask.List k (last_of j.packs.names.items)) (sym h.of_packs) ∙ is in
+    record {
+      work = due.work;
+      may = due.may;
+      allowed = subst (PruneAllows es) same (tt, h.untouched.none_deleted);
+      knows = subst (λ a. KnowsPrune j a es) same (subst (λ a. ListsPacks j a es) (sym same) h);
+    }
+
+-- the next one may be asked for
+pub pack_next : (j : PruneJob) (who : Asker) (es : Trace) (ask : Ask) → j.packs.kind ≡ Kind.Pack → IsDue (prune_task who) (KnowsRoll j.packs) es ask → ListsPacks j ask es → MayAsk prune_rule who (KnowsPrune j) es ask
+pack_next j who es ask of_packs due h =
+    let listing : IsListingOf Kind.Pack ask = subst (λ k. IsListingOf k ask) of_packs (roll_listing j.packs ask es due.knows) in
+    record { work = due.work; may = due.may; allowed = listing_reads Kind.Pack ask listing es h.untouched.none_deleted; knows = packs_back j ask es listing h }
+
+-- ---- all packs are listed
+
+pub packs_listed : (j : PruneJob) (packs : Roll) (e : Exchange) (es : Trace) → IsListingOf Kind.Pack e.ask → IsUntouched es → IsListing es j.snapshots.rows.items → Catalogs j.catalog true es → IsAll j.catalog
+    → IsPaged Kind.Pack packs.names.items true (e ∷ es)
+    → HaveRead (record { rows = j.snapshots.rows.items; indexes = j.catalog.roll.names.items; facts = j.catalog.lookup; packs = packs.names.items }) (e ∷ es) × IsUntouched (e ∷ es)
+packs_listed j packs e es listing untouched rows catalog all paged =
+    let c = catalog_same Kind.Pack e es j.catalog true refl listing catalog in (
+      record {
+        snapshots = listing_stays e es j.snapshots.rows.items (other_lists Kind.Pack Kind.Snapshot e refl listing) rows;
+        indexes = are_indexed j.catalog.roll.kind j.catalog.roll.names.items j.catalog.roll.read j.catalog.lookup (e ∷ es) c all;
+        listed = c.rolled.paged.listed;
+        gives = c.gives;
+        packs = paged;
+      },
+      listing_untouched Kind.Pack e es listing untouched,
+    )
+
+pub got_paged : (k : Kind) (n : Name) (say : Say) (names : List Name) (es : Trace) → IsPaged k names true es → IsPaged k names true (silent (Ask.Get k n) say ∷ es)
+got_paged k n say names es h = paged_on k (silent (Ask.Get k n) say) names true es refl refl (λ after is. absurd (cc)) h

@@ -1,0 +1,235 @@
+-- What is known while a prune moves blobs, and once it did.
+use Rattle.std.proofs.Common.{◌≡◌, ◌≢◌, ◌++◌, ◌∷◌, [], ℕ, List, Some, length, map, slice_get, refl, sym, ap, subst, inl, ◌∙◌, Contains, append-nil, append_assoc}
+use Rattle.std.proofs.lemmas.List.{map-append}
+use Rattle.std.proofs.lemmas.Option.{same_Some}
+use Rattle.repo_name.proofs.Containing.{contains_got}
+use Rattle.repo_name.specs.declared.kinds.Kind.{Kind}
+use Rattle.repo_name.specs.declared.names.Name.{Name}
+use Rattle.repo_name.specs.declared.tokens.Token.{Token}
+use Rattle.repo_pack.specs.PackLayout.{Item}
+use Rattle.repo_pack.specs.declared.writers.Sealed.{Sealed}
+use Rattle.repo_index.specs.declared.facts.Fact.{Fact}
+use Rattle.repo_index.specs.declared.facts.PackFacts.{PackFacts}
+use Rattle.repo_wire.specs.declared.messages.Ask.{Ask}
+use Rattle.repo_wire.specs.declared.messages.Say.{Say}
+use Rattle.repo_session.specs.declared.jobs.Step.{Step}
+use Rattle.repo_session.specs.Askers.{Asker}
+use Rattle.repo_session.specs.Jobs.{MayAsk}
+use Rattle.repo_session.specs.Order.{IsWorking}
+use Rattle.repo_session.specs.Blobs.{range_of}
+use Rattle.repo_session.specs.Traces.{Exchange, Trace, object_put, ReadFact}
+use Rattle.repo_session.proofs.Cataloguing.{fact_stays}
+use Rattle.repo_session.proofs.Deleting.{DeletesNone, none_deleted_on}
+use Rattle.repo_writing.proofs.PutLemmas.{objects_put_other}
+use Rattle.repo_writing.proofs.Writings.{none_put, packs_stay, pack_sent, pack_done, items_push, put_of, is_put}
+use Rattle.repo_writing.specs.Writing.{Put, IsPut, items_of, ArePut, AreCounts}
+use Rattle.repo_writing.specs.declared.counts.Counts.{Counts}
+use Rattle.repo_prune.specs.Moving.{IsMoving, AwaitsBlob, MovesOn, Sends}
+use Rattle.repo_prune.specs.PruneStates.{Known, ArePlanned, HasPlanned, IsRepacking, KnowsMove, HasMoved, KnowsStage, IsNextStep, MovesTo}
+use Rattle.repo_prune.specs.Pruning.{prune_rule, prune_task}
+use Rattle.repo_prune.specs.declared.moving.Moved.{Moved}
+use Rattle.repo_prune.specs.declared.moving.Moving.{Moving}
+use Rattle.repo_prune.specs.declared.prunes.Stage.{Stage}
+use Rattle.repo_prune.proofs.Asides.{IsAside, read_same, fact_same}
+use Rattle.repo_pack.specs.PackLayout.{IsBlobLength}
+use Rattle.repo_session.specs.declared.outcomes.End.{End}
+use Rattle.repo_session.specs.Ends.{blob_thing, IsBad, IsBadBlob, IsCause}
+use Rattle.repo_prune.proofs.PruneTrees.{read_within}
+use Rattle.repo_prune.proofs.Repacking.{none_awaited}
+use Rattle.repo_session.proofs.Descending.{received_grows}
+
+-- ---- what stays over a part of a pack or a put
+
+pub planned_later : (k : Known) (kept : List PackFacts) (moves : List Fact) (e : Exchange) (es : Trace) → IsAside e.ask → ArePlanned k kept moves es → ArePlanned k kept moves (e ∷ es)
+planned_later k kept moves e es aside h = record {
+  texts = h.texts;
+  trees = record { received = λ x among. received_grows e es _ x (h.trees.received x among); one = h.trees.one };
+  walked = h.walked;
+  given = h.given;
+  just = h.just;
+  once = h.once;
+  kept_are = λ listed among fact.
+      let is = h.kept_are listed among fact in
+      (λ has. let b = is.0 has in (fact_stays e es fact b.0, b.1), λ both. is.1 (fact_same e es aside fact both.0, both.1));
+  listable = h.listable;
+  moves_are = λ fact among. fact_stays e es fact (h.moves_are fact among);
+}
+
+-- ---- with the moving as it stands
+
+-- the packs put, whatever counts
+counts_as : (old new : Counts) (puts next : List Put) (es : Trace) → AreCounts new (items_of (puts ++ next)) → ArePut old puts next es → ArePut new puts next es
+counts_as old new puts next es counted h = record { packs = h.packs; done = h.done; each = h.each; counted = counted }
+
+-- the same packs, the moving being another one with the same blobs to move
+pub repacks_as : (k : Known) (m n : Moving) (puts next : List Put) (es : Trace) → n.moves ≡ m.moves → n.listed.items ≡ m.listed.items → AreCounts n.counts (items_of (puts ++ next)) → IsRepacking k m puts next es → IsRepacking k n puts next es
+repacks_as k m n puts next es moves listed counted h = record {
+  read = h.read;
+  none = h.none;
+  kept = h.kept;
+  planned = subst (λ fs. ArePlanned k h.kept fs es) (sym (ap (λ v. v.items) moves)) h.planned;
+  put = counts_as m.counts n.counts puts next es counted h.put;
+  unindexed = h.unindexed;
+  unstored = h.unstored;
+  listed = listed ∙ h.listed;
+}
+
+pub counted_alone : (c : Counts) (puts : List Put) → AreCounts c (items_of puts) → AreCounts c (items_of (puts ++ []))
+counted_alone c puts h = subst (λ ps. AreCounts c (items_of ps)) (sym (append-nil puts)) h
+
+module _ (k : Known) (m n : Moving) (puts : List Put) (es : Trace) (r : IsRepacking k m puts [] es) (moves : n.moves ≡ m.moves) (who : Asker) (token : Token) (w : IsWorking (prune_task who) token es) where
+  same_moves : n.moves.items ≡ m.moves.items
+  same_moves = ap (λ v. v.items) moves
+
+  -- the next blob may be asked for
+  pub move_asked : (fact : Fact) → AwaitsBlob n fact (items_of puts) [] → n.listed.items ≡ m.listed.items → MayAsk prune_rule who (KnowsStage k (Stage.Moving n)) es (range_of fact)
+  move_asked fact a listed =
+      let among : Contains m.moves.items fact = subst (λ fs. Contains fs fact) same_moves (contains_got n.moves.items n.asked fact a.asked) in
+      record {
+        work = tt;
+        may = ((token, w), (fact, r.planned.moves_are fact among, refl, refl, refl));
+        allowed = (tt, r.none);
+        knows = record { puts = puts; sealed = []; fact = fact; repacking = repacks_as k m n puts [] es moves listed (counted_alone n.counts puts a.moving.counted) r; awaits = a; asks = refl };
+      }
+
+  -- a pack may be put
+  pub pack_asked : (sealed : Sealed) → Sends (items_of puts) m.listed.items sealed n → MayAsk prune_rule who (KnowsStage k (Stage.Moving n)) es (Ask.Put token Kind.Pack sealed.name sealed.bytes)
+  pack_asked sealed s =
+      let p : Put = put_of sealed s.items s.listed in
+      let is : IsPut p = is_put (Some sealed) s.items sealed s.listed s.lists in
+      let listings : List PackFacts = map (λ (q : Put). q.listed) (puts ++ []) in
+      let more : map (λ (q : Put). q.listed) (puts ++ p ∷ []) ≡ listings ++ s.listed ∷ [] =
+      map-append (λ (q : Put). q.listed) puts (p ∷ []) ∙ ap (λ (ps : List Put). map (λ (q : Put). q.listed) ps ++ s.listed ∷ []) (sym (append-nil puts)) in
+      let put : ArePut n.counts puts (p ∷ []) es = pack_sent m.counts n.counts puts p es r.put is (λ before. s.moving.counted) in
+      record {
+        work = tt;
+        may = (w, sym s.lists.holds.named, s.lists.holds.small);
+        allowed = record { none = r.none; items = s.items; pack = s.lists.holds.holds };
+        knows = record {
+          puts = puts;
+          put = p;
+          sealed = [];
+          repacking = record {
+            read = r.read;
+            none = r.none;
+            kept = r.kept;
+            planned = subst (λ fs. ArePlanned k r.kept fs es) (sym same_moves) r.planned;
+            put = put;
+            unindexed = r.unindexed;
+            unstored = r.unstored;
+            listed = s.behind ∙ ap (λ ls. ls ++ s.listed ∷ []) r.listed ∙ append_assoc r.kept listings (s.listed ∷ []) ∙ ap (λ ls. r.kept ++ ls) (sym more);
+          };
+          pack_is = refl;
+          moving = subst (λ is. IsMoving n is []) (sym (items_push puts p)) s.moving;
+        };
+      }
+
+  -- what comes next, unless all is moved
+  pub goes_on : (moved : Moved) (step : Step) → moved ≢ Moved.Done → MovesOn (items_of puts) m.listed.items moved n → MovesTo token moved step → IsNextStep k who (Stage.Moving n) step es
+  goes_on (Moved.Ask fact) step other on to = subst (λ s. IsNextStep k who (Stage.Moving n) s es) (sym to) (move_asked fact on.0 on.1)
+  goes_on (Moved.Put sealed) step other on to = subst (λ s. IsNextStep k who (Stage.Moving n) s es) (sym (to on.items on.lists.holds)) (pack_asked sealed on)
+  goes_on Moved.Done step other on to = absurd (other refl)
+  goes_on Moved.Nothing step other on to = absurd on
+
+  -- all is moved
+  pub all_moved : MovesOn (items_of puts) m.listed.items Moved.Done n → HasMoved k n es
+  all_moved on = record {
+    puts = puts;
+    repacking = repacks_as k m n puts [] es moves on.3 (counted_alone n.counts puts on.0.counted) r;
+    moving = on.0;
+    written = on.1;
+    all = on.2;
+  }
+
+-- ---- at the begin
+
+pub begins_moving : (k : Known) (m : Moving) (kept : List PackFacts) (moves : List Fact) (es : Trace) → HasPlanned k kept moves es → IsMoving m [] [] → m.listed.items ≡ kept → m.moves.items ≡ moves → IsRepacking k m [] [] es
+begins_moving k m kept moves es h is listed same = record {
+  read = h.read;
+  none = h.untouched.none_deleted;
+  kept = kept;
+  planned = subst (λ fs. ArePlanned k kept fs es) (sym same) h.planned;
+  put = none_put m.counts es (h.untouched.none_put Kind.Pack) is.counted;
+  unindexed = h.untouched.none_put Kind.Index;
+  unstored = h.untouched.none_put Kind.Snapshot;
+  listed = listed ∙ sym (append-nil kept);
+}
+
+-- ---- a blob came
+
+-- the blob of this fact was asked for
+pub record IsAwaited (k : Known) (m : Moving) (fact : Fact) (ask : Ask) (es : Trace) : Type 0 where
+  pub puts : List Put
+  pub sealed : List Item
+  pub repacking : IsRepacking k m puts [] es
+  pub awaits : AwaitsBlob m fact (items_of puts) sealed
+  pub asks : ask ≡ range_of fact
+  pub read : ReadFact es fact
+
+pub blob_known : (k : Known) (m : Moving) (fact : Fact) (ask : Ask) (es : Trace) → Some fact ≡ slice_get m.moves.items m.asked → KnowsMove k m ask es → IsAwaited k m fact ask es
+blob_known k m fact ask es at h =
+    let same : h.fact ≡ fact = sym (same_Some fact h.fact (at ∙ h.awaits.asked)) in
+    let a : AwaitsBlob m fact (items_of h.puts) h.sealed = subst (λ f. AwaitsBlob m f (items_of h.puts) h.sealed) same h.awaits in
+    record {
+      puts = h.puts;
+      sealed = h.sealed;
+      repacking = h.repacking;
+      awaits = a;
+      asks = h.asks ∙ ap range_of same;
+      read = h.repacking.planned.moves_are fact (contains_got m.moves.items m.asked fact a.asked);
+    }
+
+-- it isn't what the fact promises
+pub bad_range : (e : Exchange) (es : Trace) (fact : Fact) (x : List ℕ) → e.ask ≡ range_of fact → e.say ≡ Say.Bytes x → ReadFact es fact → IsBadBlob fact x → IsCause (e ∷ es) (End.BadObject (blob_thing fact.kind) fact.name)
+bad_range e es fact x is said read bad =
+    let at : IsBad (e ∷ es) (range_of fact) e.say (blob_thing fact.kind) fact.name = (x, fact, said, fact_stays e es fact read, refl, refl, refl, refl, refl, bad) in
+    inl (subst (λ a. IsBad (e ∷ es) a e.say (blob_thing fact.kind) fact.name) (sym is) at)
+
+read_length : (es : Trace) (fact : Fact) → ReadFact es fact → IsBlobLength fact.place.length
+read_length es fact read = (read_within es fact read).blob
+
+pub blob_length : (es : Trace) (fact : Fact) (bytes : List ℕ) → ReadFact es fact → length bytes ≡ fact.place.length → IsBlobLength (length bytes)
+blob_length es fact bytes read long = subst IsBlobLength (sym long) (read_length es fact read)
+
+-- the moving isn't done where a blob was awaited
+pub not_done : (m n : Moving) (fact : Fact) (sent sealed : List Item) (old : List PackFacts) (moved : Moved) → AwaitsBlob m fact sent sealed → n.moves ≡ m.moves → MovesOn sent old moved n → moved ≢ Moved.Done
+not_done m n fact sent sealed old moved a moves on is =
+    let done : MovesOn sent old Moved.Done n = subst (λ x. MovesOn sent old x n) is on in
+    none_awaited m n fact sent sealed a moves done.0 done.1 done.2
+
+-- ---- over an exchange
+
+-- a part of a pack came
+pub repacks_range : (k : Known) (m : Moving) (puts : List Put) (e : Exchange) (es : Trace) (pack : Name) (offset len : ℕ) → e.ask ≡ Ask.Range pack offset len → IsRepacking k m puts [] es → IsRepacking k m puts [] (e ∷ es)
+repacks_range k m puts e es pack offset len is h =
+    let aside : IsAside e.ask = subst IsAside (sym is) tt in
+    let other : (j : Kind) → object_put j e.ask ≡ [] = λ j. ap (object_put j) is in
+    let none : DeletesNone e.ask = subst DeletesNone (sym is) (λ j. refl) in
+    record {
+      read = read_same e es aside k h.read;
+      none = none_deleted_on e es none h.none;
+      kept = h.kept;
+      planned = planned_later k h.kept m.moves.items e es aside h.planned;
+      put = packs_stay m.counts puts [] e es (other Kind.Pack) h.put;
+      unindexed = objects_put_other Kind.Index e es (other Kind.Index) ∙ h.unindexed;
+      unstored = objects_put_other Kind.Snapshot e es (other Kind.Snapshot) ∙ h.unstored;
+      listed = h.listed;
+    }
+
+-- the put of a pack is done
+pub repacks_put : (k : Known) (m : Moving) (puts : List Put) (p : Put) (token : Token) (e : Exchange) (es : Trace) → e.ask ≡ Ask.Put token Kind.Pack p.pack.name p.pack.bytes → e.say ≡ Say.Done → IsRepacking k m puts (p ∷ []) es
+    → IsRepacking k m (puts ++ p ∷ []) [] (e ∷ es)
+repacks_put k m puts p token e es is said h =
+    let aside : IsAside e.ask = subst IsAside (sym is) tt in
+    let other : (j : Kind) → object_put j (Ask.Put token Kind.Pack p.pack.name p.pack.bytes) ≡ [] → object_put j e.ask ≡ [] = λ j none. ap (object_put j) is ∙ none in
+    let none : DeletesNone e.ask = subst DeletesNone (sym is) (λ j. refl) in
+    record {
+      read = read_same e es aside k h.read;
+      none = none_deleted_on e es none h.none;
+      kept = h.kept;
+      planned = planned_later k h.kept m.moves.items e es aside h.planned;
+      put = pack_done m.counts puts p token e es is said h.put;
+      unindexed = objects_put_other Kind.Index e es (other Kind.Index refl) ∙ h.unindexed;
+      unstored = objects_put_other Kind.Snapshot e es (other Kind.Snapshot refl) ∙ h.unstored;
+      listed = h.listed ∙ ap (λ ps. h.kept ++ map (λ (q : Put). q.listed) ps) (sym (append-nil (puts ++ p ∷ [])));
+    }

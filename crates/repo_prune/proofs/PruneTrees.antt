@@ -1,0 +1,280 @@
+-- What is known while a prune reads trees, and once it did.
+use Rattle.std.proofs.Common.{Vec, Global, ◌≡◌, ◌↔◌, ◌++◌, ◌∷◌, [], ℕ, List, map, Some, slice_get, refl, sym, ap, subst, inl, inr, ◌∙◌, Contains}
+use Rattle.std.specs.List.{All}
+use Rattle.std.proofs.lemmas.List.Elements.{All-contains, Contains-append_cases}
+use Rattle.std.proofs.lemmas.Option.{none-some}
+use Rattle.repo_name.proofs.Containing.{contained_or, contains_map, flat_contains, map_contains, none_contained}
+use Rattle.repo_name.specs.declared.kinds.BlobKind.{BlobKind}
+use Rattle.repo_name.specs.declared.kinds.BlobKind.TheVariants.{Content, Tree}
+use Rattle.repo_name.specs.declared.kinds.Kind.{Kind}
+use Rattle.repo_name.specs.declared.kinds.Thing.{Thing}
+use Rattle.repo_name.specs.declared.names.Name.{Name}
+use Rattle.repo_name.specs.declared.tokens.Token.{Token}
+use Rattle.repo_pack.specs.PackLayout.{IsWithin}
+use Rattle.repo_index.proofs.OneLemmas.{index_texts_lawful}
+use Rattle.repo_index.specs.IndexText.{fact_of}
+use Rattle.repo_index.specs.declared.facts.Fact.{Fact}
+use Rattle.repo_index.specs.declared.facts.PackFacts.{PackFacts}
+use Rattle.repo_tree.specs.Laws.{Grows}
+use Rattle.repo_tree.specs.Parts.{ListsBy, IsTree}
+use Rattle.repo_tree.specs.Spelling.{Reach}
+use Rattle.repo_tree.specs.declared.nodes.Node.{Node}
+use Rattle.repo_session.specs.declared.outcomes.End.{End}
+use Rattle.repo_session.specs.declared.outcomes.Outcome.{Outcome}
+use Rattle.repo_session.specs.Askers.{Asker}
+use Rattle.repo_session.specs.Blobs.{range_of}
+use Rattle.repo_session.specs.Catalogs.{IsNowhere}
+use Rattle.repo_session.specs.Ends.{blob_thing, Concludes, IsBad}
+use Rattle.repo_session.specs.Jobs.{MayAsk}
+use Rattle.repo_session.specs.Listings.{IsListing, IsRow}
+use Rattle.repo_session.specs.Order.{IsWorking}
+use Rattle.repo_session.specs.Received.{Received}
+use Rattle.repo_session.specs.Traces.{Exchange, Trace, Lists, ReadFact}
+use Rattle.repo_session.specs.Trees.{HasRoot, Under, IsNeeded, IsBroken, IsUnindexed}
+use Rattle.repo_session.proofs.Descending.{needed_grows, received_grows, under_grows}
+use Rattle.repo_session.proofs.Reaching.{reached_needed}
+use Rattle.repo_reach.proofs.Reaching.{used_is_reached}
+use Rattle.repo_reach.specs.Collected.{tree_blobs, IsReached}
+use Rattle.repo_reach.specs.Laws.{IsUsed}
+use Rattle.repo_reach.specs.Walks.{IsWalk, HasText}
+use Rattle.repo_reach.specs.declared.links.Links.{Links}
+use Rattle.repo_reach.specs.declared.trees.Seen.{Seen}
+use Rattle.repo_reach.specs.declared.trees.Trees.{Trees}
+use Rattle.repo_writing.proofs.PutLemmas.{each_contained}
+use Rattle.repo_writing.specs.Putting.{IsKeptPack}
+use Rattle.repo_prune.specs.Deciding.{IsPlanned}
+use Rattle.repo_prune.specs.Keeping.{Row}
+use Rattle.repo_prune.specs.PruneStates.{Known, HaveRead, IsWalkOver, HasWalked, ArePlanned, KnowsStage}
+use Rattle.repo_prune.specs.Pruning.{IsUntouched, prune_rule, prune_task, IsNeededBy, AreWalked, IsBadTree, PruneConcludes}
+use Rattle.repo_prune.specs.Reading.{Walks, Awaits, CannotGoOn, IsPromised, TakesTree}
+use Rattle.repo_prune.specs.declared.reading.Walked.{Walked}
+use Rattle.repo_prune.proofs.Asides.{IsAside, IsNoChange, read_same, untouched_same}
+use Rattle.repo_session.proofs.Cataloguing.{fact_stays}
+use Rattle.repo_prune.specs.declared.plans.Plan.{Plan}
+use Rattle.repo_prune.specs.declared.prunes.Stage.{Stage}
+use Rattle.repo_prune.proofs.Choosing.{contained_has}
+
+-- ---- a tree is asked for
+
+pub awaited_read : (k : Known) (es : Trace) (texts : List (List ℕ)) (trees : Trees) (fact : Fact) → HaveRead k es → Awaits k.facts texts trees fact → ReadFact es fact
+awaited_read k es texts trees fact read a =
+    let is : fact_of Tree fact.name fact.place ≡ fact = λ i. record { kind = sym a.next.0 i; name = fact.name; place = fact.place } in
+    (read.gives fact).0 (subst (Contains k.facts) is a.next.1.among)
+
+pub tree_asked : (k : Known) (who : Asker) (token : Token) (es : Trace) (texts : List (List ℕ)) (trees : Trees) (fact : Fact) → IsWorking (prune_task who) token es → IsWalkOver k texts trees es → Awaits k.facts texts trees fact
+    → MayAsk prune_rule who (KnowsStage k (Stage.Walking trees fact)) es (range_of fact)
+tree_asked k who token es texts trees fact w over a = record {
+  work = tt;
+  may = ((token, w), (fact, awaited_read k es texts trees fact over.read a, refl, refl, refl));
+  allowed = (tt, over.untouched.none_deleted);
+  knows = record { texts = texts; over = over; awaits = a; asks = refl };
+}
+
+-- ---- rows and roots
+
+-- a row's snapshot is of version 1, was read, and is listed
+module _ (es : Trace) (rows : List Row) (l : IsListing es rows) (row : Row) (among : Contains rows row) where
+  row_is : IsRow es row
+  row_is = each_contained (IsRow es) rows row l.each among
+
+  pub row_version : row.1.version ≡ 1
+  row_version = row_is.2.known
+
+  pub row_listed : Lists es Kind.Snapshot row.0
+  row_listed = contained_has _ row.0 (subst (λ ns. Contains ns row.0) l.names (contains_map (λ (r : Row). r.0) rows row among))
+
+  pub row_root : HasRoot es row.0 1 row.1.tree
+  row_root = (row_is.0, row.1, row_is.1, row_is.2, row_version, refl)
+
+texts_received : (es : Trace) (texts : List (List ℕ)) → ((x : List ℕ) → Contains texts x → Received es Tree x) → Grows (tree_blobs texts) (Received es)
+texts_received es texts received k x h = subst (λ j. Received es j x) (sym h.0) (received x h.1)
+
+-- ---- why it can't go on
+
+module _ (k : Known) (es : Trace) (texts : List (List ℕ)) (roots : List Name) (read : HaveRead k es) (roots_are : roots ≡ map (λ (row : Row). row.1.tree) k.rows)
+    (received : (x : List ℕ) → Contains texts x → Received es Tree x) where
+  row_of : (root : Name) → Contains roots root → (row : Row) × Contains k.rows row × (row.1.tree ≡ root)
+  row_of root h = map_contains (λ (row : Row). row.1.tree) k.rows root (subst (λ rs. Contains rs root) roots_are h)
+
+  -- a blob that a snapshot needs, and no index gives
+  pub unindexed : (kind : BlobKind) (n : Name) → IsNowhere k.facts kind n → (root : Name) → Contains roots root → IsNeeded 1 (tree_blobs texts) root kind n → (snapshot : Name) × Lists es Kind.Snapshot snapshot × IsUnindexed es snapshot (blob_thing kind) n
+  unindexed kind n nowhere root among needed =
+      let row = row_of root among in
+      let B : Name → Type 0 = λ m. HasRoot es row.0.0 1 m in (
+        row.0.0,
+        row_listed es k.rows read.snapshots row.0 row.1,
+        record {
+          kind = kind;
+          called = refl;
+          version = 1;
+          root = root;
+          found = subst B row.2 (row_root es k.rows read.snapshots row.0 row.1);
+          needed = needed_grows 1 (tree_blobs texts) (Received es) (texts_received es texts received) root kind n needed;
+          indexes = record { listed = read.indexes.listed; each = λ m lists. let i = read.indexes.each m lists in (i.0, i.2) };
+          ungiven = λ given.
+              let fact : Fact = given.0 in
+              let is : fact ≡ fact_of kind n fact.place = λ i. record { kind = given.2 i; name = given.3 i; place = fact.place } in
+              nowhere fact.place (subst (Contains k.facts) is ((read.gives fact).1 given.1));
+        },
+      )
+
+  broken_grows : (root : Name) (path : List (List ℕ)) (tree : Name) → IsBroken 1 (tree_blobs texts) root path tree → IsBroken 1 (Received es) root path tree
+  broken_grows root path tree (inl none) = inl (none.0, texts_received es texts received Tree none.0 none.1, none.2, none.3)
+  broken_grows root path tree (inr (inl deep)) =
+      let t = deep.1 in
+      inr (inl (deep.0, record { text = t.text; among = texts_received es texts received Tree t.text t.among; named = t.named; reads = t.reads }, deep.2, deep.3))
+  broken_grows root path tree (inr (inr wrong)) = absurd wrong.2
+
+  pub bad_tree_there : (tree root : Name) → Contains roots root → (path : List (List ℕ)) → Under 1 (tree_blobs texts) root path tree → IsBroken 1 (tree_blobs texts) root path tree → IsBadTree es tree
+  bad_tree_there tree root among path under broken =
+      let row = row_of root among in
+      let B : Name → Type 0 = λ m. HasRoot es row.0.0 1 m in
+      record {
+        snapshot = row.0.0;
+        among = row_listed es k.rows read.snapshots row.0 row.1;
+        version = 1;
+        root = root;
+        found = subst B row.2 (row_root es k.rows read.snapshots row.0 row.1);
+        path = path;
+        leads = under_grows 1 (tree_blobs texts) (Received es) (texts_received es texts received) root path tree under;
+        broken = broken_grows root path tree broken;
+      }
+
+  pub cannot_go_on : IsUntouched es → (end : End) → CannotGoOn k.facts (tree_blobs texts) roots end → PruneConcludes es (Outcome.Ended end)
+  cannot_go_on untouched (End.Missing thing n) h =
+      let u = unindexed h.0 n h.2 h.3.0 h.3.1 h.3.2 in
+      (untouched, subst (λ t. (snapshot : Name) × Lists es Kind.Snapshot snapshot × IsUnindexed es snapshot t n) (sym h.1) u)
+  cannot_go_on untouched (End.BadObject thing tree) h =
+      let bad = bad_tree_there tree h.1.0 h.1.1 h.1.2.0 h.1.2.1 h.1.2.2 in
+      subst (λ t. PruneConcludes es (Outcome.Ended (End.BadObject t tree))) (sym h.0) (untouched, bad)
+  cannot_go_on untouched End.Busy h = absurd h
+  cannot_go_on untouched End.Fenced h = absurd h
+  cannot_go_on untouched (End.Refused code) h = absurd h
+  cannot_go_on untouched End.BadReply h = absurd h
+  cannot_go_on untouched End.Version h = absurd h
+  cannot_go_on untouched End.DirectoryTooLarge h = absurd h
+
+-- what an index says is within range
+pub read_within : (es : Trace) (fact : Fact) → ReadFact es fact → IsWithin fact.place.offset fact.place.length
+read_within es fact read =
+    let says = read.says in
+    let lawful = index_texts_lawful read.text says.packs says.text in
+    let at = flat_contains (λ (p : PackFacts). p.facts) says.packs fact says.among in
+    let here = All-contains (λ (p : PackFacts). All (λ (f : Fact). (f.place.pack ≡ p.pack) × IsWithin f.place.offset f.place.length) p.facts) says.packs at.0 lawful at.1 in
+    (All-contains (λ (f : Fact). (f.place.pack ≡ at.0.pack) × IsWithin f.place.offset f.place.length) at.0.facts fact here at.2).1
+
+-- ---- once all trees were read
+
+module _ (k : Known) (trees : Trees) (es : Trace) (h : HasWalked k trees es) where
+  listing : IsListing es k.rows
+  listing = h.over.read.snapshots
+
+  reach_one : (row : Row) (kind : BlobKind) (n : Name) → Contains k.rows row → Reach row.1.version (tree_blobs h.texts) row.1.tree kind n → IsReached h.texts trees.roots.items kind n
+  reach_one row kind n among reach = (
+    row.1.tree,
+    subst (λ rs. Contains rs row.1.tree) (sym h.over.roots) (contains_map (λ (r : Row). r.1.tree) k.rows row among),
+    subst (λ v. Reach v (tree_blobs h.texts) row.1.tree kind n) (row_version es k.rows listing row among) reach,
+  )
+
+  pub needed_used : (kind : BlobKind) (n : Name) → IsNeededBy k.rows h.texts kind n → IsUsed trees.seen.items kind n
+  needed_used kind n need = (used_is_reached h.texts trees h.walks.walk h.whole kind n).0 (reach_one need.row kind n need.among need.reaches)
+
+  pub used_needed : (kind : BlobKind) (n : Name) → IsUsed trees.seen.items kind n → IsNeededBy k.rows h.texts kind n
+  used_needed kind n used =
+      let reached = (used_is_reached h.texts trees h.walks.walk h.whole kind n).1 used in
+      let found = map_contains (λ (row : Row). row.1.tree) k.rows reached.0 (subst (λ rs. Contains rs reached.0) h.over.roots reached.1) in
+      let row : Row = found.0 in
+      let at : Reach 1 (tree_blobs h.texts) row.1.tree kind n = subst (λ t. Reach 1 (tree_blobs h.texts) t kind n) (sym found.2) reached.2 in
+      record { row = row; among = found.1; reaches = subst (λ v. Reach v (tree_blobs h.texts) row.1.tree kind n) (sym (row_version es k.rows listing row found.1)) at }
+
+  seen_lists : (seen : Seen) (n : Name) → seen.name ≡ n → (links : Links) → seen.links ≡ Some links → HasText h.texts seen.name seen.links → (nodes : List Node) × ListsBy 1 (tree_blobs h.texts) n nodes
+  seen_lists seen n named links is text =
+      let t : HasText h.texts seen.name (Some links) = subst (HasText h.texts seen.name) is text in
+      let tree : IsTree (tree_blobs h.texts) n t.1 = record { text = t.0; among = (refl, t.2); named = t.3 ∙ named; reads = t.4 } in
+      (t.1, tree)
+
+  pub all_walked : AreWalked k.rows h.texts
+  all_walked row n among reach =
+      let used = (used_is_reached h.texts trees h.walks.walk h.whole Tree n).0 (reach_one row Tree n among reach) in
+      let i = used.1.0 in
+      let seen = used.1.1 in
+      let links = h.whole.read i seen used.1.2 in
+      let text = (h.walks.walk.seen.each i seen used.1.2).text in
+      let lists = seen_lists seen n used.1.3 links.0 links.1 text in
+      (lists.0, subst (λ v. ListsBy v (tree_blobs h.texts) n lists.0) (sym (row_version es k.rows listing row among)) lists.1)
+
+  kept_pack : (facts : List Fact) (listed : PackFacts) → facts ≡ k.facts → ((fact : Fact) → Contains listed.facts fact ↔ (Contains facts fact × (fact.place.pack ≡ listed.pack))) → IsKeptPack es listed
+  kept_pack facts listed same each fact = (
+    λ has. let b = (each fact).0 has in ((h.over.read.gives fact).0 (subst (λ fs. Contains fs fact) same b.0), b.1),
+    λ both. (each fact).1 (subst (λ fs. Contains fs fact) (sym same) ((h.over.read.gives fact).1 both.0), both.1),
+  )
+
+  pub planned : (plan : Plan) → IsPlanned k.facts trees plan → ArePlanned k plan.kept.items plan.moves.items es
+  planned plan p = record {
+    texts = h.texts;
+    trees = record { received = h.over.received; one = h.walks.walk.seen.one };
+    walked = all_walked;
+    given = λ kind n need.
+        let pair = (p.pairs kind n).1 (needed_used kind n need) in
+        p.covers.given kind n pair (p.given h.walks.found kind n pair);
+    just = λ fact among. used_needed fact.kind fact.name ((p.pairs fact.kind fact.name).0 (p.covers.just fact among));
+    once = p.covers.once;
+    kept_are = λ listed among. kept_pack k.facts listed refl ((p.plan_of.kept listed).0 among).all.each;
+    listable = λ listed among.
+        let stays = (p.plan_of.kept listed).0 among in
+        record {
+          some = stays.some;
+          few = stays.few;
+          within = λ fact has. let b = (stays.all.each fact).0 has in (b.1, read_within es fact ((h.over.read.gives fact).0 b.0));
+        };
+    moves_are = λ fact among. (h.over.read.gives fact).0 ((p.plan_of.moves fact).0 among).copy.least.among;
+  }
+
+  -- some content that is used, and that no index gives
+  pub content_unindexed : (n : Name) → IsUsed trees.seen.items Content n → IsNowhere k.facts Content n → (snapshot : Name) × Lists es Kind.Snapshot snapshot × IsUnindexed es snapshot Thing.Content n
+  content_unindexed n used nowhere =
+      let reached = (used_is_reached h.texts trees h.walks.walk h.whole Content n).1 used in
+      unindexed k es h.texts trees.roots.items h.over.read h.over.roots h.over.received Content n nowhere reached.0 reached.1 (reached_needed 1 (tree_blobs h.texts) reached.0 Content n reached.2)
+
+-- ---- at the begin
+
+none_got : (all : List Seen) (i : ℕ) (seen : Seen) → all ≡ [] → slice_get all i ≡ Some seen → ⊥
+none_got all i seen none there = let empty : List Seen = [] in let at : slice_get empty i ≡ Some seen = subst (λ xs. slice_get xs i ≡ Some seen) none there in none-some seen at
+
+pub first_walk : (facts : List Fact) (trees : Trees) → IsWalk [] trees → trees.seen.items ≡ [] → Walks facts [] trees
+first_walk facts trees walk none = record { walk = walk; found = λ i seen there. absurd (none_got trees.seen.items i seen none there) }
+
+pub first_over : (k : Known) (trees : Trees) (es : Trace) → HaveRead k es → IsUntouched es → trees.roots.items ≡ map (λ (row : Row). row.1.tree) k.rows → IsWalkOver k [] trees es
+first_over k trees es read untouched roots = record { read = read; untouched = untouched; roots = roots; received = λ x h. absurd (none_contained x h) }
+
+-- ---- a tree came
+
+pub walk_more : (k : Known) (texts : List (List ℕ)) (trees new : Trees) (fact : Fact) (e : Exchange) (es : Trace) (x : List ℕ) → IsWalkOver k texts trees es → Awaits k.facts texts trees fact → e.ask ≡ range_of fact → IsPromised fact e.say x
+    → new.roots ≡ trees.roots → IsWalkOver k (texts ++ x ∷ []) new (e ∷ es)
+walk_more k texts trees new fact e es x over a is promised roots =
+    let aside : IsAside e.ask = subst IsAside (sym is) tt in
+    let same : IsNoChange e.ask = subst IsNoChange (sym is) (record { puts = λ j. refl; deletes = λ j. refl }) in
+    let given = awaited_read k es texts trees fact over.read a in
+    let now : Received (e ∷ es) Tree x = record { fact = fact; given = fact_stays e es fact given; of_kind = a.next.0; replied = inl (is, promised.bytes); named = promised.named } in
+    record {
+      read = read_same e es aside k over.read;
+      untouched = untouched_same e es same over.untouched;
+      roots = ap (λ (v : Vec Name Global). v.items) roots ∙ over.roots;
+      received = λ y among. elim (Contains-append_cases texts (x ∷ []) y among) [
+        | inl old ↦ received_grows e es Tree y (over.received y old)
+        | inr last ↦ elim (contained_or x [] y last) [ inl same ↦ subst (Received (e ∷ es) Tree) same now | inr none ↦ absurd (none_contained y none) ]
+      ];
+    }
+
+-- the tree's bytes are bad, or it can't go on
+pub tree_ended : (k : Known) (texts : List (List ℕ)) (trees new : Trees) (fact : Fact) (e : Exchange) (es : Trace) (end : End) → IsWalkOver k texts trees es → Awaits k.facts texts trees fact → e.ask ≡ range_of fact
+    → new.roots ≡ trees.roots → TakesTree k.facts texts fact e.say new (Walked.Ended end) → Concludes PruneConcludes (e ∷ es) (Outcome.Ended end)
+tree_ended k texts trees new fact e es end over a is roots (inl (x, said, bad, same)) =
+    let given = awaited_read k es texts trees fact over.read a in
+    let kind : blob_thing fact.kind ≡ Thing.Tree = ap blob_thing a.next.0 in
+    let at : IsBad (e ∷ es) (range_of fact) e.say (blob_thing fact.kind) fact.name = (x, fact, said, fact_stays e es fact given, refl, refl, refl, refl, refl, bad) in
+    let there : IsBad (e ∷ es) e.ask e.say Thing.Tree fact.name = subst (λ t. IsBad (e ∷ es) e.ask e.say t fact.name) kind (subst (λ q. IsBad (e ∷ es) q e.say (blob_thing fact.kind) fact.name) (sym is) at) in
+    subst (λ z. Concludes PruneConcludes (e ∷ es) (Outcome.Ended z)) (sym same) (inl (inl there))
+tree_ended k texts trees new fact e es end over a is roots (inr (x, promised, why)) =
+    let more = walk_more k texts trees new fact e es x over a is promised roots in
+    inr (cannot_go_on k (e ∷ es) (texts ++ x ∷ []) new.roots.items more.read more.roots more.received more.untouched end why)

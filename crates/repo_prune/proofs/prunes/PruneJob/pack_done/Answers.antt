@@ -1,0 +1,46 @@
+use Rattle.std.proofs.Common.{◌≡◌, ◌∷◌, ◌++◌, [], List, refl, sym, ap, subst}
+use Rattle.std.proofs.lemmas.Result.{IfOk-weaker}
+use Rattle.repo_name.specs.declared.kinds.Kind.{Kind}
+use Rattle.repo_wire.specs.declared.messages.Ask.{Ask}
+use Rattle.repo_wire.specs.declared.messages.Say.{Say}
+use Rattle.repo_session.specs.Traces.{Exchange, silent}
+use Rattle.repo_writing.specs.Writing.{Put, items_of}
+use Rattle.repo_prune.specs.PruneStates.{KnowsStage, known_in}
+use Rattle.repo_prune.specs.declared.prunes.PruneJob.{PruneJob}
+use Rattle.repo_prune.specs.declared.prunes.Stage.{Stage}
+use Rattle.repo_prune.proofs.PruneListing.{may_step}
+use Rattle.repo_prune.proofs.PruneMoves.{repacks_put, all_moved, goes_on}
+use Rattle.repo_prune.proofs.prunes.PruneJob.pack_done.Goals as goal
+
+pub returns-in-Done-clause-steps : goal.returns-in-Done-clause-steps
+returns-in-Done-clause-steps c = IfOk-weaker c.finish_moves.result _ _ (λ step goes own name x who es w obeys asked.
+    let old = c.args.self.now in
+    let k = known_in old in
+    let e : Exchange = silent (Ask.Put own Kind.Pack name x) Say.Done in
+    let m = c.in-Moving.moving in
+    let known = subst (λ s. KnowsStage k s (Ask.Put own Kind.Pack name x) es) c.in-Moving.is asked.knows in
+    let ask : e.ask ≡ Ask.Put own Kind.Pack known.put.pack.name known.put.pack.bytes = ap (λ o. Ask.Put own Kind.Pack o.name o.bytes) (sym known.pack_is) in
+    let puts : List Put = known.puts ++ known.put ∷ [] in
+    let repacking = repacks_put k m known.puts known.put own e es ask refl known.repacking in
+    let on = c.in_ok-moved.ensures.on (items_of puts) known.sealed known.moving in
+    let done = rw c.in-Done.is at on in
+    let gone = goes c.next.new.self refl who (e ∷ es) w (all_moved k m c.next.new.self puts (e ∷ es) repacking c.next.ensures.moves who c.args.token w done) in
+    may_step c.finish_moves.new.self who e es step refl gone.0) c.finish_moves.ensures.steps
+
+pub returns-in_default-2 : goal.returns-in_default-2
+returns-in_default-2 c = record {
+  steps = λ own name x who es w obeys asked.
+      let old = c.args.self.now in
+      let k = known_in old in
+      let e : Exchange = silent (Ask.Put own Kind.Pack name x) Say.Done in
+      let m = c.in-Moving.moving in
+      let known = subst (λ s. KnowsStage k s (Ask.Put own Kind.Pack name x) es) c.in-Moving.is asked.knows in
+      let ask : e.ask ≡ Ask.Put own Kind.Pack known.put.pack.name known.put.pack.bytes = ap (λ o. Ask.Put own Kind.Pack o.name o.bytes) (sym known.pack_is) in
+      let puts : List Put = known.puts ++ known.put ∷ [] in
+      let repacking = repacks_put k m known.puts known.put own e es ask refl known.repacking in
+      let on = c.in_ok-moved.ensures.on (items_of puts) known.sealed known.moving in
+      let new : PruneJob = record { snapshots = old.snapshots; catalog = old.catalog; packs = old.packs; stage = Stage.Moving c.next.new.self; target = old.target; alloc = old.alloc } in
+      may_step new who e es c.move_on.result refl (goes_on k m c.next.new.self puts (e ∷ es) repacking c.next.ensures.moves who c.args.token w c.in_ok-moved.moved c.move_on.result c.in_default-2.not-Done on c.move_on.ensures.on);
+  short = c.move_on.ensures.short;
+  knows = tt;
+}

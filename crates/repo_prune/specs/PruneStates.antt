@@ -1,0 +1,352 @@
+-- What is known while a prune goes on.
+use Rattle.std.specs.Prelude.{⊤, ◌≡◌, ◌≤◌, ◌⊎◌, ◌↔◌, ◌++◌, ◌∷◌, [], ℕ, true, false, List, length, map, take, slice_get, Some, Contains}
+use Rattle.repo_name.specs.declared.kinds.BlobKind.{BlobKind}
+use Rattle.repo_name.specs.declared.kinds.BlobKind.TheVariants.{Tree}
+use Rattle.repo_name.specs.declared.kinds.Kind.{Kind}
+use Rattle.repo_name.specs.declared.names.Name.{Name}
+use Rattle.repo_name.specs.declared.tokens.Token.{Token}
+use Rattle.repo_wire.specs.declared.messages.Ask.{Ask}
+use Rattle.repo_wire.specs.declared.messages.Say.{Say}
+use Rattle.repo_pack.specs.PackLayout.{Item}
+use Rattle.repo_index.specs.IndexText.{facts_in, IsIndexText}
+use Rattle.repo_index.specs.declared.facts.Fact.{Fact}
+use Rattle.repo_index.specs.declared.facts.PackFacts.{PackFacts}
+use Rattle.repo_session.specs.declared.jobs.Step.{Step}
+use Rattle.repo_session.specs.declared.rolls.Roll.{Roll}
+use Rattle.repo_session.specs.Askers.{Asker}
+use Rattle.repo_session.specs.Blobs.{range_of}
+use Rattle.repo_session.specs.Catalogs.{AreIndexed, Catalogs, IsAll}
+use Rattle.repo_session.specs.Deletions.{DeleteDone, NoneDeleted, names_deleted}
+use Rattle.repo_session.specs.Ends.{Concludes}
+use Rattle.repo_session.specs.Jobs.{MayAsk, StepsOn}
+use Rattle.repo_session.specs.Listings.{IsListing, IsFreshRoll, KnowsSnapshots}
+use Rattle.repo_session.specs.Order.{IsWorking}
+use Rattle.repo_session.specs.Readings.{KnowsIndexes, KnowsRoll}
+use Rattle.repo_session.specs.Received.{Received}
+use Rattle.repo_session.specs.Rolls.{IsPaged, Rolls}
+use Rattle.repo_session.specs.Sessions.{FitsSession, who_in}
+use Rattle.repo_session.specs.Told.{AskedToPut}
+use Rattle.repo_session.specs.Traces.{Each, Object, Trace, silent, names_in, objects_put, IsListed, Lists, ReadFact}
+use Rattle.repo_reach.specs.Laws.{IsWhole}
+use Rattle.repo_reach.specs.declared.trees.Trees.{Trees}
+use Rattle.repo_writing.specs.Blobs.{HasFact}
+use Rattle.repo_writing.specs.Laws.{IsPutOrKept}
+use Rattle.repo_writing.specs.Putting.{AreCounted, IsKeptPack}
+use Rattle.repo_writing.specs.Sealing.{IsSealedOf}
+use Rattle.repo_writing.specs.Writing.{Put, items_of, ArePut, AreListed}
+use Rattle.repo_writing.specs.declared.counts.Counts.{Counts}
+use Rattle.repo_prune.specs.Keeping.{Row}
+use Rattle.repo_prune.specs.Moving.{IsMoving, AwaitsBlob}
+use Rattle.repo_prune.specs.Pruning.{prune_rule, prune_task, IsUntouched, AreTrees, IsNeededBy, AreWalked, AreFactsOnce, AreCovered, ListsPack, IsSettled, PruneConcludes}
+use Rattle.repo_prune.specs.Reading.{Walks, Awaits, HasTaken}
+use Rattle.repo_prune.specs.Relisting.{AreListable}
+use Rattle.repo_prune.specs.declared.deleting.Deleting.{Deleting}
+use Rattle.repo_prune.specs.declared.moving.Moved.{Moved}
+use Rattle.repo_prune.specs.declared.moving.Moving.{Moving}
+use Rattle.repo_prune.specs.declared.prunes.Onward.{Onward}
+use Rattle.repo_prune.specs.declared.prunes.Prune.{Prune}
+use Rattle.repo_prune.specs.declared.prunes.PruneJob.{PruneJob}
+use Rattle.repo_prune.specs.declared.prunes.Stage.{Stage}
+use Rattle.repo_prune.specs.declared.relisting.Relisting.{Relisting}
+
+-- ---- what was listed and read
+
+-- the snapshots, the names of the indexes and the facts that they give, and the names of the packs
+pub record Known : Type 0 where
+  pub rows : List Row
+  pub indexes : List Name
+  pub facts : List Fact
+  pub packs : List Name
+
+-- all three are listed to their end; each snapshot and each index was read, and reads; and just these facts the indexes give
+pub record HaveRead (k : Known) (es : Trace) : Type 0 where
+  pub snapshots : IsListing es k.rows
+  pub indexes : AreIndexed es
+  pub listed : names_in Kind.Index es ≡ k.indexes
+  pub gives : (fact : Fact) → Contains k.facts fact ↔ ReadFact es fact
+  pub packs : IsPaged Kind.Pack k.packs true es
+
+-- ---- trees
+
+-- a walk over trees that were received, from the roots of all snapshots
+pub record IsWalkOver (k : Known) (texts : List (List ℕ)) (trees : Trees) (es : Trace) : Type 0 where
+  pub read : HaveRead k es
+  pub untouched : IsUntouched es
+  pub roots : trees.roots.items ≡ map (λ (row : Row). row.1.tree) k.rows
+  pub received : (x : List ℕ) → Contains texts x → Received es Tree x
+
+-- the tree of this fact was asked for
+pub record KnowsWalking (k : Known) (trees : Trees) (fact : Fact) (ask : Ask) (es : Trace) : Type 0 where
+  pub texts : List (List ℕ)
+  pub over : IsWalkOver k texts trees es
+  pub awaits : Awaits k.facts texts trees fact
+  pub asks : ask ≡ range_of fact
+
+-- all trees were read
+pub record HasWalked (k : Known) (trees : Trees) (es : Trace) : Type 0 where
+  pub texts : List (List ℕ)
+  pub over : IsWalkOver k texts trees es
+  pub walks : Walks k.facts texts trees
+  pub whole : IsWhole trees
+
+-- ---- the plan
+
+-- These packs stay, and these blobs move: there are trees that were received, in which each tree that a snapshot reaches is there; and what snapshots reach in
+-- them are just the pairs of these facts, no two of which are of one pair.
+pub record ArePlanned (k : Known) (kept : List PackFacts) (moves : List Fact) (es : Trace) : Type 0 where
+  pub texts : List (List ℕ)
+  pub trees : AreTrees es texts
+  pub walked : AreWalked k.rows texts
+  pub given : (kind : BlobKind) (n : Name) → IsNeededBy k.rows texts kind n → HasFact (facts_in kept ++ moves) kind n
+  pub just : (fact : Fact) → Contains (facts_in kept ++ moves) fact → IsNeededBy k.rows texts fact.kind fact.name
+  pub once : AreFactsOnce (facts_in kept ++ moves)
+  pub kept_are : (listed : PackFacts) → Contains kept listed → IsKeptPack es listed
+  pub listable : AreListable kept
+  pub moves_are : (fact : Fact) → Contains moves fact → ReadFact es fact
+
+-- it is planned, and nothing was put yet
+pub record HasPlanned (k : Known) (kept : List PackFacts) (moves : List Fact) (es : Trace) : Type 0 where
+  pub read : HaveRead k es
+  pub untouched : IsUntouched es
+  pub planned : ArePlanned k kept moves es
+
+-- ---- moving
+
+-- these packs were put, and that is done, and then these are put next (one, or none); they are listed behind those that stay
+pub record IsRepacking (k : Known) (m : Moving) (puts next : List Put) (es : Trace) : Type 0 where
+  pub read : HaveRead k es
+  pub none : NoneDeleted es
+  pub kept : List PackFacts
+  pub planned : ArePlanned k kept m.moves.items es
+  pub put : ArePut m.counts puts next es
+  pub unindexed : objects_put Kind.Index es ≡ []
+  pub unstored : objects_put Kind.Snapshot es ≡ []
+  pub listed : m.listed.items ≡ kept ++ map (λ (p : Put). p.listed) (puts ++ next)
+
+-- a blob was asked for
+pub record KnowsMove (k : Known) (m : Moving) (ask : Ask) (es : Trace) : Type 0 where
+  pub puts : List Put
+  pub sealed : List Item
+  pub fact : Fact
+  pub repacking : IsRepacking k m puts [] es
+  pub awaits : AwaitsBlob m fact (items_of puts) sealed
+  pub asks : ask ≡ range_of fact
+
+-- a pack is being put
+pub record PutsPack (k : Known) (m : Moving) (n : Name) (x : List ℕ) (es : Trace) : Type 0 where
+  pub puts : List Put
+  pub put : Put
+  pub sealed : List Item
+  pub repacking : IsRepacking k m puts (put ∷ []) es
+  pub pack_is : put.pack ≡ record { name = n; bytes = x }
+  pub moving : IsMoving m (items_of (puts ++ put ∷ [])) sealed
+
+-- all blobs are in packs that were put, which is done
+pub record HasMoved (k : Known) (m : Moving) (es : Trace) : Type 0 where
+  pub puts : List Put
+  pub repacking : IsRepacking k m puts [] es
+  pub moving : IsMoving m (items_of puts) []
+  pub written : m.packer.writer.items ≡ []
+  pub all : length m.moves.items ≤ m.added
+
+-- ---- new indexes
+
+-- the packs that stay and those that were put, which is done, give what the snapshots need
+pub record ArePacked (k : Known) (packs : List PackFacts) (counts : Counts) (es : Trace) : Type 0 where
+  pub read : HaveRead k es
+  pub none : NoneDeleted es
+  pub puts : List Put
+  pub put : ArePut counts puts [] es
+  pub stand : (p : Put) → Contains puts p → Contains packs p.listed
+  pub each : (listed : PackFacts) → Contains packs listed → IsPutOrKept es listed
+  pub listable : AreListable packs
+  pub covered : AreCovered es k.rows packs
+  pub unstored : objects_put Kind.Snapshot es ≡ []
+
+-- the names of the indexes that were put
+abbrev pub indexes_put : Trace → List Name
+indexes_put es = map (λ (o : Object). o.name) (objects_put Kind.Index es)
+
+-- so many of the packs are listed by indexes put, which are done
+pub record MayList (k : Known) (r : Relisting) (es : Trace) : Type 0 where
+  pub packed : ArePacked k r.packs.items r.counts es
+  pub lists : AreListed (take r.listed r.packs.items) [] es
+  pub named : r.indexes.items ≡ indexes_put es
+
+-- an index of some more of them is being put
+pub record PutsIndex (k : Known) (r : Relisting) (n : Name) (x : List ℕ) (es : Trace) : Type 0 where
+  pub packed : ArePacked k r.packs.items r.counts es
+  pub waiting : List PackFacts
+  pub lists : AreListed (take r.listed r.packs.items) waiting es
+  pub reads : IsIndexText x waiting
+  pub named : r.indexes.items ≡ indexes_put es ++ n ∷ []
+
+-- all of them are listed
+pub record HasListed (k : Known) (r : Relisting) (es : Trace) : Type 0 where
+  pub may : MayList k r es
+  pub all : length r.packs.items ≤ r.listed
+
+-- ---- deletes
+
+-- an index is old: it was listed, and wasn't put
+abbrev pub IsOldIndex : Trace → Name → Type 0
+IsOldIndex es n = Lists es Kind.Index n × ¬ AskedToPut es Kind.Index n
+
+-- a pack is old: it was listed, it wasn't put, and no index put lists it
+pub record IsOldPack (es : Trace) (packs : List PackFacts) (n : Name) : Type 0 where
+  pub among : Lists es Kind.Pack n
+  pub unput : ¬ AskedToPut es Kind.Pack n
+  pub unlisted : ¬ ListsPack packs n
+
+-- deletes may begin, and these old indexes and packs are all that there are
+pub record MayClear (packs : List PackFacts) (d : Deleting) (es : Trace) : Type 0 where
+  pub settled : IsSettled es packs
+  pub all : IsListed Kind.Pack es
+  pub indexes_old : (n : Name) → Contains d.indexes.items n → IsOldIndex es n
+  pub indexes_all : (n : Name) → Lists es Kind.Index n → AskedToPut es Kind.Index n ⊎ Contains d.indexes.items n
+  pub packs_old : (n : Name) → Contains d.packs.items n → IsOldPack es packs n
+  pub packs_all : (n : Name) → Lists es Kind.Pack n → ListsPack packs n ⊎ Contains d.packs.items n
+  pub blobs : ℕ
+  pub counted : AreCounted es blobs d.bytes
+
+-- and of the first of them the deletes are done
+pub record IsClearing (d : Deleting) (es : Trace) : Type 0 where
+  pub packs : List PackFacts
+  pub may : MayClear packs d es
+  pub indexes_gone : Each (λ n. DeleteDone es Kind.Index n) (take d.indexes_gone d.indexes.items)
+  pub packs_gone : Each (λ n. DeleteDone es Kind.Pack n) (take d.packs_gone d.packs.items)
+  pub deleted : names_deleted Kind.Pack es ≡ take d.packs_gone d.packs.items
+
+-- ---- while snapshots, indexes and packs are being listed
+
+-- no page of packs came
+pub record AreUnlisted (packs : Roll) (es : Trace) : Type 0 where
+  pub of_packs : packs.kind ≡ Kind.Pack
+  pub none_read : packs.read ≡ 0
+  pub rolled : Rolls packs false es
+
+-- snapshots are being read, and no page of indexes came
+pub record ReadsSnapshots (j : PruneJob) (ask : Ask) (es : Trace) : Type 0 where
+  pub untouched : IsUntouched es
+  pub snapshots : KnowsSnapshots j.snapshots ask es
+  pub indexes : Catalogs j.catalog false es
+  pub none_read : j.catalog.roll.read ≡ 0
+  pub packs : AreUnlisted j.packs es
+
+-- snapshots were read, and indexes are being read
+pub record ReadsIndexes (j : PruneJob) (ask : Ask) (es : Trace) : Type 0 where
+  pub untouched : IsUntouched es
+  pub snapshots : IsListing es j.snapshots.rows.items
+  pub indexes : KnowsIndexes j.catalog ask es
+  pub packs : AreUnlisted j.packs es
+
+-- indexes were read too, and packs are being listed
+pub record ListsPacks (j : PruneJob) (ask : Ask) (es : Trace) : Type 0 where
+  pub untouched : IsUntouched es
+  pub snapshots : IsListing es j.snapshots.rows.items
+  pub indexes : Catalogs j.catalog true es
+  pub all : IsAll j.catalog
+  pub of_packs : j.packs.kind ≡ Kind.Pack
+  pub packs : KnowsRoll j.packs ask es
+
+-- ---- in each stage
+
+-- nothing was listed yet
+pub record IsFresh (j : PruneJob) : Type 0 where
+  pub snapshots : IsFreshRoll j.snapshots
+  pub of_indexes : j.catalog.roll.kind ≡ Kind.Index
+  pub no_indexes : j.catalog.roll.names.items ≡ []
+  pub no_index_read : j.catalog.roll.read ≡ 0
+  pub no_facts : j.catalog.lookup ≡ []
+  pub of_packs : j.packs.kind ≡ Kind.Pack
+  pub no_packs : j.packs.names.items ≡ []
+  pub no_pack_read : j.packs.read ≡ 0
+
+abbrev pub KnowsMoving : Known → Moving → Ask → Trace → Type 0
+KnowsMoving k m (Ask.Range pack offset len) es = KnowsMove k m (Ask.Range pack offset len) es
+KnowsMoving k m (Ask.Put token Kind.Pack n x) es = PutsPack k m n x es
+KnowsMoving k m _ es = ⊥
+
+abbrev pub KnowsRelisting : Known → Relisting → Ask → Trace → Type 0
+KnowsRelisting k r (Ask.Put token Kind.Index n x) es = PutsIndex k r n x es
+KnowsRelisting k r _ es = ⊥
+
+abbrev pub KnowsDeleting : Deleting → Ask → Trace → Type 0
+KnowsDeleting d (Ask.Delete token Kind.Index n) es = (slice_get d.indexes.items d.indexes_gone ≡ Some n) × IsClearing d es
+KnowsDeleting d (Ask.Delete token Kind.Pack n) es = (length d.indexes.items ≤ d.indexes_gone) × (slice_get d.packs.items d.packs_gone ≡ Some n) × IsClearing d es
+KnowsDeleting d _ es = ⊥
+
+-- what is known where this is pending, once all is listed
+abbrev pub KnowsStage : Known → Stage → Ask → Trace → Type 0
+KnowsStage k Stage.Listing ask es = ⊥
+KnowsStage k (Stage.Walking trees fact) ask es = KnowsWalking k trees fact ask es
+KnowsStage k (Stage.Moving m) ask es = KnowsMoving k m ask es
+KnowsStage k (Stage.Relisting r) ask es = KnowsRelisting k r ask es
+KnowsStage k (Stage.Deleting d) ask es = KnowsDeleting d ask es
+
+-- what the job listed and read
+abbrev pub known_in : PruneJob → Known
+known_in j = record { rows = j.snapshots.rows.items; indexes = j.catalog.roll.names.items; facts = j.catalog.lookup; packs = j.packs.names.items }
+
+-- what is known where this is pending
+abbrev pub KnowsPrune : PruneJob → Ask → Trace → Type 0
+KnowsPrune j (Ask.List Kind.Snapshot after) es = ReadsSnapshots j (Ask.List Kind.Snapshot after) es
+KnowsPrune j (Ask.List Kind.Index after) es = ReadsIndexes j (Ask.List Kind.Index after) es
+KnowsPrune j (Ask.List Kind.Pack after) es = ListsPacks j (Ask.List Kind.Pack after) es
+KnowsPrune j (Ask.Get Kind.Snapshot n) es = ReadsSnapshots j (Ask.Get Kind.Snapshot n) es
+KnowsPrune j (Ask.Get Kind.Index n) es = ReadsIndexes j (Ask.Get Kind.Index n) es
+KnowsPrune j (Ask.Get Kind.Pack n) es = ListsPacks j (Ask.Get Kind.Pack n) es
+KnowsPrune j ask es = KnowsStage (known_in j) j.stage ask es
+
+-- ---- what comes next
+
+-- in a stage: this may be asked, and is known then; or it may end so
+abbrev pub IsNextStep : Known → Asker → Stage → Step → Trace → Type 0
+IsNextStep k who stage (Step.Ask ask) es = MayAsk prune_rule who (KnowsStage k stage) es ask
+IsNextStep k who stage (Step.Finish outcome) es = Concludes PruneConcludes es outcome
+IsNextStep k who stage Step.Away es = ⊥
+
+-- after each trace of which this is known
+abbrev pub ComesAfter : Known → Token → (Trace → Type 0) → Onward → Type 0
+ComesAfter k token Knew onward = (who : Asker) (es : Trace) → IsWorking (prune_task who) token es → Knew es → IsNextStep k who onward.stage onward.step es
+
+-- the job is in that stage then
+abbrev pub GoesTo : Known → Token → (Trace → Type 0) → Step → PruneJob → Type 0
+GoesTo k token Knew step j = (who : Asker) (es : Trace) → IsWorking (prune_task who) token es → Knew es → IsNextStep (known_in j) who j.stage step es × (known_in j ≡ k)
+
+-- what the moving comes to
+abbrev pub MovesTo : Token → Moved → Step → Type 0
+MovesTo token (Moved.Ask fact) step = step ≡ Step.Ask (range_of fact)
+MovesTo token (Moved.Put sealed) step = (items : List Item) → IsSealedOf sealed items → step ≡ Step.Ask (Ask.Put token Kind.Pack sealed.name sealed.bytes)
+MovesTo token _ step = ⊤
+
+-- the tree that was taken last is awaited again
+pub record AwaitsAgain (trees : Trees) (fact : Fact) (stage : Stage) : Type 0 where
+  pub now : Trees
+  pub stage_is : stage ≡ Stage.Walking now fact
+  pub roots : now.roots ≡ trees.roots
+  pub still : (facts : List Fact) (texts : List (List ℕ)) (before : Trees) → HasTaken before fact.name trees → Awaits facts texts before fact → Awaits facts texts now fact
+
+-- the request is for a page of a kind, or for an object of it
+abbrev pub IsListingOf : Kind → Ask → Type 0
+IsListingOf k (Ask.List j after) = j ≡ k
+IsListingOf k (Ask.Get j n) = j ≡ k
+IsListingOf k _ = ⊥
+
+-- the step on an exchange, after each trace at whose end its request was pending
+abbrev pub StepsFrom : PruneJob → Token → Ask → Say → Step → PruneJob → Type 0
+StepsFrom old token ask say step new = (who : Asker) → StepsOn prune_rule (record { who = who; token = token }) (KnowsPrune old) (KnowsPrune new) (silent ask say) step
+
+-- where its reply wasn't taken, what was known is known
+abbrev pub KnowsAsMuch : PruneJob → Ask → PruneJob → Type 0
+KnowsAsMuch old ask new = (es : Trace) → KnowsPrune old ask es → KnowsPrune new ask es
+
+-- ---- the client
+
+-- who prunes
+abbrev pub pruner_of : Prune → Asker
+pruner_of p = who_in p.session
+
+-- the prune stands where the trace leaves it
+abbrev pub FitsPrune : Prune → Trace → Type 0
+FitsPrune p es = FitsSession (λ (j : PruneJob). tt {0}) (λ h. prune_rule) IsFresh KnowsPrune p.session es

@@ -1,0 +1,118 @@
+//! The listing and reading of a store, as a prune does it.
+
+ghost use Rattle.std.specs.Prelude.{◌≡◌, List, Option, IfOk, OnErr};
+ghost use Rattle.repo_name.specs.declared.kinds.Kind.{Kind};
+ghost use Rattle.repo_name.specs.declared.names.Name.{Name};
+ghost use Rattle.repo_name.specs.declared.tokens.Token.{Token};
+ghost use Rattle.repo_wire.specs.declared.messages.Ask.{Ask};
+ghost use Rattle.repo_session.specs.Jobs.{IsShortStep};
+ghost use Rattle.repo_prune.specs.PruneStates.{IsListingOf, StepsFrom, KnowsAsMuch};
+
+use crate::advancing::end;
+use crate::prunes::PruneJob;
+use repo_name::{Kind, Thing, Token};
+use repo_session::{End, Paging, Reading, SnapshotReading, Step};
+use repo_wire::{Ask, Say};
+use std::alloc::AllocError;
+
+impl PruneJob {
+    /// Takes the reply to a request of the reading of snapshots. It fails for memory alone, and then what was known is
+    /// known.
+    fn take_snapshots(&mut self, ask: &Ask, say: &Say) -> Result<Step, AllocError>
+        ensures steps { IfOk result (λ step. (token : Token) → IsListingOf Kind.Snapshot ask.now → StepsFrom self.old token ask.now say.now step self.new) }
+        ensures short { IfOk result IsShortStep }
+        ensures knows { OnErr result (IsListingOf Kind.Snapshot ask.now → KnowsAsMuch self.old ask.now self.new) }
+    {
+        match self.snapshots.read_on(ask, say)? {
+            SnapshotReading::Ask(next) => Ok(Step::Ask(next)),
+            SnapshotReading::All => Ok(Step::Ask(self.catalog.page_ask())),
+            SnapshotReading::Bad(name) => Ok(end(End::BadObject(Thing::Snapshot, name))),
+            SnapshotReading::Version => Ok(end(End::Version)),
+            SnapshotReading::Senseless => Ok(end(End::BadReply)),
+            SnapshotReading::Unwelcome => Ok(Step::Away),
+        }
+    }
+
+    /// Takes the reply to a request of the reading of indexes. It fails for memory alone, and then what was known is
+    /// known.
+    fn take_indexes(&mut self, ask: &Ask, say: &Say) -> Result<Step, AllocError>
+        ensures steps { IfOk result (λ step. (token : Token) → IsListingOf Kind.Index ask.now → StepsFrom self.old token ask.now say.now step self.new) }
+        ensures short { IfOk result IsShortStep }
+        ensures knows { OnErr result (IsListingOf Kind.Index ask.now → KnowsAsMuch self.old ask.now self.new) }
+    {
+        match self.catalog.read_on(self.alloc, ask, say)? {
+            Reading::Ask(next) => Ok(Step::Ask(next)),
+            Reading::All(_) => Ok(Step::Ask(self.packs.page_ask())),
+            Reading::Bad(name) => Ok(end(End::BadObject(Thing::Index, name))),
+            Reading::Senseless => Ok(end(End::BadReply)),
+            Reading::Unwelcome => Ok(Step::Away),
+        }
+    }
+
+    /// Takes the reply to the request for a page of packs. It fails for memory alone, and then what was known is known.
+    fn take_page(&mut self, token: Token, say: &Say) -> Result<Step, AllocError>
+        ensures steps { IfOk result (λ step. (after : Option Name) → StepsFrom self.old token (Ask.List Kind.Pack after) say.now step self.new) }
+        ensures short { IfOk result IsShortStep }
+        ensures knows { OnErr result ((after : Option Name) → KnowsAsMuch self.old (Ask.List Kind.Pack after) self.new) }
+    {
+        let count = self.packs.names.len();
+        match self.packs.add_page(say)? {
+            Paging::Ask(next) => Ok(Step::Ask(next)),
+            Paging::Last => {
+                let Ok(onward) = self.after_lists(token) else {
+                    self.packs.names.truncate(count);
+                    return Err(AllocError);
+                };
+                Ok(self.go(onward))
+            }
+            Paging::Senseless => Ok(end(End::BadReply)),
+            Paging::Unwelcome => Ok(Step::Away),
+        }
+    }
+
+    /// Takes the reply to a request for a pack, whose bytes are of no account: all packs were listed. It fails for memory
+    /// alone, and then nothing changed.
+    fn take_pack(&mut self, token: Token, say: &Say) -> Result<Step, AllocError>
+        ensures steps { IfOk result (λ step. (name : Name) → StepsFrom self.old token (Ask.Get Kind.Pack name) say.now step self.new) }
+        ensures short { IfOk result IsShortStep }
+        ensures err { OnErr result (self.new ≡ self.old) }
+    {
+        let Say::Bytes(_) = say else {
+            return Ok(Step::Away);
+        };
+        let onward = self.after_lists(token)?;
+        Ok(self.go(onward))
+    }
+
+    /// Takes the reply to a request of the listing of packs. It fails for memory alone, and then what was known is known.
+    fn take_packs(&mut self, token: Token, ask: &Ask, say: &Say) -> Result<Step, AllocError>
+        ensures steps { IfOk result (λ step. IsListingOf Kind.Pack ask.now → StepsFrom self.old token ask.now say.now step self.new) }
+        ensures short { IfOk result IsShortStep }
+        ensures knows { OnErr result (IsListingOf Kind.Pack ask.now → KnowsAsMuch self.old ask.now self.new) }
+    {
+        match ask {
+            Ask::List { .. } => self.take_page(token, say),
+            Ask::Get { .. } => self.take_pack(token, say),
+            _ => Ok(Step::Away),
+        }
+    }
+
+    /// Takes the reply to a request of the listing. It fails for memory alone, and then what was known is known.
+    pub fn take_listing(
+        &mut self,
+        token: Token,
+        kind: Kind,
+        ask: &Ask,
+        say: &Say,
+    ) -> Result<Step, AllocError>
+        ensures steps { IfOk result (λ step. IsListingOf kind ask.now → StepsFrom self.old token ask.now say.now step self.new) }
+        ensures short { IfOk result IsShortStep }
+        ensures knows { OnErr result (IsListingOf kind ask.now → KnowsAsMuch self.old ask.now self.new) }
+    {
+        match kind {
+            Kind::Snapshot => self.take_snapshots(ask, say),
+            Kind::Index => self.take_indexes(ask, say),
+            Kind::Pack => self.take_packs(token, ask, say),
+        }
+    }
+}

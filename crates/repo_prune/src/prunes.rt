@@ -1,0 +1,195 @@
+//! The removal of what no snapshot of a store needs.
+
+ghost use Rattle.std.specs.Prelude.{◌≡◌, [], IfOk, OnErr};
+ghost use Rattle.repo_session.specs.Jobs.{IsShortStep};
+ghost use Rattle.repo_prune.specs.PruneStates.{IsFresh, StepsFrom, KnowsAsMuch, FitsPrune, pruner_of};
+
+use crate::deleting::Deleting;
+use crate::moving::Moving;
+use crate::relisting::Relisting;
+use repo_index::Fact;
+use repo_name::{Kind, Token};
+use repo_reach::Trees;
+use repo_session::{
+    Catalog, Client, Emission, Holder, Job, Outcome, Roll, Session, SnapshotRoll, Step, Who,
+};
+use repo_tree::Config;
+use repo_wire::{Ask, Reply, Request, Say};
+use repo_writing::Target;
+use std::alloc::{AllocError, Global};
+
+/// How far a prune is.
+#[derive(Drop)]
+pub enum Stage {
+    /// Snapshots, indexes and packs are being listed.
+    Listing,
+    /// Trees are being read, and that of this fact was asked for.
+    Walking(Trees, Fact),
+    /// Blobs are being moved to new packs.
+    Moving(Moving),
+    /// The packs that stay are being listed in new indexes.
+    Relisting(Relisting),
+    /// Old indexes, and then packs, are being deleted.
+    Deleting(Deleting),
+}
+
+/// A stage of a prune, and what is done in it first.
+#[derive(Drop)]
+pub struct Onward {
+    pub stage: Stage,
+    pub step: Step,
+}
+
+/// A prune under its lock: what it listed and read of the store, how far it is, and how large new packs are to be.
+#[derive(Drop)]
+pub struct PruneJob {
+    pub snapshots: SnapshotRoll,
+    pub catalog: Catalog,
+    pub packs: Roll,
+    pub stage: Stage,
+    pub target: Target,
+    pub alloc: Global,
+}
+
+impl PruneJob {
+    /// A prune that hasn't begun. It takes no memory.
+    fn new(alloc: Global) -> PruneJob
+        ensures { IsFresh result }
+    {
+        PruneJob {
+            snapshots: SnapshotRoll::new(alloc),
+            catalog: Catalog::new(alloc),
+            packs: Roll::new(alloc, Kind::Pack),
+            stage: Stage::Listing,
+            target: Target::of(1_024),
+            alloc,
+        }
+    }
+
+    /// Takes a reply that is no refusal. It fails for memory alone, and then what was known is known.
+    fn take(&mut self, token: Token, ask: &Ask, say: &Say) -> Result<Step, AllocError>
+        ensures steps { IfOk result (λ step. StepsFrom self.old token ask.now say.now step self.new) }
+        ensures short { IfOk result IsShortStep }
+        ensures knows { OnErr result (KnowsAsMuch self.old ask.now self.new) }
+    {
+        match ask {
+            Ask::List { kind, .. } => self.take_listing(token, *kind, ask, say),
+            Ask::Get { kind, .. } => self.take_listing(token, *kind, ask, say),
+            Ask::Range { .. } => self.take_range(token, say),
+            Ask::Put { kind, .. } => self.take_put(token, *kind, say),
+            Ask::Delete { kind, .. } => Ok(self.take_delete(token, *kind, say)),
+            _ => Ok(Step::Away),
+        }
+    }
+}
+
+impl Job for PruneJob {
+    ghost use Rattle.std.specs.Prelude.{[]};
+    ghost use Rattle.repo_prune.specs.Pruning.{prune_rule};
+    ghost use Rattle.repo_prune.specs.PruneStates.{IsFresh, KnowsPrune};
+
+    ghost Handed = { Unit {0} };
+
+    ghost handed = { λ j. tt };
+
+    ghost rule = { λ h. prune_rule };
+
+    ghost fresh = { IsFresh };
+
+    ghost knows = { KnowsPrune };
+
+    ghost given = { λ j. [] };
+
+    fn is_exclusive(&self) -> bool {
+        true
+    }
+
+    fn opened(&mut self, _holder: &Holder, config: &Config) -> Ask {
+        self.target = Target::of(config.target.clamp(1_024, 16_777_216) as u32);
+        self.snapshots.page_ask()
+    }
+
+    fn reply(&mut self, holder: &Holder, ask: &Ask, say: &Say) -> Result<Step, AllocError> {
+        match say {
+            Say::Refused(_) => Ok(Step::Away),
+            _ => self.take(holder.token(), ask, say),
+        }
+    }
+
+    fn emitted(&self) -> &[Emission] {
+        &[]
+    }
+}
+
+/// A client that removes what no snapshot needs: it lists and reads all snapshots and indexes, lists all packs, reads
+/// the trees that the snapshots reach, moves the used blobs of packs that have others too to new packs, lists the packs
+/// that stay in new indexes, and then deletes the other indexes and after them the other packs. Its outcome is `Pruned`,
+/// with the number of packs deleted and of the bytes of the blobs moved, where nothing went wrong.
+///
+/// `Missing` tells of a blob that a snapshot needs and no index gives, and `BadObject` or `Version` of what doesn't read:
+/// nothing was deleted then.
+#[derive(Drop)]
+pub struct Prune {
+    session: Session<PruneJob>,
+}
+
+impl Prune {
+    /// A prune whose ticket is pending. It takes no memory.
+    pub fn new(alloc: Global, who: Who) -> Prune
+        ensures fits { FitsPrune result [] }
+        ensures who { pruner_of result ≡ who }
+    {
+        Prune {
+            session: Session::new(alloc, who, PruneJob::new(alloc)),
+        }
+    }
+}
+
+impl Client for Prune {
+    ghost use Rattle.std.specs.Prelude.{⊤};
+    ghost use Rattle.repo_session.specs.Askers.{Asker};
+    ghost use Rattle.repo_session.specs.Sessions.{next_in, ended_in, given_by};
+    ghost use Rattle.repo_prune.specs.Pruning.{prune_task, PruneAllows, PruneGives, PruneConcludes};
+    ghost use Rattle.repo_prune.specs.PruneStates.{FitsPrune, pruner_of};
+    ghost use Rattle.repo_prune.specs.PruneObedience.{prune_obeys};
+
+    ghost Job = { Asker };
+
+    ghost job = { pruner_of };
+
+    ghost task = { prune_task };
+
+    ghost allows = { λ j. PruneAllows };
+
+    ghost gives = { λ j. PruneGives };
+
+    ghost concludes = { λ j. PruneConcludes };
+
+    ghost calm = { λ j. ⊤ };
+
+    ghost fits = { FitsPrune };
+
+    ghost next = { λ p. next_in p.session };
+
+    ghost ended = { λ p. ended_in p.session };
+
+    ghost given = { λ p. given_by (λ j. []) p.session };
+
+    ghost obedient = { prune_obeys };
+
+    fn pending(&self) -> Option<&Request> {
+        self.session.pending()
+    }
+
+    fn take(&mut self, reply: &Reply) -> Result<(), AllocError> {
+        self.session.take(reply)
+    }
+
+    fn outcome(&self) -> Option<&Outcome> {
+        self.session.outcome()
+    }
+
+    fn emitted(&self) -> &[Emission] {
+        self.session.emitted()
+    }
+}

@@ -1,0 +1,140 @@
+"""The client of a prune, and what it and a check share: reading all trees that snapshots reach, each once."""
+
+from jobs import DEEPEST, INDEX_BLOBS, PACK_BLOBS, End, Outcome, asked, got, listed
+from store import name_of
+from texts import Unreadable, index_text, pack_of, read_index, read_snapshot, read_tree
+
+
+def least_places(facts):
+    """Of each blob, by kind and name, the least of its places."""
+    places = {}
+    for kind, name, place in facts:
+        places[kind, name] = min(place, places.get((kind, name), place))
+    return places
+
+
+def by_pack(facts):
+    """The facts of each pack, each once, by their places."""
+    packs = {}
+    for fact in sorted(set(facts), key=lambda fact: fact[2]):
+        packs.setdefault(fact[2][0], []).append(fact)
+    return packs
+
+
+class Prune:
+    """A prune: what no snapshot reaches goes, and what stays is packed and indexed without it."""
+    role, exclusive = "prune", True
+
+    def __init__(self):
+        self.nodes, self.seen, self.content = {}, set(), []
+        self.open, self.new, self.bytes = [], [], 0
+
+    def run(self, client):
+        self.client = client
+        roots = []
+        for name in (yield from listed("snapshot")):
+            roots.append((yield from got("snapshot", name, read_snapshot))[3])
+        indexes, facts = (yield from listed("index")), []
+        for name in indexes:
+            facts += yield from got("index", name, read_index)
+        packs = yield from listed("pack")
+        self.places = least_places(facts)
+        for root in roots:
+            yield from self.walk(root, 0)
+        self.used = {("tree", tree) for tree in self.nodes} | {("content", name) for name in self.content}
+        for name in self.content:
+            self.place("content", name)
+        kept, moves = self.plan(facts)
+        for fact in moves:
+            yield from self.move(*fact)
+        yield from self.put_pack()
+        put = yield from self.put_indexes(sorted(kept + self.new))
+        yield from self.delete("index", [name for name in indexes if name not in put])
+        stay = {pack for pack, _ in kept + self.new}
+        gone = [name for name in packs if name not in stay]
+        yield from self.delete("pack", gone)
+        return Outcome(f"pruned {len(gone)} {self.bytes}")
+
+    def place(self, kind, name):
+        if (kind, name) not in self.places:
+            raise End("missing " + kind, name)
+        return self.places[kind, name]
+
+    def blob(self, kind, name):
+        """A blob's bytes, from its place."""
+        place = self.place(kind, name)
+        data, = yield from asked(("range", *place), "bytes")
+        if len(data) != place[2] or name_of(data) != name:
+            raise End("bad " + kind, name)
+        return data
+
+    def tree(self, name):
+        """A tree's nodes. It is asked for once."""
+        if name not in self.nodes:
+            data = yield from self.blob("tree", name)
+            try:
+                self.nodes[name] = read_tree(data)
+            except Unreadable:
+                raise End("bad tree", name)
+        return self.nodes[name]
+
+    def walk(self, tree, depth):
+        """All that is reached from a tree, at each depth at which it is reached."""
+        if (tree, depth) in self.seen:
+            return
+        self.seen.add((tree, depth))
+        nodes = yield from self.tree(tree)
+        if nodes and depth == DEEPEST:
+            raise End("bad tree", tree)
+        for node in nodes:
+            if node["type"] == "file":
+                self.content += [bytes.fromhex(name) for name in node["content"]]
+            else:
+                yield from self.walk(bytes.fromhex(node["subtree"]), depth + 1)
+
+    def is_used_copy(self, fact):
+        kind, name, place = fact
+        return (kind, name) in self.used and self.places[kind, name] == place
+
+    def plan(self, facts):
+        """The packs that stay, with the places of their blobs; and the used copies in all others, by their places."""
+        kept, moves = [], []
+        for pack, own in sorted(by_pack(facts).items()):
+            copies = [fact for fact in own if self.is_used_copy(fact)]
+            if copies == own and len(own) <= PACK_BLOBS:
+                kept.append((pack, [(kind, name, offset, length) for kind, name, (_, offset, length) in own]))
+            else:
+                moves += copies
+        return kept, moves
+
+    def move(self, kind, name, place):
+        self.open.append((kind, (yield from self.blob(kind, name))))
+        if sum(len(blob) for _, blob in self.open) >= self.client.config[3] or len(self.open) == PACK_BLOBS:
+            yield from self.put_pack()
+
+    def put(self, kind, data):
+        yield from asked(("put", self.client.token, kind, name_of(data), data), "done")
+        return name_of(data)
+
+    def put_pack(self):
+        """Puts the pack that is open, where a blob is in it."""
+        if self.open:
+            data, places = pack_of(self.open)
+            self.new.append(((yield from self.put("pack", data)), places))
+            self.bytes += sum(len(blob) for _, blob in self.open)
+            self.open = []
+
+    def put_indexes(self, packs):
+        """Lists packs in indexes, each ended once it has enough blobs. Gives the names of these."""
+        names, waiting, count = set(), [], 0
+        for pack in packs:
+            waiting.append(pack)
+            count += len(pack[1])
+            if count >= INDEX_BLOBS or pack is packs[-1]:
+                names.add((yield from self.put("index", index_text(waiting))))
+                waiting, count = [], 0
+        return names
+
+    def delete(self, kind, names):
+        for name in names:
+            yield from asked(("delete", self.client.token, kind, name), "done")
