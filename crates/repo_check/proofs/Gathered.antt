@@ -30,7 +30,7 @@ use Rattle.repo_check.proofs.Finding.{illegible_not}
 
 -- ---- lists that match
 
-matched : {A B : Type 0} (R : A → B → Type 0) (xs : List A) (ys : List B) → Match R xs ys → (x : A) → Contains xs x → (y : B) × Contains ys y × R x y
+pub matched : {A B : Type 0} (R : A → B → Type 0) (xs : List A) (ys : List B) → Match R xs ys → (x : A) → Contains xs x → (y : B) × Contains ys y × R x y
 matched R [] ys m x c = absurd (none_contained x c)
 matched R (a ∷ xs) [] m x c = absurd m
 matched {A} {B} R (a ∷ xs) (b ∷ ys) m x c = elim (contained_or a xs x c) [
@@ -47,7 +47,7 @@ matched_back {A} {B} R (a ∷ xs) (b ∷ ys) m y c = elim (contained_or b ys y c
 ]
 
 -- an answer whose bytes read isn't at fault by itself
-faulty_not : (answers : Answers) (k : Kind) (a : Answer) (x : List ℕ) (what : FaultKind) → HasBytes a x → Reads k x → IsFaulty k a what → ⊥
+pub faulty_not : (answers : Answers) (k : Kind) (a : Answer) (x : List ℕ) (what : FaultKind) → HasBytes a x → Reads k x → IsFaulty k a what → ⊥
 faulty_not answers k a x FaultKind.Missing has reads h = (let none = h answers in let some = has.0 in cc (none, some))
 faulty_not answers k a x FaultKind.Name has reads h =
     let f = h answers in

@@ -1,5 +1,5 @@
 -- What the notes of a round give together, one after another.
-use Rattle.std.proofs.Common.{BTreeSet, ◌≡◌, ◌<◌, ◌≤◌, ◌+◌, ℕ, List, drop, get_or, length, inl, inr, ◌⊎◌, ◌↔◌, sym, subst, Contains}
+use Rattle.std.proofs.Common.{BTreeSet, [], ◌≡◌, ◌<◌, ◌≤◌, ◌+◌, ℕ, List, drop, get_or, length, inl, inr, ◌⊎◌, ◌↔◌, sym, subst, Contains}
 use Rattle.std.specs.List.{flat_map}
 use Rattle.std.proofs.lemmas.List.Elements.{Contains-append_left, Contains-append_right, Contains-append_cases}
 use Rattle.std.specs.List.Sorted.{IsStrictlySortedBy}
@@ -10,6 +10,7 @@ use Rattle.repo_index.specs.Order.{names_total}
 use Rattle.repo_index.proofs.OrderLemmas.{names_exact}
 use Rattle.repo_name.proofs.Containing.{none_contained}
 use Rattle.repo_check.specs.Gathering.{AreOnce, HasNames}
+use Rattle.repo_check.specs.Levels.{AddsNames}
 use Rattle.repo_check.proofs.Measuring.{left_at, left_none}
 
 -- so far these were gathered, and what is left gives the rest
@@ -49,3 +50,13 @@ are_once names set once has same sorted = record {
   );
   ascend = sorted;
 }
+
+-- the names that came first into a set
+pub first_names : (old new : BTreeSet Name) (names : List Name) → old.keys ≡ [] → AddsNames old names new → HasNames new names
+first_names old new names empty adds n = (
+  λ is. elim ((adds n).0 is) [
+    | inl there ↦ absurd (none_contained n (subst (λ ks. Contains ks n) empty ((btree_set_contains_iff names_total names_exact old n).0 there)))
+    | inr among ↦ among
+  ],
+  λ c. (adds n).1 (inr c),
+)

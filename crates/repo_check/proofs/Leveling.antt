@@ -1,4 +1,4 @@
--- The trees below those of one depth, one after another.
+-- What the trees of one depth lead to, one after another.
 use Rattle.std.proofs.Common.{◌≡◌, ◌<◌, ◌+◌, ◌∷◌, [], ℕ, Bool, true, false, cond, IsTrue, BTreeSet, List, Some, length, drop, get_or, refl, inl, inr, ◌⊎◌, ◌↔◌, sym, ap, subst, ◌∙◌, Contains}
 use Rattle.std.specs.Prelude.{IfOk, Result, Ok, Err}
 use Rattle.std.specs.BTreeMap.{is_at}
@@ -15,7 +15,8 @@ use Rattle.repo_index.specs.Order.{names_total}
 use Rattle.repo_index.proofs.OrderLemmas.{names_exact}
 use Rattle.repo_reach.specs.declared.links.Links.{Links}
 use Rattle.repo_name.proofs.Containing.{none_contained, first_contained, later_contained, contained_or}
-use Rattle.repo_check.specs.Levels.{LinksOfTrees, IsBelow, AreBelow, HasBelow, AddsNames, AddsBelow}
+use Rattle.repo_name.specs.declared.kinds.BlobKind.{BlobKind}
+use Rattle.repo_check.specs.Levels.{LinksOfTrees, IsLed, AreLed, HasLed, AddsNames, AddsLed, led_to}
 use Rattle.repo_check.proofs.Measuring.{left_at}
 
 is_equal : (o : Ordering) → is_eq o ≡ true → o ≡ Equal
@@ -63,10 +64,10 @@ names_next old new names i d less updates Whole before n =
       ],
     )
 
--- a tree goes from what is left of a level, with what is below it
-pub level_next : (trees : LinksOfTrees) (old new : BTreeSet Name) (level : List Name) (i : ℕ) (d : Name) → i < length level → AddsBelow trees old (get_or level i d) new
-    → HasBelow trees level old (drop i level) → HasBelow trees level new (drop (i + 1) level)
-level_next trees old new level i d less adds before n =
+-- a tree goes from what is left of a level, with what it leads to
+pub level_next : (k : BlobKind) (trees : LinksOfTrees) (old new : BTreeSet Name) (level : List Name) (i : ℕ) (d : Name) → i < length level → AddsLed k trees old (get_or level i d) new
+    → HasLed k trees level old (drop i level) → HasLed k trees level new (drop (i + 1) level)
+level_next kind trees old new level i d less adds before n =
     let k = get_or level i d in
     let rest = drop (i + 1) level in
     let split = left_at level i d less in
@@ -84,15 +85,15 @@ level_next trees old new level i d less adds before n =
       ],
     )
 
-pub none_below : (trees : LinksOfTrees) (n : Name) → IsBelow trees [] n → ⊥
-none_below trees n h = none_contained h.0 h.2
+none_led : (k : BlobKind) (trees : LinksOfTrees) (n : Name) → IsLed k trees [] n → ⊥
+none_led k trees n h = none_contained h.0 h.2
 
--- a set that has all below a level
-pub are_below : (trees : LinksOfTrees) (level : List Name) (set : BTreeSet Name) (names : List Name) → HasBelow trees level set [] → names ≡ set.keys → IsStrictlySortedBy name_cmp names → AreBelow trees level names
-are_below trees level set names has same sorted = record {
+-- a set that has all to which a level leads
+pub are_led : (k : BlobKind) (trees : LinksOfTrees) (level : List Name) (set : BTreeSet Name) (names : List Name) → HasLed k trees level set [] → names ≡ set.keys → IsStrictlySortedBy name_cmp names → AreLed k trees level names
+are_led k trees level set names has same sorted = record {
   each = λ n. (
     λ c. (has n).0 (inl ((btree_set_contains_iff names_total names_exact set n).1 (subst (λ ns. Contains ns n) same c))),
-    λ b. subst (λ ns. Contains ns n) (sym same) ((btree_set_contains_iff names_total names_exact set n).0 (elim ((has n).1 b) [ inl there ↦ there | inr left ↦ absurd (none_below trees n left) ])),
+    λ b. subst (λ ns. Contains ns n) (sym same) ((btree_set_contains_iff names_total names_exact set n).0 (elim ((has n).1 b) [ inl there ↦ there | inr left ↦ absurd (none_led k trees n left) ])),
   );
   ascend = sorted;
 }
@@ -100,13 +101,13 @@ are_below trees level set names has same sorted = record {
 some_one : (a b : Links) → Some a ≡ Some b → a ≡ b
 some_one a b h = cc h
 
--- the trees below one that reads were added
-pub below_added : (trees : LinksOfTrees) (old new : BTreeSet Name) (tree : Name) (links : Links) (names : List Name) → trees tree ≡ Some links → names ≡ links.trees.items → AddsNames old names new → AddsBelow trees old tree new
-below_added trees old new tree links names is same adds n = (
+-- what a tree that reads leads to was added
+pub led_added : (k : BlobKind) (trees : LinksOfTrees) (old new : BTreeSet Name) (tree : Name) (links : Links) (names : List Name) → trees tree ≡ Some links → names ≡ led_to k links → AddsNames old names new → AddsLed k trees old tree new
+led_added k trees old new tree links names is same adds n = (
   λ h. elim ((adds n).0 h) [ inl there ↦ inl there | inr among ↦ inr (links, is, subst (λ ns. Contains ns n) same among) ],
   λ h. (adds n).1 (elim h [
     | inl there ↦ inl there
-    | inr here ↦ inr (subst (λ ns. Contains ns n) (sym same) (subst (λ (l : Links). Contains l.trees.items n) (some_one here.0 links (sym here.1 ∙ is)) here.2))
+    | inr here ↦ inr (subst (λ ns. Contains ns n) (sym same) (subst (λ (l : Links). Contains (led_to k l) n) (some_one here.0 links (sym here.1 ∙ is)) here.2))
   ]),
 )
 

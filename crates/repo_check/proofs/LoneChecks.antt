@@ -1,5 +1,5 @@
 -- The laws of a check that is alone with its store.
-use Rattle.std.proofs.Common.{◌≡◌, ◌⊎◌, ◌∷◌, [], ℕ, List, map, Option, Some, None, refl, sym, ap, subst, inl, inr, ⊎_elim, Contains, ◌∙◌}
+use Rattle.std.proofs.Common.{◌≡◌, ◌∷◌, [], ℕ, List, map, Option, Some, None, refl, sym, ap, subst, inl, inr, ⊎_elim, Contains, ◌∙◌}
 use Rattle.std.proofs.lemmas.Option.{same_Some, none-some}
 use Rattle.repo_name.specs.Naming as naming
 use Rattle.repo_name.specs.Ranges.{range}
@@ -30,7 +30,6 @@ use Rattle.repo_session.proofs.Enumerating.{listed_or_put}
 use Rattle.repo_session.proofs.Growing.{Led, Shares, led}
 use Rattle.repo_session.proofs.Telling.{seen_run}
 use Rattle.repo_session.proofs.Unchanging.{OnlyReads, same_run, same_after, puts_nothing, shares_run}
-use Rattle.repo_check.specs.Answers as came
 use Rattle.repo_check.specs.Answers.{Answer, Gives}
 use Rattle.repo_check.specs.Checking.{check_task, CheckAllows, CheckGives, CheckConcludes, IsGot, IsClean}
 use Rattle.repo_check.specs.Laws as laws

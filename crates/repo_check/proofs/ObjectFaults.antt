@@ -22,7 +22,7 @@ use Rattle.repo_check.proofs.Finding.{object_once}
 use Rattle.repo_check.proofs.Tellings.{told_are_found}
 
 -- an answer that is at fault by itself is so whatever else came
-faulty_is : (answers : Answers) (k : Kind) (a : Answer) (what : FaultKind) → IsFaulty k a what → ObjectIs answers k a (Some what)
+pub faulty_is : (answers : Answers) (k : Kind) (a : Answer) (what : FaultKind) → IsFaulty k a what → ObjectIs answers k a (Some what)
 faulty_is answers k a FaultKind.Missing h = h answers
 faulty_is answers k a FaultKind.Name h = h answers
 faulty_is answers k a FaultKind.Unreadable h = h answers
@@ -31,14 +31,14 @@ faulty_is answers k a FaultKind.Unindexed h = h answers
 
 module _ (answers : Answers) (k : Kind) where
   -- what is found among answers, where something is found of each
-  found_at : (xs : List Answer) (found : List (Option FaultKind)) (n : Name) (what : FaultKind) (i : ℕ) → Match (λ (a : Answer). ObjectIs answers k a) xs found → slice_get (map (λ (a : Answer). a.name) xs) i ≡ Some n → slice_get found i ≡ Some (Some what)
+  pub found_at : (xs : List Answer) (found : List (Option FaultKind)) (n : Name) (what : FaultKind) (i : ℕ) → Match (λ (a : Answer). ObjectIs answers k a) xs found → slice_get (map (λ (a : Answer). a.name) xs) i ≡ Some n → slice_get found i ≡ Some (Some what)
       → (a : Answer) × Contains xs a × (a.name ≡ n) × ObjectIs answers k a (Some what)
   found_at [] found n what i m named is = absurd (cc named)
   found_at (a ∷ xs) [] n what i m named is = absurd m
   found_at (a ∷ xs) (f ∷ found) n what zero m named is = (a, first_contained a xs, same_Some a.name n named, subst (λ g. ObjectIs answers k a g) (same_Some f (Some what) is) m.0)
   found_at (a ∷ xs) (f ∷ found) n what (suc i) m named is = (let rest = found_at xs found n what i m.1 named is in (rest.0, later_contained a xs rest.0 rest.1, rest.2, rest.3))
 
-  among : (xs : List Answer) (found : List (Option FaultKind)) (a : Answer) (what : FaultKind) → Match (λ (b : Answer). ObjectIs answers k b) xs found → Contains xs a → ObjectIs answers k a (Some what)
+  pub among : (xs : List Answer) (found : List (Option FaultKind)) (a : Answer) (what : FaultKind) → Match (λ (b : Answer). ObjectIs answers k b) xs found → Contains xs a → ObjectIs answers k a (Some what)
       → (i : ℕ) × (slice_get (map (λ (b : Answer). b.name) xs) i ≡ Some a.name) × (slice_get found i ≡ Some (Some what))
   among [] found a what m c is = absurd (none_contained a c)
   among (b ∷ xs) [] a what m c is = absurd m
@@ -52,7 +52,7 @@ module _ (answers : Answers) (k : Kind) where
     noted_is a (Note.Well x) h = well a x h
     noted_is a (Note.Fault what) h = faulty_is answers k a what h
 
-    each_is : (xs : List Answer) (notes : List (Note T)) → Match (IsNoted k Gives) xs notes → Match (λ (a : Answer). ObjectIs answers k a) xs (map fault_noted notes)
+    pub each_is : (xs : List Answer) (notes : List (Note T)) → Match (IsNoted k Gives) xs notes → Match (λ (a : Answer). ObjectIs answers k a) xs (map fault_noted notes)
     each_is [] [] m = tt
     each_is (a ∷ xs) (note ∷ notes) m = (noted_is a note m.0, each_is xs notes m.1)
     each_is [] (note ∷ notes) m = absurd m
@@ -68,10 +68,10 @@ module _ (answers : Answers) (k : Kind) where
           λ o. (let at = among h.answers (map fault_noted round.notes) o.0 what is o.1 o.3 in (at.0, ap (λ ns. slice_get ns at.0) (sym names) ∙ at.1 ∙ ap Some o.2, at.2)),
         )
 
-root_well : (answers : Answers) (a : Answer) (root : Name) → IsRootOf a root → ObjectIs answers Kind.Snapshot a None
+pub root_well : (answers : Answers) (a : Answer) (root : Name) → IsRootOf a root → ObjectIs answers Kind.Snapshot a None
 root_well answers a root h = (h.0, h.2.0, h.2.1, (h.1, h.3))
 
-pack_well : (answers : Answers) (a : Answer) (facts : List Fact) → IsPackOf a facts → ObjectIs answers Kind.Pack a None
+pub pack_well : (answers : Answers) (a : Answer) (facts : List Fact) → IsPackOf a facts → ObjectIs answers Kind.Pack a None
 pack_well answers a facts h = (h.0, h.2.0, h.2.1, (h.1, h.3))
 
 pub snapshots_are_told : SnapshotsAreTold

@@ -52,11 +52,11 @@ told_are_found thing names found fault = (
 
 -- ---- in order
 
-each_all : {X : Type 0} (P : X → Type 0) (xs : List X) → ((x : X) → Contains xs x → P x) → AllByRecursion P xs
+pub each_all : {X : Type 0} (P : X → Type 0) (xs : List X) → ((x : X) → Contains xs x → P x) → AllByRecursion P xs
 each_all P [] h = tt
 each_all P (x ∷ xs) h = (h x (first_contained x xs), each_all P xs (λ y c. h y (later_contained x xs y c)))
 
-all_each : {X : Type 0} (P : X → Type 0) (xs : List X) → AllByRecursion P xs → (x : X) → Contains xs x → P x
+pub all_each : {X : Type 0} (P : X → Type 0) (xs : List X) → AllByRecursion P xs → (x : X) → Contains xs x → P x
 all_each P [] h x c = absurd (none_contained x c)
 all_each P (y ∷ xs) h x c = elim (contained_or y xs x c) [ inl same ↦ subst P same h.0 | inr more ↦ all_each P xs h.1 x more ]
 

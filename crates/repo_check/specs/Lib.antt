@@ -11,5 +11,8 @@ pub mod Rounds
 pub mod Walks
 pub mod Gathering
 pub mod Surveys
+pub mod Verdicts
+pub mod CheckStates
+pub mod CheckObedience
 pub mod Laws
 pub mod LoneLaws

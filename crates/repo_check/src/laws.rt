@@ -2,6 +2,7 @@
 
 ghost use Rattle.repo_check.specs.LoneLaws.{CheckChangesNothing, CleanIsOfSound};
 ghost use Rattle.repo_check.specs.Surveys.{SurveyedIsReceived, LevelsAreReached, ContentIsReached, SnapshotsAreTold, PacksAreTold, TreesAreTold, ContentIsTold};
+ghost use Rattle.repo_check.specs.Verdicts.{IndexesAreTold, PlacesAreTold};
 ghost use Rattle.repo_check.specs.Laws.{WellIsSound, CleanIsSound, FoundOnce, FitsAsFound, WellHasNoFault};
 
 /// Where all things are well in what was received, the objects received are a sound store. Premise: no two of the objects
@@ -56,6 +57,16 @@ pub fn snapshots_are_told()
 /// So are those told of its packs.
 pub fn packs_are_told()
     ensures { PacksAreTold }
+{}
+
+/// Those told of its indexes by themselves are just those of the indexes that came, but for those that don't fit the packs.
+pub fn indexes_are_told()
+    ensures { IndexesAreTold }
+{}
+
+/// And those told of its indexes by the packs are just those that don't fit them.
+pub fn places_are_told()
+    ensures { PlacesAreTold }
 {}
 
 /// And what is told of a tree that is reached is what is found of it.

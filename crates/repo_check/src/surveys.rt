@@ -52,7 +52,7 @@ pub struct Survey {
     pub indexes: Round<IndexText>,
     pub packs: Round<Facts>,
     pub walk: Walk,
-    alloc: Global,
+    pub alloc: Global,
 }
 
 /// How far a survey has come.

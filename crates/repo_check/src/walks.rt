@@ -8,9 +8,9 @@ ghost use Rattle.repo_check.specs.Walks.{IsFreshKnown, Walks, Awaits, WalksOn, H
 ghost use Rattle.repo_check.specs.declared.knowing.TreeNote.{TreeNote};
 
 use crate::knowing::{Known, TreeNote};
-use crate::levels::below;
+use crate::levels::led;
 use repo_index::{Fact, Lookup};
-use repo_name::{Name, Names};
+use repo_name::{BlobKind, Name, Names};
 use std::alloc::{AllocError, Global};
 
 /// How many lengths a path may have: 0 to 100 components.
@@ -34,7 +34,7 @@ pub struct WalkMark {
 
 impl Walk {
     /// The level that is gone through.
-    fn level(&self) -> &[Name]
+    pub fn level(&self) -> &[Name]
         ensures { (level : List Name) → last_level self.now.levels.items ≡ Some level → result.now ≡ level }
     {
         match self.levels.last() {
@@ -69,7 +69,7 @@ impl Walk {
         ensures err { OnErr result (self.new.levels.items ≡ self.old.levels.items) }
         ensures known { self.new.known ≡ self.old.known }
     {
-        let names = below(self.alloc, &self.known.links, self.level())?;
+        let names = led(self.alloc, &self.known.links, BlobKind::Tree, self.level())?;
         self.levels.push(Names::of(names)).map_err(|_| AllocError)?;
         self.place = 0;
         Ok(())

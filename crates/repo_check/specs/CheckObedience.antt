@@ -1,0 +1,12 @@
+-- A check is obedient.
+use Rattle.repo_session.specs.Clients.{IsObedient}
+use Rattle.repo_session.specs.Obedience.{session_obeys}
+use Rattle.repo_session.specs.Sessions.{next_in, ended_in}
+use Rattle.repo_session.specs.Traces.{Trace}
+use Rattle.repo_check.specs.declared.checks.Check.{Check}
+use Rattle.repo_check.specs.declared.checks.CheckJob.{CheckJob}
+use Rattle.repo_check.specs.Checking.{check_task, check_rule, CheckAllows, CheckGives, CheckConcludes}
+use Rattle.repo_check.specs.CheckStates.{FitsCheck, IsFresh, KnowsCheck, checker_of}
+
+pub check_obeys : (c : Check) (es : Trace) → FitsCheck c es → IsObedient (check_task (checker_of c)) CheckAllows CheckGives CheckConcludes (next_in c.session) (ended_in c.session) es
+check_obeys c es fits = session_obeys (λ (j : CheckJob). tt {0}) (λ h. check_rule) IsFresh KnowsCheck c.session es fits

@@ -1,0 +1,103 @@
+-- What is told of each thing that a survey received.
+use Rattle.std.specs.Prelude.{◌≡◌, ◌≢◌, ◌↔◌, ◌+◌, ◌-◌, ◌++◌, [], ⊤, ℕ, List, length, map, take, flat_map, Option, Some, None, Contains}
+use Rattle.std.specs.BTreeSet.{BTreeSet, contains}
+use Rattle.repo_name.specs.Naming.{name_cmp}
+use Rattle.repo_name.specs.declared.kinds.BlobKind.TheVariants.{Content}
+use Rattle.repo_name.specs.declared.kinds.Thing.{Thing}
+use Rattle.repo_name.specs.declared.names.Name.{Name}
+use Rattle.repo_index.specs.declared.facts.PackFacts.{PackFacts}
+use Rattle.repo_store.specs.Pages.{Ascends}
+use Rattle.repo_session.specs.Traces.{Trace}
+use Rattle.repo_session.specs.declared.outcomes.CheckFault.{CheckFault}
+use Rattle.repo_session.specs.declared.outcomes.FaultKind.{FaultKind}
+use Rattle.repo_session.specs.declared.outcomes.Outcome.{Outcome}
+use Rattle.repo_check.specs.Checking.{IsCount, IsFault}
+use Rattle.repo_check.specs.Fitting.{FactsOfPacks, Fits, Misfits, facts_by}
+use Rattle.repo_check.specs.Gathering.{AreOnce, HasNames, fault_noted}
+use Rattle.repo_check.specs.Levels.{AreLed}
+use Rattle.repo_check.specs.Rounds.{Match, RoundView}
+use Rattle.repo_check.specs.Surveys.{IsSurveyed, RoundsView, answers_in}
+use Rattle.repo_check.specs.Telling.{told}
+use Rattle.repo_check.specs.Walks.{ContentFault, Knowledge, WalkView, last_level, tree_fault}
+use Rattle.repo_check.specs.declared.reaching.Reached.{Reached}
+use Rattle.repo_check.specs.declared.rounds.Note.{Note}
+
+-- ---- what is reached
+
+-- trees and content, by their names
+pub record ReachedView : Type 0 where
+  pub trees : List Name
+  pub content : List Name
+
+-- the code's own
+abbrev pub reached_of : Reached → ReachedView
+reached_of reached = record { trees = reached.trees.items; content = reached.content.items }
+
+-- all names in some levels
+abbrev pub names_in : List (List Name) → List Name
+names_in levels = flat_map (λ (level : List Name). level) levels
+
+-- the trees of all levels, and the content to which those above the last level lead
+pub record AreReached (walk : WalkView) (reached : ReachedView) : Type 0 where
+  pub trees : AreOnce (names_in walk.levels) reached.trees
+  pub upper : List Name
+  pub upper_are : AreOnce (names_in (take (length walk.levels - 1) walk.levels)) upper
+  pub content : AreLed Content walk.known.links upper reached.content
+
+-- ---- what is found
+
+-- what is found of an index by what is known of packs: that it reads and doesn't fit them, or nothing
+abbrev pub IsPlaced : FactsOfPacks → Note (List PackFacts) → Option FaultKind → Type 0
+IsPlaced packs (Note.Well text) None = Fits text packs
+IsPlaced packs (Note.Well text) (Some what) = (what ≡ FaultKind.Place) × Misfits text packs
+IsPlaced packs (Note.Fault fault) None = ⊤
+IsPlaced packs (Note.Fault fault) (Some what) = ⊥
+
+-- what is found of a tree, where a set has the deepest
+abbrev pub IsTreeFound : Knowledge → BTreeSet Name → Name → Option FaultKind → Type 0
+IsTreeFound known deepest n found = found ≡ tree_fault (known.faults n) (known.links n) (contains name_cmp deepest n)
+
+-- ---- what is told
+
+-- the faults told of the objects of a round by their notes
+abbrev pub told_of : {T : Type 0} → Thing → RoundView T → List CheckFault
+told_of thing round = told thing round.names (map fault_noted round.notes)
+
+-- those of objects came behind others
+pub record AreObjectsTold (rounds : RoundsView) (old new : List CheckFault) : Type 0 where
+  pub places : List (Option FaultKind)
+  pub placed : Ascends None rounds.packs.names → Match (IsPlaced (facts_by rounds.packs)) rounds.indexes.notes places
+  pub are : new ≡ (((old ++ told_of Thing.Snapshot rounds.snapshots) ++ told_of Thing.Index rounds.indexes) ++ told_of Thing.Pack rounds.packs) ++ told Thing.Index rounds.indexes.names places
+
+-- and those of blobs
+pub record AreBlobsTold (walk : WalkView) (reached : ReachedView) (old new : List CheckFault) : Type 0 where
+  pub deepest : BTreeSet Name
+  pub deepest_are : (level : List Name) → last_level walk.levels ≡ Some level → HasNames deepest level
+  pub content : List (Option FaultKind)
+  pub content_are : Match (ContentFault walk.known.facts) reached.content content
+  pub trees : List (Option FaultKind)
+  pub trees_are : Match (IsTreeFound walk.known deepest) reached.trees trees
+  pub are : new ≡ (old ++ told Thing.Content reached.content content) ++ told Thing.Tree reached.trees trees
+
+-- the faults of objects, and behind them those of blobs
+pub record AreTold (rounds : RoundsView) (walk : WalkView) (reached : ReachedView) (faults : List CheckFault) : Type 0 where
+  pub of_objects : List CheckFault
+  pub objects : AreObjectsTold rounds [] of_objects
+  pub blobs : AreBlobsTold walk reached of_objects faults
+
+-- all is well, and these are the counts
+abbrev pub Counts : RoundsView → ReachedView → Outcome → Type 0
+Counts rounds reached outcome = (snapshots : ℕ) × (indexes : ℕ) × (packs : ℕ) × (blobs : ℕ) × (outcome ≡ Outcome.Clean snapshots indexes packs blobs)
+    × IsCount snapshots (length rounds.snapshots.notes) × IsCount indexes (length rounds.indexes.notes) × IsCount packs (length rounds.packs.notes) × IsCount blobs (length reached.content + length reached.trees)
+
+-- ---- what that is by the definitions
+
+-- what is told of the indexes by themselves is what is at fault of them, but for those that don't fit the packs
+abbrev pub IndexesAreTold : Type 0
+IndexesAreTold = (rounds : RoundsView) (walk : WalkView) (es : Trace) (s : IsSurveyed rounds walk es) (places : List (Option FaultKind)) (fault : CheckFault) → Match (IsPlaced (facts_by rounds.packs)) rounds.indexes.notes places
+    → Contains (told_of Thing.Index rounds.indexes) fault ↔ ((fault.thing ≡ Thing.Index) × (fault.what ≢ FaultKind.Place) × IsFault (answers_in s) fault)
+
+-- and what is told of them by the packs is that those don't
+abbrev pub PlacesAreTold : Type 0
+PlacesAreTold = (rounds : RoundsView) (walk : WalkView) (es : Trace) (s : IsSurveyed rounds walk es) (places : List (Option FaultKind)) (fault : CheckFault) → Match (IsPlaced (facts_by rounds.packs)) rounds.indexes.notes places
+    → Contains (told Thing.Index rounds.indexes.names places) fault ↔ ((fault.thing ≡ Thing.Index) × (fault.what ≡ FaultKind.Place) × IsFault (answers_in s) fault)
