@@ -129,7 +129,7 @@ module _ (rounds : RoundsView) (walk : WalkView) (es : Trace) (s : IsSurveyed ro
       let is : ObjectIs A Kind.Index a (Some FaultKind.Place) = (noted.0, noted.1.0, noted.1.1, (fits_as_found A (facts_by rounds.packs) noted.0 text are_known once noted.2).1 placed.1) in
       subst (λ (w : FaultKind). ObjectIs A Kind.Index a (Some w)) (sym placed.0) is
   index_is a (Note.Fault what) None noted placed = faulty_is A Kind.Index a what noted
-  index_is a (Note.Fault what) (Some place) noted placed = absurd placed
+  index_is a (Note.Fault what) (Some other) noted placed = absurd placed
 
   pub each_index : (xs : List Answer) (notes : List (Note (List PackFacts))) (places : List (Option FaultKind)) → Match (IsNoted Kind.Index IsIndexOf) xs notes → Match Placed notes places → Match (λ (a : Answer). ObjectIs A Kind.Index a) xs (both notes places)
   each_index [] [] places noted placed = tt

@@ -25,4 +25,5 @@ pub mod BlobFaults
 pub mod Faults
 pub mod Concluding
 pub mod CheckSteps
+pub mod SoundFinds
 pub mod LoneChecks

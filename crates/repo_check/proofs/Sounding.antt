@@ -8,10 +8,11 @@ use Rattle.repo_name.specs.declared.kinds.BlobKind.{BlobKind}
 use Rattle.repo_name.specs.declared.kinds.BlobKind.TheVariants.{Content, Tree}
 use Rattle.repo_name.specs.declared.kinds.Kind.{Kind}
 use Rattle.repo_name.specs.declared.names.Name.{Name}
-use Rattle.repo_pack.specs.PackLayout.{Item, IsNamed, offset_of}
+use Rattle.repo_pack.specs.PackLayout.{Item, IsNamed, IsTruePack, offset_of}
 use Rattle.repo_pack.proofs.Offsets.{range_is}
 use Rattle.repo_index.specs.declared.facts.Fact.{Fact}
 use Rattle.repo_index.specs.declared.facts.PackFacts.{PackFacts}
+use Rattle.repo_index.specs.Exactness.{IsExactFor}
 use Rattle.repo_index.specs.IndexText.{fact_of, facts_in}
 use Rattle.repo_index.proofs.OneLemmas.{index_texts_one}
 use Rattle.repo_tree.specs.Parts.{Blobs, IsTree, HasNode}
@@ -33,6 +34,29 @@ use Rattle.repo_check.specs.Laws.IsSpoken.{of_tree, of_pack}
 
 named_at : (items : List Item) (k : ℕ) (item : Item) → All IsNamed items → slice_get items k ≡ Some item → IsNamed item
 named_at items k item each at = subst IsNamed (get_or_from_slice_get items k item item at) (each k item (slice_get_within items k item at))
+
+-- the blob that a fact names, in a pack
+pub record BlobAt (pack : List ℕ) (fact : Fact) : Type 0 where
+  pub bytes : List ℕ
+  pub stands : range pack fact.place.offset fact.place.length ≡ Some bytes
+  pub named : naming.name bytes ≡ fact.name
+  pub len : length bytes ≡ fact.place.length
+
+-- it is there, where an index is exact for the pack
+pub blob_at : (pack : List ℕ) (items : List Item) (packs : List PackFacts) (fact : Fact) → IsTruePack pack items → IsExactFor packs fact.place.pack items → Contains (facts_in packs) fact → BlobAt pack fact
+blob_at pack items packs fact true_pack exact among =
+    let at = (exact fact).0 (among, refl) in
+    let item = at.1 in
+    let place : range pack (offset_of items at.0) (length item.bytes) ≡ Some item.bytes = range_is pack items at.0 item true_pack.pack at.2 in
+    let offset : fact.place.offset ≡ offset_of items at.0 = ap (λ (f : Fact). f.place.offset) at.3 in
+    let len : fact.place.length ≡ length item.bytes = ap (λ (f : Fact). f.place.length) at.3 in
+    let name : fact.name ≡ item.name = ap (λ (f : Fact). f.name) at.3 in
+    record {
+      bytes = item.bytes;
+      stands = (ap (λ o. range pack o fact.place.length) offset ∙ ap (λ l. range pack (offset_of items at.0) l) len) ∙ place;
+      named = sym (named_at items at.0 item true_pack.named at.2) ∙ sym name;
+      len = sym len;
+    }
 
 -- a directory below stands at the path with its name behind
 pub under_more : (B : Blobs) (root : Name) (path : List (List ℕ)) (t : Name) (name : List ℕ) (subtree : Name) → Under 1 B root path t → HasNode 1 B t (record { name = name; what = NodeKind.Dir subtree }) → Under 1 B root (path ++ name ∷ []) subtree
@@ -88,17 +112,10 @@ module _ (answers : Answers) (objects : Objects) (well : AreWell answers) (are :
   held_at fact g =
       let e = exact_of fact g in
       let exact = e.2 in
-      let at = (exact.exact fact).0 (e.1, refl) in
-      let item = at.1 in
-      let place : range exact.bytes (offset_of exact.items at.0) (length item.bytes) ≡ Some item.bytes = range_is exact.bytes exact.items at.0 item exact.true_pack.pack at.2 in
-      let offset : fact.place.offset ≡ offset_of exact.items at.0 = ap (λ (f : Fact). f.place.offset) at.3 in
-      let len : fact.place.length ≡ length item.bytes = ap (λ (f : Fact). f.place.length) at.3 in
-      let name : fact.name ≡ item.name = ap (λ (f : Fact). f.name) at.3 in
-      let stands : range exact.bytes fact.place.offset fact.place.length ≡ Some item.bytes = (ap (λ o. range exact.bytes o fact.place.length) offset ∙ ap (λ l. range exact.bytes (offset_of exact.items at.0) l) len) ∙ place in
-      let named : naming.name item.bytes ≡ fact.name = sym (named_at exact.items at.0 item exact.true_pack.named at.2) ∙ sym name in
+      let at = blob_at exact.bytes exact.items e.0 fact exact.true_pack exact.exact e.1 in
       let pack = there Kind.Pack fact.place.pack exact.bytes exact.came in
       record {
-        bytes = item.bytes;
+        bytes = at.bytes;
         held = record {
           index = g.index;
           text = g.text;
@@ -107,13 +124,13 @@ module _ (answers : Answers) (objects : Objects) (well : AreWell answers) (are :
           listed = there Kind.Index g.index g.text g.came;
           says = g.says;
           of_kind = refl;
-          named = sym named;
+          named = sym at.named;
           there = pack;
-          stands = stands;
+          stands = at.stands;
         };
-        named = named;
-        len = sym len;
-        spoken = of_pack fact exact.bytes g exact.came.among stands;
+        named = at.named;
+        len = at.len;
+        spoken = of_pack fact exact.bytes g exact.came.among at.stands;
       }
 
   -- ---- no two blobs held have one name

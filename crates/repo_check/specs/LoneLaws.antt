@@ -1,13 +1,16 @@
 -- What holds of a check that is alone with its store, by the definitions alone.
-use Rattle.std.specs.Prelude.{◌≡◌, [], ℕ, Option, Some, None}
+use Rattle.std.specs.Prelude.{◌≡◌, ◌<◌, ◌^◌, ◌-◌, [], ⊤, ℕ, length, Option, Some, None}
+use Rattle.repo_wire.specs.declared.messages.Code.{Code}
 use Rattle.repo_wire.specs.declared.messages.Request.{Request}
+use Rattle.repo_store.specs.Laws.{greatest_count}
 use Rattle.repo_store.specs.Stores.{Store}
-use Rattle.repo_session.specs.Alone.{IsSent, IsSpoken, NoClash}
+use Rattle.repo_session.specs.Alone.{IsFit, IsSent, IsSpoken, NoClash}
 use Rattle.repo_session.specs.Askers.{Asker}
 use Rattle.repo_session.specs.Clients.{IsObedient}
 use Rattle.repo_session.specs.Soundness.{IsSound}
 use Rattle.repo_session.specs.Talks.{Talk, trace_of, TalkRan, MayStep}
 use Rattle.repo_session.specs.Traces.{Trace}
+use Rattle.repo_session.specs.declared.outcomes.End.{End}
 use Rattle.repo_session.specs.declared.outcomes.Outcome.{Outcome}
 use Rattle.repo_check.specs.Checking.{check_task, CheckAllows, CheckGives, CheckConcludes}
 
@@ -28,3 +31,14 @@ CheckChangesNothing = (who : Asker) (from mid to : Store) (failed failing : ℕ)
 abbrev pub CleanIsOfSound : Type 0
 CleanIsOfSound = (who : Asker) (from to : Store) (failed failing : ℕ) (talk : Talk) (next : Option Request) (snapshots indexes packs blobs : ℕ)
     → AreStoredApart from → TalkRan from failed talk to failing → IsCheck who next (Some (Outcome.Clean snapshots indexes packs blobs)) (trace_of talk) → IsSound from.objects
+
+-- it is clean, or the store had no memory
+abbrev pub IsCleanOrMemory : Option Outcome → Type 0
+IsCleanOrMemory None = ⊥
+IsCleanOrMemory (Some (Outcome.Clean snapshots indexes packs blobs)) = ⊤
+IsCleanOrMemory (Some outcome) = outcome ≡ Outcome.Ended (End.Refused Code.NoMemory)
+
+-- so ends a check alone with a store in which it finds all that it wants, and whose device doesn't fail
+abbrev pub CheckEndsWell : Type 0
+CheckEndsWell = (who : Asker) (from to : Store) (failed : ℕ) (talk : Talk) (outcome : Option Outcome)
+    → IsFit from → AreStoredApart from → failed < greatest_count → TalkRan from failed talk to failed → length talk < 2 ^ 64 - 1 → IsCheck who None outcome (trace_of talk) → IsCleanOrMemory outcome

@@ -1,6 +1,6 @@
 //! What holds of what a check tells, by the definitions alone. Each function is empty, and its contract is the law.
 
-ghost use Rattle.repo_check.specs.LoneLaws.{CheckChangesNothing, CleanIsOfSound};
+ghost use Rattle.repo_check.specs.LoneLaws.{CheckChangesNothing, CheckEndsWell, CleanIsOfSound};
 ghost use Rattle.repo_check.specs.Surveys.{SurveyedIsReceived, LevelsAreReached, ContentIsReached, SnapshotsAreTold, PacksAreTold, TreesAreTold, ContentIsTold};
 ghost use Rattle.repo_check.specs.Verdicts.{IndexesAreTold, PlacesAreTold};
 ghost use Rattle.repo_check.specs.Laws.{WellIsSound, CleanIsSound, FoundOnce, FitsAsFound, WellHasNoFault};
@@ -89,4 +89,10 @@ pub fn check_changes_nothing()
 /// the blobs in packs, have one name.
 pub fn clean_is_of_sound()
     ensures { CleanIsOfSound }
+{}
+
+/// A check alone with a store that is sound, has a config that reads and no lock, and whose device doesn't fail, is clean at
+/// its end, or the store had no memory. Premise: the same.
+pub fn check_ends_well()
+    ensures { CheckEndsWell }
 {}
