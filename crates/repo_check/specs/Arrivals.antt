@@ -1,5 +1,6 @@
 -- What a reply brings of a thing that was asked for.
 use Rattle.std.specs.Prelude.{◌≡◌, ◌≢◌, ◌⊎◌, ◌<◌, [], ℕ, List, length, Some, None}
+use Rattle.repo_name.specs.Limits.{contents_limit}
 use Rattle.repo_name.specs.Naming as naming
 use Rattle.repo_name.specs.declared.kinds.Kind.{Kind}
 use Rattle.repo_name.specs.declared.names.Name.{Name}
@@ -55,7 +56,7 @@ IsIndexOf a packs = (x : List ℕ) × HasBytes a x × IsIndexText x packs
 
 -- the facts of a pack of these items; none where the blobs end beyond all places that an index can list
 abbrev pub AreToldOf : Name → List Item → List Fact → Type 0
-AreToldOf pack items facts = AreFactsAt pack items facts ⊎ ((facts ≡ []) × (25_165_823 < length (blobs_of items)))
+AreToldOf pack items facts = AreFactsAt pack items facts ⊎ ((facts ≡ []) × (contents_limit < length (blobs_of items)))
 
 -- it is a pack with these facts
 abbrev pub IsPackOf : Answer → List Fact → Type 0

@@ -40,6 +40,7 @@ mod objects;
 mod reaching;
 mod rounds;
 mod surveys;
+mod taking;
 mod telling;
 mod trees;
 mod verdicts;

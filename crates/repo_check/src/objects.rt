@@ -1,7 +1,6 @@
 //! What is found of one object by itself.
 
-ghost use Rattle.std.specs.Prelude.{◌≡◌, ◌↔◌, ◌≢◌, IfOk, IfSome, OnOk, IsTrue, None};
-ghost use Rattle.repo_index.specs.declared.faults.IndexError.{IndexError};
+ghost use Rattle.std.specs.Prelude.{◌≡◌, ◌↔◌, IfOk, IfSome, IsTrue, None};
 ghost use Rattle.std.specs.List.{All};
 ghost use Rattle.repo_pack.specs.PackLayout.{IsNamed, IsPack, IsTruePack};
 ghost use Rattle.repo_name.specs.declared.kinds.Kind.{Kind};
@@ -9,7 +8,7 @@ ghost use Rattle.repo_check.specs.Findings.{Reads};
 ghost use Rattle.repo_check.specs.Arrivals.{LooksAtSnapshot, LooksAtIndex, LooksAtPack, AreToldOf, MisreadAs};
 
 use crate::arrivals::{Arrival, arrival_of};
-use repo_index::{Facts, IndexError, IndexText, PackFacts};
+use repo_index::{Facts, IndexText, PackFacts};
 use repo_name::{Kind, Name};
 use repo_pack::PackView;
 use repo_session::FaultKind;
@@ -66,16 +65,6 @@ fn misread_snapshot(error: TextError) -> Result<SnapshotLook, AllocError>
     }
 }
 
-/// Fails where there was no memory to read an index: else its bytes are at fault.
-fn check_misread(error: IndexError) -> Result<(), AllocError>
-    ensures { OnOk result (error ≢ IndexError.Memory) }
-{
-    match error {
-        IndexError::Memory => Err(AllocError),
-        _ => Ok(()),
-    }
-}
-
 /// What a reply tells of a snapshot of this name. It fails for memory alone.
 pub fn look_at_snapshot(alloc: Global, name: Name, say: &Say) -> Result<SnapshotLook, AllocError>
     ensures { IfOk result (LooksAtSnapshot name say.now) }
@@ -105,7 +94,7 @@ pub fn look_at_index(alloc: Global, name: Name, say: &Say) -> Result<IndexLook, 
     match IndexText::read(alloc, bytes) {
         Ok(text) => Ok(IndexLook::Read(text)),
         Err(error) => {
-            check_misread(error)?;
+            error.check_fault()?;
             Ok(IndexLook::Fault(FaultKind::Unreadable))
         }
     }

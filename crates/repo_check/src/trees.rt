@@ -1,8 +1,7 @@
 //! What is found of one tree by itself.
 
-ghost use Rattle.std.specs.Prelude.{◌≡◌, ◌≢◌, IfOk, OnOk, length};
+ghost use Rattle.std.specs.Prelude.{◌≡◌, ◌≢◌, IfOk, length};
 ghost use Rattle.repo_name.specs.Naming as naming;
-ghost use Rattle.repo_tree.specs.declared.faults.TreeError.{TreeError};
 ghost use Rattle.repo_wire.specs.declared.messages.Say.{Say};
 ghost use Rattle.repo_check.specs.Measures.{LooksAtTree, LooksAtNone};
 
@@ -10,7 +9,7 @@ use crate::measures::all_suit;
 use repo_index::{Fact, Lookup};
 use repo_reach::Links;
 use repo_session::{FaultKind, Fetched, blob_of};
-use repo_tree::{TreeError, read_tree};
+use repo_tree::read_tree;
 use repo_wire::{Code, Say};
 use std::alloc::{AllocError, Global};
 
@@ -24,16 +23,6 @@ pub enum TreeLook {
     Fault(FaultKind),
     /// Another refusal, or a reply of another sort.
     Unwelcome,
-}
-
-/// Fails where there was no memory to read a tree: else its bytes are at fault.
-fn check_misread(error: TreeError) -> Result<(), AllocError>
-    ensures { OnOk result (error ≢ TreeError.Memory) }
-{
-    match error {
-        TreeError::Memory => Err(AllocError),
-        _ => Ok(()),
-    }
 }
 
 /// What the bytes of a tree tell, which have its name and the length of its place. It fails for memory alone.
@@ -53,7 +42,7 @@ fn look_at_text(
             Ok(TreeLook::Read { links, right })
         }
         Err(error) => {
-            check_misread(error)?;
+            error.check_fault()?;
             Ok(TreeLook::Fault(FaultKind::Unreadable))
         }
     }

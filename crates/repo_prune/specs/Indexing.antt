@@ -1,6 +1,7 @@
 -- How packs are listed in new indexes.
 use Rattle.std.specs.Prelude.{◌≡◌, ◌≢◌, ◌≤◌, ◌<◌, ◌⊎◌, [], ℕ, Bool, List, length, take, Contains}
 use Rattle.std.specs.Ordering.{is_lt}
+use Rattle.repo_name.specs.Limits.{blobs_limit, facts_limit}
 use Rattle.repo_name.specs.Naming.{name_cmp}
 use Rattle.repo_index.specs.IndexText.{facts_in}
 use Rattle.repo_index.specs.declared.facts.PackFacts.{PackFacts}
@@ -9,12 +10,12 @@ use Rattle.repo_index.specs.declared.facts.PackFacts.{PackFacts}
 pub record IsCut (packs : List PackFacts) (taken : ℕ) : Type 0 where
   pub within : taken ≤ length packs
   pub some : packs ≢ [] → 1 ≤ taken
-  pub before : (fewer : ℕ) → fewer < taken → length (facts_in (take fewer packs)) < 20_000
-  pub full : (taken ≡ length packs) ⊎ (20_000 ≤ length (facts_in (take taken packs)))
+  pub before : (fewer : ℕ) → fewer < taken → length (facts_in (take fewer packs)) < facts_limit
+  pub full : (taken ≡ length packs) ⊎ (facts_limit ≤ length (facts_in (take taken packs)))
 
 -- each has 4,096 blobs at most
 abbrev pub AreSmall : List PackFacts → Type 0
-AreSmall packs = (listed : PackFacts) → Contains packs listed → length listed.facts ≤ 4_096
+AreSmall packs = (listed : PackFacts) → Contains packs listed → length listed.facts ≤ blobs_limit
 
 -- a pack stands before another by their names
 abbrev pub is_before : PackFacts → PackFacts → Bool

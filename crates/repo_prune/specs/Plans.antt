@@ -1,6 +1,7 @@
 -- What a prune keeps, and what it moves.
 use Rattle.std.specs.Prelude.{◌≡◌, ◌≢◌, ◌≤◌, ◌⊎◌, ◌++◌, ◌∷◌, ◌↔◌, [], List, map, length, Contains}
 use Rattle.std.specs.List.Sorted.{IsStrictlySortedBy}
+use Rattle.repo_name.specs.Limits.{blobs_limit}
 use Rattle.repo_name.specs.Naming.{name_cmp}
 use Rattle.repo_name.specs.declared.kinds.BlobKind.{BlobKind}
 use Rattle.repo_name.specs.declared.names.Name.{Name}
@@ -24,7 +25,7 @@ pub record IsUsedCopy (used : Used) (facts : List Fact) (fact : Fact) : Type 0 w
 pub record Stays (used : Used) (facts : List Fact) (listed : PackFacts) : Type 0 where
   pub all : AreFactsOf facts listed.pack listed.facts
   pub some : 1 ≤ length listed.facts
-  pub few : length listed.facts ≤ 4_096
+  pub few : length listed.facts ≤ blobs_limit
   pub copies : (fact : Fact) → Contains listed.facts fact → IsUsedCopy used facts fact
 
 -- a blob moves: it is a used copy, and its pack doesn't stay

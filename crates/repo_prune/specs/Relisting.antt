@@ -1,5 +1,6 @@
 -- How a prune puts its new indexes.
 use Rattle.std.specs.Prelude.{◌≡◌, ◌≤◌, ◌++◌, ◌∷◌, [], ⊤, ℕ, List, length, take, Option, Some, None, Contains}
+use Rattle.repo_name.specs.Limits.{blobs_limit, index_limit}
 use Rattle.repo_name.specs.Naming as naming
 use Rattle.repo_name.specs.declared.kinds.Kind.{Kind}
 use Rattle.repo_name.specs.declared.tokens.Token.{Token}
@@ -15,7 +16,7 @@ use Rattle.repo_prune.specs.declared.relisting.Relisting.{Relisting}
 -- a pack may be listed with 1 to 4,096 facts of it, within range
 pub record IsListable (listed : PackFacts) : Type 0 where
   pub some : 1 ≤ length listed.facts
-  pub few : length listed.facts ≤ 4_096
+  pub few : length listed.facts ≤ blobs_limit
   pub within : (fact : Fact) → Contains listed.facts fact → (fact.place.pack ≡ listed.pack) × IsWithin fact.place.offset fact.place.length
 
 -- each of them may
@@ -34,7 +35,7 @@ pub record PutsNext (old : Relisting) (token : Token) (step : Step) (new : Relis
   pub waiting : List PackFacts
   pub text : List ℕ
   pub reads : IsIndexText text waiting
-  pub short : length text ≤ 8_388_608
+  pub short : length text ≤ index_limit
   pub behind : take new.listed new.packs.items ≡ take old.listed old.packs.items ++ waiting
   pub puts : step ≡ Step.Ask (Ask.Put token Kind.Index (naming.name text) text)
   pub named : new.indexes.items ≡ old.indexes.items ++ naming.name text ∷ []

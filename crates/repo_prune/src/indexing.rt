@@ -7,11 +7,9 @@ ghost use Rattle.repo_writing.specs.Writing.{FewWait};
 ghost use Rattle.repo_prune.specs.Indexing.{IsCut, AreSmall, is_before};
 
 use repo_index::{Facts, IndexText, PackFacts};
+use repo_name::FACTS_LIMIT;
 use std::alloc::{AllocError, Global};
 use std::cmp::Ordering;
-
-/// An index is put once its packs have so many blobs.
-const FULL: usize = 20_000;
 
 /// The order of packs: that of their names.
 fn by_name(a: &PackFacts, b: &PackFacts) -> Ordering
@@ -37,7 +35,7 @@ pub fn cut(packs: &[PackFacts]) -> usize
     let mut count: usize = 0;
     let mut taken: usize = 0;
     for pack in packs {
-        if count >= FULL {
+        if count >= FACTS_LIMIT {
             return taken;
         }
         count = count.saturating_add(pack.facts.as_slice().len());

@@ -8,12 +8,10 @@ ghost use Rattle.repo_pack.specs.PackWriting.{IsOpen};
 ghost use Rattle.repo_prune.specs.Moving.{IsMoving, AwaitsBlob, MovesOn, StaysMoving, AwaitsStill, Added};
 
 use repo_index::{Fact, PackFacts};
+use repo_name::BLOB_LIMIT;
 use repo_pack::Sealed;
 use repo_writing::{Counts, Packer, Target};
 use std::alloc::{AllocError, Global};
-
-/// The most bytes that a blob has.
-const LONGEST_BLOB: usize = 8_388_608;
 
 /// What comes next of the moving.
 #[derive(Drop)]
@@ -138,7 +136,7 @@ impl Moving {
     fn has_room(&self, bytes: &[u8]) -> bool
         ensures { IsTrue result ↔ (IsOpen self.now.packer.writer × IsBlobLength (length bytes.now)) }
     {
-        !self.packer.writer.is_due() && !bytes.is_empty() && bytes.len() <= LONGEST_BLOB
+        !self.packer.writer.is_due() && !bytes.is_empty() && bytes.len() <= BLOB_LIMIT
     }
 
     /// Adds the blob that was asked for. It fails for memory alone, and then it is awaited as before.

@@ -1,18 +1,16 @@
 //! What a prune keeps, and what it moves.
 
 ghost use Rattle.std.specs.Prelude.{◌≡◌, ◌≤◌, ◌↔◌, length, IfOk, OnOk, IsTrue, Contains};
+ghost use Rattle.repo_name.specs.Limits.{blobs_limit};
 ghost use Rattle.repo_pack.specs.declared.places.Place.{Place};
 ghost use Rattle.repo_index.specs.Lookups.{IsLeast};
 ghost use Rattle.repo_prune.specs.Plans.{IsUsedCopy, IsPlanOf, Covers, AreCopiesOf, Plans};
 
 use repo_index::{Fact, Lookup, PackFacts};
-use repo_name::Name;
+use repo_name::{BLOBS_LIMIT, Name};
 use repo_pack::Place;
 use repo_reach::Used;
 use std::alloc::{AllocError, Global};
-
-/// How many blobs a pack that stays has at most.
-const MOST_BLOBS: usize = 4_096;
 
 /// What a prune keeps, and what it moves: of each used blob the copy at its least place, once.
 #[derive(Drop)]
@@ -67,9 +65,9 @@ fn used_copies(
 
 /// Whether a pack with these blobs, of which these are used copies, stays.
 fn is_kept(own: &[Fact], copies: &[Fact]) -> bool
-    ensures { IsTrue result ↔ ((1 ≤ length own.now) × (length own.now ≤ 4_096) × (length copies.now ≡ length own.now)) }
+    ensures { IsTrue result ↔ ((1 ≤ length own.now) × (length own.now ≤ blobs_limit) × (length copies.now ≡ length own.now)) }
 {
-    !own.is_empty() && own.len() <= MOST_BLOBS && copies.len() == own.len()
+    !own.is_empty() && own.len() <= BLOBS_LIMIT && copies.len() == own.len()
 }
 
 impl Plan {

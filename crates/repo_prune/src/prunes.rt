@@ -8,7 +8,7 @@ use crate::deleting::Deleting;
 use crate::moving::Moving;
 use crate::relisting::Relisting;
 use repo_index::Fact;
-use repo_name::{Kind, Token};
+use repo_name::{GREATEST_TARGET, Kind, LEAST_TARGET, Token};
 use repo_reach::Trees;
 use repo_session::{
     Catalog, Client, Emission, Holder, Job, Outcome, Roll, Session, SnapshotRoll, Step, Who,
@@ -61,7 +61,7 @@ impl PruneJob {
             catalog: Catalog::new(alloc),
             packs: Roll::new(alloc, Kind::Pack),
             stage: Stage::Listing,
-            target: Target::of(1_024),
+            target: Target::of(LEAST_TARGET as u32),
             alloc,
         }
     }
@@ -105,7 +105,7 @@ impl Job for PruneJob {
     }
 
     fn opened(&mut self, _holder: &Holder, config: &Config) -> Ask {
-        self.target = Target::of(config.target.clamp(1_024, 16_777_216) as u32);
+        self.target = Target::of(config.target.clamp(LEAST_TARGET, GREATEST_TARGET) as u32);
         self.snapshots.page_ask()
     }
 

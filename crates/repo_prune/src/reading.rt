@@ -1,11 +1,10 @@
 //! The reading of the trees that snapshots reach, as a prune does it.
 
-ghost use Rattle.std.specs.Prelude.{◌≡◌, ◌≢◌, ◌++◌, ◌∷◌, [], ℕ, List, length, IfOk, OnOk, OnErr};
+ghost use Rattle.std.specs.Prelude.{◌≡◌, ◌++◌, ◌∷◌, [], ℕ, List, length, IfOk, OnErr};
 ghost use Rattle.repo_name.specs.Naming as naming;
 ghost use Rattle.repo_name.specs.declared.names.Name.{Name};
 ghost use Rattle.repo_index.specs.declared.facts.Fact.{Fact};
 ghost use Rattle.repo_tree.specs.TreeText.{IsTreeText};
-ghost use Rattle.repo_tree.specs.declared.faults.TreeError.{TreeError};
 ghost use Rattle.repo_reach.specs.Walks.{TurnIs, IsSameWalk};
 ghost use Rattle.repo_prune.specs.Reading.{Walks, Awaits, WalksOn, TakesTree, HasTaken};
 ghost use Rattle.repo_prune.specs.declared.reading.Walked.{Walked};
@@ -17,7 +16,7 @@ use repo_index::{Fact, Lookup};
 use repo_name::{Name, Thing};
 use repo_reach::{Trees, Turn};
 use repo_session::{End, Fetched, blob_of};
-use repo_tree::{Node, TreeError, read_tree};
+use repo_tree::{Node, read_tree};
 use repo_wire::Say;
 use std::alloc::{AllocError, Global};
 
@@ -32,16 +31,6 @@ pub enum Walked {
     Done,
     /// The reply is a refusal, or of another sort than the request wants.
     Away,
-}
-
-/// Fails where there was no memory to read a tree: else its bytes are at fault.
-fn check_fault(error: TreeError) -> Result<(), AllocError>
-    ensures { OnOk result (error ≢ TreeError.Memory) }
-{
-    match error {
-        TreeError::Memory => Err(AllocError),
-        _ => Ok(()),
-    }
 }
 
 /// Ends, as a tree is bad.
@@ -112,7 +101,7 @@ fn take_bytes(
     match read_tree(alloc, bytes) {
         Ok(nodes) => add_tree(trees, lookup, name, nodes.as_slice()),
         Err(error) => {
-            check_fault(error)?;
+            error.check_fault()?;
             Ok(bad_tree(name))
         }
     }

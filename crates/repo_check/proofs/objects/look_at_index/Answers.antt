@@ -14,6 +14,6 @@ returns-in-Ok c =
     let x = c.in-Named.bytes.now in
     (with_bytes c.args.name x, is_answer c.args.name x c.args.say.now c.in-Named.ensures.0, (x, (refl, c.in-Named.ensures.1), c.in-Ok.ensures.ok))
 
-pub returns-in_ok-check_misread-in-Err : goal.returns-in_ok-check_misread-in-Err
-returns-in_ok-check_misread-in-Err c =
-    misread Kind.Index c.args.name c.in-Named.bytes.now c.args.say.now c.in-Named.ensures.0 c.in-Named.ensures.1 (λ r. c.in-Err.ensures.none c.in_ok-check_misread-in-Err.ensures r.0 r.1)
+pub returns-in_ok-check_fault-in-Err : goal.returns-in_ok-check_fault-in-Err
+returns-in_ok-check_fault-in-Err c =
+    misread Kind.Index c.args.name c.in-Named.bytes.now c.args.say.now c.in-Named.ensures.0 c.in-Named.ensures.1 (λ r. c.in-Err.ensures.none c.in_ok-check_fault-in-Err.ensures.fault r.0 r.1)

@@ -28,6 +28,6 @@ returns-in_ok-links-in-Ok c =
       },
     )
 
-pub returns-in_ok-check_misread-in-Err : goal.returns-in_ok-check_misread-in-Err
-returns-in_ok-check_misread-in-Err c =
-    tree_unread c.args.fact c.args.bytes.now (Say.Bytes c.args.bytes.now) refl c.requires.0 (λ nodes tree. c.in-Err.ensures.none c.in_ok-check_misread-in-Err.ensures nodes tree.reads)
+pub returns-in_ok-check_fault-in-Err : goal.returns-in_ok-check_fault-in-Err
+returns-in_ok-check_fault-in-Err c =
+    tree_unread c.args.fact c.args.bytes.now (Say.Bytes c.args.bytes.now) refl c.requires.0 (λ nodes tree. c.in-Err.ensures.none c.in_ok-check_fault-in-Err.ensures.fault nodes tree.reads)

@@ -9,4 +9,4 @@ returns-in-Ok-clause-on c = IfOk-weaker c.add_tree.result _ _ (λ walked on text
 
 pub returns-in_ok-check_fault-in-Err-clause-on : goal.returns-in_ok-check_fault-in-Err-clause-on
 returns-in_ok-check_fault-in-Err-clause-on c = λ texts fact a is named.
-    rw c.bad_tree.ensures (no_tree c.args.lookup.now texts c.args.trees.now fact c.args.name c.args.bytes.now a is named (c.in-Err.ensures.none c.in_ok-check_fault-in-Err.ensures))
+    rw c.bad_tree.ensures (no_tree c.args.lookup.now texts c.args.trees.now fact c.args.name c.args.bytes.now a is named (c.in-Err.ensures.none c.in_ok-check_fault-in-Err.ensures.fault))

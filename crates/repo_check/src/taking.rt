@@ -1,0 +1,247 @@
+//! What a survey makes of replies.
+
+ghost use Rattle.std.specs.Prelude.{◌≡◌, ◌≢◌, ℕ, List, Option, IfOk, OnErr};
+ghost use Rattle.repo_name.specs.declared.kinds.Kind.{Kind};
+ghost use Rattle.repo_name.specs.declared.names.Name.{Name};
+ghost use Rattle.repo_wire.specs.declared.messages.Ask.{Ask};
+ghost use Rattle.repo_wire.specs.declared.messages.Say.{Say};
+ghost use Rattle.repo_session.specs.Traces.{Trace};
+ghost use Rattle.repo_check.specs.Rounds.{IsShortTurn};
+ghost use Rattle.repo_index.specs.declared.facts.Fact.{Fact};
+ghost use Rattle.repo_check.specs.Walks.{walk_of};
+ghost use Rattle.repo_check.specs.declared.rounds.Turn.{Turn};
+ghost use Rattle.repo_check.specs.declared.surveys.Next.{Next};
+ghost use Rattle.repo_check.specs.Surveys.{Begins, HasTaken, Surveys, GoesAfter, GoesToTrees, HasBegun, IsShortNext, TakesSurvey, first_page, next_of, rounds_of};
+
+use crate::gathering::{lookup_of, roots_of};
+use crate::knowing::note_of;
+use crate::rounds::Turn;
+use crate::surveys::{Next, Survey};
+use crate::visits::{take_index, take_pack, take_snapshot};
+use crate::walks::Walk;
+use repo_index::Fact;
+use repo_name::{Kind, Name};
+use repo_session::range_ask;
+use repo_wire::{Ask, Say};
+use std::alloc::AllocError;
+
+/// The request for the next tree; or all was received.
+fn next_of(fact: Option<Fact>) -> Next
+    ensures next { result ≡ next_of fact }
+    ensures short { IsShortNext result }
+{
+    match fact {
+        Some(fact) => Next::Ask(range_ask(fact)),
+        None => Next::Over,
+    }
+}
+
+impl Survey {
+    /// What comes after a turn of the snapshots. It takes no memory.
+    fn after_snapshots(&self, turn: Turn) -> Next
+        requires { IsShortTurn turn }
+        ensures after { GoesAfter turn (first_page (rounds_of self.now).indexes) result }
+        ensures more { result ≢ Next.Over }
+        ensures short { IsShortNext result }
+    {
+        match turn {
+            Turn::Ask(ask) => Next::Ask(ask),
+            Turn::All => Next::Ask(self.indexes.roll.page_ask()),
+            Turn::Senseless => Next::Senseless,
+            Turn::Version => Next::Version,
+            Turn::Away => Next::Away,
+        }
+    }
+
+    /// What comes after a turn of the indexes. It takes no memory.
+    fn after_indexes(&self, turn: Turn) -> Next
+        requires { IsShortTurn turn }
+        ensures after { GoesAfter turn (first_page (rounds_of self.now).packs) result }
+        ensures more { result ≢ Next.Over }
+        ensures short { IsShortNext result }
+    {
+        match turn {
+            Turn::Ask(ask) => Next::Ask(ask),
+            Turn::All => Next::Ask(self.packs.roll.page_ask()),
+            Turn::Senseless => Next::Senseless,
+            Turn::Version => Next::Version,
+            Turn::Away => Next::Away,
+        }
+    }
+
+    /// Takes the reply to the request for a page of snapshots. It fails for memory alone, and then nothing changed.
+    fn take_snapshot_page(&mut self, say: &Say) -> Result<Next, AllocError>
+        ensures takes { IfOk result (λ next. (after : Option Name) → TakesSurvey (rounds_of self.old) (walk_of self.old.walk) (Ask.List Kind.Snapshot after) say.now next (rounds_of self.new) (walk_of self.new.walk)) }
+        ensures more { IfOk result (λ next. next ≢ Next.Over) }
+        ensures short { IfOk result IsShortNext }
+        ensures same { OnErr result (rounds_of self.new ≡ rounds_of self.old) }
+        ensures walk { self.new.walk ≡ self.old.walk }
+    {
+        let turn = self.snapshots.take_page(say)?;
+        Ok(self.after_snapshots(turn))
+    }
+
+    /// Takes the reply to the request for a snapshot. It fails for memory alone, and then nothing changed.
+    fn take_snapshot(&mut self, name: Name, say: &Say) -> Result<Next, AllocError>
+        ensures takes { IfOk result (λ next. TakesSurvey (rounds_of self.old) (walk_of self.old.walk) (Ask.Get Kind.Snapshot name) say.now next (rounds_of self.new) (walk_of self.new.walk)) }
+        ensures more { IfOk result (λ next. next ≢ Next.Over) }
+        ensures short { IfOk result IsShortNext }
+        ensures same { OnErr result (rounds_of self.new ≡ rounds_of self.old) }
+        ensures walk { self.new.walk ≡ self.old.walk }
+    {
+        let turn = take_snapshot(self.alloc, &mut self.snapshots, name, say)?;
+        Ok(self.after_snapshots(turn))
+    }
+
+    /// Takes the reply to the request for a page of indexes. It fails for memory alone, and then nothing changed.
+    fn take_index_page(&mut self, say: &Say) -> Result<Next, AllocError>
+        ensures takes { IfOk result (λ next. (after : Option Name) → TakesSurvey (rounds_of self.old) (walk_of self.old.walk) (Ask.List Kind.Index after) say.now next (rounds_of self.new) (walk_of self.new.walk)) }
+        ensures more { IfOk result (λ next. next ≢ Next.Over) }
+        ensures short { IfOk result IsShortNext }
+        ensures same { OnErr result (rounds_of self.new ≡ rounds_of self.old) }
+        ensures walk { self.new.walk ≡ self.old.walk }
+    {
+        let turn = self.indexes.take_page(say)?;
+        Ok(self.after_indexes(turn))
+    }
+
+    /// Takes the reply to the request for an index. It fails for memory alone, and then nothing changed.
+    fn take_index(&mut self, name: Name, say: &Say) -> Result<Next, AllocError>
+        ensures takes { IfOk result (λ next. TakesSurvey (rounds_of self.old) (walk_of self.old.walk) (Ask.Get Kind.Index name) say.now next (rounds_of self.new) (walk_of self.new.walk)) }
+        ensures more { IfOk result (λ next. next ≢ Next.Over) }
+        ensures short { IfOk result IsShortNext }
+        ensures same { OnErr result (rounds_of self.new ≡ rounds_of self.old) }
+        ensures walk { self.new.walk ≡ self.old.walk }
+    {
+        let turn = take_index(self.alloc, &mut self.indexes, name, say)?;
+        Ok(self.after_indexes(turn))
+    }
+
+    /// A walk over the trees that hasn't gone on. It fails for memory alone.
+    fn begun(&self) -> Result<Walk, AllocError>
+        ensures { IfOk result (λ walk. HasBegun (rounds_of self.now) (walk_of walk)) }
+    {
+        let lookup = lookup_of(self.alloc, self.indexes.notes.as_slice())?;
+        let roots = roots_of(self.alloc, self.snapshots.notes.as_slice())?;
+        Walk::new(self.alloc, lookup, roots)
+    }
+
+    /// Begins the walk over the trees. It fails for memory alone, and then nothing changed.
+    fn begin(&mut self) -> Result<Next, AllocError>
+        ensures begins { IfOk result (Begins (rounds_of self.old) (walk_of self.new.walk)) }
+        ensures short { IfOk result IsShortNext }
+        ensures rounds { rounds_of self.new ≡ rounds_of self.old }
+    {
+        let mut walk = self.begun()?;
+        let next = walk.go_on()?;
+        self.walk = walk;
+        Ok(next_of(next))
+    }
+
+    /// What comes after a turn of the packs. It fails for memory alone, after the last turn, and then nothing changed.
+    fn after_packs(&mut self, turn: Turn) -> Result<Next, AllocError>
+        requires { IsShortTurn turn }
+        ensures after { IfOk result (GoesToTrees (rounds_of self.old) (walk_of self.new.walk) turn) }
+        ensures over { IfOk result (λ next. next ≡ Next.Over → turn ≡ Turn.All) }
+        ensures short { IfOk result IsShortNext }
+        ensures rounds { rounds_of self.new ≡ rounds_of self.old }
+        ensures err { OnErr result (turn ≡ Turn.All) }
+    {
+        match turn {
+            Turn::Ask(ask) => Ok(Next::Ask(ask)),
+            Turn::All => self.begin(),
+            Turn::Senseless => Ok(Next::Senseless),
+            Turn::Version => Ok(Next::Version),
+            Turn::Away => Ok(Next::Away),
+        }
+    }
+
+    /// Takes the reply to the request for a page of packs. It fails for memory alone, and then nothing changed.
+    fn take_pack_page(&mut self, say: &Say) -> Result<Next, AllocError>
+        ensures takes { IfOk result (λ next. (after : Option Name) → TakesSurvey (rounds_of self.old) (walk_of self.old.walk) (Ask.List Kind.Pack after) say.now next (rounds_of self.new) (walk_of self.new.walk)) }
+        ensures over { IfOk result (λ next. next ≡ Next.Over → (after : Option Name) → HasTaken (rounds_of self.old) (walk_of self.old.walk) (Ask.List Kind.Pack after) (rounds_of self.new) (walk_of self.new.walk)) }
+        ensures short { IfOk result IsShortNext }
+        ensures same { OnErr result ((after : Option Name) (es : Trace) → Surveys (rounds_of self.old) (walk_of self.old.walk) (Ask.List Kind.Pack after) es → rounds_of self.new ≡ rounds_of self.old) }
+    {
+        let turn = self.packs.take_page(say)?;
+        self.after_packs(turn)
+    }
+
+    /// Takes the reply to the request for a pack. It fails for memory alone, and then nothing changed.
+    fn take_pack(&mut self, name: Name, say: &Say) -> Result<Next, AllocError>
+        ensures takes { IfOk result (λ next. TakesSurvey (rounds_of self.old) (walk_of self.old.walk) (Ask.Get Kind.Pack name) say.now next (rounds_of self.new) (walk_of self.new.walk)) }
+        ensures over { IfOk result (λ next. next ≡ Next.Over → HasTaken (rounds_of self.old) (walk_of self.old.walk) (Ask.Get Kind.Pack name) (rounds_of self.new) (walk_of self.new.walk)) }
+        ensures short { IfOk result IsShortNext }
+        ensures same { OnErr result (rounds_of self.new ≡ rounds_of self.old) }
+    {
+        let turn = take_pack(self.alloc, &mut self.packs, name, say)?;
+        match self.after_packs(turn) {
+            Ok(next) => Ok(next),
+            Err(error) => {
+                self.packs.unnote();
+                Err(error)
+            }
+        }
+    }
+
+    /// Takes the reply to the request for a tree. It fails for memory alone, and then nothing changed.
+    fn take_tree(&mut self, say: &Say) -> Result<Next, AllocError>
+        ensures takes { IfOk result (λ next. (pack : Name) (offset len : ℕ) → TakesSurvey (rounds_of self.old) (walk_of self.old.walk) (Ask.Range pack offset len) say.now next (rounds_of self.new) (walk_of self.new.walk)) }
+        ensures over { IfOk result (λ next. next ≡ Next.Over → (pack : Name) (offset len : ℕ) → HasTaken (rounds_of self.old) (walk_of self.old.walk) (Ask.Range pack offset len) (rounds_of self.new) (walk_of self.new.walk)) }
+        ensures short { IfOk result IsShortNext }
+        ensures same { OnErr result ((pack : Name) (offset len : ℕ) (es : Trace) → Surveys (rounds_of self.old) (walk_of self.old.walk) (Ask.Range pack offset len) es → walk_of self.new.walk ≡ walk_of self.old.walk) }
+        ensures rounds { rounds_of self.new ≡ rounds_of self.old }
+    {
+        let Some(fact) = self.walk.asked() else {
+            return Ok(Next::Away);
+        };
+        let Some(note) = note_of(self.alloc, &self.walk.known.lookup, fact, say)? else {
+            return Ok(Next::Away);
+        };
+        let next = self.walk.take(fact.name, note)?;
+        Ok(next_of(next))
+    }
+
+    /// Takes the reply to the request for a page of a kind. It fails for memory alone, and then what was known is known.
+    fn take_page(&mut self, kind: Kind, say: &Say) -> Result<Next, AllocError>
+        ensures takes { IfOk result (λ next. (after : Option Name) → TakesSurvey (rounds_of self.old) (walk_of self.old.walk) (Ask.List kind after) say.now next (rounds_of self.new) (walk_of self.new.walk)) }
+        ensures over { IfOk result (λ next. next ≡ Next.Over → (after : Option Name) → HasTaken (rounds_of self.old) (walk_of self.old.walk) (Ask.List kind after) (rounds_of self.new) (walk_of self.new.walk)) }
+        ensures short { IfOk result IsShortNext }
+        ensures same { OnErr result ((after : Option Name) (es : Trace) → Surveys (rounds_of self.old) (walk_of self.old.walk) (Ask.List kind after) es → rounds_of self.new ≡ rounds_of self.old) }
+    {
+        match kind {
+            Kind::Pack => self.take_pack_page(say),
+            Kind::Index => self.take_index_page(say),
+            Kind::Snapshot => self.take_snapshot_page(say),
+        }
+    }
+
+    /// Takes the reply to the request for an object. It fails for memory alone, and then what was known is known.
+    fn take_object(&mut self, kind: Kind, name: Name, say: &Say) -> Result<Next, AllocError>
+        ensures takes { IfOk result (λ next. TakesSurvey (rounds_of self.old) (walk_of self.old.walk) (Ask.Get kind name) say.now next (rounds_of self.new) (walk_of self.new.walk)) }
+        ensures over { IfOk result (λ next. next ≡ Next.Over → HasTaken (rounds_of self.old) (walk_of self.old.walk) (Ask.Get kind name) (rounds_of self.new) (walk_of self.new.walk)) }
+        ensures short { IfOk result IsShortNext }
+        ensures same { OnErr result (rounds_of self.new ≡ rounds_of self.old) }
+    {
+        match kind {
+            Kind::Pack => self.take_pack(name, say),
+            Kind::Index => self.take_index(name, say),
+            Kind::Snapshot => self.take_snapshot(name, say),
+        }
+    }
+
+    /// Takes the reply to a request of the survey. It fails for memory alone, and then what was known is known.
+    pub fn take(&mut self, ask: &Ask, say: &Say) -> Result<Next, AllocError>
+        ensures takes { IfOk result (λ next. TakesSurvey (rounds_of self.old) (walk_of self.old.walk) ask.now say.now next (rounds_of self.new) (walk_of self.new.walk)) }
+        ensures over { IfOk result (λ next. next ≡ Next.Over → HasTaken (rounds_of self.old) (walk_of self.old.walk) ask.now (rounds_of self.new) (walk_of self.new.walk)) }
+        ensures short { IfOk result IsShortNext }
+        ensures knows { OnErr result ((es : Trace) → Surveys (rounds_of self.old) (walk_of self.old.walk) ask.now es → Surveys (rounds_of self.new) (walk_of self.new.walk) ask.now es) }
+    {
+        match ask {
+            Ask::List { kind, .. } => self.take_page(*kind, say),
+            Ask::Get { kind, name } => self.take_object(*kind, *name, say),
+            Ask::Range { .. } => self.take_tree(say),
+            _ => Ok(Next::Away),
+        }
+    }
+}
