@@ -1,5 +1,5 @@
-//! Tests of the formats: names, rows, chunks, packs, indexes, trees, small texts, frames and ledgers, and of walks over trees,
-//! against values from outside.
+//! Tests of SHA-256 in lanes and of the formats: names, rows, chunks, packs, indexes, trees, small texts, frames and
+//! ledgers, and of walks over trees, against values from outside.
 //!
 //! They stand in a crate of their own since the proof of a crate with tests is made twice, with them and without. A test is a
 //! list of steps with no branch between them: each counts in a [`trials::Trial`] what is not as wanted.
@@ -33,6 +33,8 @@ mod replies;
 mod requests;
 #[cfg(test)]
 mod rows;
+#[cfg(test)]
+mod sha;
 #[cfg(test)]
 mod snapshots;
 #[cfg(test)]

@@ -1,0 +1,7 @@
+mod Majority
+mod LaneLemmas
+mod SumLemmas
+mod MessageLemmas
+mod BatchLemmas
+mod UnderWay
+pub mod PieceLemmas
