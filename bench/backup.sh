@@ -1,7 +1,8 @@
 #!/usr/bin/env bash
 # Times vault by real processes over the loopback: a backup, the same backup again, and a restore of a large file of
-# random bytes and of many small files; and a prune after half of the small files were forgotten; with the seconds and the
-# greatest resident set of client and server; and restic on the same files, in the same run, where it is installed. restic
+# random bytes and of many small files; a check of all that, and a prune after half of the small files were forgotten; with
+# the seconds and the greatest resident set of client and server; and restic on the same files, in the same run, where it is
+# installed. restic
 # encrypts what it stores, and vault doesn't; restic's compression is off. Its second backup is run twice: as it is (files
 # whose times haven't changed aren't read), and with all files read again, as vault does.
 #
@@ -88,6 +89,10 @@ for folder in large small; do
         rm -r "$work/again"
     fi
 done
+
+# A check reads every pack.
+with_server "check" check "$address"
+! command -v restic >/dev/null || with_restic "check" check --read-data
 
 # Half of the small files stay, in a snapshot of their own; the others are forgotten.
 find "$work/small" -type f -name '*[02468]' -delete

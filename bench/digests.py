@@ -1,7 +1,7 @@
 #!/usr/bin/env python3
 """Prints what `bench` has to print for random bytes, a backup and a restore of them, and for snapshots and those of them that a
-policy keeps, by another program's SHA-256 and JSON, and for a prune by the reference of the cases: a check on the
-crate's file stdout. Usage: bench/digests.py"""
+policy keeps, by another program's SHA-256 and JSON, and for a prune and a check by the reference of the cases: a check on
+the crate's file stdout. Usage: bench/digests.py"""
 import hashlib
 import json
 import sys
@@ -10,6 +10,7 @@ from pathlib import Path
 sys.dont_write_bytecode = True
 sys.path.insert(0, str(Path(__file__).resolve().parents[1] / "scripts/cases"))
 
+from checks import Check
 from jobs import Backup, Client, Forget
 from prunes import Prune
 from store import Store
@@ -86,7 +87,8 @@ def main():
     print(f"rows {SIZE} {snapshots[-1][2].hex()}")
     print(f"keep {SIZE} {name(kept(snapshots))}")
     print(f"forget {SIZE} {half_forgotten(SIZE)[1].hex()}")
-    print(f"prune {SIZE} {name(finished(half_forgotten(SIZE)[0], Prune()).text.encode())}")
+    for word, core in (("prune", Prune()), ("check", Check())):
+        print(f"{word} {SIZE} {name(finished(half_forgotten(SIZE)[0], core).text.encode())}")
 
 
 main()

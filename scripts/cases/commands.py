@@ -2,6 +2,7 @@
 
 from dataclasses import dataclass, field
 
+from checks import Check
 from frames import REPLIES, REQUESTS, Malformed, Message, Stream
 from jobs import Backup, Client, Forget, List, Restore, StartRefused
 from prunes import Prune
@@ -143,6 +144,14 @@ def restore(talk, name):
 
 def prune(talk):
     talk.show(job(talk, Prune(), "vault").text + "\n")
+
+
+def check(talk):
+    outcome = job(talk, Check(), "vault")
+    if not outcome.faults:
+        return talk.show(outcome.text + "\n")
+    talk.show("".join(f"fault {thing} {name.hex()} {what}\n" for thing, name, what in outcome.faults))
+    talk.run.status = 3
 
 
 def forget(talk, names, policy=None):

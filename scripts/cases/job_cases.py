@@ -37,8 +37,8 @@ def restore_of(script, tree, *replies, **shape):
     script.restore(name_of(snapshot_of(tree)), says(*replies), **shape)
 
 
-def restored_trees(script):
-    """Trees that are read, and some that are none."""
+def trees():
+    """Trees that are read, and some that are none: what each is."""
     content = file_node("x", 3, [ABC])
     trees = [("with keys more", dump({"nodes": [content | {"mode": 7}], "more": 1})), ("without nodes", b"{}"),
              ("whose nodes are none", b'{"nodes":0}'), ("whose node is none", b'{"nodes":[1]}')]
@@ -58,15 +58,19 @@ def restored_trees(script):
               ("whose names fall", tree_text([content, file_node("b", 3, [ABC])])),
               ("with a directory of no name", tree_text([{"name": "d", "type": "dir", "subtree": "0"}])),
               ("with a directory without a tree", tree_text([{"name": "d", "type": "dir"}]))]
-    for text, tree in trees + list(no_texts()):
+    return trees + list(no_texts())
+
+
+def restored_trees(script):
+    for text, tree in trees():
         script.heading("restore: a tree " + text)
         restore_of(script, tree, *indexed(tree, tree_first(tree, b"abc")), ("bytes", tree), ("bytes", b"abc"), ("done",))
 
 
-def indexes():
-    """Indexes, and what each is."""
+def indexes(pack_name=PACK):
+    """Indexes of a pack of the empty tree, and what each is."""
     item = {"id": name_of(TREE).hex(), "length": len(TREE), "offset": 0, "type": "tree"}
-    pack = {"blobs": [item], "id": PACK.hex()}
+    pack = {"blobs": [item], "id": pack_name.hex()}
     yield "with keys more", dump({"packs": [pack | {"a": 1}], "b": 2})
     yield "with names that it supersedes", dump({"packs": [pack], "supersedes": [ABC.hex()]})
     yield "with an item without facts", dump({"packs": [{"blobs": [], "id": ABC.hex()}, pack]})
@@ -84,9 +88,9 @@ def indexes():
                          ("with an offset of text", {"offset": "0"}), ("with a length that isn't whole", {"length": 12.0}),
                          ("of another type", {"type": "blob"}), ("whose type is none", {"type": None}),
                          ("whose name has 65 digits", {"id": "0" * 65})):
-        yield "with a blob " + text, dump({"packs": [{"blobs": [item | change], "id": PACK.hex()}]})
+        yield "with a blob " + text, dump({"packs": [pack | {"blobs": [item | change]}]})
     for key in item:
-        yield f"with a blob without {key}", dump({"packs": [{"blobs": [{k: item[k] for k in item if k != key}], "id": PACK.hex()}]})
+        yield f"with a blob without {key}", dump({"packs": [pack | {"blobs": [{k: item[k] for k in item if k != key}]}]})
     yield from no_texts()
 
 

@@ -1,9 +1,11 @@
 """Values that the rules spell out: the reference has to have them before it writes anything."""
 
+from checks import Check
 from chunks import chunks, remainder
 from commands import INSTANCE
 from frames import Message
 from jobs import Backup, Client, Forget, Restore, StartRefused, kept
+from prunes import Prune
 from store import Ledger, Store, name_of
 from texts import (Unreadable, config_text, file_node, index_text, pack_of, read_index, read_snapshot, read_tree, snapshot_text,
                    tree_text)
@@ -104,6 +106,19 @@ def check_forgets():
     assert list(store.objects["snapshot"]) == [names[1]]
 
 
+def check_checks():
+    store = new_store()
+    names = [finish(store, Client(Backup([(["x"], b"abc")] + more), INSTANCE, "a", time)).name
+             for time, more in ((1, [(["y"], b"de")]), (2, []))]
+    results = [finish(store, Client(job, INSTANCE, "play", 0)).text for job in (Forget([names[0]]), Prune(), Check(), Prune())]
+    assert results == ["forgotten 1", "pruned 1 3", "clean 1 1 2 2", "pruned 0 0"]
+    store = new_store()
+    store.objects["index"][ABC] = store.objects["pack"][name_of(b"")] = b"abc"
+    outcome = finish(store, Client(Check(), INSTANCE, "play", 0))
+    assert outcome.text == "faults 2"
+    assert outcome.faults == [("index", ABC, "unreadable"), ("pack", name_of(b""), "name")]
+
+
 def check_tokens():
     ledger = Ledger()
     assert [ledger.ticket() for _ in range(1_025)] == list(range(1, 1_026))
@@ -111,5 +126,5 @@ def check_tokens():
 
 
 def check():
-    for part in (check_chunks, check_frames, check_texts, check_jobs, check_forgets, check_tokens):
+    for part in (check_chunks, check_frames, check_texts, check_jobs, check_forgets, check_checks, check_tokens):
         part()

@@ -136,6 +136,11 @@ class Lines:
         self.line("prune")
         self.ran(commands.run(commands.prune, server))
 
+    def check(self, *replies, **shape):
+        server = self.server(*replies, **shape)
+        self.line("check")
+        self.ran(commands.run(commands.check, server))
+
     def forget(self, names, *replies, **shape):
         server = self.server(*replies, **shape)
         self.line("forget", *[name.hex() for name in names])

@@ -36,6 +36,11 @@ class Objects:
     def snapshot(self, root, host="a", time=5):
         return self.add("snapshot", snapshot_text(host, time, 1, name_of(root)))
 
+    def with_snapshot(self, root):
+        """The same with a snapshot of a tree."""
+        self.snapshot(root)
+        return self
+
     def packed(self, *blobs):
         """A pack and its index."""
         self.index(self.pack(*blobs))
@@ -141,7 +146,7 @@ def shapes():
     yield "a pack of what is needed and what isn't", mixed()
     objects = mixed()
     objects.pack(("content", b"lost"))
-    yield "a pack in no index goes", objects
+    yield "a pack in no index", objects
     objects = Objects().packed(("content", ABC), ("tree", ROOT)).packed(("content", ABC), ("content", DE))
     objects.snapshot(ROOT)
     yield "two copies of a blob, one in a pack of its own kind", objects
@@ -195,14 +200,17 @@ def by_hand(script):
         pruned(script)
 
 
-def broken(script):
-    """What snapshots need and isn't there, or is bad: the store stays as it is."""
-    deep = [tree_text([file_node("x", 0, [])])]
-    for _ in range(100):
-        deep.append(tree_text([dir_node("d", name_of(deep[-1]))]))
-    leaf = [tree_text([])]
-    for _ in range(100):
-        leaf.append(tree_text([dir_node("d", name_of(leaf[-1]))]))
+def nested(tree, depth=100):
+    """A tree, and as many directories above it, the root last."""
+    trees = [tree]
+    for _ in range(depth):
+        trees.append(tree_text([dir_node("d", name_of(trees[-1]))]))
+    return trees
+
+
+def broken_stores():
+    """Stores in which something is missing or bad that a snapshot needs; or just isn't."""
+    deep, leaf = nested(tree_text([file_node("x", 0, [])])), nested(tree_text([]))
     above = tree_text([dir_node("d", name_of(b"gone")), file_node("x", 3, [name_of(ABC)])])
     for text, root, blobs in (
             ("a root in no index", ROOT, [("content", ABC)]), ("content in no index", ROOT, [("tree", ROOT)]),
@@ -212,9 +220,15 @@ def broken(script):
             ("directories nested 100 deep", leaf[-1], [("tree", tree) for tree in leaf] + [("content", DE)]),
             ("a file of another size than its blobs'", tree_text([file_node("x", 4, [name_of(ABC)])]),
              [("tree", tree_text([file_node("x", 4, [name_of(ABC)])])), ("content", ABC), ("content", DE)])):
-        script.heading("a prune: " + text)
         objects = Objects().packed(*blobs).packed(("content", b"not needed"))
         objects.snapshot(root)
+        yield text, objects
+
+
+def broken(script):
+    """What snapshots need and isn't there, or is bad: the store stays as it is."""
+    for text, objects in broken_stores():
+        script.heading("a prune: " + text)
         laid(script, objects)
         script.finish(script.start_prune())
         script.report()

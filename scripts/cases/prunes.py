@@ -1,4 +1,4 @@
-"""The client of a prune, and what it and a check share: reading all trees that snapshots reach, each once."""
+"""The client of a prune, and what it and a check share: where blobs lie, and which of them each pack has."""
 
 from jobs import DEEPEST, INDEX_BLOBS, PACK_BLOBS, End, Outcome, asked, got, listed
 from store import name_of

@@ -14,18 +14,31 @@ from pathlib import Path
 
 sys.dont_write_bytecode = True
 
+from checks import Check
 from command_cases import NO_NAMES, OPENED, row, says
 from job_cases import FILE_TREE, indexed, restore_of, tree_first
-from prune_cases import mixed, replies_to
+from prune_cases import Objects, mixed, replies_to
 from prunes import Prune
 from script import Script
 from store import name_of
-from texts import snapshot_text, tree_text
+from texts import dir_node, file_node, snapshot_text, tree_text
 
 PROGRAM = Path(__file__).resolve().parents[2] / "crates/cases/out/cases"
 CAUSES = ("out of memory", "refused 11", "write failed", "stopped")
 # The small library that refuses a request.
 REFUSER = Path(__file__).resolve().parents[1] / "refuse.c"
+
+
+def at_fault():
+    """A store in which a thing of each kind is at fault, some by what they hold, some by others."""
+    tree = tree_text([dir_node("d", name_of(b"gone")), file_node("x", 4, [name_of(b"abc")]), file_node("y", 2, [name_of(b"de")])])
+    objects = Objects().packed(("tree", tree), ("content", b"abc")).with_snapshot(tree)
+    objects.index((name_of(b"{}"), [("tree", name_of(b"here"), 0, 4)]))
+    objects.snapshot(b"here")
+    for kind in ("pack", "index", "snapshot"):
+        objects.add(kind, b"{}")
+        objects.all.append((kind, name_of(b"another name"), b""))
+    return objects
 
 
 def chosen():
@@ -54,12 +67,16 @@ def chosen():
     script.keep(1, 0, says(*OPENED, page, *[("bytes", row) for row in rows], ("done",), ("done",)))
     script.heading("prune")
     script.prune(says(*replies_to(Prune(), mixed())))
+    script.heading("check, of a store that is well")
+    script.check(says(*replies_to(Check(), mixed())))
+    script.heading("check, with faults")
+    script.check(says(*replies_to(Check(), at_fault())))
     script.heading("frames")
     script.frames(["0000001901010101010101010101010101010101010000000000000001"] * 2)
     script.heading("a store and its clients")
     script.fresh()
     for client in (script.start_backup([(["x"], b"abc")]), script.start_list(), script.start_backup([]),
-                   script.start_forget(name_of(b"")), script.start_prune()):
+                   script.start_forget(name_of(b"")), script.start_prune(), script.start_check()):
         script.steps(client)
     script.report()
     return script

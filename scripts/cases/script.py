@@ -1,11 +1,12 @@
 """A whole script: beside commands and words one store and its clients."""
 
 import commands
+from checks import Check
 from frames import KINDS, Message
 from jobs import Backup, Client, Forget, List, Restore, StartRefused
 from lines import Lines, digits, frames_of, shown
 from prunes import Prune
-from store import Refused, Store
+from store import Refused, Store, name_of
 from texts import config_text
 
 
@@ -121,6 +122,10 @@ class Script(Lines):
         self.line("start prune")
         return self.seat(Prune(), "play", 0)
 
+    def start_check(self):
+        self.line("start check")
+        return self.seat(Check(), "play", 0)
+
     def reply_to(self, request):
         return Message(request.instance, request.sequence, self.store.answer(request.what))
 
@@ -170,6 +175,30 @@ class Script(Lines):
         self.parts(given)
         self.result(place)
 
+    def check_alone(self):
+        """How a check ends that isn't one of the clients: its words, and what is at fault."""
+        client = Client(Check(), bytes(16), "play", 0)
+        while client.pending:
+            client.take(self.reply_to(client.pending))
+        found = [f" {thing} {what}" for thing, _, what in client.outcome.faults or []]
+        return client.outcome.text + "".join(found)
+
+    def spoil(self, kind, name, under):
+        """Each byte of an object is turned, one after another, and then the object is cut at each length; it lies under
+        its name (`same`), or under that of its bytes (`own`). After each a check is made."""
+        self.line("spoil", kind, name.hex(), under)
+        objects = self.store.objects[kind]
+        whole, ends = objects.pop(name), []
+        for data in turned(whole) + [whole[:length] for length in range(len(whole))]:
+            place = name if under == "same" else name_of(data)
+            objects[place] = data
+            ends.append(self.check_alone())
+            objects.pop(place)
+        objects[name] = whole
+        for end in sorted(set(ends), key=ends.index):
+            self.prints("ended", ends.count(end), end)
+        return ends
+
     def late(self, place):
         self.line("late", place)
         say = self.reply_to(self.seats[place].last).what
@@ -207,6 +236,11 @@ class Script(Lines):
         live = len(self.store.ledger.live)
         self.prints("store", f"packs {packs} indexes {indexes} snapshots {snapshots} live {live}")
         self.prints("failures", self.store.failures)
+
+
+def turned(data):
+    """Bytes, of which one has another lowest bit: the first, the second, and so on."""
+    return [data[:at] + bytes([data[at] ^ 1]) + data[at + 1:] for at in range(len(data))]
 
 
 class Seat:

@@ -64,6 +64,7 @@ def claps(script):
             ("vault locks x y", "error: unexpected argument 'y' found"),
             ("vault snapshots x y", "error: unexpected argument 'y' found"),
             ("vault prune x y", "error: unexpected argument 'y' found"),
+            ("vault check x y", "error: unexpected argument 'y' found"),
             ("vault unlock x --all", "error: unexpected argument '--all' found")):
         script.heading("words that clap refuses")
         script.clap(words, 2, faults=fault)
@@ -76,7 +77,7 @@ def unreached(script):
     """Addresses that are none: the text that the socket's call refuses."""
     for words in ("locks nowhere", "snapshots nowhere", "refresh nowhere 1", "refresh nowhere 18446744073709551615",
                   "unlock nowhere", "unlock nowhere --remove-all", "backup nowhere " + "h" * 255 + " p", "backup nowhere h p",
-                  "restore nowhere " + A.hex() + " d", "prune nowhere", "forget nowhere", "forget nowhere --keep-last 1", "forget nowhere --keep-daily 4294967295",
+                  "restore nowhere " + A.hex() + " d", "prune nowhere", "check nowhere", "forget nowhere", "forget nowhere --keep-last 1", "forget nowhere --keep-daily 4294967295",
                   "forget nowhere " + A.hex() + " " + A.hex(), f"forget nowhere {A.hex()} --keep-last 0 {E.hex()} --keep-daily 0", "locks 127.0.0.1", "locks 127.0.0.1:x", "locks 127.0.0.1:0", "locks 127.0.0.1:65536"):
         script.heading("an address that can't be connected to")
         script.vault("vault " + words)

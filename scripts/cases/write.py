@@ -9,6 +9,7 @@ from pathlib import Path
 
 sys.dont_write_bytecode = True
 
+import check_cases
 import command_cases
 import damage_cases
 import folder_cases
@@ -24,7 +25,7 @@ from script import Script
 CRATES = Path(__file__).resolve().parents[2] / "crates"
 PARTS = [command_cases.locks, command_cases.refresh, command_cases.unlock, command_cases.lists, job_cases.restores,
          job_cases.backups, *word_cases.ALL, *world_cases.ALL, *damage_cases.ALL, *folder_cases.ALL, *forget_cases.ALL,
-         *prune_cases.ALL]
+         *prune_cases.ALL, *check_cases.ALL]
 
 
 def files():

@@ -6,7 +6,7 @@ use anyhow::{Result, bail};
 use backups::{backed_up, restored};
 use chunk::{chunked, random_bytes};
 use keeping::{kept, last_row};
-use pruning::{forgotten, pruned};
+use pruning::{checked, forgotten, pruned};
 use repo_name::{BlobKind, Name, name_of};
 use repo_pack::{PackError, PackView, PackWriter};
 use std::alloc::{AllocError, Global};
@@ -52,6 +52,8 @@ enum Kernel {
     Forget,
     /// The same, and a prune of their store.
     Prune,
+    /// The same as before the prune, and a check of their store.
+    Check,
 }
 
 /// So many bytes, with no long run of equal ones.
@@ -102,6 +104,7 @@ fn digest_of(alloc: Global, kernel: Kernel, size: usize) -> Result<Name> {
         Kernel::Keep => kept(alloc, size),
         Kernel::Forget => forgotten(alloc, size),
         Kernel::Prune => pruned(alloc, size),
+        Kernel::Check => checked(alloc, size),
     }
 }
 
@@ -119,6 +122,7 @@ fn run(rt: &HostRuntime, kernel: Kernel, size: usize) -> Result<()> {
         Kernel::Keep => "keep",
         Kernel::Forget => "forget",
         Kernel::Prune => "prune",
+        Kernel::Check => "check",
     };
     println!(rt; "{word} {size} {digest}")?;
     Ok(())
@@ -138,7 +142,8 @@ fn main(rt: HostRuntime) -> Result<()> {
             run(&rt, Kernel::Rows, TINY)?;
             run(&rt, Kernel::Keep, TINY)?;
             run(&rt, Kernel::Forget, TINY)?;
-            run(&rt, Kernel::Prune, TINY)
+            run(&rt, Kernel::Prune, TINY)?;
+            run(&rt, Kernel::Check, TINY)
         }
         [_, kernel, size] => {
             let size: usize = size.as_str().parse()?;
@@ -154,6 +159,7 @@ fn main(rt: HostRuntime) -> Result<()> {
                 "keep" => run(&rt, Kernel::Keep, size),
                 "forget" => run(&rt, Kernel::Forget, size),
                 "prune" => run(&rt, Kernel::Prune, size),
+                "check" => run(&rt, Kernel::Check, size),
                 _ => bail!("no such kernel"),
             }
         }

@@ -1,11 +1,12 @@
-//! A store of small files in memory, of which half are forgotten, and a prune of it.
+//! A store of small files in memory, of which half are forgotten, and a prune or a check of it.
 
 use crate::backups::{finish, shelf_with, who};
 use anyhow::{Result, bail};
 use repo_backup::Backup;
+use repo_check::Check;
 use repo_name::{Bytes, Name, Text, name_of};
 use repo_prune::{Choice, Forget, Prune};
-use repo_session::{Client, Outcome};
+use repo_session::{Client, Outcome, result_text};
 use repo_store::MemShelf;
 use repo_tree::{Entry, EntryKind, Path};
 use std::alloc::{AllocError, Global};
@@ -15,6 +16,21 @@ const FILE: usize = 64;
 
 /// How many packs the first backup makes, about.
 const PACKS: usize = 50;
+
+/// Which files are backed up.
+#[derive(Clone, Copy)]
+enum Files {
+    All,
+    EveryOther,
+}
+
+/// Whether the file of a number is among these.
+fn is_among(files: Files, number: usize) -> bool {
+    match files {
+        Files::All => true,
+        Files::EveryOther => number % 2 == 0,
+    }
+}
 
 /// A file that holds its number in digits.
 fn file(alloc: Global, number: usize) -> Result<Entry, AllocError> {
@@ -27,11 +43,13 @@ fn file(alloc: Global, number: usize) -> Result<Entry, AllocError> {
     })
 }
 
-/// Backs up the files of these numbers: the snapshot's name.
-fn back_up(alloc: Global, shelf: &mut MemShelf, count: usize, step: usize) -> Result<Name> {
+/// Backs up these of so many files: the snapshot's name.
+fn back_up(alloc: Global, shelf: &mut MemShelf, count: usize, files: Files) -> Result<Name> {
     let mut entries = Vec::new(alloc);
-    for number in (0..count).step_by(step) {
-        entries.push(file(alloc, number)?)?;
+    for number in 0..count {
+        if is_among(files, number) {
+            entries.push(file(alloc, number)?)?;
+        }
     }
     let Ok(mut backup) = Backup::new(alloc, who(alloc)?, entries) else {
         bail!("entries are refused");
@@ -48,8 +66,8 @@ fn back_up(alloc: Global, shelf: &mut MemShelf, count: usize, step: usize) -> Re
 fn half_forgotten(alloc: Global, count: usize) -> Result<(MemShelf, Name)> {
     let target = (count.saturating_mul(FILE) / PACKS).max(1_024);
     let mut shelf = shelf_with(alloc, target)?;
-    let all = back_up(alloc, &mut shelf, count, 1)?;
-    let half = back_up(alloc, &mut shelf, count, 2)?;
+    let all = back_up(alloc, &mut shelf, count, Files::All)?;
+    let half = back_up(alloc, &mut shelf, count, Files::EveryOther)?;
     let mut names = Vec::new(alloc);
     names.push(all)?;
     let Ok(mut forget) = Forget::new(alloc, who(alloc)?, Choice::Names(names)) else {
@@ -76,4 +94,16 @@ pub(crate) fn pruned(alloc: Global, count: usize) -> Result<Name> {
         }
         _ => bail!("not pruned"),
     }
+}
+
+/// The name of what a check of such a store tells.
+pub(crate) fn checked(alloc: Global, count: usize) -> Result<Name> {
+    let (mut shelf, _) = half_forgotten(alloc, count)?;
+    let mut check = Check::new(alloc, who(alloc)?);
+    finish(alloc, &mut check, &mut shelf)?;
+    let Some(Outcome::Clean { .. }) = check.outcome() else {
+        bail!("not clean");
+    };
+    let told = result_text(alloc, check.outcome(), false)?;
+    Ok(name_of(told.as_bytes()))
 }

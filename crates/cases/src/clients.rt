@@ -2,10 +2,14 @@
 
 use crate::told::Told;
 use repo_backup::Backup;
+use repo_check::Check;
 use repo_name::{Kind, Name};
+use repo_prog::fault_word;
 use repo_prune::{Forget, Prune};
 use repo_restore::{Restore, SnapshotList};
-use repo_session::{Client, Emission, End, Outcome, StepError, lockstep, result_text};
+use repo_session::{
+    CheckFault, Client, Emission, End, Outcome, StepError, lockstep, result_text, thing_word,
+};
 use repo_store::{FaultShelf, MemShelf};
 use repo_tree::Snapshot;
 use repo_wire::{Ask, Reply, Request, write_request};
@@ -19,6 +23,7 @@ pub enum Core {
     List(SnapshotList),
     Forget(Forget),
     Prune(Prune),
+    Check(Check),
 }
 
 /// A client, and what it sent last.
@@ -103,6 +108,7 @@ impl Core {
             Core::List(_) => "list",
             Core::Forget(_) => "forget",
             Core::Prune(_) => "prune",
+            Core::Check(_) => "check",
         }
     }
 
@@ -114,6 +120,7 @@ impl Core {
             Core::List(list) => list.outcome(),
             Core::Forget(forget) => forget.outcome(),
             Core::Prune(prune) => prune.outcome(),
+            Core::Check(check) => check.outcome(),
         }
     }
 
@@ -125,6 +132,7 @@ impl Core {
             Core::List(list) => list.pending(),
             Core::Forget(forget) => forget.pending(),
             Core::Prune(prune) => prune.pending(),
+            Core::Check(check) => check.pending(),
         }
     }
 
@@ -141,6 +149,7 @@ impl Core {
             Core::List(list) => frame_of(alloc, list),
             Core::Forget(forget) => frame_of(alloc, forget),
             Core::Prune(prune) => frame_of(alloc, prune),
+            Core::Check(check) => frame_of(alloc, check),
         }
     }
 
@@ -152,6 +161,7 @@ impl Core {
             Core::List(list) => taken(list, reply, told),
             Core::Forget(forget) => taken(forget, reply, told),
             Core::Prune(prune) => taken(prune, reply, told),
+            Core::Check(check) => taken(check, reply, told),
         }
     }
 
@@ -168,6 +178,7 @@ impl Core {
             Core::List(list) => finished(alloc, list, shelf, told),
             Core::Forget(forget) => finished(alloc, forget, shelf, told),
             Core::Prune(prune) => finished(alloc, prune, shelf, told),
+            Core::Check(check) => finished(alloc, check, shelf, told),
         }
     }
 
@@ -202,6 +213,14 @@ fn tell_row(
     told.number("token", snapshot.token.0)
 }
 
+/// Tells of a thing that is at fault.
+fn tell_fault(alloc: Global, fault: &CheckFault, told: &mut Told) -> Result<(), AllocError> {
+    let (thing, what) = (thing_word(fault.thing), fault_word(fault.what));
+    let name = fault.name.to_hex(alloc)?;
+    let line = format!(in alloc; "{thing} {name} {what}")?;
+    told.pair("fault", line.as_str())
+}
+
 impl Seat {
     /// Tells the rows of a list, the names that were forgotten, the faults that were found, or the name that an outcome
     /// is about.
@@ -216,6 +235,12 @@ impl Seat {
             Some(Outcome::Forgotten(names)) => {
                 for name in names.as_slice() {
                     told.pair("forgot", name.to_hex(alloc)?.as_str())?;
+                }
+                None
+            }
+            Some(Outcome::Faults(faults)) => {
+                for fault in faults.as_slice() {
+                    tell_fault(alloc, fault, told)?;
                 }
                 None
             }

@@ -9,8 +9,8 @@ use crate::told::Told;
 use repo_files::{Scan, Skipped};
 use repo_name::{Instance, Name, Token};
 use repo_prog::{
-    Caller, Status, backup_found, forget_command, locks_command, prune_command, refresh_command,
-    restore_into, snapshots_command, unlock_command,
+    Caller, Status, backup_found, check_command, forget_command, locks_command, prune_command,
+    refresh_command, restore_into, snapshots_command, unlock_command,
 };
 use repo_prune::Choice;
 use repo_session::Emission;
@@ -140,6 +140,12 @@ impl Talk<'_> {
         prune_command(self.alloc, &self.caller, r, w, o, f)
     }
 
+    fn check(&mut self) -> Status {
+        let (r, w) = (&mut self.reader, &mut self.sent);
+        let (o, f) = (&mut self.output, &mut self.faults);
+        check_command(self.alloc, &self.caller, r, w, o, f)
+    }
+
     /// Runs the command of these words.
     fn run(&mut self, words: &str, found: Scan) -> Result<Status, ScriptError> {
         let (word, rest) = cut(words);
@@ -152,6 +158,7 @@ impl Talk<'_> {
             "restore" => Ok(self.restore(name(rest)?)),
             "forget" => Ok(self.forget(Choice::Names(names(self.alloc, rest)?))),
             "prune" => Ok(self.prune()),
+            "check" => Ok(self.check()),
             "keep" => Ok(self.forget(Choice::Keep(policy(rest)?))),
             _ => Err(ScriptError::Line),
         }

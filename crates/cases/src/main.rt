@@ -10,6 +10,7 @@ mod clients;
 mod commands;
 mod lines;
 mod script;
+mod spoiling;
 mod stores;
 mod streams;
 mod told;

@@ -2,6 +2,7 @@
 
 use crate::commands::{Server, run_command, skipped};
 use crate::lines::{ScriptError, add_dirs, add_files, bytes, cut, dir, file, number};
+use crate::spoiling::spoil;
 use crate::streams::{Inlet, Outlet};
 use crate::told::Told;
 use crate::worlds::World;
@@ -152,6 +153,7 @@ impl Script {
             "lift" => self.world.store.lift(rest)?,
             "arm" => self.world.store.arm(rest)?,
             "disarm" => self.world.store.disarm(),
+            "spoil" => spoil(self.alloc, rest, &mut self.world.store, &mut self.told)?,
             "unlock" if number(rest).is_ok() => self.world.store.unlock(rest)?,
             _ => return Ok(false),
         }

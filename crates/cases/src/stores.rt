@@ -67,7 +67,7 @@ pub fn reply_of(alloc: Global, frame: &[u8]) -> Result<Reply, ScriptError> {
 }
 
 /// What a shelf's call gave that doesn't fail but for memory.
-fn given<T: Drop>(answer: Result<T, ShelfError>) -> Result<T, ScriptError> {
+pub fn given<T: Drop>(answer: Result<T, ShelfError>) -> Result<T, ScriptError> {
     match answer {
         Ok(value) => Ok(value),
         Err(_) => Err(ScriptError::Memory),

@@ -5,6 +5,7 @@ use crate::lines::{ScriptError, cut, name, number, policy};
 use crate::stores::{Store, reply_of};
 use crate::told::Told;
 use repo_backup::{Backup, BackupError};
+use repo_check::Check;
 use repo_name::{Instance, Name};
 use repo_prune::{Choice, Forget, ForgetError, Prune};
 use repo_restore::{Restore, SnapshotList};
@@ -119,7 +120,7 @@ impl World {
     }
 
     /// Starts a client: `backup HOST TIME`, `list`, `restore K`, `forget K..` (in place of a number K of a client that
-    /// stored it, a snapshot's name), `keep LAST DAILY` or `prune`.
+    /// stored it, a snapshot's name), `keep LAST DAILY`, `prune` or `check`.
     pub fn start(
         &mut self,
         words: &str,
@@ -145,6 +146,10 @@ impl World {
             "prune" => {
                 let who = self.who("play", 0)?;
                 self.seat_core(Core::Prune(Prune::new(self.alloc, who)))
+            }
+            "check" => {
+                let who = self.who("play", 0)?;
+                self.seat_core(Core::Check(Check::new(self.alloc, who)))
             }
             "keep" => self.start_forget(Choice::Keep(policy(rest)?), told),
             _ => Err(ScriptError::Line),

@@ -66,6 +66,7 @@ fn helps(rt: HostRuntime) {
     trial.helps(rt, "vault restore --help", "vault restore");
     trial.helps(rt, "vault forget --help", "vault forget");
     trial.helps(rt, "vault prune --help", "vault prune");
+    trial.helps(rt, "vault check --help", "vault check");
     trial.helps(rt, "vault locks --help", "vault locks");
     trial.helps(rt, "vault refresh --help", "vault refresh");
     trial.helps(rt, "vault unlock --help", "vault unlock");

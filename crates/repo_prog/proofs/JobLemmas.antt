@@ -19,6 +19,10 @@ use Rattle.repo_backup.specs.BackupStates as backing
 use Rattle.repo_backup.specs.Backups.{Handing, FitsBackup, handed_to}
 use Rattle.repo_backup.specs.Rules as backup
 use Rattle.repo_backup.specs.declared.backups.Backup.{Backup}
+use Rattle.repo_check.specs.CheckObedience.{check_obeys}
+use Rattle.repo_check.specs.CheckStates as checking
+use Rattle.repo_check.specs.Checking.{check_task, CheckAllows, CheckGives, CheckConcludes}
+use Rattle.repo_check.specs.declared.checks.Check.{Check}
 use Rattle.repo_prune.specs.declared.choices.Choice.{Choice}
 use Rattle.repo_prune.specs.declared.forgets.Forget.{Forget}
 use Rattle.repo_prune.specs.ForgetObedience.{forget_obeys}
@@ -37,7 +41,7 @@ use Rattle.repo_restore.specs.Restoring.{Wish, restore_task, RestoreAllows, Rest
 use Rattle.repo_restore.specs.declared.listings.SnapshotList.{SnapshotList}
 use Rattle.repo_restore.specs.declared.restores.Restore.{Restore}
 use Rattle.repo_prog.specs.Asking.{streams}
-use Rattle.repo_prog.specs.Jobs.{Ended, Forgets, Lists, Prunes, Restores, Stores, vault_asker, vault_wish}
+use Rattle.repo_prog.specs.Jobs.{Checks, Ended, Forgets, Lists, Prunes, Restores, Stores, vault_asker, vault_wish}
 use Rattle.repo_prog.specs.declared.callers.Caller.{Caller}
 
 ended : {C : Type 0} (Fits : C → Trace → Type 0) (next : C → Option Request) (old new : C) (n : ℕ) (said : Said) (a b start contents shown now : Option (List ℕ))
@@ -122,3 +126,12 @@ pruned caller old new n said a b start contents shown now packs bytes fits who r
     let P : Trace → Asker → Type 0 = λ es w. IsObedient (prune_task w) PruneAllows PruneGives PruneConcludes (next_in new.session) (ended_in new.session) es in
     ended pruning.FitsPrune (λ (p : Prune). next_in p.session) old new n said a b start contents shown now (prune_task (vault_asker caller)) PruneAllows PruneGives PruneConcludes
     (ended_in new.session) (Outcome.Pruned packs bytes) fits read d (λ es f. subst (P es) who (prune_obeys new es f)) is
+
+-- a check
+pub checked : (caller : Caller) (old new : Check) (n : ℕ) (said : Said) (a b start contents shown now : Option (List ℕ)) (outcome : Outcome)
+    → checking.FitsCheck old [] → checking.checker_of new ≡ vault_asker caller → Consumes a b said.bytes → Drives checking.FitsCheck (λ (c : Check). next_in c.session) old (Ok n) new said start contents
+    → ended_in new.session ≡ Some outcome → Checks caller outcome (streams a start shown) (streams b contents now)
+checked caller old new n said a b start contents shown now outcome fits who read d is =
+    let P : Trace → Asker → Type 0 = λ es w. IsObedient (check_task w) CheckAllows CheckGives CheckConcludes (next_in new.session) (ended_in new.session) es in
+    ended checking.FitsCheck (λ (c : Check). next_in c.session) old new n said a b start contents shown now (check_task (vault_asker caller)) CheckAllows CheckGives CheckConcludes
+    (ended_in new.session) outcome fits read d (λ es f. subst (P es) who (check_obeys new es f)) is

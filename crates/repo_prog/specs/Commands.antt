@@ -32,7 +32,7 @@ IsEnd Status.Failed = ⊤
 IsEnd Status.Usage = ⊥
 IsEnd Status.Flawed = ⊥
 
--- what may be kept by a command that ended so: it is done, or done but for what was left out
+-- a command did what was asked: it is done, or done and something isn't as it should be
 abbrev pub IsKept : Status → Type 0
 IsKept Status.Done = ⊤
 IsKept Status.Flawed = ⊤
@@ -46,6 +46,7 @@ IsErrand Errand.Snapshots = ⊤
 IsErrand (Errand.Restore name folder) = ⊤
 IsErrand (Errand.Forget choice) = ⊤
 IsErrand Errand.Prune = ⊤
+IsErrand Errand.Check = ⊤
 IsErrand Errand.Locks = ⊤
 IsErrand (Errand.Refresh token) = ⊤
 IsErrand (Errand.Unlock all) = ⊤

@@ -13,6 +13,7 @@ use Rattle.repo_session.specs.Talks.{Said, IsTurn, IsHeard, frames_of, sent_in, 
 use Rattle.repo_session.specs.Traces.{Each, Exchange, Trace}
 use Rattle.repo_backup.specs.BackupStates.{backup_task}
 use Rattle.repo_backup.specs.Rules as backup
+use Rattle.repo_check.specs.Checking.{check_task, CheckAllows, CheckGives, CheckConcludes}
 use Rattle.repo_prune.specs.declared.choices.Choice.{Choice}
 use Rattle.repo_prune.specs.Forgetting.{forget_task, ForgetAllows, ForgetGives, ForgetConcludes}
 use Rattle.repo_prune.specs.Pruning.{prune_task, PruneAllows, PruneGives, PruneConcludes}
@@ -35,7 +36,7 @@ pub record Ended (task : Task) (Allows : Trace → Ask → Type 0) (Gives : Trac
 abbrev pub vault_host : List ℕ
 vault_host = codes "vault"
 
--- who lists, restores, forgets or prunes
+-- who lists, restores, forgets, prunes or checks
 abbrev pub vault_asker : Caller → Asker
 vault_asker caller = asker caller.instance vault_host caller.time
 
@@ -58,6 +59,10 @@ Forgets caller choice names old new = Ended (forget_task (vault_asker caller)) (
 -- what no snapshot needs was removed: so many packs were deleted, and so many bytes of blobs put
 abbrev pub Prunes : Caller → ℕ → ℕ → Streams → Streams → Type 0
 Prunes caller packs bytes old new = Ended (prune_task (vault_asker caller)) PruneAllows PruneGives PruneConcludes (Outcome.Pruned packs bytes) old new
+
+-- the store was checked, with this outcome: it is clean, or things are at fault
+abbrev pub Checks : Caller → Outcome → Streams → Streams → Type 0
+Checks caller outcome old new = Ended (check_task (vault_asker caller)) CheckAllows CheckGives CheckConcludes outcome old new
 
 -- the entries were stored under this name
 abbrev pub Stores : Caller → List ℕ → List Entry → Name → ℕ → ℕ → Streams → Streams → Type 0

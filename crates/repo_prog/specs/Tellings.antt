@@ -8,6 +8,9 @@ use Rattle.repo_name.specs.declared.rows.LockRow.{LockRow}
 use Rattle.repo_name.specs.declared.tokens.Token.{Token}
 use Rattle.repo_tree.specs.declared.snapshots.Snapshot.{Snapshot}
 use Rattle.repo_wire.specs.declared.messages.Say.{Say}
+use Rattle.repo_session.specs.Results.{thing_word}
+use Rattle.repo_session.specs.declared.outcomes.CheckFault.{CheckFault}
+use Rattle.repo_session.specs.declared.outcomes.FaultKind.{FaultKind}
 use Rattle.repo_store.specs.Output.{AppendsPart}
 use Rattle.repo_prog.specs.declared.status.Status.{Status}
 
@@ -51,6 +54,27 @@ forgotten_lines names = flat_map forgotten_line names
 -- what snapshots don't need was removed: so many packs, and so many bytes of blobs were put into new ones
 abbrev pub pruned_line : ℕ → ℕ → List ℕ
 pruned_line packs bytes = codes "pruned " ++ (decimal packs ++ (codes " " ++ (decimal bytes ++ codes "\n")))
+
+-- all is well: so many snapshots, indexes and packs, and so many blobs that the snapshots need
+abbrev pub clean_line : ℕ → ℕ → ℕ → ℕ → List ℕ
+clean_line snapshots indexes packs blobs =
+    codes "clean " ++ (decimal snapshots ++ (codes " " ++ (decimal indexes ++ (codes " " ++ (decimal packs ++ (codes " " ++ (decimal blobs ++ codes "\n")))))))
+
+-- how a thing is at fault
+abbrev pub fault_word : FaultKind → List ℕ
+fault_word FaultKind.Missing = codes "missing"
+fault_word FaultKind.Name = codes "name"
+fault_word FaultKind.Unreadable = codes "unreadable"
+fault_word FaultKind.Place = codes "place"
+fault_word FaultKind.Unindexed = codes "unindexed"
+
+-- a thing is at fault
+abbrev pub fault_line : CheckFault → List ℕ
+fault_line fault = codes "fault " ++ (thing_word fault.thing ++ (codes " " ++ (hex_of fault.name ++ (codes " " ++ (fault_word fault.what ++ codes "\n")))))
+
+-- things are at fault, a line each
+abbrev pub fault_lines : List CheckFault → List ℕ
+fault_lines faults = flat_map fault_line faults
 
 -- a lock has a new time
 abbrev pub refreshed_line : List ℕ

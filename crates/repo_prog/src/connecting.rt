@@ -6,6 +6,7 @@ ghost use Rattle.repo_prog.specs.declared.status.Status.{Status};
 
 use crate::backing::backup_command;
 use crate::callers::{Caller, caller_now};
+use crate::checking::check_command;
 use crate::errands::Errand;
 use crate::forgetting::forget_command;
 use crate::locking::{locks_command, refresh_command, unlock_command};
@@ -60,6 +61,7 @@ pub fn do_errand<T: Files + AllocGlobal + Clone + Drop, R: Read, W: Write, O: Wr
             alloc, caller, choice, reader, writer, output, faults,
         ),
         Errand::Prune => prune_command(alloc, caller, reader, writer, output, faults),
+        Errand::Check => check_command(alloc, caller, reader, writer, output, faults),
         Errand::Locks => locks_command(alloc, caller, reader, writer, output, faults),
         Errand::Refresh(token) => refresh_command(
             alloc, caller, token, reader, writer, output, faults,

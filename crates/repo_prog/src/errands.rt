@@ -4,7 +4,7 @@ ghost use Rattle.std.specs.Prelude.{IfOk};
 ghost use Rattle.repo_prog.specs.Commands.{IsErrand};
 
 use crate::choosing::{choice_of, choice_words};
-use crate::help::{BACKUP, FORGET, LOCKS, PRUNE, REFRESH, RESTORE, SNAPSHOTS, UNLOCK};
+use crate::help::{BACKUP, CHECK, FORGET, LOCKS, PRUNE, REFRESH, RESTORE, SNAPSHOTS, UNLOCK};
 use crate::words::{WordsError, needed, number_of, word_of};
 use clap::{Arg, ArgAction, ArgMatches, Command};
 use repo_name::{Name, Text, Token, is_host};
@@ -24,6 +24,8 @@ pub enum Errand {
     Forget(Choice),
     /// Remove what no snapshot needs.
     Prune,
+    /// Check all of the store.
+    Check,
     /// List the live locks.
     Locks,
     /// Give a token's lock a new time.
@@ -82,6 +84,7 @@ fn unlock_words<'a>(alloc: Global) -> Result<Command<'a>, AllocError> {
 pub fn with_errands<'a>(alloc: Global, program: Command<'a>) -> Result<Command<'a>, AllocError> {
     let snapshots = errand_words(alloc, "snapshots", "Lists the snapshots", SNAPSHOTS)?;
     let prune = errand_words(alloc, "prune", "Removes what no snapshot needs", PRUNE)?;
+    let check = errand_words(alloc, "check", "Tells whether all is well", CHECK)?;
     let locks = errand_words(alloc, "locks", "Lists the live locks", LOCKS)?;
     program
         .subcommand(backup_words(alloc)?)?
@@ -89,6 +92,7 @@ pub fn with_errands<'a>(alloc: Global, program: Command<'a>) -> Result<Command<'
         .subcommand(restore_words(alloc)?)?
         .subcommand(forget_words(alloc)?)?
         .subcommand(prune)?
+        .subcommand(check)?
         .subcommand(locks)?
         .subcommand(refresh_words(alloc)?)?
         .subcommand(unlock_words(alloc)?)
@@ -129,6 +133,7 @@ pub fn errand_of(alloc: Global, command: &str, words: &ArgMatches) -> Result<Err
         "restore" => restore_errand(alloc, words),
         "forget" => Ok(Errand::Forget(choice_of(alloc, words)?)),
         "prune" => Ok(Errand::Prune),
+        "check" => Ok(Errand::Check),
         "locks" => Ok(Errand::Locks),
         "refresh" => {
             let number = number_of(words, "TOKEN")?;

@@ -94,6 +94,26 @@ Exit status:
   1  it isn't, and standard error says why
   2  the words make no command";
 
+/// Below the help of `vault check`.
+pub const CHECK: &str = "\
+It reads every snapshot, index and pack, and every directory that a snapshot needs, and changes nothing. Nobody else
+can use the store while it runs. A line for each thing that is at fault:
+  fault THING NAME missing     it is listed, or needed, and isn't there
+  fault THING NAME name        its bytes aren't those of its name
+  fault THING NAME unreadable  its bytes make no such thing
+  fault THING NAME unindexed   a snapshot needs it, and no index tells where it is
+  fault index NAME place       it tells of a pack what that doesn't hold
+where THING is snapshot, index, pack, content or tree, and NAME the 64 digits of its name.
+
+Example:
+  vault check 127.0.0.1:7070
+
+Exit status:
+  0  all is well; printed is `clean`, and how many snapshots, indexes, packs and blobs there are
+  1  it ended before, and standard error says why
+  2  the words make no command
+  3  things are at fault, and each is printed";
+
 /// Below the help of `vault locks`.
 pub const LOCKS: &str = "\
 Example:

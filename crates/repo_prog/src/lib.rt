@@ -2,8 +2,8 @@
 //!
 //! [`frames`] answers request frames in hexadecimal from an empty store in memory. [`init_command`] makes
 //! a store, and [`serve_connections`] serves one. The others are a client's, over a connection: [`backup_command`],
-//! [`snapshots_command`], [`restore_command`], [`forget_command`] and [`prune_command`] bring a job to its end, [`locks_command`],
-//! [`refresh_command`] and [`unlock_command`] ask themselves. [`run_errand`] connects, and [`run`] goes by the words.
+//! [`snapshots_command`], [`restore_command`], [`forget_command`], [`prune_command`] and [`check_command`] bring a job to its
+//! end, [`locks_command`], [`refresh_command`] and [`unlock_command`] ask themselves. [`run_errand`] connects, and [`run`] goes by the words.
 //!
 //! Promised: what `frames` writes is the lines of the replies of a run of the store machine, from the
 //! empty store, over the requests of the stream that the input's lines spell; each of its errors comes
@@ -19,6 +19,7 @@
 
 mod backing;
 mod callers;
+mod checking;
 mod choosing;
 mod commands;
 mod connecting;
@@ -40,6 +41,7 @@ mod words;
 
 pub use backing::{backup_command, backup_entries, backup_found};
 pub use callers::{Caller, caller_now};
+pub use checking::check_command;
 pub use commands::{frames_command, perform, run};
 pub use connecting::{do_errand, run_errand};
 pub use errands::Errand;
@@ -52,4 +54,5 @@ pub use making::{init_command, init_folder, random_instance};
 pub use pruning::prune_command;
 pub use restoring::{restore_command, restore_into, snapshots_command};
 pub use status::{Status, refuse_words};
+pub use telling::fault_word;
 pub use words::{Making, Order, WordsError, order_of};

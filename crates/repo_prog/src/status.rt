@@ -16,7 +16,8 @@ pub enum Status {
     Failed,
     /// 2: the words make no command; standard error says why.
     Usage,
-    /// 3: it did what was asked, and something wasn't as it should be, which standard error names.
+    /// 3: it did what was asked, and something isn't as it should be: what a check found, which stands on the output; or
+    /// what a backup left out, which standard error names.
     Flawed,
 }
 

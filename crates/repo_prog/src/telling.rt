@@ -2,12 +2,12 @@
 
 ghost use Rattle.std.specs.Prelude.{◌≡◌, IfOk, string_bytes};
 ghost use Rattle.repo_prog.specs.Commands.{IsEnd};
-ghost use Rattle.repo_prog.specs.Tellings.{lock_word, lock_line, lock_lines, snapshot_line, snapshot_lines, stored_line, complete_line, forgotten_line, forgotten_lines, pruned_line, removed_line, Shows};
+ghost use Rattle.repo_prog.specs.Tellings.{lock_word, lock_line, lock_lines, snapshot_line, snapshot_lines, stored_line, complete_line, forgotten_line, forgotten_lines, pruned_line, clean_line, fault_word, fault_line, fault_lines, removed_line, Shows};
 ghost use Rattle.repo_prog.specs.declared.status.Status.{Status};
 
 use crate::status::{Status, failed};
 use repo_name::{LockRow, Name, Token};
-use repo_session::{DriveError, Outcome, result_text};
+use repo_session::{CheckFault, DriveError, FaultKind, Outcome, result_text, thing_word};
 use repo_store::write_whole;
 use repo_tree::Snapshot;
 use repo_wire::Say;
@@ -103,6 +103,54 @@ pub fn pruned_line(alloc: Global, packs: u64, bytes: u64) -> Result<String, Allo
     ensures { IfOk result (λ line. string_bytes line ≡ pruned_line packs bytes) }
 {
     format!(in alloc; "pruned {packs} {bytes}\n")
+}
+
+/// The line of a check that found nothing at fault: so many snapshots, indexes and packs, and so many blobs that the
+/// snapshots need.
+pub fn clean_line(
+    alloc: Global,
+    snapshots: u64,
+    indexes: u64,
+    packs: u64,
+    blobs: u64,
+) -> Result<String, AllocError>
+    ensures { IfOk result (λ line. string_bytes line ≡ clean_line snapshots indexes packs blobs) }
+{
+    format!(in alloc; "clean {snapshots} {indexes} {packs} {blobs}\n")
+}
+
+/// The word for how a thing is at fault.
+pub fn fault_word(what: FaultKind) -> &'static str
+    ensures { result.now ≡ fault_word what }
+{
+    match what {
+        FaultKind::Missing => "missing",
+        FaultKind::Name => "name",
+        FaultKind::Unreadable => "unreadable",
+        FaultKind::Place => "place",
+        FaultKind::Unindexed => "unindexed",
+    }
+}
+
+/// The line of a thing that is at fault.
+fn fault_line(alloc: Global, fault: &CheckFault) -> Result<String, AllocError>
+    ensures { IfOk result (λ line. string_bytes line ≡ fault_line fault.now) }
+{
+    let (thing, what) = (thing_word(fault.thing), fault_word(fault.what));
+    let name = fault.name.to_hex(alloc)?;
+    format!(in alloc; "fault {thing} {name} {what}\n")
+}
+
+/// The lines of things that are at fault.
+pub fn fault_lines(alloc: Global, faults: &[CheckFault]) -> Result<String, AllocError>
+    ensures { IfOk result (λ lines. string_bytes lines ≡ fault_lines faults.now) }
+{
+    let mut lines = String::new(alloc);
+    for fault in faults {
+        let line = fault_line(alloc, fault)?;
+        lines.push_str(line.as_str())?;
+    }
+    Ok(lines)
 }
 
 /// The line of a lock that was removed.
