@@ -2,9 +2,8 @@
 # Times vault by real processes over the loopback: a backup, the same backup again, and a restore of a large file of
 # random bytes and of many small files; a check of all that, and a prune after half of the small files were forgotten; with
 # the seconds and the greatest resident set of client and server; and restic on the same files, in the same run, where it is
-# installed. restic
-# encrypts what it stores, and vault doesn't; restic's compression is off. Its second backup is run twice: as it is (files
-# whose times haven't changed aren't read), and with all files read again, as vault does.
+# installed. restic encrypts what it stores, and vault doesn't; restic's compression is off. Its second backup is run twice:
+# as it is (files whose times haven't changed aren't read), and with all files read again, as vault does.
 #
 # Usage: bench/backup.sh [MIB [FILES]]. Without words: one file of 512 MiB, and 20,000 files of 2 KiB. The port is 7073, or
 # PORT. All that it makes lies in a temporary folder, which is removed at the end.

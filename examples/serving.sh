@@ -1,6 +1,6 @@
 # shellcheck shell=bash
-# What the examples share that run a server: a script sources this file with the port to serve on. It builds vault, and
-# gives the script
+# What the examples share that run a server: a script sources this file with the port to serve on. It builds vault, unless VAULT
+# is the path of the program, and gives the script
 #   vault     the program's path
 #   work      a temporary folder, which is removed at the end
 #   address   where the server listens: the port on the loopback
@@ -27,7 +27,11 @@ serve() {
     return 1
 }
 
-echo "== build (the first time this proves all of it: some 40 minutes)"
-crate=$(cd "$(dirname "${BASH_SOURCE[0]}")/../crates/vault" && pwd)
-(cd "$crate" && rt run -- --version) >"$work/built" 2>&1 || { cat "$work/built" >&2; exit 1; }
-vault=$crate/out/vault
+if [ -n "${VAULT:-}" ]; then
+    vault=$(realpath "$VAULT")
+else
+    echo "== build (the first time this proves all of it: some 40 minutes)"
+    crate=$(cd "$(dirname "${BASH_SOURCE[0]}")/../crates/vault" && pwd)
+    (cd "$crate" && rt run -- --version) >"$work/built" 2>&1 || { cat "$work/built" >&2; exit 1; }
+    vault=$crate/out/vault
+fi

@@ -1,0 +1,45 @@
+# shellcheck shell=bash
+# Completion of vault's words in bash: the commands, the options of each, and folders where a folder is wanted.
+#
+# Usage: source examples/completion/vault.bash, from a shell or from its start-up file; or put a copy named `vault` among the
+# completions of the package bash-completion. scripts/man.py --check tells where the options aren't those of the program.
+
+_vault() {
+    local word=${COMP_WORDS[COMP_CWORD]} options="" folder="" place=1 at
+    COMPREPLY=()
+    if [ "$COMP_CWORD" -eq 1 ]; then
+        mapfile -t COMPREPLY < <(compgen -W "backup check forget frames init locks prune refresh restore serve snapshots unlock --help --version" -- "$word")
+        return
+    fi
+    case ${COMP_WORDS[1]} in
+        frames) options="" ;;
+        init) options="--min --max --bits --target" folder=1 ;;
+        serve) options="--connections --idle" folder=1 ;;
+        backup) options="" folder=3 ;;
+        snapshots) options="" ;;
+        restore) options="" folder=3 ;;
+        forget) options="--keep-last --keep-daily" ;;
+        prune) options="" ;;
+        check) options="" ;;
+        locks) options="" ;;
+        refresh) options="" ;;
+        unlock) options="--remove-all" ;;
+        *) return ;;
+    esac
+    # At which place this word stands among those that are no options. A word goes on behind a colon, at which bash parts it.
+    for ((at = 2; at < COMP_CWORD; at++)); do
+        case ${COMP_WORDS[at]} in
+            --remove-all | --help) ;;
+            --* | :*) at=$((at + 1)) ;;
+            *) place=$((place + 1)) ;;
+        esac
+    done
+    [ "$at" -eq "$COMP_CWORD" ] || return
+    if [[ $word == -* ]]; then
+        mapfile -t COMPREPLY < <(compgen -W "$options --help" -- "$word")
+    elif [ "$place" = "$folder" ]; then
+        compopt -o filenames 2>/dev/null
+        mapfile -t COMPREPLY < <(compgen -d -- "$word")
+    fi
+}
+complete -F _vault vault
