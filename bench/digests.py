@@ -64,14 +64,23 @@ def finished(store, core):
     return client.outcome
 
 
+def entries(count, step):
+    """Of so many files each that many steps on, in folders of a thousand."""
+    for number in range(count):
+        folder = f"{number // 1000:05}"
+        if number % 1000 == 0:
+            yield [folder], None
+        if number % step == 0:
+            yield [folder, f"{number:08}"], b"%064d" % number
+
+
 def half_forgotten(count):
     """A store with a backup of every other one of so many files, after one of all was forgotten, and the snapshot's name."""
     store = Store()
     store.config = text({"chunk_bits": 20, "chunk_max": 8388608, "chunk_min": 524288, "id": "0" * 32,
                          "pack_target": max(1024, count * 64 // 50), "version": 1})
-    files = [([f"{number:08}"], b"%064d" % number) for number in range(count)]
-    first = finished(store, Backup(files))
-    second = finished(store, Backup(files[::2]))
+    first = finished(store, Backup(list(entries(count, 1))))
+    second = finished(store, Backup(list(entries(count, 2))))
     finished(store, Forget([first.name]))
     return store, second.name
 

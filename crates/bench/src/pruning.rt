@@ -32,9 +32,25 @@ fn is_among(files: Files, number: usize) -> bool {
     }
 }
 
+/// The path of a directory of a thousand files.
+fn directory(alloc: Global, number: usize) -> Result<Vec<Text>, AllocError> {
+    let thousand = number / 1_000;
+    let mut path = Vec::new(alloc);
+    path.push(Text::of(format!(in alloc; "{thousand:05}")?))?;
+    Ok(path)
+}
+
+/// The directory in which the file of this number is the first.
+fn folder(alloc: Global, number: usize) -> Result<Entry, AllocError> {
+    Ok(Entry {
+        path: Path::of(directory(alloc, number)?),
+        what: EntryKind::Dir,
+    })
+}
+
 /// A file that holds its number in digits.
 fn file(alloc: Global, number: usize) -> Result<Entry, AllocError> {
-    let mut path = Vec::new(alloc);
+    let mut path = directory(alloc, number)?;
     path.push(Text::of(format!(in alloc; "{number:08}")?))?;
     let held = format!(in alloc; "{number:064}")?;
     Ok(Entry {
@@ -47,6 +63,9 @@ fn file(alloc: Global, number: usize) -> Result<Entry, AllocError> {
 fn back_up(alloc: Global, shelf: &mut MemShelf, count: usize, files: Files) -> Result<Name> {
     let mut entries = Vec::new(alloc);
     for number in 0..count {
+        if number % 1_000 == 0 {
+            entries.push(folder(alloc, number)?)?;
+        }
         if is_among(files, number) {
             entries.push(file(alloc, number)?)?;
         }
