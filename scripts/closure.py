@@ -1,11 +1,12 @@
 #!/usr/bin/env python3
 """Prints what a law stands on: each definition of this repository that its statement names, straight or through others.
 
-Usage: scripts/closure.py [--text] [CRATE.Module.word ..]
+Usage: scripts/closure.py [--text | --reading] [CRATE.Module.word ..]
 
 Without words: the headline, repo_world.Laws.EveryRunIsSafe. It prints the modules, of each how many lines of definitions
 are needed and how many it has, and the sum. With --text it prints the definitions themselves, each after those that it
-stands on, as a text to be read from the beginning to the end.
+stands on, as a text to be read from the beginning to the end. With --reading it prints them as the table of docs/DEFINITIONS.md:
+what they are about, in the order in which it is read, and of each module the lines that are needed.
 
 It reads the files by their form: a definition begins with `pub`, `abbrev`, `record` or `data` at the edge of its line, and
 goes on to the next one; a name means what the file imports it as. Types of the code (`declared`) are not among them.
@@ -17,6 +18,17 @@ from pathlib import Path
 
 ROOT = Path(__file__).resolve().parents[1]
 HEADLINE = "repo_world.Laws.EveryRunIsSafe"
+READING = {
+    "the law, and the world that it is about": ["repo_world"],
+    "the store, and its locks": ["repo_store", "repo_locks"],
+    "clients, what they exchange, what is sound": ["repo_session"],
+    "the rule of a backup": ["repo_backup", "repo_writing"],
+    "of a restore and a list": ["repo_restore"],
+    "of a forget and a prune": ["repo_prune", "repo_reach"],
+    "of a check": ["repo_check"],
+    "trees, snapshots, the config": ["repo_tree"],
+    "packs, indexes, chunks, names, JSON, frames": ["repo_pack", "repo_index", "repo_chunk", "repo_name", "repo_json", "repo_wire"],
+}
 BEGINS = re.compile(r"^(?:(?:abbrev|unfoldable|opaque|pub)\s+)*(?:(?:record|data)\s+)?([A-Za-z_][\w'-]*)\b")
 NAMED = re.compile(r"^(?:pub )?use Rattle\.(\w+)\.specs\.(\w+)\.\{(.*)\}$")
 WHOLE = re.compile(r"^(?:pub )?use Rattle\.(\w+)\.specs\.(\w+) as (\w+)$")
@@ -88,9 +100,22 @@ def closure(all_modules, start):
     return order
 
 
+def print_reading(needed):
+    """The table: of each row what it is about, its modules with their lines, and the sum."""
+    print("| Read | Modules, with the lines that are needed | Lines |\n|---|---|---|")
+    for about, crates in READING.items():
+        of_crates = []
+        for crate in crates:
+            modules_of = [f"{module} {lines}" for (of, module), lines in needed.items() if of == crate]
+            if modules_of:
+                of_crates.append(f"`{crate}`: {', '.join(modules_of)}")
+        whole = sum(lines for (crate, _), lines in needed.items() if crate in crates)
+        print(f"| {about} | {'; '.join(of_crates)} | {whole} |")
+
+
 def main():
     sys.setrecursionlimit(10_000)
-    words = [word for word in sys.argv[1:] if word != "--text"] or [HEADLINE]
+    words = [word for word in sys.argv[1:] if not word.startswith("--")] or [HEADLINE]
     all_modules = modules()
     order = []
     for word in words:
@@ -106,6 +131,9 @@ def main():
     needed = {}
     for crate, module, name in order:
         needed[crate, module] = needed.get((crate, module), 0) + len(all_modules[crate, module].own[name])
+    if "--reading" in sys.argv[1:]:
+        print_reading(needed)
+        return
     for (crate, module), lines in needed.items():
         print(f"{lines:5} of {all_modules[crate, module].lines:4}  {crate}: {module}")
     whole = sum(all_modules[key].lines for key in needed)

@@ -1,5 +1,6 @@
 #!/usr/bin/env bash
-# Tells each module of definitions that docs/DEFINITIONS.md doesn't name. Usage: scripts/definitions.sh
+# Tells each module of definitions that docs/DEFINITIONS.md doesn't name, and whether its list for who reads the headline is as
+# scripts/closure.py prints it. Usage: scripts/definitions.sh
 set -euo pipefail
 cd "$(dirname "$0")/.."
 status=0
@@ -11,4 +12,10 @@ for file in crates/*/specs/*.antt; do
         status=1
     fi
 done
+while IFS= read -r row; do
+    if ! grep -qxF -- "$row" docs/DEFINITIONS.md; then
+        echo "the reading list has no row $row"
+        status=1
+    fi
+done < <(python3 scripts/closure.py --reading)
 exit $status
