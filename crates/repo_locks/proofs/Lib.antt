@@ -3,3 +3,4 @@ pub mod Changed
 pub mod LawfulSteps
 pub mod Numbers
 pub mod Texts
+pub mod TokenMaps

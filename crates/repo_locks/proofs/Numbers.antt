@@ -6,7 +6,7 @@ use Rattle.repo_locks.specs.declared.outcomes.Grant.{Grant}
 use Rattle.repo_locks.specs.declared.outcomes.TicketError.{TicketError}
 use Rattle.repo_locks.specs.declared.outcomes.LockError.{LockError}
 use Rattle.repo_locks.specs.declared.outcomes.RefreshError.{RefreshError}
-use Rattle.repo_locks.specs.TokenMachine.{Tokens, is_among, kind_among, has_exclusive, is_fresh, is_live, live_as, with_room, without, rows_without, granted, unlocked, TicketStep, LockStep, RefreshStep, UnlockStep}
+use Rattle.repo_locks.specs.TokenMachine.{Tokens, is_among, kind_among, has_exclusive, is_fresh, is_live, is_fresh_or_live, live_as, with_room, without, rows_without, granted, unlocked, TicketStep, LockStep, RefreshStep, UnlockStep}
 use Rattle.repo_locks.specs.Laws.{IssuedIsFresh, LockedIsLive, UnlockedIsNeither, by_ticket, by_lock, by_refresh, by_unlock, GoesForward, NumbersGoForward, DeadStaysDead, LiveStaysLive, NothingToUnlock, ExclusiveIsAlone}
 use Rattle.repo_locks.proofs.Ascending.{none_parts}
 use Rattle.repo_locks.proofs.Changed.{among_drop_one, among_push, among_without, kind_among-with_row, kind_among-rows_at, kind_among-with_row_same, kind_among-rows_without_same, kind_among-rows_without, some-rows_without}
@@ -73,7 +73,7 @@ unlock_goes old new t true step = subst (GoesForward old) (sym step.1) (record {
 unlock_goes old new t false step = stays old new step.1
 
 -- an option without a value is None
-none_from_is_some : {A : Type 0} → (o : Option A) → is_some o ≡ false → o ≡ None
+pub none_from_is_some : {A : Type 0} → (o : Option A) → is_some o ≡ false → o ≡ None
 none_from_is_some None h = refl
 none_from_is_some (Some x) h = absurd (true≢false h)
 
@@ -90,7 +90,7 @@ not_live_after : (old new : Tokens) (t : Token) → GoesForward old new → is_f
 not_live_after old new t go f l = none_after old new t go f l (live_as new t) refl
 
 -- without a number that isn't there the numbers are the same
-without_none : (t : Token) (us : List Token) → is_among us t ≡ false → without t us ≡ us
+pub without_none : (t : Token) (us : List Token) → is_among us t ≡ false → without t us ≡ us
 without_none t [] h = refl
 without_none t (u ∷ us) h = elim (cases_Bool (eqb u.0 t.0)) [
   | inl e ↦ absurd (true≢false (rw e at h))
@@ -98,7 +98,7 @@ without_none t (u ∷ us) h = elim (cases_Bool (eqb u.0 t.0)) [
 ]
 
 -- without a token's row that isn't there the rows are the same
-rows_without_none : (t : Token) (rs : List LockRow) → kind_among rs t ≡ None → rows_without t rs ≡ rs
+pub rows_without_none : (t : Token) (rs : List LockRow) → kind_among rs t ≡ None → rows_without t rs ≡ rs
 rows_without_none t [] h = refl
 rows_without_none t (r ∷ rs) h =
     let parts = none_parts r rs t h in
@@ -214,6 +214,11 @@ unlocked_same l t h =
     let fresh = without_none t l.fresh parts.0 in
     let live = rows_without_none t l.live (none_from_is_some (live_as l t) parts.1) in
     λ i. record { next = l.next; fresh = fresh i; live = live i }
+
+-- what an unlock says of a number that may be fresh or live
+pub unlock_told : (l : Tokens) (t : Token) (found : Bool) → found ≡ is_fresh_or_live l t → UnlockStep l t found (unlocked l t)
+unlock_told l t true h = (sym h, refl)
+unlock_told l t false h = (sym h, unlocked_same l t (sym h))
 
 -- beside a live exclusive number none is live
 pub exclusive_alone : ExclusiveIsAlone

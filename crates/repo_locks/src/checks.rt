@@ -6,9 +6,9 @@ ghost use Rattle.repo_locks.specs.TokenMachine.{Tokens, is_among, kind_among, ha
 ghost use Rattle.repo_locks.specs.Lawful.{Ascends, IsLedger};
 ghost use Rattle.repo_locks.specs.LedgerBytes.{FitsBytes};
 
-use crate::reading::Parts;
-use crate::searches::{has_exclusive, kind_among};
+use crate::searches::is_among;
 use repo_name::{LockRow, Token};
+use std::collections::BTreeSet;
 
 /// Whether the numbers ascend, from 1 on and below the next one.
 pub fn numbers_ascend(numbers: &[Token], next: u64) -> bool
@@ -39,15 +39,27 @@ pub fn rows_ascend(rows: &[LockRow], next: u64) -> bool
 }
 
 /// Whether none of the numbers has a row.
-pub fn are_apart(numbers: &[Token], rows: &[LockRow]) -> bool
-    ensures { IsTrue result ↔ ((t : Token) → is_among numbers.now t ≡ true → kind_among rows.now t ≡ None) }
+pub fn are_apart(numbers: &BTreeSet<Token>, rows: &[LockRow]) -> bool
+    ensures { IsTrue result ↔ ((t : Token) → is_among numbers.now.keys t ≡ true → kind_among rows.now t ≡ None) }
 {
-    for number in numbers {
-        if kind_among(rows, *number).is_some() {
+    for row in rows {
+        if is_among(numbers, row.token) {
             return false;
         }
     }
     true
+}
+
+/// Whether one of the rows is exclusive.
+fn has_exclusive(rows: &[LockRow]) -> bool
+    ensures { result ≡ has_exclusive rows.now }
+{
+    for row in rows {
+        if row.exclusive {
+            return true;
+        }
+    }
+    false
 }
 
 /// Whether an exclusive row is the only one.
@@ -57,14 +69,11 @@ pub fn exclusive_is_only(rows: &[LockRow]) -> bool
     rows.len() == 1 || !has_exclusive(rows)
 }
 
-/// Whether the parts, which fit the bytes of a ledger, are a lawful one's.
-pub fn is_lawful(parts: &Parts) -> bool
-    ensures { let l : Tokens = record { next = parts.now.next; fresh = parts.now.fresh.items; live = parts.now.live.items }
-        in FitsBytes l → IsTrue result ↔ IsLedger l }
+/// Whether a next number, numbers that ascend below it, and rows are those of a lawful ledger. They fit its
+/// bytes.
+pub fn is_lawful(next: u64, numbers: &BTreeSet<Token>, rows: &[LockRow]) -> bool
+    ensures { let l : Tokens = record { next = next; fresh = numbers.now.keys; live = rows.now }
+        in FitsBytes l → Ascends 0 l.next l.fresh → IsTrue result ↔ IsLedger l }
 {
-    parts.next >= 1
-        && numbers_ascend(&parts.fresh, parts.next)
-        && rows_ascend(&parts.live, parts.next)
-        && are_apart(&parts.fresh, &parts.live)
-        && exclusive_is_only(&parts.live)
+    next >= 1 && rows_ascend(rows, next) && are_apart(numbers, rows) && exclusive_is_only(rows)
 }

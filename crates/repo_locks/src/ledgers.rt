@@ -1,55 +1,62 @@
 //! The ledger: the next number, the fresh ones, and the rows of the live ones.
 
-ghost use Rattle.std.specs.Prelude.{◌≡◌, ◌≢◌, ◌<◌, IfOk, IsErrOf, OnOk, OnErr, vec_len, vec_capacity};
+ghost use Rattle.std.specs.Prelude.{◌≡◌, ◌≢◌, ◌++◌, ◌∷◌, [], IfOk, IsErrOf, OnOk, OnErr};
 ghost use Rattle.repo_name.specs.Rows.{IsHost};
 ghost use Rattle.repo_locks.specs.TokenMachine.{Tokens, start, is_fresh, is_live, is_exclusive, is_busy, live_as, with_room, granted, TicketStep, LockStep, RefreshStep, UnlockStep, MayBeGranted};
-ghost use Rattle.repo_locks.specs.Lawful.{IsLedger};
+ghost use Rattle.repo_locks.specs.Lawful.{Ascends, IsLedger};
 ghost use Rattle.repo_locks.specs.LedgerBytes.{ledger_bytes};
 ghost use Rattle.repo_locks.specs.declared.outcomes.LedgerError.{LedgerError};
 
-use crate::checks::is_lawful;
+use crate::checks::{is_lawful, numbers_ascend};
 use crate::limits::{FRESH_LIMIT, LIVE_LIMIT};
+use crate::making::{list_of_rows, map_of_rows, set_of_numbers};
 use crate::outcomes::{Grant, LedgerError, LockError, RefreshError, TicketError};
 use crate::reading::{Parts, parts_of};
 use crate::searches::{
-    bring_up, has_exclusive, is_among, kind_among, leave_out, leave_out_rows, place_of,
+    bring_up, first_is_exclusive, is_among, kind_among, leave_out, leave_out_row, put_row,
 };
-use crate::writing::{append_fresh, append_number};
-use repo_name::{LockRow, LockRows, Text, Token, append_rows};
+use crate::writing::{append_fresh, append_live, append_number};
+use repo_name::{LockRow, LockRows, Text, Token};
 use std::alloc::{AllocError, Global};
+use std::collections::{BTreeMap, BTreeSet};
 use std::marker::Model;
 
-/// A store's numbers: each is not yet issued, fresh, live or dead.
+/// A store's numbers: each is not yet issued, fresh, live or dead. A call that looks for a number takes
+/// logarithmic time.
 #[derive(Clone, Debug, Drop)]
 pub struct Ledger {
     next: u64,
-    fresh: Vec<Token>,
-    live: Vec<LockRow>,
+    fresh: BTreeSet<Token>,
+    live: BTreeMap<Token, LockRow>,
+    alloc: Global,
 }
 
 impl Model for Ledger {
     ghost use Rattle.repo_locks.specs.TokenMachine.{Tokens};
     ghost use Rattle.repo_locks.specs.Lawful.{IsLedger};
+    ghost use Rattle.repo_locks.specs.TokenMaps.{AreUnderTokens};
+    ghost use Rattle.std.specs.BTreeMap.{values};
 
     ghost Value = { Tokens };
 
-    ghost view = { λ l. record { next = l.next; fresh = l.fresh.items; live = l.live.items } };
+    ghost view = { λ l. record { next = l.next; fresh = l.fresh.keys; live = values l.live } };
 
-    ghost invariant = { λ l. IsLedger (record { next = l.next; fresh = l.fresh.items; live = l.live.items }) };
+    ghost invariant = { λ l. IsLedger (record { next = l.next; fresh = l.fresh.keys; live = values l.live }) × AreUnderTokens l.live.entries };
 }
 
-/// Makes room for one more fresh number: where as many are there as may be, the least goes. It fails for
-/// memory alone, and then all are there as before.
-fn make_room(fresh: &mut Vec<Token>) -> Result<(), AllocError>
-    ensures ok { OnOk result (fresh.new.items ≡ with_room fresh.old.items) }
-    ensures room { OnOk result (vec_len fresh.new < vec_capacity fresh.new) }
-    ensures err { OnErr result (fresh.new.items ≡ fresh.old.items) }
+/// Puts a number at the end of the fresh ones, which are below it. Where as many were there as may be, the
+/// least goes. It fails for memory alone, and then all are there as before.
+fn put_fresh(fresh: &mut BTreeSet<Token>, token: Token) -> Result<(), AllocError>
+    requires { Ascends 0 token.0 fresh.old.keys }
+    ensures ok { OnOk result (fresh.new.keys ≡ with_room fresh.old.keys ++ token ∷ []) }
+    ensures err { OnErr result (fresh.new.keys ≡ fresh.old.keys) }
 {
-    if fresh.len() == FRESH_LIMIT {
-        fresh.remove(0);
-        return Ok(());
+    let is_full = fresh.len() == FRESH_LIMIT;
+    fresh.insert(token)?;
+    if is_full {
+        fresh.pop_first();
     }
-    fresh.reserve(1)
+    Ok(())
 }
 
 impl Ledger {
@@ -59,8 +66,9 @@ impl Ledger {
     {
         Ledger {
             next: 1,
-            fresh: Vec::new(alloc),
-            live: Vec::new(alloc),
+            fresh: BTreeSet::new(alloc),
+            live: BTreeMap::new(alloc),
+            alloc,
         }
     }
 
@@ -72,9 +80,8 @@ impl Ledger {
         if self.next == u64::MAX {
             return Err(TicketError::Exhausted);
         }
-        make_room(&mut self.fresh)?;
         let token = Token(self.next);
-        self.fresh.push(token).map_err(|_| TicketError::Memory)?;
+        put_fresh(&mut self.fresh, token)?;
         self.next += 1;
         Ok(token)
     }
@@ -107,7 +114,7 @@ impl Ledger {
         if exclusive {
             return !self.live.is_empty();
         }
-        has_exclusive(&self.live)
+        first_is_exclusive(&self.live)
     }
 
     /// Makes a fresh number live.
@@ -123,15 +130,14 @@ impl Ledger {
         ensures ok { OnOk result (self.new ≡ granted self.old (record { token = token; exclusive = exclusive; time = time; host = host.now })) }
         ensures err { OnErr result (self.new ≡ self.old) }
     {
-        let host = Text::of(String::from_str(*self.live.allocator(), host)?);
+        let host = Text::of(String::from_str(self.alloc, host)?);
         let row = LockRow {
             token,
             exclusive,
             time,
             host,
         };
-        let place = place_of(&self.live, token);
-        self.live.insert(place, row)?;
+        put_row(&mut self.live, row)?;
         leave_out(&mut self.fresh, token);
         Ok(())
     }
@@ -173,10 +179,9 @@ impl Ledger {
     pub fn refresh(&mut self, token: Token, time: u64) -> Result<(), RefreshError>
         ensures { RefreshStep self.old token time result self.new }
     {
-        if !self.is_live(token) {
+        if !bring_up(&mut self.live, token, time) {
             return Err(RefreshError::Dead);
         }
-        bring_up(&mut self.live, token, time);
         Ok(())
     }
 
@@ -184,12 +189,9 @@ impl Ledger {
     pub fn unlock(&mut self, token: Token) -> bool
         ensures { UnlockStep self.old token result self.new }
     {
-        if !is_among(&self.fresh, token) && !self.is_live(token) {
-            return false;
-        }
-        leave_out(&mut self.fresh, token);
-        leave_out_rows(&mut self.live, token);
-        true
+        let was_fresh = leave_out(&mut self.fresh, token);
+        let was_live = leave_out_row(&mut self.live, token);
+        was_fresh || was_live
     }
 
     /// The rows of the live numbers, ascending by token: a list of their own. It fails for memory alone.
@@ -197,7 +199,7 @@ impl Ledger {
         ensures rows { IfOk result (λ rows. rows ≡ self.now.live) }
         ensures lawful { IsLedger self.now }
     {
-        Ok(LockRows::of(self.live.to_vec(alloc)?))
+        Ok(LockRows::of(list_of_rows(alloc, &self.live)?))
     }
 
     /// An equal ledger. It fails for memory alone.
@@ -214,10 +216,10 @@ impl Ledger {
         ensures bytes { IfOk result (λ bytes. bytes.items ≡ ledger_bytes self.now) }
         ensures lawful { IsLedger self.now }
     {
-        let mut bytes = Vec::new(*self.fresh.allocator());
+        let mut bytes = Vec::new(self.alloc);
         append_number(self.next, &mut bytes)?;
         append_fresh(&self.fresh, &mut bytes)?;
-        append_rows(&self.live, &mut bytes)?;
+        append_live(&self.live, &mut bytes)?;
         Ok(bytes)
     }
 
@@ -228,11 +230,20 @@ impl Ledger {
         ensures ok { IfOk result (λ ledger. IsLedger ledger × (bytes.now ≡ ledger_bytes ledger)) }
         ensures shape { IsErrOf result LedgerError.Shape → (l : Tokens) → IsLedger l → bytes.now ≢ ledger_bytes l }
     {
-        let parts = parts_of(alloc, bytes)?;
-        if !is_lawful(&parts) {
+        let Parts { next, fresh, live } = parts_of(alloc, bytes)?;
+        if !numbers_ascend(&fresh, next) {
             return Err(LedgerError::Shape);
         }
-        let Parts { next, fresh, live } = parts;
-        Ok(Ledger { next, fresh, live })
+        let fresh = set_of_numbers(alloc, &fresh)?;
+        if !is_lawful(next, &fresh, &live) {
+            return Err(LedgerError::Shape);
+        }
+        let live = map_of_rows(alloc, live)?;
+        Ok(Ledger {
+            next,
+            fresh,
+            live,
+            alloc,
+        })
     }
 }

@@ -9,7 +9,8 @@
 //! as that ledger and as no other. Not promised: who holds a lock, or that a time is true.
 //!
 //! The definitions stand in `specs/`: `TokenMachine` (the state and its steps), `Lawful` (what every
-//! ledger is), `Laws`, `LedgerBytes` (the form in bytes), `Ages` (stale).
+//! ledger is), `Laws`, `LedgerBytes` (the form in bytes), `TokenMaps` (rows in a map, each under its token),
+//! `Ages` (stale).
 #![tactic(auto)]
 
 mod ages;
@@ -17,6 +18,7 @@ mod checks;
 pub mod laws;
 mod ledgers;
 mod limits;
+mod making;
 mod outcomes;
 mod reading;
 mod searches;
