@@ -106,7 +106,7 @@ def print_reading(needed):
     for about, crates in READING.items():
         of_crates = []
         for crate in crates:
-            modules_of = [f"{module} {lines}" for (of, module), lines in needed.items() if of == crate]
+            modules_of = [f"{module} ({lines})" for (of, module), lines in needed.items() if of == crate]
             if modules_of:
                 of_crates.append(f"`{crate}`: {', '.join(modules_of)}")
         whole = sum(lines for (crate, _), lines in needed.items() if crate in crates)

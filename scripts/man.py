@@ -34,6 +34,7 @@ WORDS = {
     "--target": "How many bytes of blobs a pack has before the next one is begun, 1024 to 16777216.",
     "--connections": "How many connections are served, one after another, 1 or more.",
     "--idle": "How long a connection may be idle. With 0 there is no limit.",
+    "--append-only": "No object is deleted, whoever asks for it. Locks are taken and removed as without.",
     "--keep-last": "How many of the last snapshots of each host are kept.",
     "--keep-daily": "How many days, of those that have a snapshot, keep their last one of each host.",
     "--remove-all": "Removes all locks, and not the stale ones alone.",
@@ -49,7 +50,7 @@ class Word:
         value = re.search(r'\.value_name\("(\w+)"\)', text)
         self.value = value.group(1) if value else "N" if default else ""
         self.default = default.group(1) if default else ""
-        self.option = bool(default) or ".long(" in text
+        self.option = bool(default) or ".long(" in text or "flag(" in text
         self.many = ".num_args(0..)" in text
         self.name = "--" * self.option + self.name
 

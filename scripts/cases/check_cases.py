@@ -358,7 +358,7 @@ def interrupted(script):
             client = script.start_check()
             for _ in range(steps):
                 script.step(client)
-            script.fault(client, word)
+            script.fault_read(client, word)
             script.finish(client)
             script.report()
 

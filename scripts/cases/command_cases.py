@@ -35,7 +35,7 @@ def malformed():
         yield text, bytes.fromhex("00000019") + bytes([tag]) + body
     for text, tag, fields in (
             ("a token that is cut", 129, bytes(7)), ("a token with a byte more", 129, bytes(9)),
-            ("done with a byte more", 130, bytes(1)), ("code 0", 134, bytes([0])), ("code 14", 134, bytes([14])),
+            ("done with a byte more", 130, bytes(1)), ("code 0", 134, bytes([0])), ("code 15", 134, bytes([15])),
             ("more that is 2", 131, bytes([2, 0, 0])), ("257 names", 131, bytes([0, 1, 1]) + bytes(32 * 257)),
             ("fewer names than told", 131, bytes([0, 0, 2]) + bytes(32)),
             ("a row without a host", 133, bytes([0, 1]) + bytes(17) + bytes([0])),

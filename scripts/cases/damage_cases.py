@@ -115,16 +115,79 @@ def failing_asks(script):
             ("put", 1, "pack", name_of(b"de"), b"de"), ("put", 9, "pack", a, b"abc"), ("put", 1, "pack", a, b"abd"),
             ("delete", 1, "pack", a), ("config",)]
     for ask in asks:
-        for word in ("read", "applied", "unapplied"):
+        for word in ("read", "kept read", "applied", "unapplied"):
             script.heading(f"the device fails, {word}: {ask[0]}")
             script.fresh()
             script.lay("pack", a, b"abc")
-            script.ask(("ticket",), ("lock", 1, ask[0] == "delete", 5, "a"), ("ticket",))
-            script.arm(word)
+            script.ask(("ticket",), ("lock", 1, ask[0] == "delete", 5, "a"), ("ticket",), ("list", "pack", None))
+            if word == "read":
+                script.restart()
+            script.arm(word.removeprefix("kept "))
             script.ask(ask, sequence=4)
             script.disarm()
             script.ask(("locks",), ("list", "pack", None), sequence=5)
             script.report()
 
 
-ALL = [damages, large_objects, configs, connections, failing_asks]
+def remembered(script):
+    """What is remembered of the device, and when it is read again."""
+    a, listing = name_of(b"abc"), ("list", "pack", None)
+    script.heading("a put that fails when it is done, and then reading calls that fail")
+    script.fresh()
+    script.ask(("ticket",), ("lock", 1, False, 5, "a"))
+    script.arm("applied")
+    script.ask(("put", 1, "pack", a, b"abc"))
+    for _ in range(2):
+        script.arm("read")
+        script.ask(listing)
+        script.ask(listing)
+    script.ask(("get", "pack", a))
+    script.report()
+    script.heading("names that were listed before, and then others are put and deleted")
+    script.fresh()
+    script.ask(listing, ("ticket",), ("lock", 1, True, 5, "a"))
+    for data in (b"abc", b"de", b"abc"):
+        script.ask(("put", 1, "pack", name_of(data), data), listing)
+    for data in (b"abc", b"abc", b"f"):
+        script.ask(("delete", 1, "pack", name_of(data)), listing)
+    script.restart()
+    script.ask(listing, ("locks",))
+    script.report()
+    for word in ("applied", "unapplied"):
+        for ask in (("ticket",), ("lock", 2, False, 5, "a"), ("refresh", 1, 9), ("unlock", 1)):
+            script.heading(f"a ledger whose saving fails, {word}, is read again: {ask[0]}")
+            script.fresh()
+            script.ask(("ticket",), ("lock", 1, False, 5, "a"), ("ticket",))
+            script.arm(word)
+            script.ask(ask)
+            script.ask(("locks",), ("ticket",))
+            script.report()
+
+
+def appending(script):
+    """A store that only appends."""
+    a = name_of(b"abc")
+    for exclusive in (True, False):
+        script.heading("deletions from a store that only appends, under " + ("an exclusive lock" if exclusive else "a shared one"))
+        script.fresh()
+        script.append_only()
+        script.ask(("ticket",), ("lock", 1, exclusive, 5, "a"), ("put", 1, "pack", a, b"abc"), ("delete", 1, "pack", a), ("delete", 9, "pack", a),
+                   ("delete", 1, "snapshot", a), ("get", "pack", a), ("list", "pack", None), ("unlock", 1), ("locks",))
+        script.arm("read")
+        script.ask(("delete", 1, "pack", a), ("get", "pack", a))
+        script.report()
+    script.heading("clients of a store that only appends")
+    script.fresh()
+    script.append_only()
+    stored = script.start_backup(X)
+    script.steps(stored)
+    for client in (script.start_forget(stored), script.start_forget(), script.start_prune(), script.start_check(), script.start_restore(stored)):
+        script.steps(client)
+    script.steps(script.start_backup(TWO, "b", 7))
+    script.lift("snapshot", script.seats[stored].client.outcome.name)
+    script.steps(script.start_prune())
+    script.steps(script.start_check())
+    script.report()
+
+
+ALL = [damages, large_objects, configs, connections, failing_asks, remembered, appending]

@@ -173,7 +173,7 @@ def interrupted(script):
                 client = begun(script, kind)
                 for _ in range(steps):
                     script.step(client)
-                script.fault(client, word)
+                script.fault_read(client, word)
                 script.steps(client)
                 script.report()
 

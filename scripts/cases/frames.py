@@ -136,7 +136,7 @@ class Fields:
         return self.take(32) if self.below(1, 2) else None
 
     def code(self):
-        code = self.below(1, 14)
+        code = self.below(1, 15)
         if code == 0:
             raise Malformed("fields")
         return code

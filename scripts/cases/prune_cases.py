@@ -282,7 +282,7 @@ def interrupted(script):
             snapshot, client = begun(script)
             for _ in range(steps):
                 script.step(client)
-            script.fault(client, word)
+            script.fault_read(client, word)
             script.finish(client)
             restored(script, snapshot)
             script.report()

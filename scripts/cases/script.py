@@ -58,8 +58,19 @@ class Script(Lines):
         self.line("disarm")
         self.store.armed = None
 
+    def append_only(self):
+        """The store only appends from now on."""
+        self.line("append-only")
+        self.store.append_only = True
+
+    def restart(self):
+        """The store is closed and opened."""
+        self.line("restart")
+        self.store.restart()
+
     def unlock_token(self, token):
         self.line("unlock", token)
+        self.store.needs("ledger")
         self.store.ledger.unlock(token)
 
     def serve(self, data, slow=False, broken=False, room=None):
@@ -164,6 +175,12 @@ class Script(Lines):
         self.one_step(place)
         self.store.armed = None
 
+    def fault_read(self, place, word):
+        """A step of a store that was just opened, in which the device fails; one that remembers, where a `kept read` fails."""
+        if word == "read":
+            self.restart()
+        self.fault(place, word.removeprefix("kept "))
+
     def finish(self, place):
         self.line("finish", place)
         client, count, given = self.seats[place].client, 0, []
@@ -232,6 +249,8 @@ class Script(Lines):
         for place in range(len(self.seats)):
             self.prints("client", place)
             self.result(place)
+        for what in (*KINDS, "ledger"):
+            self.store.needs(what)
         packs, indexes, snapshots = (len(self.store.objects[kind]) for kind in KINDS)
         live = len(self.store.ledger.live)
         self.prints("store", f"packs {packs} indexes {indexes} snapshots {snapshots} live {live}")

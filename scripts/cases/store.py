@@ -72,12 +72,15 @@ class Ledger:
 
 
 class Store:
-    """Objects, a config and a ledger on a device, of which a call can be armed to fail."""
+    """Objects, a config and a ledger on a device, of which a call can be armed to fail. What was read of the ledger and of
+    the names of a kind is remembered, until the store is opened again or the device fails in a writing call."""
 
     def __init__(self):
         self.objects = {"pack": {}, "index": {}, "snapshot": {}}
         self.config, self.ledger = None, Ledger()
         self.armed, self.failures = None, 0
+        self.remembered = set()
+        self.append_only = False
 
     def read(self):
         """A reading call of the device."""
@@ -92,12 +95,24 @@ class Store:
             change()
         if armed:
             self.armed, self.failures = None, self.failures + 1
+            self.restart()
             raise Refused(10)
+
+    def restart(self):
+        """The store is opened again."""
+        self.remembered = set()
+
+    def needs(self, what):
+        """The ledger, or the names of a kind, which are read of the device where they aren't remembered."""
+        if what not in self.remembered:
+            self.read()
+            self.remembered.add(what)
 
     def save(self, ledger):
         def change():
             self.ledger = ledger
         self.write(change)
+        self.remembered.add("ledger")
 
     def answer(self, ask):
         """What is said to an ask."""
@@ -107,7 +122,7 @@ class Store:
             return ("refused", refused.args[0])
 
     def read_ledger(self):
-        self.read()
+        self.needs("ledger")
         return self.ledger.copy()
 
     def on_ticket(self):
@@ -138,7 +153,7 @@ class Store:
         return ("rows", self.read_ledger().rows())
 
     def on_list(self, kind, after):
-        self.read()
+        self.needs(kind)
         names = sorted(name for name in self.objects[kind] if after is None or name > after)
         return ("names", len(names) > PAGE, names[:PAGE])
 
@@ -172,6 +187,8 @@ class Store:
         return ("done",)
 
     def on_delete(self, token, kind, name):
+        if self.append_only:
+            raise Refused(14)
         ledger = self.read_ledger()
         if token not in ledger.live:
             raise Refused(2)

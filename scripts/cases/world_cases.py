@@ -137,7 +137,7 @@ def started(script, role, stored):
 def faults(script):
     """The device fails at each request of each client."""
     for role, count in (("backup", 9), ("restore", 9), ("list", 6)):
-        for word in ("read", "unapplied", "applied"):
+        for word in ("read", "kept read", "unapplied", "applied"):
             for steps in range(count):
                 script.heading(f"a {role} that meets a failure, {word}, at request {steps + 1}")
                 script.fresh()
@@ -145,9 +145,24 @@ def faults(script):
                 client = started(script, role, place)
                 for _ in range(steps):
                     script.step(client)
-                script.fault(client, word)
+                script.fault_read(client, word)
                 script.steps(client)
                 script.report()
+
+
+def reopened(script):
+    """The store is opened again before each request of each client."""
+    script.heading("a store that is opened again before each request")
+    script.fresh()
+    place = None
+    for start in (lambda: script.start_backup(X), lambda: script.start_backup(TWO, "b", 7), lambda: script.start_restore(place),
+                  script.start_list, lambda: script.start_forget(place), script.start_prune, script.start_check):
+        client = start()
+        place = client if place is None else place
+        while script.seats[client].client.pending:
+            script.restart()
+            script.step(client)
+        script.report()
 
 
 def locked_out(script):
@@ -275,4 +290,4 @@ def largest(script):
         script.report()
 
 
-ALL = [rows, starts, deep, fences, faults, locked_out, two_at_once, deletions, many, much, largest]
+ALL = [rows, starts, deep, fences, faults, reopened, locked_out, two_at_once, deletions, many, much, largest]

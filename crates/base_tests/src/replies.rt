@@ -16,6 +16,7 @@ fn replies_are_written_and_read_back(rt: HostRuntime) {
     trial.keeps_reply(Say::Bytes(bytes), "0000001c84", "616263");
     trial.keeps_reply(Say::Refused(Code::Malformed), "0000001a86", "01");
     trial.keeps_reply(Say::Refused(Code::Exhausted), "0000001a86", "0d");
+    trial.keeps_reply(Say::Refused(Code::AppendOnly), "0000001a86", "0e");
     let abc = trial.name(ABC);
     let (one, none) = (trial.page(false, abc, 1), trial.page(true, abc, 0));
     let locks = trial.lock_list(true, 1);
@@ -41,7 +42,7 @@ fn faults_are_told_for_good(rt: HostRuntime) {
     trial.faults_replies("0000002081", "00000000000001", Fault::Fields);
     trial.faults_replies("0000001a82", "00", Fault::Fields);
     trial.faults_replies("0000001a86", "00", Fault::Fields);
-    trial.faults_replies("0000001a86", "0e", Fault::Fields);
+    trial.faults_replies("0000001a86", "0f", Fault::Fields);
     trial.faults_replies("0000001b86", "0100", Fault::Fields);
     trial.faults_replies(
         "0000003c83",

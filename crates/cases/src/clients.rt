@@ -10,7 +10,7 @@ use repo_restore::{Restore, SnapshotList};
 use repo_session::{
     CheckFault, Client, Emission, End, Outcome, StepError, lockstep, result_text, thing_word,
 };
-use repo_store::{FaultShelf, MemShelf};
+use repo_store::{FaultShelf, Kept, MemShelf};
 use repo_tree::Snapshot;
 use repo_wire::{Ask, Reply, Request, write_request};
 use std::alloc::{AllocError, Global};
@@ -54,7 +54,7 @@ fn taken<C: Client>(client: &mut C, reply: &Reply, told: &mut Told) -> Result<()
 fn finished<C: Client>(
     alloc: Global,
     client: &mut C,
-    shelf: &mut FaultShelf<MemShelf>,
+    shelf: &mut Kept<FaultShelf<MemShelf>>,
     told: &mut Told,
 ) -> Result<(), StepError> {
     let mut out = Vec::new(alloc);
@@ -169,7 +169,7 @@ impl Core {
     pub fn finish(
         &mut self,
         alloc: Global,
-        shelf: &mut FaultShelf<MemShelf>,
+        shelf: &mut Kept<FaultShelf<MemShelf>>,
         told: &mut Told,
     ) -> Result<(), StepError> {
         match self {

@@ -153,6 +153,8 @@ impl Script {
             "lift" => self.world.store.lift(rest)?,
             "arm" => self.world.store.arm(rest)?,
             "disarm" => self.world.store.disarm(),
+            "restart" => self.world.store.restart(),
+            "append-only" => self.world.store.append(),
             "spoil" => spoil(self.alloc, rest, &mut self.world.store, &mut self.told)?,
             "unlock" if number(rest).is_ok() => self.world.store.unlock(rest)?,
             _ => return Ok(false),

@@ -8,10 +8,14 @@ use crate::streams::{Inlet, Outlet, Pace};
 use crate::told::Told;
 use repo_chunk::Params;
 use repo_name::{Instance, Kind, Token};
-use repo_store::{Fail, FaultShelf, MemShelf, Shelf, ShelfError, init, serve};
+use repo_store::{
+    AppendOnly, Fail, FaultShelf, Kept, MemShelf, ServeError, Shelf, ShelfError, init, serve,
+};
 use repo_tree::Config;
 use repo_wire::{Ask, FrameReader, Reply, Request, Say, write_request};
 use std::alloc::Global;
+use std::io::{Read, Write};
+use std::mem;
 
 /// The most objects of one kind that are counted.
 const MANY: usize = 1_000_000;
@@ -20,7 +24,14 @@ const MANY: usize = 1_000_000;
 #[derive(Drop)]
 pub struct Store {
     alloc: Global,
-    pub shelf: FaultShelf<MemShelf>,
+    pub shelf: Kept<FaultShelf<MemShelf>>,
+    /// What is asked of it one by one is asked of a store that only appends.
+    append_only: bool,
+}
+
+/// A device on which nobody made a store yet.
+fn new_shelf(alloc: Global) -> Kept<FaultShelf<MemShelf>> {
+    Kept::new(alloc, FaultShelf::new(MemShelf::new(alloc)))
 }
 
 /// The config of a store by four numbers.
@@ -79,7 +90,8 @@ impl Store {
     pub fn new(alloc: Global) -> Store {
         Store {
             alloc,
-            shelf: FaultShelf::new(MemShelf::new(alloc)),
+            shelf: new_shelf(alloc),
+            append_only: false,
         }
     }
 
@@ -122,6 +134,32 @@ impl Store {
         Ok(())
     }
 
+    /// From now on the store only appends.
+    pub fn append(&mut self) {
+        self.append_only = true;
+    }
+
+    /// Serves a connection.
+    fn serve<R: Read, W: Write>(
+        &mut self,
+        reader: &mut R,
+        writer: &mut W,
+    ) -> Result<u64, ServeError> {
+        if !self.append_only {
+            return serve(self.alloc, reader, writer, &mut self.shelf);
+        }
+        let shelf = mem::replace(&mut self.shelf, new_shelf(self.alloc));
+        let mut shelf = AppendOnly::new(shelf);
+        let served = serve(self.alloc, reader, writer, &mut shelf);
+        self.shelf = shelf.into_inner();
+        served
+    }
+
+    /// Closes the store and opens it: what was remembered is forgotten.
+    pub fn restart(&mut self) {
+        self.shelf.forget();
+    }
+
     /// Arms nothing.
     pub fn disarm(&mut self) {
         self.shelf.disarm();
@@ -141,7 +179,7 @@ impl Store {
             pace,
         };
         let mut writer = Outlet::new(self.alloc, room);
-        let served = serve(self.alloc, &mut reader, &mut writer, &mut self.shelf);
+        let served = self.serve(&mut reader, &mut writer);
         told.frames("said", writer.taken.as_slice())?;
         match served {
             Ok(count) => told.number("served", count)?,
@@ -156,7 +194,7 @@ impl Store {
     /// The store's reply to a frame.
     pub fn reply(&mut self, frame: &[u8]) -> Result<Vec<u8>, ScriptError> {
         let (mut reader, mut reply) = (frame, Vec::new(self.alloc));
-        match serve(self.alloc, &mut reader, &mut reply, &mut self.shelf) {
+        match self.serve(&mut reader, &mut reply) {
             Ok(_) => Ok(reply),
             Err(_) => Err(ScriptError::Memory),
         }

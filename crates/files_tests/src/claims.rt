@@ -3,7 +3,7 @@
 use crate::runs::Shut;
 use crate::yards::Yard;
 use repo_files::DirShelf;
-use repo_prog::{Status, serve_folder};
+use repo_prog::{Serving, Status, serve_folder};
 use std::fs;
 use std::io::ErrorKind;
 use std::panic::Expect;
@@ -48,12 +48,16 @@ impl Yard {
     /// The server binds, and then can't tell that it listens.
     fn binds(&mut self) {
         let (root, mut faults) = (self.root.as_str(), Vec::new(self.rt.alloc()));
+        let serving = Serving {
+            connections: 1,
+            idle: None,
+            append_only: false,
+        };
         let status = serve_folder(
             &self.rt,
             root,
             "127.0.0.1:0",
-            1,
-            None,
+            serving,
             &mut Shut,
             &mut faults,
         );

@@ -3,13 +3,23 @@
 use crate::runs::{Run, TICKET, TOKEN, words_of};
 use crate::sockets::{DEVICE, SECOND, answer, client, taken_port};
 use crate::yards::Yard;
-use repo_prog::{Order, order_of, serve_folder};
+use repo_prog::{Order, Serving, order_of, serve_folder};
 use std::alloc::{AllocError, Global};
 use std::io;
 use std::io::Write;
 use std::net::{OpenListener, Shutdown, SocketAddr, TcpListener, TcpStream};
 use std::panic::Expect;
 use std::time::Duration;
+
+/// The deletion of a pack under the token 9.
+const DELETION: &str = "000000420a010101010101010101010101010101010000000000000001\
+                        000000000000000900\
+                        0707070707070707070707070707070707070707070707070707070707070707";
+
+/// The replies to it: the token is dead; the store only appends.
+const DEAD: &str = "0000001a8601010101010101010101010101010101000000000000000102";
+
+const APPENDS: &str = "0000001a860101010101010101010101010101010100000000000000010e";
 
 /// An output that calls back: when it is told that the server listens, it connects to it and asks.
 #[derive(Drop)]
@@ -71,13 +81,22 @@ impl Write for Caller {
     }
 }
 
+/// One connection is served, which may be idle for so long.
+fn within(idle: Option<Duration>) -> Serving {
+    Serving {
+        connections: 1,
+        idle,
+        append_only: false,
+    }
+}
+
 /// Serves a folder to one caller: what the server told, and the reply in hexadecimal.
-fn served(caller: &mut Caller, root: &str, idle: Option<Duration>) -> io::Result<String> {
+fn served(caller: &mut Caller, root: &str, serving: Serving) -> io::Result<String> {
     let alloc = caller.rt.alloc();
     let place = format!(in alloc; "{}", caller.address)?;
     let mut run = Run::new(alloc);
     let rt = caller.rt;
-    run.status = serve_folder(&rt, root, place.as_str(), 1, idle, caller, &mut run.faults);
+    run.status = serve_folder(&rt, root, place.as_str(), serving, caller, &mut run.faults);
     run.output.extend_from_slice(caller.told.as_slice())?;
     with_answer(&run, caller)
 }
@@ -98,11 +117,11 @@ fn asking(rt: HostRuntime, digits: &str, is_last: bool) -> io::Result<Caller> {
     }
 }
 
-/// After how long the words end an idle connection; `None` where they make no command.
-fn idle_of(alloc: Global, words: &str) -> Result<Option<Option<Duration>>, AllocError> {
+/// How the words have a folder served; `None` where they make no command.
+fn serving_of(alloc: Global, words: &str) -> Result<Option<Serving>, AllocError> {
     let words = words_of(alloc, words)?;
     match order_of(alloc, words.as_slice()) {
-        Ok(Order::Serve { idle, .. }) => Ok(Some(idle)),
+        Ok(Order::Serve { serving, .. }) => Ok(Some(serving)),
         _ => Ok(None),
     }
 }
@@ -113,10 +132,10 @@ fn asked(
     root: &str,
     digits: &str,
     is_last: bool,
-    idle: Option<Duration>,
+    serving: Serving,
 ) -> io::Result<String> {
     let mut caller = asking(rt, digits, is_last)?;
-    served(&mut caller, root, idle)
+    served(&mut caller, root, serving)
 }
 
 impl Yard {
@@ -134,11 +153,25 @@ impl Yard {
         told: &str,
         reply: &str,
     ) {
-        let is_so = match asked(self.rt, self.root.as_str(), digits, is_last, idle) {
+        self.answers(digits, is_last, within(idle), told, reply);
+    }
+
+    /// The folder is served so to one client: what is told, and the reply.
+    fn answers(&mut self, digits: &str, is_last: bool, serving: Serving, told: &str, reply: &str) {
+        let is_so = match asked(self.rt, self.root.as_str(), digits, is_last, serving) {
             Ok(text) => text.as_str().strip_prefix(told) == Some(reply),
             Err(_) => false,
         };
         self.count(is_so);
+    }
+
+    /// The folder, whose store only appends, is served to one client.
+    fn serves_appending(&mut self, digits: &str, reply: &str) {
+        let serving = Serving {
+            append_only: true,
+            ..within(None)
+        };
+        self.answers(digits, true, serving, "0|listening\n|", reply);
     }
 
     /// An address at which somebody listens isn't listened to.
@@ -151,7 +184,21 @@ impl Yard {
 
     /// The words after those that every server has end an idle connection after so long.
     fn idles(&mut self, words: &str, wanted: Option<Option<Duration>>) {
-        let is_so = matches!(idle_of(self.rt.alloc(), words), Ok(idle) if idle == wanted);
+        let is_so = match serving_of(self.rt.alloc(), words) {
+            Ok(Some(serving)) => wanted == Some(serving.idle),
+            Ok(None) => wanted.is_none(),
+            Err(_) => false,
+        };
+        self.count(is_so);
+    }
+
+    /// The words have a store deleted from, or not.
+    fn appends(&mut self, words: &str, wanted: Option<bool>) {
+        let is_so = match serving_of(self.rt.alloc(), words) {
+            Ok(Some(serving)) => wanted == Some(serving.append_only),
+            Ok(None) => wanted.is_none(),
+            Err(_) => false,
+        };
         self.count(is_so);
     }
 }
@@ -230,5 +277,25 @@ fn words_tell_how_long_a_connection_may_idle(rt: HostRuntime) {
     yard.idles("vault serve x y --idle 18446744073709551616", None);
     yard.idles("vault serve x y --idle -1", None);
     yard.idles("vault serve x y --idle soon", None);
+    yard.end(&rt);
+}
+
+// A deletion under a token that was never issued: 2, or 14 where the store only appends.
+#[test]
+fn a_folder_is_served_that_only_appends(rt: HostRuntime) {
+    let mut yard = Yard::store(rt, "appends").expect(&rt, "no folder");
+    yard.serves(DELETION, "0|listening\n|", DEAD);
+    yard.serves_appending(DELETION, APPENDS);
+    yard.serves_appending(TICKET, TOKEN);
+    yard.end(&rt);
+}
+
+#[test]
+fn words_tell_whether_a_store_only_appends(rt: HostRuntime) {
+    let mut yard = Yard::empty(rt, "append-words").expect(&rt, "no folder");
+    yard.appends("vault serve x y", Some(false));
+    yard.appends("vault serve x y --append-only", Some(true));
+    yard.appends("vault serve --append-only x y --connections 2", Some(true));
+    yard.appends("vault serve x y --append-only yes", None);
     yard.end(&rt);
 }

@@ -15,7 +15,7 @@ use Rattle.repo_session.specs.Order.{IsPermitted, Obeys}
 use Rattle.repo_session.specs.Soundness.{IsSound}
 use Rattle.repo_session.specs.Talks.{Talk, trace_of}
 use Rattle.repo_session.specs.Traces.{Exchange, Trace, WasAsked}
-use Rattle.repo_session.proofs.Concluding.{DeletesNothing, IsSoundThroughout, no_delete, reads_first, was_put, calm_of, ends_well}
+use Rattle.repo_session.proofs.Concluding.{DeletesNothing, IsSoundThroughout, no_delete, reads_first, suits_either, was_put, calm_of, ends_well}
 use Rattle.repo_session.proofs.Growing.{Led, Shares, led, shares_nothing, shares_more}
 use Rattle.repo_backup.specs.BackupStates.{backup_task}
 use Rattle.repo_backup.specs.Folders.{Folder, blobs_of}
@@ -92,4 +92,4 @@ pub backup_ends : BackupEndsWell
 backup_ends who entries from to failed talk outcome fit low ran few is clash =
     let es : Trace = trace_of talk in
     let sound = throughout who entries from fit.sound (IsSent es None) (IsMadeOf entries es) clash talk (covers_all entries es None) is.obeys in
-    ends_well (backup_task who) (Allows entries) (GivesNothing entries) (Ends entries) (reads_first (backup_task who) (Allows entries) (GivesNothing entries) (deletes_nothing entries)) from fit tt talk to outcome is (led from talk to ran.run) sound (calm_of failed talk low ran.cause) few
+    ends_well (backup_task who) (Allows entries) (GivesNothing entries) (Ends entries) (reads_first (backup_task who) (Allows entries) (GivesNothing entries) (deletes_nothing entries)) from fit tt (suits_either (Allows entries) from (deletes_nothing entries)) talk to outcome is (led from talk to ran.run) sound (calm_of failed talk low ran.cause) few

@@ -29,7 +29,7 @@ use Rattle.repo_session.specs.Soundness.{IsSound}
 use Rattle.repo_session.specs.Talks.{Talk, trace_of}
 use Rattle.repo_session.specs.Told.{AskedToPut}
 use Rattle.repo_session.specs.Traces.{Each, Trace, Exchanged, Lists, names_in}
-use Rattle.repo_session.proofs.Concluding.{calm_of, either, ends_well, reads_first}
+use Rattle.repo_session.proofs.Concluding.{calm_of, either, ends_well, reads_first, suits_either}
 use Rattle.repo_name.proofs.Containing.{first_contained, later_contained, none_contained, contained_or}
 use Rattle.repo_session.proofs.Enumerating.{listed_or_put}
 use Rattle.repo_session.proofs.Growing.{Led, Shares, led}
@@ -275,5 +275,5 @@ check_ends who from to failed talk outcome fit apart low ran few is =
     let h = led from talk to ran.run in
     let agree = held_agree from (IsSent [] None) (λ x. ⊥) apart from.objects (λ k n x p. inl (n, p)) fit.sound.named in
     check_well (trace_of talk) outcome (own_before who from fit.sound agree talk to is.obeys h)
-    (ends_well (check_task who) CheckAllows CheckGives CheckConcludes (reads_first (check_task who) CheckAllows CheckGives (λ es t k n x. x)) from fit tt talk to outcome is h
+    (ends_well (check_task who) CheckAllows CheckGives CheckConcludes (reads_first (check_task who) CheckAllows CheckGives (λ es t k n x. x)) from fit tt (suits_either CheckAllows from (λ es t k n x. x)) talk to outcome is h
     (sound_throughout (check_task who) CheckAllows CheckGives check_never from talk fit.sound is.obeys) (calm_of failed talk low ran.cause) few)

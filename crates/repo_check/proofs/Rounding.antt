@@ -204,6 +204,7 @@ got_now k n (Say.Refused Code.Fault) a es h = absurd h
 got_now k n (Say.Refused Code.NoMemory) a es h = absurd h
 got_now k n (Say.Refused Code.Full) a es h = absurd h
 got_now k n (Say.Refused Code.Exhausted) a es h = absurd h
+got_now k n (Say.Refused Code.AppendOnly) a es h = absurd h
 got_now k n (Say.Token token) a es h = absurd h
 got_now k n Say.Done a es h = absurd h
 got_now k n (Say.Names more names) a es h = absurd h

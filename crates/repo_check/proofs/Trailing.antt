@@ -114,6 +114,7 @@ ranged_now fact (Say.Refused Code.Fault) a es h = absurd h
 ranged_now fact (Say.Refused Code.NoMemory) a es h = absurd h
 ranged_now fact (Say.Refused Code.Full) a es h = absurd h
 ranged_now fact (Say.Refused Code.Exhausted) a es h = absurd h
+ranged_now fact (Say.Refused Code.AppendOnly) a es h = absurd h
 ranged_now fact (Say.Token token) a es h = absurd h
 ranged_now fact Say.Done a es h = absurd h
 ranged_now fact (Say.Names more names) a es h = absurd h

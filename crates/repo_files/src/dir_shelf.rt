@@ -220,10 +220,15 @@ fn pack_folder(alloc: Global, first: u8) -> Result<String, AllocError> {
 
 impl<R: Files + AllocGlobal + Clone + Drop> Shelf for DirShelf<R> {
     ghost use Rattle.repo_store.specs.Stores.{empty};
+    ghost use Rattle.repo_store.specs.declared.faults.Armed.{Armed};
 
     ghost store = { λ _. empty };
 
     ghost failed = { λ d. d.failures };
+
+    ghost armed = { λ _. Armed.Nothing };
+
+    ghost own = { λ d. d.failures };
 
     ghost writes = { λ _. 0 };
 
@@ -307,5 +312,9 @@ impl<R: Files + AllocGlobal + Clone + Drop> Shelf for DirShelf<R> {
 
     fn failures(&self) -> u64 {
         self.failures
+    }
+
+    fn append_only(&self) -> bool {
+        false
     }
 }

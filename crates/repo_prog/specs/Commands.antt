@@ -60,7 +60,7 @@ IsIdle (Some time) = 0 < as_nanos time
 abbrev pub IsOrder : Order → Type 0
 IsOrder Order.Frames = ⊤
 IsOrder (Order.Init folder making) = IsTarget making.target
-IsOrder (Order.Serve folder address connections idle) = (1 ≤ connections) × IsIdle idle
+IsOrder (Order.Serve folder address serving) = (1 ≤ serving.connections) × IsIdle serving.idle
 IsOrder (Order.Client address errand) = IsErrand errand
 
 -- what the command gives for this input: all that was asked, or what one of the errors leaves

@@ -74,14 +74,12 @@ where
         Order::Serve {
             folder,
             address,
-            connections,
-            idle,
+            serving,
         } => serve_folder(
             rt,
             folder.as_str(),
             address.as_str(),
-            connections,
-            idle,
+            serving,
             output,
             faults,
         ),

@@ -5,8 +5,8 @@ ghost use Rattle.repo_prog.specs.Commands.{IsErrand};
 
 use crate::choosing::{choice_of, choice_words};
 use crate::help::{BACKUP, CHECK, FORGET, LOCKS, PRUNE, REFRESH, RESTORE, SNAPSHOTS, UNLOCK};
-use crate::words::{WordsError, needed, number_of, word_of};
-use clap::{Arg, ArgAction, ArgMatches, Command};
+use crate::words::{WordsError, flag, needed, number_of, word_of};
+use clap::{Arg, ArgMatches, Command};
 use repo_name::{Name, Text, Token, is_host};
 use repo_prune::Choice;
 use std::alloc::{AllocError, Global};
@@ -74,10 +74,7 @@ fn refresh_words<'a>(alloc: Global) -> Result<Command<'a>, AllocError> {
 
 fn unlock_words<'a>(alloc: Global) -> Result<Command<'a>, AllocError> {
     let about = "Removes stale locks, or all";
-    let all = Arg::new(alloc, "remove-all")
-        .long("remove-all")
-        .action(ArgAction::SetTrue);
-    errand_words(alloc, "unlock", about, UNLOCK)?.arg(all)
+    errand_words(alloc, "unlock", about, UNLOCK)?.arg(flag(alloc, "remove-all"))
 }
 
 /// The commands that go to a server, added to those of the program.

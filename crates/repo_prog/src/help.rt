@@ -25,6 +25,9 @@ pub const SERVE: &str = "\
 A connection on which nothing comes for so many seconds, or that takes nothing of what is written to it, is
 ended, and the next one is served. With 0 none is.
 
+With --append-only no object is ever deleted, whoever asks: a forget or a prune that has something to delete
+ends with refused 14.
+
 Example:
   vault serve store 127.0.0.1:7070 --connections 1000
 

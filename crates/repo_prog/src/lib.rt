@@ -48,7 +48,7 @@ pub use errands::Errand;
 pub use errors::FramesError;
 pub use forgetting::forget_command;
 pub use frames_engine::frames;
-pub use listening::{serve_connections, serve_folder};
+pub use listening::{Serving, serve_connections, serve_folder};
 pub use locking::{locks_command, refresh_command, unlock_command};
 pub use making::{init_command, init_folder, random_instance};
 pub use pruning::prune_command;

@@ -8,7 +8,7 @@ ghost use Rattle.repo_prog.specs.declared.status.Status.{Status};
 
 use crate::status::{Status, failed};
 use repo_files::{DirShelf, HoldFile};
-use repo_store::{ServeError, Shelf, serve, write_whole};
+use repo_store::{AppendOnly, Kept, ServeError, Shelf, serve, write_whole};
 use std::alloc::{AllocGlobal, Global};
 use std::fs::Files;
 use std::io;
@@ -103,8 +103,44 @@ where
     status
 }
 
+/// Serves a shelf as it is to be served. What it has is remembered, so nobody else may write to it.
+fn serve_shelf<L: OpenListener, S: Shelf + Drop, F: Write>(
+    alloc: Global,
+    listener: &L,
+    serving: Serving,
+    shelf: S,
+    faults: &mut F,
+) -> Status
+where
+    L::Stream: Read + Write + OpenStream,
+    ensures silent { result ≡ Status.Done → faults.new ≡ faults.old }
+    ensures status { result ≢ Status.Usage }
+{
+    let Serving {
+        connections, idle, ..
+    } = serving;
+    if serving.append_only {
+        let mut shelf = Kept::new(alloc, AppendOnly::new(shelf));
+        return serve_connections(alloc, listener, connections, idle, &mut shelf, faults);
+    }
+    let mut shelf = Kept::new(alloc, shelf);
+    serve_connections(alloc, listener, connections, idle, &mut shelf, faults)
+}
+
+/// How a store is served.
+#[derive(Clone, Copy, Debug, PartialEq)]
+pub struct Serving {
+    /// How many connections are served, one after another.
+    pub connections: u64,
+    /// A connection that is idle for longer than this ends; `None`: none does.
+    pub idle: Option<Duration>,
+    /// The store only appends: it refuses to delete any object.
+    pub append_only: bool,
+}
+
 /// `vault serve`: opens the store in a folder, which it holds until it ends, binds the address, writes
 /// `listening` on a line, and serves so many connections, each of which ends once it is idle for so long.
+/// What the folder has is read once and remembered, since nobody else writes there.
 /// A folder that can't be opened, is no store, or is held by another server is told as `shelf failed`, an
 /// address as `not reached`, a line that can't be written as `write failed`; then nothing is served. What
 /// writes that were cut off left is removed once the address is bound.
@@ -112,8 +148,7 @@ pub fn serve_folder<R: Files + Net + AllocGlobal + Clone + Drop, W: Write, F: Wr
     rt: &R,
     folder: &str,
     address: &str,
-    connections: u64,
-    idle: Option<Duration>,
+    serving: Serving,
     output: &mut W,
     faults: &mut F,
 ) -> Status
@@ -133,5 +168,5 @@ where
     if write_whole(output, b"listening\n").is_err() || output.flush().is_err() {
         return failed(faults, &"write failed");
     }
-    serve_connections(rt.alloc(), &listener, connections, idle, &mut shelf, faults)
+    serve_shelf(rt.alloc(), &listener, serving, shelf, faults)
 }

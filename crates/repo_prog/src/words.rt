@@ -8,6 +8,7 @@ ghost use Rattle.repo_prog.specs.Commands.{IsOrder};
 
 use crate::errands::{Errand, errand_of, with_errands};
 use crate::help::{FRAMES, INIT, SERVE};
+use crate::listening::Serving;
 use clap::{Arg, ArgAction, ArgMatches, Command};
 use repo_chunk::Params;
 use repo_name::{GREATEST_TARGET, LEAST_TARGET};
@@ -33,13 +34,11 @@ pub enum Order {
         folder: String,
         making: Making,
     },
-    /// Serve so many connections to an address, one after another, from the store in a folder. One that is idle
-    /// for longer than this ends; `None`: none does.
+    /// Serve the store in a folder at an address.
     Serve {
         folder: String,
         address: String,
-        connections: u64,
-        idle: Option<Duration>,
+        serving: Serving,
     },
     /// Do an errand at a server's address.
     Client {
@@ -82,6 +81,13 @@ pub fn number<'a>(alloc: Global, name: &'a str, default: &'a str) -> Result<Arg<
     )
 }
 
+/// An option without a word.
+pub fn flag<'a>(alloc: Global, name: &'a str) -> Arg<'a> {
+    Arg::new(alloc, name)
+        .long(name)
+        .action(ArgAction::SetTrue)
+}
+
 /// A word that has to be there.
 pub fn needed<'a>(alloc: Global, name: &'a str) -> Arg<'a> {
     Arg::new(alloc, name).required(true).action(ArgAction::Set)
@@ -100,13 +106,15 @@ fn init_words<'a>(alloc: Global) -> Result<Command<'a>, AllocError> {
 
 fn serve_words<'a>(alloc: Global) -> Result<Command<'a>, AllocError> {
     let idle = number(alloc, "idle", "21600")?.value_name("SECONDS");
+    let append_only = flag(alloc, "append-only");
     Command::new(alloc, "serve")
         .about("Serves the store in a folder to one connection after another")
         .after_help(SERVE)
         .arg(needed(alloc, "DIR"))?
         .arg(needed(alloc, "ADDR"))?
         .arg(number(alloc, "connections", "1")?)?
-        .arg(idle)
+        .arg(idle)?
+        .arg(append_only)
 }
 
 /// What `vault --version` tells.
@@ -203,11 +211,16 @@ fn serve_order(alloc: Global, matches: &ArgMatches) -> Result<Order, WordsError>
         return Err(WordsError::BadArgument);
     }
     let idle = idle_of(number_of(matches, "idle")?);
+    let append_only = matches.get_flag("append-only");
+    let serving = Serving {
+        connections,
+        idle,
+        append_only,
+    };
     Ok(Order::Serve {
         folder,
         address,
-        connections,
-        idle,
+        serving,
     })
 }
 

@@ -99,7 +99,7 @@ module _ (who : Asker) (choice : Choice) (from : Store) (start : IsSound from.ob
   lone [] to o h = subst (λ (s : Store). Knows s) (sym h) (record { fewer = λ k n x g. g; others = λ k n x other g. g }, start)
   lone (turn ∷ talk) to o h = next_known (trace_of talk) h.0 turn.request.ask turn.reply.say to (lone talk h.0 o.3 h.1) o.1 h.2.step
 
-  throughout : (talk : Talk) → Keeps (trace_of talk) → IsSoundThroughout from talk
+  pub throughout : (talk : Talk) → Keeps (trace_of talk) → IsSoundThroughout from talk
   throughout [] o = start
   throughout (turn ∷ talk) o = ((λ to h. (lone (turn ∷ talk) to o h).1), throughout talk o.3)
 
@@ -135,7 +135,7 @@ forget_well choice es None h = h
 forget_well choice es (Some outcome) h = forgotten_well choice (before_unlock es) outcome h
 
 pub forget_ends : ForgetEndsWell
-forget_ends who choice from to failed talk outcome fit apart low ran few is =
+forget_ends who choice from to failed talk outcome fit deletes apart low ran few is =
     forget_well choice (trace_of talk) outcome
-    (ends_well (forget_task who) (ForgetAllows choice) (ForgetGives choice) (ForgetConcludes choice) (λ es ask o permitted reading. undeleted es (read_first choice es ask permitted reading)) from fit tt talk to outcome is (led from talk to ran.run)
+    (ends_well (forget_task who) (ForgetAllows choice) (ForgetGives choice) (ForgetConcludes choice) (λ es ask o permitted reading. undeleted es (read_first choice es ask permitted reading)) from fit tt (λ es token k n allowed. deletes) talk to outcome is (led from talk to ran.run)
     (throughout who choice from fit.sound apart talk is.obeys) (calm_of failed talk low ran.cause) few)

@@ -12,6 +12,7 @@ pub mod Repacking
 pub mod Cutting
 pub mod PruneRuns
 pub mod PruneEnds
+pub mod AppendOnly
 pub mod PruneLeaves
 pub mod Relistings
 pub mod Asides

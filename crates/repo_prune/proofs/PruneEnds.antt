@@ -1,5 +1,5 @@
 -- How a prune ends that is alone with its store.
-use Rattle.std.proofs.Common.{◌≡◌, ◌⊎◌, ◌∷◌, [], ℕ, List, Option, Some, None, refl, sym, ap, subst, inl, ⊎_elim, Contains, ◌∙◌}
+use Rattle.std.proofs.Common.{◌≡◌, ◌∷◌, [], ℕ, List, Option, Some, None, refl, sym, subst, inl, ⊎_elim, Contains, ◌∙◌}
 use Rattle.std.proofs.lemmas.Option.{same_Some}
 use Rattle.repo_name.specs.declared.kinds.BlobKind.{BlobKind}
 use Rattle.repo_name.specs.declared.kinds.Kind.{Kind}
@@ -15,7 +15,7 @@ use Rattle.repo_tree.specs.Spelling.{Spells}
 use Rattle.repo_tree.specs.declared.entries.Entry.{Entry}
 use Rattle.repo_tree.specs.declared.snapshots.Snapshot.{Snapshot}
 use Rattle.repo_tree.proofs.SnapshotLemmas.{snapshot_texts_one}
-use Rattle.repo_store.specs.Stores.{Store, Objects}
+use Rattle.repo_store.specs.Stores.{Store}
 use Rattle.repo_session.specs.declared.outcomes.End.{End}
 use Rattle.repo_session.specs.declared.outcomes.Outcome.{Outcome}
 use Rattle.repo_session.specs.Alone.{IsFit, IsSent, EndsWell}
@@ -24,7 +24,7 @@ use Rattle.repo_session.specs.Deletions.{NoneDeleted}
 use Rattle.repo_session.specs.Ends.{before_unlock}
 use Rattle.repo_session.specs.Order.{IsPermitted, IsReading, Obeys}
 use Rattle.repo_session.specs.Received.{Received}
-use Rattle.repo_session.specs.Soundness.{IsHeld, IsSound}
+use Rattle.repo_session.specs.Soundness.{IsHeld}
 use Rattle.repo_session.specs.Talks.{Talk, trace_of}
 use Rattle.repo_session.specs.Told.{AskedToPut}
 use Rattle.repo_session.specs.Traces.{Trace, Object, WasAsked, Lists, ReadFact}
@@ -37,7 +37,7 @@ use Rattle.repo_session.proofs.Growing.{Led, Shares, led}
 use Rattle.repo_session.proofs.Spoken.{held_agree}
 use Rattle.repo_session.proofs.Telling.{seen_run}
 use Rattle.repo_writing.proofs.PutLemmas.{asked_put}
-use Rattle.repo_prune.specs.PruneLaws.{IsPrunedOrMemory, AreApart, PruneEndsWell}
+use Rattle.repo_prune.specs.PruneLaws.{IsPrunedOrMemory, PruneEndsWell}
 use Rattle.repo_prune.specs.Pruning.{prune_task, IsUntouched, IsBadTree, PruneAllows, PruneGives, PruneConcludes}
 use Rattle.repo_prune.proofs.ForgetRuns.{undeleted}
 use Rattle.repo_prune.proofs.PruneRuns.{throughout}
@@ -137,7 +137,7 @@ module _ (who : Asker) (from : Store) (fit : IsFit from) (agree : Agree (IsHeld 
   own_well talk to o h (Outcome.Ended End.Version) own = absurd own
   own_well talk to o h (Outcome.Ended End.DirectoryTooLarge) own = absurd own
 
-  own_before : (talk : Talk) (to : Store) → Obeys (prune_task who) PruneAllows PruneGives (trace_of talk) → Led from talk to → (outcome : Outcome) → PruneConcludes (before_unlock (trace_of talk)) outcome → IsPrunedOrMemory (Some outcome)
+  pub own_before : (talk : Talk) (to : Store) → Obeys (prune_task who) PruneAllows PruneGives (trace_of talk) → Led from talk to → (outcome : Outcome) → PruneConcludes (before_unlock (trace_of talk)) outcome → IsPrunedOrMemory (Some outcome)
   own_before [] to o h outcome own = own_well [] to o h outcome own
   own_before (turn ∷ talk) to o h outcome own =
       ⊎_elim (λ now. own_well (turn ∷ talk) to o h outcome now) (λ before. own_well talk h.0 o.3 h.1 outcome before)
@@ -148,9 +148,9 @@ prune_well es None own h = h
 prune_well es (Some outcome) own h = ⊎_elim (λ (q : outcome ≡ Outcome.Ended (End.Refused Code.NoMemory)). subst (λ x. IsPrunedOrMemory (Some x)) (sym q) refl) (own outcome) h
 
 pub prune_ends : PruneEndsWell
-prune_ends who from to failed talk outcome fit apart low ran few is =
+prune_ends who from to failed talk outcome fit deletes apart low ran few is =
     let h = led from talk to ran.run in
     let agree = held_agree from (IsSent (trace_of talk) None) (λ x. ⊥) apart from.objects (λ k n x p. inl (n, p)) fit.sound.named in
     prune_well (trace_of talk) outcome (own_before who from fit agree talk to is.obeys h)
-    (ends_well (prune_task who) PruneAllows PruneGives PruneConcludes (λ es ask o permitted reading. undeleted es (prune_reads_first es ask permitted reading)) from fit tt talk to outcome is h
+    (ends_well (prune_task who) PruneAllows PruneGives PruneConcludes (λ es ask o permitted reading. undeleted es (prune_reads_first es ask permitted reading)) from fit tt (λ es token k n allowed. deletes) talk to outcome is h
     (throughout who from fit.sound (IsSent (trace_of talk) None) apart talk is.obeys (λ ask w. w)) (calm_of failed talk low ran.cause) few)

@@ -1,7 +1,6 @@
 -- What a prune leaves that is alone with its store.
-use Rattle.std.proofs.Common.{◌≡◌, ◌⊎◌, ◌∷◌, [], ℕ, List, slice_get, Option, Some, None, refl, sym, ap, subst, inl, inr, ⊎_elim, append-nil, Contains, ◌∙◌}
+use Rattle.std.proofs.Common.{◌≡◌, ◌∷◌, [], ℕ, List, slice_get, Option, Some, None, refl, sym, ap, subst, inl, inr, ⊎_elim, Contains, ◌∙◌}
 use Rattle.std.proofs.lemmas.Option.{same_Some}
-use Rattle.repo_name.specs.Naming as naming
 use Rattle.repo_name.specs.declared.kinds.BlobKind.{BlobKind}
 use Rattle.repo_name.specs.declared.kinds.BlobKind.TheVariants.{Tree}
 use Rattle.repo_name.specs.declared.kinds.Kind.{Kind}
@@ -13,7 +12,7 @@ use Rattle.repo_wire.specs.declared.messages.Say.{Say}
 use Rattle.repo_pack.specs.PackLayout.{Item, IsTruePack}
 use Rattle.repo_pack.proofs.Packs.{packs_one}
 use Rattle.repo_index.specs.Exactness.{fact_at, IsExactFor}
-use Rattle.repo_index.specs.IndexText.{facts_in, IsIndexText, Says}
+use Rattle.repo_index.specs.IndexText.{facts_in, IsIndexText}
 use Rattle.repo_index.specs.declared.facts.Fact.{Fact}
 use Rattle.repo_index.specs.declared.facts.PackFacts.{PackFacts}
 use Rattle.repo_index.proofs.OneLemmas.{index_texts_one}
@@ -35,14 +34,14 @@ use Rattle.repo_session.specs.Order.{Obeys}
 use Rattle.repo_session.specs.Soundness.{IsHeld, IsSound, IsExactPack}
 use Rattle.repo_session.specs.Talks.{Talk, trace_of}
 use Rattle.repo_session.specs.Told.{AskedToDelete, AskedToPut, Told, Seen}
-use Rattle.repo_session.specs.Traces.{Trace, Object, WasAsked, Lists}
-use Rattle.repo_name.proofs.Containing.{none_contained, contained_or, flat_contains, contains_flat}
+use Rattle.repo_session.specs.Traces.{Trace, WasAsked}
+use Rattle.repo_name.proofs.Containing.{none_contained, contained_or, contains_flat}
 use Rattle.repo_session.proofs.Enumerating.{listed_or_put}
 use Rattle.repo_session.proofs.Growing.{Led, led, step_moves}
 use Rattle.repo_session.proofs.Spoken.{was_asked}
 use Rattle.repo_session.proofs.Telling.{told_run, seen_run}
 use Rattle.repo_writing.specs.Blobs.{HasFact}
-use Rattle.repo_writing.specs.Writing.{Listing, packs_of, IsDone}
+use Rattle.repo_writing.specs.Writing.{Listing, IsDone}
 use Rattle.repo_writing.proofs.Keeping.{put_is_there, fact_of_listed}
 use Rattle.repo_writing.proofs.PutLemmas.{each_contained, asked_put}
 use Rattle.repo_writing.proofs.Replacing.{put_says, each_index_put}
@@ -50,7 +49,7 @@ use Rattle.repo_prune.specs.Keeping.{Row}
 use Rattle.repo_prune.specs.PruneLaws.{IsReachedIn, IsListedIn, HaveJustWhatIsNeeded, PruneLeavesWhatIsNeeded}
 use Rattle.repo_prune.specs.Pruning.{prune_task, AreFactsOnce, ListsPack, IsNeededBy, IsSettled, IsPruned, PruneAllows, PruneGives}
 use Rattle.repo_prune.proofs.Leaving.{unlock_or}
-use Rattle.repo_prune.proofs.PruneRuns.{either_or, no_delete, trees_agree, held_apart, stand, lone}
+use Rattle.repo_prune.proofs.PruneRuns.{listing_of, either_or, no_delete, trees_agree, stand, lone}
 
 -- facts of one pair are one, where none is there twice
 pair_here : (facts : List Fact) (a b : Fact) → ¬ HasFact facts a.kind a.name → Contains facts b → a.kind ≡ b.kind → a.name ≡ b.name → ⊥
@@ -149,11 +148,9 @@ module _ (who : Asker) (from : Store) (start : IsSound from.objects) (Sent : Ask
 
   index_for : (listed : PackFacts) → Contains p.packs listed → IsIndexFor listed
   index_for listed among =
-      let g = s.listed in
-      let all : p.packs ≡ packs_of g.listings = g.lists ∙ append-nil (packs_of g.listings) in
-      let found = flat_contains (λ (l : Listing). l.packs) g.listings listed (subst (λ (ps : List PackFacts). Contains ps listed) all among) in
+      let found = listing_of (trace_of talk) p.packs s.listed listed among in
       let listing : Listing = found.0 in
-      let done : IsDone (trace_of talk) listing = each_contained (IsDone (trace_of talk)) g.listings listing g.read_back found.1 in
+      let done : IsDone (trace_of talk) listing = found.1 in
       record {
         index = listing.index.name;
         text = listing.index.bytes;

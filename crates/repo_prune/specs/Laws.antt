@@ -1,5 +1,5 @@
 -- What holds of a forget that is alone with its store, by the definitions alone.
-use Rattle.std.specs.Prelude.{◌≡◌, ◌≢◌, ◌<◌, ◌^◌, ◌-◌, ◌↔◌, [], ⊤, ℕ, List, length, map, Option, Some, None}
+use Rattle.std.specs.Prelude.{◌≡◌, ◌≢◌, ◌⊎◌, ◌<◌, ◌^◌, ◌-◌, ◌↔◌, [], ⊤, ℕ, true, false, List, length, map, Option, Some, None}
 use Rattle.repo_name.specs.declared.kinds.Kind.{Kind}
 use Rattle.repo_name.specs.declared.names.Name.{Name}
 use Rattle.repo_wire.specs.declared.messages.Code.{Code}
@@ -39,8 +39,8 @@ abbrev pub ForgetKeepsSound : Type 0
 ForgetKeepsSound = (who : Asker) (choice : Choice) (from mid to : Store) (failed failing : ℕ) (talk : Talk) (next : Option Request) (outcome : Option Outcome)
     → IsSound from.objects → AreStoredApart from → TalkRan from failed talk mid failing → MayStep mid next to → IsForget who choice next outcome (trace_of talk) → HasFewerSnapshots from to × IsSound to.objects
 
--- a forget alone with a store in which it finds all that it wants, and whose device doesn't fail, tells at its end what it forgot, or the store had no
--- memory
+-- a forget alone with a store in which it finds all that it wants, which isn't one that only appends, and whose device doesn't fail, tells at its end what
+-- it forgot, or the store had no memory
 abbrev pub IsForgottenOrMemory : Option Outcome → Type 0
 IsForgottenOrMemory None = ⊥
 IsForgottenOrMemory (Some (Outcome.Forgotten names)) = ⊤
@@ -48,7 +48,17 @@ IsForgottenOrMemory (Some outcome) = outcome ≡ Outcome.Ended (End.Refused Code
 
 abbrev pub ForgetEndsWell : Type 0
 ForgetEndsWell = (who : Asker) (choice : Choice) (from to : Store) (failed : ℕ) (talk : Talk) (outcome : Option Outcome)
-    → IsFit from → AreStoredApart from → failed < greatest_count → TalkRan from failed talk to failed → length talk < 2 ^ 64 - 1 → IsForget who choice None outcome (trace_of talk) → IsForgottenOrMemory outcome
+    → IsFit from → from.append_only ≡ false → AreStoredApart from → failed < greatest_count → TalkRan from failed talk to failed → length talk < 2 ^ 64 - 1 → IsForget who choice None outcome (trace_of talk) → IsForgottenOrMemory outcome
+
+-- a forget alone with a store in which it finds all that it wants, which only appends, and whose device doesn't fail, forgets nothing: it is refused for that
+-- mode, or forgot no snapshot, or the store had no memory
+abbrev pub ForgetsNothing : Option Outcome → Type 0
+ForgetsNothing None = ⊥
+ForgetsNothing (Some outcome) = (outcome ≡ Outcome.Ended (End.Refused Code.NoMemory)) ⊎ ((outcome ≡ Outcome.Ended (End.Refused Code.AppendOnly)) ⊎ (outcome ≡ Outcome.Forgotten []))
+
+abbrev pub ForgetOfAppendOnly : Type 0
+ForgetOfAppendOnly = (who : Asker) (choice : Choice) (from to : Store) (failed : ℕ) (talk : Talk) (outcome : Option Outcome)
+    → IsFit from → from.append_only ≡ true → AreStoredApart from → failed < greatest_count → TalkRan from failed talk to failed → length talk < 2 ^ 64 - 1 → IsForget who choice None outcome (trace_of talk) → ForgetsNothing outcome
 
 -- rows are those of a store's snapshots: each is what the store has under its name, and none is left out
 pub record AreSnapshotsOf (store : Store) (rows : List Row) : Type 0 where

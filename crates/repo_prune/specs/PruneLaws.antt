@@ -1,5 +1,5 @@
 -- What holds of a prune that is alone with its store, by the definitions alone.
-use Rattle.std.specs.Prelude.{◌≡◌, ◌<◌, ◌^◌, ◌-◌, ◌↔◌, ⊤, ℕ, List, length, slice_get, Option, Some, None}
+use Rattle.std.specs.Prelude.{◌≡◌, ◌⊎◌, ◌<◌, ◌^◌, ◌-◌, ◌↔◌, ⊤, ℕ, true, false, List, length, slice_get, Option, Some, None}
 use Rattle.repo_name.specs.declared.kinds.BlobKind.{BlobKind}
 use Rattle.repo_name.specs.declared.kinds.Kind.{Kind}
 use Rattle.repo_name.specs.declared.names.Name.{Name}
@@ -41,7 +41,8 @@ abbrev pub PruneKeepsSound : Type 0
 PruneKeepsSound = (who : Asker) (from mid to : Store) (failed failing : ℕ) (talk : Talk) (next : Option Request) (outcome : Option Outcome)
     → IsSound from.objects → AreApart from (trace_of talk) next → TalkRan from failed talk mid failing → MayStep mid next to → IsPrune who next outcome (trace_of talk) → HaveSameSnapshots from to × IsSound to.objects
 
--- a prune alone with a store in which it finds all that it wants, and whose device doesn't fail, is done at its end, or the store had no memory
+-- a prune alone with a store in which it finds all that it wants, which isn't one that only appends, and whose device doesn't fail, is done at its end, or
+-- the store had no memory
 abbrev pub IsPrunedOrMemory : Option Outcome → Type 0
 IsPrunedOrMemory None = ⊥
 IsPrunedOrMemory (Some (Outcome.Pruned packs bytes)) = ⊤
@@ -49,7 +50,17 @@ IsPrunedOrMemory (Some outcome) = outcome ≡ Outcome.Ended (End.Refused Code.No
 
 abbrev pub PruneEndsWell : Type 0
 PruneEndsWell = (who : Asker) (from to : Store) (failed : ℕ) (talk : Talk) (outcome : Option Outcome)
-    → IsFit from → AreApart from (trace_of talk) None → failed < greatest_count → TalkRan from failed talk to failed → length talk < 2 ^ 64 - 1 → IsPrune who None outcome (trace_of talk) → IsPrunedOrMemory outcome
+    → IsFit from → from.append_only ≡ false → AreApart from (trace_of talk) None → failed < greatest_count → TalkRan from failed talk to failed → length talk < 2 ^ 64 - 1 → IsPrune who None outcome (trace_of talk) → IsPrunedOrMemory outcome
+
+-- a prune alone with a store in which it finds all that it wants, which only appends, and whose device doesn't fail, prunes no pack: it is refused for that
+-- mode, or is done with no pack deleted, or the store had no memory
+abbrev pub PrunesNoPack : Option Outcome → Type 0
+PrunesNoPack None = ⊥
+PrunesNoPack (Some outcome) = (outcome ≡ Outcome.Ended (End.Refused Code.NoMemory)) ⊎ ((outcome ≡ Outcome.Ended (End.Refused Code.AppendOnly)) ⊎ ((bytes : ℕ) × (outcome ≡ Outcome.Pruned 0 bytes)))
+
+abbrev pub PruneOfAppendOnly : Type 0
+PruneOfAppendOnly = (who : Asker) (from to : Store) (failed : ℕ) (talk : Talk) (outcome : Option Outcome)
+    → IsFit from → from.append_only ≡ true → AreApart from (trace_of talk) None → failed < greatest_count → TalkRan from failed talk to failed → length talk < 2 ^ 64 - 1 → IsPrune who None outcome (trace_of talk) → PrunesNoPack outcome
 
 -- ---- what a prune leaves
 

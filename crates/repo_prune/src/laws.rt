@@ -1,8 +1,8 @@
 //! What holds of a forget that is alone with its store, by the definitions alone. Each function is empty, and its
 //! contract is the law.
 
-ghost use Rattle.repo_prune.specs.Laws.{ForgetKeepsSound, ForgetEndsWell, ForgetLeavesTheOthers};
-ghost use Rattle.repo_prune.specs.PruneLaws.{PruneKeepsSound, PruneEndsWell, PruneLeavesWhatIsNeeded};
+ghost use Rattle.repo_prune.specs.Laws.{ForgetKeepsSound, ForgetEndsWell, ForgetOfAppendOnly, ForgetLeavesTheOthers};
+ghost use Rattle.repo_prune.specs.PruneLaws.{PruneKeepsSound, PruneEndsWell, PruneOfAppendOnly, PruneLeavesWhatIsNeeded};
 
 /// A forget alone with its store takes snapshots alone from it, and leaves a sound store sound: after every exchange,
 /// whatever the store answers, and also where the store is one step ahead of it. Premise: no two of the objects, and of
@@ -11,10 +11,17 @@ pub fn forget_keeps_sound()
     ensures { ForgetKeepsSound }
 {}
 
-/// A forget alone with a store in which it finds all that it wants, and whose device doesn't fail, ends `Forgotten`, or
-/// the store had no memory.
+/// A forget alone with a store in which it finds all that it wants, which isn't one that only appends, and whose device
+/// doesn't fail, ends `Forgotten`, or the store had no memory.
 pub fn forget_ends_well()
     ensures { ForgetEndsWell }
+{}
+
+/// A forget alone with a store in which it finds all that it wants, which only appends, and whose device doesn't fail,
+/// forgets nothing: it ends `Refused` for that mode, or `Forgotten` with no names, or the store had no memory. Such a
+/// store keeps each of its objects, and the forget adds none.
+pub fn forget_of_append_only()
+    ensures { ForgetOfAppendOnly }
 {}
 
 /// Where a forget alone with its store tells what it forgot, the snapshots that stay are just those that aren't chosen:
@@ -30,10 +37,17 @@ pub fn prune_keeps_sound()
     ensures { PruneKeepsSound }
 {}
 
-/// A prune alone with a store in which it finds all that it wants, and whose device doesn't fail, is done at its end, or the
-/// store had no memory. Premise: as above.
+/// A prune alone with a store in which it finds all that it wants, which isn't one that only appends, and whose device
+/// doesn't fail, is done at its end, or the store had no memory. Premise: as above.
 pub fn prune_ends_well()
     ensures { PruneEndsWell }
+{}
+
+/// A prune alone with a store in which it finds all that it wants, which only appends, and whose device doesn't fail,
+/// prunes no pack: it ends `Refused` for that mode, or `Pruned` with no packs, or the store had no memory. Such a store
+/// keeps each of its objects, and the prune adds packs and indexes alone. Premise: as above.
+pub fn prune_of_append_only()
+    ensures { PruneOfAppendOnly }
 {}
 
 /// Where a prune alone with its sound store is done, the store has just what its snapshots need, once: the facts of its

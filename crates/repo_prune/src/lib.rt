@@ -10,11 +10,12 @@
 //! of repo_session, so each request was one that the exchanges before it allow, whoever answers: it deletes a listed
 //! snapshot that is chosen, by a policy once all were read, it puts nothing, and it reads nothing after its first
 //! delete. `Forgotten` comes only once the delete of each chosen one is done. Alone with its store it keeps it sound,
-//! ends well, and leaves just the others (`laws`). A plan keeps just the packs of 1 to 4,096 blobs that are all used
-//! copies, and moves just the used copies of the others; of each used blob that an index gives, the used copy is the one
-//! at the least place. A prune deletes nothing before all that it puts is done and gives each blob that a listed snapshot
-//! needs, and no pack before the old indexes; it reads nothing after its first delete, and ends `Pruned` once each old
-//! index and each pack that no new index lists is deleted. Not promised: that a store answers.
+//! ends well where the store isn't one that only appends, forgets nothing where it is, and leaves just the others
+//! (`laws`). A plan keeps just the packs of 1 to 4,096 blobs that are all used copies, and moves just the used copies
+//! of the others; of each used blob that an index gives, the used copy is the one at the least place. A prune deletes
+//! nothing before all that it puts is done and gives each blob that a listed snapshot needs, and no pack before the old
+//! indexes; it reads nothing after its first delete, and ends `Pruned` once each old index and each pack that no new
+//! index lists is deleted; alone with a store that only appends it prunes no pack. Not promised: that a store answers.
 //!
 //! The definitions stand in `specs/`: `Keeping` (what a policy keeps), `Forgetting` (which snapshots a forget may
 //! delete, and how it may end); and what is known on the way: `Walks` (how the rows of a host are gone down), `Picking`,
@@ -47,8 +48,8 @@ pub use choices::{Choice, ForgetError};
 pub use forgets::Forget;
 pub use keeping::{Policy, keep};
 pub use laws::{
-    forget_ends_well, forget_keeps_sound, forget_leaves_the_others, prune_ends_well,
-    prune_keeps_sound, prune_leaves_what_is_needed,
+    forget_ends_well, forget_keeps_sound, forget_leaves_the_others, forget_of_append_only,
+    prune_ends_well, prune_keeps_sound, prune_leaves_what_is_needed, prune_of_append_only,
 };
 pub use plans::Plan;
 pub use prunes::Prune;

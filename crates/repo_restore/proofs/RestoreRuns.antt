@@ -29,7 +29,7 @@ use Rattle.repo_session.specs.Talks.{Talk, trace_of}
 use Rattle.repo_session.specs.Told.{AskedToPut}
 use Rattle.repo_session.specs.Traces.{Trace, Lists, ReadFact}
 use Rattle.repo_session.proofs.Causes.{range_length}
-use Rattle.repo_session.proofs.Concluding.{calm_of, either, ends_well, reads_first}
+use Rattle.repo_session.proofs.Concluding.{calm_of, either, ends_well, reads_first, suits_either}
 use Rattle.repo_session.proofs.Descending.{under_grows, needed_grows, broken_grows, root_spells_at, file_spelled, needed_there, unbroken}
 use Rattle.repo_session.proofs.Enumerating.{listed_or_put}
 use Rattle.repo_session.proofs.Growing.{Led, Shares, led}
@@ -85,7 +85,7 @@ list_well who es (Some outcome) h = listed_well who (before_unlock es) outcome h
 pub list_ends : ListEndsWell
 list_ends who from to failed talk outcome fit low ran few is =
     list_well who (trace_of talk) outcome
-    (ends_well (list_task who) (ListAllows who) (ListGives who) (ListConcludes who) (reads_first (list_task who) (ListAllows who) (ListGives who) (λ es t k n h. h)) from fit tt talk to outcome is (led from talk to ran.run)
+    (ends_well (list_task who) (ListAllows who) (ListGives who) (ListConcludes who) (reads_first (list_task who) (ListAllows who) (ListGives who) (λ es t k n h. h)) from fit tt (suits_either (ListAllows who) from (λ es t k n h. h)) talk to outcome is (led from talk to ran.run)
     (sound_throughout (list_task who) (ListAllows who) (ListGives who) (list_never who) from talk fit.sound is.obeys) (calm_of failed talk low ran.cause) few)
 
 -- ---- how a restore ends
@@ -211,5 +211,5 @@ restore_ends w from to failed talk outcome text fit there low ran few clash is =
     let h = led from talk to ran.run in
     let agree = held_agree from (λ ask. ⊥) (λ x. ⊥) clash from.objects (λ k n x p. inl (n, p)) fit.sound.named in
     restore_well w (trace_of talk) outcome (own_before w from fit.sound agree talk to is.obeys h)
-    (ends_well (restore_task w) (RestoreAllows w.snapshot) (RestoreGives w.snapshot) (RestoreConcludes w.snapshot) (reads_first (restore_task w) (RestoreAllows w.snapshot) (RestoreGives w.snapshot) (λ es t k n x. x)) from fit (text, there) talk to outcome is h
+    (ends_well (restore_task w) (RestoreAllows w.snapshot) (RestoreGives w.snapshot) (RestoreConcludes w.snapshot) (reads_first (restore_task w) (RestoreAllows w.snapshot) (RestoreGives w.snapshot) (λ es t k n x. x)) from fit (text, there) (suits_either (RestoreAllows w.snapshot) from (λ es t k n x. x)) talk to outcome is h
     (sound_throughout (restore_task w) (RestoreAllows w.snapshot) (RestoreGives w.snapshot) (restore_never w.snapshot) from talk fit.sound is.obeys) (calm_of failed talk low ran.cause) few)

@@ -20,9 +20,9 @@ use Rattle.repo_locks.specs.TokenMachine.{Tokens, live_as, is_fresh, is_among, i
 use Rattle.repo_locks.proofs.Changed.{kind_among-with_row_same}
 use Rattle.repo_store.specs.declared.shelves.Slice.{Slice}
 use Rattle.repo_store.specs.Slices.{IsSlice}
+use Rattle.repo_store.specs.Pages.{PageRises}
 use Rattle.repo_store.specs.StoreMachine.{object_limit, config_limit, IsRangeLength, Answers, Step, GetSays, RangeAnswer, PutAnswer, DeleteAnswer, SliceSays, TicketSays, LockSays}
 use Rattle.repo_store.specs.Stores.{Store}
-use Rattle.repo_session.specs.Ends.{PageRises}
 use Rattle.repo_session.specs.Order.{Task, May, ticketed, locked, lock_row, Holds, IsWorking, AreHeld}
 use Rattle.repo_session.specs.Traces.{Exchange, Trace, silent}
 use Rattle.repo_session.proofs.Growing.{answered, no_done, range_same}
@@ -47,6 +47,10 @@ IsThere store (Ask.Get k n) = (x : List ℕ) × (store.objects k n ≡ Some x) �
 IsThere store (Ask.Range p offset len) = (pack : List ℕ) × (x : List ℕ) × (store.objects Kind.Pack p ≡ Some pack) × (range pack offset len ≡ Some x) × IsRangeLength len
 IsThere store Ask.Config = (x : List ℕ) × (store.config ≡ Some x) × (length x ≤ config_limit)
 IsThere store _ = ⊤
+
+-- a delete is refused, as the store only appends
+abbrev pub IsWithheld : Store → Ask → Say → Type 0
+IsWithheld store ask say = (store.append_only ≡ true) × (say ≡ Say.Refused Code.AppendOnly) × ((token : Token) × (k : Kind) × (n : Name) × (ask ≡ Ask.Delete token k n))
 
 -- the reply that a client wants
 abbrev pub Right : Store → Ask → Say → Type 0
@@ -110,31 +114,32 @@ right_put store t k n x say new named few live (inr (inl h)) = absurd (live h.1)
 right_put store t k n x say new named few live (inr (inr (inl h))) = absurd (h.2 named)
 right_put store t k n x say new named few live (inr (inr (inr h))) = h.3
 
-right_delete : (store : Store) (t : Token) (k : Kind) (n : Name) (say : Say) (new : Store) → live_as store.tokens t ≡ Some true → DeleteAnswer store t k n say new → say ≡ Say.Done
-right_delete store t k n say new live (inl h) = absurd (none-some true (sym h.0 ∙ live))
-right_delete store t k n say new live (inr (inl h)) = let w : false ≡ true = same_Some false true (sym h.0 ∙ live) in absurd (cc)
-right_delete store t k n say new live (inr (inr h)) = h.1
+right_delete : (store : Store) (t : Token) (k : Kind) (n : Name) (say : Say) (new : Store) → live_as store.tokens t ≡ Some true → DeleteAnswer store t k n say new → IsWithheld store (Ask.Delete t k n) say ⊎ (say ≡ Say.Done)
+right_delete store t k n say new live (inl h) = inl (h.0, h.1, (t, k, n, refl))
+right_delete store t k n say new live (inr (deletes, inl h)) = absurd (none-some true (sym h.0 ∙ live))
+right_delete store t k n say new live (inr (deletes, inr (inl h))) = let w : false ≡ true = same_Some false true (sym h.0 ∙ live) in absurd (cc)
+right_delete store t k n say new live (inr (deletes, inr (inr h))) = inr h.1
 
 right_answer : (task : Task) (es : Trace) (store : Store) (ask : Ask) (say : Say) (new : Store) → Stands task es store.tokens → May task es ask → IsThere store ask
-    → Answers store ask say new → Right store ask say
-right_answer task es store Ask.Ticket say new stands may there a = right_ticket store a.result a.tokens say (stands.first may).1 a.step a.says
+    → Answers store ask say new → IsWithheld store ask say ⊎ Right store ask say
+right_answer task es store Ask.Ticket say new stands may there a = inr (right_ticket store a.result a.tokens say (stands.first may).1 a.step a.says)
 right_answer task es store (Ask.Lock row) say new stands may there a =
     let f = stands.fresh may.0 may.1 in
     let token : row.token ≡ may.0 = ap (λ (r : LockRow). r.token) may.2 in
-    right_lock store row a.result a.tokens say f.0 (ap (λ t. is_fresh store.tokens t) token ∙ f.1) a.step a.says
+    inr (right_lock store row a.result a.tokens say f.0 (ap (λ t. is_fresh store.tokens t) token ∙ f.1) a.step a.says)
 right_answer task es store (Ask.Refresh token time) say new stands may there a = absurd may
-right_answer task es store (Ask.Unlock token) say new stands may there a = a.says
+right_answer task es store (Ask.Unlock token) say new stands may there a = inr a.says
 right_answer task es store Ask.Locks say new stands may there a = absurd may
-right_answer task es store (Ask.List k after) say new stands may there a = (a.1, a.0, a.3, (a.2.ascends, λ m. some_names a.1 a.0 (a.2.follow m).0))
-right_answer task es store (Ask.Get k n) say new stands may there a = (there.0, there.1, right_get (object_limit k) (store.objects k n) say there.0 there.1 there.2 a.0)
-right_answer task es store (Ask.Range p offset len) say new stands may there a = right_range store p offset len say new there a
-right_answer task es store (Ask.Put t k n x) say new stands may there a = right_put store t k n x say new may.1 may.2 (λ none. none-some task.exclusive (sym none ∙ stands.held t (holding task es t may.0))) a
+right_answer task es store (Ask.List k after) say new stands may there a = inr (a.1, a.0, a.3, (a.2.ascends, λ m. some_names a.1 a.0 (a.2.follow m).0))
+right_answer task es store (Ask.Get k n) say new stands may there a = inr (there.0, there.1, right_get (object_limit k) (store.objects k n) say there.0 there.1 there.2 a.0)
+right_answer task es store (Ask.Range p offset len) say new stands may there a = inr (right_range store p offset len say new there a)
+right_answer task es store (Ask.Put t k n x) say new stands may there a = inr (right_put store t k n x say new may.1 may.2 (λ none. none-some task.exclusive (sym none ∙ stands.held t (holding task es t may.0))) a)
 right_answer task es store (Ask.Delete t k n) say new stands may there a = right_delete store t k n say new (stands.held t (holding task es t may.0) ∙ ap Some may.1) a
-right_answer task es store Ask.Config say new stands may there a = (there.0, there.1, right_get config_limit store.config say there.0 there.1 there.2 a.0)
+right_answer task es store Ask.Config say new stands may there a = inr (there.0, there.1, right_get config_limit store.config say there.0 there.1 there.2 a.0)
 
--- the store says what is wanted, or that it has no memory
+-- the store says what is wanted, or that it has no memory, or that it only appends
 pub right_step : (task : Task) (es : Trace) (store : Store) (ask : Ask) (say : Say) (new : Store) → Stands task es store.tokens → May task es ask → IsThere store ask
-    → say ≢ Say.Refused Code.Fault → Step store ask say new → (say ≡ Say.Refused Code.NoMemory) ⊎ Right store ask say
+    → say ≢ Say.Refused Code.Fault → Step store ask say new → (say ≡ Say.Refused Code.NoMemory) ⊎ (IsWithheld store ask say ⊎ Right store ask say)
 right_step task es store ask say new stands may there calm (inl a) = inr (right_answer task es store ask say new stands may there a)
 right_step task es store ask say new stands may there calm (inr (looks, inl f)) = absurd (calm f.0)
 right_step task es store ask say new stands may there calm (inr (looks, inr f)) = inl f.0
@@ -162,8 +167,9 @@ put_tokens old t k n x say new (inr (inr (inr h))) = h.4.2
 
 delete_tokens : (old : Store) (t : Token) (k : Kind) (n : Name) (say : Say) (new : Store) → DeleteAnswer old t k n say new → new.tokens ≡ old.tokens
 delete_tokens old t k n say new (inl h) = same_tokens old new h.2
-delete_tokens old t k n say new (inr (inl h)) = same_tokens old new h.2
-delete_tokens old t k n say new (inr (inr h)) = h.2.2
+delete_tokens old t k n say new (inr (deletes, inl h)) = same_tokens old new h.2
+delete_tokens old t k n say new (inr (deletes, inr (inl h))) = same_tokens old new h.2
+delete_tokens old t k n say new (inr (deletes, inr (inr h))) = h.2.2
 
 quiet_answer : (old : Store) (ask : Ask) (say : Say) (new : Store) → IsQuiet ask → Answers old ask say new → new.tokens ≡ old.tokens
 quiet_answer old Ask.Ticket say new q h = absurd q

@@ -1,5 +1,5 @@
 -- Trees under a root: in a set that grew, and in one where the root spells.
-use Rattle.std.proofs.Common.{arith, true, ◌≡◌, ◌≢◌, ◌⊎◌, inl, inr, ⊎_elim, ◌≤◌, ◌+◌, ◌-◌, ◌++◌, ◌∷◌, [], ℕ, zero, suc, List, length, flat_map, Option, Some, None, refl, sym, ◌∙◌, subst, append_assoc, Contains}
+use Rattle.std.proofs.Common.{arith, true, ◌≡◌, ◌≢◌, inl, inr, ⊎_elim, ◌≤◌, ◌+◌, ◌-◌, ◌++◌, ◌∷◌, [], ℕ, zero, suc, List, length, flat_map, Option, Some, None, refl, sym, ◌∙◌, subst, append_assoc, Contains}
 use Rattle.repo_name.specs.Naming as naming
 use Rattle.repo_name.specs.declared.kinds.BlobKind.{BlobKind}
 use Rattle.repo_name.specs.declared.kinds.Kind.{Kind}

@@ -97,8 +97,9 @@ put_moves old t k n x say new (inr (inr (inr h))) = inr (inl (record { token = t
 
 delete_moves : (old : Store) (t : Token) (k : Kind) (n : Name) (say : Say) (new : Store) → DeleteAnswer old t k n say new → Moves old (Ask.Delete t k n) new
 delete_moves old t k n say new (inl h) = same_moves old (Ask.Delete t k n) new h.2
-delete_moves old t k n say new (inr (inl h)) = same_moves old (Ask.Delete t k n) new h.2
-delete_moves old t k n say new (inr (inr h)) = inr (inr (record { token = t; kind = k; name = n; asked = refl; removed = h.2.0 }))
+delete_moves old t k n say new (inr (deletes, inl h)) = same_moves old (Ask.Delete t k n) new h.2
+delete_moves old t k n say new (inr (deletes, inr (inl h))) = same_moves old (Ask.Delete t k n) new h.2
+delete_moves old t k n say new (inr (deletes, inr (inr h))) = inr (inr (record { token = t; kind = k; name = n; asked = refl; removed = h.2.0 }))
 
 pub range_same : (old : Store) (pack : Name) (offset len : ℕ) (say : Say) (new : Store) → RangeAnswer old pack offset len say new → new ≡ old
 range_same old pack offset len say new (inl h) = h.2
@@ -138,8 +139,9 @@ put_config old t k n x say new (inr (inr (inr h))) = h.4.1
 
 delete_config : (old : Store) (t : Token) (k : Kind) (n : Name) (say : Say) (new : Store) → DeleteAnswer old t k n say new → new.config ≡ old.config
 delete_config old t k n say new (inl h) = same_config old new h.2
-delete_config old t k n say new (inr (inl h)) = same_config old new h.2
-delete_config old t k n say new (inr (inr h)) = h.2.1
+delete_config old t k n say new (inr (deletes, inl h)) = same_config old new h.2
+delete_config old t k n say new (inr (deletes, inr (inl h))) = same_config old new h.2
+delete_config old t k n say new (inr (deletes, inr (inr h))) = h.2.1
 
 answer_config : (old : Store) (ask : Ask) (say : Say) (new : Store) → Answers old ask say new → new.config ≡ old.config
 answer_config old Ask.Ticket say new h = h.saves.0

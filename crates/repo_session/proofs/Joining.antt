@@ -1,28 +1,27 @@
 -- The two ends of a connection that brings each what the other wrote.
-use Rattle.std.proofs.Common.{◌≡◌, ◌⊎◌, ◌≤◌, ◌++◌, ◌∷◌, [], ℕ, List, Option, Some, None, Result, Ok, Err, All, length, refl, sym, ap, subst, arith, inl, inr, take, append_assoc, ◌∙◌}
+use Rattle.std.proofs.Common.{◌≡◌, ◌++◌, ◌∷◌, [], ℕ, List, Option, Some, None, Result, Ok, Err, All, length, refl, sym, ap, subst, arith, inl, inr, append_assoc, ◌∙◌}
 use Rattle.std.specs.Io.KnownBytes.{Appends, Consumes}
 use Rattle.std.specs.List.{flat_map}
 use Rattle.std.proofs.lemmas.List.{append-nil, append_cancel_left}
 use Rattle.std.proofs.lemmas.List.Concat.{flat_map-append}
-use Rattle.std.proofs.lemmas.List.Elements.{All-head, All-tail, All-cons, All-nil}
+use Rattle.std.proofs.lemmas.List.Elements.{All-head, All-tail}
 use Rattle.std.proofs.Math.Seq.{take-length}
-use Rattle.repo_wire.specs.declared.faults.Fault.{Fault}
 use Rattle.repo_wire.specs.declared.messages.Reply.{Reply}
 use Rattle.repo_wire.specs.declared.messages.Request.{Request}
-use Rattle.repo_wire.specs.Messages.{requests, replies, request_body, reply_body}
-use Rattle.repo_wire.specs.Stream.{Sort, frame, FitsFrame, AreFrames, IsAllowed, Ending}
+use Rattle.repo_wire.specs.Messages.{requests, replies, request_body}
+use Rattle.repo_wire.specs.Stream.{Sort, frame, FitsFrame, AreFrames, Ending}
 use Rattle.repo_wire.proofs.Frames.{frames_one, length-frame}
 use Rattle.repo_wire.proofs.Replies.{replies_one}
 use Rattle.repo_wire.proofs.Requests.{requests_one}
 use Rattle.repo_store.specs.declared.serving.ServeError.{ServeError}
 use Rattle.repo_store.specs.Runs.{Replies, Run}
-use Rattle.repo_store.specs.Serving.{Moment, Past, shown, plain, AllServed, SomeServed, Serves, TellsFault, HaveCause}
+use Rattle.repo_store.specs.Serving.{Moment, Past, shown, plain, AllServed, SomeServed, TellsFault, HaveCause}
 use Rattle.repo_store.specs.Stores.{Store}
 use Rattle.repo_store.proofs.RunLemmas.{run_on}
 use Rattle.repo_session.specs.declared.driving.DriveError.{DriveError}
 use Rattle.repo_session.specs.Clients.{Answers}
-use Rattle.repo_session.specs.Joined.{AreFirst, AreJoined, IsSaid, IsSendable, JoinedTalkIsARun, ServingServes}
-use Rattle.repo_session.specs.Talks.{Turn, Talk, IsTurn, Said, IsHeard, DriveCause, Drives, sent_in, taken_in, read_in, frames_of, pending_frame, TalkRan, MayStep}
+use Rattle.repo_session.specs.Joined.{AreFirst, IsSaid, IsSendable, JoinedTalkIsARun, ServingServes}
+use Rattle.repo_session.specs.Talks.{Turn, Talk, IsTurn, Said, IsHeard, DriveCause, Drives, sent_in, taken_in, read_in, frames_of, pending_frame, MayStep}
 use Rattle.repo_session.specs.Traces.{Each, Trace}
 
 -- ---- frames

@@ -10,9 +10,9 @@ use Rattle.repo_name.specs.declared.tokens.Token.{Token}
 use Rattle.repo_wire.specs.declared.messages.Ask.{Ask}
 use Rattle.repo_wire.specs.declared.messages.Request.{Request}
 use Rattle.repo_wire.specs.declared.messages.Say.{Say}
-use Rattle.repo_store.specs.Pages.{Has, Ascends}
+use Rattle.repo_store.specs.Pages.{Has, Ascends, PageRises}
 use Rattle.repo_session.specs.declared.emissions.Emission.{Emission}
-use Rattle.repo_session.specs.Ends.{IsUnwelcome, PageRises}
+use Rattle.repo_session.specs.Ends.{IsUnwelcome}
 use Rattle.repo_session.specs.Order.{Task, opened, last_of, IsWorking, May}
 use Rattle.repo_session.specs.Rolls.{IsNamed, IsPaged, IsRolled}
 use Rattle.repo_session.specs.Traces.{Each, Exchange, Trace, Exchanged, Object, same_kind, page_names, is_last_page, names_in, is_complete, objects_in, giving}

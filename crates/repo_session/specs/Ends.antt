@@ -1,5 +1,5 @@
 -- What each end of a job comes from.
-use Rattle.std.specs.Prelude.{◌≡◌, ◌≢◌, ◌⊎◌, ◌≤◌, ◌^◌, ◌-◌, ◌∷◌, [], ⊤, ℕ, Bool, true, List, length, Option}
+use Rattle.std.specs.Prelude.{◌≡◌, ◌≢◌, ◌⊎◌, ◌≤◌, ◌^◌, ◌-◌, ◌∷◌, [], ⊤, ℕ, List, length}
 use Rattle.repo_name.specs.Naming as naming
 use Rattle.repo_name.specs.declared.kinds.BlobKind.{BlobKind}
 use Rattle.repo_name.specs.declared.kinds.Kind.{Kind}
@@ -15,7 +15,7 @@ use Rattle.repo_index.specs.IndexText.{IsIndexText}
 use Rattle.repo_tree.specs.declared.faults.TextError.{TextError}
 use Rattle.repo_tree.specs.ConfigText.{ConfigFault}
 use Rattle.repo_tree.specs.SnapshotText.{SnapshotFault}
-use Rattle.repo_store.specs.Pages.{Ascends}
+use Rattle.repo_store.specs.Pages.{PageRises}
 use Rattle.repo_session.specs.declared.outcomes.End.{End}
 use Rattle.repo_session.specs.declared.outcomes.Outcome.{Outcome}
 use Rattle.repo_session.specs.Traces.{Trace, ReadFact}
@@ -89,10 +89,6 @@ IsUnwelcome ask Say.Done = ¬ Suits ask Say.Done
 IsUnwelcome ask (Say.Names more names) = ¬ Suits ask (Say.Names more names)
 IsUnwelcome ask (Say.Bytes x) = ¬ Suits ask (Say.Bytes x)
 IsUnwelcome ask (Say.LockList rows) = ¬ Suits ask (Say.LockList rows)
-
--- a page rises: its names ascend, all above the one asked after, and there is one where more follow
-abbrev pub PageRises : Option Name → Bool → List Name → Type 0
-PageRises after more names = Ascends after names × (more ≡ true → names ≢ [])
 
 -- the reply makes no sense
 abbrev pub IsSenseless : Ask → Say → Type 0

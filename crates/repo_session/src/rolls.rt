@@ -9,7 +9,6 @@ ghost use Rattle.repo_wire.specs.declared.messages.Ask.{Ask};
 ghost use Rattle.repo_wire.specs.declared.messages.Code.{Code};
 ghost use Rattle.repo_wire.specs.declared.messages.Say.{Say};
 ghost use Rattle.repo_wire.specs.Messages.{IsGivenName};
-ghost use Rattle.repo_session.specs.Ends.{PageRises};
 ghost use Rattle.repo_session.specs.Jobs.{IsShort};
 ghost use Rattle.repo_session.specs.Order.{Task, IsWorking, May, last_of};
 ghost use Rattle.repo_session.specs.Readings.{IsDue, KnowsRoll, Pages, IsShortPaging, Brings};
@@ -17,12 +16,11 @@ ghost use Rattle.repo_session.specs.declared.emissions.Emission.{Emission};
 ghost use Rattle.repo_session.specs.declared.rolls.Paging.{Paging};
 ghost use Rattle.repo_session.specs.Rolls.{Rolls, IsGot};
 ghost use Rattle.repo_session.specs.Traces.{Trace, giving};
-ghost use Rattle.repo_store.specs.Pages.{Above, Ascends};
 
 use repo_name::{Kind, Name, name_of};
+use repo_store::rises;
 use repo_wire::{Ask, Say};
 use std::alloc::{AllocError, Global};
-use std::cmp::Ordering;
 
 /// What the reply to a page comes to.
 #[derive(Debug, Drop)]
@@ -54,33 +52,6 @@ pub struct Roll {
     pub kind: Kind,
     pub names: Vec<Name>,
     pub read: usize,
-}
-
-/// Whether a name is above the given one, if one is given.
-fn is_above(after: Option<Name>, name: Name) -> bool
-    ensures { IsTrue result ↔ Above after name }
-{
-    match after {
-        None => true,
-        Some(after) => after.cmp(&name) == Ordering::Less,
-    }
-}
-
-/// Whether names ascend, all above the given one.
-fn ascend(after: Option<Name>, names: &[Name]) -> bool
-    ensures { IsTrue result ↔ Ascends after names.now }
-{
-    match names {
-        [] => true,
-        [first, rest @ ..] => is_above(after, *first) && ascend(Some(*first), rest),
-    }
-}
-
-/// Whether a page rises: its names ascend, all above the given one, and there is one where more follow.
-fn rises(after: Option<Name>, more: bool, names: &[Name]) -> bool
-    ensures { IsTrue result ↔ PageRises after more names.now }
-{
-    ascend(after, names) && !(more && names.is_empty())
 }
 
 impl Roll {

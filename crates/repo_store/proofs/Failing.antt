@@ -1,18 +1,22 @@
-use Rattle.std.proofs.Common.{ℕ, ◌≡◌, inl, inr, refl, subst, ◌∙◌, Ok, Err}
+use Rattle.std.proofs.Common.{ℕ, List, length, ◌≡◌, ◌≤◌, inl, inr, refl, sym, subst, ◌∙◌, Ok, Err, Option, Some, None, is_some, Bool, true, false}
+use Rattle.std.proofs.lemmas.Option.{none-some}
+use Rattle.repo_name.specs.declared.kinds.Kind.{Kind}
+use Rattle.repo_name.specs.declared.names.Name.{Name}
+use Rattle.repo_name.specs.Naming as naming
 use Rattle.repo_name.specs.declared.rows.LockRow.{LockRow}
 use Rattle.repo_name.specs.declared.tokens.Token.{Token}
 use Rattle.repo_wire.specs.declared.messages.Ask.{Ask}
 use Rattle.repo_wire.specs.declared.messages.Say.{Say}
 use Rattle.repo_locks.specs.declared.outcomes.Grant.{Grant}
-use Rattle.repo_locks.specs.TokenMachine.{Tokens, TicketStep, LockStep, RefreshStep}
+use Rattle.repo_locks.specs.TokenMachine.{Tokens, live_as, is_live, is_fresh_or_live, TicketStep, LockStep, RefreshStep, UnlockStep}
 use Rattle.repo_store.specs.declared.shelves.ShelfError.{ShelfError}
 use Rattle.repo_store.specs.Laws.{Writes}
-use Rattle.repo_store.specs.StoreMachine.{Answers, Looks, Step, refusal}
-use Rattle.repo_store.specs.Stores.{Store, SavesTokens}
+use Rattle.repo_store.specs.StoreMachine.{object_limit, Answers, Looks, IsQuiet, Step, refusal}
+use Rattle.repo_store.specs.Stores.{Store, PutsObject, RemovesObject, SavesTokens}
 
 -- a save that failed, where the tokens are those of an answer; mid is the store after the ledger was read
 pub save_failed : (old mid new : Store) (tokens : Tokens) (ask : Ask) (other : Say) (e : ShelfError)
-    → Looks ask → mid ≡ old → (SavesTokens tokens old new → Answers old ask other new)
+    → Looks old ask → mid ≡ old → (SavesTokens tokens old new → Answers old ask other new)
     → Writes {T = Unit {0}} (SavesTokens tokens) mid (Err e) new → Step old ask (refusal e) new
 save_failed old mid new tokens ask other ShelfError.Fault looks same made (inl stays) = inr (looks, inl (refl, inl (stays ∙ same)))
 save_failed old mid new tokens ask other ShelfError.Fault looks same made (inr saved) =
@@ -21,23 +25,62 @@ save_failed old mid new tokens ask other ShelfError.Fault looks same made (inr s
 save_failed old mid new tokens ask other ShelfError.Memory looks same made stays = inr (looks, inr (refl, stays ∙ same))
 
 -- the ledger read is the store's, so a step from it is a step from the store's tokens
+module _ (old : Store) (read tokens : Tokens) (is : read ≡ old.tokens) where
+  pub ticket_made : (token : Token) → TicketStep read (Ok token) tokens → (after : Store) → SavesTokens tokens old after → Answers old Ask.Ticket (Say.Token token) after
+  ticket_made token step after saved =
+      let P : Tokens → Type 0 = λ l. TicketStep l (Ok token) tokens in
+      record { result = Ok token; tokens = tokens; step = subst P is step; says = refl; saves = saved }
+
+  pub lock_made : (row : LockRow) → LockStep read row.token row.exclusive row.time row.host (Ok Grant.New) tokens → (after : Store) → SavesTokens tokens old after → Answers old (Ask.Lock row) Say.Done after
+  lock_made row step after saved =
+      let P : Tokens → Type 0 = λ l. LockStep l row.token row.exclusive row.time row.host (Ok Grant.New) tokens in
+      record { result = Ok Grant.New; tokens = tokens; step = subst P is step; says = refl; saves = saved }
+
+  pub refresh_made : (token : Token) (time : ℕ) → RefreshStep read token time (Ok tt) tokens → (after : Store) → SavesTokens tokens old after → Answers old (Ask.Refresh token time) Say.Done after
+  refresh_made token time step after saved =
+      let P : Tokens → Type 0 = λ l. RefreshStep l token time (Ok tt) tokens in
+      record { result = Ok tt; tokens = tokens; step = subst P is step; says = refl; saves = saved }
+
+  pub unlock_made : (token : Token) → UnlockStep read token true tokens → (after : Store) → SavesTokens tokens old after → Answers old (Ask.Unlock token) Say.Done after
+  unlock_made token step after saved =
+      let P : Tokens → Type 0 = λ l. UnlockStep l token true tokens in
+      record { result = true; tokens = tokens; step = subst P is step; says = refl; saves = saved }
+
+  -- a number that isn't live as it is asked for isn't held already
+  pub newly_locked : (row : LockRow) → LockStep read row.token row.exclusive row.time row.host (Ok Grant.New) tokens → ¬ IsQuiet old.tokens (Ask.Lock row)
+  newly_locked row step quiet =
+      let none : live_as old.tokens row.token ≡ None = subst (λ l. live_as l row.token ≡ None) is step.0.0 in
+      none-some row.exclusive (sym none ∙ quiet)
+
+  pub newly_unlocked : (token : Token) → UnlockStep read token true tokens → ¬ IsQuiet old.tokens (Ask.Unlock token)
+  newly_unlocked token step quiet =
+      let was : is_fresh_or_live old.tokens token ≡ true = subst (λ l. is_fresh_or_live l token ≡ true) is step.0 in
+      let c : true ≡ false = sym was ∙ quiet in absurd (cc)
+
+-- the ledger read says how a token is live in the store
+pub put_made : (old : Store) (read : Tokens) (token : Token) (kind : Kind) (name : Name) (bytes : List ℕ) → read ≡ old.tokens → length bytes ≤ object_limit kind
+    → is_live read token ≡ true → naming.name bytes ≡ name → (after : Store) → PutsObject kind name bytes old after → Answers old (Ask.Put token kind name bytes) Say.Done after
+put_made old read token kind name bytes is fits live same after puts =
+    let is_there : is_live old.tokens token ≡ true = subst (λ l. is_live l token ≡ true) is live in
+    inr (inr (inr (fits, (λ none. not_live (live_as old.tokens token) none is_there), same, refl, puts)))
+  where
+    not_live : (kind : Option Bool) → kind ≡ None → is_some kind ≡ true → ⊥
+    not_live None none there = absurd (cc)
+    not_live (Some x) none there = none-some x (sym none)
+
+pub removed_made : (old : Store) (read : Tokens) (token : Token) (kind : Kind) (name : Name) → read ≡ old.tokens → old.append_only ≡ false
+    → live_as read token ≡ Some true → (after : Store) → RemovesObject kind name old after → Answers old (Ask.Delete token kind name) Say.Done after
+removed_made old read token kind name is deletes live after removes =
+    inr (deletes, inr (inr (subst (λ l. live_as l token ≡ Some true) is live, refl, removes)))
+
 pub ticket_failed : (old mid new : Store) (read tokens : Tokens) (token : Token) (e : ShelfError) → mid ≡ old → read ≡ old.tokens
     → TicketStep read (Ok token) tokens → Writes {T = Unit {0}} (SavesTokens tokens) mid (Err e) new → Step old Ask.Ticket (refusal e) new
-ticket_failed old mid new read tokens token e same is step w =
-    let P : Tokens → Type 0 = λ l. TicketStep l (Ok token) tokens in
-    save_failed old mid new tokens Ask.Ticket (Say.Token token) e tt same
-    (λ saved. record { result = Ok token; tokens = tokens; step = subst P is step; says = refl; saves = saved }) w
+ticket_failed old mid new read tokens token e same is step w = save_failed old mid new tokens Ask.Ticket (Say.Token token) e tt same (ticket_made old read tokens is token step new) w
 
 pub lock_failed : (old mid new : Store) (read tokens : Tokens) (row : LockRow) (e : ShelfError) → mid ≡ old → read ≡ old.tokens
     → LockStep read row.token row.exclusive row.time row.host (Ok Grant.New) tokens → Writes {T = Unit {0}} (SavesTokens tokens) mid (Err e) new → Step old (Ask.Lock row) (refusal e) new
-lock_failed old mid new read tokens row e same is step w =
-    let P : Tokens → Type 0 = λ l. LockStep l row.token row.exclusive row.time row.host (Ok Grant.New) tokens in
-    save_failed old mid new tokens (Ask.Lock row) Say.Done e tt same
-    (λ saved. record { result = Ok Grant.New; tokens = tokens; step = subst P is step; says = refl; saves = saved }) w
+lock_failed old mid new read tokens row e same is step w = save_failed old mid new tokens (Ask.Lock row) Say.Done e tt same (lock_made old read tokens is row step new) w
 
 pub refresh_failed : (old mid new : Store) (read tokens : Tokens) (token : Token) (time : ℕ) (e : ShelfError) → mid ≡ old → read ≡ old.tokens
     → RefreshStep read token time (Ok tt) tokens → Writes {T = Unit {0}} (SavesTokens tokens) mid (Err e) new → Step old (Ask.Refresh token time) (refusal e) new
-refresh_failed old mid new read tokens token time e same is step w =
-    let P : Tokens → Type 0 = λ l. RefreshStep l token time (Ok tt) tokens in
-    save_failed old mid new tokens (Ask.Refresh token time) Say.Done e tt same
-    (λ saved. record { result = Ok tt; tokens = tokens; step = subst P is step; says = refl; saves = saved }) w
+refresh_failed old mid new read tokens token time e same is step w = save_failed old mid new tokens (Ask.Refresh token time) Say.Done e tt same (refresh_made old read tokens is token time step new) w

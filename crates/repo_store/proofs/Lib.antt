@@ -1,6 +1,11 @@
+pub mod AllNames
+pub mod Appending
+pub mod Arming
+pub mod Changes
 pub mod Failing
 pub mod MapLemmas
 pub mod Outputs
 pub mod PageLemmas
+pub mod Remembering
 pub mod RunLemmas
 pub mod ServiceLemmas

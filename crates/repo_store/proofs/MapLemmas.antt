@@ -12,6 +12,6 @@ some_there (Some x) h = (x, refl)
 pub stays_in : (old : Name → Option (List ℕ)) (name : Name) (bytes : List ℕ) → is_some (old name) ≡ true → AddedIn old name bytes old
 stays_in old name bytes h = record { kept = λ n x e. e; only = λ n x e. inl e; here = some_there (old name) h }
 
--- stores with the same config, the same objects of each kind and the same tokens are one
-pub same_store : (a b : Store) → a.config ≡ b.config → ((k : Kind) → a.objects k ≡ b.objects k) → a.tokens ≡ b.tokens → a ≡ b
-same_store a b c h l = λ i. record { config = c i; objects = λ k. h k i; tokens = l i }
+-- stores with the same config, the same objects of each kind, the same tokens and the same mode are one
+pub same_store : (a b : Store) → a.config ≡ b.config → ((k : Kind) → a.objects k ≡ b.objects k) → a.tokens ≡ b.tokens → a.append_only ≡ b.append_only → a ≡ b
+same_store a b c h l m = λ i. record { config = c i; objects = λ k. h k i; tokens = l i; append_only = m i }

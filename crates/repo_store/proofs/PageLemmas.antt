@@ -18,9 +18,6 @@ use Rattle.repo_store.specs.Pages.{Has, IsPage, Above, Ascends, Beyond}
 use Rattle.repo_store.specs.Stores.{Objects}
 use Rattle.repo_store.specs.Memory.{above, bound_of, IsCut}
 
-abbrev Entries : Type 0
-Entries = List (Name × List ℕ)
-
 -- each name stands before those after it
 abbrev Rises : List Name → Type 0
 Rises [] = ⊤
@@ -37,16 +34,16 @@ rises [] h = tt
 rises (n ∷ ns) h = (all_has (λ y. name_cmp n y ≡ Less) ns h.0, rises ns h.1)
 
 -- a list in two parts
-has_left : (xs ys : List Name) (n : Name) → Has xs n → Has (xs ++ ys) n
+pub has_left : (xs ys : List Name) (n : Name) → Has xs n → Has (xs ++ ys) n
 has_left [] ys n k = elim k [ ]
 has_left (x ∷ xs) ys n (inl e) = inl e
 has_left (x ∷ xs) ys n (inr k) = inr (has_left xs ys n k)
 
-has_right : (xs ys : List Name) (n : Name) → Has ys n → Has (xs ++ ys) n
+pub has_right : (xs ys : List Name) (n : Name) → Has ys n → Has (xs ++ ys) n
 has_right [] ys n k = k
 has_right (x ∷ xs) ys n k = inr (has_right xs ys n k)
 
-has_either : (xs ys : List Name) (n : Name) → Has (xs ++ ys) n → Has xs n ⊎ Has ys n
+pub has_either : (xs ys : List Name) (n : Name) → Has (xs ++ ys) n → Has xs n ⊎ Has ys n
 has_either [] ys n k = inr k
 has_either (x ∷ xs) ys n (inl e) = inl (inl e)
 has_either (x ∷ xs) ys n (inr k) = further (has_either xs ys n k) where
@@ -64,19 +61,19 @@ rises_across (x ∷ xs) ys h m k n (inl e) = subst (λ a. Before a m) (sym e) (h
 rises_across (x ∷ xs) ys h m k n (inr j) = rises_across xs ys h.1 m k n j
 
 -- a filter of the entries by their names
-module _ (p : Name → Bool) where
-  kept_has : (e : Name × List ℕ) (es : Entries) (n : Name) (b : Bool) → p e.0 ≡ b
+module _ {X : Type 0} (p : Name → Bool) where
+  kept_has : (e : Name × X) (es : List (Name × X)) (n : Name) (b : Bool) → p e.0 ≡ b
       → (Has (keys_of (filter (λ e. p e.0) es)) n → Has (keys_of es) n × (p n ≡ true))
       → Has (keys_of (cond b (e ∷ filter (λ e. p e.0) es) (filter (λ e. p e.0) es))) n → Has (keys_of (e ∷ es)) n × (p n ≡ true)
   kept_has e es n true h r (inl k) = (inl k, ap p k ∙ h)
   kept_has e es n true h r (inr k) = (inr (r k).0, (r k).1)
   kept_has e es n false h r k = (inr (r k).0, (r k).1)
 
-  filtered_has : (es : Entries) (n : Name) → Has (keys_of (filter (λ e. p e.0) es)) n → Has (keys_of es) n × (p n ≡ true)
+  filtered_has : (es : List (Name × X)) (n : Name) → Has (keys_of (filter (λ e. p e.0) es)) n → Has (keys_of es) n × (p n ≡ true)
   filtered_has [] n k = elim k [ ]
   filtered_has (e ∷ es) n k = kept_has e es n (p e.0) refl (filtered_has es n) k
 
-  keeps_has : (e : Name × List ℕ) (es : Entries) (n : Name) (b : Bool) → p e.0 ≡ b → p n ≡ true
+  keeps_has : (e : Name × X) (es : List (Name × X)) (n : Name) (b : Bool) → p e.0 ≡ b → p n ≡ true
       → (Has (keys_of es) n → Has (keys_of (filter (λ e. p e.0) es)) n)
       → Has (keys_of (e ∷ es)) n → Has (keys_of (cond b (e ∷ filter (λ e. p e.0) es) (filter (λ e. p e.0) es))) n
   keeps_has e es n true h t r (inl k) = inl k
@@ -84,16 +81,16 @@ module _ (p : Name → Bool) where
   keeps_has e es n false h t r (inl k) = let c : true ≡ false = sym t ∙ ap p k ∙ h in absurd (cc)
   keeps_has e es n false h t r (inr k) = r k
 
-  has_filtered : (es : Entries) (n : Name) → p n ≡ true → Has (keys_of es) n → Has (keys_of (filter (λ e. p e.0) es)) n
+  has_filtered : (es : List (Name × X)) (n : Name) → p n ≡ true → Has (keys_of es) n → Has (keys_of (filter (λ e. p e.0) es)) n
   has_filtered [] n t k = elim k [ ]
   has_filtered (e ∷ es) n t k = keeps_has e es n (p e.0) refl t (has_filtered es n t) k
 
-  kept_rises : (e : Name × List ℕ) (es : Entries) (b : Bool) → ((m : Name) → Has (keys_of (filter (λ e. p e.0) es)) m → Before e.0 m)
+  kept_rises : (e : Name × X) (es : List (Name × X)) (b : Bool) → ((m : Name) → Has (keys_of (filter (λ e. p e.0) es)) m → Before e.0 m)
       → Rises (keys_of (filter (λ e. p e.0) es)) → Rises (keys_of (cond b (e ∷ filter (λ e. p e.0) es) (filter (λ e. p e.0) es)))
   kept_rises e es true h r = (h, r)
   kept_rises e es false h r = r
 
-  rises_filtered : (es : Entries) → Rises (keys_of es) → Rises (keys_of (filter (λ e. p e.0) es))
+  rises_filtered : (es : List (Name × X)) → Rises (keys_of es) → Rises (keys_of (filter (λ e. p e.0) es))
   rises_filtered [] h = tt
   rises_filtered (e ∷ es) h = kept_rises e es (p e.0) (λ m k. h.0 m (filtered_has es m k).0) (rises_filtered es h.1)
 
@@ -101,24 +98,24 @@ module _ (p : Name → Bool) where
 itself : (n : Name) → is_eq (name_cmp n n) ≡ true
 itself n = ap is_eq (tied_itself nat_list_cmp_total n.0)
 
-found_at : (e : Name × List ℕ) (es : Entries) (n : Name) (b : Bool) → is_eq (name_cmp n e.0) ≡ b → (x : List ℕ)
-    → ((y : List ℕ) → lookup (is_at (name_cmp n)) es ≡ Some y → Has (keys_of es) n)
+found_at : {X : Type 0} (e : Name × X) (es : List (Name × X)) (n : Name) (b : Bool) → is_eq (name_cmp n e.0) ≡ b → (x : X)
+    → ((y : X) → lookup (is_at (name_cmp n)) es ≡ Some y → Has (keys_of es) n)
     → cond b (Some e.1) (lookup (is_at (name_cmp n)) es) ≡ Some x → Has (keys_of (e ∷ es)) n
 found_at e es n true h x r k = inl (same_name n e.0 h)
 found_at e es n false h x r k = inr (r x k)
 
-found_has : (es : Entries) (n : Name) (x : List ℕ) → lookup (is_at (name_cmp n)) es ≡ Some x → Has (keys_of es) n
+found_has : {X : Type 0} (es : List (Name × X)) (n : Name) (x : X) → lookup (is_at (name_cmp n)) es ≡ Some x → Has (keys_of es) n
 found_has [] n x k = absurd (cc)
 found_has (e ∷ es) n x k = found_at e es n (is_eq (name_cmp n e.0)) refl x (found_has es n) k
 
-has_at : (e : Name × List ℕ) (es : Entries) (n : Name) (b : Bool) → is_eq (name_cmp n e.0) ≡ b
-    → (Has (keys_of es) n → (x : List ℕ) × (lookup (is_at (name_cmp n)) es ≡ Some x))
-    → Has (keys_of (e ∷ es)) n → (x : List ℕ) × (cond b (Some e.1) (lookup (is_at (name_cmp n)) es) ≡ Some x)
+has_at : {X : Type 0} (e : Name × X) (es : List (Name × X)) (n : Name) (b : Bool) → is_eq (name_cmp n e.0) ≡ b
+    → (Has (keys_of es) n → (x : X) × (lookup (is_at (name_cmp n)) es ≡ Some x))
+    → Has (keys_of (e ∷ es)) n → (x : X) × (cond b (Some e.1) (lookup (is_at (name_cmp n)) es) ≡ Some x)
 has_at e es n true h r k = (e.1, refl)
 has_at e es n false h r (inl k) = let c : false ≡ true = sym h ∙ ap (λ m. is_eq (name_cmp n m)) (sym k) ∙ itself n in absurd (cc)
 has_at e es n false h r (inr k) = r k
 
-has_found : (es : Entries) (n : Name) → Has (keys_of es) n → (x : List ℕ) × (lookup (is_at (name_cmp n)) es ≡ Some x)
+has_found : {X : Type 0} (es : List (Name × X)) (n : Name) → Has (keys_of es) n → (x : X) × (lookup (is_at (name_cmp n)) es ≡ Some x)
 has_found [] n k = elim k [ ]
 has_found (e ∷ es) n k = has_at e es n (is_eq (name_cmp n e.0)) refl (has_found es n) k
 
@@ -141,7 +138,8 @@ ascends a [] r h = tt
 ascends a (n ∷ ns) r h = (h n (inl refl), ascends (Some n) ns r.1 r.0)
 
 -- a cut of a map's names is a page
-module _ (O : Objects) (k : Kind) (a : Option Name) (limit : ℕ) (m : BTreeMap Name (List ℕ)) (same : (n : Name) → O k n ≡ found m n) (ordered : IsOrdered name_cmp m) where
+module _ {X : Type 0} (O : Objects) (k : Kind) (a : Option Name) (limit : ℕ) (m : BTreeMap Name X) (there : (n : Name) (y : X) → found m n ≡ Some y → (x : List ℕ) × (O k n ≡ Some x))
+    (named : (n : Name) (x : List ℕ) → O k n ≡ Some x → (y : X) × (found m n ≡ Some y)) (ordered : IsOrdered name_cmp m) where
   test : Name → Bool
   test n = range_contains name_cmp (bound_of a) Unbounded n
 
@@ -149,11 +147,11 @@ module _ (O : Objects) (k : Kind) (a : Option Name) (limit : ℕ) (m : BTreeMap 
   listed_there n h =
       let p = filtered_has (λ n. range_contains name_cmp (bound_of a) Unbounded n) m.entries n h in
       let q = has_found m.entries n p.0 in
-      ((q.0, same n ∙ q.1), from_bound a n p.1)
+      (there n q.0 q.1, from_bound a n p.1)
 
   there_listed : (n : Name) (x : List ℕ) → O k n ≡ Some x → Above a n → Has (above a m) n
   there_listed n x e h =
-      has_filtered (λ n. range_contains name_cmp (bound_of a) Unbounded n) m.entries n (to_bound a n h) (found_has m.entries n x (sym (same n) ∙ e))
+      has_filtered (λ n. range_contains name_cmp (bound_of a) Unbounded n) m.entries n (to_bound a n h) (found_has m.entries n (named n x e).0 (named n x e).1)
 
   rising : Rises (above a m)
   rising = rises_filtered (λ n. range_contains name_cmp (bound_of a) Unbounded n) m.entries (rises (keys_of m.entries) ordered)

@@ -1,4 +1,7 @@
+pub mod AppendOnly
+pub mod Failing
 pub mod Faults
+pub mod Kept
 pub mod Laws
 pub mod Making
 pub mod Memory

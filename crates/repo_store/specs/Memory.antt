@@ -19,7 +19,7 @@ objects_of shelf Kind.Snapshot n = found shelf.snapshots n
 
 -- what a shelf in memory stores
 abbrev pub store_of : MemShelf → Store
-store_of shelf = record { config = shelf.config; objects = objects_of shelf; tokens = shelf.ledger }
+store_of shelf = record { config = shelf.config; objects = objects_of shelf; tokens = shelf.ledger; append_only = false }
 
 -- new is old with these bytes under a name, if nothing was there
 pub record AddedIn (old : Name → Option (List ℕ)) (name : Name) (bytes : List ℕ) (new : Name → Option (List ℕ)) : Type 0 where
@@ -39,7 +39,7 @@ bound_of None = Unbounded
 bound_of (Some after) = Excluded after
 
 -- a map's names above the given one, in order
-abbrev pub above : Option Name → BTreeMap Name (List ℕ) → List Name
+abbrev pub above : {X : Type 0} → Option Name → BTreeMap Name X → List Name
 above after map = keys_of (entries_between name_cmp (bound_of after) Unbounded map.entries)
 
 -- the first of these names, at most so many, and whether some are left

@@ -1,4 +1,4 @@
-use Rattle.std.specs.Prelude.{◌≡◌, ◌⊎◌, ◌≤◌, ◌∷◌, [], ⊤, ℕ, Bool, true, List, length, Option, Some, None}
+use Rattle.std.specs.Prelude.{◌≡◌, ◌≢◌, ◌⊎◌, ◌≤◌, ◌∷◌, [], ⊤, ℕ, Bool, true, List, length, Option, Some, None}
 use Rattle.repo_name.specs.declared.kinds.Kind.{Kind}
 use Rattle.repo_name.specs.declared.names.Name.{Name}
 use Rattle.repo_name.specs.Naming.{Before}
@@ -18,6 +18,10 @@ Above (Some after) n = Before after n
 abbrev pub Ascends : Option Name → List Name → Type 0
 Ascends after [] = ⊤
 Ascends after (n ∷ names) = Above after n × Ascends (Some n) names
+
+-- a page rises: its names ascend, all above the one asked after, and there is one where more follow
+abbrev pub PageRises : Option Name → Bool → List Name → Type 0
+PageRises after more names = Ascends after names × (more ≡ true → names ≢ [])
 
 -- a name is above all of the list
 abbrev pub Beyond : List Name → Name → Type 0

@@ -145,11 +145,17 @@ PutAnswer old token kind name bytes say new =
     ⊎ ((length bytes ≤ object_limit kind) × (live_as old.tokens token ≢ None) × (naming.name bytes ≡ name) × (say ≡ Say.Done) × PutsObject kind name bytes old new)))
 
 -- an object is removed, under an exclusive lock
-abbrev pub DeleteAnswer : Store → Token → Kind → Name → Say → Store → Type 0
-DeleteAnswer old token kind name say new =
+abbrev pub RemoveAnswer : Store → Token → Kind → Name → Say → Store → Type 0
+RemoveAnswer old token kind name say new =
     ((live_as old.tokens token ≡ None) × (say ≡ Say.Refused Code.Dead) × (new ≡ old))
     ⊎ (((live_as old.tokens token ≡ Some false) × (say ≡ Say.Refused Code.NotExclusive) × (new ≡ old))
     ⊎ ((live_as old.tokens token ≡ Some true) × (say ≡ Say.Done) × RemovesObject kind name old new))
+
+-- a deletion: a store that only appends refuses it before all else, whatever the token is
+abbrev pub DeleteAnswer : Store → Token → Kind → Name → Say → Store → Type 0
+DeleteAnswer old token kind name say new =
+    ((old.append_only ≡ true) × (say ≡ Say.Refused Code.AppendOnly) × (new ≡ old))
+    ⊎ ((old.append_only ≡ false) × RemoveAnswer old token kind name say new)
 
 -- the answers of a store whose device doesn't fail
 abbrev pub Answers : Store → Ask → Say → Store → Type 0
@@ -166,18 +172,18 @@ Answers old (Ask.Delete token kind name) say new = DeleteAnswer old token kind n
 Answers old Ask.Config say new = ConfigAnswer old say new
 
 -- a request that isn't answered before the device is looked at
-abbrev pub Looks : Ask → Type 0
-Looks Ask.Ticket = ⊤
-Looks (Ask.Lock row) = ⊤
-Looks (Ask.Refresh token time) = ⊤
-Looks (Ask.Unlock token) = ⊤
-Looks Ask.Locks = ⊤
-Looks (Ask.List kind after) = ⊤
-Looks (Ask.Get kind name) = ⊤
-Looks (Ask.Range pack offset len) = IsRangeLength len
-Looks (Ask.Put token kind name bytes) = length bytes ≤ object_limit kind
-Looks (Ask.Delete token kind name) = ⊤
-Looks Ask.Config = ⊤
+abbrev pub Looks : Store → Ask → Type 0
+Looks old Ask.Ticket = ⊤
+Looks old (Ask.Lock row) = ⊤
+Looks old (Ask.Refresh token time) = ⊤
+Looks old (Ask.Unlock token) = ⊤
+Looks old Ask.Locks = ⊤
+Looks old (Ask.List kind after) = ⊤
+Looks old (Ask.Get kind name) = ⊤
+Looks old (Ask.Range pack offset len) = IsRangeLength len
+Looks old (Ask.Put token kind name bytes) = length bytes ≤ object_limit kind
+Looks old (Ask.Delete token kind name) = old.append_only ≡ false
+Looks old Ask.Config = ⊤
 
 -- in place of an answer: the device failed, before the answer's change or after it; or there was no memory, and nothing changed
 abbrev pub Fails : Store → (Say → Store → Type 0) → Say → Store → Type 0
@@ -187,7 +193,7 @@ Fails old A say new =
 
 -- from old, the store may say this to what is asked, and go on to new
 abbrev pub Step : Store → Ask → Say → Store → Type 0
-Step old ask say new = Answers old ask say new ⊎ (Looks ask × Fails old (λ other after. Answers old ask other after) say new)
+Step old ask say new = Answers old ask say new ⊎ (Looks old ask × Fails old (λ other after. Answers old ask other after) say new)
 
 -- the count of failures doesn't fall, and a fault is told only where it rose, or stands at its greatest
 abbrev pub SaysFault : ℕ → Say → ℕ → Type 0

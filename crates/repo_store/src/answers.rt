@@ -4,6 +4,8 @@ ghost use Rattle.std.specs.Prelude.{◌≡◌, ◌≤◌, ◌+◌};
 ghost use Rattle.repo_wire.specs.Messages.{replies, IsReply, IsSay, IsShortSay};
 ghost use Rattle.repo_wire.specs.Stream.{FitsFrame};
 ghost use Rattle.repo_store.specs.Runs.{Replies};
+ghost use Rattle.repo_store.specs.AppendOnly.{OnlyAppends};
+ghost use Rattle.repo_store.specs.Failing.{IsAsArmed};
 ghost use Rattle.repo_store.specs.StoreMachine.{refusal, IsAnswerable, IsQuiet, IsRuledOut, Step, SaysFault};
 
 use crate::lock_answers::{
@@ -32,6 +34,7 @@ fn say_to<S: Shelf>(alloc: Global, shelf: &mut S, ask: &Ask) -> Say
     requires { IsAnswerable ask.now }
     ensures step { S.honest shelf.old → Step (S.store shelf.old) ask.now result (S.store shelf.new) }
     ensures cause { S.honest shelf.old → SaysFault (S.failed shelf.old) result (S.failed shelf.new) }
+    ensures armed { S.honest shelf.old → IsAsArmed (S.armed shelf.old) (S.own shelf.old) (S.store shelf.old) ask.now result (S.armed shelf.new) (S.own shelf.new) (S.store shelf.new) }
     ensures honest { S.honest shelf.old → S.honest shelf.new }
     ensures once { S.writes shelf.new ≤ S.writes shelf.old + 1 }
     ensures quiet { S.honest shelf.old → IsQuiet (S.store shelf.old).tokens ask.now → S.writes shelf.new ≡ S.writes shelf.old }
@@ -79,14 +82,17 @@ fn reply_to(instance: Instance, sequence: u64, say: Say) -> Reply
 /// The answer to a request: one step of the store machine, over an honest shelf. It repeats the request's
 /// instance and sequence, and fits a frame.
 ///
-/// Code 10 is said only where the shelf failed in this call; the store is then as before, or as after
-/// the answer that the request would have had. After every other refusal the store is as before. The
+/// Code 10 is said only where the shelf failed in this call, by itself or as it was told to; the store is then
+/// as before, or as after the answer that the request would have had. A failure that a shelf was told of
+/// comes in just the call that it was told for, and then no more. A store that only appends keeps each object. After every other refusal the store is as before. The
 /// shelf is asked to write at most once; and not at all for a request that only reads, a lock that is held
 /// already, an unlock that changes nothing, and where the refusal is another than 10 and 11.
 pub fn answer<S: Shelf>(alloc: Global, shelf: &mut S, request: &Request) -> Reply
     requires { IsAnswerable request.now.ask }
     ensures replies { S.honest shelf.old → Replies (S.store shelf.old) request.now result (S.store shelf.new) }
+    ensures kept { S.honest shelf.old → OnlyAppends (S.store shelf.old) (S.store shelf.new) }
     ensures cause { S.honest shelf.old → SaysFault (S.failed shelf.old) result.say (S.failed shelf.new) }
+    ensures armed { S.honest shelf.old → IsAsArmed (S.armed shelf.old) (S.own shelf.old) (S.store shelf.old) request.now.ask result.say (S.armed shelf.new) (S.own shelf.new) (S.store shelf.new) }
     ensures honest { S.honest shelf.old → S.honest shelf.new }
     ensures once { S.writes shelf.new ≤ S.writes shelf.old + 1 }
     ensures quiet { S.honest shelf.old → IsQuiet (S.store shelf.old).tokens request.now.ask → S.writes shelf.new ≡ S.writes shelf.old }

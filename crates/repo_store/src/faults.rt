@@ -27,8 +27,10 @@ pub enum Fail {
 
 /// What is armed.
 #[derive(Clone, Copy, Debug, PartialEq, Eq)]
-enum Armed {
+pub enum Armed {
+    /// No call.
     Nothing,
+    /// The next call of a sort.
     Next(Fail),
     /// The call of this number from now, counted from 1. If it is a writing one its change is made or not.
     Call { number: u64, applied: bool },
@@ -146,52 +148,29 @@ impl<S: Shelf> Shelf for FaultShelf<S> {
 
     ghost failed = { λ f. count_of (S.failed f.inner) f.count };
 
+    ghost armed = { λ f. f.armed };
+
+    ghost own = { λ f. S.failed f.inner };
+
     ghost writes = { λ f. S.writes f.inner };
 
     ghost honest = { λ f. S.honest f.inner };
 
-    fn get(&mut self, kind: Kind, name: &Name) -> Result<Option<Bytes>, ShelfError>
-        ensures law { S.honest self.old.inner → Reads (λ found. found ≡ (S.store self.old.inner).objects kind name.now) (S.store self.old.inner) result (S.store self.new.inner) }
-        ensures cause { S.honest self.old.inner → HasCause (count_of (S.failed self.old.inner) self.old.count) result (count_of (S.failed self.new.inner) self.new.count) }
-        ensures honest { S.honest self.old.inner → S.honest self.new.inner }
-        ensures quiet { S.writes self.new.inner ≡ S.writes self.old.inner }
-        ensures armed { fails_reading self.old.armed ≡ true → IsErrOf result ShelfError.Fault × (self.new.inner ≡ self.old.inner) × (self.new.armed ≡ Armed.Nothing) }
-        ensures other { fails_reading self.old.armed ≡ false → (self.new.armed ≡ one_less self.old.armed) × (self.new.count ≡ self.old.count) }
-        ensures inner { fails_reading self.old.armed ≡ false → S.honest self.old.inner → HasCause (S.failed self.old.inner) result (S.failed self.new.inner) }
-    {
+    fn get(&mut self, kind: Kind, name: &Name) -> Result<Option<Bytes>, ShelfError> {
         if self.fails_reading() {
             return Err(ShelfError::Fault);
         }
         self.inner.get(kind, name)
     }
 
-    fn range(&mut self, pack: &Name, offset: u32, length: u32) -> Result<Slice, ShelfError>
-        ensures law { S.honest self.old.inner → Reads (IsSlice ((S.store self.old.inner).objects Kind.Pack pack.now) offset length) (S.store self.old.inner) result (S.store self.new.inner) }
-        ensures cause { S.honest self.old.inner → HasCause (count_of (S.failed self.old.inner) self.old.count) result (count_of (S.failed self.new.inner) self.new.count) }
-        ensures honest { S.honest self.old.inner → S.honest self.new.inner }
-        ensures quiet { S.writes self.new.inner ≡ S.writes self.old.inner }
-        ensures length { IfOk result (HasLength length) }
-        ensures armed { fails_reading self.old.armed ≡ true → IsErrOf result ShelfError.Fault × (self.new.inner ≡ self.old.inner) × (self.new.armed ≡ Armed.Nothing) }
-        ensures other { fails_reading self.old.armed ≡ false → (self.new.armed ≡ one_less self.old.armed) × (self.new.count ≡ self.old.count) }
-        ensures inner { fails_reading self.old.armed ≡ false → S.honest self.old.inner → HasCause (S.failed self.old.inner) result (S.failed self.new.inner) }
-    {
+    fn range(&mut self, pack: &Name, offset: u32, length: u32) -> Result<Slice, ShelfError> {
         if self.fails_reading() {
             return Err(ShelfError::Fault);
         }
         self.inner.range(pack, offset, length)
     }
 
-    fn put(&mut self, kind: Kind, name: &Name, bytes: &[u8]) -> Result<(), ShelfError>
-        ensures law { S.honest self.old.inner → Writes (PutsObject kind name.now bytes.now) (S.store self.old.inner) result (S.store self.new.inner) }
-        ensures cause { S.honest self.old.inner → HasCause (count_of (S.failed self.old.inner) self.old.count) result (count_of (S.failed self.new.inner) self.new.count) }
-        ensures honest { S.honest self.old.inner → S.honest self.new.inner }
-        ensures once { S.writes self.new.inner ≤ S.writes self.old.inner + 1 }
-        ensures applied { fails_writing self.old.armed ≡ Some true → S.honest self.old.inner → WritesThenFails (PutsObject kind name.now bytes.now) (S.store self.old.inner) (S.failed self.old.inner) result (S.store self.new.inner) (S.failed self.new.inner) }
-        ensures unapplied { fails_writing self.old.armed ≡ Some false → IsErrOf result ShelfError.Fault × (self.new.inner ≡ self.old.inner) }
-        ensures spent { fails_writing self.old.armed ≢ None → self.new.armed ≡ Armed.Nothing }
-        ensures other { fails_writing self.old.armed ≡ None → (self.new.armed ≡ one_less self.old.armed) × (self.new.count ≡ self.old.count) }
-        ensures inner { fails_writing self.old.armed ≡ None → S.honest self.old.inner → HasCause (S.failed self.old.inner) result (S.failed self.new.inner) }
-    {
+    fn put(&mut self, kind: Kind, name: &Name, bytes: &[u8]) -> Result<(), ShelfError> {
         match self.fails_writing() {
             None => self.inner.put(kind, name, bytes),
             Some(false) => Err(ShelfError::Fault),
@@ -202,17 +181,7 @@ impl<S: Shelf> Shelf for FaultShelf<S> {
         }
     }
 
-    fn remove(&mut self, kind: Kind, name: &Name) -> Result<(), ShelfError>
-        ensures law { S.honest self.old.inner → Writes (RemovesObject kind name.now) (S.store self.old.inner) result (S.store self.new.inner) }
-        ensures cause { S.honest self.old.inner → HasCause (count_of (S.failed self.old.inner) self.old.count) result (count_of (S.failed self.new.inner) self.new.count) }
-        ensures honest { S.honest self.old.inner → S.honest self.new.inner }
-        ensures once { S.writes self.new.inner ≤ S.writes self.old.inner + 1 }
-        ensures applied { fails_writing self.old.armed ≡ Some true → S.honest self.old.inner → WritesThenFails (RemovesObject kind name.now) (S.store self.old.inner) (S.failed self.old.inner) result (S.store self.new.inner) (S.failed self.new.inner) }
-        ensures unapplied { fails_writing self.old.armed ≡ Some false → IsErrOf result ShelfError.Fault × (self.new.inner ≡ self.old.inner) }
-        ensures spent { fails_writing self.old.armed ≢ None → self.new.armed ≡ Armed.Nothing }
-        ensures other { fails_writing self.old.armed ≡ None → (self.new.armed ≡ one_less self.old.armed) × (self.new.count ≡ self.old.count) }
-        ensures inner { fails_writing self.old.armed ≡ None → S.honest self.old.inner → HasCause (S.failed self.old.inner) result (S.failed self.new.inner) }
-    {
+    fn remove(&mut self, kind: Kind, name: &Name) -> Result<(), ShelfError> {
         match self.fails_writing() {
             None => self.inner.remove(kind, name),
             Some(false) => Err(ShelfError::Fault),
@@ -228,49 +197,21 @@ impl<S: Shelf> Shelf for FaultShelf<S> {
         kind: Kind,
         after: Option<&Name>,
         limit: usize,
-    ) -> Result<Page, ShelfError>
-        ensures law { S.honest self.old.inner → Reads (λ page. IsPage (S.store self.old.inner).objects kind (option_map (λ name. name.now) after.entry) limit page.names page.more) (S.store self.old.inner) result (S.store self.new.inner) }
-        ensures cause { S.honest self.old.inner → HasCause (count_of (S.failed self.old.inner) self.old.count) result (count_of (S.failed self.new.inner) self.new.count) }
-        ensures honest { S.honest self.old.inner → S.honest self.new.inner }
-        ensures quiet { S.writes self.new.inner ≡ S.writes self.old.inner }
-        ensures few { IfOk result (λ page. length page.names ≤ limit) }
-        ensures names { IfOk result (λ page. All IsName page.names) }
-        ensures armed { fails_reading self.old.armed ≡ true → IsErrOf result ShelfError.Fault × (self.new.inner ≡ self.old.inner) × (self.new.armed ≡ Armed.Nothing) }
-        ensures other { fails_reading self.old.armed ≡ false → (self.new.armed ≡ one_less self.old.armed) × (self.new.count ≡ self.old.count) }
-        ensures inner { fails_reading self.old.armed ≡ false → S.honest self.old.inner → HasCause (S.failed self.old.inner) result (S.failed self.new.inner) }
-    {
+    ) -> Result<Page, ShelfError> {
         if self.fails_reading() {
             return Err(ShelfError::Fault);
         }
         self.inner.names_after(kind, after, limit)
     }
 
-    fn ledger(&mut self) -> Result<Ledger, ShelfError>
-        ensures law { S.honest self.old.inner → Reads (λ ledger. ledger ≡ (S.store self.old.inner).tokens) (S.store self.old.inner) result (S.store self.new.inner) }
-        ensures cause { S.honest self.old.inner → HasCause (count_of (S.failed self.old.inner) self.old.count) result (count_of (S.failed self.new.inner) self.new.count) }
-        ensures honest { S.honest self.old.inner → S.honest self.new.inner }
-        ensures quiet { S.writes self.new.inner ≡ S.writes self.old.inner }
-        ensures armed { fails_reading self.old.armed ≡ true → IsErrOf result ShelfError.Fault × (self.new.inner ≡ self.old.inner) × (self.new.armed ≡ Armed.Nothing) }
-        ensures other { fails_reading self.old.armed ≡ false → (self.new.armed ≡ one_less self.old.armed) × (self.new.count ≡ self.old.count) }
-        ensures inner { fails_reading self.old.armed ≡ false → S.honest self.old.inner → HasCause (S.failed self.old.inner) result (S.failed self.new.inner) }
-    {
+    fn ledger(&mut self) -> Result<Ledger, ShelfError> {
         if self.fails_reading() {
             return Err(ShelfError::Fault);
         }
         self.inner.ledger()
     }
 
-    fn save_ledger(&mut self, ledger: &Ledger) -> Result<(), ShelfError>
-        ensures law { S.honest self.old.inner → Writes (SavesTokens ledger.now) (S.store self.old.inner) result (S.store self.new.inner) }
-        ensures cause { S.honest self.old.inner → HasCause (count_of (S.failed self.old.inner) self.old.count) result (count_of (S.failed self.new.inner) self.new.count) }
-        ensures honest { S.honest self.old.inner → S.honest self.new.inner }
-        ensures once { S.writes self.new.inner ≤ S.writes self.old.inner + 1 }
-        ensures applied { fails_writing self.old.armed ≡ Some true → S.honest self.old.inner → WritesThenFails (SavesTokens ledger.now) (S.store self.old.inner) (S.failed self.old.inner) result (S.store self.new.inner) (S.failed self.new.inner) }
-        ensures unapplied { fails_writing self.old.armed ≡ Some false → IsErrOf result ShelfError.Fault × (self.new.inner ≡ self.old.inner) }
-        ensures spent { fails_writing self.old.armed ≢ None → self.new.armed ≡ Armed.Nothing }
-        ensures other { fails_writing self.old.armed ≡ None → (self.new.armed ≡ one_less self.old.armed) × (self.new.count ≡ self.old.count) }
-        ensures inner { fails_writing self.old.armed ≡ None → S.honest self.old.inner → HasCause (S.failed self.old.inner) result (S.failed self.new.inner) }
-    {
+    fn save_ledger(&mut self, ledger: &Ledger) -> Result<(), ShelfError> {
         match self.fails_writing() {
             None => self.inner.save_ledger(ledger),
             Some(false) => Err(ShelfError::Fault),
@@ -281,32 +222,14 @@ impl<S: Shelf> Shelf for FaultShelf<S> {
         }
     }
 
-    fn config(&mut self) -> Result<Option<Bytes>, ShelfError>
-        ensures law { S.honest self.old.inner → Reads (λ found. found ≡ (S.store self.old.inner).config) (S.store self.old.inner) result (S.store self.new.inner) }
-        ensures cause { S.honest self.old.inner → HasCause (count_of (S.failed self.old.inner) self.old.count) result (count_of (S.failed self.new.inner) self.new.count) }
-        ensures honest { S.honest self.old.inner → S.honest self.new.inner }
-        ensures quiet { S.writes self.new.inner ≡ S.writes self.old.inner }
-        ensures armed { fails_reading self.old.armed ≡ true → IsErrOf result ShelfError.Fault × (self.new.inner ≡ self.old.inner) × (self.new.armed ≡ Armed.Nothing) }
-        ensures other { fails_reading self.old.armed ≡ false → (self.new.armed ≡ one_less self.old.armed) × (self.new.count ≡ self.old.count) }
-        ensures inner { fails_reading self.old.armed ≡ false → S.honest self.old.inner → HasCause (S.failed self.old.inner) result (S.failed self.new.inner) }
-    {
+    fn config(&mut self) -> Result<Option<Bytes>, ShelfError> {
         if self.fails_reading() {
             return Err(ShelfError::Fault);
         }
         self.inner.config()
     }
 
-    fn save_config(&mut self, bytes: &[u8]) -> Result<(), ShelfError>
-        ensures law { S.honest self.old.inner → Writes (SavesConfig bytes.now) (S.store self.old.inner) result (S.store self.new.inner) }
-        ensures cause { S.honest self.old.inner → HasCause (count_of (S.failed self.old.inner) self.old.count) result (count_of (S.failed self.new.inner) self.new.count) }
-        ensures honest { S.honest self.old.inner → S.honest self.new.inner }
-        ensures once { S.writes self.new.inner ≤ S.writes self.old.inner + 1 }
-        ensures applied { fails_writing self.old.armed ≡ Some true → S.honest self.old.inner → WritesThenFails (SavesConfig bytes.now) (S.store self.old.inner) (S.failed self.old.inner) result (S.store self.new.inner) (S.failed self.new.inner) }
-        ensures unapplied { fails_writing self.old.armed ≡ Some false → IsErrOf result ShelfError.Fault × (self.new.inner ≡ self.old.inner) }
-        ensures spent { fails_writing self.old.armed ≢ None → self.new.armed ≡ Armed.Nothing }
-        ensures other { fails_writing self.old.armed ≡ None → (self.new.armed ≡ one_less self.old.armed) × (self.new.count ≡ self.old.count) }
-        ensures inner { fails_writing self.old.armed ≡ None → S.honest self.old.inner → HasCause (S.failed self.old.inner) result (S.failed self.new.inner) }
-    {
+    fn save_config(&mut self, bytes: &[u8]) -> Result<(), ShelfError> {
         match self.fails_writing() {
             None => self.inner.save_config(bytes),
             Some(false) => Err(ShelfError::Fault),
@@ -319,5 +242,9 @@ impl<S: Shelf> Shelf for FaultShelf<S> {
 
     fn failures(&self) -> u64 {
         self.inner.failures().saturating_add(self.count)
+    }
+
+    fn append_only(&self) -> bool {
+        self.inner.append_only()
     }
 }

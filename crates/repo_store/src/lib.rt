@@ -17,25 +17,32 @@
 #![tactic(auto)]
 
 mod answers;
+mod append_only;
 mod faults;
 mod forms;
+mod kept;
+mod known;
 mod laws;
 mod lock_answers;
 mod making;
 mod memory;
 mod object_answers;
 mod output;
+mod pages;
 mod services;
 mod serving;
 mod shelves;
 
 pub use answers::answer;
-pub use faults::{Fail, FaultShelf};
+pub use append_only::AppendOnly;
+pub use faults::{Armed, Fail, FaultShelf};
 pub use forms::{Form, Plain, ServiceError};
-pub use laws::{refusals_change_nothing, runs_compose, serving_runs};
+pub use kept::Kept;
+pub use laws::{mode_stays, refusals_change_nothing, runs_compose, runs_only_append, serving_runs};
 pub use making::{InitError, init};
 pub use memory::MemShelf;
 pub use output::{Unwritten, write_whole};
+pub use pages::rises;
 pub use services::Service;
 pub use serving::{ServeError, room, serve};
 pub use shelves::{Page, Shelf, ShelfError, Slice};

@@ -106,9 +106,9 @@ fn remove_from(map: &mut BTreeMap<Name, Bytes>, name: &Name)
 }
 
 /// The least names above the given one, and whether more follow.
-fn page_after(
+pub fn page_after<X>(
     alloc: Global,
-    map: &BTreeMap<Name, Bytes>,
+    map: &BTreeMap<Name, X>,
     after: Option<&Name>,
     limit: usize,
 ) -> Result<Page, AllocError>
@@ -139,10 +139,15 @@ fn page_after(
 impl Shelf for MemShelf {
     ghost use Rattle.std.specs.Prelude.{⊤};
     ghost use Rattle.repo_store.specs.Memory.{store_of};
+    ghost use Rattle.repo_store.specs.declared.faults.Armed.{Armed};
 
     ghost store = { store_of };
 
     ghost failed = { λ _. 0 };
+
+    ghost armed = { λ _. Armed.Nothing };
+
+    ghost own = { λ _. 0 };
 
     ghost writes = { λ _. 0 };
 
@@ -217,5 +222,9 @@ impl Shelf for MemShelf {
 
     fn failures(&self) -> u64 {
         0
+    }
+
+    fn append_only(&self) -> bool {
+        false
     }
 }

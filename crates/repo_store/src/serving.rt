@@ -2,6 +2,7 @@
 
 ghost use Rattle.std.specs.Prelude.{◌≡◌, ◌<◌, ℕ, List, length, Option, IfOk, vec_len};
 ghost use Rattle.std.specs.Io.KnownBytes.{Consumes};
+ghost use Rattle.repo_store.specs.AppendOnly.{OnlyAppends};
 ghost use Rattle.repo_store.specs.Services.{Rests, PieceGives};
 ghost use Rattle.repo_store.specs.Serving.{Past, Moment, seen, plain, Serves};
 
@@ -105,7 +106,8 @@ fn take_piece<R: Read, W: Write, S: Shelf>(
 /// for when each error comes, and what stands then.
 ///
 /// Whatever the reader and the writer tell of their bytes, the shelf is where a run of the machine leads,
-/// and a reply says that the device failed only where the device counted a failure.
+/// and a reply says that the device failed only where the device counted a failure. Whatever the stream
+/// brings, a store that only appends keeps each object.
 pub fn serve<R: Read, W: Write, S: Shelf>(
     alloc: Global,
     reader: &mut R,
@@ -114,6 +116,7 @@ pub fn serve<R: Read, W: Write, S: Shelf>(
 ) -> Result<u64, ServeError>
     ensures serves { S.honest shelf.old → Serves (R.remaining reader.old) (seen (S.store shelf.old) (S.failed shelf.old) (W.contents writer.old)) result
         (R.remaining reader.new) (seen (S.store shelf.new) (S.failed shelf.new) (W.contents writer.new)) }
+    ensures kept { S.honest shelf.old → OnlyAppends (S.store shelf.old) (S.store shelf.new) }
     ensures honest { S.honest shelf.old → S.honest shelf.new }
 {
     let mut service = Service::new(alloc, Plain);

@@ -3,9 +3,11 @@
 ghost use Rattle.std.specs.Prelude.{◌≡◌, ◌≤◌, ◌+◌, ℕ, length, option_map, All, IfOk};
 ghost use Rattle.repo_name.specs.declared.kinds.Kind.{Kind};
 ghost use Rattle.repo_name.specs.Naming.{IsName};
+ghost use Rattle.repo_store.specs.Faults.{ReadsAsArmed, MayReadAsArmed, WritesAsArmed};
 ghost use Rattle.repo_store.specs.Laws.{Reads, Writes, HasCause};
 ghost use Rattle.repo_store.specs.Pages.{IsPage};
 ghost use Rattle.repo_store.specs.Slices.{IsSlice, HasLength};
+ghost use Rattle.repo_store.specs.declared.faults.Armed.{Armed};
 ghost use Rattle.repo_store.specs.Stores.{Store, PutsObject, RemovesObject, SavesTokens, SavesConfig};
 
 use repo_locks::Ledger;
@@ -59,6 +61,10 @@ pub trait Shelf {
     ghost store: { Self → Store };
     /// How many calls have failed by the device's own fault.
     ghost failed: { Self → ℕ };
+    /// The call that is to fail, as it was told to.
+    ghost armed: { Self → Armed };
+    /// How many calls have failed that weren't told to.
+    ghost own: { Self → ℕ };
     /// How many writing calls were made, as far as the device counts them.
     ghost writes: { Self → ℕ };
     /// The device keeps what it was given.
@@ -68,6 +74,7 @@ pub trait Shelf {
     fn get(&mut self, kind: Kind, name: &Name) -> Result<Option<Bytes>, ShelfError>
         ensures law { honest self.old → Reads (λ found. found ≡ (store self.old).objects kind name.now) (store self.old) result (store self.new) }
         ensures cause { honest self.old → HasCause (failed self.old) result (failed self.new) }
+        ensures armed { honest self.old → ReadsAsArmed (armed self.old) (own self.old) result (armed self.new) (own self.new) }
         ensures honest { honest self.old → honest self.new }
         ensures quiet { writes self.new ≡ writes self.old };
 
@@ -75,6 +82,7 @@ pub trait Shelf {
     fn range(&mut self, pack: &Name, offset: u32, length: u32) -> Result<Slice, ShelfError>
         ensures law { honest self.old → Reads (IsSlice ((store self.old).objects Kind.Pack pack.now) offset length) (store self.old) result (store self.new) }
         ensures cause { honest self.old → HasCause (failed self.old) result (failed self.new) }
+        ensures armed { honest self.old → ReadsAsArmed (armed self.old) (own self.old) result (armed self.new) (own self.new) }
         ensures honest { honest self.old → honest self.new }
         ensures quiet { writes self.new ≡ writes self.old }
         ensures length { IfOk result (HasLength length) };
@@ -84,6 +92,7 @@ pub trait Shelf {
     fn put(&mut self, kind: Kind, name: &Name, bytes: &[u8]) -> Result<(), ShelfError>
         ensures law { honest self.old → Writes (PutsObject kind name.now bytes.now) (store self.old) result (store self.new) }
         ensures cause { honest self.old → HasCause (failed self.old) result (failed self.new) }
+        ensures armed { honest self.old → WritesAsArmed (PutsObject kind name.now bytes.now) (armed self.old) (store self.old) (own self.old) result (armed self.new) (store self.new) (own self.new) }
         ensures honest { honest self.old → honest self.new }
         ensures once { writes self.new ≤ writes self.old + 1 };
 
@@ -91,6 +100,7 @@ pub trait Shelf {
     fn remove(&mut self, kind: Kind, name: &Name) -> Result<(), ShelfError>
         ensures law { honest self.old → Writes (RemovesObject kind name.now) (store self.old) result (store self.new) }
         ensures cause { honest self.old → HasCause (failed self.old) result (failed self.new) }
+        ensures armed { honest self.old → WritesAsArmed (RemovesObject kind name.now) (armed self.old) (store self.old) (own self.old) result (armed self.new) (store self.new) (own self.new) }
         ensures honest { honest self.old → honest self.new }
         ensures once { writes self.new ≤ writes self.old + 1 };
 
@@ -104,6 +114,7 @@ pub trait Shelf {
     ) -> Result<Page, ShelfError>
         ensures law { honest self.old → Reads (λ page. IsPage (store self.old).objects kind (option_map (λ name. name.now) after.entry) limit page.names page.more) (store self.old) result (store self.new) }
         ensures cause { honest self.old → HasCause (failed self.old) result (failed self.new) }
+        ensures armed { honest self.old → MayReadAsArmed (armed self.old) (own self.old) result (armed self.new) (own self.new) }
         ensures honest { honest self.old → honest self.new }
         ensures quiet { writes self.new ≡ writes self.old }
         ensures few { IfOk result (λ page. length page.names ≤ limit) }
@@ -113,6 +124,7 @@ pub trait Shelf {
     fn ledger(&mut self) -> Result<Ledger, ShelfError>
         ensures law { honest self.old → Reads (λ ledger. ledger ≡ (store self.old).tokens) (store self.old) result (store self.new) }
         ensures cause { honest self.old → HasCause (failed self.old) result (failed self.new) }
+        ensures armed { honest self.old → MayReadAsArmed (armed self.old) (own self.old) result (armed self.new) (own self.new) }
         ensures honest { honest self.old → honest self.new }
         ensures quiet { writes self.new ≡ writes self.old };
 
@@ -120,6 +132,7 @@ pub trait Shelf {
     fn save_ledger(&mut self, ledger: &Ledger) -> Result<(), ShelfError>
         ensures law { honest self.old → Writes (SavesTokens ledger.now) (store self.old) result (store self.new) }
         ensures cause { honest self.old → HasCause (failed self.old) result (failed self.new) }
+        ensures armed { honest self.old → WritesAsArmed (SavesTokens ledger.now) (armed self.old) (store self.old) (own self.old) result (armed self.new) (store self.new) (own self.new) }
         ensures honest { honest self.old → honest self.new }
         ensures once { writes self.new ≤ writes self.old + 1 };
 
@@ -127,6 +140,7 @@ pub trait Shelf {
     fn config(&mut self) -> Result<Option<Bytes>, ShelfError>
         ensures law { honest self.old → Reads (λ found. found ≡ (store self.old).config) (store self.old) result (store self.new) }
         ensures cause { honest self.old → HasCause (failed self.old) result (failed self.new) }
+        ensures armed { honest self.old → ReadsAsArmed (armed self.old) (own self.old) result (armed self.new) (own self.new) }
         ensures honest { honest self.old → honest self.new }
         ensures quiet { writes self.new ≡ writes self.old };
 
@@ -134,10 +148,15 @@ pub trait Shelf {
     fn save_config(&mut self, bytes: &[u8]) -> Result<(), ShelfError>
         ensures law { honest self.old → Writes (SavesConfig bytes.now) (store self.old) result (store self.new) }
         ensures cause { honest self.old → HasCause (failed self.old) result (failed self.new) }
+        ensures armed { honest self.old → WritesAsArmed (SavesConfig bytes.now) (armed self.old) (store self.old) (own self.old) result (armed self.new) (store self.new) (own self.new) }
         ensures honest { honest self.old → honest self.new }
         ensures once { writes self.new ≤ writes self.old + 1 };
 
     /// How many calls have failed by the device's own fault. At its greatest the count stays.
     fn failures(&self) -> u64
         ensures { result ≡ failed self.now };
+
+    /// Whether the store only appends: it refuses to delete any object. No call changes it.
+    fn append_only(&self) -> bool
+        ensures { honest self.now → result ≡ (store self.now).append_only };
 }

@@ -130,6 +130,7 @@ code_number Code.Fault = 10
 code_number Code.NoMemory = 11
 code_number Code.Full = 12
 code_number Code.Exhausted = 13
+code_number Code.AppendOnly = 14
 
 -- the tag of each reply
 abbrev pub say_tag : Say → ℕ

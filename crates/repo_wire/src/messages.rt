@@ -91,10 +91,12 @@ pub enum Code {
     Full,
     /// 13: there are no more numbers.
     Exhausted,
+    /// 14: the store only appends; it deletes nothing.
+    AppendOnly,
 }
 
 impl Code {
-    /// The code's number, 1 to 13.
+    /// The code's number, 1 to 14.
     pub fn number(self) -> u8
         ensures { result ≡ code_number self }
     {
@@ -112,6 +114,7 @@ impl Code {
             Code::NoMemory => 11,
             Code::Full => 12,
             Code::Exhausted => 13,
+            Code::AppendOnly => 14,
         }
     }
 }

@@ -322,13 +322,13 @@ module _ (host : List ℕ) (time : ℕ) (config pack index snapshot : List ℕ) 
   tokens = granted (issued start) (lock_row task token)
 
   abbrev pub store_of : Objects → Tokens → Store
-  store_of objects l = record { config = Some config; objects = objects; tokens = l }
+  store_of objects l = record { config = Some config; objects = objects; tokens = l; append_only = false }
 
   abbrev pub last_store : Store
   last_store = store_of with_snapshot (unlocked tokens token)
 
   put_step : (old : Objects) (k : Kind) (x : List ℕ) → length x ≤ object_limit k → old k (naming.name x) ≡ None → Step (store_of old tokens) (Ask.Put token k (naming.name x) x) Say.Done (store_of (with_object old k (naming.name x) x) tokens)
-  put_step old k x short free = inl (inr (inr (inr (short, (λ q. none-some false (sym q)), refl, refl, (now_added old k (naming.name x) x free, refl, refl)))))
+  put_step old k x short free = inl (inr (inr (inr (short, (λ q. none-some false (sym q)), refl, refl, (now_added old k (naming.name x) x free, refl, refl, refl)))))
 
   list_step : Step (store_of first_objects tokens) (Ask.List Kind.Index None) (Say.Names false []) (store_of first_objects tokens)
   list_step = inl ([], false, record { ascends = tt; few = lit≤ tt; there = λ n h. absurd h; least = λ n x h above. absurd (none-some x h); follow = λ q. absurd (cc) }, refl, refl)
@@ -348,8 +348,8 @@ module _ (host : List ℕ) (time : ℕ) (config pack index snapshot : List ℕ) 
               store_of first_objects tokens,
               (
                 store_of first_objects (issued start),
-                (configured config, refl, inl (record { result = Ok token; tokens = issued start; step = (omega arith, refl, refl); says = refl; saves = (refl, refl, refl) })),
-                inl (record { result = Ok Grant.New; tokens = tokens; step = ((refl, refl, refl, omega arith), refl); says = refl; saves = (refl, refl, refl) }),
+                (configured config, refl, inl (record { result = Ok token; tokens = issued start; step = (omega arith, refl, refl); says = refl; saves = (refl, refl, refl, refl) })),
+                inl (record { result = Ok Grant.New; tokens = tokens; step = ((refl, refl, refl, omega arith), refl); says = refl; saves = (refl, refl, refl, refl) }),
               ),
               inl (inl (texts.config_short, refl), refl),
             ),
@@ -361,7 +361,7 @@ module _ (host : List ℕ) (time : ℕ) (config pack index snapshot : List ℕ) 
       ),
       put_step with_index Kind.Snapshot snapshot texts.snapshot_short refl,
     ),
-    inl (record { result = true; tokens = unlocked tokens token; step = (refl, refl); says = refl; saves = (refl, refl, refl) }),
+    inl (record { result = true; tokens = unlocked tokens token; step = (refl, refl); says = refl; saves = (refl, refl, refl, refl) }),
   )
 
   pub is_backed_up : IsBackedUp config snapshot

@@ -1,30 +1,20 @@
 -- A prune's deletes, under a live exclusive token, leave the store sound.
-use Rattle.std.proofs.Common.{◌≡◌, ℕ, zero, suc, List, [], refl, sym, ◌∙◌, subst, append-nil, Contains}
-use Rattle.repo_name.specs.declared.kinds.BlobKind.{BlobKind}
+use Rattle.std.proofs.Common.{◌≡◌, ℕ, List, sym, ◌∙◌, subst}
 use Rattle.repo_name.specs.declared.kinds.BlobKind.TheVariants.{Tree}
 use Rattle.repo_name.specs.declared.kinds.Kind.{Kind}
 use Rattle.repo_name.specs.declared.names.Name.{Name}
 use Rattle.repo_name.specs.declared.tokens.Token.{Token}
 use Rattle.repo_wire.specs.declared.messages.Ask.{Ask}
 use Rattle.repo_wire.specs.declared.messages.Say.{Say}
-use Rattle.repo_index.specs.IndexText.{facts_in, fact_of}
-use Rattle.repo_index.specs.declared.facts.Fact.{Fact}
 use Rattle.repo_index.specs.declared.facts.PackFacts.{PackFacts}
 use Rattle.repo_reach.specs.Collected.{tree_blobs}
 use Rattle.repo_tree.specs.Laws.{Agree}
-use Rattle.repo_tree.specs.Parts.{Blobs, ListsBy}
-use Rattle.repo_tree.specs.Spelling.{HasPair}
-use Rattle.repo_tree.specs.declared.nodes.Node.{Node}
 use Rattle.repo_tree.specs.declared.snapshots.Snapshot.{Snapshot}
 use Rattle.repo_store.specs.Stores.{Removed, Objects}
 use Rattle.repo_session.specs.Soundness.{IsHeld, IsSound}
 use Rattle.repo_session.specs.Traces.{Trace, WasAsked}
-use Rattle.repo_name.proofs.Containing.{flat_contains, contains_flat}
 use Rattle.repo_session.proofs.Spoken.{was_asked}
-use Rattle.repo_writing.specs.Blobs.{HasFact}
-use Rattle.repo_writing.specs.Putting.{PutDone, IsIndexed}
-use Rattle.repo_writing.specs.Writing.{Listing, packs_of, IsDone, AreListed}
-use Rattle.repo_writing.proofs.PutLemmas.{each_contained}
+use Rattle.repo_writing.specs.Putting.{PutDone}
 use Rattle.repo_writing.proofs.Replacing.{IsReplaced, snapshot_row, index_delete_keeps_sound, put_says, each_index_put, pack_delete_keeps_sound}
 use Rattle.repo_prune.proofs.PruneRuns.{row_replaced}
 use Rattle.repo_prune.specs.Keeping.{Row}

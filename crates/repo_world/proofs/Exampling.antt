@@ -109,7 +109,7 @@ step_2 = (
     reply = given;
     store = with_tokens (issued start);
     answers = (refl, refl);
-    step = (inl (record { result = Ok token; tokens = issued start; step = (omega arith, refl, refl); says = refl; saves = (refl, refl, refl) }), λ e. tt);
+    step = (inl (record { result = Ok token; tokens = issued start; step = (omega arith, refl, refl); says = refl; saves = (refl, refl, refl, refl) }), λ e. tt);
     is = refl;
   },
 )
@@ -144,7 +144,7 @@ step_4 = (
     step = inl (
       Say.Done,
       with_tokens (granted (issued start) row),
-      record { result = Ok Grant.New; tokens = granted (issued start) row; step = ((refl, refl, refl, omega arith), refl); says = refl; saves = (refl, refl, refl) },
+      record { result = Ok Grant.New; tokens = granted (issued start) row; step = ((refl, refl, refl, omega arith), refl); says = refl; saves = (refl, refl, refl, refl) },
       ((λ q. none-some false q), (λ q. q)),
       refl,
       refl,
@@ -160,7 +160,7 @@ step_5 = (
     reply = done;
     store = with_tokens (granted (issued start) row);
     answers = (refl, refl);
-    step = (inl (record { result = Ok Grant.Held; tokens = granted (issued start) row; step = (refl, refl); says = refl; saves = (refl, refl, refl) }), λ e. tt);
+    step = (inl (record { result = Ok Grant.Held; tokens = granted (issued start) row; step = (refl, refl); says = refl; saves = (refl, refl, refl, refl) }), λ e. tt);
     is = refl;
   },
 )
@@ -186,7 +186,7 @@ step_6 = inl (
 )
 
 step_7 : Happens ⊤ w6 (Unlock token) Done last
-step_7 = (refl, inl (record { store = last.store; saves = (refl, refl, refl); is = refl }))
+step_7 = (refl, inl (record { store = last.store; saves = (refl, refl, refl, refl); is = refl }))
 
 run : Run (beginning empty) events last
 run = (w1, (Done, step_1), (w2, (Done, step_2), (w3, (Done, step_3), (w4, (Done, step_4), (w5, (Done, step_5), (w6, (Done, step_6), (last, (Done, step_7), (last, (Done, (refl, refl)), refl))))))))

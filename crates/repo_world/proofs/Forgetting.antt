@@ -204,7 +204,7 @@ module _ (host : List ℕ) (time : ℕ) (config pack index snapshot : List ℕ) 
     tokens = granted (issued from.tokens) (lock_row task token)
 
     abbrev store_of : Objects → Tokens → Store
-    store_of objects l = record { config = Some config; objects = objects; tokens = l }
+    store_of objects l = record { config = Some config; objects = objects; tokens = l; append_only = false }
 
     snapshot_there : from.objects Kind.Snapshot ns ≡ Some snapshot
     snapshot_there = there_now (backup.with_index host time config pack index snapshot limits texts) Kind.Snapshot ns snapshot
@@ -220,16 +220,16 @@ module _ (host : List ℕ) (time : ℕ) (config pack index snapshot : List ℕ) 
             store_of from.objects tokens,
             (
               store_of from.objects (issued from.tokens),
-              (from, sym same, inl (record { result = Ok token; tokens = issued from.tokens; step = (omega arith, refl, refl); says = refl; saves = (refl, refl, refl) })),
-              inl (record { result = Ok Grant.New; tokens = tokens; step = ((refl, refl, refl, omega arith), refl); says = refl; saves = (refl, refl, refl) }),
+              (from, sym same, inl (record { result = Ok token; tokens = issued from.tokens; step = (omega arith, refl, refl); says = refl; saves = (refl, refl, refl, refl) })),
+              inl (record { result = Ok Grant.New; tokens = tokens; step = ((refl, refl, refl, omega arith), refl); says = refl; saves = (refl, refl, refl, refl) }),
             ),
             inl (inl (texts.config_short, refl), refl),
           ),
           inl (ns ∷ [], false, page_of from.objects Kind.Snapshot ns snapshot snapshot_there (λ m y h. only_here snapshot m ns (is_eq (name_cmp m ns)) y refl h), refl, refl),
         ),
-        inl (inr (inr (refl, refl, (now_removed from.objects Kind.Snapshot ns, refl, refl)))),
+        inl (inr (refl, inr (inr (refl, refl, (now_removed from.objects Kind.Snapshot ns, refl, refl, refl))))),
       ),
-      inl (record { result = true; tokens = unlocked tokens token; step = (refl, refl); says = refl; saves = (refl, refl, refl) }),
+      inl (record { result = true; tokens = unlocked tokens token; step = (refl, refl); says = refl; saves = (refl, refl, refl, refl) }),
     )
 
     -- ---- the prune, over the store that the forget leaves
@@ -469,8 +469,8 @@ module _ (host : List ℕ) (time : ℕ) (config pack index snapshot : List ℕ) 
                       store_of forgotten_objects last_tokens,
                       (
                         store_of forgotten_objects (issued left.tokens),
-                        (left, sym next, inl (record { result = Ok third; tokens = issued left.tokens; step = (omega arith, refl, refl); says = refl; saves = (refl, refl, refl) })),
-                        inl (record { result = Ok Grant.New; tokens = last_tokens; step = ((refl, refl, refl, omega arith), refl); says = refl; saves = (refl, refl, refl) }),
+                        (left, sym next, inl (record { result = Ok third; tokens = issued left.tokens; step = (omega arith, refl, refl); says = refl; saves = (refl, refl, refl, refl) })),
+                        inl (record { result = Ok Grant.New; tokens = last_tokens; step = ((refl, refl, refl, omega arith), refl); says = refl; saves = (refl, refl, refl, refl) }),
                       ),
                       inl (inl (texts.config_short, refl), refl),
                     ),
@@ -482,11 +482,11 @@ module _ (host : List ℕ) (time : ℕ) (config pack index snapshot : List ℕ) 
               ),
               inl (np ∷ [], false, page_of forgotten_objects Kind.Pack np pack pack_there (λ m y h. only_here pack m np (is_eq (name_cmp m np)) y refl h), refl, refl),
             ),
-            inl (inr (inr (refl, refl, (now_removed forgotten_objects Kind.Index ni, refl, refl)))),
+            inl (inr (refl, inr (inr (refl, refl, (now_removed forgotten_objects Kind.Index ni, refl, refl, refl))))),
           ),
-          inl (inr (inr (refl, refl, (now_removed without_index Kind.Pack np, refl, refl)))),
+          inl (inr (refl, inr (inr (refl, refl, (now_removed without_index Kind.Pack np, refl, refl, refl))))),
         ),
-        inl (record { result = true; tokens = unlocked last_tokens third; step = (refl, refl); says = refl; saves = (refl, refl, refl) }),
+        inl (record { result = true; tokens = unlocked last_tokens third; step = (refl, refl); says = refl; saves = (refl, refl, refl, refl) }),
       )
 
   none_left : (k : Kind) (n : Name) → without_object (without_object (without_object from.objects Kind.Snapshot ns) Kind.Index ni) Kind.Pack np k n ≡ None

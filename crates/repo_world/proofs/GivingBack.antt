@@ -196,7 +196,7 @@ module _ (host : List ℕ) (time : ℕ) (config pack index snapshot : List ℕ) 
     tokens = granted (issued from.tokens) (lock_row task token)
 
     abbrev store_of : Tokens → Store
-    store_of l = record { config = Some config; objects = objects; tokens = l }
+    store_of l = record { config = Some config; objects = objects; tokens = l; append_only = false }
 
     snapshot_there : objects Kind.Snapshot ns ≡ Some snapshot
     snapshot_there = there_now (backup.with_index host time config pack index snapshot limits texts) Kind.Snapshot ns snapshot
@@ -244,8 +244,8 @@ module _ (host : List ℕ) (time : ℕ) (config pack index snapshot : List ℕ) 
                 store_of tokens,
                 (
                   store_of (issued from.tokens),
-                  (from, sym same, inl (record { result = Ok token; tokens = issued from.tokens; step = (omega arith, refl, refl); says = refl; saves = (refl, refl, refl) })),
-                  inl (record { result = Ok Grant.New; tokens = tokens; step = ((refl, refl, refl, omega arith), refl); says = refl; saves = (refl, refl, refl) }),
+                  (from, sym same, inl (record { result = Ok token; tokens = issued from.tokens; step = (omega arith, refl, refl); says = refl; saves = (refl, refl, refl, refl) })),
+                  inl (record { result = Ok Grant.New; tokens = tokens; step = ((refl, refl, refl, omega arith), refl); says = refl; saves = (refl, refl, refl, refl) }),
                 ),
                 inl (inl (texts.config_short, refl), refl),
               ),
@@ -257,7 +257,7 @@ module _ (host : List ℕ) (time : ℕ) (config pack index snapshot : List ℕ) 
         ),
         range_step,
       ),
-      inl (record { result = true; tokens = unlocked tokens token; step = (refl, refl); says = refl; saves = (refl, refl, refl) }),
+      inl (record { result = true; tokens = unlocked tokens token; step = (refl, refl); says = refl; saves = (refl, refl, refl, refl) }),
     )
 
   -- ---- after the backup

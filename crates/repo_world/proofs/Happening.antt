@@ -20,7 +20,7 @@ use Rattle.repo_world.specs.Bag.{AskedAt, StillSays, HasBag}
 use Rattle.repo_world.specs.BagLaws.{BeginningHasBag, IsServed}
 use Rattle.repo_world.specs.Clients.{Job}
 use Rattle.repo_world.specs.Events.{Event, Start, Deliver, Fault, Unlock, Crash, Restart, Applied, Serves, Takes, Delivers, Starts, Crashes, Unlocks, Happens}
-use Rattle.repo_world.specs.Failing.{Plainly, Failing}
+use Rattle.repo_store.specs.Failing.{Plainly, Failing}
 use Rattle.repo_world.specs.Laws.{IsEmpty}
 use Rattle.repo_world.specs.Safe.{HasNoClash}
 use Rattle.repo_world.specs.World.{World, Message, client, Has, Asked, Said, sends, started, first_of, crashed_one}

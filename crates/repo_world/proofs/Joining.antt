@@ -21,7 +21,7 @@ use Rattle.repo_session.specs.Traces.{Each, Exchange, Trace}
 use Rattle.repo_session.proofs.Growing.{Led, led}
 use Rattle.repo_world.specs.Clients.{Job, Accepts, task_of, Allows, Gives, Concludes, Client, IsDutiful}
 use Rattle.repo_world.specs.Events.{Event, Start, Deliver, Done, Delivers, Takes, Happens, Run}
-use Rattle.repo_world.specs.Failing.{Plainly}
+use Rattle.repo_store.specs.Failing.{Plainly}
 use Rattle.repo_world.specs.Lone.{LoneTalkIsARun}
 use Rattle.repo_world.specs.World.{World, Message, Asked, Said, client, client_at, sends, instance_of, first_of, started}
 

@@ -11,7 +11,7 @@ use Rattle.repo_locks.specs.TokenMachine.{Tokens, is_fresh, live_as}
 use Rattle.repo_locks.proofs.LawfulSteps as lawful
 use Rattle.repo_locks.proofs.Numbers as numbers
 use Rattle.repo_store.specs.StoreMachine.{Step, Answers}
-use Rattle.repo_store.specs.Stores.{Store, Objects, Added, Removed}
+use Rattle.repo_store.specs.Stores.{Store, Objects, Added, Removed, SavesTokens}
 use Rattle.repo_world.specs.Bag.{IsSpent, IsLawfulAsk}
 
 -- what a step does to the tokens: a spent number is live after it only as it was before
@@ -54,7 +54,7 @@ pub record StoreMoves (old : Store) (ask : Ask) (new : Store) : Type 0 where
 same_store : (old new : Store) (ask : Ask) → IsLedger old.tokens → new ≡ old → StoreMoves old ask new
 same_store old new ask ok e = subst (λ s. StoreMoves old ask s) (sym e) (record { tokens = same_tokens old.tokens ok; objects = stays refl })
 
-saved : (old new : Store) (ask : Ask) (tokens : Tokens) → IsLedger old.tokens → Moves old.tokens tokens → (new.config ≡ old.config) × (new.objects ≡ old.objects) × (new.tokens ≡ tokens) → StoreMoves old ask new
+saved : (old new : Store) (ask : Ask) (tokens : Tokens) → IsLedger old.tokens → Moves old.tokens tokens → SavesTokens tokens old new → StoreMoves old ask new
 saved old new ask tokens ok m s = record { tokens = subst (λ l. TokensMove old.tokens l) (sym s.2) (moved old.tokens tokens ok m); objects = stays s.1 }
 
 answer_moves : (old : Store) (ask : Ask) (say : Say) (new : Store) → IsLedger old.tokens → IsLawfulAsk ask → Answers old ask say new → StoreMoves old ask new
@@ -72,8 +72,9 @@ answer_moves old (Ask.Put t k n x) say new ok l (inr (inl a)) = same_store old n
 answer_moves old (Ask.Put t k n x) say new ok l (inr (inr (inl a))) = same_store old new (Ask.Put t k n x) ok a.4
 answer_moves old (Ask.Put t k n x) say new ok l (inr (inr (inr a))) = record { tokens = subst (λ m. TokensMove old.tokens m) (sym a.4.2) (same_tokens old.tokens ok); objects = adds t k n x refl a.1 a.4.0 }
 answer_moves old (Ask.Delete t k n) say new ok l (inl a) = same_store old new (Ask.Delete t k n) ok a.2
-answer_moves old (Ask.Delete t k n) say new ok l (inr (inl a)) = same_store old new (Ask.Delete t k n) ok a.2
-answer_moves old (Ask.Delete t k n) say new ok l (inr (inr a)) = record { tokens = subst (λ m. TokensMove old.tokens m) (sym a.2.2) (same_tokens old.tokens ok); objects = removes t k n refl a.0 a.2.0 }
+answer_moves old (Ask.Delete t k n) say new ok l (inr (deletes, inl a)) = same_store old new (Ask.Delete t k n) ok a.2
+answer_moves old (Ask.Delete t k n) say new ok l (inr (deletes, inr (inl a))) = same_store old new (Ask.Delete t k n) ok a.2
+answer_moves old (Ask.Delete t k n) say new ok l (inr (deletes, inr (inr a))) = record { tokens = subst (λ m. TokensMove old.tokens m) (sym a.2.2) (same_tokens old.tokens ok); objects = removes t k n refl a.0 a.2.0 }
 answer_moves old Ask.Config say new ok l a = same_store old new Ask.Config ok a.1
 
 pub step_moves : (old : Store) (ask : Ask) (say : Say) (new : Store) → IsLedger old.tokens → IsLawfulAsk ask → Step old ask say new → StoreMoves old ask new

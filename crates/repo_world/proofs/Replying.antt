@@ -38,9 +38,10 @@ pub delete_told : (old : Store) (t : Token) (k : Kind) (n : Name) (new : Store) 
 delete_told old t k n new s = go (answered old (Ask.Delete t k n) Say.Done new (no_done Say.Done refl) s)
   where
     go : DeleteAnswer old t k n Say.Done new → new.objects k n ≡ None
-    go (inl h) = absurd (no_done Say.Done refl Code.Dead h.1)
-    go (inr (inl h)) = absurd (no_done Say.Done refl Code.NotExclusive h.1)
-    go (inr (inr h)) = h.2.0.gone
+    go (inl h) = absurd (no_done Say.Done refl Code.AppendOnly h.1)
+    go (inr (only, inl h)) = absurd (no_done Say.Done refl Code.Dead h.1)
+    go (inr (only, inr (inl h))) = absurd (no_done Say.Done refl Code.NotExclusive h.1)
+    go (inr (only, inr (inr h))) = h.2.0.gone
 
 no_bytes : (x : List ℕ) (code : Code) → Say.Bytes x ≢ Say.Refused code
 no_bytes x code h = absurd (cc)
@@ -130,9 +131,10 @@ token_answer old (Ask.Put u k n x) t new (inl a) = absurd (no_token t Code.TooLa
 token_answer old (Ask.Put u k n x) t new (inr (inl a)) = absurd (no_token t Code.Dead a.2)
 token_answer old (Ask.Put u k n x) t new (inr (inr (inl a))) = absurd (no_token t Code.NameMismatch a.3)
 token_answer old (Ask.Put u k n x) t new (inr (inr (inr a))) = let e : Say.Token t ≡ Say.Done = a.3 in absurd (cc)
-token_answer old (Ask.Delete u k n) t new (inl a) = absurd (no_token t Code.Dead a.1)
-token_answer old (Ask.Delete u k n) t new (inr (inl a)) = absurd (no_token t Code.NotExclusive a.1)
-token_answer old (Ask.Delete u k n) t new (inr (inr a)) = let e : Say.Token t ≡ Say.Done = a.1 in absurd (cc)
+token_answer old (Ask.Delete u k n) t new (inl a) = absurd (no_token t Code.AppendOnly a.1)
+token_answer old (Ask.Delete u k n) t new (inr (only, inl a)) = absurd (no_token t Code.Dead a.1)
+token_answer old (Ask.Delete u k n) t new (inr (only, inr (inl a))) = absurd (no_token t Code.NotExclusive a.1)
+token_answer old (Ask.Delete u k n) t new (inr (only, inr (inr a))) = let e : Say.Token t ≡ Say.Done = a.1 in absurd (cc)
 token_answer old Ask.Config t new a = absurd (bytes_no_token text_limit old.config t a.0)
 
 pub token_told : (old : Store) (ask : Ask) (t : Token) (new : Store) → Step old ask (Say.Token t) new → (t.0 ≡ old.tokens.next) × (new.tokens.next ≡ old.tokens.next + 1)

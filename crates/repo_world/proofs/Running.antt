@@ -10,7 +10,7 @@ use Rattle.repo_world.specs.Bag.{HasBag}
 use Rattle.repo_world.specs.BagLaws.{BagGivesSafety}
 use Rattle.repo_world.specs.Clients.{Client}
 use Rattle.repo_world.specs.Events.{Event, Start, Deliver, Fault, Unlock, Crash, Restart, Applied, Delivers, Happens, Run}
-use Rattle.repo_world.specs.Failing.{Plainly, Failing}
+use Rattle.repo_store.specs.Failing.{Plainly, Failing}
 use Rattle.repo_world.specs.Laws.{EveryRunIsSafe, Behaves, AllBehave, EachEventKeepsReports, EachReportHolds, NoClashGoesBack, FailingIsAStep}
 use Rattle.repo_world.specs.Safe.{HasNoClash}
 use Rattle.repo_world.specs.World.{World, Message, client, Asked, Said, sends, started, first_of, crashed_one, beginning}

@@ -376,7 +376,7 @@ module _ (host : List ℕ) (time : ℕ) (config pack index snapshot : List ℕ) 
     tokens = granted (issued from.tokens) (lock_row task token)
 
     abbrev store_of : Tokens → Store
-    store_of l = record { config = Some config; objects = objects; tokens = l }
+    store_of l = record { config = Some config; objects = objects; tokens = l; append_only = false }
 
     snapshot_there : objects Kind.Snapshot ns ≡ Some snapshot
     snapshot_there = there_now (backup.with_index host time config pack index snapshot limits texts) Kind.Snapshot ns snapshot
@@ -410,7 +410,7 @@ module _ (host : List ℕ) (time : ℕ) (config pack index snapshot : List ℕ) 
     range_step = inl (inr ((texts.packed.pack.each 0 (tree_of nothing) (lit≤ tt)).0, (Slice.Found (tree_text []), (pack, pack_there, range_is pack (tree_of nothing ∷ []) 0 (tree_of nothing) texts.packed.pack refl), refl), refl))
 
     put_step : Step (store_of tokens) (Ask.Put token Kind.Index ni index) Say.Done (store_of tokens)
-    put_step = inl (inr (inr (inr (texts.index_short, (λ q. none-some true (sym q)), refl, refl, (record { kept = λ k n x h. h; only = λ k n x h. inl h; here = (index, index_there) }, refl, refl)))))
+    put_step = inl (inr (inr (inr (texts.index_short, (λ q. none-some true (sym q)), refl, refl, (record { kept = λ k n x h. h; only = λ k n x h. inl h; here = (index, index_there) }, refl, refl, refl)))))
 
     steps : Stepped w Prune host time tt limits w.store all (store_of (unlocked tokens token))
     steps = (
@@ -433,8 +433,8 @@ module _ (host : List ℕ) (time : ℕ) (config pack index snapshot : List ℕ) 
                       store_of tokens,
                       (
                         store_of (issued from.tokens),
-                        (from, sym same, inl (record { result = Ok token; tokens = issued from.tokens; step = (omega arith, refl, refl); says = refl; saves = (refl, refl, refl) })),
-                        inl (record { result = Ok Grant.New; tokens = tokens; step = ((refl, refl, refl, omega arith), refl); says = refl; saves = (refl, refl, refl) }),
+                        (from, sym same, inl (record { result = Ok token; tokens = issued from.tokens; step = (omega arith, refl, refl); says = refl; saves = (refl, refl, refl, refl) })),
+                        inl (record { result = Ok Grant.New; tokens = tokens; step = ((refl, refl, refl, omega arith), refl); says = refl; saves = (refl, refl, refl, refl) }),
                       ),
                       inl (inl (texts.config_short, refl), refl),
                     ),
@@ -452,7 +452,7 @@ module _ (host : List ℕ) (time : ℕ) (config pack index snapshot : List ℕ) 
         ),
         put_step,
       ),
-      inl (record { result = true; tokens = unlocked tokens token; step = (refl, refl); says = refl; saves = (refl, refl, refl) }),
+      inl (record { result = true; tokens = unlocked tokens token; step = (refl, refl); says = refl; saves = (refl, refl, refl, refl) }),
     )
 
   -- ---- after the backup

@@ -1,6 +1,6 @@
 -- A backup, a restore and a prune, as examples: an empty folder is backed up to a store without objects, and its snapshot is reported as stored; then it is
 -- restored, or the store is pruned, or it is forgotten and the store pruned.
-use Rattle.std.specs.Prelude.{◌≡◌, ◌≤◌, ◌<◌, ◌^◌, ◌-◌, ◌∷◌, [], ℕ, List, length, min, Some, None, Vec, Contains}
+use Rattle.std.specs.Prelude.{false, ◌≡◌, ◌≤◌, ◌<◌, ◌^◌, ◌-◌, ◌∷◌, [], ℕ, List, length, min, Some, None, Vec, Contains}
 use Rattle.std.specs.Global.{Global}
 use Rattle.repo_name.specs.Naming as naming
 use Rattle.repo_name.specs.Rows.{IsHost}
@@ -29,7 +29,7 @@ use Rattle.repo_world.specs.World.{World, client, beginning}
 
 -- the store: this config, and nothing else
 abbrev pub configured : List ℕ → Store
-configured config = record { config = Some config; objects = λ k n. None; tokens = start }
+configured config = record { config = Some config; objects = λ k n. None; tokens = start; append_only = false }
 
 -- what its machine's host and moment make of its snapshot: the token is the first one, and the tree that of an empty directory
 abbrev pub snapshot_of : List ℕ → ℕ → Snapshot

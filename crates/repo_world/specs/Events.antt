@@ -14,7 +14,7 @@ use Rattle.repo_session.specs.declared.outcomes.Outcome.{Outcome}
 use Rattle.repo_session.specs.Clients.{AnswersNext, Answers, exchange}
 use Rattle.repo_world.specs.Clients.{Job, Accepts, Refuses, Client, IsDutiful}
 use Rattle.repo_world.specs.World.{Message, Asked, Said, World, first_of, started, crashed_one, client, sends}
-use Rattle.repo_world.specs.Failing.{Plainly, Failing}
+use Rattle.repo_store.specs.Failing.{Plainly, Failing}
 
 -- an event: a client starts; the message of a number is delivered; it is delivered, and a call of the device fails; somebody removes a lock; a client
 -- stops for good; the store is closed and opened

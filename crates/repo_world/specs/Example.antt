@@ -45,7 +45,7 @@ done = record { instance = instance_of 0; sequence = 2; say = Say.Done }
 
 -- the store without objects, with these tokens
 abbrev pub with_tokens : Tokens → Store
-with_tokens tokens = record { config = None; objects = λ k n. None; tokens = tokens }
+with_tokens tokens = record { config = None; objects = λ k n. None; tokens = tokens; append_only = false }
 
 -- the client at its end: its lock was answered by a failure
 abbrev pub refused : Client

@@ -6,13 +6,14 @@ use Rattle.repo_wire.specs.declared.messages.Ask.{Ask}
 use Rattle.repo_wire.specs.declared.messages.Say.{Say}
 use Rattle.repo_locks.specs.TokenMachine.{start}
 use Rattle.repo_store.specs.declared.faults.Fail.{Fail}
+use Rattle.repo_store.specs.AppendOnly.{OnlyAppends}
 use Rattle.repo_store.specs.StoreMachine.{Step}
 use Rattle.repo_store.specs.Stores.{Store}
 use Rattle.repo_tree.specs.declared.entries.Entry.{Entry}
 use Rattle.repo_session.specs.declared.outcomes.Outcome.{Outcome}
 use Rattle.repo_world.specs.Clients.{Client, IsDutiful, handed_to}
 use Rattle.repo_world.specs.World.{World, client, nobody, beginning}
-use Rattle.repo_world.specs.Failing.{Failing}
+use Rattle.repo_store.specs.Failing.{Failing}
 use Rattle.repo_world.specs.Events.{Event, Applied, Happens, Run}
 use Rattle.repo_world.specs.Safe.{Handed, HandedIsOne, HasNoClash, IsThereOrAsked, IsSafe}
 
@@ -56,6 +57,10 @@ EachReportHolds = (store : Store) → IsEmpty store → (events more : List Even
 -- no clash after an event implies none before it
 abbrev pub NoClashGoesBack : Type 0
 NoClashGoesBack = (w v : World) (e : Event) (applied : Applied) → HasNoClash v → Happens ⊤ w e applied v → HasNoClash w
+
+-- in a world whose store only appends no event takes an object away, or changes one, and the store goes on so
+abbrev pub EventsOnlyAppend : Type 0
+EventsOnlyAppend = (w v : World) (events : List Event) → Run w events v → OnlyAppends w.store v.store
 
 -- a step in which a call of the device fails is one of the store machine
 abbrev pub FailingIsAStep : Type 0

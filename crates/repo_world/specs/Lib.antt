@@ -1,7 +1,6 @@
 -- The definitions of the world, in the order in which they are read: what is said of all runs comes first, and then why it holds.
 pub mod Clients
 pub mod World
-pub mod Failing
 pub mod Events
 pub mod Safe
 pub mod Laws

@@ -3,11 +3,17 @@
 ghost use Rattle.repo_world.specs.Backed.{BackupIsARun, ForgetIsARun, PruneIsARun, RestoreIsARun};
 ghost use Rattle.repo_world.specs.Example.{ExampleIsARun};
 ghost use Rattle.repo_world.specs.Lone.{LoneTalkIsARun};
-ghost use Rattle.repo_world.specs.Laws.{EachEventKeepsReports, EachReportHolds, EveryRunIsSafe, FailingIsAStep, NoClashGoesBack};
+ghost use Rattle.repo_world.specs.Laws.{EachEventKeepsReports, EachReportHolds, EventsOnlyAppend, EveryRunIsSafe, FailingIsAStep, NoClashGoesBack};
 
 /// A step in which a call of the store's device fails, as it was called for, is a step of the store machine.
 pub fn failing_is_a_step()
     ensures { FailingIsAStep }
+{}
+
+/// In a world whose store only appends no event takes an object away or changes one: over every list of events each object
+/// that was there is there, with the same bytes.
+pub fn events_only_append()
+    ensures { EventsOnlyAppend }
 {}
 
 /// Where no two byte lists clash after an event, none did before it.

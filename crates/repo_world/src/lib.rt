@@ -12,7 +12,7 @@
 //!
 //! Not promised: that a client ever ends, that a message arrives, that what a crashed client put is freed before a prune.
 //!
-//! The definitions stand in `specs/`, in the order in which they are read: `Clients`, `World`, `Failing`, `Events`, `Safe`,
+//! The definitions stand in `specs/`, in the order in which they are read: `Clients`, `World`, `Events` (with the store's `Failing`), `Safe`,
 //! `Laws`; then, for why the laws hold, `Bag` and `BagLaws`. That they can be met: what a client does that is alone with its
 //! store is a part of a run (`Lone`); a run in which a call of the device fails, a message is delivered late and a lock is removed
 //! (`Example`); runs of a backup, a restore, a forget and prunes to their ends (`Backed`). And wrong rules, a file each, with what they
@@ -29,9 +29,9 @@ pub use bag_laws::{
     replies_keep_bag, starts_keep_bag,
 };
 pub use laws::{
-    backup_is_a_run, each_event_keeps_reports, each_report_holds, every_run_is_safe,
-    example_is_a_run, failing_is_a_step, forget_is_a_run, lone_talk_is_a_run, no_clash_goes_back,
-    prune_is_a_run, restore_is_a_run,
+    backup_is_a_run, each_event_keeps_reports, each_report_holds, events_only_append,
+    every_run_is_safe, example_is_a_run, failing_is_a_step, forget_is_a_run, lone_talk_is_a_run,
+    no_clash_goes_back, prune_is_a_run, restore_is_a_run,
 };
 pub use wrong_rules::{
     deletes_for_ever_break_bag, grants_again_break_bag, packs_first_break_sound,

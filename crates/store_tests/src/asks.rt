@@ -5,7 +5,7 @@ ghost use Rattle.repo_name.specs.Rows.{IsHost};
 ghost use Rattle.repo_store.specs.StoreMachine.{IsAnswerable};
 
 use repo_locks::Ledger;
-use repo_name::{Bytes, Instance, Kind, LockRow, Text, Token, name_of};
+use repo_name::{Bytes, Instance, Kind, LockRow, LockRows, Names, Text, Token, name_of};
 use repo_store::{MemShelf, Shelf, answer};
 use repo_wire::{Ask, Request, Say};
 use std::alloc::{AllocError, Global};
@@ -118,6 +118,40 @@ pub fn ask_of(alloc: Global, case: Case) -> Result<Ask, AllocError>
         },
         Case::Config => Ask::Config,
     })
+}
+
+/// The list of one lock.
+fn one_lock(alloc: Global) -> Result<Say, AllocError> {
+    let mut rows = Vec::new(alloc);
+    rows.push(row(alloc, 1)?)?;
+    Ok(Say::LockList(LockRows::of(rows)))
+}
+
+/// The page of one name.
+fn one_name(alloc: Global) -> Result<Say, AllocError> {
+    let mut names = Vec::new(alloc);
+    names.push(name_of(b"abc"))?;
+    Ok(Say::Names {
+        more: false,
+        names: Names::of(names),
+    })
+}
+
+fn bytes(alloc: Global, bytes: &[u8]) -> Result<Say, AllocError> {
+    Ok(Say::Bytes(Bytes::of(bytes.to_vec(alloc)?)))
+}
+
+/// What the store says to an ask where nothing fails.
+pub fn due(alloc: Global, case: Case) -> Result<Say, AllocError> {
+    match case {
+        Case::Ticket => Ok(Say::Token(Token(3))),
+        Case::Locks => one_lock(alloc),
+        Case::List => one_name(alloc),
+        Case::Get => bytes(alloc, b"abc"),
+        Case::Range => bytes(alloc, b"a"),
+        Case::Config => bytes(alloc, b"{}"),
+        _ => Ok(Say::Done),
+    }
 }
 
 /// What a store says.

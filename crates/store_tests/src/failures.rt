@@ -20,7 +20,7 @@ const EXCLUSIVE: &str =
     "000000000000000300010000000000000002000100000000000000010100000000000000050161";
 
 /// After a ticket, a lock of the number 2, a refresh of the number 1 to the time 9, and its unlock.
-const ISSUED: &str =
+pub const ISSUED: &str =
     "0000000000000004000200000000000000020000000000000003000100000000000000010000000000000000050161";
 
 const LOCKED: &str =
@@ -32,7 +32,7 @@ const REFRESHED: &str =
 const UNLOCKED: &str = "0000000000000003000100000000000000020000";
 
 /// What has to stand in the ledger after an ask, where its writing call made its change or not.
-fn due_ledger(case: Case, is_made: bool) -> &'static str {
+pub fn due_ledger(case: Case, is_made: bool) -> &'static str {
     match (case, is_made) {
         (Case::Ticket, true) => ISSUED,
         (Case::Lock, true) => LOCKED,
@@ -44,7 +44,7 @@ fn due_ledger(case: Case, is_made: bool) -> &'static str {
 }
 
 /// Whether the pack has to be there after an ask, where its writing call made its change or not.
-fn due_pack(case: Case, is_made: bool) -> bool {
+pub fn due_pack(case: Case, is_made: bool) -> bool {
     match case {
         Case::PutOfANewName => is_made,
         Case::DeleteOfWhatIsThere => !is_made,
@@ -160,7 +160,7 @@ impl Trial {
 }
 
 /// Whether the ledger's bytes are these, in hexadecimal.
-fn keeps_ledger(alloc: Global, shelf: &mut FaultShelf<MemShelf>, wanted: &str) -> bool {
+pub fn keeps_ledger<S: Shelf>(alloc: Global, shelf: &mut S, wanted: &str) -> bool {
     let Ok(ledger) = shelf.ledger() else {
         return false;
     };

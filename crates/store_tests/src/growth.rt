@@ -4,50 +4,15 @@
 ghost use Rattle.std.specs.Prelude.{IfOk};
 ghost use Rattle.repo_store.specs.StoreMachine.{IsAnswerable};
 
-use crate::asks::{CASES, Case, ask_of, ready, row, said};
+use crate::asks::{CASES, Case, ask_of, due, ready, said};
 use crate::connections::TICKET;
 use crate::failures::made;
-use repo_name::{Bytes, LockRows, Names, Token, name_of};
 use repo_store::{InitError, MemShelf, ServeError, serve};
 use repo_wire::{Ask, Code, Say};
 use std::alloc::{AllocError, Global};
 
-/// The list of one lock.
-fn one_lock(alloc: Global) -> Result<Say, AllocError> {
-    let mut rows = Vec::new(alloc);
-    rows.push(row(alloc, 1)?)?;
-    Ok(Say::LockList(LockRows::of(rows)))
-}
-
-/// The page of one name.
-fn one_name(alloc: Global) -> Result<Say, AllocError> {
-    let mut names = Vec::new(alloc);
-    names.push(name_of(b"abc"))?;
-    Ok(Say::Names {
-        more: false,
-        names: Names::of(names),
-    })
-}
-
-fn bytes(alloc: Global, bytes: &[u8]) -> Result<Say, AllocError> {
-    Ok(Say::Bytes(Bytes::of(bytes.to_vec(alloc)?)))
-}
-
-/// What the store says to an ask.
-fn due(alloc: Global, case: Case) -> Result<Say, AllocError> {
-    match case {
-        Case::Ticket => Ok(Say::Token(Token(3))),
-        Case::Locks => one_lock(alloc),
-        Case::List => one_name(alloc),
-        Case::Get => bytes(alloc, b"abc"),
-        Case::Range => bytes(alloc, b"a"),
-        Case::Config => bytes(alloc, b"{}"),
-        _ => Ok(Say::Done),
-    }
-}
-
 /// An ask, made once more where there was no memory for it.
-fn surely_asked(alloc: Global, case: Case) -> Result<Ask, AllocError>
+pub fn surely_asked(alloc: Global, case: Case) -> Result<Ask, AllocError>
     ensures { IfOk result IsAnswerable }
 {
     match ask_of(alloc, case) {
@@ -65,7 +30,7 @@ fn surely_said(alloc: Global, shelf: &mut MemShelf, case: Case) -> Result<Say, A
 }
 
 /// A shelf of which this is asked, made once more where there was no memory for it.
-fn surely_ready(alloc: Global, case: Case) -> Result<MemShelf, AllocError> {
+pub fn surely_ready(alloc: Global, case: Case) -> Result<MemShelf, AllocError> {
     match ready(alloc, case) {
         Err(_) => ready(alloc, case),
         shelf => shelf,
@@ -73,7 +38,7 @@ fn surely_ready(alloc: Global, case: Case) -> Result<MemShelf, AllocError> {
 }
 
 /// What has to be said, made once more where there was no memory for it.
-fn surely_due(alloc: Global, case: Case) -> Result<Say, AllocError> {
+pub fn surely_due(alloc: Global, case: Case) -> Result<Say, AllocError> {
     match due(alloc, case) {
         Err(_) => due(alloc, case),
         say => say,

@@ -1,9 +1,12 @@
-//! Tests of repo_store: what no clause says of its calls, over shelves in memory that may fail as they are told, and over
-//! connections in memory. What the store answers to frames is shown by the stored output of `vault` instead.
+//! Tests of repo_store: what no clause says of its calls, over shelves in memory that may fail as they are told, that remember
+//! what they read or only append, over one that isn't honest, and over connections in memory. What the store answers to frames
+//! is shown by the stored output of `vault` instead.
 //!
 //! Each test is a straight list of steps that count what isn't as wanted, with one assertion at its end: so its proof is cheap.
 #![tactic(auto)]
 
+#[cfg(test)]
+mod appending;
 #[cfg(test)]
 mod asks;
 #[cfg(test)]
@@ -14,3 +17,9 @@ mod failures;
 mod growth;
 #[cfg(test)]
 mod limits;
+#[cfg(test)]
+mod pages;
+#[cfg(test)]
+mod remembered_growth;
+#[cfg(test)]
+mod remembering;

@@ -1,5 +1,10 @@
 use Rattle.repo_store.proofs.Failing.{refresh_failed}
 use Rattle.repo_store.proofs.lock_answers.answer_refresh.Goals as goal
+use Rattle.repo_wire.specs.declared.messages.Say.{Say}
+use Rattle.repo_store.proofs.Failing.{refresh_made}
+use Rattle.repo_store.specs.Stores.{SavesTokens}
+use Rattle.repo_store.proofs.Arming.{write_failed}
+use Rattle.repo_store.proofs.Changes.{saves_can}
 
 pub returns-clause-step : goal.returns-clause-step
 returns-clause-step g c h =
@@ -7,3 +12,9 @@ returns-clause-step g c h =
     let w = c.in-Err-save_ledger.ensures.law (c.in-Ok.ensures.honest h) in
     rw c.refusal-in-Err-save_ledger.ensures
     (refresh_failed _ _ (g.S.Shelf.store c.save_ledger.new.self) c.in-Ok.ledger c.refresh.new.self c.args.token c.args.time c.in-Err-save_ledger.error r.1 r.0 c.in-Ok-refresh.ensures w)
+
+pub returns-clause-armed : goal.returns-clause-armed
+returns-clause-armed g c h =
+    let r = c.in-Ok.ensures.law h in
+    write_failed (SavesTokens c.refresh.new.self) _ _ _ _ _ _ (g.S.Shelf.store c.args.shelf.now) _ (g.S.Shelf.store c.save_ledger.new.self) _ Say.Done _ c.in-Ok.ledger c.in-Err-save_ledger.error c.refusal-in-Err-save_ledger.ensures r.1 tt (λ x. elim x [ ], λ x. elim x [ ]) (λ x. elim x [ ])
+    (refresh_made (g.S.Shelf.store c.args.shelf.now) c.in-Ok.ledger c.refresh.new.self r.0 c.args.token c.args.time c.in-Ok-refresh.ensures) (saves_can (g.S.Shelf.store c.args.shelf.now) c.refresh.new.self) (c.in-Ok.ensures.armed h) (c.in-Err-save_ledger.ensures.armed (c.in-Ok.ensures.honest h)) (returns-clause-step g c h)

@@ -1,8 +1,10 @@
-use Rattle.std.proofs.Common.{[], Bool, Ok, subst, inr, lit≤, arith}
+use Rattle.std.proofs.Common.{[], Bool, Ok, Err, subst, inr, lit≤, arith}
 use Rattle.std.proofs.KnownBytes.{Consumes-nil}
 use Rattle.std.proofs.lemmas.Result.{err_from_is_err_and}
+use Rattle.repo_store.specs.declared.serving.ServeError.{ServeError}
 use Rattle.repo_store.specs.Services.{nothing, PieceGives}
 use Rattle.repo_store.specs.Serving.{seen, plain}
+use Rattle.repo_store.proofs.Appending.{serving_only_appends}
 use Rattle.repo_store.proofs.ServiceLemmas.{whole_served, finish_served}
 use Rattle.repo_store.proofs.serving.serve.Goals as goal
 
@@ -61,3 +63,16 @@ returns-clause-serves g c honest =
     let after = seen (g.S.Shelf.store c.loop-turn.shelf) (g.S.Shelf.failed c.loop-turn.shelf) (g.W.Write.contents c.loop-turn.writer) in
     let many = c.loop-turn-test.false in
     (i.0, i.1, whole_served plain now c.loop-turn.service i.0 after i.3.has, inr (omega (arith, i.2, many)))
+
+-- whatever came of it, it was a run
+pub returns-in_err-more-clause-kept : goal.returns-in_err-more-clause-kept
+returns-in_err-more-clause-kept g c honest = serving_only_appends _ _ _ _ _ (returns-in_err-more-clause-serves g c honest)
+
+pub returns-then-not-more-clause-kept : goal.returns-then-not-more-clause-kept
+returns-then-not-more-clause-kept g c honest = serving_only_appends _ _ _ _ _ (returns-then-not-more-clause-serves g c honest)
+
+pub returns-clause-kept : goal.returns-clause-kept
+returns-clause-kept g c honest =
+    let now = seen (g.S.Shelf.store c.args.shelf.now) (g.S.Shelf.failed c.args.shelf.now) (g.W.Write.contents c.args.writer.now) in
+    let after = seen (g.S.Shelf.store c.loop-turn.shelf) (g.S.Shelf.failed c.loop-turn.shelf) (g.W.Write.contents c.loop-turn.writer) in
+    serving_only_appends (g.R.Read.remaining c.args.reader.now) (g.R.Read.remaining c.loop-turn.reader) now after (Err ServeError.Limit) (returns-clause-serves g c honest)

@@ -1,5 +1,5 @@
 use Rattle.std.proofs.Common.{length}
-use Rattle.repo_session.proofs.rolls.+ascend.Given as goal
+use Rattle.repo_store.proofs.pages.+ascend.Given as goal
 
 abbrev pub decreases-ascend : goal.decreases-ascend
 decreases-ascend l = length l.names.now

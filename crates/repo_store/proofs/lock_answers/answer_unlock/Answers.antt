@@ -1,0 +1,13 @@
+use Rattle.std.proofs.Common.{rules}
+use Rattle.repo_wire.specs.declared.messages.Say.{Say}
+use Rattle.repo_store.proofs.Failing.{unlock_made, newly_unlocked}
+use Rattle.repo_store.specs.Stores.{SavesTokens}
+use Rattle.repo_store.proofs.Arming.{write_failed}
+use Rattle.repo_store.proofs.Changes.{saves_can}
+use Rattle.repo_store.proofs.lock_answers.answer_unlock.Goals as goal
+
+pub returns-clause-armed : goal.returns-clause-armed
+returns-clause-armed g c h =
+    let r = c.in-Ok.ensures.law h in
+    write_failed (SavesTokens c.unlock.new.self) _ _ _ _ _ _ (g.S.Shelf.store c.args.shelf.now) _ (g.S.Shelf.store c.save_ledger.new.self) _ Say.Done _ c.in-Ok.ledger c.in-Err-save_ledger.error c.refusal-in-Err-save_ledger.ensures r.1 tt (newly_unlocked (g.S.Shelf.store c.args.shelf.now) c.in-Ok.ledger c.unlock.new.self r.0 c.args.token c.if-not-unlock.ensures, λ x. elim x [ ]) (λ x. elim x [ ])
+    (unlock_made (g.S.Shelf.store c.args.shelf.now) c.in-Ok.ledger c.unlock.new.self r.0 c.args.token c.if-not-unlock.ensures) (saves_can (g.S.Shelf.store c.args.shelf.now) c.unlock.new.self) (c.in-Ok.ensures.armed h) (c.in-Err-save_ledger.ensures.armed (c.in-Ok.ensures.honest h)) (search rules)

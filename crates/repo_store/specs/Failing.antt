@@ -1,0 +1,62 @@
+-- What the store does in a step, with or without a failure of its device that was called for.
+use Rattle.std.specs.Prelude.{◌≡◌, ◌≢◌, ◌⊎◌, ◌<◌, ⊤, ℕ, cond}
+use Rattle.repo_wire.specs.declared.messages.Ask.{Ask}
+use Rattle.repo_wire.specs.declared.messages.Code.{Code}
+use Rattle.repo_wire.specs.declared.messages.Say.{Say}
+use Rattle.repo_store.specs.declared.faults.Armed.{Armed}
+use Rattle.repo_store.specs.declared.faults.Fail.{Fail}
+use Rattle.repo_store.specs.Faults.{StillWaits}
+use Rattle.repo_store.specs.Laws.{greatest_count}
+use Rattle.repo_store.specs.StoreMachine.{Answers, Step, Looks, IsQuiet, IsRangeLength}
+use Rattle.repo_store.specs.Stores.{Store}
+
+-- The device may fail by itself, too: Own says whether it did in this step. (In a run it may have, at any step.)
+
+-- the device failed by itself: the count of its failures that weren't called for rose, or stands at its greatest
+abbrev pub HasFailed : ℕ → ℕ → Type 0
+HasFailed own owned = (own < owned) ⊎ (owned ≡ greatest_count)
+
+-- one step of the store machine, which tells of a failure only where the device failed by itself
+abbrev pub Plainly : Type 0 → Store → Ask → Say → Store → Type 0
+Plainly Own old ask say new = Step old ask say new × (say ≡ Say.Refused Code.Fault → Own)
+
+-- a refusal
+abbrev pub IsRefusal : Say → Type 0
+IsRefusal (Say.Refused code) = ⊤
+IsRefusal _ = ⊥
+
+-- the answer is made by a writing call of the device: it is no refusal, and the request isn't one for which nothing is written
+abbrev pub IsWritten : Store → Ask → Say → Type 0
+IsWritten old ask say = (¬ IsQuiet old.tokens ask) × (¬ IsRefusal say)
+
+-- in place of an answer, the device's own failure is told, or the want of memory, and nothing changed
+abbrev pub FailsItself : Type 0 → Store → Ask → Say → Store → Type 0
+FailsItself Own old ask say new = Looks old ask × (new ≡ old) × (((say ≡ Say.Refused Code.Fault) × Own) ⊎ (say ≡ Say.Refused Code.NoMemory))
+
+-- a request for which the device is always read; for any other what it was read for may be kept from before
+abbrev pub IsAlwaysRead : Ask → Type 0
+IsAlwaysRead (Ask.Get kind name) = ⊤
+IsAlwaysRead (Ask.Range pack offset len) = IsRangeLength len
+IsAlwaysRead Ask.Config = ⊤
+IsAlwaysRead _ = ⊥
+
+-- One step in which the device's next call of a sort fails. A writing call: where the answer is made by one, that is told, and the store is as after it or
+-- as before; where it is made by none, the step is as without. A reading call: where the device is read that is told, and nothing changed; where it
+-- needn't be, the step may be as without.
+abbrev pub Failing : Type 0 → Fail → Store → Ask → Say → Store → Type 0
+Failing Own (Fail.Write applied) old ask say new =
+    ((other : Say) × (after : Store) × Answers old ask other after × IsWritten old ask other × (say ≡ Say.Refused Code.Fault) × (new ≡ cond applied after old))
+    ⊎ ((Answers old ask say new × ¬ IsWritten old ask say)
+    ⊎ FailsItself Own old ask say new)
+Failing Own Fail.Read old ask say new =
+    (Looks old ask × (new ≡ old) × (say ≡ Say.Refused Code.Fault))
+    ⊎ ((¬ IsAlwaysRead ask) × Plainly Own old ask say new)
+
+-- what is armed after a step: nothing, where it met its call; else it still waits, and a failure that is told is the device's own
+abbrev pub IsLeft : Type 0 → Armed → Say → Armed → Type 0
+IsLeft Own armed say left = ((armed ≢ Armed.Nothing) × (left ≡ Armed.Nothing)) ⊎ (StillWaits armed left × (say ≡ Say.Refused Code.Fault → Own))
+
+-- a step over a device that is told to fail in its next call of a sort, or in a later call, or not at all
+abbrev pub IsAsArmed : Armed → ℕ → Store → Ask → Say → Armed → ℕ → Store → Type 0
+IsAsArmed armed own old ask say left owned new =
+    IsLeft (HasFailed own owned) armed say left × ((fail : Fail) → armed ≡ Armed.Next fail → Failing (HasFailed own owned) fail old ask say new)
