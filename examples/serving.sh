@@ -4,7 +4,7 @@
 #   vault     the program's path
 #   work      a temporary folder, which is removed at the end
 #   address   where the server listens: the port on the loopback
-#   serve N   serves the store in "$work/store" to N connections, and waits until it listens
+#   serve N   serves the store in "$work/store" to N connections, with any options behind N, and waits until it listens
 #   server    the server's process; a script that has seen it end sets it to nothing, else it is ended at the end
 address=127.0.0.1:$1
 work=$(mktemp -d)
@@ -17,7 +17,7 @@ trap end EXIT
 
 serve() {
     : >"$work/server"
-    "$vault" serve "$work/store" "$address" --connections "$1" >"$work/server" 2>&1 &
+    "$vault" serve "$work/store" "$address" --connections "$@" >"$work/server" 2>&1 &
     server=$!
     for _ in $(seq 100); do
         grep -qs listening "$work/server" && return

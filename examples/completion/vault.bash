@@ -14,7 +14,7 @@ _vault() {
     case ${COMP_WORDS[1]} in
         frames) options="" ;;
         init) options="--min --max --bits --target" folder=1 ;;
-        serve) options="--connections --idle" folder=1 ;;
+        serve) options="--connections --idle --append-only" folder=1 ;;
         backup) options="" folder=3 ;;
         snapshots) options="" ;;
         restore) options="" folder=3 ;;
