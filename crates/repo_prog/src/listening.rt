@@ -117,7 +117,9 @@ where
     ensures status { result ≢ Status.Usage }
 {
     let Serving {
-        connections, idle, ..
+        connections,
+        idle,
+        ..
     } = serving;
     if serving.append_only {
         let mut shelf = Kept::new(alloc, AppendOnly::new(shelf));

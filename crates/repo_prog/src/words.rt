@@ -83,9 +83,7 @@ pub fn number<'a>(alloc: Global, name: &'a str, default: &'a str) -> Result<Arg<
 
 /// An option without a word.
 pub fn flag<'a>(alloc: Global, name: &'a str) -> Arg<'a> {
-    Arg::new(alloc, name)
-        .long(name)
-        .action(ArgAction::SetTrue)
+    Arg::new(alloc, name).long(name).action(ArgAction::SetTrue)
 }
 
 /// A word that has to be there.
