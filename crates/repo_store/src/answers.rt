@@ -83,10 +83,10 @@ fn reply_to(instance: Instance, sequence: u64, say: Say) -> Reply
 /// instance and sequence, and fits a frame.
 ///
 /// Code 10 is said only where the shelf failed in this call, by itself or as it was told to; the store is then
-/// as before, or as after the answer that the request would have had. A failure that a shelf was told of
-/// comes in just the call that it was told for, and then no more. A store that only appends keeps each object. After every other refusal the store is as before. The
-/// shelf is asked to write at most once; and not at all for a request that only reads, a lock that is held
-/// already, an unlock that changes nothing, and where the refusal is another than 10 and 11.
+/// as before, or as after the answer that the request would have had. What a shelf was told to fail in fails in
+/// just that call, and then no more. After every other refusal the store is as before. A store that only appends
+/// keeps each object. The shelf is asked to write at most once; and not at all for a request that only reads, a
+/// lock that is held already, an unlock that changes nothing, and where the refusal is another than 10 and 11.
 pub fn answer<S: Shelf>(alloc: Global, shelf: &mut S, request: &Request) -> Reply
     requires { IsAnswerable request.now.ask }
     ensures replies { S.honest shelf.old → Replies (S.store shelf.old) request.now result (S.store shelf.new) }
