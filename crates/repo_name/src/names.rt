@@ -7,7 +7,7 @@ ghost use Rattle.repo_name.specs.declared.names.Name.{Name};
 ghost use Rattle.repo_name.specs.declared.names.NameError.{NameError};
 
 use hex::FromHex;
-use sha2::{Digest, Sha256};
+use repo_sha::digest;
 use std::alloc::{AllocError, Global};
 use thiserror::Error;
 
@@ -36,7 +36,7 @@ pub fn name_of(bytes: &[u8]) -> Name
     ensures value { result ≡ name bytes.now }
     ensures name { IsName result }
 {
-    Name(Sha256::digest(bytes))
+    Name(digest(bytes))
 }
 
 impl Instance {

@@ -5,7 +5,7 @@ use repo_name::Name;
 use thiserror::Error;
 
 /// Which snapshots are to be forgotten.
-#[derive(Debug, Drop)]
+#[derive(Clone, Debug, Drop)]
 pub enum Choice {
     /// Those of these names, in any order. One that isn't there is passed over, and one given twice counts once.
     Names(Vec<Name>),

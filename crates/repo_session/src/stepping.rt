@@ -36,7 +36,7 @@ impl From<AllocError> for StepError {
 const REQUESTS: u64 = 1 << 32;
 
 /// Appends a copy of what was given out. Without memory some first ones of it were appended.
-fn keep(emitted: &[Emission], out: &mut Vec<Emission>) -> Result<(), AllocError>
+pub fn keep(emitted: &[Emission], out: &mut Vec<Emission>) -> Result<(), AllocError>
     ensures ok { OnOk result (out.new.items ≡ out.old.items ++ emitted.now) }
     ensures err { OnErr result ((k : ℕ) × (k ≤ length emitted.now) × (out.new.items ≡ out.old.items ++ take k emitted.now)) }
 {

@@ -42,7 +42,7 @@ pub use laws::{mode_stays, refusals_change_nothing, runs_compose, runs_only_appe
 pub use making::{InitError, init};
 pub use memory::MemShelf;
 pub use output::{Unwritten, write_whole};
-pub use pages::rises;
+pub use pages::{all_names, rises};
 pub use services::Service;
 pub use serving::{ServeError, room, serve};
 pub use shelves::{Page, Shelf, ShelfError, Slice};

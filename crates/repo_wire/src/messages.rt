@@ -6,7 +6,7 @@ ghost use Rattle.repo_wire.specs.Messages.{code_number};
 use repo_name::{Bytes, Instance, Kind, LockRow, LockRows, Name, Names, Token};
 
 /// What a client asks.
-#[derive(Debug, Drop, PartialEq)]
+#[derive(Clone, Debug, Drop, PartialEq)]
 pub enum Ask {
     /// A new token.
     Ticket,
@@ -55,7 +55,7 @@ pub enum Ask {
 }
 
 /// A request: what one client asks, by its sequence number.
-#[derive(Debug, Drop, PartialEq)]
+#[derive(Clone, Debug, Drop, PartialEq)]
 pub struct Request {
     pub instance: Instance,
     pub sequence: u64,

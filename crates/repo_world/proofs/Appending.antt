@@ -8,10 +8,12 @@ use Rattle.repo_store.specs.Failing.{Plainly, Failing}
 use Rattle.repo_store.specs.StoreMachine.{Step}
 use Rattle.repo_store.specs.Stores.{Store}
 use Rattle.repo_store.proofs.Appending.{steps_only_append}
-use Rattle.repo_world.specs.Events.{Event, Applied, Start, Deliver, Fault, Unlock, Crash, Restart, Delivers, Happens}
+use Rattle.repo_world.specs.Events.{Delivers, Happens}
 use Rattle.repo_world.specs.Laws.{EventsOnlyAppend}
 use Rattle.repo_world.specs.World.{World, Message, Asked, Said}
 use Rattle.repo_world.proofs.Failing.{failing_step}
+use Rattle.repo_world.specs.declared.events.Event.{Event}
+use Rattle.repo_world.specs.declared.events.Applied.{Applied}
 
 -- the store is as it was
 stays : (a b : Store) → b ≡ a → OnlyAppends a b
@@ -38,17 +40,17 @@ module _ (How : Store → Ask → Say → Store → Type 0) (step : (s : Store) 
   delivered w (Some (Said k reply)) r v (inr (inr h)) = same w v h.2
 
 happened : (w : World) (e : Event) (r : Applied) (v : World) → Happens ⊤ w e r v → OnlyAppends w.store v.store
-happened w (Start job host time) r v (inl (a, s)) = stays w.store v.store (ap (λ (u : World). u.store) s.is)
-happened w (Start job host time) r v (inr h) = same w v h.3
-happened w (Deliver i) r v h = delivered (Plainly ⊤) (λ s a y t p. p.0) w (slice_get w.messages i) r v h
-happened w (Fault i f) r v h = delivered (Failing ⊤ f) (failing_step ⊤ f) w (slice_get w.messages i) r v h
-happened w (Unlock t) r v (a, inl u) =
+happened w (Event.Start job host time) r v (inl (a, s)) = stays w.store v.store (ap (λ (u : World). u.store) s.is)
+happened w (Event.Start job host time) r v (inr h) = same w v h.3
+happened w (Event.Deliver i) r v h = delivered (Plainly ⊤) (λ s a y t p. p.0) w (slice_get w.messages i) r v h
+happened w (Event.Fault i f) r v h = delivered (Failing ⊤ f) (failing_step ⊤ f) w (slice_get w.messages i) r v h
+happened w (Event.Unlock t) r v (a, inl u) =
     let is : v.store ≡ u.store = ap (λ (x : World). x.store) u.is in
     then_on w.store u.store v.store (λ only. (λ k n x there. ap (λ o. o k n) u.saves.1 ∙ there, u.saves.3 ∙ only)) (stays u.store v.store is)
-happened w (Unlock t) r v (a, inr h) = same w v h.1
-happened w (Crash k) r v (inl (a, c)) = stays w.store v.store (ap (λ (u : World). u.store) c.is)
-happened w (Crash k) r v (inr h) = same w v h.2
-happened w Restart r v h = same w v h.1
+happened w (Event.Unlock t) r v (a, inr h) = same w v h.1
+happened w (Event.Crash k) r v (inl (a, c)) = stays w.store v.store (ap (λ (u : World). u.store) c.is)
+happened w (Event.Crash k) r v (inr h) = same w v h.2
+happened w Event.Restart r v h = same w v h.1
 
 pub events_only_append : EventsOnlyAppend
 events_only_append w v [] h = same w v h

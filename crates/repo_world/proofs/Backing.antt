@@ -43,10 +43,11 @@ use Rattle.repo_writing.proofs.PutLemmas.{indexed_later}
 use Rattle.repo_backup.specs.Folders.{nothing, tree_of, blobs_of}
 use Rattle.repo_backup.specs.Rules as backing
 use Rattle.repo_world.specs.Backed.{configured, snapshot_of, AreTexts, stored, IsBackedUp, BackupIsARun}
-use Rattle.repo_world.specs.Clients.{Backup, task_of, Allows, Gives, Concludes, IsDutiful}
+use Rattle.repo_world.specs.Clients.{task_of, Allows, Gives, Concludes, IsDutiful}
 use Rattle.repo_world.specs.Lone.{ended}
 use Rattle.repo_world.specs.World.{beginning, instance_of}
 use Rattle.repo_world.proofs.Joining.{Stepped, finished, held_end}
+use Rattle.repo_world.specs.declared.jobs.Job.{Job}
 
 -- ---- objects that are put where nothing was
 
@@ -107,10 +108,10 @@ put_no_unlock t k n x u h = absurd (cc)
 
 module _ (host : List ℕ) (time : ℕ) (config pack index snapshot : List ℕ) (limits : (time < 2 ^ 64) × IsHost host) (texts : AreTexts host time config pack index snapshot) where
   abbrev task : Task
-  task = task_of (Backup []) (asker (instance_of 0) host time)
+  task = task_of (Job.Backup []) (asker (instance_of 0) host time)
 
   abbrev opening : Trace
-  opening = opened (task_of (Backup []) (asker (instance_of 0) host time)) token config
+  opening = opened (task_of (Job.Backup []) (asker (instance_of 0) host time)) token config
 
   abbrev listing : Trace
   listing = silent (Ask.List Kind.Index None) (Say.Names false []) ∷ opening
@@ -252,7 +253,7 @@ module _ (host : List ℕ) (time : ℕ) (config pack index snapshot : List ℕ) 
     given = given;
   }
 
-  obeys : Obeys task (Allows (Backup [])) (Gives (Backup [])) all
+  obeys : Obeys task (Allows (Job.Backup [])) (Gives (Job.Backup [])) all
   obeys = (
     holds_of task token storing works_4,
     (λ w. absurd w),
@@ -293,12 +294,12 @@ module _ (host : List ℕ) (time : ℕ) (config pack index snapshot : List ℕ) 
     };
   }
 
-  pub dutiful : IsDutiful (ended 0 (Backup []) host time all (Some (stored snapshot)))
+  pub dutiful : IsDutiful (ended 0 (Job.Backup []) host time all (Some (stored snapshot)))
   dutiful = record {
     obeys = obeys;
     pending = λ r h. absurd (none-some r h);
     settled = λ e q. absurd (none-some (stored snapshot) (sym q));
-    concluded = λ o e. subst (λ x. ends.Concludes (Concludes (Backup [])) storing x) (same_Some (stored snapshot) o e) is_stored;
+    concluded = λ o e. subst (λ x. ends.Concludes (Concludes (Job.Backup [])) storing x) (same_Some (stored snapshot) o e) is_stored;
     released = λ e o t h. absurd (held_end task t h.later (silent (Ask.Unlock token) Say.Done) storing h.since h.held.unended tt);
     beside = λ r h o. absurd (none-some r h);
     ending = λ r h u. absurd (none-some r h);
@@ -333,7 +334,7 @@ module _ (host : List ℕ) (time : ℕ) (config pack index snapshot : List ℕ) 
   list_step : Step (store_of first_objects tokens) (Ask.List Kind.Index None) (Say.Names false []) (store_of first_objects tokens)
   list_step = inl ([], false, record { ascends = tt; few = lit≤ tt; there = λ n h. absurd h; least = λ n x h above. absurd (none-some x h); follow = λ q. absurd (cc) }, refl, refl)
 
-  pub steps : Stepped (beginning (configured config)) (Backup []) host time tt limits (configured config) all last_store
+  pub steps : Stepped (beginning (configured config)) (Job.Backup []) host time tt limits (configured config) all last_store
   steps = (
     store_of with_snapshot tokens,
     (
@@ -366,7 +367,7 @@ module _ (host : List ℕ) (time : ℕ) (config pack index snapshot : List ℕ) 
 
   pub is_backed_up : IsBackedUp config snapshot
   is_backed_up =
-      let found = finished (beginning (configured config)) (Backup []) host time tt limits (silent (Ask.Unlock token) Say.Done) storing last_store (Some (stored snapshot)) steps dutiful in
+      let found = finished (beginning (configured config)) (Job.Backup []) host time tt limits (silent (Ask.Unlock token) Say.Done) storing last_store (Some (stored snapshot)) steps dutiful in
       record { events = found.0; last = _; run = found.1; reported = refl; there = there_now with_index Kind.Snapshot (naming.name snapshot) snapshot }
 
 pub backup_is_a_run : BackupIsARun

@@ -20,11 +20,14 @@ use Rattle.repo_session.specs.Order.{IsUnlock, locked}
 use Rattle.repo_session.specs.Traces.{Trace, Exchanged}
 use Rattle.repo_session.specs.declared.outcomes.End.{End}
 use Rattle.repo_session.specs.declared.outcomes.Outcome.{Outcome}
-use Rattle.repo_world.specs.Clients.{Backup, task_of, Allows, Concludes, Client, IsDutiful}
-use Rattle.repo_world.specs.Events.{Start, Deliver, Fault, Unlock, Done, Happens, Run}
+use Rattle.repo_world.specs.Clients.{task_of, Allows, Concludes, Client, IsDutiful}
+use Rattle.repo_world.specs.Events.{Happens, Run}
 use Rattle.repo_world.specs.Example.{host, token, given, row, second, failed, done, with_tokens, refused, last, events, ExampleIsARun}
 use Rattle.repo_world.specs.Safe.{IsSpoken, by_put, by_reply, IsKnown, known_spoken, known_part, known_made, HasNoClash}
 use Rattle.repo_world.specs.World.{World, instance_of, first_of, started, beginning, Has, Asked, Said}
+use Rattle.repo_world.specs.declared.jobs.Job.{Job}
+use Rattle.repo_world.specs.declared.events.Event.{Event}
+use Rattle.repo_world.specs.declared.events.Applied.{Applied}
 
 host_within : (5 < 2 ^ 64) × IsHost host
 unfolding lib.Utf8.encode
@@ -33,13 +36,13 @@ host_within = (omega arith, (omega arith, omega arith, (97 ∷ [], (refl, refl))
 -- ---- the worlds on the way
 
 abbrev asking : Client
-asking = record { job = Backup []; who = asker (instance_of 0) host 5; trace = exchange (first_of 0) given [] ∷ []; next = Some second; outcome = None; crashed = false }
+asking = record { job = Job.Backup []; who = asker (instance_of 0) host 5; trace = exchange (first_of 0) given [] ∷ []; next = Some second; outcome = None; crashed = false }
 
 abbrev w1 : World
-w1 = record { store = empty; clients = started 0 (Backup []) host 5 ∷ []; messages = Asked 0 (first_of 0) ∷ [] }
+w1 = record { store = empty; clients = started 0 (Job.Backup []) host 5 ∷ []; messages = Asked 0 (first_of 0) ∷ [] }
 
 abbrev w2 : World
-w2 = record { store = with_tokens (issued start); clients = started 0 (Backup []) host 5 ∷ []; messages = Asked 0 (first_of 0) ∷ Said 0 given ∷ [] }
+w2 = record { store = with_tokens (issued start); clients = started 0 (Job.Backup []) host 5 ∷ []; messages = Asked 0 (first_of 0) ∷ Said 0 given ∷ [] }
 
 abbrev w3 : World
 w3 = record { store = with_tokens (issued start); clients = asking ∷ []; messages = Asked 0 (first_of 0) ∷ Said 0 given ∷ Asked 0 second ∷ [] }
@@ -58,13 +61,13 @@ w6 = record { store = with_tokens (granted (issued start) row); clients = refuse
 some_none : (r : Request) → Some r ≡ None → ⊥
 some_none r e = absurd (cc)
 
-next_1 : IsNext (task_of (Backup []) asking.who) (Allows (Backup [])) asking.trace second
+next_1 : IsNext (task_of (Job.Backup []) asking.who) (Allows (Job.Backup [])) asking.trace second
 next_1 = record { instance = refl; sequence = refl; may = (token, refl, refl); permitted = λ work. absurd work }
 
 dutiful_1 : IsDutiful asking
 dutiful_1 = record {
   obeys = (refl, (λ work. absurd work), inl refl, tt);
-  pending = λ r e. subst (λ (q : Request). IsNext (task_of (Backup []) asking.who) (Allows (Backup [])) asking.trace q) (same_Some second r e) next_1;
+  pending = λ r e. subst (λ (q : Request). IsNext (task_of (Job.Backup []) asking.who) (Allows (Job.Backup [])) asking.trace q) (same_Some second r e) next_1;
   settled = λ e. absurd (some_none second e);
   concluded = λ o e. absurd (none-some o e);
   released = λ e. absurd (some_none second e);
@@ -77,13 +80,13 @@ first_say [] = Say.Done
 first_say (e ∷ es) = e.say
 
 -- its lock wasn't granted
-not_held : (later : Trace) (t : Token) → refused.trace ≡ later ++ locked (task_of (Backup []) refused.who) t → ⊥
+not_held : (later : Trace) (t : Token) → refused.trace ≡ later ++ locked (task_of (Job.Backup []) refused.who) t → ⊥
 not_held [] t e = let q : Say.Refused Code.Fault ≡ Say.Done = ap first_say e in absurd (cc)
 not_held (x ∷ []) t e = absurd (cc)
 not_held (x ∷ y ∷ []) t e = absurd (cc)
 not_held (x ∷ y ∷ z ∷ later) t e = absurd (cc)
 
-caused : ends.Concludes (Concludes (Backup [])) refused.trace (Outcome.Ended (End.Refused Code.Fault))
+caused : ends.Concludes (Concludes (Job.Backup [])) refused.trace (Outcome.Ended (End.Refused Code.Fault))
 caused = inl (inl (refl, ((λ q. absurd (cc)), (λ q. absurd (cc)))))
 
 dutiful_2 : IsDutiful refused
@@ -91,7 +94,7 @@ dutiful_2 = record {
   obeys = ((token, refl, refl), (λ work. absurd work), inl refl, (refl, (λ work. absurd work), inl refl, tt));
   pending = λ r e. absurd (none-some r e);
   settled = λ e q. absurd (none-some (Outcome.Ended (End.Refused Code.Fault)) (sym q));
-  concluded = λ o e. subst (λ x. ends.Concludes (Concludes (Backup [])) refused.trace x) (same_Some (Outcome.Ended (End.Refused Code.Fault)) o e) caused;
+  concluded = λ o e. subst (λ x. ends.Concludes (Concludes (Job.Backup [])) refused.trace x) (same_Some (Outcome.Ended (End.Refused Code.Fault)) o e) caused;
   released = λ e o t h. absurd (not_held h.later t h.since);
   beside = λ r e o. absurd (none-some r e);
   ending = λ r e u. absurd (none-some r e);
@@ -99,10 +102,10 @@ dutiful_2 = record {
 
 -- ---- its steps
 
-step_1 : Happens ⊤ (beginning empty) (Start (Backup []) host 5) Done w1
+step_1 : Happens ⊤ (beginning empty) (Event.Start (Job.Backup []) host 5) Applied.Done w1
 step_1 = inl (refl, record { accepted = tt; limits = host_within; is = refl })
 
-step_2 : Happens ⊤ w1 (Deliver 0) Done w2
+step_2 : Happens ⊤ w1 (Event.Deliver 0) Applied.Done w2
 step_2 = (
   refl,
   record {
@@ -114,7 +117,7 @@ step_2 = (
   },
 )
 
-step_3 : Happens ⊤ w2 (Deliver 1) Done w3
+step_3 : Happens ⊤ w2 (Event.Deliver 1) Applied.Done w3
 step_3 = inl (
   refl,
   record {
@@ -134,7 +137,7 @@ step_3 = inl (
   },
 )
 
-step_4 : Happens ⊤ w3 (Fault 2 (Fail.Write true)) Done w4
+step_4 : Happens ⊤ w3 (Event.Fault 2 (Fail.Write true)) Applied.Done w4
 step_4 = (
   refl,
   record {
@@ -153,7 +156,7 @@ step_4 = (
   },
 )
 
-step_5 : Happens ⊤ w4 (Deliver 2) Done w5
+step_5 : Happens ⊤ w4 (Event.Deliver 2) Applied.Done w5
 step_5 = (
   refl,
   record {
@@ -165,7 +168,7 @@ step_5 = (
   },
 )
 
-step_6 : Happens ⊤ w5 (Deliver 3) Done w6
+step_6 : Happens ⊤ w5 (Event.Deliver 3) Applied.Done w6
 step_6 = inl (
   refl,
   record {
@@ -185,11 +188,11 @@ step_6 = inl (
   },
 )
 
-step_7 : Happens ⊤ w6 (Unlock token) Done last
+step_7 : Happens ⊤ w6 (Event.Unlock token) Applied.Done last
 step_7 = (refl, inl (record { store = last.store; saves = (refl, refl, refl, refl); is = refl }))
 
 run : Run (beginning empty) events last
-run = (w1, (Done, step_1), (w2, (Done, step_2), (w3, (Done, step_3), (w4, (Done, step_4), (w5, (Done, step_5), (w6, (Done, step_6), (last, (Done, step_7), (last, (Done, (refl, refl)), refl))))))))
+run = (w1, (Applied.Done, step_1), (w2, (Applied.Done, step_2), (w3, (Applied.Done, step_3), (w4, (Applied.Done, step_4), (w5, (Applied.Done, step_5), (w6, (Applied.Done, step_6), (last, (Applied.Done, step_7), (last, (Applied.Done, (refl, refl)), refl))))))))
 
 -- ---- no byte lists are known
 

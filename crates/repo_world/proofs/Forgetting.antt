@@ -30,8 +30,8 @@ use Rattle.repo_session.proofs.Holding.{working_more, holds_of, opened_working}
 use Rattle.repo_session.proofs.Meeting.{first_page}
 use Rattle.repo_prune.specs.Pruning.{AreCovered, IsSettled, IsPruned}
 use Rattle.repo_world.specs.Backed.{configured, AreTexts, stored}
-use Rattle.repo_world.specs.Clients.{Backup, Prune, task_of, Allows, Gives, Concludes, Client, IsDutiful}
-use Rattle.repo_world.specs.Events.{Event, Run}
+use Rattle.repo_world.specs.Clients.{task_of, Allows, Gives, Concludes, Client, IsDutiful}
+use Rattle.repo_world.specs.Events.{Run}
 use Rattle.repo_world.specs.Lone.{ended}
 use Rattle.repo_world.specs.World.{World, client_at, beginning, instance_of}
 use Rattle.repo_world.proofs.Backing as backup
@@ -49,9 +49,10 @@ use Rattle.repo_prune.specs.Forgetting as forgets
 use Rattle.repo_prune.specs.Pruning.{MayDeleteIndex, MayDeletePack}
 use Rattle.repo_prune.specs.declared.choices.Choice.{Choice}
 use Rattle.repo_world.specs.Backed.{IsForgotten, ForgetIsARun}
-use Rattle.repo_world.specs.Clients.{Forget}
 use Rattle.repo_world.proofs.Backing.{is_here, at_here, here_is}
 use Rattle.repo_world.proofs.Tidying.{only}
+use Rattle.repo_world.specs.declared.jobs.Job.{Job}
+use Rattle.repo_world.specs.declared.events.Event.{Event}
 
 -- ---- an object that goes
 
@@ -123,7 +124,7 @@ module _ (host : List ℕ) (time : ℕ) (config pack index snapshot : List ℕ) 
 
   module _ (w : World) (same : w.store ≡ from) where
     abbrev task : Task
-    task = task_of (Forget choice) (asker (instance_of (length w.clients)) host time)
+    task = task_of (Job.Forget choice) (asker (instance_of (length w.clients)) host time)
 
     abbrev f0 : Trace
     f0 = opened task token config
@@ -157,7 +158,7 @@ module _ (host : List ℕ) (time : ℕ) (config pack index snapshot : List ℕ) 
     no_page after (inr (inr (inr (inr (inl h))))) = let q = h.0 in absurd (cc)
     no_page after (inr (inr (inr (inr (inr h))))) = h
 
-    obeys : Obeys task (Allows (Forget choice)) (Gives (Forget choice)) forgetting
+    obeys : Obeys task (Allows (Job.Forget choice)) (Gives (Job.Forget choice)) forgetting
     obeys = (
       holds_of task token f2 works_2,
       (λ x. absurd x),
@@ -189,12 +190,12 @@ module _ (host : List ℕ) (time : ℕ) (config pack index snapshot : List ℕ) 
       done = λ n c. subst (λ m. DeleteDone f2 Kind.Snapshot m) (only ns n c) (token, inl (refl, refl));
     }
 
-    dutiful : IsDutiful (ended (length w.clients) (Forget choice) host time forgetting (Some (Outcome.Forgotten (ns ∷ []))))
+    dutiful : IsDutiful (ended (length w.clients) (Job.Forget choice) host time forgetting (Some (Outcome.Forgotten (ns ∷ []))))
     dutiful = record {
       obeys = obeys;
       pending = λ r h. absurd (none-some r h);
       settled = λ e q. absurd (none-some (Outcome.Forgotten (ns ∷ [])) (sym q));
-      concluded = λ o e. subst (λ x. ends.Concludes (Concludes (Forget choice)) f2 x) (same_Some (Outcome.Forgotten (ns ∷ [])) o e) is_forgotten;
+      concluded = λ o e. subst (λ x. ends.Concludes (Concludes (Job.Forget choice)) f2 x) (same_Some (Outcome.Forgotten (ns ∷ [])) o e) is_forgotten;
       released = λ e o t h. absurd (held_end task t h.later (silent (Ask.Unlock token) Say.Done) f2 h.since h.held.unended tt);
       beside = λ r h o. absurd (none-some r h);
       ending = λ r h u. absurd (none-some r h);
@@ -209,7 +210,7 @@ module _ (host : List ℕ) (time : ℕ) (config pack index snapshot : List ℕ) 
     snapshot_there : from.objects Kind.Snapshot ns ≡ Some snapshot
     snapshot_there = there_now (backup.with_index host time config pack index snapshot limits texts) Kind.Snapshot ns snapshot
 
-    steps : Stepped w (Forget choice) host time (λ none. none) limits w.store forgetting (store_of forgotten_objects (unlocked tokens token))
+    steps : Stepped w (Job.Forget choice) host time (λ none. none) limits w.store forgetting (store_of forgotten_objects (unlocked tokens token))
     steps = (
       store_of forgotten_objects tokens,
       (
@@ -245,7 +246,7 @@ module _ (host : List ℕ) (time : ℕ) (config pack index snapshot : List ℕ) 
 
     module _ (v : World) (next : v.store ≡ left) where
       abbrev work : Task
-      work = task_of Prune (asker (instance_of (length v.clients)) host time)
+      work = task_of Job.Prune (asker (instance_of (length v.clients)) host time)
 
       abbrev p0 : Trace
       p0 = opened work third config
@@ -380,7 +381,7 @@ module _ (host : List ℕ) (time : ℕ) (config pack index snapshot : List ℕ) 
         unlisted = λ l. none_contained l.0 l.1;
       }
 
-      keeps_order : Obeys work (Allows Prune) (Gives Prune) pruning
+      keeps_order : Obeys work (Allows Job.Prune) (Gives Job.Prune) pruning
       keeps_order = (
         holds_of work third p6 at_6,
         (λ x. absurd x),
@@ -430,12 +431,12 @@ module _ (host : List ℕ) (time : ℕ) (config pack index snapshot : List ℕ) 
         counted = record { packs = []; are = refl; each = tt; blobs_are = refl; bytes_are = refl };
       }
 
-      prunes_well : IsDutiful (ended (length v.clients) Prune host time pruning (Some (Outcome.Pruned 1 0)))
+      prunes_well : IsDutiful (ended (length v.clients) Job.Prune host time pruning (Some (Outcome.Pruned 1 0)))
       prunes_well = record {
         obeys = keeps_order;
         pending = λ r h. absurd (none-some r h);
         settled = λ e q. absurd (none-some (Outcome.Pruned 1 0) (sym q));
-        concluded = λ o e. subst (λ x. ends.Concludes (Concludes Prune) p6 x) (same_Some (Outcome.Pruned 1 0) o e) is_pruned;
+        concluded = λ o e. subst (λ x. ends.Concludes (Concludes Job.Prune) p6 x) (same_Some (Outcome.Pruned 1 0) o e) is_pruned;
         released = λ e o t h. absurd (held_end work t h.later (silent (Ask.Unlock third) Say.Done) p6 h.since h.held.unended tt);
         beside = λ r h o. absurd (none-some r h);
         ending = λ r h u. absurd (none-some r h);
@@ -450,7 +451,7 @@ module _ (host : List ℕ) (time : ℕ) (config pack index snapshot : List ℕ) 
       pack_there : forgotten_objects Kind.Pack np ≡ Some pack
       pack_there = there_now (backup.first_objects host time config pack index snapshot limits texts) Kind.Pack np pack
 
-      prune_steps : Stepped v Prune host time tt limits v.store pruning (store_of without_pack (unlocked last_tokens third))
+      prune_steps : Stepped v Job.Prune host time tt limits v.store pruning (store_of without_pack (unlocked last_tokens third))
       prune_steps = (
         store_of without_pack last_tokens,
         (
@@ -497,32 +498,32 @@ module _ (host : List ℕ) (time : ℕ) (config pack index snapshot : List ℕ) 
   -- ---- one after another
 
   abbrev backer : Client
-  backer = ended 0 (Backup []) host time (backup.all host time config pack index snapshot limits texts) (Some (stored snapshot))
+  backer = ended 0 (Job.Backup []) host time (backup.all host time config pack index snapshot limits texts) (Some (stored snapshot))
 
   after_forget : (w v : World) (events : List Event) → Run (beginning (configured config)) events v → (same : w.store ≡ from) → (next : v.store ≡ left w same)
-      → v.clients ≡ backer ∷ ended (length w.clients) (Forget choice) host time (forgetting w same) (Some (Outcome.Forgotten (ns ∷ []))) ∷ [] → IsForgotten names config snapshot
+      → v.clients ≡ backer ∷ ended (length w.clients) (Job.Forget choice) host time (forgetting w same) (Some (Outcome.Forgotten (ns ∷ []))) ∷ [] → IsForgotten names config snapshot
   after_forget w v events run same next two =
-      let done = finished v Prune host time tt limits (silent (Ask.Unlock third) Say.Done) (p6 w same v next) (store_of w same (without_pack w same) (unlocked (last_tokens w same v next) third)) (Some (Outcome.Pruned 1 0)) (prune_steps w same v next) (prunes_well w same v next) in
+      let done = finished v Job.Prune host time tt limits (silent (Ask.Unlock third) Say.Done) (p6 w same v next) (store_of w same (without_pack w same) (unlocked (last_tokens w same v next) third)) (Some (Outcome.Pruned 1 0)) (prune_steps w same v next) (prunes_well w same v next) in
       record {
         events = events ++ done.0;
         last = _;
         run = run_more (beginning (configured config)) events done.0 v _ run done.1;
-        forgets = ap (λ (cs : List Client). (client_at (cs ++ ended (length v.clients) Prune host time (pruning w same v next) (Some (Outcome.Pruned 1 0)) ∷ []) 1).job) two;
-        forgotten = ap (λ (cs : List Client). (client_at (cs ++ ended (length v.clients) Prune host time (pruning w same v next) (Some (Outcome.Pruned 1 0)) ∷ []) 1).outcome) two;
-        prunes = ap (λ (cs : List Client). (client_at (cs ++ ended (length v.clients) Prune host time (pruning w same v next) (Some (Outcome.Pruned 1 0)) ∷ []) 2).job) two;
-        pruned = ap (λ (cs : List Client). (client_at (cs ++ ended (length v.clients) Prune host time (pruning w same v next) (Some (Outcome.Pruned 1 0)) ∷ []) 2).outcome) two;
+        forgets = ap (λ (cs : List Client). (client_at (cs ++ ended (length v.clients) Job.Prune host time (pruning w same v next) (Some (Outcome.Pruned 1 0)) ∷ []) 1).job) two;
+        forgotten = ap (λ (cs : List Client). (client_at (cs ++ ended (length v.clients) Job.Prune host time (pruning w same v next) (Some (Outcome.Pruned 1 0)) ∷ []) 1).outcome) two;
+        prunes = ap (λ (cs : List Client). (client_at (cs ++ ended (length v.clients) Job.Prune host time (pruning w same v next) (Some (Outcome.Pruned 1 0)) ∷ []) 2).job) two;
+        pruned = ap (λ (cs : List Client). (client_at (cs ++ ended (length v.clients) Job.Prune host time (pruning w same v next) (Some (Outcome.Pruned 1 0)) ∷ []) 2).outcome) two;
         none_left = none_left;
       }
 
   after_backup : (w : World) (events : List Event) → Run (beginning (configured config)) events w → (same : w.store ≡ from) → w.clients ≡ backer ∷ [] → IsForgotten names config snapshot
   after_backup w events run same one =
-      let done = finished w (Forget choice) host time (λ none. none) limits (silent (Ask.Unlock token) Say.Done) (f2 w same) (left w same) (Some (Outcome.Forgotten (ns ∷ []))) (steps w same) (dutiful w same) in
+      let done = finished w (Job.Forget choice) host time (λ none. none) limits (silent (Ask.Unlock token) Say.Done) (f2 w same) (left w same) (Some (Outcome.Forgotten (ns ∷ []))) (steps w same) (dutiful w same) in
       after_forget w _ (events ++ done.0) (run_more (beginning (configured config)) events done.0 w _ run done.1) same refl
-      (ap (λ (cs : List Client). cs ++ ended (length w.clients) (Forget choice) host time (forgetting w same) (Some (Outcome.Forgotten (ns ∷ []))) ∷ []) one)
+      (ap (λ (cs : List Client). cs ++ ended (length w.clients) (Job.Forget choice) host time (forgetting w same) (Some (Outcome.Forgotten (ns ∷ []))) ∷ []) one)
 
   all_forgotten : IsForgotten names config snapshot
   all_forgotten =
-      let first = finished (beginning (configured config)) (Backup []) host time tt limits (silent (Ask.Unlock backup.token) Say.Done) (backup.storing host time config pack index snapshot limits texts) from (Some (stored snapshot))
+      let first = finished (beginning (configured config)) (Job.Backup []) host time tt limits (silent (Ask.Unlock backup.token) Say.Done) (backup.storing host time config pack index snapshot limits texts) from (Some (stored snapshot))
       (backup.steps host time config pack index snapshot limits texts) (backup.dutiful host time config pack index snapshot limits texts) in
       after_backup _ first.0 first.1 refl refl
 

@@ -39,13 +39,15 @@ use Rattle.repo_session.proofs.Holding.{working_more, holds_of, opened_working}
 use Rattle.repo_backup.specs.Folders.{nothing, tree_of}
 use Rattle.repo_restore.specs.Restoring.{IsRestored}
 use Rattle.repo_world.specs.Backed.{configured, snapshot_of, AreTexts, stored, IsGivenBack, RestoreIsARun}
-use Rattle.repo_world.specs.Clients.{Backup, Restore, task_of, Allows, Gives, Concludes, Client, IsDutiful}
-use Rattle.repo_world.specs.Events.{Event, Run}
+use Rattle.repo_world.specs.Clients.{task_of, Allows, Gives, Concludes, Client, IsDutiful}
+use Rattle.repo_world.specs.Events.{Run}
 use Rattle.repo_world.specs.Lone.{ended}
 use Rattle.repo_world.specs.World.{World, client_at, beginning, instance_of}
 use Rattle.repo_world.proofs.Backing as backup
 use Rattle.repo_world.proofs.Backing.{is_here, with_object, there_now}
 use Rattle.repo_world.proofs.Joining.{Stepped, finished, held_end, run_more}
+use Rattle.repo_world.specs.declared.jobs.Job.{Job}
+use Rattle.repo_world.specs.declared.events.Event.{Event}
 
 pub bytes_no_dead : (x : List ℕ) → Say.Bytes x ≡ Say.Refused Code.Dead → ⊥
 bytes_no_dead x h = absurd (cc)
@@ -86,7 +88,7 @@ module _ (host : List ℕ) (time : ℕ) (config pack index snapshot : List ℕ) 
 
   module _ (w : World) (same : w.store ≡ from) where
     abbrev task : Task
-    task = task_of (Restore ns) (asker (instance_of (length w.clients)) host time)
+    task = task_of (Job.Restore ns) (asker (instance_of (length w.clients)) host time)
 
     abbrev opening : Trace
     opening = opened task token config
@@ -135,7 +137,7 @@ module _ (host : List ℕ) (time : ℕ) (config pack index snapshot : List ℕ) 
     read_fact : (es : Trace) → Exchanged es (Ask.Get Kind.Index ni) (Say.Bytes index) → ReadFact es fact
     read_fact es h = record { index = ni; text = index; read = (h, refl); says = says }
 
-    obeys : Obeys task (Allows (Restore ns)) (Gives (Restore ns)) all
+    obeys : Obeys task (Allows (Job.Restore ns)) (Gives (Job.Restore ns)) all
     obeys = (
       holds_of task token walking works_4,
       (λ x. absurd x),
@@ -176,12 +178,12 @@ module _ (host : List ℕ) (time : ℕ) (config pack index snapshot : List ℕ) 
       refl,
     )
 
-    dutiful : IsDutiful (ended (length w.clients) (Restore ns) host time all (Some (Outcome.Complete 0)))
+    dutiful : IsDutiful (ended (length w.clients) (Job.Restore ns) host time all (Some (Outcome.Complete 0)))
     dutiful = record {
       obeys = obeys;
       pending = λ r h. absurd (none-some r h);
       settled = λ e q. absurd (none-some (Outcome.Complete 0) (sym q));
-      concluded = λ o e. subst (λ x. ends.Concludes (Concludes (Restore ns)) walking x) (same_Some (Outcome.Complete 0) o e) restored;
+      concluded = λ o e. subst (λ x. ends.Concludes (Concludes (Job.Restore ns)) walking x) (same_Some (Outcome.Complete 0) o e) restored;
       released = λ e o t h. absurd (held_end task t h.later (silent (Ask.Unlock token) Say.Done) walking h.since h.held.unended tt);
       beside = λ r h o. absurd (none-some r h);
       ending = λ r h u. absurd (none-some r h);
@@ -229,7 +231,7 @@ module _ (host : List ℕ) (time : ℕ) (config pack index snapshot : List ℕ) 
     range_step : Step (store_of tokens) (Ask.Range fact.place.pack fact.place.offset fact.place.length) (Say.Bytes (tree_text [])) (store_of tokens)
     range_step = inl (inr ((texts.packed.pack.each 0 (tree_of nothing) (lit≤ tt)).0, (Slice.Found (tree_text []), (pack, pack_there, range_is pack (tree_of nothing ∷ []) 0 (tree_of nothing) texts.packed.pack refl), refl), refl))
 
-    steps : Stepped w (Restore ns) host time tt limits w.store all (store_of (unlocked tokens token))
+    steps : Stepped w (Job.Restore ns) host time tt limits w.store all (store_of (unlocked tokens token))
     steps = (
       store_of tokens,
       (
@@ -263,14 +265,14 @@ module _ (host : List ℕ) (time : ℕ) (config pack index snapshot : List ℕ) 
   -- ---- after the backup
 
   abbrev restorer : (w : World) → w.store ≡ from → Client
-  restorer w same = ended (length w.clients) (Restore ns) host time (all w same) (Some (Outcome.Complete 0))
+  restorer w same = ended (length w.clients) (Job.Restore ns) host time (all w same) (Some (Outcome.Complete 0))
 
   abbrev backer : Client
-  backer = ended 0 (Backup []) host time (backup.all host time config pack index snapshot limits texts) (Some (stored snapshot))
+  backer = ended 0 (Job.Backup []) host time (backup.all host time config pack index snapshot limits texts) (Some (stored snapshot))
 
   after : (w : World) (events : List Event) → Run (beginning (configured config)) events w → (same : w.store ≡ from) → w.clients ≡ backer ∷ [] → IsGivenBack config snapshot
   after w events run same one =
-      let second = finished w (Restore ns) host time tt limits (silent (Ask.Unlock token) Say.Done) (walking w same) (store_of w same (unlocked (tokens w same) token)) (Some (Outcome.Complete 0)) (steps w same) (dutiful w same) in
+      let second = finished w (Job.Restore ns) host time tt limits (silent (Ask.Unlock token) Say.Done) (walking w same) (store_of w same (unlocked (tokens w same) token)) (Some (Outcome.Complete 0)) (steps w same) (dutiful w same) in
       record {
         events = events ++ second.0;
         last = _;
@@ -282,7 +284,7 @@ module _ (host : List ℕ) (time : ℕ) (config pack index snapshot : List ℕ) 
 
   given_back : IsGivenBack config snapshot
   given_back =
-      let first = finished (beginning (configured config)) (Backup []) host time tt limits (silent (Ask.Unlock backup.token) Say.Done) (backup.storing host time config pack index snapshot limits texts) from (Some (stored snapshot))
+      let first = finished (beginning (configured config)) (Job.Backup []) host time tt limits (silent (Ask.Unlock backup.token) Say.Done) (backup.storing host time config pack index snapshot limits texts) from (Some (stored snapshot))
       (backup.steps host time config pack index snapshot limits texts) (backup.dutiful host time config pack index snapshot limits texts) in
       after _ first.0 first.1 refl refl
 

@@ -18,8 +18,7 @@ use Rattle.repo_store.specs.Stores.{Store, Objects}
 use Rattle.repo_session.specs.Soundness.{IsSound}
 use Rattle.repo_world.specs.Bag.{AskedAt, StillSays, HasBag}
 use Rattle.repo_world.specs.BagLaws.{BeginningHasBag, IsServed}
-use Rattle.repo_world.specs.Clients.{Job}
-use Rattle.repo_world.specs.Events.{Event, Start, Deliver, Fault, Unlock, Crash, Restart, Applied, Serves, Takes, Delivers, Starts, Crashes, Unlocks, Happens}
+use Rattle.repo_world.specs.Events.{Serves, Takes, Delivers, Starts, Crashes, Unlocks, Happens}
 use Rattle.repo_store.specs.Failing.{Plainly, Failing}
 use Rattle.repo_world.specs.Laws.{IsEmpty}
 use Rattle.repo_world.specs.Safe.{HasNoClash}
@@ -34,6 +33,9 @@ use Rattle.repo_world.proofs.Sending.{sent_as_asked}
 use Rattle.repo_world.proofs.Serving.{keeps_serve}
 use Rattle.repo_world.proofs.Staying.{served, still_served}
 use Rattle.repo_world.proofs.Taking.{takes_grows, take_keeps, crash_keeps, started_grows, start_keeps}
+use Rattle.repo_world.specs.declared.jobs.Job.{Job}
+use Rattle.repo_world.specs.declared.events.Event.{Event}
+use Rattle.repo_world.specs.declared.events.Applied.{Applied}
 
 -- ---- what only grows
 
@@ -66,15 +68,15 @@ delivers_later How w (Some (Said k reply)) r v (inr (inl h)) = same_later w v h.
 delivers_later How w (Some (Said k reply)) r v (inr (inr h)) = same_later w v h.2
 
 pub happens_later : (w : World) (e : Event) (r : Applied) (v : World) → Happens ⊤ w e r v → Later w v
-happens_later w (Start job host time) r v (inl h) = starts_later w job host time v h.1
-happens_later w (Start job host time) r v (inr h) = same_later w v h.3
-happens_later w (Deliver i) r v h = delivers_later (Plainly ⊤) w (slice_get w.messages i) r v h
-happens_later w (Fault i f) r v h = delivers_later (Failing ⊤ f) w (slice_get w.messages i) r v h
-happens_later w (Unlock t) r v (d, inl u) = subst (Later w) (sym u.is) (same_clients w u.store w.messages (λ m h. h))
-happens_later w (Unlock t) r v (d, inr h) = same_later w v h.1
-happens_later w (Crash k) r v (inl h) = crashes_later w k v h.1
-happens_later w (Crash k) r v (inr h) = same_later w v h.2
-happens_later w Restart r v h = same_later w v h.1
+happens_later w (Event.Start job host time) r v (inl h) = starts_later w job host time v h.1
+happens_later w (Event.Start job host time) r v (inr h) = same_later w v h.3
+happens_later w (Event.Deliver i) r v h = delivers_later (Plainly ⊤) w (slice_get w.messages i) r v h
+happens_later w (Event.Fault i f) r v h = delivers_later (Failing ⊤ f) w (slice_get w.messages i) r v h
+happens_later w (Event.Unlock t) r v (d, inl u) = subst (Later w) (sym u.is) (same_clients w u.store w.messages (λ m h. h))
+happens_later w (Event.Unlock t) r v (d, inr h) = same_later w v h.1
+happens_later w (Event.Crash k) r v (inl h) = crashes_later w k v h.1
+happens_later w (Event.Crash k) r v (inr h) = same_later w v h.2
+happens_later w Event.Restart r v h = same_later w v h.1
 
 -- ---- the beginning
 
@@ -167,12 +169,12 @@ deliver_keeps How how w v bag clash (Some (Said k reply)) has r (inr (inl h)) = 
 deliver_keeps How how w v bag clash (Some (Said k reply)) has r (inr (inr h)) = same_bag w v bag h.2
 
 pub event_keeps : (w v : World) (e : Event) (r : Applied) → HasBag w → HasNoClash v → Happens ⊤ w e r v → HasBag v
-event_keeps w v (Start job host time) r bag clash (inl h) = start_keeps w v job host time bag h.1
-event_keeps w v (Start job host time) r bag clash (inr h) = same_bag w v bag h.3
-event_keeps w v (Deliver i) r bag clash h = deliver_keeps (Plainly ⊤) (λ s a z t p. p.0) w v bag clash (slice_get w.messages i) (λ m e. has_got w.messages i m e) r h
-event_keeps w v (Fault i f) r bag clash h = deliver_keeps (Failing ⊤ f) (failing_step ⊤ f) w v bag clash (slice_get w.messages i) (λ m e. has_got w.messages i m e) r h
-event_keeps w v (Unlock t) r bag clash (d, inl u) = unlock_keeps w bag t v u
-event_keeps w v (Unlock t) r bag clash (d, inr h) = same_bag w v bag h.1
-event_keeps w v (Crash k) r bag clash (inl h) = crash_keeps w v k bag h.1
-event_keeps w v (Crash k) r bag clash (inr h) = same_bag w v bag h.2
-event_keeps w v Restart r bag clash h = same_bag w v bag h.1
+event_keeps w v (Event.Start job host time) r bag clash (inl h) = start_keeps w v job host time bag h.1
+event_keeps w v (Event.Start job host time) r bag clash (inr h) = same_bag w v bag h.3
+event_keeps w v (Event.Deliver i) r bag clash h = deliver_keeps (Plainly ⊤) (λ s a z t p. p.0) w v bag clash (slice_get w.messages i) (λ m e. has_got w.messages i m e) r h
+event_keeps w v (Event.Fault i f) r bag clash h = deliver_keeps (Failing ⊤ f) (failing_step ⊤ f) w v bag clash (slice_get w.messages i) (λ m e. has_got w.messages i m e) r h
+event_keeps w v (Event.Unlock t) r bag clash (d, inl u) = unlock_keeps w bag t v u
+event_keeps w v (Event.Unlock t) r bag clash (d, inr h) = same_bag w v bag h.1
+event_keeps w v (Event.Crash k) r bag clash (inl h) = crash_keeps w v k bag h.1
+event_keeps w v (Event.Crash k) r bag clash (inr h) = same_bag w v bag h.2
+event_keeps w v Event.Restart r bag clash h = same_bag w v bag h.1

@@ -19,11 +19,14 @@ use Rattle.repo_session.specs.Order.{Task, May, IsPermitted, IsUnlock, IsNoUnloc
 use Rattle.repo_session.specs.Talks.{Talk, trace_of}
 use Rattle.repo_session.specs.Traces.{Each, Exchange, Trace}
 use Rattle.repo_session.proofs.Growing.{Led, led}
-use Rattle.repo_world.specs.Clients.{Job, Accepts, task_of, Allows, Gives, Concludes, Client, IsDutiful}
-use Rattle.repo_world.specs.Events.{Event, Start, Deliver, Done, Delivers, Takes, Happens, Run}
+use Rattle.repo_world.specs.Clients.{Accepts, task_of, Allows, Gives, Concludes, Client, IsDutiful}
+use Rattle.repo_world.specs.Events.{Delivers, Takes, Happens, Run}
 use Rattle.repo_store.specs.Failing.{Plainly}
 use Rattle.repo_world.specs.Lone.{LoneTalkIsARun}
 use Rattle.repo_world.specs.World.{World, Message, Asked, Said, client, client_at, sends, instance_of, first_of, started}
+use Rattle.repo_world.specs.declared.jobs.Job.{Job}
+use Rattle.repo_world.specs.declared.events.Event.{Event}
+use Rattle.repo_world.specs.declared.events.Applied.{Applied}
 
 -- ---- lists
 
@@ -166,8 +169,8 @@ module _ (w : World) (job : Job) (host : List ℕ) (time : ℕ) (accepted : Acce
     abbrev between : World
     between = record { store = to; clients = w.clients ++ talking es (Some (asked_of (length w.clients) es e.ask)) o ∷ []; messages = (sent es ++ Asked (length w.clients) (asked_of (length w.clients) es e.ask) ∷ []) ++ Said (length w.clients) (answered_of (length w.clients) es e.say) ∷ [] }
 
-    served_now : Happens ⊤ before (Deliver (length (sent es))) Done between
-    served_now = subst (λ (m : Option Message). Delivers (Plainly ⊤) before m Done between) (sym (got_last (sent es) (Asked (length w.clients) (asked_of (length w.clients) es e.ask))))
+    served_now : Happens ⊤ before (Event.Deliver (length (sent es))) Applied.Done between
+    served_now = subst (λ (m : Option Message). Delivers (Plainly ⊤) before m Applied.Done between) (sym (got_last (sent es) (Asked (length w.clients) (asked_of (length w.clients) es e.ask))))
         (refl, record { reply = answered_of (length w.clients) es e.say; store = to; answers = (refl, refl); step = (step, λ q. tt); is = refl })
 
     here : client between (length w.clients) ≡ talking es (Some (asked_of (length w.clients) es e.ask)) o
@@ -198,14 +201,14 @@ module _ (w : World) (job : Job) (host : List ℕ) (time : ℕ) (accepted : Acce
       is = world_is;
     }
 
-    taken_now : Happens ⊤ between (Deliver (length (sent es ++ Asked (length w.clients) (asked_of (length w.clients) es e.ask) ∷ []))) Done (at (e ∷ es) next p to)
-    taken_now = subst (λ (m : Option Message). Delivers (Plainly ⊤) between m Done (at (e ∷ es) next p to)) (sym (got_last (sent es ++ Asked (length w.clients) (asked_of (length w.clients) es e.ask) ∷ []) (Said (length w.clients) (answered_of (length w.clients) es e.say))))
+    taken_now : Happens ⊤ between (Event.Deliver (length (sent es ++ Asked (length w.clients) (asked_of (length w.clients) es e.ask) ∷ []))) Applied.Done (at (e ∷ es) next p to)
+    taken_now = subst (λ (m : Option Message). Delivers (Plainly ⊤) between m Applied.Done (at (e ∷ es) next p to)) (sym (got_last (sent es ++ Asked (length w.clients) (asked_of (length w.clients) es e.ask) ∷ []) (Said (length w.clients) (answered_of (length w.clients) es e.say))))
         (inl (refl, takes))
 
     pub one_turn : (events : List Event) × Run before events (at (e ∷ es) next p to)
     one_turn = (
-      Deliver (length (sent es)) ∷ Deliver (length (sent es ++ Asked (length w.clients) (asked_of (length w.clients) es e.ask) ∷ [])) ∷ [],
-      (between, (Done, served_now), (at (e ∷ es) next p to, (Done, taken_now), refl)),
+      Event.Deliver (length (sent es)) ∷ Event.Deliver (length (sent es ++ Asked (length w.clients) (asked_of (length w.clients) es e.ask) ∷ [])) ∷ [],
+      (between, (Applied.Done, served_now), (at (e ∷ es) next p to, (Applied.Done, taken_now), refl)),
     )
 
   -- what is shown while this is pending: an outcome beside the end of the lock, else none
@@ -265,8 +268,8 @@ module _ (w : World) (job : Job) (host : List ℕ) (time : ℕ) (accepted : Acce
   -- the client starts
   starts : (a : Ask) (o : Option Outcome) → a ≡ Ask.Ticket → Shows o a [] → (events : List Event) × Run w events (at [] (Some (asked_of (length w.clients) [] a)) o w.store)
   starts a o q shows = (
-    Start job host time ∷ [],
-    (at [] (Some (asked_of (length w.clients) [] a)) o w.store, (Done, inl (refl, record { accepted = accepted; limits = limits; is = is })), refl),
+    Event.Start job host time ∷ [],
+    (at [] (Some (asked_of (length w.clients) [] a)) o w.store, (Applied.Done, inl (refl, record { accepted = accepted; limits = limits; is = is })), refl),
   )
     where
       none : o ≡ None

@@ -18,10 +18,11 @@ use Rattle.repo_session.specs.Told.{Told, Seen}
 use Rattle.repo_session.specs.Traces.{Trace, Exchanged, WasAsked}
 use Rattle.repo_writing.specs.Laws.{StandAsPut}
 use Rattle.repo_world.specs.Bag.{AskedAt, HasPut, HasDeleted, IsLive, IsExclusive, IsSpent, StillSays, HasBag}
-use Rattle.repo_world.specs.Clients.{Job, task_of, Allows, Gives}
+use Rattle.repo_world.specs.Clients.{task_of, Allows, Gives}
 use Rattle.repo_world.specs.Safe.{IsPutBy, Took, by_put, by_reply, IsKnown, known_spoken, known_part, HasNoClash}
 use Rattle.repo_world.specs.World.{World, client}
 use Rattle.repo_world.proofs.Sending.{Within, asked_within, exchange_asked, trace_asked, IsRuled, ruled, ruled_as, Sending, sending, one_token, working_took, working_locked}
+use Rattle.repo_world.specs.declared.jobs.Job.{Job}
 
 module _ (w : World) (bag : HasBag w) where
   -- ---- one client

@@ -6,10 +6,11 @@ use Rattle.repo_wire.specs.declared.messages.Ask.{Ask}
 use Rattle.repo_wire.specs.declared.messages.Say.{Say}
 use Rattle.repo_session.specs.Traces.{Trace, Exchanged}
 use Rattle.repo_world.specs.Bag.{AskedAt, AskedIn, with_next, HasPut, HasDeleted}
-use Rattle.repo_world.specs.Clients.{Job, Backup, Restore, Listing, Forget, Prune, MadeOf, Client, Check}
+use Rattle.repo_world.specs.Clients.{MadeOf, Client}
 use Rattle.repo_world.specs.Safe.{IsPutBy, IsAsked, IsSpoken, by_put, by_reply, IsKnown, known_spoken, known_part, known_made, HasNoClash}
 use Rattle.repo_world.specs.World.{World, client, Message, Has, Asked, Said}
 use Rattle.repo_world.proofs.Sending.{Within}
+use Rattle.repo_world.specs.declared.jobs.Job.{Job}
 
 -- a client that has gone on
 pub record Grows (c d : Client) : Type 0 where
@@ -24,14 +25,14 @@ pub record Later (w v : World) : Type 0 where
 
 -- what was made of what was handed is made of it as the trace grows
 pub made_more : (b : Job) (es fs : Trace) → Within es fs → (x : List ℕ) → MadeOf b es x → MadeOf b fs x
-made_more (Backup entries) es fs within x m =
+made_more (Job.Backup entries) es fs within x m =
     let c = m.cut in
     record { folder = m.folder; kind = m.kind; cut = record { text = c.text; config = c.config; read = within Ask.Config (Say.Bytes c.text) c.read; reads = c.reads; cut = c.cut }; among = m.among }
-made_more (Restore s) es fs within x m = m
-made_more Listing es fs within x m = m
-made_more (Forget choice) es fs within x m = m
-made_more Prune es fs within x m = m
-made_more Check es fs within x m = m
+made_more (Job.Restore s) es fs within x m = m
+made_more Job.List es fs within x m = m
+made_more (Job.Forget choice) es fs within x m = m
+made_more Job.Prune es fs within x m = m
+made_more Job.Check es fs within x m = m
 
 -- a client of the same job that took more
 pub grows_with : (c d : Client) → d.job ≡ c.job → Within c.trace d.trace → ((q : ℕ) (a : Ask) → AskedAt c q a → AskedAt d q a) → Grows c d

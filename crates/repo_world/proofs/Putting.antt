@@ -21,12 +21,13 @@ use Rattle.repo_writing.specs.Putting.{PutDone, IsIndexOf}
 use Rattle.repo_writing.proofs.Keeping.{IsKept, index_put_is_sound, snapshot_put_is_sound}
 use Rattle.repo_writing.proofs.PutLemmas.{asked_put}
 use Rattle.repo_world.specs.Bag.{AskedIn, AskedAt, with_next, HasDeleted, IsLive, HasBag}
-use Rattle.repo_world.specs.Clients.{Job, Backup, Restore, Listing, Forget, Prune, MadeOf, Check}
+use Rattle.repo_world.specs.Clients.{MadeOf}
 use Rattle.repo_world.specs.Safe.{IsPutBy, Took, IsKnown, known_made, HasNoClash}
 use Rattle.repo_world.specs.World.{World, client}
 use Rattle.repo_world.proofs.Deleting.{delete_of, keeps_put}
 use Rattle.repo_world.proofs.Knowing.{sent_as, held_in, held_known, held_apart, stand_of, put_named, told_of}
 use Rattle.repo_world.proofs.Sending.{Within, Sending}
+use Rattle.repo_world.specs.declared.jobs.Job.{Job}
 
 -- ---- whether an index was deleted
 
@@ -68,14 +69,14 @@ module _ (w : World) (bag : HasBag w) (clash : HasNoClash w) (k : ℕ) (t : Toke
 
   -- ---- of a backup
 
-  module _ (entries : List Entry) (job : (client w k).job ≡ Backup entries) where
+  module _ (entries : List Entry) (job : (client w k).job ≡ Job.Backup entries) where
     none_deleted : (m : Kind) (i : Name) → ¬ HasDeleted w k m i
-    none_deleted m i d = (sent_as w bag k d.0 (Ask.Delete d.1 m i) (Backup entries) job d.2).permitted tt
+    none_deleted m i d = (sent_as w bag k d.0 (Ask.Delete d.1 m i) (Job.Backup entries) job d.2).permitted tt
 
     kept_by : (es : Trace) → IsKept (HasDeleted w k) es
     kept_by es = record { put = λ m i y p. none_deleted m i; indexes = λ i. none_deleted Kind.Index i }
 
-    backup_index : Sending (Backup entries) (client w k).who (client w k).trace (Ask.Put t Kind.Index n x) → IsSoundIndex w.store.objects x
+    backup_index : Sending (Job.Backup entries) (client w k).who (client w k).trace (Ask.Put t Kind.Index n x) → IsSoundIndex w.store.objects x
     backup_index s =
         let r : backing.IndexRule s.older x = s.permitted tt in
         lists_sound s.older s.within (kept_by s.older) (record { packs = r.lists.packs; reads = r.lists.reads; each = λ listed among. inl (r.lists.each listed among) })
@@ -88,7 +89,7 @@ module _ (w : World) (bag : HasBag w) (clash : HasNoClash w) (k : ℕ) (t : Toke
       among = m.among;
     }))
 
-    backup_snapshot : Sending (Backup entries) (client w k).who (client w k).trace (Ask.Put t Kind.Snapshot n x) → IsSoundSnapshot w.store.objects x
+    backup_snapshot : Sending (Job.Backup entries) (client w k).who (client w k).trace (Ask.Put t Kind.Snapshot n x) → IsSoundSnapshot w.store.objects x
     backup_snapshot s =
         let r : backing.SnapshotRule entries s.older t x = s.permitted tt in
         snapshot_put_is_sound (HasDeleted w k) s.older w.store.objects bag.sound (told_of w bag k s.older t s.within took live) (stand_of w bag clash k s.older s.within) (kept_by s.older) (held_apart w bag clash)
@@ -98,7 +99,7 @@ module _ (w : World) (bag : HasBag w) (clash : HasNoClash w) (k : ℕ) (t : Toke
 
   -- ---- of a prune
 
-  module _ (job : (client w k).job ≡ Prune) where
+  module _ (job : (client w k).job ≡ Job.Prune) where
     -- where an index was deleted, the index that is put stands there
     there_already : (q : ℕ) → AskedAt (client w k) q (Ask.Put t Kind.Index n x) → HasIndexDelete (with_next (client w k).next (client w k).trace) → IsSoundIndex w.store.objects x
     there_already q asked h =
@@ -113,7 +114,7 @@ module _ (w : World) (bag : HasBag w) (clash : HasNoClash w) (k : ℕ) (t : Toke
 
     prune_index : (q : ℕ) → AskedAt (client w k) q (Ask.Put t Kind.Index n x) → IsSoundIndex w.store.objects x
     prune_index q asked =
-        let s = sent_as w bag k q (Ask.Put t Kind.Index n x) Prune job asked in
+        let s = sent_as w bag k q (Ask.Put t Kind.Index n x) Job.Prune job asked in
         let r : MayPutIndex s.older x = s.permitted tt in
         ⊎_elim
         (λ none. lists_sound s.older s.within (record { put = λ m i y p. keeps_put w bag clash k job s.older s.within m i y p; indexes = λ i d. none (d.0, d.1, i, d.2) }) r.lists)
@@ -123,22 +124,22 @@ module _ (w : World) (bag : HasBag w) (clash : HasNoClash w) (k : ℕ) (t : Toke
   -- ---- by the job
 
   object_ok : (b : Job) → (client w k).job ≡ b → (j : Kind) (q : ℕ) → AskedAt (client w k) q (Ask.Put t j n x) → IsSoundObject w.store.objects j x
-  object_ok (Backup entries) e Kind.Pack q h =
-      let s = sent_as w bag k q (Ask.Put t Kind.Pack n x) (Backup entries) e h in
+  object_ok (Job.Backup entries) e Kind.Pack q h =
+      let s = sent_as w bag k q (Ask.Put t Kind.Pack n x) (Job.Backup entries) e h in
       let r : backing.PackRule entries s.older x = s.permitted tt in
       (r.items, r.pack)
-  object_ok (Backup entries) e Kind.Index q h = backup_index entries e (sent_as w bag k q (Ask.Put t Kind.Index n x) (Backup entries) e h)
-  object_ok (Backup entries) e Kind.Snapshot q h = backup_snapshot entries e (sent_as w bag k q (Ask.Put t Kind.Snapshot n x) (Backup entries) e h)
-  object_ok Prune e Kind.Pack q h =
-      let s = sent_as w bag k q (Ask.Put t Kind.Pack n x) Prune e h in
+  object_ok (Job.Backup entries) e Kind.Index q h = backup_index entries e (sent_as w bag k q (Ask.Put t Kind.Index n x) (Job.Backup entries) e h)
+  object_ok (Job.Backup entries) e Kind.Snapshot q h = backup_snapshot entries e (sent_as w bag k q (Ask.Put t Kind.Snapshot n x) (Job.Backup entries) e h)
+  object_ok Job.Prune e Kind.Pack q h =
+      let s = sent_as w bag k q (Ask.Put t Kind.Pack n x) Job.Prune e h in
       let r : MayPutPack s.older x = s.permitted tt in
       (r.items, r.pack)
-  object_ok Prune e Kind.Index q h = prune_index e q h
-  object_ok Prune e Kind.Snapshot q h = absurd ((sent_as w bag k q (Ask.Put t Kind.Snapshot n x) Prune e h).permitted tt)
-  object_ok (Restore s) e j q h = absurd ((sent_as w bag k q (Ask.Put t j n x) (Restore s) e h).permitted tt)
-  object_ok Listing e j q h = absurd ((sent_as w bag k q (Ask.Put t j n x) Listing e h).permitted tt)
-  object_ok Check e j q h = absurd ((sent_as w bag k q (Ask.Put t j n x) Check e h).permitted tt)
-  object_ok (Forget choice) e j q h = absurd ((sent_as w bag k q (Ask.Put t j n x) (Forget choice) e h).permitted tt).0
+  object_ok Job.Prune e Kind.Index q h = prune_index e q h
+  object_ok Job.Prune e Kind.Snapshot q h = absurd ((sent_as w bag k q (Ask.Put t Kind.Snapshot n x) Job.Prune e h).permitted tt)
+  object_ok (Job.Restore s) e j q h = absurd ((sent_as w bag k q (Ask.Put t j n x) (Job.Restore s) e h).permitted tt)
+  object_ok Job.List e j q h = absurd ((sent_as w bag k q (Ask.Put t j n x) Job.List e h).permitted tt)
+  object_ok Job.Check e j q h = absurd ((sent_as w bag k q (Ask.Put t j n x) Job.Check e h).permitted tt)
+  object_ok (Job.Forget choice) e j q h = absurd ((sent_as w bag k q (Ask.Put t j n x) (Job.Forget choice) e h).permitted tt).0
 
   -- a put under a live token
   pub put_keeps_sound : (j : Kind) (q : ℕ) → AskedAt (client w k) q (Ask.Put t j n x) → (new : Objects) → Added w.store.objects j n x new → IsSound new

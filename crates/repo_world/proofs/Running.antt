@@ -9,7 +9,7 @@ use Rattle.repo_session.specs.declared.outcomes.Outcome.{Outcome}
 use Rattle.repo_world.specs.Bag.{HasBag}
 use Rattle.repo_world.specs.BagLaws.{BagGivesSafety}
 use Rattle.repo_world.specs.Clients.{Client}
-use Rattle.repo_world.specs.Events.{Event, Start, Deliver, Fault, Unlock, Crash, Restart, Applied, Delivers, Happens, Run}
+use Rattle.repo_world.specs.Events.{Delivers, Happens, Run}
 use Rattle.repo_store.specs.Failing.{Plainly, Failing}
 use Rattle.repo_world.specs.Laws.{EveryRunIsSafe, Behaves, AllBehave, EachEventKeepsReports, EachReportHolds, NoClashGoesBack, FailingIsAStep}
 use Rattle.repo_world.specs.Safe.{HasNoClash}
@@ -20,6 +20,8 @@ use Rattle.repo_world.proofs.Happening.{begins, happens_later, event_keeps}
 use Rattle.repo_world.proofs.Later.{no_clash_before}
 use Rattle.repo_world.proofs.Safety.{bag_safe, handed_is_one, stored_own}
 use Rattle.repo_world.proofs.Taking.{crashed_behaves, started_dutiful}
+use Rattle.repo_world.specs.declared.events.Event.{Event}
+use Rattle.repo_world.specs.declared.events.Applied.{Applied}
 
 pub goes_back : NoClashGoesBack
 goes_back w v e r clash h = no_clash_before w v (happens_later w e r v h) clash
@@ -73,19 +75,19 @@ module _ (w : World) (b : AllBehave w) where
   delivered How (Some (Said k reply)) r v (inr (inr h)) = stays_went w v b h.2
 
   happened : (e : Event) (r : Applied) (v : World) → Happens ⊤ w e r v → Went w v
-  happened (Start job host time) r v (inl (a, s)) = subst (Went w) (sym s.is)
+  happened (Event.Start job host time) r v (inl (a, s)) = subst (Went w) (sym s.is)
       (one_went w (w.clients ++ started (length w.clients) job host time ∷ []) (w.messages ++ Asked (length w.clients) (first_of (length w.clients)) ∷ []) (length w.clients) (started (length w.clients) job host time) b
       (changed_end w.clients (started (length w.clients) job host time))
       (inr (started_dutiful (length w.clients) job host time), λ o e. absurd (none-some o (sym (ap (λ (c : Client). c.outcome) (absent_end w.clients)) ∙ e))))
-  happened (Start job host time) r v (inr h) = stays_went w v b h.3
-  happened (Deliver i) r v h = delivered (Plainly ⊤) (slice_get w.messages i) r v h
-  happened (Fault i f) r v h = delivered (Failing ⊤ f) (slice_get w.messages i) r v h
-  happened (Unlock t) r v (a, inl u) = subst (Went w) (sym u.is) (λ j. (b j, λ o e. e))
-  happened (Unlock t) r v (a, inr h) = stays_went w v b h.1
-  happened (Crash k) r v (inl (a, c)) = subst (Went w) (sym c.is)
+  happened (Event.Start job host time) r v (inr h) = stays_went w v b h.3
+  happened (Event.Deliver i) r v h = delivered (Plainly ⊤) (slice_get w.messages i) r v h
+  happened (Event.Fault i f) r v h = delivered (Failing ⊤ f) (slice_get w.messages i) r v h
+  happened (Event.Unlock t) r v (a, inl u) = subst (Went w) (sym u.is) (λ j. (b j, λ o e. e))
+  happened (Event.Unlock t) r v (a, inr h) = stays_went w v b h.1
+  happened (Event.Crash k) r v (inl (a, c)) = subst (Went w) (sym c.is)
       (one_went w (slice_set w.clients k (crashed_one (client w k))) w.messages k (crashed_one (client w k)) b (changed_set w.clients k (crashed_one (client w k)) c.running) (crashed_behaves (client w k) c.running (b k), λ o e. e))
-  happened (Crash k) r v (inr h) = stays_went w v b h.2
-  happened Restart r v h = stays_went w v b h.1
+  happened (Event.Crash k) r v (inr h) = stays_went w v b h.2
+  happened Event.Restart r v h = stays_went w v b h.1
 
 pub keeps_reports : EachEventKeepsReports
 keeps_reports w v e r h b = let g = happened w b e r v h in ((λ k. (g k).0), (λ k. (g k).1))

@@ -29,16 +29,17 @@ use Rattle.repo_backup.specs.Rules as backing
 use Rattle.repo_writing.specs.Putting.{PutDone}
 use Rattle.repo_restore.specs.Restoring.{IsRestored, IsForBlob, RestoreAllows, RestoreGives}
 use Rattle.repo_world.specs.Bag.{AskedAt, HasBag}
-use Rattle.repo_world.specs.Clients.{Job, Backup, Restore, Listing, Forget, Prune, task_of, Concludes, handed_to, MadeOf, Check}
+use Rattle.repo_world.specs.Clients.{task_of, Concludes, handed_to, MadeOf}
 use Rattle.repo_world.specs.Safe.{IsPutBy, IsThereOrAsked, Took, Handed, IsKnown, known_made, HasNoClash, IsSafe, HandedIsOne, known_spoken, by_put}
 use Rattle.repo_world.specs.World.{World, client}
 use Rattle.repo_world.proofs.Knowing.{rule_at, sent_as, put_named, held_known, received_known, owner_of}
 use Rattle.repo_world.proofs.Sending.{Within, IsRuled, ruled, Sending, working_took, sent_as_asked}
+use Rattle.repo_world.specs.declared.jobs.Job.{Job}
 
 -- where a snapshot's text comes from: a backup of these entries made it
 pub record Source (w : World) (x : List ℕ) (entries : List Entry) : Type 0 where
   pub by : ℕ
-  pub job : (client w by).job ≡ Backup entries
+  pub job : (client w by).job ≡ Job.Backup entries
   pub snapshot : Snapshot
   pub reads : IsSnapshotText x snapshot
   pub took : Took w by snapshot.token
@@ -73,11 +74,11 @@ module _ (task : Task) (s : Name) where
 module _ (w : World) (bag : HasBag w) (clash : HasNoClash w) where
   -- ---- where snapshots come from
 
-  source_by : (k : ℕ) (entries : List Entry) (x : List ℕ) (n : Name) (t : Token) → (client w k).job ≡ Backup entries → Sending (Backup entries) (client w k).who (client w k).trace (Ask.Put t Kind.Snapshot n x) → Source w x entries
+  source_by : (k : ℕ) (entries : List Entry) (x : List ℕ) (n : Name) (t : Token) → (client w k).job ≡ Job.Backup entries → Sending (Job.Backup entries) (client w k).who (client w k).trace (Ask.Put t Kind.Snapshot n x) → Source w x entries
   source_by k entries x n t e s =
       let r : backing.SnapshotRule entries s.older t x = s.permitted tt in
-      let working : IsWorking (task_of (Backup entries) (client w k).who) t s.older = s.may.0 in
-      let took : Took w k t = s.within Ask.Ticket (Say.Token t) (working_took (task_of (Backup entries) (client w k).who) t s.older working) in
+      let working : IsWorking (task_of (Job.Backup entries) (client w k).who) t s.older = s.may.0 in
+      let took : Took w k t = s.within Ask.Ticket (Say.Token t) (working_took (task_of (Job.Backup entries) (client w k).who) t s.older working) in
       record {
         by = k;
         job = e;
@@ -90,12 +91,12 @@ module _ (w : World) (bag : HasBag w) (clash : HasNoClash w) where
       }
 
   made_by : (x : List ℕ) (n : Name) (k q : ℕ) (t : Token) (b : Job) → (client w k).job ≡ b → AskedAt (client w k) q (Ask.Put t Kind.Snapshot n x) → (entries : List Entry) × Source w x entries
-  made_by x n k q t (Backup entries) e h = (entries, source_by k entries x n t e (sent_as w bag k q (Ask.Put t Kind.Snapshot n x) (Backup entries) e h))
-  made_by x n k q t Prune e h = absurd ((sent_as w bag k q (Ask.Put t Kind.Snapshot n x) Prune e h).permitted tt)
-  made_by x n k q t (Restore s) e h = absurd ((sent_as w bag k q (Ask.Put t Kind.Snapshot n x) (Restore s) e h).permitted tt)
-  made_by x n k q t Listing e h = absurd ((sent_as w bag k q (Ask.Put t Kind.Snapshot n x) Listing e h).permitted tt)
-  made_by x n k q t Check e h = absurd ((sent_as w bag k q (Ask.Put t Kind.Snapshot n x) Check e h).permitted tt)
-  made_by x n k q t (Forget choice) e h = absurd ((sent_as w bag k q (Ask.Put t Kind.Snapshot n x) (Forget choice) e h).permitted tt).0
+  made_by x n k q t (Job.Backup entries) e h = (entries, source_by k entries x n t e (sent_as w bag k q (Ask.Put t Kind.Snapshot n x) (Job.Backup entries) e h))
+  made_by x n k q t Job.Prune e h = absurd ((sent_as w bag k q (Ask.Put t Kind.Snapshot n x) Job.Prune e h).permitted tt)
+  made_by x n k q t (Job.Restore s) e h = absurd ((sent_as w bag k q (Ask.Put t Kind.Snapshot n x) (Job.Restore s) e h).permitted tt)
+  made_by x n k q t Job.List e h = absurd ((sent_as w bag k q (Ask.Put t Kind.Snapshot n x) Job.List e h).permitted tt)
+  made_by x n k q t Job.Check e h = absurd ((sent_as w bag k q (Ask.Put t Kind.Snapshot n x) Job.Check e h).permitted tt)
+  made_by x n k q t (Job.Forget choice) e h = absurd ((sent_as w bag k q (Ask.Put t Kind.Snapshot n x) (Job.Forget choice) e h).permitted tt).0
 
   source_of : (n : Name) (x : List ℕ) → IsPutBy w Kind.Snapshot n x → (entries : List Entry) × Source w x entries
   source_of n x p = made_by x n p.by p.request.sequence p.token (client w p.by).job refl (subst (λ a. AskedAt (client w p.by) p.request.sequence a) p.asks (bag.asked p.by p.request p.message))
@@ -118,10 +119,10 @@ module _ (w : World) (bag : HasBag w) (clash : HasNoClash w) where
 
   -- ---- what a complete restore gave
 
-  restored_by : (k : ℕ) (s : Name) (count : ℕ) (is : IsRuled (Restore s) (client w k)) → IsRestored (before_unlock (client w k).trace) s count → Handed w s (rebuilt (emitted_in (client w k).trace)) × AreWhole (emitted_in (client w k).trace)
+  restored_by : (k : ℕ) (s : Name) (count : ℕ) (is : IsRuled (Job.Restore s) (client w k)) → IsRestored (before_unlock (client w k).trace) s count → Handed w s (rebuilt (emitted_in (client w k).trace)) × AreWhole (emitted_in (client w k).trace)
   restored_by k s count is (version, root, (x, snapshot, read, reads, of_version, at_root), spells, counted, whole) =
       let within : Within (before_unlock (client w k).trace) (client w k).trace = λ a y h. exchanged_before (client w k).trace a y h in
-      let all : emitted_in (before_unlock (client w k).trace) ≡ emitted_in (client w k).trace = given_before (task_of (Restore s) (client w k).who) s (client w k).trace is.obeys in
+      let all : emitted_in (before_unlock (client w k).trace) ≡ emitted_in (client w k).trace = given_before (task_of (Job.Restore s) (client w k).who) s (client w k).trace is.obeys in
       let put : IsPutBy w Kind.Snapshot s x = (bag.told k (Ask.Get Kind.Snapshot s) (Say.Bytes x) (within (Ask.Get Kind.Snapshot s) (Say.Bytes x) read.0)).0.got_put Kind.Snapshot s x refl refl in
       let source = source_of s x put in
       let spelled : Spells snapshot.version (Received (before_unlock (client w k).trace)) snapshot.tree [] (rebuilt (emitted_in (before_unlock (client w k).trace))) =
@@ -132,8 +133,8 @@ module _ (w : World) (bag : HasBag w) (clash : HasNoClash w) where
         subst (λ (x : List Emission). AreWhole x) all whole,
       )
 
-  restored_is : (k : ℕ) (s : Name) (count : ℕ) → (client w k).job ≡ Restore s → (client w k).outcome ≡ Some (Outcome.Complete count) → Handed w s (rebuilt (emitted_in (client w k).trace)) × AreWhole (emitted_in (client w k).trace)
-  restored_is k s count job outcome = let is = rule_at w bag k (Restore s) job in restored_by k s count is (is.concluded (Outcome.Complete count) outcome)
+  restored_is : (k : ℕ) (s : Name) (count : ℕ) → (client w k).job ≡ Job.Restore s → (client w k).outcome ≡ Some (Outcome.Complete count) → Handed w s (rebuilt (emitted_in (client w k).trace)) × AreWhole (emitted_in (client w k).trace)
+  restored_is k s count job outcome = let is = rule_at w bag k (Job.Restore s) job in restored_by k s count is (is.concluded (Outcome.Complete count) outcome)
 
   -- ---- what is reported as stored
 
@@ -141,12 +142,12 @@ module _ (w : World) (bag : HasBag w) (clash : HasNoClash w) where
   stored_put k s x (t, done) = (bag.told k (Ask.Put t Kind.Snapshot s x) Say.Done (exchanged_before (client w k).trace (Ask.Put t Kind.Snapshot s x) Say.Done done)).0.stored t s x refl refl
 
   stored_by : (k : ℕ) (s : Name) (blobs bytes : ℕ) (b : Job) → Concludes b (before_unlock (client w k).trace) (Outcome.Stored s blobs bytes) → IsThereOrAsked w s
-  stored_by k s blobs bytes (Backup entries) r = stored_put k s r.text r.put
-  stored_by k s blobs bytes (Restore n) r = absurd r
-  stored_by k s blobs bytes Listing r = absurd r
-  stored_by k s blobs bytes (Forget choice) r = absurd r
-  stored_by k s blobs bytes Prune r = absurd r
-  stored_by k s blobs bytes Check r = absurd r
+  stored_by k s blobs bytes (Job.Backup entries) r = stored_put k s r.text r.put
+  stored_by k s blobs bytes (Job.Restore n) r = absurd r
+  stored_by k s blobs bytes Job.List r = absurd r
+  stored_by k s blobs bytes (Job.Forget choice) r = absurd r
+  stored_by k s blobs bytes Job.Prune r = absurd r
+  stored_by k s blobs bytes Job.Check r = absurd r
 
   spelled_in : (s : Name) (x : List ℕ) (snapshot : Snapshot) → w.store.objects Kind.Snapshot s ≡ Some x → IsSnapshotText x snapshot → (entries : List Entry) × Handed w s entries × Spells snapshot.version (IsHeld w.store.objects) snapshot.tree [] entries
   spelled_in s x snapshot here reads =
@@ -175,20 +176,20 @@ module _ (w : World) (bag : HasBag w) (clash : HasNoClash w) where
       same_Some some others (sym a.handed ∙ (ap (λ k. handed_to (client w k).job) by ∙ b.handed))
 
   -- the snapshot that a backup reports is of what it was handed itself
-  own_source : (k : ℕ) (s : Name) (x : List ℕ) (entries : List Entry) → (client w k).job ≡ Backup entries → PutDone (before_unlock (client w k).trace) Kind.Snapshot s x → Handed w s entries
+  own_source : (k : ℕ) (s : Name) (x : List ℕ) (entries : List Entry) → (client w k).job ≡ Job.Backup entries → PutDone (before_unlock (client w k).trace) Kind.Snapshot s x → Handed w s entries
   own_source k s x entries job (t, done) =
       let q = sent_as_asked (client w k) (Ask.Put t Kind.Snapshot s x) Say.Done (exchanged_before (client w k).trace (Ask.Put t Kind.Snapshot s x) Say.Done done) in
       let sent = bag.sent k q.0 (Ask.Put t Kind.Snapshot s x) q.1 in
-      let source = source_by k entries x s t job (sent_as w bag k q.0 (Ask.Put t Kind.Snapshot s x) (Backup entries) job q.1) in
+      let source = source_by k entries x s t job (sent_as w bag k q.0 (Ask.Put t Kind.Snapshot s x) (Job.Backup entries) job q.1) in
       handed_of s x entries (record { by = k; request = sent.0; token = t; message = sent.1; asks = sent.2 }) source
 
   own_of : (k : ℕ) (s : Name) (blobs bytes : ℕ) (b : Job) (entries : List Entry) → (client w k).job ≡ b → handed_to b ≡ Some entries → Concludes b (before_unlock (client w k).trace) (Outcome.Stored s blobs bytes) → Handed w s entries
-  own_of k s blobs bytes (Backup handed) entries job same r = subst (λ (es : List Entry). Handed w s es) (same_Some handed entries same) (own_source k s r.text handed job r.put)
-  own_of k s blobs bytes (Restore n) entries job same r = absurd r
-  own_of k s blobs bytes Listing entries job same r = absurd r
-  own_of k s blobs bytes (Forget choice) entries job same r = absurd r
-  own_of k s blobs bytes Prune entries job same r = absurd r
-  own_of k s blobs bytes Check entries job same r = absurd r
+  own_of k s blobs bytes (Job.Backup handed) entries job same r = subst (λ (es : List Entry). Handed w s es) (same_Some handed entries same) (own_source k s r.text handed job r.put)
+  own_of k s blobs bytes (Job.Restore n) entries job same r = absurd r
+  own_of k s blobs bytes Job.List entries job same r = absurd r
+  own_of k s blobs bytes (Job.Forget choice) entries job same r = absurd r
+  own_of k s blobs bytes Job.Prune entries job same r = absurd r
+  own_of k s blobs bytes Job.Check entries job same r = absurd r
 
   pub stored_own : (k : ℕ) (s : Name) (blobs bytes : ℕ) (entries : List Entry) → handed_to (client w k).job ≡ Some entries → (client w k).outcome ≡ Some (Outcome.Stored s blobs bytes) → Handed w s entries
   stored_own k s blobs bytes entries same outcome = own_of k s blobs bytes (client w k).job entries refl same ((ruled (client w k) (bag.behave k)).concluded (Outcome.Stored s blobs bytes) outcome)

@@ -19,9 +19,10 @@ use Rattle.repo_session.proofs.Spoken.{was_asked}
 use Rattle.repo_prune.specs.Pruning.{PruneAllows}
 use Rattle.repo_prune.proofs.ForgetRuns.{undeleted}
 use Rattle.repo_world.specs.Bag.{AskedIn, AskedAt, with_next}
-use Rattle.repo_world.specs.Clients.{Job, Prune, task_of, Allows, Gives, Concludes, Client}
+use Rattle.repo_world.specs.Clients.{task_of, Allows, Gives, Concludes, Client}
 use Rattle.repo_world.specs.Laws.{Behaves}
 use Rattle.repo_world.specs.World.{nobody}
+use Rattle.repo_world.specs.declared.jobs.Job.{Job}
 
 -- ---- traces
 
@@ -156,8 +157,8 @@ late_put es a p t i m u j n x permitted h q =
 pub record Deleting (who : Asker) (es all : Trace) (t : Token) (i : Kind) (m : Name) : Type 0 where
   pub older : Trace
   pub within : Within older es
-  pub obeys : Obeys (task_of Prune who) (Allows Prune) (Gives Prune) older
-  pub working : IsWorking (task_of Prune who) t older
+  pub obeys : Obeys (task_of Job.Prune who) (Allows Job.Prune) (Gives Job.Prune) older
+  pub working : IsWorking (task_of Job.Prune who) t older
   pub rule : PruneAllows older (Ask.Delete t i m)
   pub before : (q : ℕ) (u : Token) (j : Kind) (n : Name) (x : List ℕ) → AskedIn all q (Ask.Put u j n x) → WasAsked older (Ask.Put u j n x)
 
@@ -165,10 +166,10 @@ not_both : (a : Ask) (t : Token) (i : Kind) (m : Name) (u : Token) (j : Kind) (n
 not_both a t i m u j n x d p = absurd (cc)
 
 module _ (who : Asker) where
-  deleting_in : (es : Trace) (p : ℕ) (t : Token) (i : Kind) (m : Name) → Obeys (task_of Prune who) (Allows Prune) (Gives Prune) es → AskedIn es p (Ask.Delete t i m) → Deleting who es es t i m
+  deleting_in : (es : Trace) (p : ℕ) (t : Token) (i : Kind) (m : Name) → Obeys (task_of Job.Prune who) (Allows Job.Prune) (Gives Job.Prune) es → AskedIn es p (Ask.Delete t i m) → Deleting who es es t i m
   deleting_in [] p t i m o h = absurd h
   deleting_in (d ∷ es) p t i m o (inl h) =
-      let may : May (task_of Prune who) es (Ask.Delete t i m) = subst (λ a. May (task_of Prune who) es a) h.0 o.0 in
+      let may : May (task_of Job.Prune who) es (Ask.Delete t i m) = subst (λ a. May (task_of Job.Prune who) es a) h.0 o.0 in
       record {
         older = es;
         within = λ b s g. inr g;
@@ -188,11 +189,11 @@ module _ (who : Asker) where
         before = λ q u j n x. ⊎_elim (λ f. absurd (late_put es d.ask p t i m u j n x o.1 h f.0)) (g.before q u j n x);
       }
 
-  deleting_next : (next : Option Request) (es : Trace) (p : ℕ) (t : Token) (i : Kind) (m : Name) → Obeys (task_of Prune who) (Allows Prune) (Gives Prune) es → ((r : Request) → next ≡ Some r → IsNext (task_of Prune who) (Allows Prune) es r) → AskedIn (with_next next es) p (Ask.Delete t i m)
+  deleting_next : (next : Option Request) (es : Trace) (p : ℕ) (t : Token) (i : Kind) (m : Name) → Obeys (task_of Job.Prune who) (Allows Job.Prune) (Gives Job.Prune) es → ((r : Request) → next ≡ Some r → IsNext (task_of Job.Prune who) (Allows Job.Prune) es r) → AskedIn (with_next next es) p (Ask.Delete t i m)
       → Deleting who es (with_next next es) t i m
   deleting_next None es p t i m o may h = deleting_in es p t i m o h
   deleting_next (Some r) es p t i m o may (inl h) =
-      let w : May (task_of Prune who) es (Ask.Delete t i m) = subst (λ a. May (task_of Prune who) es a) h.0 (may r refl).may in
+      let w : May (task_of Job.Prune who) es (Ask.Delete t i m) = subst (λ a. May (task_of Job.Prune who) es a) h.0 (may r refl).may in
       record {
         older = es;
         within = λ b s g. g;
@@ -212,5 +213,5 @@ module _ (who : Asker) where
         before = λ q u j n x. ⊎_elim (λ f. absurd (late_put es r.ask p t i m u j n x (may r refl).permitted h f.0)) (g.before q u j n x);
       }
 
-pub deleting : (c : Client) (p : ℕ) (t : Token) (i : Kind) (m : Name) → IsRuled Prune c → AskedAt c p (Ask.Delete t i m) → Deleting c.who c.trace (with_next c.next c.trace) t i m
+pub deleting : (c : Client) (p : ℕ) (t : Token) (i : Kind) (m : Name) → IsRuled Job.Prune c → AskedAt c p (Ask.Delete t i m) → Deleting c.who c.trace (with_next c.next c.trace) t i m
 deleting c p t i m is h = deleting_next c.who c.next c.trace p t i m is.obeys is.pending h

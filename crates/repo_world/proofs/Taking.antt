@@ -12,7 +12,7 @@ use Rattle.repo_session.specs.Clients.{exchange, IsNext}
 use Rattle.repo_session.specs.Order.{May}
 use Rattle.repo_session.specs.Traces.{Trace, Exchanged}
 use Rattle.repo_world.specs.Bag.{AskedIn, AskedAt, with_next, StillSays, IsLawfulAsk, IsWithin, HasBag}
-use Rattle.repo_world.specs.Clients.{Job, task_of, Allows, Client, IsDutiful}
+use Rattle.repo_world.specs.Clients.{task_of, Allows, Client, IsDutiful}
 use Rattle.repo_world.specs.Events.{Takes, Starts, Crashes}
 use Rattle.repo_world.specs.Laws.{Behaves}
 use Rattle.repo_world.specs.World.{World, Asked, Said, client, nobody, Has, sends, first_of, started, crashed_one}
@@ -20,6 +20,7 @@ use Rattle.repo_world.proofs.ClientLists.{changed_set, changed_end, absent_end}
 use Rattle.repo_world.proofs.GoingOn.{moved, IsTold, GoesOn, old_told, keeps_client}
 use Rattle.repo_world.proofs.Later.{Grows, grows_with, grows_same}
 use Rattle.repo_world.proofs.Sending.{ruled, trace_asked}
+use Rattle.repo_world.specs.declared.jobs.Job.{Job}
 
 -- ---- what is sent
 

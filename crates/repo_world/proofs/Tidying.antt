@@ -53,8 +53,8 @@ use Rattle.repo_backup.specs.Folders.{nothing, tree_of}
 use Rattle.repo_prune.specs.Keeping.{Row}
 use Rattle.repo_prune.specs.Pruning.{AreCovered, AreFactsOnce, IsNeededBy, IsSettled, IsPruned, MayPutIndex}
 use Rattle.repo_world.specs.Backed.{configured, snapshot_of, AreTexts, stored, IsTidied, PruneIsARun}
-use Rattle.repo_world.specs.Clients.{Backup, Prune, task_of, Allows, Gives, Concludes, Client, IsDutiful}
-use Rattle.repo_world.specs.Events.{Event, Run}
+use Rattle.repo_world.specs.Clients.{task_of, Allows, Gives, Concludes, Client, IsDutiful}
+use Rattle.repo_world.specs.Events.{Run}
 use Rattle.repo_world.specs.Lone.{ended}
 use Rattle.repo_world.specs.World.{World, client_at, beginning, instance_of}
 use Rattle.repo_world.proofs.Backing as backup
@@ -62,6 +62,8 @@ use Rattle.repo_world.proofs.Backing.{there_now}
 use Rattle.repo_world.proofs.GivingBack.{bytes_no_dead, names_no_dead, token}
 use Rattle.repo_world.proofs.Joining.{Stepped, finished, held_end, run_more}
 use Rattle.repo_world.proofs.WrongRules.{reaches_itself}
+use Rattle.repo_world.specs.declared.jobs.Job.{Job}
+use Rattle.repo_world.specs.declared.events.Event.{Event}
 
 -- a list of one element
 pub only : {A : Type 0} (a b : A) → Contains (a ∷ []) b → a ≡ b
@@ -136,7 +138,7 @@ module _ (host : List ℕ) (time : ℕ) (config pack index snapshot : List ℕ) 
 
   module _ (w : World) (same : w.store ≡ from) where
     abbrev task : Task
-    task = task_of Prune (asker (instance_of (length w.clients)) host time)
+    task = task_of Job.Prune (asker (instance_of (length w.clients)) host time)
 
     abbrev t0 : Trace
     t0 = opened task token config
@@ -247,7 +249,7 @@ module _ (host : List ℕ) (time : ℕ) (config pack index snapshot : List ℕ) 
       lists = record { packs = listed ∷ []; reads = texts.indexed; each = λ p c. inr (subst (λ (q : PackFacts). IsKeptPack t6 q) (only listed p c) kept) };
     }
 
-    obeys : Obeys task (Allows Prune) (Gives Prune) all
+    obeys : Obeys task (Allows Job.Prune) (Gives Job.Prune) all
     obeys = (
       holds_of task token t7 works_7,
       (λ x. absurd x),
@@ -356,12 +358,12 @@ module _ (host : List ℕ) (time : ℕ) (config pack index snapshot : List ℕ) 
       counted = record { packs = []; are = refl; each = tt; blobs_are = refl; bytes_are = refl };
     }
 
-    dutiful : IsDutiful (ended (length w.clients) Prune host time all (Some (Outcome.Pruned 0 0)))
+    dutiful : IsDutiful (ended (length w.clients) Job.Prune host time all (Some (Outcome.Pruned 0 0)))
     dutiful = record {
       obeys = obeys;
       pending = λ r h. absurd (none-some r h);
       settled = λ e q. absurd (none-some (Outcome.Pruned 0 0) (sym q));
-      concluded = λ o e. subst (λ x. ends.Concludes (Concludes Prune) t7 x) (same_Some (Outcome.Pruned 0 0) o e) pruned;
+      concluded = λ o e. subst (λ x. ends.Concludes (Concludes Job.Prune) t7 x) (same_Some (Outcome.Pruned 0 0) o e) pruned;
       released = λ e o t h. absurd (held_end task t h.later (silent (Ask.Unlock token) Say.Done) t7 h.since h.held.unended tt);
       beside = λ r h o. absurd (none-some r h);
       ending = λ r h u. absurd (none-some r h);
@@ -412,7 +414,7 @@ module _ (host : List ℕ) (time : ℕ) (config pack index snapshot : List ℕ) 
     put_step : Step (store_of tokens) (Ask.Put token Kind.Index ni index) Say.Done (store_of tokens)
     put_step = inl (inr (inr (inr (texts.index_short, (λ q. none-some true (sym q)), refl, refl, (record { kept = λ k n x h. h; only = λ k n x h. inl h; here = (index, index_there) }, refl, refl, refl)))))
 
-    steps : Stepped w Prune host time tt limits w.store all (store_of (unlocked tokens token))
+    steps : Stepped w Job.Prune host time tt limits w.store all (store_of (unlocked tokens token))
     steps = (
       store_of tokens,
       (
@@ -458,14 +460,14 @@ module _ (host : List ℕ) (time : ℕ) (config pack index snapshot : List ℕ) 
   -- ---- after the backup
 
   abbrev pruner : (w : World) → w.store ≡ from → Client
-  pruner w same = ended (length w.clients) Prune host time (all w same) (Some (Outcome.Pruned 0 0))
+  pruner w same = ended (length w.clients) Job.Prune host time (all w same) (Some (Outcome.Pruned 0 0))
 
   abbrev backer : Client
-  backer = ended 0 (Backup []) host time (backup.all host time config pack index snapshot limits texts) (Some (stored snapshot))
+  backer = ended 0 (Job.Backup []) host time (backup.all host time config pack index snapshot limits texts) (Some (stored snapshot))
 
   after : (w : World) (events : List Event) → Run (beginning (configured config)) events w → (same : w.store ≡ from) → w.clients ≡ backer ∷ [] → IsTidied config snapshot
   after w events run same one =
-      let second = finished w Prune host time tt limits (silent (Ask.Unlock token) Say.Done) (t7 w same) (store_of w same (unlocked (tokens w same) token)) (Some (Outcome.Pruned 0 0)) (steps w same) (dutiful w same) in
+      let second = finished w Job.Prune host time tt limits (silent (Ask.Unlock token) Say.Done) (t7 w same) (store_of w same (unlocked (tokens w same) token)) (Some (Outcome.Pruned 0 0)) (steps w same) (dutiful w same) in
       record {
         events = events ++ second.0;
         last = _;
@@ -477,7 +479,7 @@ module _ (host : List ℕ) (time : ℕ) (config pack index snapshot : List ℕ) 
 
   tidied : IsTidied config snapshot
   tidied =
-      let first = finished (beginning (configured config)) (Backup []) host time tt limits (silent (Ask.Unlock backup.token) Say.Done) (backup.storing host time config pack index snapshot limits texts) from (Some (stored snapshot))
+      let first = finished (beginning (configured config)) (Job.Backup []) host time tt limits (silent (Ask.Unlock backup.token) Say.Done) (backup.storing host time config pack index snapshot limits texts) from (Some (stored snapshot))
       (backup.steps host time config pack index snapshot limits texts) (backup.dutiful host time config pack index snapshot limits texts) in
       after _ first.0 first.1 refl refl
 

@@ -23,9 +23,10 @@ use Rattle.repo_session.specs.declared.outcomes.Outcome.{Outcome}
 use Rattle.repo_backup.specs.Folders.{nothing, tree_of}
 use Rattle.repo_writing.specs.Writing.{bytes_of}
 use Rattle.repo_prune.specs.declared.choices.Choice.{Choice}
-use Rattle.repo_world.specs.Clients.{Restore, Forget, Prune}
-use Rattle.repo_world.specs.Events.{Event, Run}
+use Rattle.repo_world.specs.Events.{Run}
 use Rattle.repo_world.specs.World.{World, client, beginning}
+use Rattle.repo_world.specs.declared.jobs.Job.{Job}
+use Rattle.repo_world.specs.declared.events.Event.{Event}
 
 -- the store: this config, and nothing else
 abbrev pub configured : List ℕ → Store
@@ -72,7 +73,7 @@ pub record IsGivenBack (config snapshot : List ℕ) : Type 0 where
   pub last : World
   pub run : Run (beginning (configured config)) events last
   pub reported : (client last 0).outcome ≡ Some (stored snapshot)
-  pub restores : (client last 1).job ≡ Restore (naming.name snapshot)
+  pub restores : (client last 1).job ≡ Job.Restore (naming.name snapshot)
   pub complete : (client last 1).outcome ≡ Some (Outcome.Complete 0)
 
 -- with any such texts there is such a run
@@ -85,7 +86,7 @@ pub record IsTidied (config snapshot : List ℕ) : Type 0 where
   pub last : World
   pub run : Run (beginning (configured config)) events last
   pub reported : (client last 0).outcome ≡ Some (stored snapshot)
-  pub prunes : (client last 1).job ≡ Prune
+  pub prunes : (client last 1).job ≡ Job.Prune
   pub pruned : (client last 1).outcome ≡ Some (Outcome.Pruned 0 0)
 
 -- with any such texts there is such a run
@@ -97,9 +98,9 @@ pub record IsForgotten (names : Vec Name Global) (config snapshot : List ℕ) : 
   pub events : List Event
   pub last : World
   pub run : Run (beginning (configured config)) events last
-  pub forgets : (client last 1).job ≡ Forget (Choice.Names names)
+  pub forgets : (client last 1).job ≡ Job.Forget (Choice.Names names)
   pub forgotten : (client last 1).outcome ≡ Some (Outcome.Forgotten (naming.name snapshot ∷ []))
-  pub prunes : (client last 2).job ≡ Prune
+  pub prunes : (client last 2).job ≡ Job.Prune
   pub pruned : (client last 2).outcome ≡ Some (Outcome.Pruned 1 0)
   pub none_left : (k : Kind) (n : Name) → last.store.objects k n ≡ None
 

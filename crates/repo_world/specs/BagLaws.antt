@@ -9,11 +9,13 @@ use Rattle.repo_wire.specs.declared.messages.Request.{Request}
 use Rattle.repo_store.specs.StoreMachine.{Step}
 use Rattle.repo_store.specs.Stores.{Store}
 use Rattle.repo_world.specs.Bag.{IsLive, IsExclusive, HasBag}
-use Rattle.repo_world.specs.Clients.{Job}
-use Rattle.repo_world.specs.Events.{Event, Applied, Happens, Serves, Takes, Starts, Crashes, Unlocks}
+use Rattle.repo_world.specs.Events.{Happens, Serves, Takes, Starts, Crashes, Unlocks}
 use Rattle.repo_world.specs.Laws.{IsEmpty}
 use Rattle.repo_world.specs.Safe.{HandedIsOne, HasNoClash, IsSafe}
 use Rattle.repo_world.specs.World.{World, Has, Asked, Said, beginning}
+use Rattle.repo_world.specs.declared.jobs.Job.{Job}
+use Rattle.repo_world.specs.declared.events.Event.{Event}
+use Rattle.repo_world.specs.declared.events.Applied.{Applied}
 
 -- where nothing was sent the bag is in order
 abbrev pub BeginningHasBag : Type 0

@@ -20,56 +20,49 @@ use Rattle.repo_prune.specs.declared.choices.Choice.{Choice}
 use Rattle.repo_prune.specs.Forgetting.{IsNoPolicy, forget_rule}
 use Rattle.repo_prune.specs.Pruning.{prune_rule}
 use Rattle.repo_check.specs.Checking.{check_rule}
+use Rattle.repo_world.specs.declared.jobs.Job.{Job}
+use Rattle.repo_world.specs.declared.jobs.Refusal.{Refusal}
 
 -- ---- what is said of each job. (This is the place where one more sort of job joins: with its rule, and with what it is handed.)
 
--- what a client is for, with what it was handed
-pub data Job : Type 0 where
-  Backup : (entries : List Entry) → Job
-  Restore : (snapshot : Name) → Job
-  Listing : Job
-  Forget : (choice : Choice) → Job
-  Prune : Job
-  Check : Job
-
 -- the rule by which it goes
 abbrev pub rule_of : Job → Rule
-rule_of (Backup entries) = backup_rule entries
-rule_of (Restore snapshot) = restore_rule snapshot
-rule_of Listing = list_rule
-rule_of (Forget choice) = forget_rule choice
-rule_of Prune = prune_rule
-rule_of Check = check_rule
+rule_of (Job.Backup entries) = backup_rule entries
+rule_of (Job.Restore snapshot) = restore_rule snapshot
+rule_of Job.List = list_rule
+rule_of (Job.Forget choice) = forget_rule choice
+rule_of Job.Prune = prune_rule
+rule_of Job.Check = check_rule
 
 -- the entries that it was handed, if it is a backup
 abbrev pub handed_to : Job → Option (List Entry)
-handed_to (Backup entries) = Some entries
+handed_to (Job.Backup entries) = Some entries
 handed_to _ = None
 
 -- the bytes of a blob that it made of what it was handed, by the config that it read
 abbrev pub MadeOf : Job → Trace → List ℕ → Type 0
-MadeOf (Backup entries) es x = IsMadeOf entries es x
+MadeOf (Job.Backup entries) es x = IsMadeOf entries es x
 MadeOf _ es x = ⊥
 
 -- it is begun with what it is handed: entries that may be backed up; a policy that keeps something
 abbrev pub Accepts : Job → Type 0
-Accepts (Backup entries) = AreHanded entries
-Accepts (Forget choice) = ¬ IsNoPolicy choice
+Accepts (Job.Backup entries) = AreHanded entries
+Accepts (Job.Forget choice) = ¬ IsNoPolicy choice
 Accepts _ = ⊤
 
--- the number of a reason why a backup isn't begun
-abbrev pub reason_number : BackupError → ℕ
-reason_number BackupError.BadPath = 1
-reason_number BackupError.Order = 2
-reason_number BackupError.TooDeep = 3
-reason_number BackupError.TooLarge = 4
-reason_number BackupError.Memory = 5
+-- the fault of entries for which a backup isn't begun
+abbrev pub fault_of : Refusal → Option BackupError
+fault_of Refusal.BadPath = Some BackupError.BadPath
+fault_of Refusal.Order = Some BackupError.Order
+fault_of Refusal.TooDeep = Some BackupError.TooDeep
+fault_of Refusal.TooLarge = Some BackupError.TooLarge
+fault_of Refusal.NoPolicy = None
 
--- it isn't begun, for the reason of this number: the first fault of the entries; or that the policy keeps nothing
-abbrev pub Refuses : Job → ℕ → Type 0
-Refuses (Backup entries) number = (e : BackupError) × EntriesFault entries e × (number ≡ reason_number e)
-Refuses (Forget choice) number = IsNoPolicy choice × (number ≡ 1)
-Refuses _ number = ⊥
+-- it isn't begun, for this reason: the first fault of the entries; or that the policy keeps nothing
+abbrev pub Refuses : Job → Refusal → Type 0
+Refuses (Job.Backup entries) refusal = (e : BackupError) × (fault_of refusal ≡ Some e) × EntriesFault entries e
+Refuses (Job.Forget choice) refusal = IsNoPolicy choice × (refusal ≡ Refusal.NoPolicy)
+Refuses _ refusal = ⊥
 
 -- ---- clients, whatever the job
 

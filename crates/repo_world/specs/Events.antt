@@ -12,25 +12,13 @@ use Rattle.repo_store.specs.Stores.{Store, SavesTokens}
 use Rattle.repo_session.specs.declared.emissions.Emission.{Emission}
 use Rattle.repo_session.specs.declared.outcomes.Outcome.{Outcome}
 use Rattle.repo_session.specs.Clients.{AnswersNext, Answers, exchange}
-use Rattle.repo_world.specs.Clients.{Job, Accepts, Refuses, Client, IsDutiful}
+use Rattle.repo_world.specs.Clients.{Accepts, Refuses, Client, IsDutiful}
 use Rattle.repo_world.specs.World.{Message, Asked, Said, World, first_of, started, crashed_one, client, sends}
 use Rattle.repo_store.specs.Failing.{Plainly, Failing}
-
--- an event: a client starts; the message of a number is delivered; it is delivered, and a call of the device fails; somebody removes a lock; a client
--- stops for good; the store is closed and opened
-pub data Event : Type 0 where
-  Start : (job : Job) → (host : List ℕ) → (time : ℕ) → Event
-  Deliver : (message : ℕ) → Event
-  Fault : (message : ℕ) → (fail : Fail) → Event
-  Unlock : (token : Token) → Event
-  Crash : (client : ℕ) → Event
-  Restart : Event
-
--- what comes of an event: it is done; there is no such message, or no such client runs; the client isn't begun, for the reason of this number
-pub data Applied : Type 0 where
-  Done : Applied
-  Ignored : Applied
-  Refused : (number : ℕ) → Applied
+use Rattle.repo_world.specs.declared.events.Applied.{Applied}
+use Rattle.repo_world.specs.declared.events.Event.{Event}
+use Rattle.repo_world.specs.declared.jobs.Job.{Job}
+use Rattle.repo_world.specs.declared.jobs.Refusal.{Refusal}
 
 -- ---- a message is delivered
 
@@ -62,14 +50,14 @@ pub record Takes (w : World) (k : ℕ) (reply : Reply) (v : World) : Type 0 wher
 -- a reply: it is taken; or its client doesn't await it; or that client doesn't run
 abbrev pub Arrives : World → ℕ → Reply → Applied → World → Type 0
 Arrives w k reply applied v =
-    ((applied ≡ Done) × Takes w k reply v)
-    ⊎ (((applied ≡ Done) × ((client w k).crashed ≡ false) × (¬ AnswersNext (client w k).next reply) × (v ≡ w))
-    ⊎ ((applied ≡ Ignored) × ((client w k).crashed ≡ true) × (v ≡ w)))
+    ((applied ≡ Applied.Done) × Takes w k reply v)
+    ⊎ (((applied ≡ Applied.Done) × ((client w k).crashed ≡ false) × (¬ AnswersNext (client w k).next reply) × (v ≡ w))
+    ⊎ ((applied ≡ Applied.Ignored) × ((client w k).crashed ≡ true) × (v ≡ w)))
 
 -- the message, if there is one
 abbrev pub Delivers : (Store → Ask → Say → Store → Type 0) → World → Option Message → Applied → World → Type 0
-Delivers How w None applied v = (applied ≡ Ignored) × (v ≡ w)
-Delivers How w (Some (Asked k request)) applied v = (applied ≡ Done) × Serves How w k request v
+Delivers How w None applied v = (applied ≡ Applied.Ignored) × (v ≡ w)
+Delivers How w (Some (Asked k request)) applied v = (applied ≡ Applied.Done) × Serves How w k request v
 Delivers How w (Some (Said k reply)) applied v = Arrives w k reply applied v
 
 -- ---- the other events
@@ -86,7 +74,7 @@ pub record Starts (w : World) (job : Job) (host : List ℕ) (time : ℕ) (v : Wo
 
 -- it starts, or isn't begun
 abbrev pub Begins : World → Job → List ℕ → ℕ → Applied → World → Type 0
-Begins w job host time applied v = ((applied ≡ Done) × Starts w job host time v) ⊎ ((number : ℕ) × Refuses job number × (applied ≡ Refused number) × (v ≡ w))
+Begins w job host time applied v = ((applied ≡ Applied.Done) × Starts w job host time v) ⊎ ((refusal : Refusal) × Refuses job refusal × (applied ≡ Applied.Refused refusal) × (v ≡ w))
 
 -- a client stops for good
 pub record Crashes (w : World) (k : ℕ) (v : World) : Type 0 where
@@ -95,7 +83,7 @@ pub record Crashes (w : World) (k : ℕ) (v : World) : Type 0 where
 
 -- it stops, or doesn't run
 abbrev pub Stops : World → ℕ → Applied → World → Type 0
-Stops w k applied v = ((applied ≡ Done) × Crashes w k v) ⊎ ((applied ≡ Ignored) × ((client w k).crashed ≡ true) × (v ≡ w))
+Stops w k applied v = ((applied ≡ Applied.Done) × Crashes w k v) ⊎ ((applied ≡ Applied.Ignored) × ((client w k).crashed ≡ true) × (v ≡ w))
 
 -- a lock is removed: its number is neither fresh nor live from now on
 pub record Unlocks (w : World) (t : Token) (v : World) : Type 0 where
@@ -107,12 +95,12 @@ pub record Unlocks (w : World) (t : Token) (v : World) : Type 0 where
 
 -- from w the event may lead to v, and come to this
 abbrev pub Happens : Type 0 → World → Event → Applied → World → Type 0
-Happens Own w (Start job host time) applied v = Begins w job host time applied v
-Happens Own w (Deliver i) applied v = Delivers (Plainly Own) w (slice_get w.messages i) applied v
-Happens Own w (Fault i fail) applied v = Delivers (Failing Own fail) w (slice_get w.messages i) applied v
-Happens Own w (Unlock t) applied v = (applied ≡ Done) × (Unlocks w t v ⊎ (Own × (v ≡ w)))
-Happens Own w (Crash k) applied v = Stops w k applied v
-Happens Own w Restart applied v = (applied ≡ Done) × (v ≡ w)
+Happens Own w (Event.Start job host time) applied v = Begins w job host time applied v
+Happens Own w (Event.Deliver i) applied v = Delivers (Plainly Own) w (slice_get w.messages i) applied v
+Happens Own w (Event.Fault i fail) applied v = Delivers (Failing Own fail) w (slice_get w.messages i) applied v
+Happens Own w (Event.Unlock t) applied v = (applied ≡ Applied.Done) × (Unlocks w t v ⊎ (Own × (v ≡ w)))
+Happens Own w (Event.Crash k) applied v = Stops w k applied v
+Happens Own w Event.Restart applied v = (applied ≡ Applied.Done) × (v ≡ w)
 
 -- one event after another; the device may fail by itself at any time
 abbrev pub Run : World → List Event → World → Type 0

@@ -15,10 +15,12 @@ use Rattle.repo_session.specs.Askers.{asker, row_of}
 use Rattle.repo_session.specs.Clients.{exchange}
 use Rattle.repo_session.specs.declared.outcomes.End.{End}
 use Rattle.repo_session.specs.declared.outcomes.Outcome.{Outcome}
-use Rattle.repo_world.specs.Clients.{Backup, Client}
-use Rattle.repo_world.specs.Events.{Event, Start, Deliver, Fault, Unlock, Restart, Run}
+use Rattle.repo_world.specs.Clients.{Client}
+use Rattle.repo_world.specs.Events.{Run}
 use Rattle.repo_world.specs.Safe.{HasNoClash}
 use Rattle.repo_world.specs.World.{World, Asked, Said, beginning, instance_of, first_of}
+use Rattle.repo_world.specs.declared.jobs.Job.{Job}
+use Rattle.repo_world.specs.declared.events.Event.{Event}
 
 -- the client's host, and its token
 abbrev pub host : List ℕ
@@ -50,7 +52,7 @@ with_tokens tokens = record { config = None; objects = λ k n. None; tokens = to
 -- the client at its end: its lock was answered by a failure
 abbrev pub refused : Client
 refused = record {
-  job = Backup [];
+  job = Job.Backup [];
   who = asker (instance_of 0) host 5;
   trace = exchange second failed [] ∷ exchange (first_of 0) given [] ∷ [];
   next = None;
@@ -63,7 +65,7 @@ abbrev pub last : World
 last = record { store = with_tokens (unlocked (granted (issued start) row) token); clients = refused ∷ []; messages = Asked 0 (first_of 0) ∷ Said 0 given ∷ Asked 0 second ∷ Said 0 failed ∷ Said 0 done ∷ [] }
 
 abbrev pub events : List Event
-events = Start (Backup []) host 5 ∷ Deliver 0 ∷ Deliver 1 ∷ Fault 2 (Fail.Write true) ∷ Deliver 2 ∷ Deliver 3 ∷ Unlock token ∷ Restart ∷ []
+events = Event.Start (Job.Backup []) host 5 ∷ Event.Deliver 0 ∷ Event.Deliver 1 ∷ Event.Fault 2 (Fail.Write true) ∷ Event.Deliver 2 ∷ Event.Deliver 3 ∷ Event.Unlock token ∷ Event.Restart ∷ []
 
 -- these events are a run from an empty store to this world, in which nothing clashes
 abbrev pub ExampleIsARun : Type 0

@@ -14,8 +14,10 @@ use Rattle.repo_session.specs.declared.outcomes.Outcome.{Outcome}
 use Rattle.repo_world.specs.Clients.{Client, IsDutiful, handed_to}
 use Rattle.repo_world.specs.World.{World, client, nobody, beginning}
 use Rattle.repo_store.specs.Failing.{Failing}
-use Rattle.repo_world.specs.Events.{Event, Applied, Happens, Run}
+use Rattle.repo_world.specs.Events.{Happens, Run}
 use Rattle.repo_world.specs.Safe.{Handed, HandedIsOne, HasNoClash, IsThereOrAsked, IsSafe}
+use Rattle.repo_world.specs.declared.events.Event.{Event}
+use Rattle.repo_world.specs.declared.events.Applied.{Applied}
 
 -- a store without objects, before any ticket
 pub record IsEmpty (store : Store) : Type 0 where

@@ -6,9 +6,11 @@ use Rattle.repo_session.specs.Askers.{asker}
 use Rattle.repo_session.specs.Talks.{Turn, Talk, trace_of, TalkRan}
 use Rattle.repo_session.specs.Traces.{Trace}
 use Rattle.repo_session.specs.declared.outcomes.Outcome.{Outcome}
-use Rattle.repo_world.specs.Clients.{Job, Accepts, Client, IsDutiful}
-use Rattle.repo_world.specs.Events.{Event, Run}
+use Rattle.repo_world.specs.Clients.{Accepts, Client, IsDutiful}
+use Rattle.repo_world.specs.Events.{Run}
 use Rattle.repo_world.specs.World.{World, instance_of}
+use Rattle.repo_world.specs.declared.jobs.Job.{Job}
+use Rattle.repo_world.specs.declared.events.Event.{Event}
 
 -- a client that is at its end
 abbrev pub ended : ℕ → Job → List ℕ → ℕ → Trace → Option Outcome → Client

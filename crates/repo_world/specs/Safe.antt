@@ -20,8 +20,9 @@ use Rattle.repo_session.specs.declared.outcomes.Outcome.{Outcome}
 use Rattle.repo_session.specs.Rebuilding.{rebuilt, AreWhole}
 use Rattle.repo_session.specs.Soundness.{IsHeld, IsSound}
 use Rattle.repo_session.specs.Traces.{Exchanged, emitted_in}
-use Rattle.repo_world.specs.Clients.{Restore, handed_to, MadeOf}
+use Rattle.repo_world.specs.Clients.{handed_to, MadeOf}
 use Rattle.repo_world.specs.World.{World, client, Has, Asked, Said}
+use Rattle.repo_world.specs.declared.jobs.Job.{Job}
 
 -- ---- what was handed to a snapshot's backup
 
@@ -99,6 +100,6 @@ pub record IsSafe (w : World) : Type 0 where
   pub sound : IsSound w.store.objects
   pub snapshots : (s : Name) (x : List ℕ) (snapshot : Snapshot) → w.store.objects Kind.Snapshot s ≡ Some x → IsSnapshotText x snapshot
       → (entries : List Entry) × Handed w s entries × Spells snapshot.version (IsHeld w.store.objects) snapshot.tree [] entries
-  pub restored : (k : ℕ) (s : Name) (count : ℕ) → (client w k).job ≡ Restore s → (client w k).outcome ≡ Some (Outcome.Complete count)
+  pub restored : (k : ℕ) (s : Name) (count : ℕ) → (client w k).job ≡ Job.Restore s → (client w k).outcome ≡ Some (Outcome.Complete count)
       → Handed w s (rebuilt (emitted_in (client w k).trace)) × AreWhole (emitted_in (client w k).trace)
   pub stored : (k : ℕ) (s : Name) (blobs bytes : ℕ) → (client w k).outcome ≡ Some (Outcome.Stored s blobs bytes) → IsThereOrAsked w s

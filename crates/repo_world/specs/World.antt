@@ -1,5 +1,5 @@
 -- The world: a store, its clients, and all messages that were ever sent.
-use Rattle.std.specs.Prelude.{◌≡◌, ◌⊎◌, ◌∷◌, [], ℕ, true, false, List, slice_index_or, Option, Some, None}
+use Rattle.std.specs.Prelude.{◌≡◌, ◌⊎◌, ◌∷◌, [], ℕ, true, false, List, slice_index_or, cond, Option, Some, None}
 use Rattle.std.specs.Int.{to_be_bytes, w128}
 use Rattle.repo_name.specs.declared.names.Instance.{Instance}
 use Rattle.repo_wire.specs.declared.messages.Ask.{Ask}
@@ -7,7 +7,8 @@ use Rattle.repo_wire.specs.declared.messages.Reply.{Reply}
 use Rattle.repo_wire.specs.declared.messages.Request.{Request}
 use Rattle.repo_store.specs.Stores.{Store}
 use Rattle.repo_session.specs.Askers.{asker}
-use Rattle.repo_world.specs.Clients.{Job, Listing, Client}
+use Rattle.repo_world.specs.Clients.{Client}
+use Rattle.repo_world.specs.declared.jobs.Job.{Job}
 
 -- a message: a client's request, or the store's reply to it, with the client's number
 pub data Message : Type 0 where
@@ -42,7 +43,7 @@ crashed_one c = record { job = c.job; who = c.who; trace = c.trace; next = c.nex
 
 -- what stands for a client that never started
 abbrev pub nobody : Client
-nobody = record { job = Listing; who = asker (instance_of 0) [] 0; trace = []; next = None; outcome = None; crashed = true }
+nobody = record { job = Job.List; who = asker (instance_of 0) [] 0; trace = []; next = None; outcome = None; crashed = true }
 
 -- the client of a number among some
 abbrev pub client_at : List Client → ℕ → Client
@@ -51,6 +52,10 @@ client_at clients k = slice_index_or clients k nobody
 -- the client of a number
 abbrev pub client : World → ℕ → Client
 client w k = client_at w.clients k
+
+-- the request that a client waits for, until it stopped for good
+abbrev pub awaited : Client → Option Request
+awaited c = cond c.crashed None c.next
 
 -- it is one of these
 abbrev pub Has : {A : Type 0} → List A → A → Type 0

@@ -20,6 +20,8 @@
 #![tactic(auto)]
 
 mod bag_laws;
+mod events;
+mod jobs;
 mod laws;
 mod wrong_rules;
 
@@ -28,6 +30,8 @@ pub use bag_laws::{
     each_event_keeps_bag, locks_keep_bag, put_keeps_bag, reads_keep_bag, removed_locks_keep_bag,
     replies_keep_bag, starts_keep_bag,
 };
+pub use events::{Applied, Event};
+pub use jobs::{Entries, Host, HostError, Job, Refusal};
 pub use laws::{
     backup_is_a_run, each_event_keeps_reports, each_report_holds, events_only_append,
     every_run_is_safe, example_is_a_run, failing_is_a_step, forget_is_a_run, lone_talk_is_a_run,

@@ -1,0 +1,34 @@
+//! What may happen in a world, and what comes of it.
+
+use crate::jobs::{Host, Job, Refusal};
+use repo_name::Token;
+use repo_store::Fail;
+
+/// What may happen in a world. Clients and messages are numbered from 0 on, as they come.
+#[derive(Clone, Debug, Drop)]
+pub enum Event {
+    /// A client starts, under the name of its machine and at a moment, in seconds since 1970, and asks for its
+    /// ticket.
+    Start { job: Job, host: Host, time: u64 },
+    /// The message of this number is delivered.
+    Deliver(usize),
+    /// It is delivered, and the store's device fails in a call of this sort, where it is asked for one.
+    Fault { message: usize, fail: Fail },
+    /// Somebody removes the lock of this token.
+    Unlock(Token),
+    /// The client of this number stops for good.
+    Crash(usize),
+    /// The store is closed and opened: what it keeps outside its device is lost.
+    Restart,
+}
+
+/// What came of an event.
+#[derive(Clone, Copy, Debug, PartialEq, Eq)]
+pub enum Applied {
+    /// It happened.
+    Done,
+    /// There is no such message, or no such client runs. Nothing changed.
+    Ignored,
+    /// The client isn't begun, for this reason. Nothing changed.
+    Refused(Refusal),
+}
