@@ -1,0 +1,2 @@
+mod NumberLemmas
+pub mod CutLemmas

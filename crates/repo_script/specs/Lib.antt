@@ -1,0 +1,5 @@
+pub mod Cuts
+pub mod Numbers
+pub mod Tables
+pub mod Sorts
+pub mod Lines

@@ -1,0 +1,92 @@
+//! The lines of scripts.
+
+use crate::sorts::AskSort;
+use repo_name::{Text, Token};
+use repo_prune::Policy;
+use repo_store::Fail;
+use repo_tree::Entry;
+use std::marker::Model;
+
+/// The numbers of some clients. A clause sees their list.
+#[derive(Clone, Debug, Drop)]
+pub struct Clients {
+    inner: Vec<usize>,
+}
+
+impl Model for Clients {
+    ghost use Rattle.std.specs.Prelude.{ℕ, List};
+
+    ghost Value = { List ℕ };
+
+    ghost view = { λ c. c.inner.items };
+}
+
+impl Clients {
+    ghost use Rattle.std.specs.Prelude.{◌≡◌};
+
+    /// The numbers of a `Vec`.
+    pub fn of(inner: Vec<usize>) -> Clients
+        ensures { result ≡ inner.items }
+    {
+        Clients { inner }
+    }
+
+    /// The numbers, lent.
+    pub fn as_slice(&self) -> &[usize]
+        ensures { result.now ≡ self.now }
+    {
+        self.inner.as_slice()
+    }
+}
+
+/// A line of a script. Clients and messages go by their numbers, from 0 on.
+#[derive(Clone, Debug, Drop)]
+pub enum Line {
+    /// One more entry for the next backup. Its path is what stands between slashes, whether or not a path can be so.
+    Entry(Entry),
+    /// A client starts.
+    Start(Start),
+    /// This client's pending request is delivered, and then the reply to it.
+    Step(usize),
+    /// So it goes on until nothing is pending.
+    Finish(usize),
+    /// So it goes on until the pending request is of this sort, or nothing is pending.
+    Until { client: usize, sort: AskSort },
+    /// This client's last request is delivered, and the reply to nobody.
+    Late(usize),
+    /// A step in which the store's device fails so.
+    Fault { client: usize, fail: Fail },
+    /// The message of this number is delivered.
+    Deliver(usize),
+    /// Somebody removes the lock of this token.
+    Unlock(Token),
+    /// This client stops for good.
+    Crash(usize),
+    /// The store is closed and opened.
+    Restart,
+    /// Tells how things stand.
+    Report,
+    /// Each request sent so far is delivered once more, and the replies to nobody.
+    Replay,
+    /// The store deletes nothing.
+    AppendOnly,
+}
+
+/// What a client starts for.
+#[derive(Clone, Debug, Drop)]
+pub enum Start {
+    /// It backs up the entries, from a machine of this name at this moment, in seconds since 1970.
+    Backup { host: Text, time: u64 },
+    /// It restores the snapshot that this client stored.
+    Restore(usize),
+    /// It lists the snapshots.
+    List,
+    /// It removes what no snapshot needs.
+    Prune,
+    /// It tells what is at fault in the store.
+    Check,
+    /// It forgets the snapshots that these clients stored: one client or more.
+    Forget(Clients),
+    /// It forgets the snapshots that this policy doesn't keep.
+    Keep(Policy),
+}

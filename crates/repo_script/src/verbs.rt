@@ -1,0 +1,33 @@
+//! What lines and starts begin with.
+
+/// What a line begins with.
+#[derive(Clone, Copy)]
+pub enum Verb {
+    Dir,
+    File,
+    Start,
+    Step,
+    Finish,
+    Until,
+    Late,
+    Fault,
+    Deliver,
+    Unlock,
+    Crash,
+    Restart,
+    Report,
+    Replay,
+    AppendOnly,
+}
+
+/// What a client starts for.
+#[derive(Clone, Copy)]
+pub enum Purpose {
+    Backup,
+    Restore,
+    List,
+    Prune,
+    Check,
+    Forget,
+    Keep,
+}
