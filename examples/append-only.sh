@@ -2,18 +2,11 @@
 # A store that only appends: a snapshot is backed up, a forget of it is refused, a prune has nothing to do, and it is restored
 # and compared. Then the store is served as any other, and the snapshot is forgotten and pruned.
 #
-# Usage: examples/append-only.sh. VAULT=PATH runs that program in place of the one that is built.
+# Usage: examples/append-only.sh. VAULT=PATH runs that program in place of the one that is built. The port is 7078, or PORT. All
+# that it makes lies in a temporary folder, which is removed at the end.
 set -euo pipefail
-. "$(dirname "$0")/serving.sh" 7078
-
-# Runs a command of vault, and compares its status and what it says, both outputs together.
-says() {
-    local status=$1 text=$2 said got=0
-    shift 2
-    said=$("$vault" "$@" 2>&1) || got=$?
-    echo "vault $*: $said"
-    [ "$got $said" = "$status $text" ] || { echo "not as it has to be: status $got" >&2; exit 1; }
-}
+# shellcheck source=examples/serving.sh
+source "$(dirname "$0")/serving.sh" "${PORT:-7078}"
 
 mkdir "$work/photos"
 echo one >"$work/photos/one"
@@ -25,8 +18,7 @@ says 0 "pruned 0 0" prune "$address"
 says 0 "clean 1 1 1 2" check "$address"
 says 0 "complete 1" restore "$address" "$name" "$work/restored"
 diff -r "$work/photos" "$work/restored"
-kill "$server"
-wait "$server" 2>/dev/null || true
+stop
 serve 10
 says 0 "forgotten $name" forget "$address" "$name"
 says 0 "pruned 1 0" prune "$address"

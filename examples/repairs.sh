@@ -10,22 +10,11 @@ set -euo pipefail
 source "$(dirname "$0")/serving.sh" "${PORT:-7074}"
 numbers=(--min 65536 --max 1048576 --bits 17 --target 1048576)
 
-# Ends the server.
-stop() {
-    kill "$server"
-    wait "$server" 2>/dev/null || true
-    server=
-}
-
 # Starts the server, and has a command end with this status and print this text. Then ends the server.
-says() {
-    local status=0 printed
+served_says() {
     serve 10
-    printed=$("$vault" "${@:3}" 2>&1) || status=$?
+    says "$@"
     stop
-    echo "vault $3 .. : $printed"
-    # shellcheck disable=SC2053
-    [[ $status -eq $1 && $printed == $2 ]]
 }
 
 # A backup of the folder, of which this is printed; `name` is the snapshot's name then.
@@ -43,7 +32,7 @@ backs_up() {
 # Restores a snapshot, and compares.
 restores() {
     rm -rf "$work/again"
-    says 0 "complete *" restore "$address" "$1" "$work/again"
+    served_says 0 "complete *" restore "$address" "$1" "$work/again"
     diff -r "$work/photos" "$work/again"
 }
 
@@ -58,21 +47,21 @@ cd "$work/store"
 
 echo "== the ledger is lost"
 rm ledger
-says 1 "refused 10" snapshots "$address"
-says 1 "refused 10" locks "$address"
+served_says 1 "refused 10" snapshots "$address"
+served_says 1 "refused 10" locks "$address"
 printf '\0\1\0\0\0\0\0\0\0\0\0\0' >ledger
 restores "$first"
 [ "$(od -An -tx1 ledger | tr -d ' \n')" = 000100000000000100000000 ]
 
 echo "== the config is lost"
 rm config
-says 1 "refused 5" snapshots "$address"
+served_says 1 "refused 5" snapshots "$address"
 "$vault" init . "${numbers[@]}"
 restores "$first"
 
 echo "== the config is damaged"
 echo '{' >config
-says 1 badreply snapshots "$address"
+served_says 1 badreply snapshots "$address"
 "$vault" init . 2>"$work/printed" && exit 1
 [ "$(cat "$work/printed")" = exists ]
 mv config "$work/config"
@@ -83,7 +72,7 @@ backs_up "stored * 0 0"
 echo "== a copy without the empty folders"
 find . -type d -empty -delete
 echo new >"$work/photos/new"
-says 1 "refused 10" backup "$address" laptop "$work/photos"
+served_says 1 "refused 10" backup "$address" laptop "$work/photos"
 mkdir -p tmp index snapshots && printf 'data/%02x\n' $(seq 0 255) | xargs mkdir -p
 serve 10
 "$vault" unlock "$address" --remove-all
@@ -94,8 +83,8 @@ restores "$name"
 echo "== a snapshot is damaged"
 second=$name
 echo >>"snapshots/$second"
-says 1 "bad snapshot" snapshots "$address"
-says 0 "forgotten $second" forget "$address" "$second"
+served_says 1 "bad snapshot" snapshots "$address"
+served_says 0 "forgotten $second" forget "$address" "$second"
 backs_up "stored * 0 0"
 
 echo "== an index is damaged"
@@ -106,7 +95,7 @@ bad=$(find data index snapshots -type f | while read -r file; do
     [ "$(sha256sum <"$file" | cut -c 1-64)" = "${file##*/}" ] || echo "$file"
 done)
 [ "$bad" = "$index" ]
-says 1 "bad index" restore "$address" "$second" "$work/none"
+served_says 1 "bad index" restore "$address" "$second" "$work/none"
 mv "$index" "$work/bad index"
 backs_up "stored * * *"
 restores "$second"
@@ -116,14 +105,14 @@ lost=$(find data -type f -size +1024k | sort | head -n 1)
 lost=$(basename "$lost")
 rm "data/${lost:0:2}/$lost"
 rm -rf "$work/none"
-says 1 "missing pack" restore "$address" "$second" "$work/none"
+served_says 1 "missing pack" restore "$address" "$second" "$work/none"
 backs_up "stored * 0 0"
 grep -l "$lost" index/* | while read -r index; do
     python3 -c 'import json, sys; t = json.load(sys.stdin); t["packs"] = [p for p in t["packs"] if p["id"] != sys.argv[1]]; print(json.dumps(t))' "$lost" <"$index" >tmp/new
     mv tmp/new "index/$(sha256sum <tmp/new | cut -c 1-64)" && mv "$index" ..
 done
 rm -rf "$work/none"
-says 1 "missing *" restore "$address" "$second" "$work/none"
+served_says 1 "missing *" restore "$address" "$second" "$work/none"
 backs_up "stored * * *"
 restores "$second"
 
@@ -134,7 +123,7 @@ echo newer >"$work/photos/newer"
 backs_up "stored * 2 *"
 mv store before
 mv copy store
-says 1 "missing snapshot" restore "$address" "$name" "$work/gone"
+served_says 1 "missing snapshot" restore "$address" "$name" "$work/gone"
 serve 10
 "$vault" unlock "$address" --remove-all
 stop

@@ -5,12 +5,18 @@
 #   work      a temporary folder, which is removed at the end
 #   address   where the server listens: the port on the loopback
 #   serve N   serves the store in "$work/store" to N connections, with any options behind N, and waits until it listens
+#   stop      ends the server
 #   server    the server's process; a script that has seen it end sets it to nothing, else it is ended at the end
+#   says STATUS TEXT WORDS..
+#             runs vault with these words. It has to end with this status, and to print this text, a pattern of the shell,
+#             both outputs together; `said` is what it printed
+#   clean     a script's own function, if it has one, is called before the folder is removed
 address=127.0.0.1:$1
 work=$(mktemp -d)
 server=
 end() {
-    [ -z "$server" ] || kill "$server" 2>/dev/null || true
+    [ -z "$server" ] || stop
+    ! declare -F clean >/dev/null || clean
     rm -rf "$work"
 }
 trap end EXIT
@@ -27,11 +33,27 @@ serve() {
     return 1
 }
 
+stop() {
+    kill "$server" 2>/dev/null || true
+    wait "$server" 2>/dev/null || true
+    server=
+}
+
+says() {
+    local wanted=$1 text=$2 status=0
+    shift 2
+    said=$("$vault" "$@" 2>&1) || status=$?
+    local words="vault $*"
+    echo "${words//"$work/"/}: ${said//"$work/"/}"
+    # shellcheck disable=SC2053
+    [[ $status -eq $wanted && $said == $text ]] && return
+    echo "not as it has to be: status $status, and not $wanted with the text $text" >&2
+    exit 1
+}
+
 if [ -n "${VAULT:-}" ]; then
     vault=$(realpath "$VAULT")
 else
     echo "== build (the first time this proves all of it: some 40 minutes)"
-    crate=$(cd "$(dirname "${BASH_SOURCE[0]}")/../crates/vault" && pwd)
-    (cd "$crate" && rt run -- --version) >"$work/built" 2>&1 || { cat "$work/built" >&2; exit 1; }
-    vault=$crate/out/vault
+    vault=$("$(dirname "${BASH_SOURCE[0]}")/../scripts/vault.sh")
 fi

@@ -38,6 +38,7 @@ WORDS = {
     "--keep-last": "How many of the last snapshots of each host are kept.",
     "--keep-daily": "How many days, of those that have a snapshot, keep their last one of each host.",
     "--remove-all": "Removes all locks, and not the stale ones alone.",
+    "--retry": "How often it connects again at most, where a connection ends or can't be had.",
 }
 
 

@@ -15,12 +15,12 @@ _vault() {
         frames) options="" ;;
         init) options="--min --max --bits --target" folder=1 ;;
         serve) options="--connections --idle --append-only" folder=1 ;;
-        backup) options="" folder=3 ;;
-        snapshots) options="" ;;
-        restore) options="" folder=3 ;;
-        forget) options="--keep-last --keep-daily" ;;
-        prune) options="" ;;
-        check) options="" ;;
+        backup) options="--retry" folder=3 ;;
+        snapshots) options="--retry" ;;
+        restore) options="--retry" folder=3 ;;
+        forget) options="--retry --keep-last --keep-daily" ;;
+        prune) options="--retry" ;;
+        check) options="--retry" ;;
         locks) options="" ;;
         refresh) options="" ;;
         unlock) options="--remove-all" ;;

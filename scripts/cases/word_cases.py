@@ -65,6 +65,11 @@ def claps(script):
             ("vault snapshots x y", "error: unexpected argument 'y' found"),
             ("vault prune x y", "error: unexpected argument 'y' found"),
             ("vault check x y", "error: unexpected argument 'y' found"),
+            ("vault backup x h p --retry", "error: a value is required for '--retry <N>' but none was supplied"),
+            ("vault prune x --retry y", f"error: invalid value 'y' for '--retry <N>': {digits}"),
+            ("vault check x --retry 18446744073709551616",
+             "error: invalid value '18446744073709551616' for '--retry <N>': number too large to fit in target type"),
+            ("vault locks x --retry 1", "error: unexpected argument '--retry' found"),
             ("vault unlock x --all", "error: unexpected argument '--all' found")):
         script.heading("words that clap refuses")
         script.clap(words, 2, faults=fault)
@@ -78,7 +83,9 @@ def unreached(script):
     for words in ("locks nowhere", "snapshots nowhere", "refresh nowhere 1", "refresh nowhere 18446744073709551615",
                   "unlock nowhere", "unlock nowhere --remove-all", "backup nowhere " + "h" * 255 + " p", "backup nowhere h p",
                   "restore nowhere " + A.hex() + " d", "prune nowhere", "check nowhere", "forget nowhere", "forget nowhere --keep-last 1", "forget nowhere --keep-daily 4294967295",
-                  "forget nowhere " + A.hex() + " " + A.hex(), f"forget nowhere {A.hex()} --keep-last 0 {E.hex()} --keep-daily 0", "locks 127.0.0.1", "locks 127.0.0.1:x", "locks 127.0.0.1:0", "locks 127.0.0.1:65536"):
+                  "forget nowhere " + A.hex() + " " + A.hex(), f"forget nowhere {A.hex()} --keep-last 0 {E.hex()} --keep-daily 0", "locks 127.0.0.1", "locks 127.0.0.1:x", "locks 127.0.0.1:0", "locks 127.0.0.1:65536",
+                  "backup nowhere h p --retry 0", "snapshots nowhere --retry 1", "restore nowhere " + A.hex() + " d --retry 2", "forget nowhere --retry 3",
+                  "prune nowhere --retry 4", "check nowhere --retry 5"):
         script.heading("an address that can't be connected to")
         script.vault("vault " + words)
         script.ended(1, "", "not reached\n")

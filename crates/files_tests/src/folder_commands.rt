@@ -5,8 +5,9 @@ use crate::runs::{CALLER, Run, run_or_none};
 use crate::sockets::taken_port;
 use crate::yards::{Yard, text_or_none};
 use repo_name::name_of;
-use repo_prog::{backup_command, restore_command};
-use std::alloc::{AllocError, Global};
+use repo_prog::{Dial, backup_command, restore_command, restore_over};
+use std::alloc::{AllocError, AllocGlobal, Global};
+use std::fs::Files;
 use std::io;
 use std::io::Read;
 use std::net::{OpenListener, TcpListener};
@@ -31,8 +32,8 @@ fn backed_up(rt: HostRuntime, folder: &str) -> Result<Run, AllocError> {
 }
 
 /// A restore of the snapshot of a tree into a folder, over a reader of the replies.
-pub(crate) fn restored<R: Read>(
-    rt: HostRuntime,
+pub(crate) fn restored<T: Files + AllocGlobal + Clone + Drop, R: Read>(
+    rt: &T,
     tree: &str,
     folder: &str,
     replies: &mut R,
@@ -40,7 +41,7 @@ pub(crate) fn restored<R: Read>(
     let name = name_of(snapshot(rt.alloc(), tree)?.as_bytes());
     let mut run = Run::new(rt.alloc());
     run.status = restore_command(
-        &rt,
+        rt,
         &CALLER,
         name,
         folder,
@@ -66,9 +67,52 @@ fn stored_with(alloc: Global, code: u64, fault: &str) -> Result<String, AllocErr
 }
 
 /// A restore of the tree of one file into a folder.
-fn file_restored(rt: HostRuntime, target: &str) -> Result<Run, AllocError> {
+pub(crate) fn file_restored<T: Files + AllocGlobal + Clone + Drop>(
+    rt: &T,
+    target: &str,
+) -> Result<Run, AllocError> {
     let replies = one_file(rt.alloc())?;
     restored(rt, FILE_TREE, target, &mut replies.as_slice())
+}
+
+/// A connection that brings these replies, and that is had once.
+#[derive(Drop)]
+struct Once<'a> {
+    replies: Option<&'a [u8]>,
+    alloc: Global,
+}
+
+impl<'a> Dial for Once<'a> {
+    ghost use Rattle.std.specs.Prelude.{None};
+
+    type Reader = &'a [u8];
+
+    type Writer = Vec<u8>;
+
+    ghost coming = { λ _. None };
+
+    fn dial(&mut self) -> Option<(&'a [u8], Vec<u8>)> {
+        let replies = self.replies.take()?;
+        Some((replies, Vec::new(self.alloc)))
+    }
+}
+
+/// The same over a connection that is made for it.
+pub(crate) fn file_restored_over<T: Files + AllocGlobal + Clone + Drop>(
+    rt: &T,
+    target: &str,
+) -> Result<Run, AllocError> {
+    let alloc = rt.alloc();
+    let replies = one_file(alloc)?;
+    let mut once = Once {
+        replies: Some(replies.as_slice()),
+        alloc,
+    };
+    let name = name_of(snapshot(alloc, FILE_TREE)?.as_bytes());
+    let mut run = Run::new(alloc);
+    let (o, f) = (&mut run.output, &mut run.faults);
+    run.status = restore_over(rt, &CALLER, name, target, &mut once, 0, o, f);
+    Ok(run)
 }
 
 /// Whether the next connection of a listener ends without a byte.
@@ -137,7 +181,7 @@ impl Yard {
 
     /// The run of a restore of a file into a folder below this one.
     fn file_run(&self, name: &str) -> Run {
-        let run = file_restored(self.rt, self.place(name).as_str());
+        let run = file_restored(&self.rt, self.place(name).as_str());
         run_or_none(self.rt.alloc(), run)
     }
 

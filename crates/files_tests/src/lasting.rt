@@ -106,7 +106,7 @@ fn a_making_that_stops_is_made_whole(rt: HostRuntime) {
 }
 
 /// The path of the folder in which a path stands.
-fn parent_of(path: &str) -> &str {
+pub(crate) fn parent_of(path: &str) -> &str {
     match path.rsplit_once('/') {
         Some((parent, _)) => parent,
         None => ".",
@@ -118,8 +118,8 @@ fn is_temporary(path: &str) -> bool {
     parent_of(path).ends_with("/tmp")
 }
 
-/// Whether a folder is synced in these steps.
-fn is_synced(steps: &[Step], path: &str) -> bool {
+/// Whether a file or folder is synced in these steps.
+pub(crate) fn is_synced(steps: &[Step], path: &str) -> bool {
     steps.iter().any(|step| step.what == What::Sync && step.path.as_str() == path)
 }
 

@@ -35,6 +35,8 @@ mod restorers;
 #[cfg(test)]
 mod restoring;
 #[cfg(test)]
+mod retrying;
+#[cfg(test)]
 mod runs;
 #[cfg(test)]
 mod scanning;

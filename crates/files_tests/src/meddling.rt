@@ -60,7 +60,7 @@ fn meddled(rt: HostRuntime, root: &str, way: &str) -> Result<Run, AllocError> {
         path: Some(way),
         left: replies.as_slice(),
     };
-    restored(rt, tree.as_str(), root, &mut reader)
+    restored(&rt, tree.as_str(), root, &mut reader)
 }
 
 impl Yard {

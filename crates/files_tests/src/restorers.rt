@@ -1,14 +1,21 @@
 //! Steps of a restorer into a real folder.
 
 use crate::cutting::Cut;
+use crate::folder_commands::{file_restored, file_restored_over};
 use crate::fuses::{Fuse, Step, What};
+use crate::lasting::{is_synced, parent_of};
+use crate::runs::Run;
 use crate::yards::Yard;
 use repo_files::{Restorer, RestorerError};
 use repo_name::{Bytes, Text};
+use repo_prog::Status;
 use repo_session::Emission;
 use repo_tree::Path;
 use std::alloc::{AllocError, AllocGlobal, Global};
 use std::fs::Files;
+
+/// A directory with a file in it, and a file beside it.
+const PARTS: &str = "dir deep\nfile deep/a\npiece abc\npiece def\nclose\nfile b\npiece x\nclose";
 
 /// The path of these components, which stand between `/`.
 fn path(alloc: Global, components: &str) -> Result<Path, AllocError> {
@@ -64,6 +71,43 @@ fn written_by(files: Cut<'_>, root: &str) -> u64 {
             written(&mut restorer, alloc, "file a\npiece abc\npiece def\nclose").unwrap_or(9)
         }
         Err(_) => 0,
+    }
+}
+
+/// What restores.
+#[derive(Clone, Copy)]
+pub enum Way {
+    /// A restorer, which is given the parts.
+    Parts,
+    /// The command, over a connection that is there, of a tree with one file.
+    Command,
+    /// The same, over a connection that is made for it.
+    Dialed,
+}
+
+/// Whether a restore over a file system tells that it is complete.
+fn is_ended_by(way: Way, files: Cut<'_>, root: &str) -> bool {
+    match way {
+        Way::Parts => are_ended_by(files, root),
+        Way::Command => is_complete(file_restored(&files, root)),
+        Way::Dialed => is_complete(file_restored_over(&files, root)),
+    }
+}
+
+/// Whether a command told that its restore is complete.
+fn is_complete(run: Result<Run, AllocError>) -> bool {
+    match run {
+        Ok(run) => run.status == Status::Done,
+        Err(_) => false,
+    }
+}
+
+/// Whether a restorer over a file system takes the parts and tells its end.
+fn are_ended_by(files: Cut<'_>, root: &str) -> bool {
+    let alloc = files.alloc();
+    match Restorer::new(files, root) {
+        Ok(mut restorer) => written(&mut restorer, alloc, PARTS) == Ok(8) && restorer.finish(),
+        Err(_) => false,
     }
 }
 
@@ -129,19 +173,61 @@ impl Yard {
         self.count(is_so);
     }
 
-    /// On a machine that stops after so many calls a file that is written is there, whole and synced before it
-    /// got its name, or isn't there.
+    /// On a machine that stops after so many calls a file that is written is there whole, or isn't there.
     pub(crate) fn stops_writing(&mut self, calls: u64) {
         let fuse = Fuse::new(self.rt.alloc(), calls);
         let count = written_by(Cut::new(self.rt, &fuse), self.root.as_str());
         let is_so = match self.text("a") {
-            Ok(text) => text.as_str() == "abcdef" && was_synced(fuse.steps().as_slice()),
-            Err(_) => calls < 9 && count < 4,
+            Ok(text) => text.as_str() == "abcdef",
+            Err(_) => calls < 30 && count < 4,
         };
         self.count(is_so);
         self.count(count <= 4);
         self.clears("");
         self.makes("");
+    }
+
+    /// On a machine that stops after so many calls a restore tells its end only where all that it made is on the
+    /// disk: whether it does.
+    fn ends_after(&mut self, way: Way, calls: u64) -> bool {
+        let fuse = Fuse::new(self.rt.alloc(), calls);
+        let target = self.place("above/target");
+        let is_ended = is_ended_by(way, Cut::new(self.rt, &fuse), target.as_str());
+        self.count(!is_ended || is_on_disk(fuse.steps().as_slice()));
+        is_ended
+    }
+
+    /// It stops after each number of calls, until the end is told: of some calls for each entry, and for the two
+    /// folders that are made above them.
+    pub(crate) fn stops_restoring(&mut self, way: Way) {
+        let (mut is_ended, mut last) = (false, 0u64);
+        for calls in 0..200u64 {
+            if !is_ended {
+                self.clears("");
+                self.makes("");
+                is_ended = self.ends_after(way, calls);
+                last = calls;
+            }
+        }
+        self.count(is_ended && last > 10);
+    }
+
+    /// A restorer that took these parts tells its end, or doesn't, and takes nothing more.
+    pub(crate) fn ends(&mut self, lines: &str, wanted: bool) {
+        match self.restorer("target") {
+            Some(mut restorer) => self.ends_once(&mut restorer, lines, wanted),
+            None => self.count(false),
+        }
+    }
+
+    /// The same of this restorer.
+    fn ends_once(&mut self, restorer: &mut Restorer<HostRuntime>, lines: &str, wanted: bool) {
+        let _ = written(restorer, self.rt.alloc(), lines);
+        let is_ended = restorer.finish();
+        self.count(is_ended == wanted);
+        self.goes_on(restorer, "dir more", 0);
+        let is_ended = restorer.finish();
+        self.count(!is_ended);
     }
 
     /// A restorer is in the midst of a file, and ends.
@@ -182,16 +268,19 @@ impl Yard {
     }
 }
 
-/// Whether the last of these steps before a file gets its name is its sync.
-fn was_synced(steps: &[Step]) -> bool {
-    let mut is_synced = false;
-    for step in steps {
-        match step.what {
-            What::Write => is_synced = false,
-            What::Sync => is_synced = true,
-            What::Come => return is_synced,
-            _ => {}
+/// Whether all that these steps of a restore made is on the disk at their end: each file was synced after it got its
+/// name, and each folder after a name came into it.
+fn is_on_disk(steps: &[Step]) -> bool {
+    for (i, step) in steps.iter().enumerate() {
+        let (path, after) = (step.path.as_str(), &steps[i..]);
+        let lasts = match step.what {
+            What::Make => is_synced(after, path) && is_synced(after, parent_of(path)),
+            What::Come => is_synced(after, path) && is_synced(after, parent_of(path)),
+            _ => true,
+        };
+        if !lasts {
+            return false;
         }
     }
-    false
+    true
 }

@@ -1,6 +1,6 @@
 //! What a restorer writes into a real folder.
 
-use crate::restorers::refusal;
+use crate::restorers::{Way, refusal};
 use crate::yards::Yard;
 use repo_files::RestorerError;
 use std::panic::Expect;
@@ -92,8 +92,42 @@ fn an_entry_may_have_a_temporary_name(rt: HostRuntime) {
 #[test]
 fn a_writing_that_stops_leaves_no_half_file(rt: HostRuntime) {
     let mut yard = Yard::empty(rt, "half").expect(&rt, "no folder");
-    for calls in 0..20u64 {
+    for calls in 0..40u64 {
         yard.stops_writing(calls);
     }
+    yard.end(&rt);
+}
+
+#[test]
+fn what_a_restore_tells_is_on_the_disk(rt: HostRuntime) {
+    let mut yard = Yard::empty(rt, "ended").expect(&rt, "no folder");
+    yard.stops_restoring(Way::Parts);
+    yard.has("above/target/deep/a", "abcdef");
+    yard.has("above/target/b", "x");
+    yard.holds("above/target", 2);
+    yard.end(&rt);
+}
+
+#[test]
+fn what_a_command_tells_as_complete_is_on_the_disk(rt: HostRuntime) {
+    let mut yard = Yard::empty(rt, "completed").expect(&rt, "no folder");
+    for way in [Way::Command, Way::Dialed] {
+        yard.stops_restoring(way);
+        yard.has("above/target/x", "abc");
+        yard.holds("above/target", 1);
+    }
+    yard.end(&rt);
+}
+
+#[test]
+fn an_end_is_told_once_and_of_whole_files(rt: HostRuntime) {
+    let mut yard = Yard::empty(rt, "ends").expect(&rt, "no folder");
+    yard.ends("", true);
+    yard.ends("dir a\nfile b\npiece abc\nclose", true);
+    yard.clears("target");
+    yard.ends("dir a\nfile b\npiece abc", false);
+    yard.holds("target", 1);
+    yard.clears("target");
+    yard.ends("dir a\nclose", false);
     yard.end(&rt);
 }

@@ -1,6 +1,6 @@
 //! Files that are written under another name until they are whole.
 
-use std::fs::{Files, OpenFile};
+use std::fs::Files;
 use std::io::{ErrorKind, Write};
 use std::{fs, io};
 
@@ -29,10 +29,10 @@ pub fn fill<R: Files>(
     }
 }
 
-/// Lets the file stand in its place, once all its bytes are on the disk. On an error it is removed.
-pub fn finish<R: Files>(rt: &R, draft: Draft<R::File>) -> io::Result<()> {
-    match settle(rt, &draft) {
-        Ok(()) => Ok(()),
+/// Lets the file stand in its place, and gives that. On an error it is removed.
+pub fn settle<R: Files>(rt: &R, draft: Draft<R::File>) -> io::Result<String> {
+    match give_name(rt, &draft) {
+        Ok(()) => Ok(draft.place),
         Err(error) => {
             remove(rt, draft);
             Err(error)
@@ -40,9 +40,8 @@ pub fn finish<R: Files>(rt: &R, draft: Draft<R::File>) -> io::Result<()> {
     }
 }
 
-/// Syncs the file and gives it its name, which nothing has.
-fn settle<R: Files>(rt: &R, draft: &Draft<R::File>) -> io::Result<()> {
-    draft.file.sync_all()?;
+/// Gives the file its name, which nothing has.
+fn give_name<R: Files>(rt: &R, draft: &Draft<R::File>) -> io::Result<()> {
     match fs::symlink_metadata(rt, draft.place.as_str()) {
         Ok(_) => Err(io::Error::from(ErrorKind::AlreadyExists)),
         Err(error) if error.kind() == ErrorKind::NotFound => {

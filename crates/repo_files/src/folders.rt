@@ -89,7 +89,7 @@ impl<R: Files + AllocGlobal + Clone + Drop> Folder<R> {
     /// Syncs the folder of this path in it, so that the names in it last.
     pub fn sync(&self, below: &str) -> io::Result<()> {
         let path = self.path(below, "")?;
-        sync_folder(&self.rt, path.as_str())
+        sync_at(&self.rt, path.as_str())
     }
 
     /// Removes the files whose writing was cut off, as far as that can be done. They do no harm.
@@ -152,7 +152,7 @@ impl<R: Files + AllocGlobal + Clone + Drop> Folder<R> {
             let _ = fs::remove_file(&self.rt, paths.temporary.as_str());
             return Err(error);
         }
-        sync_folder(&self.rt, paths.folder.as_str())
+        sync_at(&self.rt, paths.folder.as_str())
     }
 
     /// Writes a file at its temporary path, synced, and renames it into its place.
@@ -168,7 +168,7 @@ impl<R: Files + AllocGlobal + Clone + Drop> Folder<R> {
     pub fn remove(&self, paths: &Paths) -> io::Result<()> {
         match fs::remove_file(&self.rt, paths.file.as_str()) {
             Err(error) if error.kind() != ErrorKind::NotFound => Err(error),
-            _ => sync_folder(&self.rt, paths.folder.as_str()),
+            _ => sync_at(&self.rt, paths.folder.as_str()),
         }
     }
 
@@ -209,8 +209,8 @@ fn is_folder<R: Files>(rt: &R, path: &str) -> bool {
     }
 }
 
-/// Syncs a folder, so that the names in it last.
-fn sync_folder<R: Files>(rt: &R, path: &str) -> io::Result<()> {
+/// Syncs what is at a path: a file, so that its bytes last, or a folder, so that the names in it do.
+pub fn sync_at<R: Files>(rt: &R, path: &str) -> io::Result<()> {
     File::open(rt, path)?.sync_all()
 }
 
@@ -218,10 +218,10 @@ fn sync_folder<R: Files>(rt: &R, path: &str) -> io::Result<()> {
 /// and the one that it stands in can't be synced, that is let be.
 fn make_lasting<R: Files>(rt: &R, path: &str) -> io::Result<()> {
     match fs::create_dir(rt, path) {
-        Ok(()) => sync_folder(rt, parent_of(path)),
+        Ok(()) => sync_at(rt, parent_of(path)),
         Err(error) if !is_folder(rt, path) => Err(error),
         Err(_) => {
-            let _ = sync_folder(rt, parent_of(path));
+            let _ = sync_at(rt, parent_of(path));
             Ok(())
         }
     }

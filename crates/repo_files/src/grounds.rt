@@ -5,10 +5,11 @@ ghost use Rattle.repo_files.specs.Places.{place_of};
 ghost use Rattle.repo_tree.specs.Paths.{IsPath};
 
 use crate::drafts::Draft;
+use crate::folders::{Folder, sync_at};
 use crate::places::{place_below, without_slash};
 use repo_tree::{Path, is_path};
 use std::alloc::{AllocError, AllocGlobal};
-use std::fs::{File, Files};
+use std::fs::{File, Files, OpenFile};
 use std::io::ErrorKind;
 use std::{fs, io};
 
@@ -23,13 +24,16 @@ pub struct Ground<R> {
     folder: String,
     /// The number of the next temporary name.
     number: u64,
+    /// The places of all that was made, which are synced at the end: the folder's own, and those of the files
+    /// and directories in it.
+    made: Vec<String>,
 }
 
 impl<R: Files + AllocGlobal + Clone + Drop> Ground<R> {
     /// The folder of this path, where nothing is in it; else `None`. It is made where it isn't there, with
-    /// all above it.
+    /// all above it, so that it lasts.
     pub fn of(rt: R, folder: &str) -> io::Result<Option<Ground<R>>> {
-        fs::create_dir_all(&rt, folder)?;
+        Folder::of(rt.clone()?, folder)?.make_whole()?;
         let is_empty = match fs::read_dir(&rt, folder)?.next() {
             None => true,
             Some(Ok(_)) => false,
@@ -39,11 +43,14 @@ impl<R: Files + AllocGlobal + Clone + Drop> Ground<R> {
         if !is_empty {
             return Ok(None);
         }
+        let mut made = Vec::new(rt.alloc());
+        made.push(String::from_str(rt.alloc(), folder)?)?;
         let folder = String::from_str(rt.alloc(), without_slash(folder))?;
         Ok(Some(Ground {
             rt,
             folder,
             number: 0,
+            made,
         }))
     }
 
@@ -61,14 +68,32 @@ impl<R: Files + AllocGlobal + Clone + Drop> Ground<R> {
     }
 
     /// Makes a directory, which isn't there yet.
-    pub fn make(&self, path: &Path) -> io::Result<()>
+    pub fn make(&mut self, path: &Path) -> io::Result<()>
         ensures { OnOk result (IsPath path.now) }
     {
         let place = self.place(path)?;
-        fs::create_dir(&self.rt, place.as_str())
+        fs::create_dir(&self.rt, place.as_str())?;
+        self.note(place)
+    }
+
+    /// Notes the place of a file or directory that was made.
+    pub fn note(&mut self, place: String) -> io::Result<()> {
+        self.made.push(place)?;
+        Ok(())
+    }
+
+    /// Syncs all that was made, so that it lasts.
+    pub fn sync(&self) -> io::Result<()> {
+        for place in &self.made {
+            sync_at(&self.rt, place.as_str())?;
+        }
+        Ok(())
     }
 
     /// Begins a file, under the first temporary name that isn't taken.
+    ///
+    /// The file is cut to no bytes, though it has none: of a file that was cut so, file systems that put off
+    /// choosing the blocks of a new file begin to write at its end, and the sync then finds it written.
     pub fn begin(&mut self, path: &Path) -> io::Result<Draft<R::File>>
         ensures { OnOk result (IsPath path.now) }
     {
@@ -81,6 +106,7 @@ impl<R: Files + AllocGlobal + Clone + Drop> Ground<R> {
             }
             match File::create_new(&self.rt, temporary.as_str()) {
                 Ok(file) => {
+                    let _ = file.set_len(0);
                     return Ok(Draft {
                         file,
                         temporary,

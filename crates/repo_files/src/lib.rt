@@ -3,12 +3,12 @@
 //!
 //! [`scan`] tells what a folder holds, as a backup wants it: its files, whole, and its directories. Links,
 //! sockets and the like are left out, and listed. A [`Restorer`] writes what a restore gives out: each file
-//! under a temporary name until it is whole and on the disk. A [`DirShelf`] keeps `config`, `ledger`, and
-//! the objects as files named by their names in lower-case hexadecimal, packs under `data/` and their first
-//! two digits, indexes under `index/`, snapshots under `snapshots/`, as restic's design document has them.
-//! A file is written under `tmp/`, synced, renamed into its place, and its folder synced, before the call
-//! is acknowledged. Files of other names are passed over. A shelf holds its folder, by a lock on a file, so
-//! that there is one at a time, and touches nothing there that isn't a store's own.
+//! under a temporary name until it is whole. At the end it syncs all of it. A [`DirShelf`] keeps `config`,
+//! `ledger`, and the objects as files named by their names in lower-case hexadecimal, packs under `data/` and
+//! their first two digits, indexes under `index/`, snapshots under `snapshots/`, as restic's design document
+//! has them. A file is written under `tmp/`, synced, renamed into its place, and its folder synced, before the
+//! call is acknowledged. Files of other names are passed over. A shelf holds its folder, by a lock on a file,
+//! so that there is one at a time, and touches nothing there that isn't a store's own.
 //!
 //! Promised: no call goes wrong in memory, and each ends. A scan's entries have paths of components, each
 //! above the one before it, whatever the file system answers. A restorer writes at such paths alone, so at

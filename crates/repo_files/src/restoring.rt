@@ -4,7 +4,7 @@ ghost use Rattle.std.specs.Prelude.{◌≡◌, IfOk, IsTrue, IsFalse};
 ghost use Rattle.repo_files.specs.Restoring.{standing_of, Takes};
 ghost use Rattle.repo_files.specs.declared.phases.Standing.{Standing};
 
-use crate::drafts::{fill, finish, remove};
+use crate::drafts::{fill, remove, settle};
 use crate::grounds::Ground;
 use crate::phases::Phase;
 use repo_session::Emission;
@@ -17,17 +17,20 @@ use std::{io, mem};
 /// Writes what a restore gives out into a folder. A clause sees where it stands.
 ///
 /// A file is written under a temporary name, `!restoring-` and a number, in the directory where it is to
-/// stand, is synced when it ends, and only then gets its own name. So what stands under its own name is
-/// whole, whenever the writing is cut off. A temporary file is made exclusively: where its name is taken,
-/// by an entry that was restored before, the next number is tried. It has its name only until its own
-/// file ends, so no later entry meets it. Where the writing is cut off it may stay; then it can't be taken
-/// for an entry of the snapshot, since names come ascending, and one that is below the open file's and
-/// isn't there doesn't come any more. (Of a file whose name begins with a space, `!` or a control
-/// character this isn't so, if the snapshot holds a file of that temporary name beside it.)
+/// stand, and gets its own name when it ends. So what stands under its own name is whole, whenever the
+/// program is ended. A temporary file is made exclusively: where its name is taken, by an entry that was
+/// restored before, the next number is tried. It has its name only until its own file ends, so no later
+/// entry meets it. Where the writing is cut off it may stay; then it can't be taken for an entry of the
+/// snapshot, since names come ascending, and one that is below the open file's and isn't there doesn't
+/// come any more. (Of a file whose name begins with a space, `!` or a control character this isn't so, if
+/// the snapshot holds a file of that temporary name beside it.)
 ///
 /// Nothing that is there is written to or replaced: each directory is made, each file is new, and no link
-/// can be on the way, as long as no other program puts one there. That a file's name lasts over a power
-/// cut isn't promised: the directories aren't synced.
+/// can be on the way, as long as no other program puts one there.
+///
+/// Nothing is synced while it is written: a restore that is cut off is begun anew. [`Restorer::finish`] syncs
+/// every file and directory, each once, and only then is all of it on the disk. What a power cut before that
+/// leaves may be any part, a file under its own name with fewer bytes than it has among it.
 pub struct Restorer<R: Files> {
     ground: Ground<R>,
     phase: Phase<R::File>,
@@ -86,6 +89,22 @@ impl<R: Files + AllocGlobal + Clone + Drop> Restorer<R> {
             Err(_) => false,
         }
     }
+
+    /// Syncs all that was written, and takes no more. It answers false where something can't be synced, where
+    /// a file is open, which is removed then, and where a part was refused before.
+    pub fn finish(&mut self) -> bool
+        ensures whole { IsTrue result → self.old ≡ Standing.Between }
+        ensures ended { self.new ≡ Standing.Stopped }
+    {
+        match mem::replace(&mut self.phase, Phase::Stopped) {
+            Phase::Between => self.ground.sync().is_ok(),
+            Phase::InFile(draft) => {
+                remove(&self.ground.rt, draft);
+                false
+            }
+            Phase::Stopped => false,
+        }
+    }
 }
 
 /// Writes a part, and tells what follows.
@@ -106,7 +125,8 @@ fn step<R: Files + AllocGlobal + Clone + Drop>(
             Ok(Phase::InFile(fill(&ground.rt, draft, bytes.as_slice())?))
         }
         (Phase::InFile(draft), Emission::Close) => {
-            finish(&ground.rt, draft)?;
+            let place = settle(&ground.rt, draft)?;
+            ground.note(place)?;
             Ok(Phase::Between)
         }
         (Phase::InFile(draft), _) => {

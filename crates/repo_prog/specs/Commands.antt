@@ -47,9 +47,7 @@ IsErrand (Errand.Restore name folder) = ⊤
 IsErrand (Errand.Forget choice) = ⊤
 IsErrand Errand.Prune = ⊤
 IsErrand Errand.Check = ⊤
-IsErrand Errand.Locks = ⊤
-IsErrand (Errand.Refresh token) = ⊤
-IsErrand (Errand.Unlock all) = ⊤
+IsErrand (Errand.Locks errand) = ⊤
 
 -- a time after which an idle connection ends, if there is one: it isn't 0
 abbrev pub IsIdle : Option Duration → Type 0
@@ -61,7 +59,7 @@ abbrev pub IsOrder : Order → Type 0
 IsOrder Order.Frames = ⊤
 IsOrder (Order.Init folder making) = IsTarget making.target
 IsOrder (Order.Serve folder address serving) = (1 ≤ serving.connections) × IsIdle serving.idle
-IsOrder (Order.Client address errand) = IsErrand errand
+IsOrder (Order.Client address errand retry) = IsErrand errand
 
 -- what the command gives for this input: all that was asked, or what one of the errors leaves
 abbrev pub FramesGives : List ℕ → Option (List ℕ) → Status → Option (List ℕ) → Type 0

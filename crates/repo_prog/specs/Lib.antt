@@ -5,3 +5,5 @@ pub mod Talks
 pub mod Asking
 pub mod Tellings
 pub mod Jobs
+pub mod Dialing
+pub mod Retrying

@@ -24,7 +24,7 @@ use std::fs::Files;
 use std::io::{Read, Write};
 
 /// Tells what a scan left out, a line each.
-fn tell_skipped<F: Write>(skipped: &[Skipped], faults: &mut F) {
+pub fn tell_skipped<F: Write>(skipped: &[Skipped], faults: &mut F) {
     for left in skipped {
         match left {
             Skipped::Other(path) => tell(faults, &format_args!("skipped {path}")),
@@ -36,7 +36,7 @@ fn tell_skipped<F: Write>(skipped: &[Skipped], faults: &mut F) {
 }
 
 /// Tells why entries can't be backed up.
-fn not_begun<F: Write>(error: BackupError, faults: &mut F) -> Status
+pub fn cannot_begin<F: Write>(error: BackupError, faults: &mut F) -> Status
     ensures { result ≡ Status.Failed }
 {
     match error {
@@ -49,7 +49,7 @@ fn not_begun<F: Write>(error: BackupError, faults: &mut F) -> Status
 }
 
 /// Writes the line of a snapshot that was stored, or tells how the job ended else.
-fn show_stored<O: Write, F: Write>(
+pub fn show_stored<O: Write, F: Write>(
     alloc: Global,
     outcome: Option<&Outcome>,
     output: &mut O,
@@ -89,7 +89,7 @@ pub fn backup_entries<R: Read, W: Write, O: Write, F: Write>(
     };
     let mut backup = match Backup::new(alloc, who, entries) {
         Ok(backup) => backup,
-        Err(error) => return not_begun(error, faults),
+        Err(error) => return cannot_begin(error, faults),
     };
     match drive(alloc, &mut backup, reader, writer, |_| true) {
         Ok(_) => show_stored(alloc, backup.outcome(), output, faults),

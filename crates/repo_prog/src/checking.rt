@@ -56,7 +56,7 @@ fn show_found<O: Write, F: Write>(
 }
 
 /// Writes what a check found, and where things are at fault the status is `Flawed`; or tells how the job ended else.
-fn show_checked<O: Write, F: Write>(
+pub fn show_checked<O: Write, F: Write>(
     alloc: Global,
     outcome: Option<&Outcome>,
     output: &mut O,

@@ -83,9 +83,11 @@ where
             output,
             faults,
         ),
-        Order::Client { address, errand } => {
-            run_errand(rt, address.as_str(), errand, output, faults)
-        }
+        Order::Client {
+            address,
+            errand,
+            retry,
+        } => run_errand(rt, address.as_str(), errand, retry, output, faults),
     }
 }
 

@@ -4,29 +4,52 @@ ghost use Rattle.std.specs.Prelude.{◌≡◌, ◌≢◌};
 ghost use Rattle.repo_prog.specs.Commands.{IsErrand};
 ghost use Rattle.repo_prog.specs.declared.status.Status.{Status};
 
-use crate::backing::backup_command;
 use crate::callers::{Caller, caller_now};
-use crate::checking::check_command;
-use crate::errands::Errand;
-use crate::forgetting::forget_command;
+use crate::dialing::{Address, Dial};
+use crate::errands::{Errand, LockErrand};
 use crate::locking::{locks_command, refresh_command, unlock_command};
-use crate::pruning::prune_command;
-use crate::restoring::{restore_command, snapshots_command};
+use crate::retrying::{
+    backup_over, check_over, forget_over, prune_over, restore_over, snapshots_over,
+};
 use crate::status::{Status, failed};
-use std::alloc::AllocGlobal;
+use std::alloc::{AllocGlobal, Global};
 use std::fs::Files;
-use std::io::{Read, Write};
-use std::net::{Net, OpenStream, TcpStream};
+use std::io::Write;
+use std::net::Net;
 use std::random::RandomSource;
 use std::rt::Clock;
 
-/// Does an errand over a connection.
-pub fn do_errand<T: Files + AllocGlobal + Clone + Drop, R: Read, W: Write, O: Write, F: Write>(
+/// Asks about the locks, over the next connection.
+fn ask_locks<D: Dial, O: Write, F: Write>(
+    alloc: Global,
+    caller: &Caller,
+    errand: LockErrand,
+    dial: &mut D,
+    output: &mut O,
+    faults: &mut F,
+) -> Status
+    ensures silent { result ≡ Status.Done → faults.new ≡ faults.old }
+    ensures status { result ≢ Status.Usage }
+{
+    let Some((mut reader, mut writer)) = dial.dial() else {
+        return failed(faults, &"not reached");
+    };
+    let (r, w) = (&mut reader, &mut writer);
+    match errand {
+        LockErrand::List => locks_command(alloc, caller, r, w, output, faults),
+        LockErrand::Refresh(token) => refresh_command(alloc, caller, token, r, w, output, faults),
+        LockErrand::Remove { all } => unlock_command(alloc, caller, all, r, w, output, faults),
+    }
+}
+
+/// Does an errand over connections that are made one after another: of a job, so many at most after the first; of what
+/// is asked about locks, one.
+pub fn do_errand<T: Files + AllocGlobal + Clone + Drop, D: Dial, O: Write, F: Write>(
     rt: &T,
     caller: &Caller,
     errand: Errand,
-    reader: &mut R,
-    writer: &mut W,
+    dial: &mut D,
+    retry: u64,
     output: &mut O,
     faults: &mut F,
 ) -> Status
@@ -36,69 +59,39 @@ pub fn do_errand<T: Files + AllocGlobal + Clone + Drop, R: Read, W: Write, O: Wr
 {
     let alloc = rt.alloc();
     match errand {
-        Errand::Backup { host, folder } => backup_command(
-            rt,
-            caller,
-            host.as_str(),
-            folder.as_str(),
-            reader,
-            writer,
-            output,
-            faults,
-        ),
-        Errand::Snapshots => snapshots_command(alloc, caller, reader, writer, output, faults),
-        Errand::Restore { name, folder } => restore_command(
-            rt,
-            caller,
-            name,
-            folder.as_str(),
-            reader,
-            writer,
-            output,
-            faults,
-        ),
-        Errand::Forget(choice) => forget_command(
-            alloc, caller, choice, reader, writer, output, faults,
-        ),
-        Errand::Prune => prune_command(alloc, caller, reader, writer, output, faults),
-        Errand::Check => check_command(alloc, caller, reader, writer, output, faults),
-        Errand::Locks => locks_command(alloc, caller, reader, writer, output, faults),
-        Errand::Refresh(token) => refresh_command(
-            alloc, caller, token, reader, writer, output, faults,
-        ),
-        Errand::Unlock { all } => unlock_command(
-            alloc, caller, all, reader, writer, output, faults,
-        ),
+        Errand::Backup { host, folder } => {
+            let (host, folder) = (host.as_str(), folder.as_str());
+            backup_over(rt, caller, host, folder, dial, retry, output, faults)
+        }
+        Errand::Snapshots => snapshots_over(alloc, caller, dial, retry, output, faults),
+        Errand::Restore { name, folder } => {
+            let folder = folder.as_str();
+            restore_over(rt, caller, name, folder, dial, retry, output, faults)
+        }
+        Errand::Forget(choice) => forget_over(alloc, caller, choice, dial, retry, output, faults),
+        Errand::Prune => prune_over(alloc, caller, dial, retry, output, faults),
+        Errand::Check => check_over(alloc, caller, dial, retry, output, faults),
+        Errand::Locks(errand) => ask_locks(alloc, caller, errand, dial, output, faults),
     }
 }
 
-/// Connects to an address, and does an errand there. An address that can't be connected to is told as `not
-/// reached`.
+/// Connects to an address, and does an errand there. It connects again so many times at most; an address that can't be
+/// connected to is told as `not reached`.
 pub fn run_errand<
     T: Files + Net + AllocGlobal + RandomSource + Clock + Clone + Drop,
     O: Write,
     F: Write,
->(rt: &T, address: &str, errand: Errand, output: &mut O, faults: &mut F) -> Status
+>(rt: &T, address: &str, errand: Errand, retry: u64, output: &mut O, faults: &mut F) -> Status
     requires { IsErrand errand }
     ensures silent { result ≡ Status.Done → faults.new ≡ faults.old }
     ensures status { result ≢ Status.Usage }
 {
-    let Ok(mut writer) = TcpStream::connect(rt, address) else {
-        return failed(faults, &"not reached");
-    };
-    let Ok(mut reader) = writer.try_clone() else {
+    let mut dial = Address::new(rt, address);
+    let Some(left) = dial.reach(retry) else {
         return failed(faults, &"not reached");
     };
     let Ok(caller) = caller_now(rt) else {
         return failed(faults, &"read failed");
     };
-    do_errand(
-        rt,
-        &caller,
-        errand,
-        &mut reader,
-        &mut writer,
-        output,
-        faults,
-    )
+    do_errand(rt, &caller, errand, &mut dial, left, output, faults)
 }

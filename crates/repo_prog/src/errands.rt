@@ -5,7 +5,7 @@ ghost use Rattle.repo_prog.specs.Commands.{IsErrand};
 
 use crate::choosing::{choice_of, choice_words};
 use crate::help::{BACKUP, CHECK, FORGET, LOCKS, PRUNE, REFRESH, RESTORE, SNAPSHOTS, UNLOCK};
-use crate::words::{WordsError, flag, needed, number_of, word_of};
+use crate::words::{WordsError, flag, needed, number, number_of, word_of};
 use clap::{Arg, ArgMatches, Command};
 use repo_name::{Name, Text, Token, is_host};
 use repo_prune::Choice;
@@ -26,12 +26,19 @@ pub enum Errand {
     Prune,
     /// Check all of the store.
     Check,
-    /// List the live locks.
-    Locks,
+    /// Ask about the locks.
+    Locks(LockErrand),
+}
+
+/// What a client asks of a server about locks.
+#[derive(Debug, Drop)]
+pub enum LockErrand {
+    /// List the live ones.
+    List,
     /// Give a token's lock a new time.
     Refresh(Token),
-    /// Remove the stale locks, or all.
-    Unlock { all: bool },
+    /// Remove the stale ones, or all.
+    Remove { all: bool },
 }
 
 /// A command that goes to a server's address.
@@ -47,23 +54,44 @@ fn errand_words<'a>(
         .arg(needed(alloc, "ADDR"))
 }
 
+/// The word that says how often it is connected again, added to those of a command.
+fn retry_words<'a>(alloc: Global, command: Command<'a>) -> Result<Command<'a>, AllocError> {
+    command.arg(number(alloc, "retry", "0")?)
+}
+
 fn backup_words<'a>(alloc: Global) -> Result<Command<'a>, AllocError> {
     let about = "Stores what a folder holds as a snapshot";
-    errand_words(alloc, "backup", about, BACKUP)?
+    retry_words(alloc, errand_words(alloc, "backup", about, BACKUP)?)?
         .arg(needed(alloc, "HOST"))?
         .arg(needed(alloc, "PATH"))
 }
 
+fn snapshots_words<'a>(alloc: Global) -> Result<Command<'a>, AllocError> {
+    let about = "Lists the snapshots";
+    retry_words(alloc, errand_words(alloc, "snapshots", about, SNAPSHOTS)?)
+}
+
 fn restore_words<'a>(alloc: Global) -> Result<Command<'a>, AllocError> {
     let about = "Restores a snapshot into an empty folder";
-    errand_words(alloc, "restore", about, RESTORE)?
+    retry_words(alloc, errand_words(alloc, "restore", about, RESTORE)?)?
         .arg(needed(alloc, "NAME"))?
         .arg(needed(alloc, "DIR"))
 }
 
 fn forget_words<'a>(alloc: Global) -> Result<Command<'a>, AllocError> {
     let about = "Forgets snapshots by their names, or those that a policy doesn't keep";
-    choice_words(alloc, errand_words(alloc, "forget", about, FORGET)?)
+    let command = retry_words(alloc, errand_words(alloc, "forget", about, FORGET)?)?;
+    choice_words(alloc, command)
+}
+
+fn prune_words<'a>(alloc: Global) -> Result<Command<'a>, AllocError> {
+    let about = "Removes what no snapshot needs";
+    retry_words(alloc, errand_words(alloc, "prune", about, PRUNE)?)
+}
+
+fn check_words<'a>(alloc: Global) -> Result<Command<'a>, AllocError> {
+    let about = "Tells whether all is well";
+    retry_words(alloc, errand_words(alloc, "check", about, CHECK)?)
 }
 
 fn refresh_words<'a>(alloc: Global) -> Result<Command<'a>, AllocError> {
@@ -79,17 +107,14 @@ fn unlock_words<'a>(alloc: Global) -> Result<Command<'a>, AllocError> {
 
 /// The commands that go to a server, added to those of the program.
 pub fn with_errands<'a>(alloc: Global, program: Command<'a>) -> Result<Command<'a>, AllocError> {
-    let snapshots = errand_words(alloc, "snapshots", "Lists the snapshots", SNAPSHOTS)?;
-    let prune = errand_words(alloc, "prune", "Removes what no snapshot needs", PRUNE)?;
-    let check = errand_words(alloc, "check", "Tells whether all is well", CHECK)?;
     let locks = errand_words(alloc, "locks", "Lists the live locks", LOCKS)?;
     program
         .subcommand(backup_words(alloc)?)?
-        .subcommand(snapshots)?
+        .subcommand(snapshots_words(alloc)?)?
         .subcommand(restore_words(alloc)?)?
         .subcommand(forget_words(alloc)?)?
-        .subcommand(prune)?
-        .subcommand(check)?
+        .subcommand(prune_words(alloc)?)?
+        .subcommand(check_words(alloc)?)?
         .subcommand(locks)?
         .subcommand(refresh_words(alloc)?)?
         .subcommand(unlock_words(alloc)?)
@@ -120,6 +145,11 @@ fn restore_errand(alloc: Global, words: &ArgMatches) -> Result<Errand, WordsErro
     Ok(Errand::Restore { name, folder })
 }
 
+/// How often it is connected again, by the words of one of these commands: 0 where it has no word for that.
+pub fn retry_of(words: &ArgMatches) -> u64 {
+    words.get_one::<u64>("retry").unwrap_or(0)
+}
+
 /// What the words of one of these commands ask for.
 pub fn errand_of(alloc: Global, command: &str, words: &ArgMatches) -> Result<Errand, WordsError>
     ensures { IfOk result IsErrand }
@@ -131,14 +161,14 @@ pub fn errand_of(alloc: Global, command: &str, words: &ArgMatches) -> Result<Err
         "forget" => Ok(Errand::Forget(choice_of(alloc, words)?)),
         "prune" => Ok(Errand::Prune),
         "check" => Ok(Errand::Check),
-        "locks" => Ok(Errand::Locks),
+        "locks" => Ok(Errand::Locks(LockErrand::List)),
         "refresh" => {
             let number = number_of(words, "TOKEN")?;
-            Ok(Errand::Refresh(Token(number)))
+            Ok(Errand::Locks(LockErrand::Refresh(Token(number))))
         }
         "unlock" => {
             let all = words.get_flag("remove-all");
-            Ok(Errand::Unlock { all })
+            Ok(Errand::Locks(LockErrand::Remove { all }))
         }
         _ => Err(WordsError::BadArgument),
     }

@@ -20,7 +20,7 @@ use std::alloc::Global;
 use std::io::{Read, Write};
 
 /// Writes the lines of the snapshots that were forgotten, or tells how the job ended else.
-fn show_forgotten<O: Write, F: Write>(
+pub fn show_forgotten<O: Write, F: Write>(
     alloc: Global,
     outcome: Option<&Outcome>,
     output: &mut O,

@@ -38,8 +38,12 @@ Exit status:
 
 /// Below the help of `vault backup`.
 pub const BACKUP: &str = "\
+With --retry N it connects again where a connection ends or can't be had, N times at most and without a pause, and
+goes on where it stood. The error of the last try is told.
+
 Example:
   vault backup 127.0.0.1:7070 laptop photos
+  vault backup 127.0.0.1:7070 laptop photos --retry 3
 
 Exit status:
   0  the snapshot is stored
@@ -49,8 +53,12 @@ Exit status:
 
 /// Below the help of `vault snapshots`.
 pub const SNAPSHOTS: &str = "\
+With --retry N it connects again where a connection ends or can't be had, N times at most and without a pause, and
+goes on where it stood. The error of the last try is told.
+
 Example:
   vault snapshots 127.0.0.1:7070
+  vault snapshots 127.0.0.1:7070 --retry 3
 
 Exit status:
   0  each snapshot is printed: its name, its time in seconds since 1970, its host
@@ -59,8 +67,12 @@ Exit status:
 
 /// Below the help of `vault restore`.
 pub const RESTORE: &str = "\
+With --retry N it connects again where a connection ends or can't be had, N times at most and without a pause, and
+goes on where it stood. The error of the last try is told.
+
 Example:
   vault restore 127.0.0.1:7070 NAME photos-again
+  vault restore 127.0.0.1:7070 NAME photos-again --retry 3
 where NAME is the 64 digits that `backup` and `snapshots` print.
 
 Exit status:
@@ -74,8 +86,12 @@ Either NAMEs are given, or a policy, of which one count at least isn't 0. Of eac
 snapshots, so many as --keep-last says, and the last one of each of the last days that have one, so many days
 as --keep-daily says; all others are forgotten. What was stored for them stays in the store.
 
+With --retry N it connects again where a connection ends or can't be had, N times at most and without a pause, and
+goes on where it stood. The error of the last try is told.
+
 Example:
   vault forget 127.0.0.1:7070 --keep-last 3 --keep-daily 14
+  vault forget 127.0.0.1:7070 --keep-last 3 --retry 3
   vault forget 127.0.0.1:7070 NAME
 where NAME is the 64 digits that `backup` and `snapshots` print. One that isn't there is passed over.
 
@@ -89,8 +105,12 @@ pub const PRUNE: &str = "\
 What was forgotten takes up room until then. Nobody else can use the store while it runs. Where it ends before it is
 done, every snapshot still has all that it needs, and the next prune goes on.
 
+With --retry N it connects again where a connection ends or can't be had, N times at most and without a pause, and
+goes on where it stood. The error of the last try is told.
+
 Example:
   vault prune 127.0.0.1:7070
+  vault prune 127.0.0.1:7070 --retry 3
 
 Exit status:
   0  it is done; printed is how many packs are deleted, and how many bytes of blobs are in new ones
@@ -108,8 +128,12 @@ can use the store while it runs. A line for each thing that is at fault:
   fault index NAME place       it tells of a pack what that doesn't hold
 where THING is snapshot, index, pack, content or tree, and NAME the 64 digits of its name.
 
+With --retry N it connects again where a connection ends or can't be had, N times at most and without a pause, and
+goes on where it stood. The error of the last try is told.
+
 Example:
   vault check 127.0.0.1:7070
+  vault check 127.0.0.1:7070 --retry 3
 
 Exit status:
   0  all is well; printed is `clean`, and how many snapshots, indexes, packs and blobs there are

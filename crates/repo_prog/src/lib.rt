@@ -17,12 +17,14 @@
 //! of the clients' commands), `Asking` (what those do that ask), `Jobs` (what those do that bring a job to its end).
 #![tactic(auto)]
 
+mod again;
 mod backing;
 mod callers;
 mod checking;
 mod choosing;
 mod commands;
 mod connecting;
+mod dialing;
 mod errands;
 mod errors;
 mod forgetting;
@@ -34,17 +36,20 @@ mod making;
 mod output;
 mod pruning;
 mod restoring;
+mod retrying;
 mod status;
 mod talks;
 mod telling;
 mod words;
 
+pub use again::{TryError, drive_again};
 pub use backing::{backup_command, backup_entries, backup_found};
 pub use callers::{Caller, caller_now};
 pub use checking::check_command;
 pub use commands::{frames_command, perform, run};
 pub use connecting::{do_errand, run_errand};
-pub use errands::Errand;
+pub use dialing::{Address, Dial};
+pub use errands::{Errand, LockErrand};
 pub use errors::FramesError;
 pub use forgetting::forget_command;
 pub use frames_engine::frames;
@@ -53,6 +58,9 @@ pub use locking::{locks_command, refresh_command, unlock_command};
 pub use making::{init_command, init_folder, random_instance};
 pub use pruning::prune_command;
 pub use restoring::{restore_command, restore_into, snapshots_command};
+pub use retrying::{
+    backup_over, check_over, forget_over, prune_over, restore_over, snapshots_over,
+};
 pub use status::{Status, refuse_words};
 pub use telling::fault_word;
 pub use words::{Making, Order, WordsError, order_of};

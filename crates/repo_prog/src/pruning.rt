@@ -18,7 +18,7 @@ use std::alloc::Global;
 use std::io::{Read, Write};
 
 /// Writes the line of a prune that is done, or tells how the job ended else.
-fn show_pruned<O: Write, F: Write>(
+pub fn show_pruned<O: Write, F: Write>(
     alloc: Global,
     outcome: Option<&Outcome>,
     output: &mut O,

@@ -1,9 +1,10 @@
 //! `vault snapshots` and `vault restore`.
 
-ghost use Rattle.std.specs.Prelude.{◌≡◌, ℕ, List, Some, option_map};
+ghost use Rattle.std.specs.Prelude.{◌≡◌, ℕ, List, Option, Some, IfOk, true, option_map};
 ghost use Rattle.std.specs.Io.KnownBytes.{Appends};
 ghost use Rattle.repo_name.specs.declared.names.Name.{Name};
 ghost use Rattle.repo_tree.specs.declared.snapshots.Snapshot.{Snapshot};
+ghost use Rattle.repo_session.specs.Sessions.{ended_in};
 ghost use Rattle.repo_session.specs.declared.outcomes.Outcome.{Outcome};
 ghost use Rattle.repo_prog.specs.Asking.{streams};
 ghost use Rattle.repo_prog.specs.Commands.{IsEnd};
@@ -23,7 +24,7 @@ use std::fs::Files;
 use std::io::{Read, Write};
 
 /// Writes the lines of a list of snapshots, or tells how the job ended else.
-fn show_list<O: Write, F: Write>(
+pub fn show_list<O: Write, F: Write>(
     alloc: Global,
     outcome: Option<&Outcome>,
     output: &mut O,
@@ -65,13 +66,16 @@ pub fn snapshots_command<R: Read, W: Write, O: Write, F: Write>(
     }
 }
 
-/// Writes the line of a restore that is complete, or tells how the job ended else.
-fn show_restored<O: Write, F: Write>(
+/// Writes the line of a restore that is complete, once what it gave out is finished, or tells how the job ended else.
+pub fn show_restored<E: FnOnce() -> bool, O: Write, F: Write>(
     alloc: Global,
     outcome: Option<&Outcome>,
+    finish: E,
     output: &mut O,
     faults: &mut F,
 ) -> Status
+    requires { E.pre finish }
+    ensures finished { result ≡ Status.Done → E.post finish true }
     ensures restored { result ≡ Status.Done → (entries : ℕ) × (option_map (λ o. o.now) outcome.entry ≡ Some (Outcome.Complete entries)) × Appends (O.contents output.old) (O.contents output.new) (complete_line entries) }
     ensures silent { result ≡ Status.Done → faults.new ≡ faults.old }
     ensures status { IsEnd result }
@@ -79,10 +83,31 @@ fn show_restored<O: Write, F: Write>(
     let Some(Outcome::Complete { entries }) = outcome else {
         return unfinished(alloc, outcome, faults);
     };
+    if !finish() {
+        return failed(faults, &DriveError::Sink);
+    }
     match complete_line(alloc, *entries) {
         Ok(line) => show(line.as_str(), output, faults),
         Err(_) => failed(faults, &DriveError::Memory),
     }
+}
+
+/// A restore that was driven to its end, and that handed what it gave out to a sink.
+fn driven<R: Read, W: Write, S: FnMut(&Emission) -> bool>(
+    alloc: Global,
+    caller: &Caller,
+    name: Name,
+    sink: S,
+    reader: &mut R,
+    writer: &mut W,
+) -> Result<Restore, DriveError>
+    requires { S.IsAlwaysCallable sink }
+    ensures { IfOk result (λ restore. (entries : ℕ) → ended_in restore.session ≡ Some (Outcome.Complete entries) → (shown then : Option (List ℕ)) → Restores caller.now name entries (streams (R.remaining reader.old) (W.contents writer.old) shown) (streams (R.remaining reader.new) (W.contents writer.new) then)) }
+{
+    let who = caller.who(alloc, HOST)?;
+    let mut restore = Restore::new(alloc, who, name);
+    drive(alloc, &mut restore, reader, writer, sink)?;
+    Ok(restore)
 }
 
 /// Restores a snapshot, and hands what is given out to a sink.
@@ -101,18 +126,14 @@ pub fn restore_into<R: Read, W: Write, S: FnMut(&Emission) -> bool, O: Write, F:
     ensures silent { result ≡ Status.Done → faults.new ≡ faults.old }
     ensures status { IsEnd result }
 {
-    let Ok(who) = caller.who(alloc, HOST) else {
-        return failed(faults, &DriveError::Memory);
-    };
-    let mut restore = Restore::new(alloc, who, name);
-    match drive(alloc, &mut restore, reader, writer, sink) {
-        Ok(_) => show_restored(alloc, restore.outcome(), output, faults),
+    match driven(alloc, caller, name, sink, reader, writer) {
+        Ok(restore) => show_restored(alloc, restore.outcome(), || true, output, faults),
         Err(error) => failed(faults, &error),
     }
 }
 
 /// Tells why a folder can't be restored into.
-fn not_begun<F: Write>(error: RestorerError, faults: &mut F) -> Status
+pub fn not_begun<F: Write>(error: RestorerError, faults: &mut F) -> Status
     ensures { result ≡ Status.Failed }
 {
     match error {
@@ -123,7 +144,7 @@ fn not_begun<F: Write>(error: RestorerError, faults: &mut F) -> Status
 }
 
 /// `vault restore`: restores a snapshot into a folder, which is made where it isn't there and has to be empty. What
-/// was written before an end stays.
+/// was written before an end stays. All of it is synced before it is told as complete.
 ///
 /// That the folder then holds what was given out is no clause, since no contract sees a file.
 pub fn restore_command<
@@ -151,14 +172,10 @@ pub fn restore_command<
         Err(error) => return not_begun(error, faults),
     };
     let sink = |emission: &Emission| restorer.write(emission);
-    restore_into(
-        rt.alloc(),
-        caller,
-        name,
-        sink,
-        reader,
-        writer,
-        output,
-        faults,
-    )
+    let restore = match driven(rt.alloc(), caller, name, sink, reader, writer) {
+        Ok(restore) => restore,
+        Err(error) => return failed(faults, &error),
+    };
+    let finish = || restorer.finish();
+    show_restored(rt.alloc(), restore.outcome(), finish, output, faults)
 }

@@ -6,7 +6,7 @@ ghost use Rattle.repo_chunk.specs.Parameters.{AreLawful};
 ghost use Rattle.repo_tree.specs.ConfigText.{IsTarget};
 ghost use Rattle.repo_prog.specs.Commands.{IsOrder};
 
-use crate::errands::{Errand, errand_of, with_errands};
+use crate::errands::{Errand, errand_of, retry_of, with_errands};
 use crate::help::{FRAMES, INIT, SERVE};
 use crate::listening::Serving;
 use clap::{Arg, ArgAction, ArgMatches, Command};
@@ -40,10 +40,11 @@ pub enum Order {
         address: String,
         serving: Serving,
     },
-    /// Do an errand at a server's address.
+    /// Do an errand at a server's address, and connect again so many times at most.
     Client {
         address: String,
         errand: Errand,
+        retry: u64,
     },
 }
 
@@ -228,7 +229,12 @@ fn client_order(alloc: Global, command: &str, words: &ArgMatches) -> Result<Orde
 {
     let errand = errand_of(alloc, command, words)?;
     let address = word_of(alloc, words, "ADDR")?;
-    Ok(Order::Client { address, errand })
+    let retry = retry_of(words);
+    Ok(Order::Client {
+        address,
+        errand,
+        retry,
+    })
 }
 
 /// The order that the words spell, the program's name first.

@@ -1,0 +1,27 @@
+use Rattle.std.proofs.Common.{sym, ◌∙◌}
+use Rattle.repo_session.specs.declared.outcomes.Outcome.{Outcome}
+use Rattle.repo_prog.proofs.RetryLemmas.{checked_over}
+use Rattle.repo_prog.proofs.retrying.check_over.Goals as goal
+
+pub returns-in-Ok-drive_again-clause-clean : goal.returns-in-Ok-drive_again-clause-clean
+returns-in-Ok-drive_again-clause-clean g c done =
+    let shown = c.show_checked.ensures.clean done in
+    let who = c.new-check.ensures.who ∙ c.in-Ok.ensures in (
+      shown.0,
+      shown.1,
+      shown.2,
+      shown.3,
+      checked_over c.args.caller.now c.args.retry c.in-Ok-drive_again.field-0 c.new-check.result c.drive_again.new.client (g.D.Dial.coming c.args.dial.now) (g.D.Dial.coming c.drive_again.new.dial) (Outcome.Clean shown.0 shown.1 shown.2 shown.3)
+          c.new-check.ensures.fits who c.in-Ok-drive_again.ensures.again (sym c.outcome.ensures ∙ shown.4),
+      shown.5,
+    )
+
+pub returns-in-Ok-drive_again-clause-flawed : goal.returns-in-Ok-drive_again-clause-flawed
+returns-in-Ok-drive_again-clause-flawed g c done =
+    let shown = c.show_checked.ensures.flawed done in
+    let who = c.new-check.ensures.who ∙ c.in-Ok.ensures in (
+      shown.0,
+      checked_over c.args.caller.now c.args.retry c.in-Ok-drive_again.field-0 c.new-check.result c.drive_again.new.client (g.D.Dial.coming c.args.dial.now) (g.D.Dial.coming c.drive_again.new.dial) (Outcome.Faults shown.0)
+          c.new-check.ensures.fits who c.in-Ok-drive_again.ensures.again (sym c.outcome.ensures ∙ shown.1),
+      shown.2,
+    )

@@ -1,0 +1,18 @@
+use Rattle.std.proofs.Common.{sym, ◌∙◌}
+use Rattle.repo_prog.proofs.JobLemmas.{same_handing}
+use Rattle.repo_prog.proofs.RetryLemmas.{stored_over}
+use Rattle.repo_prog.proofs.retrying.store_entries.Goals as goal
+
+pub returns-in-Ok-drive_again-clause-stored : goal.returns-in-Ok-drive_again-clause-stored
+returns-in-Ok-drive_again-clause-stored g c done =
+    let shown = c.show_stored.ensures.stored done in
+    let backup = c.in-Ok-new.backup in
+    let made = c.in-Ok-new.ensures in
+    let job = same_handing backup c.args.caller.now c.args.host.now c.args.entries.items (made.who ∙ c.in-Ok.ensures) made.handed in (
+      shown.0,
+      shown.1,
+      shown.2,
+      stored_over c.args.caller.now c.args.host.now c.args.entries.items c.args.retry c.in-Ok-drive_again.field-0 backup c.drive_again.new.client (g.D.Dial.coming c.args.dial.now) (g.D.Dial.coming c.drive_again.new.dial) shown.0 shown.1 shown.2
+          made.fits job c.in-Ok-drive_again.ensures.again (sym c.outcome.ensures ∙ shown.3),
+      shown.4,
+    )

@@ -1,0 +1,81 @@
+-- What the commands do that bring a job to its end over connections that are made one after another.
+use Rattle.std.specs.Prelude.{◌≤◌, ◌++◌, ◌∷◌, ⊤, [], ℕ, List, length, Option, Some, None}
+use Rattle.std.specs.Io.KnownBytes.{Consumes}
+use Rattle.repo_name.specs.declared.names.Name.{Name}
+use Rattle.repo_wire.specs.declared.messages.Ask.{Ask}
+use Rattle.repo_wire.specs.declared.messages.Request.{Request}
+use Rattle.repo_tree.specs.declared.entries.Entry.{Entry}
+use Rattle.repo_tree.specs.declared.snapshots.Snapshot.{Snapshot}
+use Rattle.repo_session.specs.declared.outcomes.Outcome.{Outcome}
+use Rattle.repo_session.specs.Askers.{asker}
+use Rattle.repo_session.specs.Clients.{IsObedient}
+use Rattle.repo_session.specs.Order.{Task}
+use Rattle.repo_session.specs.Talks.{Talk, IsTurn, IsHeard, WritesPart, sent_in, trace_of}
+use Rattle.repo_session.specs.Traces.{Each, Exchange, Trace}
+use Rattle.repo_backup.specs.BackupStates.{backup_task}
+use Rattle.repo_backup.specs.Rules as backup
+use Rattle.repo_check.specs.Checking.{check_task, CheckAllows, CheckGives, CheckConcludes}
+use Rattle.repo_prune.specs.declared.choices.Choice.{Choice}
+use Rattle.repo_prune.specs.Forgetting.{forget_task, ForgetAllows, ForgetGives, ForgetConcludes}
+use Rattle.repo_prune.specs.Pruning.{prune_task, PruneAllows, PruneGives, PruneConcludes}
+use Rattle.repo_restore.specs.Listing.{list_task, ListAllows, ListGives, ListConcludes}
+use Rattle.repo_restore.specs.Restoring.{restore_task, RestoreAllows, RestoreGives, RestoreConcludes}
+use Rattle.repo_prog.specs.Dialing.{Call, Coming, Try, talk_over, AreDialed}
+use Rattle.repo_prog.specs.Jobs.{vault_asker, vault_wish}
+use Rattle.repo_prog.specs.declared.callers.Caller.{Caller}
+
+-- a job was brought on over a connection: what was said over it was read from it and written to it, with some first part of the request that was
+-- pending at its end; and the job, which stands at the trace of that and of all that was said before, stood there by its own rules
+pub record BroughtOn (task : Task) (Allows : Trace → Ask → Type 0) (Gives : Trace → Exchange → Type 0) (Own : Trace → Outcome → Type 0)
+    (earlier : Talk) (call : Call) (next : Option Request) (outcome : Option Outcome) : Type 0 where
+  pub read : Consumes call.came.ahead call.left.ahead call.said.bytes
+  pub heard : IsHeard call.said
+  pub turns : Each IsTurn call.said.talk
+  pub sent : WritesPart call.came.sent (sent_in call.said.talk) next call.left.sent
+  pub obeyed : IsObedient task Allows Gives Own next outcome (trace_of (call.said.talk ++ earlier))
+
+-- it was brought on so over each connection of these tries, the newest first
+abbrev pub IsBroughtOn : Task → (Trace → Ask → Type 0) → (Trace → Exchange → Type 0) → (Trace → Outcome → Type 0) → List Try → Type 0
+IsBroughtOn task Allows Gives Own [] = ⊤
+IsBroughtOn task Allows Gives Own (None ∷ tries) = IsBroughtOn task Allows Gives Own tries
+IsBroughtOn task Allows Gives Own (Some call ∷ tries) =
+    ((next : Option Request) × (outcome : Option Outcome) × BroughtOn task Allows Gives Own (talk_over tries) call next outcome) × IsBroughtOn task Allows Gives Own tries
+
+-- a job was brought to its end over connections that were made one after another, so many at most after the first: over each it was brought on, and over
+-- the last to its end, with this outcome by its own rules. They hold of all that was said as over one connection.
+pub record EndedOver (task : Task) (Allows : Trace → Ask → Type 0) (Gives : Trace → Exchange → Type 0) (Own : Trace → Outcome → Type 0)
+    (outcome : Outcome) (retry : ℕ) (coming after : Coming) : Type 0 where
+  pub cut : List Try
+  pub last : Call
+  pub few : length cut ≤ retry
+  pub dialed : AreDialed coming (Some last ∷ cut) after
+  pub before : IsBroughtOn task Allows Gives Own cut
+  pub ended : BroughtOn task Allows Gives Own (talk_over cut) last None (Some outcome)
+
+-- the snapshots were listed
+abbrev pub ListsOver : Caller → List (Name × Snapshot) → ℕ → Coming → Coming → Type 0
+ListsOver caller rows retry coming after =
+    let who = vault_asker caller in EndedOver (list_task who) (ListAllows who) (ListGives who) (ListConcludes who) (Outcome.Listed rows) retry coming after
+
+-- the snapshot was restored
+abbrev pub RestoresOver : Caller → Name → ℕ → ℕ → Coming → Coming → Type 0
+RestoresOver caller name entries retry coming after =
+    EndedOver (restore_task (vault_wish caller name)) (RestoreAllows name) (RestoreGives name) (RestoreConcludes name) (Outcome.Complete entries) retry coming after
+
+-- the chosen snapshots were forgotten: those of these names
+abbrev pub ForgetsOver : Caller → Choice → List Name → ℕ → Coming → Coming → Type 0
+ForgetsOver caller choice names retry coming after =
+    EndedOver (forget_task (vault_asker caller)) (ForgetAllows choice) (ForgetGives choice) (ForgetConcludes choice) (Outcome.Forgotten names) retry coming after
+
+-- what no snapshot needs was removed: so many packs were deleted, and so many bytes of blobs put
+abbrev pub PrunesOver : Caller → ℕ → ℕ → ℕ → Coming → Coming → Type 0
+PrunesOver caller packs bytes retry coming after = EndedOver (prune_task (vault_asker caller)) PruneAllows PruneGives PruneConcludes (Outcome.Pruned packs bytes) retry coming after
+
+-- the store was checked, with this outcome: it is clean, or things are at fault
+abbrev pub ChecksOver : Caller → Outcome → ℕ → Coming → Coming → Type 0
+ChecksOver caller outcome retry coming after = EndedOver (check_task (vault_asker caller)) CheckAllows CheckGives CheckConcludes outcome retry coming after
+
+-- the entries were stored under this name
+abbrev pub StoresOver : Caller → List ℕ → List Entry → Name → ℕ → ℕ → ℕ → Coming → Coming → Type 0
+StoresOver caller host entries name blobs bytes retry coming after =
+    EndedOver (backup_task (asker caller.instance host caller.time)) (backup.Allows entries) (backup.GivesNothing entries) (backup.Ends entries) (Outcome.Stored name blobs bytes) retry coming after

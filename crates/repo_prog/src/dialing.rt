@@ -1,0 +1,83 @@
+//! Connections to a server, made one after another.
+
+ghost use Rattle.std.specs.Prelude.{◌≤◌, IfSome, option_map};
+ghost use Rattle.repo_prog.specs.Dialing.{Coming, ends, Dials};
+
+use std::io::{Read, Write};
+use std::net::{Net, OpenStream, TcpStream};
+
+/// A way to connect to a server, which may be asked for one connection after another.
+pub trait Dial {
+    type Reader: Read + Drop;
+
+    type Writer: Write + Drop;
+
+    /// The connections that will be had, where that is known.
+    ghost coming: { Self → Coming };
+
+    /// The next connection: its reader and its writer. `None` where it can't be had.
+    fn dial(&mut self) -> Option<(Self::Reader, Self::Writer)>
+        ensures { Dials (coming self.old) (option_map (λ c. ends (Self.Reader.remaining c.0) (Self.Writer.contents c.1)) result) (coming self.new) };
+}
+
+/// A server's address, at which each connection is made anew. The first one may be made before it is asked for.
+#[derive(Drop)]
+pub struct Address<'a, T: Net> {
+    rt: &'a T,
+    address: &'a str,
+    ready: Option<(T::Stream, T::Stream)>,
+}
+
+/// Connects to an address: the reading and the writing end.
+fn connect<T: Net>(rt: &T, address: &str) -> Option<(T::Stream, T::Stream)> {
+    let Ok(writer) = TcpStream::connect(rt, address) else {
+        return None;
+    };
+    match writer.try_clone() {
+        Ok(reader) => Some((reader, writer)),
+        Err(_) => None,
+    }
+}
+
+impl<'a, T: Net> Address<'a, T> {
+    /// An address, to which nothing is connected yet.
+    pub fn new(rt: &'a T, address: &'a str) -> Address<'a, T> {
+        Address {
+            rt,
+            address,
+            ready: None,
+        }
+    }
+
+    /// Makes the next connection before it is asked for, and tries it so many times more at most. It gives how many
+    /// of these are left: `None` where it can't be had.
+    pub fn reach(&mut self, retry: u64) -> Option<u64>
+        ensures { IfSome result (λ left. left ≤ retry) }
+    {
+        self.ready = connect(self.rt, self.address);
+        for tried in 0..retry {
+            if self.ready.is_some() {
+                return Some(retry - tried);
+            }
+            self.ready = connect(self.rt, self.address);
+        }
+        if self.ready.is_some() { Some(0) } else { None }
+    }
+}
+
+impl<T: Net> Dial for Address<'_, T> {
+    ghost use Rattle.std.specs.Prelude.{None};
+
+    type Reader = T::Stream;
+
+    type Writer = T::Stream;
+
+    ghost coming = { λ _. None };
+
+    fn dial(&mut self) -> Option<(T::Stream, T::Stream)> {
+        match self.ready.take() {
+            Some(ends) => Some(ends),
+            None => connect(self.rt, self.address),
+        }
+    }
+}
