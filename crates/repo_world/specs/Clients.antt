@@ -1,6 +1,5 @@
 -- The clients of a store: what each is for, by which rule it goes, and what it is at a moment.
 use Rattle.std.specs.Prelude.{◌≡◌, ⊤, ℕ, Bool, List, Option, Some, None}
-use Rattle.repo_name.specs.declared.names.Name.{Name}
 use Rattle.repo_wire.specs.declared.messages.Ask.{Ask}
 use Rattle.repo_wire.specs.declared.messages.Request.{Request}
 use Rattle.repo_tree.specs.declared.entries.Entry.{Entry}
@@ -16,7 +15,6 @@ use Rattle.repo_backup.specs.Handed.{AreHanded, EntriesFault}
 use Rattle.repo_backup.specs.Laws.{IsMadeOf}
 use Rattle.repo_restore.specs.Listing.{list_rule}
 use Rattle.repo_restore.specs.Restoring.{restore_rule}
-use Rattle.repo_prune.specs.declared.choices.Choice.{Choice}
 use Rattle.repo_prune.specs.Forgetting.{IsNoPolicy, forget_rule}
 use Rattle.repo_prune.specs.Pruning.{prune_rule}
 use Rattle.repo_check.specs.Checking.{check_rule}

@@ -7,7 +7,6 @@ use Rattle.repo_wire.specs.declared.messages.Reply.{Reply}
 use Rattle.repo_wire.specs.declared.messages.Request.{Request}
 use Rattle.repo_wire.specs.declared.messages.Say.{Say}
 use Rattle.repo_locks.specs.TokenMachine.{unlocked}
-use Rattle.repo_store.specs.declared.faults.Fail.{Fail}
 use Rattle.repo_store.specs.Stores.{Store, SavesTokens}
 use Rattle.repo_session.specs.declared.emissions.Emission.{Emission}
 use Rattle.repo_session.specs.declared.outcomes.Outcome.{Outcome}

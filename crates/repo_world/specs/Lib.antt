@@ -4,6 +4,14 @@ pub mod World
 pub mod Events
 pub mod Safe
 pub mod Laws
+pub mod Calmness
+pub mod Starting
+pub mod AnyClients
+pub mod Seats
+pub mod Seating
+pub mod Flows
+pub mod Stages
+pub mod Reports
 pub mod Bag
 pub mod BagLaws
 pub mod Lone

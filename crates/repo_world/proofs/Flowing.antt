@@ -1,0 +1,108 @@
+-- What a flow stands for, as its seats change.
+use Rattle.std.proofs.Common.{◌≡◌, ◌∙◌, ◌⊎◌, inl, inr, ⊎_elim, ◌<◌, ◌++◌, ◌∷◌, [], ℕ, zero, suc, List, length, map, slice_set, slice_index_or, refl, sym, ap, subst, arith, append-nil, length-append}
+use Rattle.std.proofs.lemmas.List.{get_or_append_left, map-append}
+use Rattle.std.proofs.Math.ListN.{get_or-map as get_or-map-at}
+use Rattle.repo_world.specs.Flows.{AreThere, IsThere, seat_at, spoken}
+use Rattle.repo_world.specs.Seats.{Seated, empty_seat, nothing, silence}
+use Rattle.repo_world.specs.World as world
+use Rattle.repo_world.specs.World.{World, client_at, nobody, sends}
+use Rattle.repo_world.specs.declared.messages.Message.{Message}
+use Rattle.repo_world.proofs.Seating.{each_end}
+
+-- ---- seats by their numbers
+
+pub at_set : (seats : List Seated) (k : ℕ) (s : Seated) → k < length seats → (j : ℕ) → ((j ≡ k) × (seat_at (slice_set seats k s) j ≡ s)) ⊎ (seat_at (slice_set seats k s) j ≡ seat_at seats j)
+at_set [] k s h j = absurd (omega (arith, h))
+at_set (x ∷ seats) zero s h zero = inl (refl, refl)
+at_set (x ∷ seats) zero s h (suc j) = inr refl
+at_set (x ∷ seats) (suc k) s h zero = inr refl
+at_set (x ∷ seats) (suc k) s h (suc j) = ⊎_elim (λ e. inl (ap suc e.0, e.1)) inr (at_set seats k s (by_arith h) j) where
+  by_arith : suc k < suc (length seats) → k < length seats
+  by_arith less = omega (arith, less)
+
+pub at_end : (seats : List Seated) (s : Seated) (j : ℕ) → ((j ≡ length seats) × (seat_at (seats ++ s ∷ []) j ≡ s) × (seat_at seats j ≡ empty_seat)) ⊎ (seat_at (seats ++ s ∷ []) j ≡ seat_at seats j)
+at_end [] s zero = inl (refl, refl, refl)
+at_end [] s (suc j) = inr refl
+at_end (x ∷ seats) s zero = inr refl
+at_end (x ∷ seats) s (suc j) = ⊎_elim (λ e. inl (ap suc e.0, e.1, e.2)) inr (at_end seats s j)
+
+pub client_there : (seats : List Seated) (k : ℕ) → client_at (map (λ (s : Seated). s.client) seats) k ≡ (seat_at seats k).client
+client_there seats k = get_or-map-at (λ (s : Seated). s.client) seats k empty_seat
+
+-- a seat that has something is one of the seats
+pub within_requests : (seats : List Seated) (k n : ℕ) → n < length (seat_at seats k).requests → k < length seats
+within_requests [] k n h = absurd (omega (arith, h))
+within_requests (x ∷ seats) zero n h = omega (arith)
+within_requests (x ∷ seats) (suc k) n h = let less = within_requests seats k n h in omega (arith, less)
+
+pub within_replies : (seats : List Seated) (k n : ℕ) → n < length (seat_at seats k).replies → k < length seats
+within_replies [] k n h = absurd (omega (arith, h))
+within_replies (x ∷ seats) zero n h = omega (arith)
+within_replies (x ∷ seats) (suc k) n h = let less = within_replies seats k n h in omega (arith, less)
+
+-- ---- each seat has what it had, and maybe more
+
+-- a list goes on with more
+abbrev pub GoesOn : {A : Type 0} → List A → List A → Type 0
+GoesOn {A} old new = (more : List A) × (new ≡ old ++ more)
+
+pub goes_same : {A : Type 0} (xs ys : List A) → ys ≡ xs → GoesOn xs ys
+goes_same xs ys e = ([], e ∙ sym (append-nil xs))
+
+goes_empty : {A : Type 0} (xs ys : List A) → xs ≡ [] → GoesOn xs ys
+goes_empty xs ys e = (ys, ap (λ l. l ++ ys) (sym e))
+
+pub record Grows (old new : List Seated) : Type 0 where
+  pub requests : (k : ℕ) → GoesOn (seat_at old k).requests (seat_at new k).requests
+  pub replies : (k : ℕ) → GoesOn (seat_at old k).replies (seat_at new k).replies
+
+pub grows_set : (seats : List Seated) (k : ℕ) (s : Seated) → k < length seats → GoesOn (seat_at seats k).requests s.requests → GoesOn (seat_at seats k).replies s.replies → Grows seats (slice_set seats k s)
+grows_set seats k s less q r = record { requests = requests; replies = replies }
+  where
+    requests : (j : ℕ) → GoesOn (seat_at seats j).requests (seat_at (slice_set seats k s) j).requests
+    requests j = go (at_set seats k s less j) where
+      go : ((j ≡ k) × (seat_at (slice_set seats k s) j ≡ s)) ⊎ (seat_at (slice_set seats k s) j ≡ seat_at seats j) → GoesOn (seat_at seats j).requests (seat_at (slice_set seats k s) j).requests
+      go (inl e) = subst (λ (x : Seated). GoesOn (seat_at seats j).requests x.requests) (sym e.1) (subst (λ i. GoesOn (seat_at seats i).requests s.requests) (sym e.0) q)
+      go (inr e) = goes_same _ _ (ap (λ (x : Seated). x.requests) e)
+
+    replies : (j : ℕ) → GoesOn (seat_at seats j).replies (seat_at (slice_set seats k s) j).replies
+    replies j = go (at_set seats k s less j) where
+      go : ((j ≡ k) × (seat_at (slice_set seats k s) j ≡ s)) ⊎ (seat_at (slice_set seats k s) j ≡ seat_at seats j) → GoesOn (seat_at seats j).replies (seat_at (slice_set seats k s) j).replies
+      go (inl e) = subst (λ (x : Seated). GoesOn (seat_at seats j).replies x.replies) (sym e.1) (subst (λ i. GoesOn (seat_at seats i).replies s.replies) (sym e.0) r)
+      go (inr e) = goes_same _ _ (ap (λ (x : Seated). x.replies) e)
+
+pub grows_end : (seats : List Seated) (s : Seated) → Grows seats (seats ++ s ∷ [])
+grows_end seats s = record {
+  requests = λ j. ⊎_elim (λ e. goes_empty _ _ (ap (λ (x : Seated). x.requests) e.2)) (λ e. goes_same _ _ (ap (λ (x : Seated). x.requests) e)) (at_end seats s j);
+  replies = λ j. ⊎_elim (λ e. goes_empty _ _ (ap (λ (x : Seated). x.replies) e.2)) (λ e. goes_same _ _ (ap (λ (x : Seated). x.replies) e)) (at_end seats s j);
+}
+
+-- ---- so each message stands for what it stood for
+
+longer : {A : Type 0} (xs ys : List A) (n : ℕ) → GoesOn xs ys → n < length xs → n < length ys
+longer xs ys n g h = let len : length ys ≡ length (xs ++ g.0) = ap length g.1 in omega (arith, len, length-append xs g.0, h)
+
+same_at : {A : Type 0} (xs ys : List A) (d : A) (n : ℕ) → GoesOn xs ys → n < length xs → slice_index_or ys n d ≡ slice_index_or xs n d
+same_at xs ys d n g h = ap (λ l. slice_index_or l n d) g.1 ∙ get_or_append_left xs g.0 d n h
+
+spoken_same : (old new : List Seated) → Grows old new → (m : Message) → IsThere old m → spoken new m ≡ spoken old m
+spoken_same old new g (Message.Asked k n) h = ap (world.Asked k) (same_at _ _ nothing n (g.requests k) h)
+spoken_same old new g (Message.Said k n) h = ap (world.Said k) (same_at _ _ silence n (g.replies k) h)
+
+there_same : (old new : List Seated) → Grows old new → (m : Message) → IsThere old m → IsThere new m
+there_same old new g (Message.Asked k n) h = longer _ _ n (g.requests k) h
+there_same old new g (Message.Said k n) h = longer _ _ n (g.replies k) h
+
+pub messages_same : (old new : List Seated) → Grows old new → (ms : List Message) → AreThere old ms → map (spoken new) ms ≡ map (spoken old) ms
+messages_same old new g [] h = refl
+messages_same old new g (m ∷ ms) h = λ i. spoken_same old new g m h.0 i ∷ messages_same old new g ms h.1 i
+
+pub all_there : (old new : List Seated) → Grows old new → (ms : List Message) → AreThere old ms → AreThere new ms
+all_there old new g [] h = h
+all_there old new g (m ∷ ms) h = (there_same old new g m h.0, all_there old new g ms h.1)
+
+pub there_more : (old new : List Seated) → Grows old new → (ms : List Message) → AreThere old ms → (m : Message) → IsThere new m → AreThere new (ms ++ m ∷ [])
+there_more old new g ms h m t = each_end (IsThere new) ms m (all_there old new g ms h) t
+
+pub messages_more : (old new : List Seated) → Grows old new → (ms : List Message) → AreThere old ms → (m : Message) (x : world.Message) → spoken new m ≡ x → map (spoken new) (ms ++ m ∷ []) ≡ map (spoken old) ms ++ x ∷ []
+messages_more old new g ms h m x e = map-append (spoken new) ms (m ∷ []) ∙ (λ i. messages_same old new g ms h i ++ e i ∷ [])

@@ -1,0 +1,216 @@
+-- A world in code, over an event.
+use Rattle.std.proofs.Common.{◌≡◌, ◌≢◌, ◌⊎◌, inl, inr, ◌∙◌, ◌<◌, ◌≤◌, ◌+◌, ◌++◌, ◌∷◌, [], ℕ, zero, suc, Bool, true, false, List, length, map, take, get_or, Option, Some, None, refl, sym, ap, subst, slice_get}
+use Rattle.std.specs.Prelude.{⊤, Result, Ok, Err, IfOk, OnErr}
+use Rattle.std.specs.Result.{OnOk, is_err}
+use Rattle.std.proofs.lemmas.List.{take_all, take_more}
+use Rattle.std.proofs.lemmas.Option.{get_or_from_slice_get}
+use Rattle.repo_name.specs.declared.tokens.Token.{Token}
+use Rattle.repo_locks.specs.TokenMachine.{Tokens, UnlockStep, unlocked}
+use Rattle.repo_locks.proofs.Numbers.{unlocked_same}
+use Rattle.repo_wire.specs.declared.messages.Ask.{Ask}
+use Rattle.repo_wire.specs.declared.messages.Code.{Code}
+use Rattle.repo_wire.specs.declared.messages.Say.{Say}
+use Rattle.repo_store.specs.Failing.{Failing, FailsItself, HasFailed, IsLeft, Plainly}
+use Rattle.repo_store.specs.StoreMachine.{Step, UnlockAnswer}
+use Rattle.repo_store.specs.Stores.{Store}
+use Rattle.repo_store.specs.declared.faults.Armed.{Armed}
+use Rattle.repo_store.specs.declared.faults.Fail.{Fail}
+use Rattle.repo_world.specs.Events.{Delivers, Happens, Run, Unlocks}
+use Rattle.repo_world.specs.Flows.{Flow, seat_at, world_of}
+use Rattle.repo_world.specs.Laws.{IsEmpty}
+use Rattle.repo_world.specs.Seating.{StepsAsArmed}
+use Rattle.repo_world.specs.Seats.{Seated, empty_seat}
+use Rattle.repo_world.specs.Stages.{IsReached, IsSafely, Leads, Shelf, Stage, seen}
+use Rattle.repo_world.specs.World.{Asked, Message, Said, World, beginning, client_at}
+use Rattle.repo_world.specs.declared.events.Applied.{Applied}
+use Rattle.repo_world.specs.declared.events.Event.{Event}
+use Rattle.repo_world.proofs.Flowing.{client_there}
+use Rattle.repo_world.proofs.Running.{every_run_is_safe}
+
+-- ---- a step of one sort is a step of another
+
+How : Type 1
+How = Store → Ask → Say → Store → Type 0
+
+pub delivers_so : (H G : Store → Ask → Say → Store → Type 0) → ((old : Store) (ask : Ask) (say : Say) (new : Store) → H old ask say new → G old ask say new)
+    → (w : World) (m : Option Message) (a : Applied) (v : World) → Delivers H w m a v → Delivers G w m a v
+delivers_so H G f w None a v d = d
+delivers_so H G f w (Some (Asked k request)) a v (e, s) = (e, record { reply = s.reply; store = s.store; answers = s.answers; step = f w.store request.ask s.reply.say s.store s.step; is = s.is })
+delivers_so H G f w (Some (Said k reply)) a v d = d
+
+-- nothing is armed: the step is plain
+pub steps_plainly : (own owned : ℕ) (left : Armed) (old : Store) (ask : Ask) (say : Say) (new : Store) → StepsAsArmed Armed.Nothing own left owned old ask say new → Plainly (HasFailed own owned) old ask say new
+steps_plainly own owned left old ask say new (s, armed) = (s, caused armed.0)
+  where
+    caused : ((Armed.Nothing ≢ Armed.Nothing) × (left ≡ Armed.Nothing)) ⊎ ((left ≡ Armed.Nothing) × (say ≡ Say.Refused Code.Fault → HasFailed own owned)) → say ≡ Say.Refused Code.Fault → HasFailed own owned
+    caused (inl h) e = absurd (h.0 refl)
+    caused (inr h) e = h.1 e
+
+-- a call of a sort is armed: the step fails so
+pub steps_failing : (own owned : ℕ) (fail : Fail) (left : Armed) (old : Store) (ask : Ask) (say : Say) (new : Store) → StepsAsArmed (Armed.Next fail) own left owned old ask say new → Failing (HasFailed own owned) fail old ask say new
+steps_failing own owned fail left old ask say new (s, armed) = armed.1 fail refl
+
+-- ---- a lock is removed
+
+-- the world with another store
+abbrev pub over : World → Store → World
+over w store = record { store = store; clients = w.clients; messages = w.messages }
+
+-- the answer to its removal removes it
+unlocks : (w : World) (t : Token) (say : Say) (new : Store) → UnlockAnswer w.store t say new → Unlocks w t (over w new)
+unlocks w t say new a = record { store = new; saves = (a.saves.0, a.saves.1, a.saves.2 ∙ removed a.result a.tokens a.step, a.saves.3); is = refl }
+  where
+    removed : (b : Bool) (tokens : Tokens) → UnlockStep w.store.tokens t b tokens → tokens ≡ unlocked w.store.tokens t
+    removed true tokens s = s.1
+    removed false tokens s = s.1 ∙ sym (unlocked_same w.store.tokens t s.0)
+
+-- nothing is armed, and there was memory
+pub unlocks_plainly : (own owned : ℕ) (left : Armed) (w : World) (t : Token) (say : Say) (new : Store) → StepsAsArmed Armed.Nothing own left owned w.store (Ask.Unlock t) say new → say ≢ Say.Refused Code.NoMemory
+    → Happens (HasFailed own owned) w (Event.Unlock t) Applied.Done (over w new)
+unlocks_plainly own owned left w t say new s other = let p = steps_plainly own owned left w.store (Ask.Unlock t) say new s in (refl, go p.0 p.1)
+  where
+    go : Step w.store (Ask.Unlock t) say new → (say ≡ Say.Refused Code.Fault → HasFailed own owned) → Unlocks w t (over w new) ⊎ (HasFailed own owned × (over w new ≡ w))
+    go (inl a) own_fault = inl (unlocks w t say new a)
+    go (inr (l, inl (e, inl same))) own_fault = inr (own_fault e, ap (over w) same)
+    go (inr (l, inl (e, inr (told, a)))) own_fault = inl (unlocks w t told new a)
+    go (inr (l, inr (e, same))) own_fault = absurd (other e)
+
+-- there was none
+pub unlock_unmade : (old : Store) (t : Token) (say : Say) (new : Store) → Step old (Ask.Unlock t) say new → say ≡ Say.Refused Code.NoMemory → new ≡ old
+unlock_unmade old t say new (inl a) e = let done = a.says in absurd (cc)
+unlock_unmade old t say new (inr (l, inl (fault, h))) e = absurd (cc)
+unlock_unmade old t say new (inr (l, inr (memory, same))) e = same
+
+-- ---- in a run the device may have failed
+
+module _ (Own : Type 0) where
+  plainly_any : (old : Store) (ask : Ask) (say : Say) (new : Store) → Plainly Own old ask say new → Plainly ⊤ old ask say new
+  plainly_any old ask say new p = (p.0, λ e. tt)
+
+  itself_any : (old : Store) (ask : Ask) (say : Say) (new : Store) → FailsItself Own old ask say new → FailsItself ⊤ old ask say new
+  itself_any old ask say new (l, s, inl h) = (l, s, inl (h.0, tt))
+  itself_any old ask say new (l, s, inr h) = (l, s, inr h)
+
+  failing_any : (fail : Fail) (old : Store) (ask : Ask) (say : Say) (new : Store) → Failing Own fail old ask say new → Failing ⊤ fail old ask say new
+  failing_any (Fail.Write applied) old ask say new (inl h) = inl h
+  failing_any (Fail.Write applied) old ask say new (inr (inl h)) = inr (inl h)
+  failing_any (Fail.Write applied) old ask say new (inr (inr h)) = inr (inr (itself_any old ask say new h))
+  failing_any Fail.Read old ask say new (inl h) = inl h
+  failing_any Fail.Read old ask say new (inr h) = inr (h.0, plainly_any old ask say new h.1)
+
+  pub happens_any : (w : World) (e : Event) (a : Applied) (v : World) → Happens Own w e a v → Happens ⊤ w e a v
+  happens_any w (Event.Start job host time) a v h = h
+  happens_any w (Event.Deliver i) a v h = delivers_so (Plainly Own) (Plainly ⊤) plainly_any w (slice_get w.messages i) a v h
+  happens_any w (Event.Fault i fail) a v h = delivers_so (Failing Own fail) (Failing ⊤ fail) (failing_any fail) w (slice_get w.messages i) a v h
+  happens_any w (Event.Unlock t) a v (d, inl u) = (d, inl u)
+  happens_any w (Event.Unlock t) a v (d, inr u) = (d, inr (tt, u.1))
+  happens_any w (Event.Crash k) a v h = h
+  happens_any w Event.Restart a v h = h
+
+-- ---- a world that a run reaches
+
+pub run_more : (w : World) (es : List Event) (u : World) (e : Event) (a : Applied) (v : World) → Run w es u → Happens ⊤ u e a v → Run w (es ++ e ∷ []) v
+run_more w [] u e a v r h = (v, (a, subst (λ x. Happens ⊤ x e a v) r h), refl)
+run_more w (d ∷ es) u e a v r h = (r.0, r.1, run_more r.0 es u e a v r.2 h)
+
+pub reached_more : (Own : Type 0) (w : World) (e : Event) (a : Applied) (v : World) → IsReached w → Happens Own w e a v → IsReached v
+reached_more Own w e a v r h = record { store = r.store; empty = r.empty; events = r.events ++ e ∷ []; run = run_more (beginning r.store) r.events w e a v r.run (happens_any Own w e a v h) }
+
+pub reached_first : (store : Store) → IsEmpty store → IsReached (beginning store)
+reached_first store empty = record { store = store; empty = empty; events = []; run = refl }
+
+-- it is safe
+pub safely : (w : World) → IsReached w → IsSafely w
+safely w r clash = every_run_is_safe r.store r.empty r.events [] w w r.run refl clash
+
+-- ---- some of a list of events happened, the first ones
+
+pub ran_more : (w : World) (es : List Event) (n : ℕ) (d : Event) (u : World) (a : Applied) (v : World) → n < length es → Run w (take n es) u → Happens ⊤ u (get_or es n d) a v → Run w (take (n + 1) es) v
+ran_more w es n d u a v less r h = subst (λ (l : List Event). Run w l v) (sym (take_more es n d less)) (run_more w (take n es) u (get_or es n d) a v r h)
+
+pub ran_all : (w : World) (es : List Event) (n : ℕ) (u : World) → length es ≤ n → Run w (take n es) u → Run w es u
+ran_all w es n u most r = subst (λ (l : List Event). Run w l u) (take_all n es most) r
+
+-- ---- a client's seat, as it is looked up
+
+pub seat_is : (seats : List Seated) (k : ℕ) (seat : Seated) → slice_get seats k ≡ Some seat → seat_at seats k ≡ seat
+seat_is seats k seat e = get_or_from_slice_get seats k seat empty_seat e
+
+pub no_seat : (seats : List Seated) (k : ℕ) → slice_get seats k ≡ None → seat_at seats k ≡ empty_seat
+no_seat [] k e = refl
+no_seat (x ∷ seats) zero e = absurd (cc)
+no_seat (x ∷ seats) (suc k) e = no_seat seats k e
+
+pub client_is : (seats : List Seated) (k : ℕ) (seat : Seated) → seat_at seats k ≡ seat → client_at (map (λ (s : Seated). s.client) seats) k ≡ seat.client
+client_is seats k seat e = client_there seats k ∙ ap (λ (s : Seated). s.client) e
+
+-- ---- a stage, and the one to which an event leads
+
+module _ (S : Type 0) (store : S → Store) (failed : S → ℕ) where
+  -- a shelf of which this is armed
+  abbrev pub arms : Armed → Shelf S → Shelf S
+  arms armed shelf = record { inner = record { inner = shelf.inner.inner; armed = armed; count = shelf.inner.count }; known = shelf.known; alloc = shelf.alloc }
+
+  -- what came of a delivery, over a device of which something was armed
+  abbrev pub Delivered : {E : Type 0} → Result Applied E → Armed → Armed → Stage S → ℕ → Stage S → Type 0
+  Delivered r armed left old i new = IfOk r (λ applied. Delivers (StepsAsArmed armed (failed old.device) left (failed new.device)) (seen store old) (slice_get (seen store old).messages i) applied (seen store new))
+
+  pub plainly_leads : {E : Type 0} (r : Result Applied E) (armed left : Armed) (old : Stage S) (i : ℕ) (new : Stage S) → armed ≡ Armed.Nothing → Delivered r armed left old i new → IfOk r (λ applied. Leads store failed old (Event.Deliver i) applied new)
+  plainly_leads (Ok a) armed left old i new none d =
+      let How : Armed → Store → Ask → Say → Store → Type 0 = λ x. StepsAsArmed x (failed old.device) left (failed new.device) in
+      delivers_so (How Armed.Nothing) (Plainly (HasFailed (failed old.device) (failed new.device))) (steps_plainly (failed old.device) (failed new.device) left) (seen store old) (slice_get (seen store old).messages i) a (seen store new)
+      (subst (λ x. Delivers (How x) (seen store old) (slice_get (seen store old).messages i) a (seen store new)) none d)
+  plainly_leads (Err e) armed left old i new none d = tt
+
+  pub failing_leads : {E : Type 0} (r : Result Applied E) (fail : Fail) (left : Armed) (old : Stage S) (i : ℕ) (new : Stage S) → Delivered r (Armed.Next fail) left old i new → IfOk r (λ applied. Leads store failed old (Event.Fault i fail) applied new)
+  failing_leads (Ok a) fail left old i new d =
+      let How : Store → Ask → Say → Store → Type 0 = StepsAsArmed (Armed.Next fail) (failed old.device) left (failed new.device) in
+      delivers_so How (Failing (HasFailed (failed old.device) (failed new.device)) fail) (steps_failing (failed old.device) (failed new.device) fail left) (seen store old) (slice_get (seen store old).messages i) a (seen store new) d
+  failing_leads (Err e) fail left old i new d = tt
+
+  -- where there was no memory, nothing changed
+  pub unhappened : {A E : Type 0} (r : Result A E) (shelf after : Shelf S) (flow later : Flow) → OnErr r (later ≡ flow) → OnErr r (after ≡ shelf) → OnErr r (world_of (store after.inner.inner) later ≡ world_of (store shelf.inner.inner) flow)
+  unhappened (Ok x) shelf after flow later f s = tt
+  unhappened (Err e) shelf after flow later f s = λ i. world_of (store (s i).inner.inner) (f i)
+
+  pub reached_by : {E : Type 0} (r : Result Applied E) (old : Stage S) (e : Event) (new : Stage S) → IsReached (seen store old) → IfOk r (λ applied. Leads store failed old e applied new) → OnErr r (seen store new ≡ seen store old) → IsReached (seen store new)
+  reached_by (Ok a) old e new reached leads same = reached_more (HasFailed (failed old.device) (failed new.device)) (seen store old) e a (seen store new) reached leads
+  reached_by (Err x) old e new reached leads same = subst IsReached (sym same) reached
+
+-- ---- a call that failed, or didn't
+
+pub if_well : {T E : Type 0} (r : Result T E) (P : Type 0) → is_err r ≡ false → OnOk r P → P
+if_well (Ok x) P e h = h
+if_well (Err x) P e h = absurd (cc)
+
+pub if_failed : {T E : Type 0} (r : Result T E) (P : Type 0) → is_err r ≡ true → OnErr r P → P
+if_failed (Ok x) P e h = absurd (cc)
+if_failed (Err x) P e h = h
+
+-- ---- what holds of some values holds of equal ones
+
+pub carried : {A B C : Type 0} (P : A → B → C → Type 0) {a x : A} {b y : B} {c z : C} → x ≡ a → y ≡ b → z ≡ c → P a b c → P x y z
+carried P {a} {x} {b} {y} {c} {z} p q r h = subst (λ k. P k y z) (sym p) (subst (λ k. P a k z) (sym q) (subst (λ k. P a b k) (sym r) h))
+
+-- ---- a lock's removal, whatever is said to it
+
+pub unlock_reached : (own owned : ℕ) (left : Armed) (w : World) (t : Token) (say : Say) (new : Store) → StepsAsArmed Armed.Nothing own left owned w.store (Ask.Unlock t) say new → IsReached w → IsReached (over w new)
+unlock_reached own owned left w t say new s reached = let p = steps_plainly own owned left w.store (Ask.Unlock t) say new s in go p.0 p.1
+  where
+    by : Unlocks w t (over w new) ⊎ (HasFailed own owned × (over w new ≡ w)) → IsReached (over w new)
+    by u = reached_more (HasFailed own owned) w (Event.Unlock t) Applied.Done (over w new) reached (refl, u)
+
+    go : Step w.store (Ask.Unlock t) say new → (say ≡ Say.Refused Code.Fault → HasFailed own owned) → IsReached (over w new)
+    go (inl a) own_fault = by (inl (unlocks w t say new a))
+    go (inr (l, inl (e, inl same))) own_fault = by (inr (own_fault e, ap (over w) same))
+    go (inr (l, inl (e, inr (told, a)))) own_fault = by (inl (unlocks w t told new a))
+    go (inr (l, inr (e, same))) own_fault = subst IsReached (sym (ap (over w) same)) reached
+
+-- nothing was armed, and nothing is
+pub nothing_left : (own owned : ℕ) (say : Say) (left : Armed) → IsLeft (HasFailed own owned) Armed.Nothing say left → left ≡ Armed.Nothing
+nothing_left own owned say left (inl h) = h.1
+nothing_left own owned say left (inr h) = h.0
+
+pub if_well_with : {T E : Type 0} (r : Result T E) (P : T → Type 0) → is_err r ≡ false → IfOk r P → (x : T) × P x
+if_well_with (Ok x) P e h = (x, h)
+if_well_with (Err x) P e h = absurd (cc)

@@ -1,0 +1,85 @@
+-- A client of any job, as its job's own client stands.
+use Rattle.std.specs.Prelude.{[], Bool, List, Option}
+use Rattle.repo_wire.specs.declared.messages.Request.{Request}
+use Rattle.repo_session.specs.declared.emissions.Emission.{Emission}
+use Rattle.repo_session.specs.declared.outcomes.Outcome.{Outcome}
+use Rattle.repo_session.specs.Clients.{IsObedient}
+use Rattle.repo_session.specs.Sessions.{Given, who_in, next_in, ended_in, given_by}
+use Rattle.repo_session.specs.Traces.{Trace}
+use Rattle.repo_backup.specs.BackupObedience.{backup_obeys}
+use Rattle.repo_backup.specs.Backups as backups
+use Rattle.repo_backup.specs.Backups.{FitsBackup}
+use Rattle.repo_restore.specs.ListObedience.{list_obeys}
+use Rattle.repo_restore.specs.ListStates as lists
+use Rattle.repo_restore.specs.ListStates.{FitsList}
+use Rattle.repo_restore.specs.RestoreObedience.{wish_of, restore_obeys}
+use Rattle.repo_restore.specs.RestoreStates.{FitsRestore}
+use Rattle.repo_prune.specs.ForgetObedience.{forget_obeys}
+use Rattle.repo_prune.specs.ForgetStates as forgets
+use Rattle.repo_prune.specs.ForgetStates.{FitsForget, choice_of}
+use Rattle.repo_prune.specs.PruneObedience.{prune_obeys}
+use Rattle.repo_prune.specs.PruneStates.{FitsPrune, pruner_of}
+use Rattle.repo_check.specs.CheckObedience.{check_obeys}
+use Rattle.repo_check.specs.CheckStates.{FitsCheck, checker_of}
+use Rattle.repo_world.specs.Clients.{Allows, Client, Concludes, Gives, task_of}
+use Rattle.repo_world.specs.declared.any_clients.AnyClient.{AnyClient}
+use Rattle.repo_world.specs.declared.jobs.Job.{Job}
+
+-- who asks, and the job
+abbrev pub given_to : AnyClient → Given Job
+given_to (AnyClient.Backup c) = record { who = who_in c.session; handed = Job.Backup (backups.handed_to c.session.job) }
+given_to (AnyClient.Restore c) = record { who = (wish_of c).who; handed = Job.Restore (wish_of c).snapshot }
+given_to (AnyClient.List c) = record { who = lists.who_of c; handed = Job.List }
+given_to (AnyClient.Forget c) = record { who = forgets.who_of c; handed = Job.Forget (choice_of c) }
+given_to (AnyClient.Prune c) = record { who = pruner_of c; handed = Job.Prune }
+given_to (AnyClient.Check c) = record { who = checker_of c; handed = Job.Check }
+
+-- it stands where the trace leaves it
+abbrev pub FitsAny : AnyClient → Trace → Type 0
+FitsAny (AnyClient.Backup c) es = FitsBackup c es
+FitsAny (AnyClient.Restore c) es = FitsRestore c es
+FitsAny (AnyClient.List c) es = FitsList c es
+FitsAny (AnyClient.Forget c) es = FitsForget c es
+FitsAny (AnyClient.Prune c) es = FitsPrune c es
+FitsAny (AnyClient.Check c) es = FitsCheck c es
+
+-- what is pending
+abbrev pub any_next : AnyClient → Option Request
+any_next (AnyClient.Backup c) = next_in c.session
+any_next (AnyClient.Restore c) = next_in c.session
+any_next (AnyClient.List c) = next_in c.session
+any_next (AnyClient.Forget c) = next_in c.session
+any_next (AnyClient.Prune c) = next_in c.session
+any_next (AnyClient.Check c) = next_in c.session
+
+-- how it ended
+abbrev pub any_ended : AnyClient → Option Outcome
+any_ended (AnyClient.Backup c) = ended_in c.session
+any_ended (AnyClient.Restore c) = ended_in c.session
+any_ended (AnyClient.List c) = ended_in c.session
+any_ended (AnyClient.Forget c) = ended_in c.session
+any_ended (AnyClient.Prune c) = ended_in c.session
+any_ended (AnyClient.Check c) = ended_in c.session
+
+-- what it gave out last
+abbrev pub any_given : AnyClient → List Emission
+any_given (AnyClient.Backup c) = []
+any_given (AnyClient.Restore c) = given_by (λ j. j.given.items) c.session
+any_given (AnyClient.List c) = given_by (λ j. []) c.session
+any_given (AnyClient.Forget c) = given_by (λ j. []) c.session
+any_given (AnyClient.Prune c) = given_by (λ j. []) c.session
+any_given (AnyClient.Check c) = given_by (λ j. []) c.session
+
+-- it owes what its job owes
+pub any_obeys : (c : AnyClient) (es : Trace) → FitsAny c es → IsObedient (task_of (given_to c).handed (given_to c).who) (Allows (given_to c).handed) (Gives (given_to c).handed)
+    (Concludes (given_to c).handed) (any_next c) (any_ended c) es
+any_obeys (AnyClient.Backup c) es f = backup_obeys c es f
+any_obeys (AnyClient.Restore c) es f = restore_obeys c es f
+any_obeys (AnyClient.List c) es f = list_obeys c es f
+any_obeys (AnyClient.Forget c) es f = forget_obeys c es f
+any_obeys (AnyClient.Prune c) es f = prune_obeys c es f
+any_obeys (AnyClient.Check c) es f = check_obeys c es f
+
+-- what a client of the world is that stands so, after these exchanges
+abbrev pub client_of : AnyClient → Trace → Bool → Client
+client_of c es crashed = record { job = (given_to c).handed; who = (given_to c).who; trace = es; next = any_next c; outcome = any_ended c; crashed = crashed }

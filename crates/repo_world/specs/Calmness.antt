@@ -1,0 +1,19 @@
+-- Which events take no memory.
+use Rattle.std.specs.Prelude.{◌≡◌, ⊤, true, Option, Some, None, slice_get}
+use Rattle.repo_world.specs.World.{Message, Asked, Said, World, client}
+use Rattle.repo_world.specs.declared.events.Event.{Event}
+
+-- the delivery of such a message is ignored: there is none; or it is a reply to a client that doesn't run
+abbrev pub IsIgnored : World → Option Message → Type 0
+IsIgnored w None = ⊤
+IsIgnored w (Some (Asked k request)) = ⊥
+IsIgnored w (Some (Said k reply)) = (client w k).crashed ≡ true
+
+-- the event takes no memory: what is ignored, a crash, a restart
+abbrev pub IsCalm : World → Event → Type 0
+IsCalm w (Event.Deliver i) = IsIgnored w (slice_get w.messages i)
+IsCalm w (Event.Fault i fail) = IsIgnored w (slice_get w.messages i)
+IsCalm w (Event.Crash k) = ⊤
+IsCalm w Event.Restart = ⊤
+IsCalm w (Event.Start job host time) = ⊥
+IsCalm w (Event.Unlock token) = ⊥

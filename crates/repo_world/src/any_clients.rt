@@ -1,0 +1,165 @@
+//! Clients of any job.
+
+ghost use Rattle.std.specs.Prelude.{◌≡◌, [], List, IfOk, IfErr};
+ghost use Rattle.repo_tree.specs.declared.entries.Entry.{Entry};
+ghost use Rattle.repo_backup.specs.Handed.{IsRefusal};
+ghost use Rattle.repo_world.specs.AnyClients.{FitsAny, given_to};
+ghost use Rattle.repo_world.specs.Clients.{Accepts};
+ghost use Rattle.repo_world.specs.Reports.{role_of};
+ghost use Rattle.repo_world.specs.Starting.{IsNotBegun};
+ghost use Rattle.repo_world.specs.declared.jobs.Job.{Job};
+
+use crate::jobs::{Job, Refusal};
+use crate::reports::Role;
+use repo_backup::{Backup, BackupError};
+use repo_check::Check;
+use repo_prune::{Forget, ForgetError, Prune};
+use repo_restore::{Restore, SnapshotList};
+use repo_session::{Client, Emission, Outcome, Who};
+use repo_wire::{Reply, Request};
+use std::alloc::{AllocError, Global};
+
+/// A client of any job.
+#[derive(Drop)]
+pub enum AnyClient {
+    Backup(Backup),
+    Restore(Restore),
+    List(SnapshotList),
+    Forget(Forget),
+    Prune(Prune),
+    Check(Check),
+}
+
+/// Why a client isn't begun: it is refused, or there is no memory.
+#[derive(Clone, Copy, Debug, PartialEq, Eq)]
+pub enum NotBegun {
+    Refused(Refusal),
+    Memory,
+}
+
+/// The refusal of entries, or want of memory.
+fn entries_refused(error: BackupError) -> NotBegun
+    ensures { (entries : List Entry) → IsRefusal entries error → IsNotBegun (Job.Backup entries) result }
+{
+    match error {
+        BackupError::BadPath => NotBegun::Refused(Refusal::BadPath),
+        BackupError::Order => NotBegun::Refused(Refusal::Order),
+        BackupError::TooDeep => NotBegun::Refused(Refusal::TooDeep),
+        BackupError::TooLarge => NotBegun::Refused(Refusal::TooLarge),
+        BackupError::Memory => NotBegun::Memory,
+    }
+}
+
+impl AnyClient {
+    /// A client for this job, whose ticket is pending.
+    pub fn new(alloc: Global, who: Who, job: Job) -> Result<AnyClient, NotBegun>
+        ensures fits { IfOk result (λ client. FitsAny client []) }
+        ensures given { IfOk result (λ client. given_to client ≡ record { who = who; handed = job }) }
+        ensures accepted { IfOk result (λ _. Accepts job) }
+        ensures refused { IfErr result (IsNotBegun job) }
+    {
+        match job {
+            Job::Backup(entries) => match Backup::new(alloc, who, entries.into_inner()) {
+                Ok(backup) => Ok(AnyClient::Backup(backup)),
+                Err(error) => Err(entries_refused(error)),
+            },
+            Job::Restore(name) => Ok(AnyClient::Restore(Restore::new(alloc, who, name))),
+            Job::List => Ok(AnyClient::List(SnapshotList::new(alloc, who))),
+            Job::Forget(choice) => match Forget::new(alloc, who, choice) {
+                Ok(forget) => Ok(AnyClient::Forget(forget)),
+                Err(ForgetError::NoPolicy) => Err(NotBegun::Refused(Refusal::NoPolicy)),
+            },
+            Job::Prune => Ok(AnyClient::Prune(Prune::new(alloc, who))),
+            Job::Check => Ok(AnyClient::Check(Check::new(alloc, who))),
+        }
+    }
+
+    /// What it is, by its job.
+    pub fn role(&self) -> Role
+        ensures { result ≡ role_of (given_to self.now).handed }
+    {
+        match self {
+            AnyClient::Backup(_) => Role::Backup,
+            AnyClient::Restore(_) => Role::Restore,
+            AnyClient::List(_) => Role::List,
+            AnyClient::Forget(_) => Role::Forget,
+            AnyClient::Prune(_) => Role::Prune,
+            AnyClient::Check(_) => Role::Check,
+        }
+    }
+}
+
+impl Client for AnyClient {
+    ghost use Rattle.repo_session.specs.Sessions.{Given};
+    ghost use Rattle.repo_world.specs.AnyClients.{FitsAny, any_ended, any_given, any_next, any_obeys, given_to};
+    ghost use Rattle.repo_world.specs.Clients.{Allows, Concludes, Gives, rule_of, task_of};
+    ghost use Rattle.repo_world.specs.declared.jobs.Job.{Job as AnyJob};
+
+    ghost Job = { Given AnyJob };
+
+    ghost job = { given_to };
+
+    ghost task = { λ j. task_of j.handed j.who };
+
+    ghost allows = { λ j. Allows j.handed };
+
+    ghost gives = { λ j. Gives j.handed };
+
+    ghost concludes = { λ j. Concludes j.handed };
+
+    ghost calm = { λ j. (rule_of j.handed).calm };
+
+    ghost fits = { FitsAny };
+
+    ghost next = { any_next };
+
+    ghost ended = { any_ended };
+
+    ghost given = { any_given };
+
+    ghost obedient = { any_obeys };
+
+    fn pending(&self) -> Option<&Request> {
+        match self {
+            AnyClient::Backup(client) => client.pending(),
+            AnyClient::Restore(client) => client.pending(),
+            AnyClient::List(client) => client.pending(),
+            AnyClient::Forget(client) => client.pending(),
+            AnyClient::Prune(client) => client.pending(),
+            AnyClient::Check(client) => client.pending(),
+        }
+    }
+
+    fn take(&mut self, reply: &Reply) -> Result<(), AllocError> {
+        match self {
+            AnyClient::Backup(client) => client.take(reply),
+            AnyClient::Restore(client) => client.take(reply),
+            AnyClient::List(client) => client.take(reply),
+            AnyClient::Forget(client) => client.take(reply),
+            AnyClient::Prune(client) => client.take(reply),
+            AnyClient::Check(client) => client.take(reply),
+        }
+    }
+
+    fn outcome(&self) -> Option<&Outcome> {
+        match self {
+            AnyClient::Backup(client) => client.outcome(),
+            AnyClient::Restore(client) => client.outcome(),
+            AnyClient::List(client) => client.outcome(),
+            AnyClient::Forget(client) => client.outcome(),
+            AnyClient::Prune(client) => client.outcome(),
+            AnyClient::Check(client) => client.outcome(),
+        }
+    }
+
+    fn emitted(&self) -> &[Emission] {
+        match self {
+            AnyClient::Backup(client) => client.emitted(),
+            AnyClient::Restore(client) => client.emitted(),
+            AnyClient::List(client) => client.emitted(),
+            AnyClient::Forget(client) => client.emitted(),
+            AnyClient::Prune(client) => client.emitted(),
+            AnyClient::Check(client) => client.emitted(),
+        }
+    }
+}

@@ -1,0 +1,211 @@
+//! All clients with all messages between them and the store.
+
+ghost use Rattle.std.specs.Prelude.{◌≡◌, ◌<◌, [], ℕ, IfOk, IsOk, OnErr, IfSome, length, option_map, slice_get, slice_index_or, string_bytes, true, map, Some};
+ghost use Rattle.repo_name.specs.Rows.{IsHost};
+ghost use Rattle.repo_wire.specs.Messages.{requests as request_sort};
+ghost use Rattle.repo_wire.specs.Stream.{FitsFrame};
+ghost use Rattle.repo_store.specs.Stores.{Store};
+ghost use Rattle.repo_store.specs.declared.faults.Armed.{Armed};
+ghost use Rattle.repo_session.specs.Askers.{asker};
+ghost use Rattle.repo_world.specs.Events.{Arrives, Begins, Delivers, Serves, Stops};
+ghost use Rattle.repo_world.specs.Flows.{clients_in, messages_in, seat_at, world_of};
+ghost use Rattle.repo_world.specs.Reports.{client_lines};
+ghost use Rattle.repo_world.specs.Seating.{StepsAsArmed};
+ghost use Rattle.repo_world.specs.Seats.{nothing, silence};
+ghost use Rattle.repo_world.specs.World.{instance_of, client};
+ghost use Rattle.repo_world.specs.Calmness.{IsIgnored};
+ghost use Rattle.repo_world.specs.declared.events.Applied.{Applied};
+
+use crate::any_clients::{AnyClient, NotBegun};
+use crate::events::Applied;
+use crate::jobs::{Host, Job};
+use crate::messages::Message;
+use crate::seats::{Arrival, Seat};
+use repo_name::Instance;
+use repo_session::{Outcome, Who, WhoError};
+use repo_store::Shelf;
+use repo_wire::{Reply, Request};
+use std::alloc::{AllocError, Global};
+use std::marker::Model;
+
+/// All clients, with all messages between them and the store. A clause sees the seats and the messages.
+#[derive(Drop)]
+pub struct Traffic {
+    seats: Vec<Seat>,
+    messages: Vec<Message>,
+    alloc: Global,
+}
+
+impl Model for Traffic {
+    ghost use Rattle.repo_world.specs.Flows.{AreThere, Flow};
+
+    ghost Value = { Flow };
+
+    ghost view = { λ t. record { seats = t.seats.items; messages = t.messages.items } };
+
+    ghost invariant = { λ t. AreThere t.seats.items t.messages.items };
+}
+
+/// Who the client of a number is. It fails for memory alone.
+fn who_of(alloc: Global, number: usize, host: &Host, time: u64) -> Result<Who, AllocError>
+    ensures who { IfOk result (λ who. who ≡ asker (instance_of number) host.now time) }
+    ensures host { IsHost host.now }
+{
+    let instance = Instance((number as u128).to_be_bytes());
+    match Who::new(alloc, instance, host.as_str(), time) {
+        Ok(who) => Ok(who),
+        Err(WhoError::Host) => unreachable!(),
+        Err(WhoError::Memory) => Err(AllocError),
+    }
+}
+
+impl Traffic {
+    /// No clients, and no messages. It takes no memory.
+    pub fn new(alloc: Global) -> Traffic
+        ensures { result ≡ record { seats = []; messages = [] } }
+    {
+        Traffic {
+            seats: Vec::new(alloc),
+            messages: Vec::new(alloc),
+            alloc,
+        }
+    }
+
+    /// All messages, in the order in which they were sent.
+    pub fn messages(&self) -> &[Message]
+        ensures { result.now ≡ self.now.messages }
+    {
+        self.messages.as_slice()
+    }
+
+    /// The seat of a client.
+    pub fn seat(&self, client: usize) -> Option<&Seat>
+        ensures { option_map (λ seat. seat.now) result ≡ slice_get self.now.seats client }
+    {
+        self.seats.as_slice().get(client)
+    }
+
+    /// How many clients started.
+    pub fn clients(&self) -> usize
+        ensures { result ≡ length self.now.seats }
+    {
+        self.seats.len()
+    }
+
+    /// The lines of all clients in a report, in order. It fails for memory alone.
+    pub fn client_lines(&self) -> Result<String, AllocError>
+        ensures { IfOk result (λ text. string_bytes text ≡ client_lines 0 (clients_in self.now)) }
+    {
+        let mut text = String::new(self.alloc);
+        for (number, seat) in self.seats.as_slice().iter().enumerate() {
+            let line = seat.line(number)?;
+            text.push_str(line.as_str())?;
+        }
+        Ok(text)
+    }
+
+    /// A client starts, as the one of the next number, and asks for its ticket; or it isn't begun. It fails for memory
+    /// alone, and then nothing changed.
+    pub fn start(&mut self, job: Job, host: &Host, time: u64) -> Result<Applied, AllocError>
+        ensures begins { (store : Store) → IfOk result (λ applied. Begins (world_of store self.old) job host.now time applied (world_of store self.new)) }
+        ensures err { OnErr result (self.new ≡ self.old) }
+    {
+        self.seats.reserve(1)?;
+        self.messages.reserve(1)?;
+        let number = self.seats.len();
+        let who = who_of(self.alloc, number, host, time)?;
+        match AnyClient::new(self.alloc, who, job) {
+            Ok(client) => {
+                self.seats.push(Seat::new(self.alloc, client))?;
+                self.messages.push(Message::Asked {
+                    client: number,
+                    request: 0,
+                })?;
+                Ok(Applied::Done)
+            }
+            Err(NotBegun::Refused(refusal)) => Ok(Applied::Refused(refusal)),
+            Err(NotBegun::Memory) => Err(AllocError),
+        }
+    }
+
+    /// The store answers a request, and its reply joins the messages. It fails for memory alone, and then nothing changed.
+    fn serve<S: Shelf>(
+        &mut self,
+        shelf: &mut S,
+        client: usize,
+        request: usize,
+    ) -> Result<Applied, AllocError>
+        requires { request < length (seat_at self.old.seats client).requests }
+        ensures done { IfOk result (λ applied. applied ≡ Applied.Done) }
+        ensures serves { S.honest shelf.old → IfOk result (λ _. Serves (StepsAsArmed (S.armed shelf.old) (S.own shelf.old) (S.armed shelf.new) (S.own shelf.new)) (world_of (S.store shelf.old) self.old) client (slice_index_or (seat_at self.old.seats client).requests request nothing) (world_of (S.store shelf.new) self.new)) }
+        ensures honest { S.honest shelf.old → S.honest shelf.new }
+        ensures disarmed { S.honest shelf.old → S.armed shelf.old ≡ Armed.Nothing → S.armed shelf.new ≡ Armed.Nothing }
+        ensures err { OnErr result (self.new ≡ self.old) }
+        ensures unused { OnErr result (shelf.new ≡ shelf.old) }
+    {
+        self.messages.reserve(1)?;
+        let seat = &mut self.seats[client];
+        let reply = seat.replies();
+        seat.serve(shelf, request)?;
+        self.messages.push(Message::Said { client, reply })?;
+        Ok(Applied::Done)
+    }
+
+    /// A reply is delivered to its client, which may take it and send one request more. It fails for memory alone, and then
+    /// nothing changed; no memory is asked for where the client stopped.
+    fn take(&mut self, client: usize, reply: usize) -> Result<Applied, AllocError>
+        requires { reply < length (seat_at self.old.seats client).replies }
+        ensures arrives { (store : Store) → IfOk result (λ applied. Arrives (world_of store self.old) client (slice_index_or (seat_at self.old.seats client).replies reply silence) applied (world_of store self.new)) }
+        ensures err { OnErr result (self.new ≡ self.old) }
+        ensures calm { (seat_at self.old.seats client).client.crashed ≡ true → IsOk result }
+    {
+        let seat = &mut self.seats[client];
+        if seat.is_crashed() {
+            return Ok(Applied::Ignored);
+        }
+        self.messages.reserve(1)?;
+        match seat.take(reply)? {
+            Arrival::Stopped => Ok(Applied::Ignored),
+            Arrival::Unawaited => Ok(Applied::Done),
+            Arrival::Taken => {
+                if seat.pending().is_some() {
+                    let request = seat.requests() - 1;
+                    self.messages.push(Message::Asked { client, request })?;
+                }
+                Ok(Applied::Done)
+            }
+        }
+    }
+
+    /// The message of a number is delivered: a request to the store, or a reply to its client. It fails for memory alone,
+    /// and then nothing changed; no memory is asked for where it is ignored.
+    pub fn deliver<S: Shelf>(&mut self, shelf: &mut S, number: usize) -> Result<Applied, AllocError>
+        ensures delivers { S.honest shelf.old → IfOk result (λ applied. Delivers (StepsAsArmed (S.armed shelf.old) (S.own shelf.old) (S.armed shelf.new) (S.own shelf.new)) (world_of (S.store shelf.old) self.old) (slice_get (messages_in self.old) number) applied (world_of (S.store shelf.new) self.new)) }
+        ensures honest { S.honest shelf.old → S.honest shelf.new }
+        ensures disarmed { S.honest shelf.old → S.armed shelf.old ≡ Armed.Nothing → S.armed shelf.new ≡ Armed.Nothing }
+        ensures err { OnErr result (self.new ≡ self.old) }
+        ensures unused { OnErr result (shelf.new ≡ shelf.old) }
+        ensures calm { (store : Store) → IsIgnored (world_of store self.old) (slice_get (messages_in self.old) number) → IsOk result }
+    {
+        match self.messages.as_slice().get(number).copied() {
+            None => Ok(Applied::Ignored),
+            Some(Message::Asked { client, request }) => self.serve(shelf, client, request),
+            Some(Message::Said { client, reply }) => self.take(client, reply),
+        }
+    }
+
+    /// The client of a number stops for good, if it runs.
+    pub fn crash(&mut self, client: usize) -> Applied
+        ensures { (store : Store) → Stops (world_of store self.old) client result (world_of store self.new) }
+    {
+        if client >= self.seats.len() {
+            return Applied::Ignored;
+        }
+        let seat = &mut self.seats[client];
+        if seat.is_crashed() {
+            return Applied::Ignored;
+        }
+        seat.crash();
+        Applied::Done
+    }
+}

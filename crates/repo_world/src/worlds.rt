@@ -1,0 +1,275 @@
+//! The world in code: a store in a device, its clients, and all messages.
+
+ghost use Rattle.std.specs.Prelude.{◌≡◌, ◌≢◌, ◌<◌, ◌↔◌, [], ℕ, List, IfOk, IfErr, IsErrOf, IsOk, IsTrue, OnErr, OnOk, None, length, option_map, slice_get, string_bytes, take, Some, ⊤};
+ghost use Rattle.repo_tree.specs.ConfigText.{config_text, IsTarget};
+ghost use Rattle.repo_wire.specs.declared.messages.Ask.{Ask};
+ghost use Rattle.repo_wire.specs.declared.messages.Code.{Code};
+ghost use Rattle.repo_wire.specs.declared.messages.Say.{Say};
+ghost use Rattle.repo_store.specs.declared.making.InitError.{InitError};
+ghost use Rattle.repo_world.specs.Calmness.{IsCalm};
+ghost use Rattle.repo_world.specs.Events.{Happens, Run};
+ghost use Rattle.repo_store.specs.Laws.{HasCause};
+ghost use Rattle.repo_store.specs.Memory.{store_of};
+ghost use Rattle.repo_store.specs.Stores.{empty};
+ghost use Rattle.repo_world.specs.Laws.{IsEmpty};
+ghost use Rattle.repo_world.specs.Reports.{IsReport};
+ghost use Rattle.repo_world.specs.Stages.{BeginsWith, IsSafely, Leads, seen};
+ghost use Rattle.repo_world.specs.Flows.{seat_at};
+ghost use Rattle.repo_world.specs.World as world;
+ghost use Rattle.repo_world.specs.World.{awaited};
+ghost use Rattle.repo_world.specs.declared.events.Applied.{Applied};
+ghost use Rattle.repo_world.specs.declared.events.Event.{Event};
+
+use crate::events::{Applied, Event};
+use crate::jobs::{Host, Job};
+use crate::messages::Message;
+use crate::reports::store_line;
+use crate::traffic::Traffic;
+use repo_name::{Instance, Token};
+use repo_session::Outcome;
+use repo_store::{Fail, FaultShelf, InitError, Kept, MemShelf, Shelf, ShelfError, answer, init};
+use repo_tree::Config;
+use repo_wire::{Ask, Code, Reply, Request, Say};
+use std::alloc::{AllocError, Global};
+use std::marker::Model;
+
+/// A run stopped, as there was no memory.
+#[derive(Clone, Copy, Debug, PartialEq, Eq)]
+pub struct RunError {
+    /// How many of the events happened, the first ones. The next one changed nothing.
+    pub applied: usize,
+}
+
+/// A store in a device, any number of clients, and all messages that were ever sent between them.
+#[derive(Drop)]
+pub struct World<S: Shelf + Drop> {
+    shelf: Kept<FaultShelf<S>>,
+    flow: Traffic,
+    alloc: Global,
+}
+
+impl<S: Shelf + Drop> Model for World<S> {
+    ghost use Rattle.repo_world.specs.Stages.{Stage, Stands};
+
+    ghost Value = { Stage S };
+
+    ghost view = { λ w. record { device = w.shelf.inner.inner; flow = w.flow } };
+
+    ghost invariant = { λ w. Stands S.honest S.store w.shelf w.flow };
+}
+
+/// The removal of a token's lock, as it is asked of the store.
+fn removal(token: Token) -> Request
+    ensures { result.ask ≡ Ask.Unlock token }
+{
+    Request {
+        instance: Instance([0; 16]),
+        sequence: 0,
+        ask: Ask::Unlock(token),
+    }
+}
+
+/// Whether there was no memory for an answer.
+fn wants_memory(say: &Say) -> bool
+    ensures { IsTrue result ↔ (say.now ≡ Say.Refused Code.NoMemory) }
+{
+    match say {
+        Say::Refused(code) => *code == Code::NoMemory,
+        _ => false,
+    }
+}
+
+impl World<MemShelf> {
+    /// A world over an empty shelf in memory, with this config. The config's version has to be 1, and its target within its
+    /// limits. It fails for memory alone.
+    pub fn in_memory(alloc: Global, config: &Config) -> Result<World<MemShelf>, AllocError>
+        requires version { config.now.version ≡ 1 }
+        requires target { IsTarget config.now.target }
+        ensures begins { IfOk result (λ w. BeginsWith (config_text config.now) empty (seen store_of w)) }
+    {
+        match World::new(alloc, MemShelf::new(alloc), config) {
+            Ok(world) => Ok(world),
+            Err(_) => Err(AllocError),
+        }
+    }
+}
+
+impl<S: Shelf + Drop> World<S> {
+    /// A world over a device that is honest, has no object, and gave no ticket, with this config. The config's version has
+    /// to be 1, and its target within its limits.
+    ///
+    /// `Exists` comes first, where the device has a config.
+    pub fn new(alloc: Global, shelf: S, config: &Config) -> Result<World<S>, InitError>
+        requires honest { S.honest shelf }
+        requires empty { IsEmpty (S.store shelf) }
+        requires version { config.now.version ≡ 1 }
+        requires target { IsTarget config.now.target }
+        ensures begins { IfOk result (λ w. BeginsWith (config_text config.now) (S.store shelf) (seen S.store w)) }
+        ensures exists { IsErrOf result InitError.Exists → (S.store shelf).config ≢ None }
+        ensures safe { IfOk result (λ w. IsSafely (seen S.store w)) }
+    {
+        let mut shelf = Kept::new(alloc, FaultShelf::new(shelf));
+        init(alloc, &mut shelf, config)?;
+        shelf.disarm();
+        Ok(World {
+            shelf,
+            flow: Traffic::new(alloc),
+            alloc,
+        })
+    }
+
+    /// A client starts, or isn't begun.
+    fn start(&mut self, job: Job, host: &Host, time: u64) -> Result<Applied, AllocError>
+        ensures happens { IfOk result (λ applied. Leads S.store S.failed self.old (Event.Start job host.now time) applied self.new) }
+        ensures err { OnErr result (self.new ≡ self.old) }
+    {
+        self.flow.start(job, host, time)
+    }
+
+    /// A client stops for good, if it runs.
+    fn crash(&mut self, client: usize) -> Applied
+        ensures { Leads S.store S.failed self.old (Event.Crash client) result self.new }
+    {
+        self.flow.crash(client)
+    }
+
+    /// A message is delivered.
+    fn deliver(&mut self, message: usize) -> Result<Applied, AllocError>
+        ensures happens { IfOk result (λ applied. Leads S.store S.failed self.old (Event.Deliver message) applied self.new) }
+        ensures err { OnErr result (self.new ≡ self.old) }
+        ensures calm { IsCalm (seen S.store self.old) (Event.Deliver message) → IsOk result }
+    {
+        self.flow.deliver(&mut self.shelf, message)
+    }
+
+    /// A message is delivered, and the device fails in a call.
+    fn fault(&mut self, message: usize, fail: Fail) -> Result<Applied, AllocError>
+        ensures happens { IfOk result (λ applied. Leads S.store S.failed self.old (Event.Fault message fail) applied self.new) }
+        ensures err { OnErr result (seen S.store self.new ≡ seen S.store self.old) }
+        ensures calm { IsCalm (seen S.store self.old) (Event.Fault message fail) → IsOk result }
+    {
+        self.shelf.arm(fail);
+        let applied = self.flow.deliver(&mut self.shelf, message);
+        self.shelf.disarm();
+        applied
+    }
+
+    /// A lock is removed. It goes the way of a request, so that what is remembered of the device agrees with it.
+    fn unlock(&mut self, token: Token) -> Result<Applied, AllocError>
+        ensures happens { IfOk result (λ applied. Leads S.store S.failed self.old (Event.Unlock token) applied self.new) }
+        ensures err { OnErr result (seen S.store self.new ≡ seen S.store self.old) }
+    {
+        let reply = answer(self.alloc, &mut self.shelf, &removal(token));
+        if wants_memory(&reply.say) {
+            return Err(AllocError);
+        }
+        Ok(Applied::Done)
+    }
+
+    /// The store is closed and opened.
+    fn restart(&mut self) -> Applied
+        ensures { Leads S.store S.failed self.old Event.Restart result self.new }
+    {
+        self.shelf.forget();
+        Applied::Done
+    }
+
+    /// An event happens. It fails for memory alone, and then nothing changed; no memory is asked for where it is ignored, nor
+    /// for a crash and a restart.
+    pub fn apply(&mut self, event: Event) -> Result<Applied, AllocError>
+        ensures happens { IfOk result (λ applied. Leads S.store S.failed self.old event applied self.new) }
+        ensures safe { IsSafely (seen S.store self.new) }
+        ensures err { OnErr result (seen S.store self.new ≡ seen S.store self.old) }
+        ensures calm { IsCalm (seen S.store self.old) event → IsOk result }
+    {
+        let applied = match event {
+            Event::Start { job, host, time } => self.start(job, &host, time),
+            Event::Deliver(message) => self.deliver(message),
+            Event::Fault { message, fail } => self.fault(message, fail),
+            Event::Unlock(token) => self.unlock(token),
+            Event::Crash(client) => Ok(self.crash(client)),
+            Event::Restart => Ok(self.restart()),
+        };
+        // A look at a field tells the prover the invariant.
+        let _ = &self.shelf;
+        applied
+    }
+
+    /// The events happen, one after another, until there is no memory. The world is safe after those that happened.
+    pub fn run(&mut self, events: Vec<Event>) -> Result<(), RunError>
+        ensures ran { OnOk result (Run (seen S.store self.old) events.items (seen S.store self.new)) }
+        ensures stopped { IfErr result (λ e. (e.applied < length events.items) × Run (seen S.store self.old) (take e.applied events.items) (seen S.store self.new)) }
+        ensures safe { IsSafely (seen S.store self.new) }
+    {
+        // A look at a field tells the prover the invariant.
+        let _ = &self.shelf;
+        let mut applied = 0;
+        for event in events {
+            if self.apply(event).is_err() {
+                return Err(RunError { applied });
+            }
+            applied += 1;
+        }
+        Ok(())
+    }
+
+    /// The report: a line for each client, in order, with what it is and how its job ended, and then one of what the store
+    /// has. It changes nothing but the count of the device's failures. `Fault` comes only where the device failed.
+    pub fn report(&mut self) -> Result<String, ShelfError>
+        ensures report { IfOk result (λ text. IsReport (seen S.store self.old) (string_bytes text)) }
+        ensures same { seen S.store self.new ≡ seen S.store self.old }
+        ensures cause { HasCause (S.failed self.old.device) result (S.failed self.new.device) }
+    {
+        let mut text = self.flow.client_lines()?;
+        let line = store_line(self.alloc, &mut self.shelf)?;
+        text.push_str(line.as_str())?;
+        Ok(text)
+    }
+
+    /// All messages, in the order in which they were sent: each stands for the request, or the reply, that [`World::request`]
+    /// and [`World::reply`] lend.
+    pub fn messages(&self) -> &[Message]
+        ensures { result.now ≡ self.now.flow.messages }
+    {
+        self.flow.messages()
+    }
+
+    /// The request of a client at a place, counted from 0.
+    pub fn request(&self, client: usize, place: usize) -> Option<&Request>
+        ensures { option_map (λ request. request.now) result ≡ slice_get (seat_at self.now.flow.seats client).requests place }
+    {
+        self.flow.seat(client)?.request(place)
+    }
+
+    /// The reply to a client at a place, counted from 0.
+    pub fn reply(&self, client: usize, place: usize) -> Option<&Reply>
+        ensures { option_map (λ reply. reply.now) result ≡ slice_get (seat_at self.now.flow.seats client).replies place }
+    {
+        self.flow.seat(client)?.reply(place)
+    }
+
+    /// The request that a client waits for, until it stopped for good.
+    pub fn pending(&self, client: usize) -> Option<&Request>
+        ensures { option_map (λ request. request.now) result ≡ awaited (world.client (seen S.store self.now) client) }
+    {
+        let seat = self.flow.seat(client)?;
+        if seat.is_crashed() {
+            return None;
+        }
+        seat.pending()
+    }
+
+    /// How a client's job ended, once it has.
+    pub fn outcome(&self, client: usize) -> Option<&Outcome>
+        ensures { option_map (λ outcome. outcome.now) result ≡ (world.client (seen S.store self.now) client).outcome }
+    {
+        self.flow.seat(client)?.outcome()
+    }
+
+    /// How many clients started.
+    pub fn clients(&self) -> usize
+        ensures { result ≡ length (seen S.store self.now).clients }
+    {
+        self.flow.clients()
+    }
+}
