@@ -1,108 +1,143 @@
 #!/usr/bin/env bash
-# Times vault by real processes over the loopback: a backup, the same backup again, and a restore of a large file of
-# random bytes and of many small files; a check of all that, and a prune after half of the small files were forgotten; with
-# the seconds and the greatest resident set of client and server; and restic on the same files, in the same run, where it is
-# installed. restic encrypts what it stores, and vault doesn't; restic's compression is off. Its second backup is run twice:
-# as it is (files whose times haven't changed aren't read), and with all files read again, as vault does.
+# Times vault by real processes over the loopback, in the steps that users have, and restic and borg on the same files in the same
+# minutes, where they are installed. The files: one large one, many small ones, and a mixed tree (bench/files.py).
 #
-# Usage: bench/backup.sh [MIB [FILES]]. Without words: one file of 512 MiB, and 20,000 files of 2 KiB. The port is 7073, or
-# PORT. All that it makes lies in a temporary folder, which is removed at the end.
+# A line has a step and a program; then the program's processor time divided by restic's; then seconds of the clock, and of
+# processors, which are for vault the client's and the server's; the greatest resident set of each, in MiB; and the MiB
+# that the store has afterwards. restic encrypts what it stores, and its compression is off here; borg has neither. Of a second backup
+# restic and borg pass over files whose times haven't changed; "all read" has them read as vault does. A restore of vault's is
+# on the disk when it ends; those of the others needn't be.
+#
+# Usage: bench/backup.sh [MIB [FILES [MIXED]]]. Without words: one file of 512 MiB, 20,000 files of 2 KiB, a tree of 256 MiB.
+# With 64 2000 32 it takes about a minute. VAULT=PATH times that program in place of the one that is built; PROCESSOR is handed to
+# scripts/vault.sh. The port is 7082, or PORT. All that it makes lies in a temporary folder, which is removed at the end.
 set -euo pipefail
-mebibytes=${1:-512}
-files=${2:-20000}
-cd "$(dirname "$0")/../crates/vault"
-address=127.0.0.1:${PORT:-7073}
+here=$(cd "$(dirname "$0")" && pwd)
+declare -A sizes=([large]=${1:-512} [small]=${2:-20000} [mixed]=${3:-256})
+address=127.0.0.1:${PORT:-7082}
+vault=${VAULT:-}
+[ -n "$vault" ] || vault=$("$here/../scripts/vault.sh" ${PROCESSOR:+"$PROCESSOR"})
+vault=$(realpath "$vault")
 work=$(mktemp -d)
 trap 'rm -rf "$work"' EXIT
+export RESTIC_PASSWORD=none RESTIC_CACHE_DIR=$work/cache BORG_BASE_DIR=$work/base BORG_UNKNOWN_UNENCRYPTED_REPO_ACCESS_IS_OK=yes
+programs=(restic vault borg)
 
-rt run -- --version >"$work/built" 2>&1 || { cat "$work/built" >&2; exit 1; }
-vault=$PWD/out/vault
-
-# So many bytes that look random, the same for the same seed.
-random_bytes() {
-    { openssl enc -aes-256-ctr -nosalt -pbkdf2 -pass "pass:$1" -in /dev/zero 2>/dev/null || true; } | head -c "$2"
+has() {
+    [ "$1" = vault ] || command -v "$1" >/dev/null
 }
 
-# Times a command, in FILE: wall seconds, its processor seconds in user and system mode, and KiB resident at most.
+# Times a command, in FILE: seconds of the clock, seconds of processors in user and system mode, and KiB resident at most.
 timed() {
     local file=$1
     shift
     command time -f '%e %U %S %M' -o "$file" "$@"
 }
 
-# Prints a line of the table: STEP, and the files that timed wrote of the client and, for vault, of the server.
-line() {
-    awk -v step="$1" '
-        { processor[NR] = $2 + $3; resident[NR] = $4 / 1024 }
-        NR == 1 { wall = $1 }
-        END { printf "%-34s %8.2f %10.2f %10.2f %10.2f %10d %10d\n", step, wall,
-              processor[1], processor[2], processor[1] + processor[2], resident[1], resident[2] }' "${@:2}"
-}
-
-# Runs a command of vault against a server of one connection, and prints its line.
-with_server() {
-    local step=$1
-    shift
-    timed "$work/server" "$vault" serve "$work/store" "$address" --connections 1 >"$work/listens" 2>&1 &
-    local server=$!
+# Runs commands of vault, with ";" between them, against a server.
+run_vault() {
+    local count=1 word words=() server
+    for word in "$@"; do
+        if [ "$word" = ";" ]; then count=$((count + 1)); fi
+    done
+    timed "$work/server" "$vault" serve "$work/store" "$address" --connections "$count" >"$work/listens" 2>&1 &
+    server=$!
     until grep -qs listening "$work/listens"; do
         kill -0 "$server"
-        sleep 0.05
+        sleep 0.02
     done
-    timed "$work/client" "$vault" "$@" >"$work/told"
+    for word in "$@"; do
+        words+=("$(if [ "$word" = ";" ]; then echo "&& $vault"; else printf %q "$word"; fi)")
+    done
+    timed "$work/client" sh -c "$vault ${words[*]}" >"$work/told"
     wait "$server"
-    line "vault $step" "$work/client" "$work/server"
 }
 
-# Runs a command of restic, and prints its line.
-with_restic() {
-    local step=$1
-    shift
-    timed "$work/client" restic --quiet --repo "$work/restic" --cache-dir "$work/cache" "$@" >/dev/null
-    line "restic $step" "$work/client"
+run_restic() {
+    timed "$work/client" restic --quiet "$@" >"$work/told"
 }
 
-mkdir -p "$work/large" "$work/small"
-random_bytes large $((mebibytes * 1048576)) >"$work/large/file"
-random_bytes small $((files * 2048)) | (cd "$work/small" && split -a 5 -d -b 2048 - file)
-(cd "$work/small" && for file in file*; do
-    mkdir -p "${file:0:7}" && mv "$file" "${file:0:7}/"
-done)
-"$vault" init "$work/store" >/dev/null
-export RESTIC_PASSWORD=none
-! command -v restic >/dev/null || restic --quiet --repo "$work/restic" --cache-dir "$work/cache" init >/dev/null
+run_borg() {
+    timed "$work/client" sh -c "cd '$work/again' && borg $1" >"$work/told"
+}
 
-printf '%-34s %8s %10s %10s %10s %10s %10s\n' "" "wall s" "client s" "server s" "sum s" "client MiB" "server MiB"
-for folder in large small; do
-    with_server "backup of $folder" backup "$address" host "$work/$folder"
-    name=$(cut -d ' ' -f 2 "$work/told")
-    with_server "backup of $folder, again" backup "$address" host "$work/$folder"
-    with_server "restore of $folder" restore "$address" "$name" "$work/again"
-    diff -r "$work/$folder" "$work/again"
-    rm -r "$work/again"
-    if command -v restic >/dev/null; then
-        with_restic "backup of $folder" backup --compression off "$work/$folder"
-        with_restic "backup of $folder, again" backup --compression off "$work/$folder"
-        with_restic "backup of $folder, all read again" backup --compression off --force "$work/$folder"
-        with_restic "restore of $folder" restore latest --target "$work/again"
-        rm -r "$work/again"
-    fi
+# Does a step with a program; `folder` is what is backed up.
+step() {
+    local name=$2
+    rm -f "$work/server"
+    case "$1: $name" in
+    "vault: backup" | "vault: again" | "vault: again, all read" | "vault: edited")
+        run_vault backup "$address" host "$folder" ;;
+    "vault: restore")
+        run_vault restore "$address" "$(cut -d ' ' -f 2 "$work/stored")" "$work/again/vault" ;;
+    "vault: list") run_vault snapshots "$address" ;;
+    "vault: check") run_vault check "$address" ;;
+    "vault: forget and prune") run_vault forget "$address" --keep-last 1 ";" prune "$address" ;;
+    "restic: backup" | "restic: again" | "restic: edited") run_restic backup --compression off "$folder" ;;
+    "restic: again, all read") run_restic backup --compression off --force "$folder" ;;
+    "restic: restore") run_restic restore latest --target "$work/again/restic" ;;
+    "restic: list") run_restic snapshots ;;
+    "restic: check") run_restic check --read-data ;;
+    "restic: forget and prune") run_restic forget --keep-last 1 --prune --max-unused 0 --compression off ;;
+    "borg: backup" | "borg: again" | "borg: edited")
+        run_borg "create --compression none ::$name '$folder'" ;;
+    "borg: again, all read") run_borg "create --compression none --files-cache disabled ::read '$folder'" ;;
+    "borg: restore") run_borg "extract ::edited" ;;
+    "borg: list") run_borg list ;;
+    "borg: check") run_borg "check --verify-data" ;;
+    "borg: forget and prune") run_borg "prune --keep-last 1 && borg compact --threshold 0" ;;
+    esac
+    if [ "$1" = vault ] && grep -q '^stored' "$work/told"; then cp "$work/told" "$work/stored"; fi
+}
+
+# Prints the line of what a step took: STEP PROGRAM, and the folder of what is stored.
+line() {
+    local files=("$work/client")
+    [ ! -e "$work/server" ] || files+=("$work/server")
+    awk -v step="$1" -v program="$2" -v stored="$(du -sk "$3" | cut -f 1)" -v of="$work/restic-seconds" '
+        { processors[NR] = $2 + $3; resident[NR] = sprintf("%d", $4 / 1024) }
+        NR == 1 { wall = $1 }
+        END {
+            both = processors[1] + processors[2]
+            if (program == "restic") { print both >of }
+            else { (getline restic <of) }
+            if (program == "restic") { restic = both }
+            ratio = restic > 0 ? sprintf("%.2f", both / restic) : "-"
+            each = NR > 1 ? sprintf("%.2f + %.2f", processors[1], processors[2]) : sprintf("%.2f", both)
+            memory = NR > 1 ? resident[1] " + " resident[2] : resident[1]
+            printf "| %-29s | %-7s | %9s | %7.2f | %15s | %11s | %7.1f |\n", step, program, ratio, wall, each, memory, stored / 1024
+        }' "${files[@]}"
+}
+
+echo "$(lscpu | sed -n 's/^Model name: *//p'), $(nproc) processors"
+for program in "${programs[@]}"; do
+    ! has "$program" || case $program in
+    vault) "$vault" --version ;;
+    restic) restic version ;;
+    borg) borg --version ;;
+    esac
 done
-
-# A check reads every pack.
-with_server "check" check "$address"
-! command -v restic >/dev/null || with_restic "check" check --read-data
-
-# Half of the small files stay, in a snapshot of their own; the others are forgotten.
-find "$work/small" -type f -name '*[02468]' -delete
-with_server "backup of half of small" backup "$address" host "$work/small"
-keep=$(cut -d ' ' -f 2 "$work/told")
-with_server "snapshots" snapshots "$address"
-mapfile -t names < <(cut -d ' ' -f 1 "$work/told" | grep -v "$keep")
-with_server "forget" forget "$address" "${names[@]}"
-with_server "prune" prune "$address"
-if command -v restic >/dev/null; then
-    with_restic "backup of half of small" backup --compression off "$work/small"
-    with_restic "forget" forget --keep-last 1 --group-by ''
-    with_restic "prune" prune --max-unused 0
-fi
+printf '| %-29s | %-7s | %9s | %7s | %15s | %11s | %7s |\n' step program "of restic" clock "processors" MiB "stored"
+echo '|---|---|---|---|---|---|---|'
+for kind in large small mixed; do
+    folder=$work/$kind
+    "$here/files.py" make "$kind" "$folder" "${sizes[$kind]}"
+    export RESTIC_REPOSITORY=$work/restic BORG_REPO=$work/borg
+    "$vault" init "$work/store" >"$work/told"
+    ! has restic || restic --quiet init >"$work/told"
+    ! has borg || borg init --encryption none >"$work/told"
+    for name in backup again "again, all read" edited restore list check "forget and prune"; do
+        [ "$name" != edited ] || "$here/files.py" edit "$folder"
+        rm -rf "$work/again" "$work/restic-seconds"
+        mkdir "$work/again"
+        for program in "${programs[@]}"; do
+            has "$program" || continue
+            step "$program" "$name"
+            stored=$work/$program
+            [ "$program" != vault ] || stored=$work/store
+            line "$kind: $name" "$program" "$stored"
+        done
+        [ "$name" != restore ] || diff -r "$folder" "$work/again/vault"
+    done
+    rm -rf "$work/store" "$work/restic" "$work/borg" "$work/again" "$work/cache" "$work/base" "$folder"
+done

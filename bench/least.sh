@@ -1,7 +1,7 @@
-# What the scripts beside it share that time the kernels: it builds bench, goes to its folder, and gives them `least`. To be
-# sourced.
+# What the scripts beside it share that time the kernels: it builds bench, for this machine's processor or for the sort that
+# PROCESSOR has, goes to its folder, and gives them `least`. To be sourced.
 cd "$(dirname "${BASH_SOURCE[0]}")/../crates/bench"
-rt run >/dev/null 2>&1
+rt run --cpu "${PROCESSOR:-$(../../scripts/processor.sh)}" >/dev/null 2>&1
 
 # Milliseconds of the fastest of five runs of a command.
 least() {
