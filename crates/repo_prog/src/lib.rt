@@ -3,7 +3,9 @@
 //! [`frames`] answers request frames in hexadecimal from an empty store in memory. [`init_command`] makes
 //! a store, and [`serve_connections`] serves one. The others are a client's, over a connection: [`backup_command`],
 //! [`snapshots_command`], [`restore_command`], [`forget_command`], [`prune_command`] and [`check_command`] bring a job to its
-//! end, [`locks_command`], [`refresh_command`] and [`unlock_command`] ask themselves. [`run_errand`] connects, and [`run`] goes by the words.
+//! end, [`locks_command`], [`refresh_command`] and [`unlock_command`] ask themselves. [`backup_over`], [`snapshots_over`],
+//! [`restore_over`], [`forget_over`], [`prune_over`] and [`check_over`] do as much over connections that are made one after another
+//! ([`Dial`]), by [`drive_again`]. [`run_errand`] connects, and [`run`] goes by the words.
 //!
 //! Promised: what `frames` writes is the lines of the replies of a run of the store machine, from the
 //! empty store, over the requests of the stream that the input's lines spell; each of its errors comes
@@ -14,7 +16,8 @@
 //!
 //! The definitions stand in `specs/`: `HexLines` (lines, and the bytes that they spell), `FramesRun`
 //! (what `frames` gives), `Talks` (what holds while it runs), `Commands` (what the commands give), `Tellings` (the lines
-//! of the clients' commands), `Asking` (what those do that ask), `Jobs` (what those do that bring a job to its end).
+//! of the clients' commands), `Asking` (what those do that ask), `Jobs` (what those do that bring a job to its end), `Dialing` and
+//! `Retrying` (the same over one connection after another).
 #![tactic(auto)]
 
 mod again;
