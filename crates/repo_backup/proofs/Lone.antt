@@ -24,7 +24,7 @@ use Rattle.repo_session.proofs.Telling.{shares_tell}
 use Rattle.repo_writing.specs.Laws.{StillTold, StandAsPut}
 use Rattle.repo_writing.proofs.Keeping.{listed_sound, given_sound}
 use Rattle.repo_backup.specs.Folders.{Folder, blobs_of}
-use Rattle.repo_backup.specs.Rules.{IsMade, Allows}
+use Rattle.repo_backup.specs.Rules.{IsMade, BackupAllows}
 
 module _ (entries : List Entry) (from old : Store) (es : Trace) (Sent : Ask → Type 0) (Made : List ℕ → Type 0)
     (sent : (ask : Ask) → WasAsked es ask → Sent ask)
@@ -42,7 +42,7 @@ module _ (entries : List Entry) (from old : Store) (es : Trace) (Sent : Ask → 
   stand token k n x y asked here = clash y x (inl (k, there k n y here)) (inl (k, inr (token, n, sent (Ask.Put token k n x) asked))) (sound.named k n y here ∙ sym (named token k n x asked))
 
   -- what the rule lets it put may stand there
-  object_is_sound : (token : Token) (k : Kind) (n : Name) (x : List ℕ) → Allows entries es (Ask.Put token k n x) → IsSoundObject old.objects k x
+  object_is_sound : (token : Token) (k : Kind) (n : Name) (x : List ℕ) → BackupAllows entries es (Ask.Put token k n x) → IsSoundObject old.objects k x
   object_is_sound token Kind.Pack n x r = (r.items, r.pack)
   object_is_sound token Kind.Index n x r = listed_sound es old.objects x sound told stand (record { packs = r.lists.packs; reads = r.lists.reads; each = λ listed among. inl (r.lists.each listed among) })
   object_is_sound token Kind.Snapshot n x r = given_sound es old.objects x r.snapshot entries (blobs_of r.folder) sound told stand (held_agree from Sent Made clash old.objects there sound.named) agree r.given r.reads r.spells
@@ -52,9 +52,9 @@ module _ (entries : List Entry) (from old : Store) (es : Trace) (Sent : Ask → 
 
   -- ---- one step
 
-  module _ (ask : Ask) (say : Say) (new : Store) (now : Sent ask) (permitted : IsPermitted (Allows entries) es ask) where
+  module _ (ask : Ask) (say : Say) (new : Store) (now : Sent ask) (permitted : IsPermitted (BackupAllows entries) es ask) where
     put_keeps_sound : Puts old ask new → IsSound new.objects
-    put_keeps_sound p = adding_keeps_sound old.objects new.objects p.kind p.name p.bytes sound p.added p.named (object_is_sound p.token p.kind p.name p.bytes (subst (λ a. IsPermitted (Allows entries) es a) p.asked permitted tt)) apart
+    put_keeps_sound p = adding_keeps_sound old.objects new.objects p.kind p.name p.bytes sound p.added p.named (object_is_sound p.token p.kind p.name p.bytes (subst (λ a. IsPermitted (BackupAllows entries) es a) p.asked permitted tt)) apart
       where
         there_now : (k : Kind) (n : Name) (x : List ℕ) → new.objects k n ≡ Some x → WasThere from Sent k x
         there_now k n x h = ⊎_elim (λ before. there k n x before) (λ this. inr (p.token, n, subst Sent (p.asked ∙ cc (this.0, this.1, this.2)) now)) (p.added.only k n x h)

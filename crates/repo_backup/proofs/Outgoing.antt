@@ -20,13 +20,13 @@ use Rattle.repo_writing.specs.declared.counts.Counts.{Counts}
 use Rattle.repo_writing.proofs.BlobLemmas.{once_left, each_left, each_right}
 use Rattle.repo_writing.proofs.Writings.{items_push, put_of, is_put}
 use Rattle.repo_backup.specs.Backing.{Backs}
-use Rattle.repo_backup.specs.BackupStates.{PutsPack, IsPackNext, IsNext, MayGoOn}
+use Rattle.repo_backup.specs.BackupStates.{PutsPack, IsPackNext, IsNextAfter, MayGoOn}
 use Rattle.repo_backup.specs.Folders.{Folder}
 use Rattle.repo_backup.specs.Packings.{IsCovered, Notes, all_items}
 use Rattle.repo_backup.specs.Readying.{IsPackReady, Readies}
 use Rattle.repo_backup.specs.Rules.{PackRule}
 use Rattle.repo_backup.specs.Stages.{KeepsCounts, GoesReady, StaysReady, TakesPack}
-use Rattle.repo_backup.specs.Works.{IsWork, IsWalkable, IsWalking}
+use Rattle.repo_backup.specs.Works.{WorkStands, IsWalkable, IsWalking}
 use Rattle.repo_backup.specs.declared.backing.Backing.{Backing}
 use Rattle.repo_backup.specs.declared.backing.Next.{Next}
 use Rattle.repo_backup.specs.declared.stages.Stage.{Stage}
@@ -63,7 +63,7 @@ module _ (entries : List Entry) (facts : List Fact) where
         put = p;
         backs = subst (λ ws. Backs entries facts ws c.counts h.folder h.puts (p ∷ []) es) same backs;
         pack_is = refl;
-        work = ([], subst (λ is. IsWork c.work facts h.folder is []) (sym (items_push h.puts p)) (t.work facts h.folder (items_of h.puts) h.items h.ready.work));
+        work = ([], subst (λ is. WorkStands c.work facts h.folder is []) (sym (items_push h.puts p)) (t.work facts h.folder (items_of h.puts) h.items h.ready.work));
         few = subst FewWait (sym t.waiting) h.few;
       }
 
@@ -87,7 +87,7 @@ module _ (entries : List Entry) (facts : List Fact) (anew : Bool) (b c : Backing
       subst (λ n. Backs entries facts waiting n h.folder h.puts [] es) (sym counts.same)
       (subst (λ ws. Backs entries facts ws b.counts h.folder h.puts [] es) same h.backs)
 
-  next_as : (next : Next) → Readies facts h.folder (items_of h.puts) anew b.waiting next c.work c.waiting → IsNext entries facts c next es
+  next_as : (next : Next) → Readies facts h.folder (items_of h.puts) anew b.waiting next c.work c.waiting → IsNextAfter entries facts c next es
   next_as Next.Pack r =
       let before : List PackFacts = cond anew [] b.waiting in
       let listed = r.2 in
@@ -117,11 +117,11 @@ module _ (entries : List Entry) (facts : List Fact) (anew : Bool) (b c : Backing
   next_as Next.TooLarge r = too_large entries facts (cond anew [] b.waiting) b.counts h.folder h.puts [] es r.2.0 h.backs r.2.1 r.2.2
   next_as Next.Nothing r = absurd r
 
-pub goes_next : (entries : List Entry) (facts : List Fact) (anew : Bool) (b c : Backing) (next : Next) (es : Trace) → MayGoOn entries facts anew b es → GoesReady facts anew b next c → IsNext entries facts c next es
+pub goes_next : (entries : List Entry) (facts : List Fact) (anew : Bool) (b c : Backing) (next : Next) (es : Trace) → MayGoOn entries facts anew b es → GoesReady facts anew b next c → IsNextAfter entries facts c next es
 goes_next entries facts anew b c next es h g = next_as entries facts anew b c es h g.counts next (g.readies h.folder (items_of h.puts) h.work.0 h.work.1)
 
 stays_by : (facts : List Fact) (folder : Folder) (sent : List Item) (anew : Bool) (waiting waiting' : List PackFacts) (next : Next) (w : Work) → next ≢ Next.Pack → Readies facts folder sent anew waiting next w waiting'
-    → ((more : List Item) × IsWork w facts folder sent more) × (waiting' ≡ waiting)
+    → ((more : List Item) × WorkStands w facts folder sent more) × (waiting' ≡ waiting)
 stays_by facts folder sent anew waiting waiting' Next.Pack w other r = absurd (other refl)
 stays_by facts folder sent anew waiting waiting' Next.Index w other r = (([], r.0.1.work), r.3)
 stays_by facts folder sent anew waiting waiting' (Next.Snapshot root) w other r = (([], r.0.work), r.2)
@@ -138,7 +138,7 @@ goes_stays facts anew b c next other g = record {
 -- ---- the sealed pack is taken out
 
 pub took_work : (old new : Work) → new.walk ≡ old.walk → new.packing.packer.writer ≡ old.packing.packer.writer → new.packing.added ≡ old.packing.added → new.packing.packer.sealed ≡ None
-    → (known : List Fact) (folder : Folder) (sent items : List Item) → IsWork old known folder sent items → IsWork new known folder (sent ++ items) []
+    → (known : List Fact) (folder : Folder) (sent items : List Item) → WorkStands old known folder sent items → WorkStands new known folder (sent ++ items) []
 took_work old new walk writer added none known folder sent items h =
     let all : all_items (sent ++ items) [] new.packing ≡ all_items sent items old.packing = ap (λ w. ((sent ++ items) ++ []) ++ w.items) writer ∙ ap (λ s. s ++ old.packing.packer.writer.items) (append-nil (sent ++ items)) in
     record {

@@ -11,8 +11,8 @@ use Rattle.repo_tree.specs.TreeWriting.{tree_text}
 use Rattle.repo_backup.specs.Folders.{Folder, nothing, tree_of, blobs_below, blobs_of, IsCutBy}
 use Rattle.repo_backup.specs.Packings.{IsPacking, IsCovered, Gains, all_items}
 use Rattle.repo_backup.specs.Plans.{IsLawful, steps_of}
-use Rattle.repo_backup.specs.Works.{IsWalkable, IsWalking, IsWork, with_next, IsCutting}
-use Rattle.repo_backup.specs.Advancing.{next_step, Stays, IsMade}
+use Rattle.repo_backup.specs.Works.{IsWalkable, IsWalking, WorkStands, with_next, IsCutting}
+use Rattle.repo_backup.specs.Advancing.{next_step, StaysSame, IsMadeByWalk}
 use Rattle.repo_backup.specs.declared.walks.Walk.{Walk}
 use Rattle.repo_backup.specs.declared.works.Work.{Work}
 use Rattle.repo_session.specs.Traces.{Each}
@@ -29,8 +29,8 @@ walkable_on : (old new : Walk) (folder : Folder) → new.params ≡ old.params �
 walkable_on old new folder params h = record { lawful = h.lawful; cut = subst (λ q. IsCutBy q folder) (sym params) h.cut }
 
 -- the walk goes on, and no blob was made
-pub walks_on : (w v : Work) (known : List Fact) (folder : Folder) (sent sealed : List Item) → v.packing ≡ w.packing → v.walk.params ≡ w.walk.params → Stays w.walk v.walk
-    → IsWork w known folder sent sealed → IsWork v known folder sent sealed
+pub walks_on : (w v : Work) (known : List Fact) (folder : Folder) (sent sealed : List Item) → v.packing ≡ w.packing → v.walk.params ≡ w.walk.params → StaysSame w.walk v.walk
+    → WorkStands w known folder sent sealed → WorkStands v known folder sent sealed
 walks_on w v known folder sent sealed same params stays h = record {
   packing = subst (λ p. IsPacking p known sent sealed) (sym same) h.packing;
   of_folder = λ item c. h.of_folder item (subst (λ p. Contains (all_items sent sealed p) item) same c);
@@ -43,7 +43,7 @@ walks_on w v known folder sent sealed same params stays h = record {
 -- the walk goes on, and this blob, which is covered, was made
 pub makes_on : (w v : Work) (known : List Fact) (folder : Folder) (sent sealed : List Item) (item : Item) → v.packing ≡ w.packing → v.walk.params ≡ w.walk.params
     → ((taken : List Item) → IsWalking w.walk folder taken → IsWalking v.walk folder (taken ++ item ∷ [])) → IsCovered known (all_items sent sealed w.packing) item
-    → IsWork w known folder sent sealed → IsWork v known folder sent sealed
+    → WorkStands w known folder sent sealed → WorkStands v known folder sent sealed
 makes_on w v known folder sent sealed item same params moves covered h = record {
   packing = subst (λ p. IsPacking p known sent sealed) (sym same) h.packing;
   of_folder = λ item c. h.of_folder item (subst (λ p. Contains (all_items sent sealed p) item) same c);
@@ -56,7 +56,7 @@ makes_on w v known folder sent sealed item same params moves covered h = record 
 
 -- the items of the pack that is being written are the same
 pub stays_packed : (w v : Work) (known : List Fact) (folder : Folder) (sent sealed : List Item) → v.walk ≡ w.walk → IsPacking v.packing known sent sealed → v.packing.packer.writer.items ≡ w.packing.packer.writer.items
-    → IsWork w known folder sent sealed → IsWork v known folder sent sealed
+    → WorkStands w known folder sent sealed → WorkStands v known folder sent sealed
 stays_packed w v known folder sent sealed same packing items h =
     let all : all_items sent sealed v.packing ≡ all_items sent sealed w.packing = ap (λ l. (sent ++ sealed) ++ l) items in
     record {
@@ -90,7 +90,7 @@ added_covered w v known sent sealed item g = elim (all_gain known sent sealed w 
 
 pub added_work : (w v : Work) (known : List Fact) (folder : Folder) (sent sealed : List Item) (item : Item) → v.walk ≡ w.walk → IsPacking v.packing known sent sealed
     → Gains known (all_items sent sealed w.packing) w.packing.packer.writer.items v.packing.packer.writer.items item → Contains (blobs_of folder) item
-    → IsWork w known folder sent sealed → IsWork v known folder sent sealed
+    → WorkStands w known folder sent sealed → WorkStands v known folder sent sealed
 added_work w v known folder sent sealed item same packing g mine h = elim (all_gain known sent sealed w v item g) [
   | inl stays ↦ record {
     packing = packing;
@@ -117,12 +117,12 @@ added_work w v known folder sent sealed item same packing g mine h = elim (all_g
 
 -- ---- a pack is sealed
 
-pub none_sealed : (w : Work) (known : List Fact) (folder : Folder) (sent sealed : List Item) → w.packing.packer.sealed ≡ None → IsWork w known folder sent sealed → sealed ≡ []
+pub none_sealed : (w : Work) (known : List Fact) (folder : Folder) (sent sealed : List Item) → w.packing.packer.sealed ≡ None → WorkStands w known folder sent sealed → sealed ≡ []
 none_sealed w known folder sent sealed none h = subst (λ o. IsSealed o sealed) none h.packing.sealed_is
 
 pub sealed_work : (w v : Work) (known : List Fact) (folder : Folder) (sent sealed : List Item) → w.packing.packer.sealed ≡ None → v.walk ≡ w.walk → v.packing.packer.writer.items ≡ []
     → (IsPacking w.packing known sent [] → IsPacking v.packing known sent w.packing.packer.writer.items)
-    → IsWork w known folder sent sealed → IsWork v known folder sent w.packing.packer.writer.items
+    → WorkStands w known folder sent sealed → WorkStands v known folder sent w.packing.packer.writer.items
 sealed_work w v known folder sent sealed none same begun seals h =
     let e = none_sealed w known folder sent sealed none h in
     let items = w.packing.packer.writer.items in
@@ -142,7 +142,7 @@ sealed_work w v known folder sent sealed none same begun seals h =
 pub made_root : (w : Work) (known : List Fact) (folder : Folder) (sent sealed : List Item) (root : Name) → w.walk.node ≡ None → w.walk.file ≡ None → next_step w.walk ≡ None
     → root ≡ naming.name (tree_text w.walk.nodes.items) → IsTreeText (tree_text w.walk.nodes.items) w.walk.nodes.items
     → IsCovered known (all_items sent sealed w.packing) (item_of Tree (tree_text w.walk.nodes.items))
-    → IsWork w known folder sent sealed → IsMade known folder (all_items sent sealed w.packing) root
+    → WorkStands w known folder sent sealed → IsMadeByWalk known folder (all_items sent sealed w.packing) root
 made_root w known folder sent sealed root node file next named text covered h =
     let k = walked w.walk folder h.taken node file next h.walking in
     let all = all_items sent sealed w.packing in
@@ -173,7 +173,7 @@ none_among : (item : Item) → Contains [] item → ⊥
 none_among item h = absurd (omega (arith, h.1))
 
 pub begun_work : (w : Work) (known : List Fact) (folder : Folder) → IsLawful folder → IsCutBy w.walk.params folder → w.walk.steps.items ≡ steps_of folder → w.walk.at ≡ 0
-    → w.walk.nodes.items ≡ [] → w.walk.node ≡ None → w.walk.above.items ≡ [] → w.walk.file ≡ None → IsPacking w.packing known [] [] → w.packing.packer.writer.items ≡ [] → IsWork w known folder [] []
+    → w.walk.nodes.items ≡ [] → w.walk.node ≡ None → w.walk.above.items ≡ [] → w.walk.file ≡ None → IsPacking w.packing known [] [] → w.packing.packer.writer.items ≡ [] → WorkStands w known folder [] []
 begun_work w known folder lawful cut steps at nodes node above file packing items = record {
   packing = packing;
   of_folder = λ item c. absurd (none_among item (subst (λ l. Contains l item) items c));

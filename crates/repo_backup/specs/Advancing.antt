@@ -39,8 +39,8 @@ abbrev pub IsSameWay : Walk → Walk → Type 0
 IsSameWay old new = (new.steps ≡ old.steps) × (new.params ≡ old.params)
 
 -- in whichever folder the walk stood, it stands there with the same blobs made
-abbrev pub Stays : Walk → Walk → Type 0
-Stays old new = (folder : Folder) (taken : List Item) → IsWalkable old folder → IsWalking old folder taken → IsWalking new folder taken
+abbrev pub StaysSame : Walk → Walk → Type 0
+StaysSame old new = (folder : Folder) (taken : List Item) → IsWalkable old folder → IsWalking old folder taken → IsWalking new folder taken
 
 -- how much work some steps are at most
 abbrev pub work_of : List WalkStep → ℕ
@@ -71,7 +71,7 @@ abbrev pub HasLargeTree : Folder → Type 0
 HasLargeTree folder = (text : List ℕ) × Contains (blobs_of folder) (item_of Tree text) × (blob_limit < length text)
 
 -- the folder's tree has this name, and all its blobs are known or among these
-pub record IsMade (known : List Fact) (folder : Folder) (items : List Item) (root : Name) : Type 0 where
+pub record IsMadeByWalk (known : List Fact) (folder : Folder) (items : List Item) (root : Name) : Type 0 where
   pub named : root ≡ naming.name (tree_text (nodes_of folder))
   pub texts : AreTreeTexts folder
   pub covered : Each (λ item. IsCovered known items item) (blobs_of folder)
@@ -79,5 +79,5 @@ pub record IsMade (known : List Fact) (folder : Folder) (items : List Item) (roo
 -- what a step tells of the folder
 abbrev pub Tells : List Fact → Folder → List Item → Stepped → Type 0
 Tells known folder items Stepped.On = ⊤
-Tells known folder items (Stepped.Made root) = IsMade known folder items root
+Tells known folder items (Stepped.Made root) = IsMadeByWalk known folder items root
 Tells known folder items Stepped.TooLarge = HasLargeTree folder

@@ -4,10 +4,10 @@ use Rattle.repo_session.specs.Obedience.{session_obeys}
 use Rattle.repo_session.specs.Sessions.{who_in, next_in, ended_in}
 use Rattle.repo_session.specs.Traces.{Trace}
 use Rattle.repo_backup.specs.BackupStates.{backup_task, backup_rule}
-use Rattle.repo_backup.specs.Backups.{handed_to, IsFresh, Knows, FitsBackup}
-use Rattle.repo_backup.specs.Rules.{Allows, GivesNothing, Ends}
+use Rattle.repo_backup.specs.Backups.{handed_to, IsFreshBackup, Knows, FitsBackup}
+use Rattle.repo_backup.specs.Rules.{BackupAllows, BackupGives, BackupConcludes}
 use Rattle.repo_backup.specs.declared.backups.Backup.{Backup}
 
 pub backup_obeys : (b : Backup) (es : Trace) → FitsBackup b es
-    → IsObedient (backup_task (who_in b.session)) (Allows (handed_to b.session.job)) (GivesNothing (handed_to b.session.job)) (Ends (handed_to b.session.job)) (next_in b.session) (ended_in b.session) es
-backup_obeys b es f = session_obeys handed_to backup_rule IsFresh Knows b.session es f
+    → IsObedient (backup_task (who_in b.session)) (BackupAllows (handed_to b.session.job)) (BackupGives (handed_to b.session.job)) (BackupConcludes (handed_to b.session.job)) (next_in b.session) (ended_in b.session) es
+backup_obeys b es f = session_obeys handed_to backup_rule IsFreshBackup Knows b.session es f

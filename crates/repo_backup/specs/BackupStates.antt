@@ -23,9 +23,9 @@ use Rattle.repo_backup.specs.Backing.{Backs}
 use Rattle.repo_backup.specs.Folders.{Folder, IsCutBy}
 use Rattle.repo_backup.specs.Plans.{IsLawful, steps_of}
 use Rattle.repo_backup.specs.Readying.{IsPackReady, IsAllDone}
-use Rattle.repo_backup.specs.Rules.{IsMade, IsTooLarge, Allows, GivesNothing, Ends}
+use Rattle.repo_backup.specs.Rules.{IsMade, IsTooLarge, BackupAllows, BackupGives, BackupConcludes}
 use Rattle.repo_backup.specs.Stages.{handed_in, IsPlanned, IsBegun}
-use Rattle.repo_backup.specs.Works.{IsWork}
+use Rattle.repo_backup.specs.Works.{WorkStands}
 use Rattle.repo_backup.specs.declared.backing.Backing.{Backing}
 use Rattle.repo_backup.specs.declared.backing.Next.{Next}
 use Rattle.repo_backup.specs.declared.stages.Stage.{Stage}
@@ -37,7 +37,7 @@ backup_task who = record { who = who; exclusive = false; snapshot = None }
 
 -- what a backup of these entries may ask, give out and conclude; a refusal takes it no memory
 abbrev pub backup_rule : List Entry → Rule
-backup_rule entries = record { exclusive = false; snapshot = None; calm = ⊤; allows = Allows entries; gives = GivesNothing entries; concludes = Ends entries }
+backup_rule entries = record { exclusive = false; snapshot = None; calm = ⊤; allows = BackupAllows entries; gives = BackupGives entries; concludes = BackupConcludes entries }
 
 -- nothing was listed, and the steps of a folder are planned
 pub record IsNew (c : Catalog) (stage : Stage) : Type 0 where
@@ -61,7 +61,7 @@ pub record HasBegun (entries : List Entry) (b : Backing) (es : Trace) : Type 0 w
 
 -- the work goes on, and these blobs were sent
 abbrev pub IsAtWork : List Fact → Folder → List Item → Backing → Type 0
-IsAtWork facts folder sent b = (sealed : List Item) × IsWork b.work facts folder sent sealed
+IsAtWork facts folder sent b = (sealed : List Item) × WorkStands b.work facts folder sent sealed
 
 -- a pack is being put
 pub record PutsPack (entries : List Entry) (facts : List Fact) (b : Backing) (n : Name) (x : List ℕ) (es : Trace) : Type 0 where
@@ -109,7 +109,7 @@ KnowsBackup entries c stage ask es = KnowsReading entries c stage ask es ⊎ Kno
 -- what comes after a trace: this may be asked, or the job may end so
 abbrev pub IsNextStep : List Entry → Asker → (Ask → Trace → Type 0) → Step → Trace → Type 0
 IsNextStep entries who Knows (Step.Ask ask) es = MayAsk (backup_rule entries) who Knows es ask
-IsNextStep entries who Knows (Step.Finish outcome) es = Concludes (Ends entries) es outcome
+IsNextStep entries who Knows (Step.Finish outcome) es = Concludes (BackupConcludes entries) es outcome
 IsNextStep entries who Knows Step.Away es = ⊥
 
 -- ---- what is sent next
@@ -143,16 +143,16 @@ pub record IsSnapshotNext (entries : List Entry) (facts : List Fact) (b : Backin
   pub done : IsAllDone facts folder (items_of puts) b.work root
 
 -- by what it is
-abbrev pub IsNext : List Entry → List Fact → Backing → Next → Trace → Type 0
-IsNext entries facts b Next.Pack es = IsPackNext entries facts b es
-IsNext entries facts b Next.Index es = IsIndexNext entries facts b es
-IsNext entries facts b (Next.Snapshot root) es = IsSnapshotNext entries facts b root es
-IsNext entries facts b Next.TooLarge es = IsTooLarge entries es
-IsNext entries facts b Next.Nothing es = ⊥
+abbrev pub IsNextAfter : List Entry → List Fact → Backing → Next → Trace → Type 0
+IsNextAfter entries facts b Next.Pack es = IsPackNext entries facts b es
+IsNextAfter entries facts b Next.Index es = IsIndexNext entries facts b es
+IsNextAfter entries facts b (Next.Snapshot root) es = IsSnapshotNext entries facts b root es
+IsNextAfter entries facts b Next.TooLarge es = IsTooLarge entries es
+IsNextAfter entries facts b Next.Nothing es = ⊥
 
 -- the job is at work, and this is sent next
 abbrev pub IsDueNext : Stage → List Fact → Next → Trace → Type 0
-IsDueNext stage facts next es = AtWork stage (λ b. IsNext (handed_in stage) facts b next es)
+IsDueNext stage facts next es = AtWork stage (λ b. IsNextAfter (handed_in stage) facts b next es)
 
 -- the work may go on at this trace: where `anew` is set, the packs that waited are indexed
 pub record MayGoOn (entries : List Entry) (facts : List Fact) (anew : Bool) (b : Backing) (es : Trace) : Type 0 where

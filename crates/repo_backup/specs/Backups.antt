@@ -27,30 +27,30 @@ abbrev pub handed_to : BackupJob → List Entry
 handed_to j = handed_in j.stage
 
 -- it hasn't begun
-abbrev pub IsFresh : BackupJob → Type 0
-IsFresh j = IsNew j.catalog j.stage
+abbrev pub IsFreshBackup : BackupJob → Type 0
+IsFreshBackup j = IsNew j.catalog j.stage
 
 -- what it knows where this is pending; and what it knows of the reading
 abbrev pub Knows : BackupJob → Ask → Trace → Type 0
 Knows j ask es = KnowsBackup (handed_to j) j.catalog j.stage ask es
 
-abbrev pub Reads : BackupJob → Ask → Trace → Type 0
-Reads j ask es = KnowsReading (handed_to j) j.catalog j.stage ask es
+abbrev pub BackupReads : BackupJob → Ask → Trace → Type 0
+BackupReads j ask es = KnowsReading (handed_to j) j.catalog j.stage ask es
 
 -- what it does next, after each trace where that is due
-abbrev pub Sends : BackupJob → Holding → Next → Step → BackupJob → Type 0
-Sends old holding next step new = (es : Trace) → IsWorking (backup_task holding.who) holding.token es → IsDueNext old.stage old.catalog.lookup next es → IsNextStep (handed_to old) holding.who (Knows new) step es
+abbrev pub BackupSends : BackupJob → Holding → Next → Step → BackupJob → Type 0
+BackupSends old holding next step new = (es : Trace) → IsWorking (backup_task holding.who) holding.token es → IsDueNext old.stage old.catalog.lookup next es → IsNextStep (handed_to old) holding.who (Knows new) step es
 
 -- and after each trace where the work may go on
-abbrev pub GoesOn : BackupJob → Holding → Bool → Step → BackupJob → Type 0
-GoesOn old holding anew step new = (es : Trace) → IsWorking (backup_task holding.who) holding.token es → GoesOnFrom old.stage old.catalog.lookup anew es → IsNextStep (handed_to old) holding.who (Knows new) step es
+abbrev pub BackupGoesOn : BackupJob → Holding → Bool → Step → BackupJob → Type 0
+BackupGoesOn old holding anew step new = (es : Trace) → IsWorking (backup_task holding.who) holding.token es → GoesOnFrom old.stage old.catalog.lookup anew es → IsNextStep (handed_to old) holding.who (Knows new) step es
 
 -- what it does on a reply, after each trace at whose end this was pending
-abbrev pub Replies : BackupJob → (BackupJob → Ask → Trace → Type 0) → Holding → Ask → Say → Step → BackupJob → Type 0
-Replies old Knew holding ask say step new = StepsOn (backup_rule (handed_to old)) holding (Knew old) (Knows new) (silent ask say) step
+abbrev pub BackupReplies : BackupJob → (BackupJob → Ask → Trace → Type 0) → Holding → Ask → Say → Step → BackupJob → Type 0
+BackupReplies old Knew holding ask say step new = StepsOn (backup_rule (handed_to old)) holding (Knew old) (Knows new) (silent ask say) step
 
 -- ---- the client
 
 -- the code's backup stands where the trace leaves it
 abbrev pub FitsBackup : Backup → Trace → Type 0
-FitsBackup b es = FitsSession handed_to backup_rule IsFresh Knows b.session es
+FitsBackup b es = FitsSession handed_to backup_rule IsFreshBackup Knows b.session es

@@ -86,7 +86,7 @@ pub record IsWalkable (walk : Walk) (folder : Folder) : Type 0 where
   pub cut : IsCutBy walk.params folder
 
 -- the work stands here: the packs as they are known; all their blobs are of the folder; and each blob made so far is known or in them
-pub record IsWork (w : Work) (known : List Fact) (folder : Folder) (sent sealed : List Item) : Type 0 where
+pub record WorkStands (w : Work) (known : List Fact) (folder : Folder) (sent sealed : List Item) : Type 0 where
   pub packing : IsPacking w.packing known sent sealed
   pub of_folder : (item : Item) → Contains (all_items sent sealed w.packing) item → Contains (blobs_of folder) item
   pub walkable : IsWalkable w.walk folder
@@ -95,9 +95,9 @@ pub record IsWork (w : Work) (known : List Fact) (folder : Folder) (sent sealed 
   pub covered : Each (λ item. IsCovered known (all_items sent sealed w.packing) item) taken
 
 -- what going on to the next pack gives: a pack is sealed; or all blobs of the folder are known or were sent, and this is its tree; or a directory's tree text is too large
-abbrev pub GoesOn : List Fact → Folder → List Item → Progress → Work → Type 0
-GoesOn known folder sent Progress.Pack new = (sealed : List Item) × IsWork new known folder sent sealed × (new.packing.packer.sealed ≢ None)
-GoesOn known folder sent (Progress.Done root) new = IsWork new known folder sent [] × (new.packing.packer.sealed ≡ None) × (new.packing.packer.writer.items ≡ []) × (root ≡ naming.name (tree_text (nodes_of folder))) × AreTreeTexts folder
+abbrev pub WalkGoesOn : List Fact → Folder → List Item → Progress → Work → Type 0
+WalkGoesOn known folder sent Progress.Pack new = (sealed : List Item) × WorkStands new known folder sent sealed × (new.packing.packer.sealed ≢ None)
+WalkGoesOn known folder sent (Progress.Done root) new = WorkStands new known folder sent [] × (new.packing.packer.sealed ≡ None) × (new.packing.packer.writer.items ≡ []) × (root ≡ naming.name (tree_text (nodes_of folder))) × AreTreeTexts folder
     × Each (λ item. IsCovered known sent item) (blobs_of folder)
-GoesOn known folder sent Progress.TooLarge new = (sealed : List Item) × IsWork new known folder sent sealed
+WalkGoesOn known folder sent Progress.TooLarge new = (sealed : List Item) × WorkStands new known folder sent sealed
     × ((text : List ℕ) × Contains (blobs_of folder) (item_of Tree text) × (blob_limit < length text))

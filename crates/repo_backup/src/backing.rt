@@ -7,7 +7,7 @@ ghost use Rattle.repo_index.specs.declared.facts.PackFacts.{PackFacts};
 ghost use Rattle.repo_pack.specs.PackLayout.{Item};
 ghost use Rattle.repo_writing.specs.Writing.{AreCounts};
 ghost use Rattle.repo_backup.specs.Folders.{Folder};
-ghost use Rattle.repo_backup.specs.Works.{IsWork};
+ghost use Rattle.repo_backup.specs.Works.{WorkStands};
 ghost use Rattle.repo_backup.specs.Readying.{Readies};
 
 use crate::works::{Progress, Work};
@@ -60,9 +60,9 @@ impl Backing {
     /// index, and none waits. It fails for memory alone, and then the packs that wait are as before, and some of the
     /// work may be done.
     pub fn ready(&mut self, lookup: &Lookup, anew: bool) -> Result<Next, AllocError>
-        ensures ok { IfOk result (λ next. (folder : Folder) (sent sealed : List Item) → IsWork self.old.work lookup.now folder sent sealed
+        ensures ok { IfOk result (λ next. (folder : Folder) (sent sealed : List Item) → WorkStands self.old.work lookup.now folder sent sealed
             → Readies lookup.now folder sent anew self.old.waiting next self.new.work self.new.waiting) }
-        ensures err { OnErr result ((folder : Folder) (sent sealed : List Item) → IsWork self.old.work lookup.now folder sent sealed → (more : List Item) × IsWork self.new.work lookup.now folder sent more) }
+        ensures err { OnErr result ((folder : Folder) (sent sealed : List Item) → WorkStands self.old.work lookup.now folder sent sealed → (more : List Item) × WorkStands self.new.work lookup.now folder sent more) }
         ensures waiting { OnErr result (self.new.waiting ≡ self.old.waiting) }
         ensures steps { self.new.work.walk.steps ≡ self.old.work.walk.steps }
         ensures counts { self.new.counts ≡ self.old.counts }

@@ -48,7 +48,7 @@ impl Backup {
 impl Client for Backup {
     ghost use Rattle.std.specs.Prelude.{[], ⊤};
     ghost use Rattle.repo_session.specs.Sessions.{who_in, next_in, ended_in};
-    ghost use Rattle.repo_backup.specs.Rules.{Allows, GivesNothing, Ends};
+    ghost use Rattle.repo_backup.specs.Rules.{BackupAllows, BackupGives, BackupConcludes};
     ghost use Rattle.repo_backup.specs.BackupStates.{backup_task};
     ghost use Rattle.repo_backup.specs.Backups.{Handing, handed_to, FitsBackup};
     ghost use Rattle.repo_backup.specs.BackupObedience.{backup_obeys};
@@ -61,11 +61,11 @@ impl Client for Backup {
 
     ghost calm = { λ j. ⊤ };
 
-    ghost allows = { λ j. Allows j.entries };
+    ghost allows = { λ j. BackupAllows j.entries };
 
-    ghost gives = { λ j. GivesNothing j.entries };
+    ghost gives = { λ j. BackupGives j.entries };
 
-    ghost concludes = { λ j. Ends j.entries };
+    ghost concludes = { λ j. BackupConcludes j.entries };
 
     ghost fits = { FitsBackup };
 

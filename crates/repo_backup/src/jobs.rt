@@ -10,7 +10,7 @@ ghost use Rattle.repo_session.specs.Jobs.{IsShortStep};
 ghost use Rattle.repo_session.specs.Readings.{HasNoted, KnowsStill};
 ghost use Rattle.repo_session.specs.Traces.{Trace};
 ghost use Rattle.repo_session.specs.declared.catalogs.Catalog.{Catalog};
-ghost use Rattle.repo_backup.specs.Backups.{handed_to, Knows, Reads, GoesOn, Replies};
+ghost use Rattle.repo_backup.specs.Backups.{handed_to, Knows, BackupReads, BackupGoesOn, BackupReplies};
 ghost use Rattle.repo_backup.specs.Stages.{StaysReady, BeginsAgain};
 ghost use Rattle.repo_backup.specs.declared.backing.Backing.{Backing};
 ghost use Rattle.repo_backup.specs.declared.stages.Stage.{Stage};
@@ -37,7 +37,7 @@ impl BackupJob {
     /// Goes on with the work until something is sent: where `anew` is set, the packs that waited are indexed. It fails
     /// for memory alone, and then some of the work may be done.
     fn go_on(&mut self, holder: &Holder, anew: bool) -> Result<Step, AllocError>
-        ensures ok { IfOk result (λ step. GoesOn self.old holder.now anew step self.new) }
+        ensures ok { IfOk result (λ step. BackupGoesOn self.old holder.now anew step self.new) }
         ensures short { IfOk result IsShortStep }
         ensures err { OnErr result ((b : Backing) → self.old.stage ≡ Stage.Working b → (c : Backing) × (self.new.stage ≡ Stage.Working c) × StaysReady self.old.catalog.lookup b c) }
         ensures catalog { self.new.catalog ≡ self.old.catalog }
@@ -50,7 +50,7 @@ impl BackupJob {
     /// The first step of the work, once every index was read; these facts are those that the last one added. It fails
     /// for memory alone, and then the last reading is undone, and the work begun anew.
     fn go_first(&mut self, holder: &Holder, noted: &Facts) -> Result<Step, AllocError>
-        ensures ok { IfOk result (λ step. GoesOn self.old holder.now false step self.new) }
+        ensures ok { IfOk result (λ step. BackupGoesOn self.old holder.now false step self.new) }
         ensures short { IfOk result IsShortStep }
         ensures err { OnErr result ((b : Backing) → self.old.stage ≡ Stage.Working b → (d : Backing) × (self.new.stage ≡ Stage.Working d) × BeginsAgain self.old.catalog.lookup b d) }
         ensures back { OnErr result ((old : Catalog) → HasNoted old noted.now self.old.catalog → KnowsStill old self.new.catalog) }
@@ -69,9 +69,9 @@ impl BackupJob {
     /// Takes the reply to a request for a page of indexes, or for an index. It fails for memory alone, and then what
     /// was known is known.
     fn read_on(&mut self, holder: &Holder, ask: &Ask, say: &Say) -> Result<Step, AllocError>
-        ensures ok { IfOk result (λ step. Replies self.old Reads holder.now ask.now say.now step self.new) }
+        ensures ok { IfOk result (λ step. BackupReplies self.old BackupReads holder.now ask.now say.now step self.new) }
         ensures short { IfOk result IsShortStep }
-        ensures err { OnErr result ((es : Trace) → Reads self.old ask.now es → Reads self.new ask.now es) }
+        ensures err { OnErr result ((es : Trace) → BackupReads self.old ask.now es → BackupReads self.new ask.now es) }
         ensures handed { handed_to self.new ≡ handed_to self.old }
     {
         match self.catalog.read_on(self.alloc, ask, say)? {
@@ -88,7 +88,7 @@ impl BackupJob {
 
     /// Goes on where the put of a pack is done. It fails for memory alone, and then what was known is known.
     fn pack_done(&mut self, holder: &Holder) -> Result<Step, AllocError>
-        ensures ok { IfOk result (λ step. (token : Token) (name : Name) (bytes : List ℕ) → Replies self.old Knows holder.now (Ask.Put token Kind.Pack name bytes) Say.Done step self.new) }
+        ensures ok { IfOk result (λ step. (token : Token) (name : Name) (bytes : List ℕ) → BackupReplies self.old Knows holder.now (Ask.Put token Kind.Pack name bytes) Say.Done step self.new) }
         ensures short { IfOk result IsShortStep }
         ensures err { OnErr result ((token : Token) (name : Name) (bytes : List ℕ) (es : Trace) → Knows self.old (Ask.Put token Kind.Pack name bytes) es → Knows self.new (Ask.Put token Kind.Pack name bytes) es) }
         ensures handed { handed_to self.new ≡ handed_to self.old }
@@ -101,7 +101,7 @@ impl BackupJob {
 
     /// Ends where the snapshot is stored under this name.
     fn conclude(&self, name: Name) -> Step
-        ensures ends { (new : BackupJob) (token : Token) (holding : Holding) (bytes : List ℕ) → Replies self.now Knows holding (Ask.Put token Kind.Snapshot name bytes) Say.Done result new }
+        ensures ends { (new : BackupJob) (token : Token) (holding : Holding) (bytes : List ℕ) → BackupReplies self.now Knows holding (Ask.Put token Kind.Snapshot name bytes) Say.Done result new }
         ensures short { IsShortStep result }
     {
         let Counts { blobs, bytes } = self.stage.counts();
@@ -110,7 +110,7 @@ impl BackupJob {
 
     /// Goes on where a put is done. It fails for memory alone, and then what was known is known.
     fn put_done(&mut self, holder: &Holder, kind: Kind, name: Name) -> Result<Step, AllocError>
-        ensures ok { IfOk result (λ step. (token : Token) (bytes : List ℕ) → Replies self.old Knows holder.now (Ask.Put token kind name bytes) Say.Done step self.new) }
+        ensures ok { IfOk result (λ step. (token : Token) (bytes : List ℕ) → BackupReplies self.old Knows holder.now (Ask.Put token kind name bytes) Say.Done step self.new) }
         ensures short { IfOk result IsShortStep }
         ensures err { OnErr result ((token : Token) (bytes : List ℕ) (es : Trace) → Knows self.old (Ask.Put token kind name bytes) es → Knows self.new (Ask.Put token kind name bytes) es) }
         ensures handed { handed_to self.new ≡ handed_to self.old }
@@ -124,7 +124,7 @@ impl BackupJob {
 
     /// Takes a reply that is no refusal. It fails for memory alone, and then what was known is known.
     fn take(&mut self, holder: &Holder, ask: &Ask, say: &Say) -> Result<Step, AllocError>
-        ensures ok { IfOk result (λ step. Replies self.old Knows holder.now ask.now say.now step self.new) }
+        ensures ok { IfOk result (λ step. BackupReplies self.old Knows holder.now ask.now say.now step self.new) }
         ensures short { IfOk result IsShortStep }
         ensures err { OnErr result ((es : Trace) → Knows self.old ask.now es → Knows self.new ask.now es) }
         ensures handed { handed_to self.new ≡ handed_to self.old }
@@ -143,7 +143,7 @@ impl Job for BackupJob {
     ghost use Rattle.std.specs.Prelude.{[], List};
     ghost use Rattle.repo_tree.specs.declared.entries.Entry.{Entry};
     ghost use Rattle.repo_backup.specs.BackupStates.{backup_rule};
-    ghost use Rattle.repo_backup.specs.Backups.{handed_to, IsFresh, Knows};
+    ghost use Rattle.repo_backup.specs.Backups.{handed_to, IsFreshBackup, Knows};
 
     ghost Handed = { List Entry };
 
@@ -151,7 +151,7 @@ impl Job for BackupJob {
 
     ghost rule = { backup_rule };
 
-    ghost fresh = { IsFresh };
+    ghost fresh = { IsFreshBackup };
 
     ghost knows = { Knows };
 

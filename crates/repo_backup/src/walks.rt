@@ -10,7 +10,7 @@ ghost use Rattle.repo_backup.specs.declared.steps.WalkStep.{WalkStep};
 ghost use Rattle.repo_backup.specs.Chunks.{IsFirstChunk};
 ghost use Rattle.repo_backup.specs.Folders.{Folder};
 ghost use Rattle.repo_backup.specs.Works.{IsWalkable, IsWalking};
-ghost use Rattle.repo_backup.specs.Advancing.{next_step, bytes_left, IsSameWay, Stays, work_left};
+ghost use Rattle.repo_backup.specs.Advancing.{next_step, bytes_left, IsSameWay, StaysSame, work_left};
 ghost use Rattle.repo_name.specs.Limits.{blob_limit};
 
 use crate::chunks::first_chunk;
@@ -54,7 +54,7 @@ impl Walk {
     /// walk stands where it stood.
     pub fn place_node(&mut self) -> Result<(), AllocError>
         requires { IsSome self.old.node }
-        ensures walk { Stays self.old self.new }
+        ensures walk { StaysSame self.old self.new }
         ensures same { IsSameWay self.old self.new }
         ensures less { OnOk result (work_left self.new < work_left self.old) }
     {
@@ -70,7 +70,7 @@ impl Walk {
     pub fn open_file(&mut self, alloc: Global)
         requires file { self.old.file ≡ None }
         requires step { (name : List ℕ) × (bytes : List ℕ) × (next_step self.old ≡ Some (WalkStep.File name bytes)) }
-        ensures walk { Stays self.old self.new }
+        ensures walk { StaysSame self.old self.new }
         ensures same { IsSameWay self.old self.new }
         ensures less { work_left self.new < work_left self.old }
     {
@@ -111,7 +111,7 @@ impl Walk {
         requires named { name ≡ naming.name (take size (bytes_left self.old)) }
         ensures ok { OnOk result ((folder : Folder) (taken : List Item) → IsWalkable self.old folder → IsWalking self.old folder taken
             → IsWalking self.new folder (taken ++ item_of Content (take size (bytes_left self.old)) ∷ [])) }
-        ensures err { OnErr result (Stays self.old self.new) }
+        ensures err { OnErr result (StaysSame self.old self.new) }
         ensures same { IsSameWay self.old self.new }
         ensures less { OnOk result (work_left self.new < work_left self.old) }
     {
@@ -141,7 +141,7 @@ impl Walk {
         requires left { bytes_left self.old ≡ [] }
         requires node { self.old.node ≡ None }
         requires file { IsSome self.old.file }
-        ensures walk { Stays self.old self.new }
+        ensures walk { StaysSame self.old self.new }
         ensures same { IsSameWay self.old self.new }
         ensures less { OnOk result (work_left self.new < work_left self.old) }
     {
@@ -181,7 +181,7 @@ impl Walk {
         requires node { self.old.node ≡ None }
         requires file { self.old.file ≡ None }
         requires step { (name : List ℕ) × (next_step self.old ≡ Some (WalkStep.Enter name)) }
-        ensures walk { Stays self.old self.new }
+        ensures walk { StaysSame self.old self.new }
         ensures same { IsSameWay self.old self.new }
         ensures less { OnOk result (work_left self.new < work_left self.old) }
     {

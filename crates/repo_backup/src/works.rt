@@ -14,8 +14,8 @@ ghost use Rattle.repo_backup.specs.declared.steps.WalkStep.{WalkStep};
 ghost use Rattle.repo_backup.specs.Folders.{Folder, IsCutBy, blobs_of};
 ghost use Rattle.repo_backup.specs.Packings.{IsCovered, all_items};
 ghost use Rattle.repo_backup.specs.Plans.{IsLawful, steps_of};
-ghost use Rattle.repo_backup.specs.Works.{IsWork, GoesOn};
-ghost use Rattle.repo_backup.specs.Advancing.{next_step, work_left, IsMade, Tells};
+ghost use Rattle.repo_backup.specs.Works.{WorkStands, WalkGoesOn};
+ghost use Rattle.repo_backup.specs.Advancing.{next_step, work_left, IsMadeByWalk, Tells};
 ghost use Rattle.repo_name.specs.Limits.{blob_limit};
 
 use crate::packing::Packing;
@@ -60,7 +60,7 @@ pub struct Work {
 impl Work {
     /// Work that hasn't begun, over the steps of a folder. It takes no memory.
     pub fn new(alloc: Global, params: Params, target: Target, steps: Vec<WalkStep>) -> Work
-        ensures work { (known : List Fact) (folder : Folder) → IsLawful folder → IsCutBy params folder → steps.items ≡ steps_of folder → IsWork result known folder [] [] }
+        ensures work { (known : List Fact) (folder : Folder) → IsLawful folder → IsCutBy params folder → steps.items ≡ steps_of folder → WorkStands result known folder [] [] }
         ensures steps { result.walk.steps ≡ steps }
     {
         Work {
@@ -81,8 +81,8 @@ impl Work {
     /// Goes on until a pack is sealed, or all is made. It fails for memory alone, and then some of the work may
     /// be done.
     pub fn next_pack(&mut self, lookup: &Lookup) -> Result<Progress, AllocError>
-        ensures ok { IfOk result (λ progress. (folder : Folder) (sent sealed : List Item) → IsWork self.old lookup.now folder sent sealed → GoesOn lookup.now folder sent progress self.new) }
-        ensures err { OnErr result ((folder : Folder) (sent sealed : List Item) → IsWork self.old lookup.now folder sent sealed → (more : List Item) × IsWork self.new lookup.now folder sent more) }
+        ensures ok { IfOk result (λ progress. (folder : Folder) (sent sealed : List Item) → WorkStands self.old lookup.now folder sent sealed → WalkGoesOn lookup.now folder sent progress self.new) }
+        ensures err { OnErr result ((folder : Folder) (sent sealed : List Item) → WorkStands self.old lookup.now folder sent sealed → (more : List Item) × WorkStands self.new lookup.now folder sent more) }
         ensures steps { self.new.walk.steps ≡ self.old.walk.steps }
     {
         if self.packing.packer.sealed.is_some() {
@@ -102,8 +102,8 @@ impl Work {
     /// Seals the last pack, where it has a blob. It fails for memory alone, and then nothing changed.
     fn end(&mut self, root: Name) -> Result<Progress, AllocError>
         requires { self.old.packing.packer.sealed ≡ None }
-        ensures ok { IfOk result (λ progress. (known : List Fact) (folder : Folder) (sent sealed : List Item) → IsWork self.old known folder sent sealed
-            → IsMade known folder (all_items sent sealed self.old.packing) root → GoesOn known folder sent progress self.new) }
+        ensures ok { IfOk result (λ progress. (known : List Fact) (folder : Folder) (sent sealed : List Item) → WorkStands self.old known folder sent sealed
+            → IsMadeByWalk known folder (all_items sent sealed self.old.packing) root → WalkGoesOn known folder sent progress self.new) }
         ensures err { OnErr result (self.new ≡ self.old) }
         ensures walk { self.new.walk ≡ self.old.walk }
     {
@@ -117,8 +117,8 @@ impl Work {
     /// One step of the work. It fails for memory alone, and then some of it may be done.
     fn step(&mut self, lookup: &Lookup) -> Result<Stepped, AllocError>
         requires { IsOpen self.old.packing.packer.writer }
-        ensures work { (folder : Folder) (sent sealed : List Item) → IsWork self.old lookup.now folder sent sealed → IsWork self.new lookup.now folder sent sealed }
-        ensures told { IfOk result (λ stepped. (folder : Folder) (sent sealed : List Item) → IsWork self.old lookup.now folder sent sealed
+        ensures work { (folder : Folder) (sent sealed : List Item) → WorkStands self.old lookup.now folder sent sealed → WorkStands self.new lookup.now folder sent sealed }
+        ensures told { IfOk result (λ stepped. (folder : Folder) (sent sealed : List Item) → WorkStands self.old lookup.now folder sent sealed
             → Tells lookup.now folder (all_items sent sealed self.new.packing) stepped) }
         ensures less { IfOk result (λ stepped. stepped ≡ Stepped.On → work_left self.new.walk < work_left self.old.walk) }
         ensures sealed { self.new.packing.packer.sealed ≡ self.old.packing.packer.sealed }
@@ -152,7 +152,7 @@ impl Work {
         requires room { IsOpen self.old.packing.packer.writer }
         requires node { self.old.walk.node ≡ None }
         requires file { IsSome self.old.walk.file }
-        ensures work { (folder : Folder) (sent sealed : List Item) → IsWork self.old lookup.now folder sent sealed → IsWork self.new lookup.now folder sent sealed }
+        ensures work { (folder : Folder) (sent sealed : List Item) → WorkStands self.old lookup.now folder sent sealed → WorkStands self.new lookup.now folder sent sealed }
         ensures less { OnOk result (work_left self.new.walk < work_left self.old.walk) }
         ensures sealed { self.new.packing.packer.sealed ≡ self.old.packing.packer.sealed }
         ensures steps { self.new.walk.steps ≡ self.old.walk.steps }
@@ -172,8 +172,8 @@ impl Work {
     fn make_tree(&mut self, lookup: &Lookup) -> Result<Option<Name>, AllocError>
         requires { IsOpen self.old.packing.packer.writer }
         ensures work { (folder : Folder) (sent sealed : List Item) → Contains (blobs_of folder) (item_of Tree (tree_text self.old.walk.nodes.items))
-            → IsWork self.old lookup.now folder sent sealed → IsWork self.new lookup.now folder sent sealed }
-        ensures covered { IfOk result (λ made. IsSome made → (folder : Folder) (sent sealed : List Item) → IsWork self.old lookup.now folder sent sealed
+            → WorkStands self.old lookup.now folder sent sealed → WorkStands self.new lookup.now folder sent sealed }
+        ensures covered { IfOk result (λ made. IsSome made → (folder : Folder) (sent sealed : List Item) → WorkStands self.old lookup.now folder sent sealed
             → IsCovered lookup.now (all_items sent sealed self.new.packing) (item_of Tree (tree_text self.old.walk.nodes.items))) }
         ensures named { IfOk result (λ made. MatchOption made (blob_limit < length (tree_text self.old.walk.nodes.items))
             (λ name. (name ≡ naming.name (tree_text self.old.walk.nodes.items)) × IsTreeText (tree_text self.old.walk.nodes.items) self.old.walk.nodes.items)) }
@@ -196,8 +196,8 @@ impl Work {
         requires node { self.old.walk.node ≡ None }
         requires file { self.old.walk.file ≡ None }
         requires step { next_step self.old.walk ≡ Some WalkStep.Leave }
-        ensures work { (folder : Folder) (sent sealed : List Item) → IsWork self.old lookup.now folder sent sealed → IsWork self.new lookup.now folder sent sealed }
-        ensures told { IfOk result (λ stepped. (folder : Folder) (sent sealed : List Item) → IsWork self.old lookup.now folder sent sealed
+        ensures work { (folder : Folder) (sent sealed : List Item) → WorkStands self.old lookup.now folder sent sealed → WorkStands self.new lookup.now folder sent sealed }
+        ensures told { IfOk result (λ stepped. (folder : Folder) (sent sealed : List Item) → WorkStands self.old lookup.now folder sent sealed
             → Tells lookup.now folder (all_items sent sealed self.new.packing) stepped) }
         ensures less { IfOk result (λ stepped. stepped ≡ Stepped.On → work_left self.new.walk < work_left self.old.walk) }
         ensures sealed { self.new.packing.packer.sealed ≡ self.old.packing.packer.sealed }
@@ -216,8 +216,8 @@ impl Work {
         requires node { self.old.walk.node ≡ None }
         requires file { self.old.walk.file ≡ None }
         requires step { next_step self.old.walk ≡ None }
-        ensures work { (folder : Folder) (sent sealed : List Item) → IsWork self.old lookup.now folder sent sealed → IsWork self.new lookup.now folder sent sealed }
-        ensures told { IfOk result (λ stepped. (folder : Folder) (sent sealed : List Item) → IsWork self.old lookup.now folder sent sealed
+        ensures work { (folder : Folder) (sent sealed : List Item) → WorkStands self.old lookup.now folder sent sealed → WorkStands self.new lookup.now folder sent sealed }
+        ensures told { IfOk result (λ stepped. (folder : Folder) (sent sealed : List Item) → WorkStands self.old lookup.now folder sent sealed
             → Tells lookup.now folder (all_items sent sealed self.new.packing) stepped) }
         ensures over { IfOk result (λ stepped. stepped ≢ Stepped.On) }
         ensures walk { self.new.walk ≡ self.old.walk }

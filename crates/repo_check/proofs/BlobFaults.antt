@@ -12,7 +12,7 @@ use Rattle.repo_tree.specs.Spelling.{greatest_depth}
 use Rattle.repo_session.specs.Traces.{Trace}
 use Rattle.repo_session.specs.declared.outcomes.CheckFault.{CheckFault}
 use Rattle.repo_session.specs.declared.outcomes.FaultKind.{FaultKind}
-use Rattle.repo_check.specs.Answers.{Answers, IsReached}
+use Rattle.repo_check.specs.Answers.{Gathered, IsReachedBlob}
 use Rattle.repo_check.specs.Checking.{OfBlob}
 use Rattle.repo_check.specs.Findings.{BlobIs}
 use Rattle.repo_check.specs.Rounds.{Match}
@@ -28,15 +28,15 @@ use Rattle.repo_check.proofs.Tellings.{told_are_found}
 use Rattle.repo_check.proofs.TreeFaults.{content_is_told, trees_are_told}
 
 -- blobs of a kind, and what is found of each
-pub record Finds (answers : Answers) (k : BlobKind) (names : List Name) (found : List (Option FaultKind)) : Type 1 where
+pub record Finds (answers : Gathered) (k : BlobKind) (names : List Name) (found : List (Option FaultKind)) : Type 1 where
   pub R : Name → Option FaultKind → Type 0
   pub match : Match R names found
-  pub reached : (n : Name) → Contains names n ↔ IsReached answers k n
-  pub says : (n : Name) (f : Option FaultKind) → IsReached answers k n → R n f → BlobIs answers k n f
+  pub reached : (n : Name) → Contains names n ↔ IsReachedBlob answers k n
+  pub says : (n : Name) (f : Option FaultKind) → IsReachedBlob answers k n → R n f → BlobIs answers k n f
 
-module _ (answers : Answers) (k : BlobKind) (names : List Name) (found : List (Option FaultKind)) (h : Finds answers k names found) where
+module _ (answers : Gathered) (k : BlobKind) (names : List Name) (found : List (Option FaultKind)) (h : Finds answers k names found) where
   -- something is found of each that is reached
-  pub blob_found : (n : Name) → IsReached answers k n → (i : ℕ) × (f : Option FaultKind) × (slice_get names i ≡ Some n) × (slice_get found i ≡ Some f) × BlobIs answers k n f
+  pub blob_found : (n : Name) → IsReachedBlob answers k n → (i : ℕ) × (f : Option FaultKind) × (slice_get names i ≡ Some n) × (slice_get found i ≡ Some f) × BlobIs answers k n f
   blob_found n reached =
       let at = stands_at names n ((h.reached n).1 reached) in
       let o = opposite h.R names found at.0 n h.match at.1 in
@@ -57,7 +57,7 @@ module _ (answers : Answers) (k : BlobKind) (names : List Name) (found : List (O
       )
 
 module _ (rounds : RoundsView) (walk : WalkView) (es : Trace) (s : IsSurveyed rounds walk es) (reached : ReachedView) (are : AreReached walk reached) where
-  abbrev A : Answers
+  abbrev A : Gathered
   A = answers_in s
 
   pub once_found : (k : BlobKind) (f g : Option FaultKind) (n : Name) → BlobIs A k n f → BlobIs A k n g → f ≡ g

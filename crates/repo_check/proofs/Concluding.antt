@@ -18,7 +18,7 @@ use Rattle.repo_pack.specs.PackLayout.{kind_number}
 use Rattle.repo_session.specs.Traces.{Trace}
 use Rattle.repo_session.specs.declared.outcomes.CheckFault.{CheckFault}
 use Rattle.repo_session.specs.declared.outcomes.Outcome.{Outcome}
-use Rattle.repo_check.specs.Answers.{Answers, IsReached}
+use Rattle.repo_check.specs.Answers.{Gathered, IsReachedBlob}
 use Rattle.repo_check.specs.Arrivals.{IsIndexOf, IsPackOf, IsRootOf}
 use Rattle.repo_check.specs.Checking.{AreCounts, ArePairs, CheckConcludes, IsAtFault, IsCount, Pair, pair_cmp}
 use Rattle.repo_check.specs.Rounds.{IsNoted}
@@ -58,7 +58,7 @@ sorted_append cmp (a ∷ first) more h g less = (
 )
 
 module _ (rounds : RoundsView) (walk : WalkView) (es : Trace) (s : IsSurveyed rounds walk es) (reached : ReachedView) (are : AreReached walk reached) where
-  abbrev A : Answers
+  abbrev A : Gathered
   A = answers_in s
 
   abbrev content : List Pair
@@ -67,12 +67,12 @@ module _ (rounds : RoundsView) (walk : WalkView) (es : Trace) (s : IsSurveyed ro
   abbrev trees : List Pair
   trees = map (λ (n : Name). record { kind = Tree; name = n }) reached.trees
 
-  of_kind : (k : BlobKind) (names : List Name) → ((n : Name) → Contains names n ↔ IsReached A k n) → (p : Pair) → Contains (map (λ (n : Name). record { kind = k; name = n }) names) p → IsReached A p.kind p.name
+  of_kind : (k : BlobKind) (names : List Name) → ((n : Name) → Contains names n ↔ IsReachedBlob A k n) → (p : Pair) → Contains (map (λ (n : Name). record { kind = k; name = n }) names) p → IsReachedBlob A p.kind p.name
   of_kind k names all p c =
       let from = map_contains (λ (n : Name). record { kind = k; name = n }) names p c in
-      subst (λ (q : Pair). IsReached A q.kind q.name) from.2 ((all from.0).0 from.1)
+      subst (λ (q : Pair). IsReachedBlob A q.kind q.name) from.2 ((all from.0).0 from.1)
 
-  among : (k : BlobKind) (n : Name) → IsReached A k n → Contains (content ++ trees) (record { kind = k; name = n })
+  among : (k : BlobKind) (n : Name) → IsReachedBlob A k n → Contains (content ++ trees) (record { kind = k; name = n })
   among Content n r = Contains-append_left content trees (record { kind = Content; name = n }) (contains_map (λ (m : Name). record { kind = Content; name = m }) reached.content n ((content_reached rounds walk es s reached are n).1 r))
   among Tree n r = Contains-append_right content trees (record { kind = Tree; name = n }) (contains_map (λ (m : Name). record { kind = Tree; name = m }) reached.trees n ((trees_reached rounds walk es s reached are n).1 r))
 

@@ -12,13 +12,13 @@ use Rattle.repo_store.specs.Pages.{Ascends}
 use Rattle.repo_session.specs.Traces.{Trace}
 use Rattle.repo_session.specs.declared.outcomes.CheckFault.{CheckFault}
 use Rattle.repo_session.specs.declared.outcomes.FaultKind.{FaultKind}
-use Rattle.repo_check.specs.Answers.{Answer, Answers, IsReached}
+use Rattle.repo_check.specs.Answers.{Answer, Gathered, IsReachedBlob}
 use Rattle.repo_check.specs.Arrivals.{IsPackOf, IsRootOf}
 use Rattle.repo_check.specs.Checking.{AreFaults, AreJudged, AreWell, IsFault, IsFound, OfBlob, OfObject, fault_cmp, rank}
 use Rattle.repo_check.specs.Findings.{BlobIs, ObjectIs}
 use Rattle.repo_check.specs.Fitting.{facts_by}
 use Rattle.repo_check.specs.Gathering.{fault_noted}
-use Rattle.repo_check.specs.Rounds.{IsWhole, Match, RoundView}
+use Rattle.repo_check.specs.Rounds.{IsWholeRound, Match, RoundView}
 use Rattle.repo_check.specs.Surveys.{IsSurveyed, RoundsView, answers_in}
 use Rattle.repo_check.specs.Telling.{AreOfRank, told}
 use Rattle.repo_check.specs.Verdicts.{AreReached, AreTold, IsPlaced, ReachedView, told_of}
@@ -75,10 +75,10 @@ place_or FaultKind.Unreadable = inr (λ is. absurd (cc is))
 place_or FaultKind.Unindexed = inr (λ is. absurd (cc is))
 
 module _ (rounds : RoundsView) (walk : WalkView) (es : Trace) (s : IsSurveyed rounds walk es) where
-  abbrev A : Answers
+  abbrev A : Gathered
   A = answers_in s
 
-  round_ascends : {T : Type 0} (k : Kind) (round : RoundView T) → IsWhole k round es → Ascends None round.names
+  round_ascends : {T : Type 0} (k : Kind) (round : RoundView T) → IsWholeRound k round es → Ascends None round.names
   round_ascends k round whole = subst (λ (ns : List Name). Ascends None ns) whole.paged.listed whole.paged.rise.ascend
 
   -- ---- objects
@@ -235,11 +235,11 @@ module _ (rounds : RoundsView) (walk : WalkView) (es : Trace) (s : IsSurveyed ro
       well_object k a c None is = is
       well_object k a c (Some what) is = (let f = object_fault k a.name what (a, c, refl, is) in absurd (no_fault f.0 a.name what f.1))
 
-      well_blob : (k : BlobKind) (n : Name) → IsReached A k n → (f : Option FaultKind) → BlobIs A k n f → BlobIs A k n None
+      well_blob : (k : BlobKind) (n : Name) → IsReachedBlob A k n → (f : Option FaultKind) → BlobIs A k n f → BlobIs A k n None
       well_blob k n r None is = is
       well_blob k n r (Some what) is = (let f = blob_fault k n what (r, is) in absurd (no_fault f.0 n what f.1))
 
-      found_blob : (k : BlobKind) (n : Name) → IsReached A k n → (f : Option FaultKind) × BlobIs A k n f
+      found_blob : (k : BlobKind) (n : Name) → IsReachedBlob A k n → (f : Option FaultKind) × BlobIs A k n f
       found_blob Content n r = (let b = blob_found A Content reached.content h.blobs.content (content_finds rounds walk es s reached are h.blobs.content h.blobs.content_are) n r in (b.1, b.4))
       found_blob Tree n r = (let b = blob_found A Tree reached.trees h.blobs.trees (tree_finds rounds walk es s reached are h.of_objects faults h.blobs) n r in (b.1, b.4))
 

@@ -28,7 +28,7 @@ use Rattle.repo_name.proofs.Containing.{none_contained, contained_or}
 use Rattle.repo_tree.proofs.TreeLemmas.{tree_texts_one}
 use Rattle.repo_session.specs.declared.outcomes.FaultKind.{FaultKind}
 use Rattle.repo_session.specs.Traces.{Trace}
-use Rattle.repo_check.specs.Answers.{Answer, Answers, LiesAt, LiesNowhere}
+use Rattle.repo_check.specs.Answers.{Answer, Gathered, LiesAt, LiesNowhere}
 use Rattle.repo_check.specs.Checking.{IsFound, OfBlob, OfObject, AreAnswers, AreGot, AreWell}
 use Rattle.repo_check.specs.Findings.{Reads, IsIllegible, IsExactOf, IsFitting, IsMisplaced, ObjectIs, Measure, IsMeasured, IsMismeasured, IsWellTree, IsIllTree, IsTreeAt, TreeIs, ContentIs, BlobIs}
 use Rattle.repo_check.specs.Laws.{FoundOnce, WellHasNoFault}
@@ -72,7 +72,7 @@ illegible_not Kind.Pack x none is = none is
 illegible_not Kind.Index x none is = none is
 illegible_not Kind.Snapshot x none is = unreadable_not x none.0 is.0 none.1 none.2 none.3 is.1
 
-module _ (answers : Answers) where
+module _ (answers : Gathered) where
   pub lies_one : (k : BlobKind) (n : Name) (a b : Place) → LiesAt answers k n a → LiesAt answers k n b → a ≡ b
   lies_one k n a b h g = place_one a b (h.least b g.given) (g.least a h.given)
 
@@ -285,7 +285,7 @@ named_once after (c ∷ answers) h a b ha hb same = elim (contained_or c answers
 pub got_once : (es : Trace) (k : Kind) (answers : List Answer) → AreGot es k answers → (a b : Answer) → Contains answers a → Contains answers b → a.name ≡ b.name → a ≡ b
 got_once es k answers h = named_once None answers (subst (λ ns. Ascends None ns) (sym h.names) h.listed.rise.ascend)
 
-of_object_once : (es : Trace) (answers : Answers) → AreAnswers es answers → (k : Kind) (n : Name) (f g : Option FaultKind) → OfObject answers k n f → OfObject answers k n g → f ≡ g
+of_object_once : (es : Trace) (answers : Gathered) → AreAnswers es answers → (k : Kind) (n : Name) (f g : Option FaultKind) → OfObject answers k n f → OfObject answers k n g → f ≡ g
 of_object_once es answers are k n f g h i =
     let same : i.0 ≡ h.0 = got_once es k (answers.objects k) (are.objects k) i.0 h.0 i.1 h.1 (i.2 ∙ sym h.2) in
     object_once answers k h.0 f g h.3 (subst (λ a. ObjectIs answers k a g) same i.3)
@@ -302,7 +302,7 @@ found_once es answers are Thing.Tree n f g h i = blob_once answers are.trees.onc
 never : (what : FaultKind) → None ≡ Some what → ⊥
 never what h = cc h
 
-module _ (es : Trace) (answers : Answers) (are : AreAnswers es answers) (well : AreWell answers) where
+module _ (es : Trace) (answers : Gathered) (are : AreAnswers es answers) (well : AreWell answers) where
   no_object : (k : Kind) (n : Name) (what : FaultKind) → OfObject answers k n (Some what) → ⊥
   no_object k n what h = never what (object_once answers k h.0 None (Some what) (well.objects k h.0 h.1) h.3)
 

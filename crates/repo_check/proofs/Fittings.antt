@@ -16,7 +16,7 @@ use Rattle.repo_index.proofs.OneLemmas.{index_texts_lawful}
 use Rattle.repo_index.proofs.SameLemmas.{exact_same}
 use Rattle.repo_name.proofs.Containing.{flat_contains, none_contained}
 use Rattle.std.proofs.lemmas.List.Elements.{All-contains}
-use Rattle.repo_check.specs.Answers.{Answer, Answers}
+use Rattle.repo_check.specs.Answers.{Answer, Gathered}
 use Rattle.repo_check.specs.Findings.{IsExactOf, IsFitting, IsMisplaced}
 use Rattle.repo_check.specs.Laws.{FitsAsFound}
 use Rattle.repo_check.specs.Fitting.{FactsOfPacks, IsKnownAs, AreKnown, ListsAsKnown, ListsOtherwise, Fits, Misfits}
@@ -88,7 +88,7 @@ not_exact text lawful pack bytes items is large exact =
     let ends = last.ends in
     omega (arith, few, ends, large)
 
-module _ (answers : Answers) (packs : FactsOfPacks) (known : AreKnown answers packs) (text : List PackFacts) (lawful : AreLawful text) where
+module _ (answers : Gathered) (packs : FactsOfPacks) (known : AreKnown answers packs) (text : List PackFacts) (lawful : AreLawful text) where
   known_at : (pack : Name) (o : Option (List Fact)) → packs pack ≡ o → IsKnownAs answers pack o
   known_at pack o is = subst (λ p. IsKnownAs answers pack p) is (known pack)
 

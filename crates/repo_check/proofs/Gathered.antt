@@ -18,7 +18,7 @@ use Rattle.repo_session.specs.declared.outcomes.FaultKind.{FaultKind}
 use Rattle.repo_name.proofs.Containing.{contained_or, first_contained, later_contained, none_contained}
 use Rattle.repo_tree.proofs.SnapshotLemmas.{snapshot_texts_one}
 use Rattle.repo_tree.specs.SnapshotText.{IsSnapshotText}
-use Rattle.repo_check.specs.Answers.{Answer, Answers, Came, Gives, HasRoot, LiesAt}
+use Rattle.repo_check.specs.Answers.{Answer, Gathered, Came, GivesFact, HasRoot, LiesAt}
 use Rattle.repo_check.specs.Arrivals.{HasBytes, IsFaulty, IsIndexOf, IsRootOf}
 use Rattle.repo_check.specs.Findings.{IsIllegible, Reads}
 use Rattle.repo_check.specs.Gathering.{facts_noted, root_noted}
@@ -47,7 +47,7 @@ matched_back {A} {B} R (a ∷ xs) (b ∷ ys) m y c = elim (contained_or b ys y c
 ]
 
 -- an answer whose bytes read isn't at fault by itself
-pub faulty_not : (answers : Answers) (k : Kind) (a : Answer) (x : List ℕ) (what : FaultKind) → HasBytes a x → Reads k x → IsFaulty k a what → ⊥
+pub faulty_not : (answers : Gathered) (k : Kind) (a : Answer) (x : List ℕ) (what : FaultKind) → HasBytes a x → Reads k x → IsFaulty k a what → ⊥
 faulty_not answers k a x FaultKind.Missing has reads h = (let none = h answers in let some = has.0 in cc (none, some))
 faulty_not answers k a x FaultKind.Name has reads h =
     let f = h answers in
@@ -63,7 +63,7 @@ pub came_as : (answers : List Answer) (a : Answer) (x : List ℕ) → Contains a
 came_as answers a x c has = record { among = subst (λ (b : Option (List ℕ)). Contains answers (record { name = a.name; bytes = b })) has.0 c; named = has.1 }
 
 module _ (rounds : RoundsView) (walk : WalkView) (es : Trace) (s : IsSurveyed rounds walk es) where
-  abbrev A : Answers
+  abbrev A : Gathered
   A = answers_in s
 
   abbrev facts : List Fact
@@ -71,20 +71,20 @@ module _ (rounds : RoundsView) (walk : WalkView) (es : Trace) (s : IsSurveyed ro
 
   -- ---- facts
 
-  pub given_of : (fact : Fact) → Contains facts fact → Gives A fact
+  pub given_of : (fact : Fact) → Contains facts fact → GivesFact A fact
   given_of fact c =
       let given : Contains (flat_map facts_noted rounds.indexes.notes) fact = elim ((s.objects.facts fact).0 c) [ inl none ↦ absurd (none_contained fact none) | inr there ↦ there ] in
       let from = flat_contains facts_noted rounds.indexes.notes fact given in
       of_note from.0 from.1 from.2
     where
-      of_note : (note : Note (List PackFacts)) → Contains rounds.indexes.notes note → Contains (facts_noted note) fact → Gives A fact
+      of_note : (note : Note (List PackFacts)) → Contains rounds.indexes.notes note → Contains (facts_noted note) fact → GivesFact A fact
       of_note (Note.Well packs) among inside =
           let a = matched_back (IsNoted Kind.Index IsIndexOf) s.notes.indexes.answers rounds.indexes.notes s.notes.indexes.noted (Note.Well packs) among in
           let is : IsIndexOf a.0 packs = a.2 in
           record { index = a.0.name; text = is.0; came = came_as s.notes.indexes.answers a.0 is.0 a.1 is.1; says = record { packs = packs; text = is.2; among = inside } }
       of_note (Note.Fault what) among inside = absurd (none_contained fact inside)
 
-  pub contains_of : (fact : Fact) → Gives A fact → Contains facts fact
+  pub contains_of : (fact : Fact) → GivesFact A fact → Contains facts fact
   contains_of fact g =
       let a : Answer = record { name = g.index; bytes = Some g.text } in
       let note = matched (IsNoted Kind.Index IsIndexOf) s.notes.indexes.answers rounds.indexes.notes s.notes.indexes.noted a g.came.among in

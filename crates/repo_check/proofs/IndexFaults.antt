@@ -15,7 +15,7 @@ use Rattle.repo_index.specs.declared.facts.PackFacts.{PackFacts}
 use Rattle.repo_store.specs.Pages.{Ascends}
 use Rattle.repo_session.specs.Traces.{Trace}
 use Rattle.repo_session.specs.declared.outcomes.FaultKind.{FaultKind}
-use Rattle.repo_check.specs.Answers.{Answer, Answers}
+use Rattle.repo_check.specs.Answers.{Answer, Gathered}
 use Rattle.repo_check.specs.Arrivals.{IsFaulty, IsIndexOf, IsPackOf}
 use Rattle.repo_check.specs.Checking.{IsFound}
 use Rattle.repo_check.specs.Findings.{ObjectIs}
@@ -68,7 +68,7 @@ both (note ∷ notes) [] = []
 both (note ∷ notes) (place ∷ places) = of_both (fault_noted note) place ∷ both notes places
 
 module _ (rounds : RoundsView) (walk : WalkView) (es : Trace) (s : IsSurveyed rounds walk es) where
-  abbrev A : Answers
+  abbrev A : Gathered
   A = answers_in s
 
   abbrev packs : List Answer

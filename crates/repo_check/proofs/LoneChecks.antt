@@ -37,7 +37,7 @@ use Rattle.repo_session.proofs.Telling.{seen_run}
 use Rattle.repo_session.proofs.Spoken.{held_agree}
 use Rattle.repo_session.proofs.Unchanging.{OnlyReads, sound_throughout, same_run, same_after, puts_nothing, shares_run}
 use Rattle.repo_check.specs.Answers as answers_of
-use Rattle.repo_check.specs.Answers.{Answer, Gives, LiesAt}
+use Rattle.repo_check.specs.Answers.{Answer, GivesFact, LiesAt}
 use Rattle.repo_check.specs.Checking.{check_task, CheckAllows, CheckGives, CheckConcludes, AreAnswers, IsAtFault, IsGot, IsRanged, IsClean}
 use Rattle.repo_check.specs.Laws as laws
 use Rattle.repo_check.specs.Laws.{AreObjects, HasNoClash}
@@ -142,7 +142,7 @@ module _ (who : Asker) (from : Store) where
     now : (k : Kind) (n : Name) (x : List ℕ) → from.objects k n ≡ Some x → to.objects k n ≡ Some x
     now k n x there = ap (λ (s : Objects). s k n) (same talk to o h) ∙ there
 
-    module _ (answers : answers_of.Answers) (received : AreAnswers (trace_of talk) answers) where
+    module _ (answers : answers_of.Gathered) (received : AreAnswers (trace_of talk) answers) where
       -- the object that came is the one that is there
       come : (k : Kind) (n : Name) (x : List ℕ) (a : Answer) → Contains (answers.objects k) a → a.name ≡ n → from.objects k n ≡ Some x → (bytes : Option (List ℕ)) → a.bytes ≡ bytes → IsGot (trace_of talk) k a.name bytes
           → Contains (answers.objects k) (record { name = n; bytes = Some x })
@@ -204,7 +204,7 @@ module _ (who : Asker) (from : Store) where
           let found = clean.well.objects Kind.Pack (record { name = n; bytes = Some x }) ((are clean.answers clean.received Kind.Pack n x).0 there) in
           ap naming.name (same_Some x found.0 found.1) ∙ found.2
 
-      part : (fact : Fact) (pack x : List ℕ) → Gives clean.answers fact → from.objects Kind.Pack fact.place.pack ≡ Some pack → range pack fact.place.offset fact.place.length ≡ Some x → IsSpoken (λ y. ⊥) from (IsSent [] None) x
+      part : (fact : Fact) (pack x : List ℕ) → GivesFact clean.answers fact → from.objects Kind.Pack fact.place.pack ≡ Some pack → range pack fact.place.offset fact.place.length ≡ Some x → IsSpoken (λ y. ⊥) from (IsSent [] None) x
       part fact pack x gives there stands = inr (inl (record {
         index = gives.text;
         fact = fact;

@@ -12,7 +12,7 @@ use Rattle.repo_index.specs.declared.facts.Fact.{Fact}
 use Rattle.repo_tree.specs.declared.nodes.Node.{Node}
 use Rattle.repo_tree.specs.declared.nodes.NodeKind.{NodeKind}
 use Rattle.repo_name.proofs.Containing.{contained_or}
-use Rattle.repo_check.specs.Answers.{Answers, LiesAt}
+use Rattle.repo_check.specs.Answers.{Gathered, LiesAt}
 use Rattle.repo_check.specs.Findings.{Measure, IsMeasured, IsMismeasured}
 use Rattle.repo_check.specs.Measures.{IsLost, Measures, Suits, IsUnsuited, AreGiven, Judges}
 use Rattle.repo_check.proofs.Finding.{place_one}
@@ -76,7 +76,7 @@ measures_next facts content i d left rest place less least sum =
 
 -- ---- and by what was given
 
-module _ (answers : Answers) (facts : List Fact) (given : AreGiven answers facts) where
+module _ (answers : Gathered) (facts : List Fact) (given : AreGiven answers facts) where
   pub lies_least : (k : BlobKind) (n : Name) (place : Place) → IsLeast facts k n place → LiesAt answers k n place
   lies_least k n place h = record { given = (given (fact_of k n place)).0 h.among; least = λ other g. h.least other ((given (fact_of k n other)).1 g) }
 
@@ -98,7 +98,7 @@ module _ (answers : Answers) (facts : List Fact) (given : AreGiven answers facts
 
 -- what is judged by facts holds of all that was given as they say
 pub judged : (facts : List Fact) (nodes : List Node) (right : Bool) → (IsTrue right → (node : Node) → Contains nodes node → Suits facts node.what) → (IsFalse right → (node : Node) × Contains nodes node × IsUnsuited facts node.what)
-    → (answers : Answers) → AreGiven answers facts → Judges answers nodes right
+    → (answers : Gathered) → AreGiven answers facts → Judges answers nodes right
 judged facts nodes right all some answers given = record {
   well = λ is node c. suited answers facts given node.what (all is node c);
   ill = λ is. (let s = some is in (s.0, s.1, unsuited answers facts given s.0.what s.2));

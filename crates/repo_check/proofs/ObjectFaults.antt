@@ -9,12 +9,12 @@ use Rattle.repo_index.specs.declared.facts.Fact.{Fact}
 use Rattle.repo_session.specs.Traces.{Trace}
 use Rattle.repo_session.specs.declared.outcomes.FaultKind.{FaultKind}
 use Rattle.repo_name.proofs.Containing.{contained_or, first_contained, later_contained, none_contained}
-use Rattle.repo_check.specs.Answers.{Answer, Answers}
+use Rattle.repo_check.specs.Answers.{Answer, Gathered}
 use Rattle.repo_check.specs.Arrivals.{IsFaulty, IsPackOf, IsRootOf}
 use Rattle.repo_check.specs.Checking.{IsFound}
 use Rattle.repo_check.specs.Findings.{ObjectIs}
 use Rattle.repo_check.specs.Gathering.{fault_noted}
-use Rattle.repo_check.specs.Rounds.{AreNoted, IsNoted, IsWhole, Match, RoundView}
+use Rattle.repo_check.specs.Rounds.{AreNoted, IsNoted, IsWholeRound, Match, RoundView}
 use Rattle.repo_check.specs.Surveys.{PacksAreTold, SnapshotsAreTold, answers_in}
 use Rattle.repo_check.specs.Telling.{IsFoundAmong}
 use Rattle.repo_check.specs.declared.rounds.Note.{Note}
@@ -22,14 +22,14 @@ use Rattle.repo_check.proofs.Finding.{object_once}
 use Rattle.repo_check.proofs.Tellings.{told_are_found}
 
 -- an answer that is at fault by itself is so whatever else came
-pub faulty_is : (answers : Answers) (k : Kind) (a : Answer) (what : FaultKind) → IsFaulty k a what → ObjectIs answers k a (Some what)
+pub faulty_is : (answers : Gathered) (k : Kind) (a : Answer) (what : FaultKind) → IsFaulty k a what → ObjectIs answers k a (Some what)
 faulty_is answers k a FaultKind.Missing h = h answers
 faulty_is answers k a FaultKind.Name h = h answers
 faulty_is answers k a FaultKind.Unreadable h = h answers
 faulty_is answers k a FaultKind.Place h = absurd h
 faulty_is answers k a FaultKind.Unindexed h = h answers
 
-module _ (answers : Answers) (k : Kind) where
+module _ (answers : Gathered) (k : Kind) where
   -- what is found among answers, where something is found of each
   pub found_at : (xs : List Answer) (found : List (Option FaultKind)) (n : Name) (what : FaultKind) (i : ℕ) → Match (λ (a : Answer). ObjectIs answers k a) xs found → slice_get (map (λ (a : Answer). a.name) xs) i ≡ Some n → slice_get found i ≡ Some (Some what)
       → (a : Answer) × Contains xs a × (a.name ≡ n) × ObjectIs answers k a (Some what)
@@ -59,7 +59,7 @@ module _ (answers : Answers) (k : Kind) where
     each_is (a ∷ xs) [] m = absurd m
 
     -- what is found by the notes of a round that is over
-    pub found_by : (round : RoundView T) (es : Trace) → IsWhole k round es → (h : AreNoted k Gives round.names round.notes es) → (n : Name) (what : FaultKind)
+    pub found_by : (round : RoundView T) (es : Trace) → IsWholeRound k round es → (h : AreNoted k Gives round.names round.notes es) → (n : Name) (what : FaultKind)
         → IsFoundAmong round.names (map fault_noted round.notes) n what ↔ ((a : Answer) × Contains h.answers a × (a.name ≡ n) × ObjectIs answers k a (Some what))
     found_by round es whole h n what =
         let names : map (λ (a : Answer). a.name) h.answers ≡ round.names = h.named ∙ take_all (length round.notes) round.names whole.all in
@@ -68,10 +68,10 @@ module _ (answers : Answers) (k : Kind) where
           λ o. (let at = among h.answers (map fault_noted round.notes) o.0 what is o.1 o.3 in (at.0, ap (λ ns. slice_get ns at.0) (sym names) ∙ at.1 ∙ ap Some o.2, at.2)),
         )
 
-pub root_well : (answers : Answers) (a : Answer) (root : Name) → IsRootOf a root → ObjectIs answers Kind.Snapshot a None
+pub root_well : (answers : Gathered) (a : Answer) (root : Name) → IsRootOf a root → ObjectIs answers Kind.Snapshot a None
 root_well answers a root h = (h.0, h.2.0, h.2.1, (h.1, h.3))
 
-pub pack_well : (answers : Answers) (a : Answer) (facts : List Fact) → IsPackOf a facts → ObjectIs answers Kind.Pack a None
+pub pack_well : (answers : Gathered) (a : Answer) (facts : List Fact) → IsPackOf a facts → ObjectIs answers Kind.Pack a None
 pack_well answers a facts h = (h.0, h.2.0, h.2.1, (h.1, h.3))
 
 pub snapshots_are_told : SnapshotsAreTold

@@ -22,7 +22,7 @@ use Rattle.repo_tree.specs.TreeText.{IsTreeText}
 use Rattle.repo_tree.specs.Spelling.{NodeReaches, Reach, ReachTo, greatest_depth}
 use Rattle.repo_tree.specs.declared.nodes.Node.{Node}
 use Rattle.repo_tree.specs.declared.nodes.NodeKind.{NodeKind}
-use Rattle.repo_check.specs.Answers.{Answer, Answers, IsReached, IsDeepest, LiesAt, TreesOf}
+use Rattle.repo_check.specs.Answers.{Answer, Gathered, IsReachedBlob, IsDeepest, LiesAt, TreesOf}
 use Rattle.repo_check.specs.Checking.{AreGot, AreRanged}
 use Rattle.repo_check.specs.Arrivals.{IsIndexOf, IsPackOf, IsRootOf}
 use Rattle.repo_check.specs.Measures.{IsReadAs}
@@ -52,7 +52,7 @@ told_read facts place a (Some x) (Some what) told links is = (false, subst (λ y
 told_read facts place a None f told links is = absurd (cc is)
 
 module _ (rounds : RoundsView) (walk : WalkView) (es : Trace) (s : IsSurveyed rounds walk es) where
-  abbrev A : Answers
+  abbrev A : Gathered
   A = answers_in s
 
   abbrev T : Blobs
@@ -151,13 +151,13 @@ module _ (rounds : RoundsView) (walk : WalkView) (es : Trace) (s : IsSurveyed ro
   within : (d : ℕ) (n : Name) → StandsIn levels d n → d ≤ greatest_depth
   within d n h = let few = slice_get_within levels d h.0 h.1 in let all = s.over.all in omega (arith, few, all, depth_is)
 
-  reached_of : (k : BlobKind) (n : Name) → (root : Name) × Contains s.roots root × Reach 1 T root k n → IsReached A k n
+  reached_of : (k : BlobKind) (n : Name) → (root : Name) × Contains s.roots root × Reach 1 T root k n → IsReachedBlob A k n
   reached_of k n h = (1, h.0, root_of rounds walk es s h.0 h.1, h.2)
 
-  tree_reached : (n : Name) → (d : ℕ) × StandsIn levels d n → IsReached A Tree n
+  tree_reached : (n : Name) → (d : ℕ) × StandsIn levels d n → IsReachedBlob A Tree n
   tree_reached n h = let few = within h.0 n h.1 in reached_of Tree n (up h.0 n h.1 (greatest_depth - h.0) Tree n (reach_self (greatest_depth - h.0) n) greatest_depth (omega (arith, few)))
 
-  content_reached : (n : Name) → HoldsContent walk n → IsReached A Content n
+  content_reached : (n : Name) → HoldsContent walk n → IsReachedBlob A Content n
   content_reached n h =
       let depth = h.0 in
       let less = h.3 in
@@ -196,7 +196,7 @@ module _ (rounds : RoundsView) (walk : WalkView) (es : Trace) (s : IsSurveyed ro
       let has = h.1 in
       through d (down d) depth sum t has.own stands (subst (λ p. IsTree T p has.own) has.belongs has.lists) h.0 h.0.what has.among refl k n h.2
 
-  pub found_of : (k : BlobKind) (n : Name) → IsReached A k n → Found k n
+  pub found_of : (k : BlobKind) (n : Name) → IsReachedBlob A k n → Found k n
   found_of k n h =
       let root = of_root rounds walk es s h.0 h.1 h.2 in
       down greatest_depth 0 (omega arith) h.1 (stands_first h.1 root.1) k n (subst (λ v. Reach v T h.1 k n) root.0 h.3)

@@ -19,7 +19,7 @@ use Rattle.repo_session.proofs.Rolling.{has_got, paged_on}
 use Rattle.repo_check.specs.Answers.{Answer}
 use Rattle.repo_check.specs.Arrivals.{IsAnswer}
 use Rattle.repo_check.specs.Checking.{IsGot, AreGot}
-use Rattle.repo_check.specs.Rounds.{IsUntouched, IsListing, IsWhole, AsksNext, KnowsRound, TurnsOn, Takes, Match, IsNoted, AreNoted, RoundView, round_of}
+use Rattle.repo_check.specs.Rounds.{IsUntouched, IsListing, IsWholeRound, AsksNext, KnowsRound, TurnsOn, TakesObject, Match, IsNoted, AreNoted, RoundView, round_of}
 use Rattle.repo_check.specs.declared.rounds.Note.{Note}
 use Rattle.repo_check.specs.declared.rounds.Round.{Round}
 use Rattle.repo_check.specs.declared.rounds.Turn.{Turn}
@@ -253,7 +253,7 @@ module _ {T : Type 0} (k : Kind) (Gives : Answer → T → Type 0) where
       })
 
   -- what is known after an object was noted
-  pub taken : (old new : RoundView T) (note : Note T) (n : Name) (say : Say) (turn : Turn) → ((a : Answer) × IsAnswer n say a × IsNoted k Gives a note) → new.kind ≡ old.kind → new.names ≡ old.names → new.notes ≡ old.notes ++ note ∷ [] → AsksNext new turn → Takes k Gives old n say turn new
+  pub taken : (old new : RoundView T) (note : Note T) (n : Name) (say : Say) (turn : Turn) → ((a : Answer) × IsAnswer n say a × IsNoted k Gives a note) → new.kind ≡ old.kind → new.names ≡ old.names → new.notes ≡ old.notes ++ note ∷ [] → AsksNext new turn → TakesObject k Gives old n say turn new
   taken old new note n say turn look kind names notes asks = λ task token es w getting noted.
       let e = silent (Ask.Get k n) say in
       let paged = paged_on k e old.names true es refl refl (λ after same. absurd (cc same)) getting.paged in
@@ -261,11 +261,11 @@ module _ {T : Type 0} (k : Kind) (Gives : Answer → T → Type 0) where
       (next_on task token k new turn e es w (kind ∙ getting.of_kind) (subst (λ ns. IsPaged k ns true (e ∷ es)) (sym names) paged) asks, subst (λ ns. AreNoted k Gives ns new.notes (e ∷ es)) (sym names) more)
 
   -- a reply that ends the round notes nothing
-  pub ended : (round : RoundView T) (n : Name) (say : Say) (turn : Turn) → ((task : Task) (es : Trace) → TurnsOn task k round turn (silent (Ask.Get k n) say) es) → Takes k Gives round n say turn round
+  pub ended : (round : RoundView T) (n : Name) (say : Say) (turn : Turn) → ((task : Task) (es : Trace) → TurnsOn task k round turn (silent (Ask.Get k n) say) es) → TakesObject k Gives round n say turn round
   ended round n say turn turns = λ task token es w getting noted. (turns task es, noted_grow round.names round.notes (silent (Ask.Get k n) say) es noted)
 
   -- once all are noted they were received
-  pub all_got : (round : RoundView T) (es : Trace) → IsWhole k round es → (h : AreNoted k Gives round.names round.notes es) → AreGot es k h.answers
+  pub all_got : (round : RoundView T) (es : Trace) → IsWholeRound k round es → (h : AreNoted k Gives round.names round.notes es) → AreGot es k h.answers
   all_got round es whole h = record {
     listed = record { complete = whole.paged.complete; rise = whole.paged.rise };
     names = h.named ∙ take_all (length round.notes) round.names whole.all ∙ sym whole.paged.listed;

@@ -29,14 +29,14 @@ use Rattle.repo_session.specs.declared.outcomes.CheckFault.{CheckFault}
 use Rattle.repo_session.specs.declared.outcomes.FaultKind.{FaultKind}
 use Rattle.repo_session.proofs.Descending.{file_spelled, needed_grows, needed_there, root_spells_at, unbroken, under_grows}
 use Rattle.repo_session.proofs.Reaching.{reached_needed}
-use Rattle.repo_check.specs.Answers.{Answer, Answers, Came, Gives, HasRoot, IsReached, LiesAt, LiesNowhere, TreesOf}
+use Rattle.repo_check.specs.Answers.{Answer, Gathered, Came, GivesFact, HasRoot, IsReachedBlob, LiesAt, LiesNowhere, TreesOf}
 use Rattle.repo_check.specs.Checking.{IsFault, IsFound}
 use Rattle.repo_check.specs.Findings.{BlobIs, IsExactOf, IsIllTree, IsMismeasured, Measure, ObjectIs, Reads, TreeIs}
 use Rattle.repo_check.specs.Laws.{AreObjects}
 use Rattle.repo_check.proofs.Finding.{illegible_not}
 use Rattle.repo_check.proofs.Sounding.{BlobAt, blob_at}
 
-module _ (answers : Answers) (objects : Objects) (sound : IsSound objects) (apart : AreHeldApart objects) (are : AreObjects answers objects)
+module _ (answers : Gathered) (objects : Objects) (sound : IsSound objects) (apart : AreHeldApart objects) (are : AreObjects answers objects)
     (given : (k : Kind) (a : Answer) → Contains (answers.objects k) a → (x : List ℕ) × (a.bytes ≡ Some x))
     (ranged : (a : Answer) → Contains answers.trees a → (place : Place) → LiesAt answers Tree a.name place → (pack x : List ℕ) → objects Kind.Pack place.pack ≡ Some pack → range pack place.offset place.length ≡ Some x → a.bytes ≡ Some x) where
   abbrev H : Blobs
@@ -84,7 +84,7 @@ module _ (answers : Answers) (objects : Objects) (sound : IsSound objects) (apar
     pub blob : BlobAt pack fact
     pub held : IsHeld objects fact.kind blob.bytes
 
-  lies : (fact : Fact) → Gives answers fact → Lies fact
+  lies : (fact : Fact) → GivesFact answers fact → Lies fact
   lies fact g =
       let listed = (are Kind.Index g.index g.text).1 g.came.among in
       let s = sound.indexes g.index g.text listed in
@@ -99,7 +99,7 @@ module _ (answers : Answers) (objects : Objects) (sound : IsSound objects) (apar
         held = record { index = g.index; text = g.text; fact = fact; pack = e.bytes; listed = listed; says = g.says; of_kind = refl; named = sym at.named; there = e.there; stands = at.stands };
       }
 
-  gives : (k : BlobKind) (x : List ℕ) (h : IsHeld objects k x) → Gives answers h.fact
+  gives : (k : BlobKind) (x : List ℕ) (h : IsHeld objects k x) → GivesFact answers h.fact
   gives k x h = record { index = h.index; text = h.text; came = came Kind.Index h.index h.text h.listed; says = h.says }
 
   -- a tree that came is the one held
@@ -129,19 +129,19 @@ module _ (answers : Answers) (objects : Objects) (sound : IsSound objects) (apar
       let spells : Spells r.snapshot.version H r.snapshot.tree [] s.entries = subst (λ (x : Snapshot). Spells x.version H x.tree [] s.entries) one s.spells in
       (sym r.version_is ∙ known, record { entries = s.entries; spells = subst (λ v. Spells v H root [] s.entries) known (subst (λ t. Spells r.snapshot.version H t [] s.entries) r.root_is spells) })
 
-  needed : (k : BlobKind) (n : Name) → IsReached answers k n → (root : Name) × Rooted root × IsNeeded 1 T root k n
+  needed : (k : BlobKind) (n : Name) → IsReachedBlob answers k n → (root : Name) × Rooted root × IsNeeded 1 T root k n
   needed k n (version, root, r, reach) =
       let from = rooted version root r in
       (root, from.1, subst (λ v. IsNeeded v T root k n) from.0 (reached_needed version T root k n reach))
 
   -- it lies somewhere
-  somewhere : (k : BlobKind) (n : Name) → IsReached answers k n → LiesNowhere answers k n → ⊥
+  somewhere : (k : BlobKind) (n : Name) → IsReachedBlob answers k n → LiesNowhere answers k n → ⊥
   somewhere k n r nowhere =
       let need = needed k n r in
       let p = needed_there 1 H apart need.0 need.1.entries k n need.1.spells (needed_grows 1 T H grows need.0 k n need.2) in
       let fact = p.among.fact in
       let is : fact ≡ fact_of k n fact.place = λ i. record { kind = p.among.of_kind i; name = (p.among.named ∙ p.named) i; place = fact.place } in
-      nowhere fact.place (subst (λ f. Gives answers f) is (gives k p.bytes p.among))
+      nowhere fact.place (subst (λ f. GivesFact answers f) is (gives k p.bytes p.among))
 
   -- ---- trees
 
@@ -169,14 +169,14 @@ module _ (answers : Answers) (objects : Objects) (sound : IsSound objects) (apar
         unbroken 1 H apart top above.1.entries long n above.1.spells below broken
     ill_not path under (inr (node, among, ill)) = mismeasured path under node node.what refl among ill
 
-  tree_well : (n : Name) (place : Place) (a : Answer) (what : FaultKind) → IsReached answers Tree n → LiesAt answers Tree n place → Contains answers.trees a → a.name ≡ n → TreeIs answers place a (Some what) → ⊥
+  tree_well : (n : Name) (place : Place) (a : Answer) (what : FaultKind) → IsReachedBlob answers Tree n → LiesAt answers Tree n place → Contains answers.trees a → a.name ≡ n → TreeIs answers place a (Some what) → ⊥
   tree_well n place a what r at c is h = by what h
     where
       held : (x : List ℕ) × (a.bytes ≡ Some x) × H Tree x × (naming.name x ≡ a.name) × (length x ≡ place.length)
       held = tree_held a place c (subst (λ m. LiesAt answers Tree m place) (sym is) at)
 
       need : (root : Name) × Rooted root × IsNeeded 1 T root Tree a.name
-      need = needed Tree a.name (subst (λ m. IsReached answers Tree m) (sym is) r)
+      need = needed Tree a.name (subst (λ m. IsReachedBlob answers Tree m) (sym is) r)
 
       path : List (List ℕ)
       path = need.2.0
@@ -200,7 +200,7 @@ module _ (answers : Answers) (objects : Objects) (sound : IsSound objects) (apar
 
   -- ---- nothing is at fault
 
-  blob_well : (k : BlobKind) (n : Name) (what : FaultKind) → IsReached answers k n → BlobIs answers k n (Some what) → ⊥
+  blob_well : (k : BlobKind) (n : Name) (what : FaultKind) → IsReachedBlob answers k n → BlobIs answers k n (Some what) → ⊥
   blob_well Content n FaultKind.Unindexed r h = somewhere Content n r h
   blob_well Content n FaultKind.Missing r h = absurd h
   blob_well Content n FaultKind.Name r h = absurd h

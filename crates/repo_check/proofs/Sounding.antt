@@ -26,7 +26,7 @@ use Rattle.repo_session.specs.Changes.{AreHeldApart}
 use Rattle.repo_session.specs.Soundness.{IsHeld, IsExactPack, IsSoundIndex, IsSoundSnapshot, IsSound}
 use Rattle.repo_session.specs.Trees.{Under}
 use Rattle.repo_session.proofs.Wholeness.{spelled_sound}
-use Rattle.repo_check.specs.Answers.{Answers, Came, Gives, TreesOf, HasRoot, IsReached, IsDeepest}
+use Rattle.repo_check.specs.Answers.{Gathered, Came, GivesFact, TreesOf, HasRoot, IsReachedBlob, IsDeepest}
 use Rattle.repo_check.specs.Checking.{AreWell}
 use Rattle.repo_check.specs.Findings.{IsFitting, IsExactOf, Measure, IsMeasured, IsWellTree}
 use Rattle.repo_check.specs.Laws.{AreObjects, HasNoClash, IsSpoken, WellIsSound}
@@ -72,7 +72,7 @@ each_spelled H Sub path (node ∷ nodes) f =
     let r = each_spelled H Sub path nodes (λ m c. f m (later_contained node nodes m c)) in
     (a.0 ++ r.0, (a.0, r.0, a.1, r.1, refl))
 
-module _ (answers : Answers) (objects : Objects) (well : AreWell answers) (are : AreObjects answers objects) (apart : HasNoClash answers) where
+module _ (answers : Gathered) (objects : Objects) (well : AreWell answers) (are : AreObjects answers objects) (apart : HasNoClash answers) where
   abbrev H : Blobs
   H = IsHeld objects
 
@@ -93,7 +93,7 @@ module _ (answers : Answers) (objects : Objects) (well : AreWell answers) (are :
 
   -- ---- what indexes give is held
 
-  exact_of : (fact : Fact) → Gives answers fact → (packs : List PackFacts) × Contains (facts_in packs) fact × IsExactOf answers packs fact.place.pack
+  exact_of : (fact : Fact) → GivesFact answers fact → (packs : List PackFacts) × Contains (facts_in packs) fact × IsExactOf answers packs fact.place.pack
   exact_of fact g =
       let fit = (object_well Kind.Index g.index g.text (there Kind.Index g.index g.text g.came)).1 in
       let same : g.says.packs ≡ fit.0 = index_texts_one g.text g.says.packs fit.0 g.says.text fit.1 in
@@ -108,7 +108,7 @@ module _ (answers : Answers) (objects : Objects) (well : AreWell answers) (are :
     pub len : length bytes ≡ fact.place.length
     pub spoken : IsSpoken answers bytes
 
-  held_at : (fact : Fact) → Gives answers fact → HeldAt fact
+  held_at : (fact : Fact) → GivesFact answers fact → HeldAt fact
   held_at fact g =
       let e = exact_of fact g in
       let exact = e.2 in
@@ -137,7 +137,7 @@ module _ (answers : Answers) (objects : Objects) (well : AreWell answers) (are :
 
   held_spoken : (k : BlobKind) (x : List ℕ) → IsHeld objects k x → IsSpoken answers x
   held_spoken k x h =
-      let given : Gives answers h.fact = record { index = h.index; text = h.text; came = came Kind.Index h.index h.text h.listed; says = h.says } in
+      let given : GivesFact answers h.fact = record { index = h.index; text = h.text; came = came Kind.Index h.index h.text h.listed; says = h.says } in
       of_pack h.fact h.pack given ((are Kind.Pack h.fact.place.pack h.pack).0 h.there) h.stands
 
   held_apart : AreHeldApart objects
@@ -151,7 +151,7 @@ module _ (answers : Answers) (objects : Objects) (well : AreWell answers) (are :
     pub held : IsTree H n nodes
     pub fit : IsWellTree answers n nodes
 
-  tree_well : (n : Name) → IsReached answers Tree n → WellAt n
+  tree_well : (n : Name) → IsReachedBlob answers Tree n → WellAt n
   tree_well n r = elim (well.blobs Tree n r) [
     | inl nowhere ↦ absurd (let p = nowhere.0 in cc)
     | inr found ↦ (let place = found.0 in let a = found.1 in let lies = found.2 in let is = found.4 in let tree = found.5 in
@@ -180,10 +180,10 @@ module _ (answers : Answers) (objects : Objects) (well : AreWell answers) (are :
       (h.bytes ++ rest.0, (h.bytes, rest.0, h.held, h.named, rest.1, refl), sum)
 
   module _ (root : Name) (rooted : HasRoot answers 1 root) where
-    reached : (k : BlobKind) (n : Name) → Reach 1 T root k n → IsReached answers k n
+    reached : (k : BlobKind) (n : Name) → Reach 1 T root k n → IsReachedBlob answers k n
     reached k n r = (1, root, rooted, r)
 
-    file_spells : (path : List (List ℕ)) (size : ℕ) (content : List Name) → ((n : Name) → Contains content n → IsReached answers Content n) → IsMeasured answers (NodeKind.File size content)
+    file_spells : (path : List (List ℕ)) (size : ℕ) (content : List Name) → ((n : Name) → Contains content n → IsReachedBlob answers Content n) → IsMeasured answers (NodeKind.File size content)
         → (entries : List Entry) × NodeSpells H (λ t p e. ⊥) path (NodeKind.File size content) entries
     file_spells path size content reach (inl m) = let j = joined content size m in (file_entry path j.0 ∷ [], (j.0, j.1, j.2, refl))
     file_spells path size content reach (inr lost) = let found = well.blobs Content lost.0 (reach lost.0 lost.1) in absurd (lost.2 found.0 found.1.given)

@@ -11,7 +11,7 @@ use Rattle.repo_name.proofs.Containing.{contains_flat, contains_got, flat_contai
 use Rattle.repo_store.specs.Pages.{Ascends}
 use Rattle.repo_tree.specs.Spelling.{greatest_depth}
 use Rattle.repo_session.specs.Traces.{Trace}
-use Rattle.repo_check.specs.Answers.{IsReached}
+use Rattle.repo_check.specs.Answers.{IsReachedBlob}
 use Rattle.repo_check.specs.Levels.{IsLed}
 use Rattle.repo_check.specs.Surveys.{HoldsContent, IsSurveyed, RoundsView, StandsIn, answers_in}
 use Rattle.repo_check.specs.Verdicts.{AreReached, ReachedView, names_in}
@@ -74,7 +74,7 @@ module _ (rounds : RoundsView) (walk : WalkView) (es : Trace) (s : IsSurveyed ro
       (get_or walk.levels (length walk.levels - 1) [], slice_get-get_or walk.levels (length walk.levels - 1) [] less)
 
   module _ (reached : ReachedView) (are : AreReached walk reached) where
-    pub trees_reached : (n : Name) → Contains reached.trees n ↔ IsReached (answers_in s) Tree n
+    pub trees_reached : (n : Name) → Contains reached.trees n ↔ IsReachedBlob (answers_in s) Tree n
     trees_reached n =
         let levels = (levels_are_reached rounds walk es s n).0 in (
           λ c. levels.1 ((in_levels walk.levels n).0 ((are.trees.each n).0 c)),
@@ -90,7 +90,7 @@ module _ (rounds : RoundsView) (walk : WalkView) (es : Trace) (s : IsSurveyed ro
         let h = (in_upper walk.levels (length walk.levels - 1) t).0 ((are.upper_are.each t).0 up) in
         (h.0, t, links, subst (λ m. h.0 < m) last_at h.1, h.2, is, among)
 
-    pub content_reached : (n : Name) → Contains reached.content n ↔ IsReached (answers_in s) Content n
+    pub content_reached : (n : Name) → Contains reached.content n ↔ IsReachedBlob (answers_in s) Content n
     content_reached n =
         let holds = content_is_reached rounds walk es s n in (
           λ c. holds.1 (led_held n ((are.content.each n).0 c)),

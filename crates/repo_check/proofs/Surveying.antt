@@ -15,7 +15,7 @@ use Rattle.repo_session.proofs.Rolling.{may_page, opened_rolled}
 use Rattle.repo_tree.specs.ConfigText.{IsConfigText}
 use Rattle.repo_tree.specs.declared.configs.Config.{Config}
 use Rattle.repo_check.specs.Arrivals.{IsIndexOf, IsPackOf, IsRootOf}
-use Rattle.repo_check.specs.Rounds.{AreNoted, IsFreshRound, IsListing, IsUntouched, IsWhole, KnowsRound, Pages, RoundView, Takes, TurnsOn}
+use Rattle.repo_check.specs.Rounds.{AreNoted, IsFreshRound, IsListing, IsUntouched, IsWholeRound, KnowsRound, Pages, RoundView, TakesObject, TurnsOn}
 use Rattle.repo_check.specs.Surveys.{AtIndexes, AtPacks, AtSnapshots, AtTrees, GoesAfter, HasTaken, IsFirst, IsFreshSurvey, KnowsNotes, RoundsView, Surveys, SurveysOn, first_page}
 use Rattle.repo_check.specs.Walks.{Awaits, HasNoted, WalkView}
 use Rattle.repo_check.specs.declared.knowing.TreeNote.{TreeNote}
@@ -37,7 +37,7 @@ module _ {T : Type 0} (k : Kind) (round : RoundView T) where
       let listing = fresh_listing es fresh none in
       ((fresh.of_kind, listing), subst (λ j. May task es (Ask.List j (last_of round.names))) (sym fresh.of_kind) (may_page task token k round.names 0 es w listing.rolled))
 
-  pub whole_aside : (e : Exchange) (es : Trace) → IsAside k e.ask → IsWhole k round es → IsWhole k round (e ∷ es)
+  pub whole_aside : (e : Exchange) (es : Trace) → IsAside k e.ask → IsWholeRound k round es → IsWholeRound k round (e ∷ es)
   whole_aside e es aside h = record { of_kind = h.of_kind; paged = paged_aside k round.names true e es aside h.paged; all = h.all }
 
 -- ---- what comes next
@@ -60,7 +60,7 @@ module _ (task : Task) (token : Token) (rounds : RoundsView) (walk : WalkView) (
   snapshots_go Turn.Version next on fi ui fp up is = subst (λ n. SurveysOn task rounds walk n e es) (sym is) on
   snapshots_go Turn.Away next on fi ui fp up is = subst (λ n. SurveysOn task rounds walk n e es) (sym is) on
 
-  pub indexes_go : (turn : Turn) (next : Next) → IsWhole Kind.Snapshot rounds.snapshots now → TurnsOn task Kind.Index rounds.indexes turn e es → IsFreshRound Kind.Pack rounds.packs → IsUntouched Kind.Pack now
+  pub indexes_go : (turn : Turn) (next : Next) → IsWholeRound Kind.Snapshot rounds.snapshots now → TurnsOn task Kind.Index rounds.indexes turn e es → IsFreshRound Kind.Pack rounds.packs → IsUntouched Kind.Pack now
       → GoesAfter turn (first_page rounds.packs) next → SurveysOn task rounds walk next e es
   indexes_go (Turn.Ask ask) next ws on fp up is =
       subst (λ n. SurveysOn task rounds walk n e es) (sym is) ((notes, inr (inl (record { snapshots = ws; indexes = on.0; packs = fp; no_packs = up }))), on.1)
@@ -138,7 +138,7 @@ module _ (old new : RoundsView) (walk : WalkView) (say : Say) (turn : Turn) (nex
       snapshots_go task token new walk e es w known turn next (pages task token Kind.Snapshot after es w may listing) (subst (λ r. IsFreshRound Kind.Index r) (sym indexes) at.indexes) (untouched_aside Kind.Index e es refl at.no_indexes)
       (subst (λ r. IsFreshRound Kind.Pack r) (sym packs) at.packs) (untouched_aside Kind.Pack e es refl at.no_packs) goes
 
-  pub snapshots_got : (n : Name) (takes : Takes Kind.Snapshot IsRootOf old.snapshots n say turn new.snapshots) → new.indexes ≡ old.indexes → new.packs ≡ old.packs → GoesAfter turn (first_page new.indexes) next
+  pub snapshots_got : (n : Name) (takes : TakesObject Kind.Snapshot IsRootOf old.snapshots n say turn new.snapshots) → new.indexes ≡ old.indexes → new.packs ≡ old.packs → GoesAfter turn (first_page new.indexes) next
       → (task : Task) (token : Token) (es : Trace) → IsWorking task token (silent (Ask.Get Kind.Snapshot n) say ∷ es) → Surveys old walk (Ask.Get Kind.Snapshot n) es → SurveysOn task new walk next (silent (Ask.Get Kind.Snapshot n) say) es
   snapshots_got n takes indexes packs goes task token es w h =
       let e = silent (Ask.Get Kind.Snapshot n) say in
@@ -164,10 +164,10 @@ module _ (old new : RoundsView) (walk : WalkView) (say : Say) (turn : Turn) (nex
         indexes = none_noted Kind.Index IsIndexOf new.indexes.names new.indexes.notes (e ∷ es) (notes ∙ listing.none);
         packs = subst (λ (r : RoundView (List Fact)). AreNoted Kind.Pack IsPackOf r.names r.notes (e ∷ es)) (sym packs) (noted_grow Kind.Pack IsPackOf old.packs.names old.packs.notes e es h.0.packs);
       } in
-      indexes_go task token new walk e es w known turn next (subst (λ r. IsWhole Kind.Snapshot r (e ∷ es)) (sym snapshots) (whole_aside Kind.Snapshot old.snapshots e es refl at.snapshots)) (pages task token Kind.Index after es w may listing)
+      indexes_go task token new walk e es w known turn next (subst (λ r. IsWholeRound Kind.Snapshot r (e ∷ es)) (sym snapshots) (whole_aside Kind.Snapshot old.snapshots e es refl at.snapshots)) (pages task token Kind.Index after es w may listing)
       (subst (λ r. IsFreshRound Kind.Pack r) (sym packs) at.packs) (untouched_aside Kind.Pack e es refl at.no_packs) goes
 
-  pub indexes_got : (n : Name) (takes : Takes Kind.Index IsIndexOf old.indexes n say turn new.indexes) → new.snapshots ≡ old.snapshots → new.packs ≡ old.packs → GoesAfter turn (first_page new.packs) next
+  pub indexes_got : (n : Name) (takes : TakesObject Kind.Index IsIndexOf old.indexes n say turn new.indexes) → new.snapshots ≡ old.snapshots → new.packs ≡ old.packs → GoesAfter turn (first_page new.packs) next
       → (task : Task) (token : Token) (es : Trace) → IsWorking task token (silent (Ask.Get Kind.Index n) say ∷ es) → Surveys old walk (Ask.Get Kind.Index n) es → SurveysOn task new walk next (silent (Ask.Get Kind.Index n) say) es
   indexes_got n takes snapshots packs goes task token es w h =
       let e = silent (Ask.Get Kind.Index n) say in
@@ -178,7 +178,7 @@ module _ (old new : RoundsView) (walk : WalkView) (say : Say) (turn : Turn) (nex
         indexes = took.1;
         packs = subst (λ (r : RoundView (List Fact)). AreNoted Kind.Pack IsPackOf r.names r.notes (e ∷ es)) (sym packs) (noted_grow Kind.Pack IsPackOf old.packs.names old.packs.notes e es h.0.packs);
       } in
-      indexes_go task token new walk e es w known turn next (subst (λ r. IsWhole Kind.Snapshot r (e ∷ es)) (sym snapshots) (whole_aside Kind.Snapshot old.snapshots e es refl at.snapshots)) took.0
+      indexes_go task token new walk e es w known turn next (subst (λ r. IsWholeRound Kind.Snapshot r (e ∷ es)) (sym snapshots) (whole_aside Kind.Snapshot old.snapshots e es refl at.snapshots)) took.0
       (subst (λ r. IsFreshRound Kind.Pack r) (sym packs) at.packs) (untouched_aside Kind.Pack e es refl at.no_packs) goes
 
 -- ---- requests of a survey

@@ -25,9 +25,9 @@ use Rattle.repo_check.specs.Arrivals.{IsIndexOf, IsPackOf, IsRootOf}
 use Rattle.repo_check.specs.Checking.{IsGot, IsRanged}
 use Rattle.repo_check.specs.Gathering.{facts_noted}
 use Rattle.repo_check.specs.Measures.{IsTreeAnswer}
-use Rattle.repo_check.specs.Rounds.{AreNoted, IsNoted, IsWhole, Match, Pages, RoundView, Takes, TurnsOn}
+use Rattle.repo_check.specs.Rounds.{AreNoted, IsNoted, IsWholeRound, Match, Pages, RoundView, TakesObject, TurnsOn}
 use Rattle.repo_check.specs.Surveys.{AtTrees, GoesToTrees, HasObjects, KnowsNotes, RoundsView, Surveys, SurveysOn, next_of}
-use Rattle.repo_check.specs.Walks.{Awaits, IsDue, IsSomething, IsTold, Knowledge, Reads, TakesNote, WalkView, WalksOn, AreSeen}
+use Rattle.repo_check.specs.Walks.{Awaits, IsDue, IsSomething, IsTold, Knowledge, WalkReads, TakesNote, WalkView, WalksOn, AreSeen}
 use Rattle.repo_check.specs.declared.knowing.TreeNote.{TreeNote}
 use Rattle.repo_check.specs.declared.rounds.Note.{Note}
 use Rattle.repo_check.specs.declared.rounds.Turn.{Turn}
@@ -67,7 +67,7 @@ may_range task token rounds known n fact es w notes joins due =
 -- ---- what comes next
 
 module _ (task : Task) (token : Token) (rounds : RoundsView) (walk : WalkView) (e : Exchange) (es : Trace) (w : IsWorking task token (e ∷ es)) (notes : KnowsNotes rounds (e ∷ es)) where
-  pub walk_goes : (roots : List Name) (objects : HasObjects rounds walk roots (e ∷ es)) (answers : List Answer) → Reads walk answers (e ∷ es) → (fact : Option Fact) → WalksOn roots walk fact → (next : Next) → next ≡ next_of fact
+  pub walk_goes : (roots : List Name) (objects : HasObjects rounds walk roots (e ∷ es)) (answers : List Answer) → WalkReads walk answers (e ∷ es) → (fact : Option Fact) → WalksOn roots walk fact → (next : Next) → next ≡ next_of fact
       → SurveysOn task rounds walk next e es
   walk_goes roots objects answers reads (Some fact) on next is =
       subst (λ n. SurveysOn task rounds walk n e es) (sym is) (
@@ -86,7 +86,7 @@ module _ (task : Task) (token : Token) (rounds : RoundsView) (walk : WalkView) (
     faults = λ n x is. absurd (let none = faults n in cc (none, is));
   }
 
-  pub packs_go : (turn : Turn) (next : Next) → IsWhole Kind.Snapshot rounds.snapshots (e ∷ es) → IsWhole Kind.Index rounds.indexes (e ∷ es) → TurnsOn task Kind.Pack rounds.packs turn e es → GoesToTrees rounds walk turn next
+  pub packs_go : (turn : Turn) (next : Next) → IsWholeRound Kind.Snapshot rounds.snapshots (e ∷ es) → IsWholeRound Kind.Index rounds.indexes (e ∷ es) → TurnsOn task Kind.Pack rounds.packs turn e es → GoesToTrees rounds walk turn next
       → SurveysOn task rounds walk next e es
   packs_go (Turn.Ask ask) next ws wi on is = subst (λ n. SurveysOn task rounds walk n e es) (sym is) ((notes, inr (inr (inl (record { snapshots = ws; indexes = wi; packs = on.0 })))), on.1)
   packs_go Turn.All next ws wi on b =
@@ -196,11 +196,11 @@ tree_taken rounds old new note fact say next then only told some takes goes pack
 
 -- a page of packs came
 module _ (old new : RoundsView) (walk walk' : WalkView) (say : Say) (turn : Turn) (next : Next) (snapshots : new.snapshots ≡ old.snapshots) (indexes : new.indexes ≡ old.indexes) (goes : GoesToTrees new walk' turn next) where
-  wholes : (e : Exchange) (es : Trace) → IsAside Kind.Snapshot e.ask → IsAside Kind.Index e.ask → IsWhole Kind.Snapshot old.snapshots es → IsWhole Kind.Index old.indexes es
-      → IsWhole Kind.Snapshot new.snapshots (e ∷ es) × IsWhole Kind.Index new.indexes (e ∷ es)
+  wholes : (e : Exchange) (es : Trace) → IsAside Kind.Snapshot e.ask → IsAside Kind.Index e.ask → IsWholeRound Kind.Snapshot old.snapshots es → IsWholeRound Kind.Index old.indexes es
+      → IsWholeRound Kind.Snapshot new.snapshots (e ∷ es) × IsWholeRound Kind.Index new.indexes (e ∷ es)
   wholes e es aside beside ws wi = (
-    subst (λ r. IsWhole Kind.Snapshot r (e ∷ es)) (sym snapshots) (whole_aside Kind.Snapshot old.snapshots e es aside ws),
-    subst (λ r. IsWhole Kind.Index r (e ∷ es)) (sym indexes) (whole_aside Kind.Index old.indexes e es beside wi),
+    subst (λ r. IsWholeRound Kind.Snapshot r (e ∷ es)) (sym snapshots) (whole_aside Kind.Snapshot old.snapshots e es aside ws),
+    subst (λ r. IsWholeRound Kind.Index r (e ∷ es)) (sym indexes) (whole_aside Kind.Index old.indexes e es beside wi),
   )
 
   others : (e : Exchange) (es : Trace) → KnowsNotes old es → AreNoted Kind.Pack IsPackOf new.packs.names new.packs.notes (e ∷ es) → KnowsNotes new (e ∷ es)
@@ -219,7 +219,7 @@ module _ (old new : RoundsView) (walk walk' : WalkView) (say : Say) (turn : Turn
       let both = wholes e es refl refl at.snapshots at.indexes in
       packs_go task token new walk' e es w (others e es h.0 (none_noted Kind.Pack IsPackOf new.packs.names new.packs.notes (e ∷ es) (notes ∙ listing.none))) turn next both.0 both.1 (pages task token Kind.Pack after es w may listing) goes
 
-  pub packs_got : (n : Name) (takes : Takes Kind.Pack IsPackOf old.packs n say turn new.packs) → (task : Task) (token : Token) (es : Trace) → IsWorking task token (silent (Ask.Get Kind.Pack n) say ∷ es) → Surveys old walk (Ask.Get Kind.Pack n) es
+  pub packs_got : (n : Name) (takes : TakesObject Kind.Pack IsPackOf old.packs n say turn new.packs) → (task : Task) (token : Token) (es : Trace) → IsWorking task token (silent (Ask.Get Kind.Pack n) say ∷ es) → Surveys old walk (Ask.Get Kind.Pack n) es
       → SurveysOn task new walk' next (silent (Ask.Get Kind.Pack n) say) es
   packs_got n takes task token es w h =
       let e = silent (Ask.Get Kind.Pack n) say in

@@ -8,7 +8,7 @@ use Rattle.repo_pack.specs.declared.places.Place.{Place}
 use Rattle.repo_reach.specs.declared.links.Links.{Links}
 use Rattle.repo_session.specs.Traces.{Trace}
 use Rattle.repo_session.specs.declared.outcomes.FaultKind.{FaultKind}
-use Rattle.repo_check.specs.Answers.{Answer, Answers, IsDeepest, LiesAt}
+use Rattle.repo_check.specs.Answers.{Answer, Gathered, IsDeepest, LiesAt}
 use Rattle.repo_check.specs.Findings.{BlobIs, TreeIs}
 use Rattle.repo_check.specs.Measures.{AreGiven, IsFaultyTree, IsReadAs}
 use Rattle.repo_check.specs.Surveys.{ContentIsTold, IsSurveyed, RoundsView, TreesAreTold, answers_in}
@@ -20,7 +20,7 @@ no_some : {X : Type 0} (o : Option X) (x : X) → o ≡ None → o ≡ Some x �
 no_some o x none some = absurd (cc (none, some))
 
 -- a tree that is at fault by itself is so whatever else came
-faulty_is : (answers : Answers) (place : Place) (a : Answer) (what : FaultKind) → IsFaultyTree place a what → TreeIs answers place a (Some what)
+faulty_is : (answers : Gathered) (place : Place) (a : Answer) (what : FaultKind) → IsFaultyTree place a what → TreeIs answers place a (Some what)
 faulty_is answers place a FaultKind.Missing h = h
 faulty_is answers place a FaultKind.Name h = h
 faulty_is answers place a FaultKind.Unreadable h = (h.0, h.1.0, h.1.1, inl h.2)
@@ -28,11 +28,11 @@ faulty_is answers place a FaultKind.Place h = h
 faulty_is answers place a FaultKind.Unindexed h = h
 
 -- sizes that are wrong
-wrong_is : (answers : Answers) (facts : List Fact) (place : Place) (a : Answer) (links : Links) → AreGiven answers facts → IsReadAs facts place a links false → TreeIs answers place a (Some FaultKind.Unreadable)
+wrong_is : (answers : Gathered) (facts : List Fact) (place : Place) (a : Answer) (links : Links) → AreGiven answers facts → IsReadAs facts place a links false → TreeIs answers place a (Some FaultKind.Unreadable)
 wrong_is answers facts place a links given r = (r.bytes, r.has.0, r.has.1, inr (r.nodes, r.tree, inr ((r.judged answers given).ill refl)))
 
 -- a tree that reads, with right sizes: it is well but where it has nodes among the deepest
-right_is : (answers : Answers) (facts : List Fact) (place : Place) (a : Answer) (links : Links) → AreGiven answers facts → IsReadAs facts place a links true → (bare : Bool) → links.is_bare ≡ bare → (deepest : Bool) → (IsTrue deepest ↔ IsDeepest answers a.name)
+right_is : (answers : Gathered) (facts : List Fact) (place : Place) (a : Answer) (links : Links) → AreGiven answers facts → IsReadAs facts place a links true → (bare : Bool) → links.is_bare ≡ bare → (deepest : Bool) → (IsTrue deepest ↔ IsDeepest answers a.name)
     → TreeIs answers place a (tree_fault None (Some links) deepest)
 right_is answers facts place a links given r bare is false deep =
     (r.bytes, r.nodes, r.has.0, r.has.1, r.tree, record { bare = λ d. absurd (let no = deep.1 d in cc no); measured = (r.judged answers given).well refl })
@@ -44,7 +44,7 @@ right_is answers facts place a links given r false is true deep =
     rw is ill
 
 module _ (rounds : RoundsView) (walk : WalkView) (es : Trace) (s : IsSurveyed rounds walk es) where
-  abbrev A : Answers
+  abbrev A : Gathered
   A = answers_in s
 
   given : AreGiven A walk.known.facts

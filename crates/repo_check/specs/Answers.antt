@@ -21,7 +21,7 @@ pub record Answer : Type 0 where
   pub bytes : Option (List ℕ)
 
 -- the objects of each kind that were asked for, and the trees
-pub record Answers : Type 0 where
+pub record Gathered : Type 0 where
   pub objects : Kind → List Answer
   pub trees : List Answer
 
@@ -33,29 +33,29 @@ pub record Came (answers : List Answer) (n : Name) (x : List ℕ) : Type 0 where
 -- ---- where blobs lie
 
 -- an index that came has the fact
-pub record Gives (answers : Answers) (fact : Fact) : Type 0 where
+pub record GivesFact (answers : Gathered) (fact : Fact) : Type 0 where
   pub index : Name
   pub text : List ℕ
   pub came : Came (answers.objects Kind.Index) index text
   pub says : Says text fact
 
 -- of the places that the indexes give a blob of this kind and name, this is the least
-pub record LiesAt (answers : Answers) (k : BlobKind) (n : Name) (place : Place) : Type 0 where
-  pub given : Gives answers (fact_of k n place)
-  pub least : (other : Place) → Gives answers (fact_of k n other) → IsAtMost place other
+pub record LiesAt (answers : Gathered) (k : BlobKind) (n : Name) (place : Place) : Type 0 where
+  pub given : GivesFact answers (fact_of k n place)
+  pub least : (other : Place) → GivesFact answers (fact_of k n other) → IsAtMost place other
 
 -- they give it none
-abbrev pub LiesNowhere : Answers → BlobKind → Name → Type 0
-LiesNowhere answers k n = (place : Place) → ¬ Gives answers (fact_of k n place)
+abbrev pub LiesNowhere : Gathered → BlobKind → Name → Type 0
+LiesNowhere answers k n = (place : Place) → ¬ GivesFact answers (fact_of k n place)
 
 -- ---- what the snapshots reach
 
 -- the trees that came, each with its name and the length of its place
-abbrev pub TreesOf : Answers → Blobs
+abbrev pub TreesOf : Gathered → Blobs
 TreesOf answers k x = (k ≡ Tree) × ((n : Name) × (place : Place) × Came answers.trees n x × LiesAt answers Tree n place × (length x ≡ place.length))
 
 -- a snapshot that came has this version and this tree
-pub record HasRoot (answers : Answers) (version : ℕ) (root : Name) : Type 0 where
+pub record HasRoot (answers : Gathered) (version : ℕ) (root : Name) : Type 0 where
   pub name : Name
   pub text : List ℕ
   pub snapshot : Snapshot
@@ -65,10 +65,10 @@ pub record HasRoot (answers : Answers) (version : ℕ) (root : Name) : Type 0 wh
   pub root_is : snapshot.tree ≡ root
 
 -- a snapshot that came reaches the pair in the trees that came
-abbrev pub IsReached : Answers → BlobKind → Name → Type 0
-IsReached answers k n = (version : ℕ) × (root : Name) × HasRoot answers version root × Reach version (TreesOf answers) root k n
+abbrev pub IsReachedBlob : Gathered → BlobKind → Name → Type 0
+IsReachedBlob answers k n = (version : ℕ) × (root : Name) × HasRoot answers version root × Reach version (TreesOf answers) root k n
 
 -- as many names as a path may have lead to the tree from one
-abbrev pub IsDeepest : Answers → Name → Type 0
+abbrev pub IsDeepest : Gathered → Name → Type 0
 IsDeepest answers n = (version : ℕ) × (root : Name) × HasRoot answers version root
     × ((path : List (List ℕ)) × Under version (TreesOf answers) root path n × (length path ≡ greatest_depth))

@@ -17,7 +17,7 @@ use Rattle.repo_tree.specs.declared.faults.TextError.{TextError}
 use Rattle.repo_tree.specs.declared.snapshots.Snapshot.{Snapshot}
 use Rattle.repo_session.specs.Ends.{IsOfOtherVersion, IsUnwelcome}
 use Rattle.repo_session.specs.declared.outcomes.FaultKind.{FaultKind}
-use Rattle.repo_check.specs.Answers.{Answer, Answers}
+use Rattle.repo_check.specs.Answers.{Answer, Gathered}
 use Rattle.repo_check.specs.Findings.{ObjectIs}
 use Rattle.repo_check.specs.declared.arrivals.Arrival.{Arrival}
 use Rattle.repo_check.specs.declared.objects.IndexLook.{IndexLook}
@@ -31,11 +31,11 @@ IsAnswer n (Say.Refused Code.Missing) a = (a.name ≡ n) × (a.bytes ≡ None)
 IsAnswer n _ a = ⊥
 
 -- bytes of the name; others; none, as it isn't there; or the reply is another refusal, or of another sort
-abbrev pub Arrives : Kind → Name → Say → Arrival → Type 0
-Arrives k n say (Arrival.Named bytes) = (say ≡ Say.Bytes bytes.now) × (naming.name bytes.now ≡ n)
-Arrives k n say Arrival.Misnamed = (x : List ℕ) × (say ≡ Say.Bytes x) × (naming.name x ≢ n)
-Arrives k n say Arrival.Absent = say ≡ Say.Refused Code.Missing
-Arrives k n say Arrival.Unwelcome = IsUnwelcome (Ask.Get k n) say × (say ≢ Say.Refused Code.Missing)
+abbrev pub ArrivesAs : Kind → Name → Say → Arrival → Type 0
+ArrivesAs k n say (Arrival.Named bytes) = (say ≡ Say.Bytes bytes.now) × (naming.name bytes.now ≡ n)
+ArrivesAs k n say Arrival.Misnamed = (x : List ℕ) × (say ≡ Say.Bytes x) × (naming.name x ≢ n)
+ArrivesAs k n say Arrival.Absent = say ≡ Say.Refused Code.Missing
+ArrivesAs k n say Arrival.Unwelcome = IsUnwelcome (Ask.Get k n) say × (say ≢ Say.Refused Code.Missing)
 
 -- the answer's bytes have its name
 abbrev pub HasBytes : Answer → List ℕ → Type 0
@@ -44,7 +44,7 @@ HasBytes a x = (a.bytes ≡ Some x) × (naming.name x ≡ a.name)
 -- the answer is at fault by itself, whatever else came
 abbrev pub IsFaulty : Kind → Answer → FaultKind → Type 0
 IsFaulty k a FaultKind.Place = ⊥
-IsFaulty k a what = (answers : Answers) → ObjectIs answers k a (Some what)
+IsFaulty k a what = (answers : Gathered) → ObjectIs answers k a (Some what)
 
 -- it is a snapshot with this tree
 abbrev pub IsRootOf : Answer → Name → Type 0

@@ -6,7 +6,7 @@ use Rattle.repo_session.specs.Traces.{Trace}
 use Rattle.repo_check.specs.declared.checks.Check.{Check}
 use Rattle.repo_check.specs.declared.checks.CheckJob.{CheckJob}
 use Rattle.repo_check.specs.Checking.{check_task, check_rule, CheckAllows, CheckGives, CheckConcludes}
-use Rattle.repo_check.specs.CheckStates.{FitsCheck, IsFresh, KnowsCheck, checker_of}
+use Rattle.repo_check.specs.CheckStates.{FitsCheck, IsFreshCheck, KnowsCheck, checker_of}
 
 pub check_obeys : (c : Check) (es : Trace) → FitsCheck c es → IsObedient (check_task (checker_of c)) CheckAllows CheckGives CheckConcludes (next_in c.session) (ended_in c.session) es
-check_obeys c es fits = session_obeys (λ (j : CheckJob). tt {0}) (λ h. check_rule) IsFresh KnowsCheck c.session es fits
+check_obeys c es fits = session_obeys (λ (j : CheckJob). tt {0}) (λ h. check_rule) IsFreshCheck KnowsCheck c.session es fits

@@ -14,8 +14,8 @@ use Rattle.repo_check.specs.declared.checks.CheckJob.{CheckJob}
 use Rattle.repo_check.specs.declared.surveys.SurveyMark.{SurveyMark}
 
 -- nothing was listed yet
-abbrev pub IsFresh : CheckJob → Type 0
-IsFresh j = IsFreshSurvey (rounds_of j.survey)
+abbrev pub IsFreshCheck : CheckJob → Type 0
+IsFreshCheck j = IsFreshSurvey (rounds_of j.survey)
 
 -- what is known where this is pending
 abbrev pub KnowsCheck : CheckJob → Ask → Trace → Type 0
@@ -37,4 +37,4 @@ checker_of c = who_in c.session
 
 -- the check stands where the trace leaves it
 abbrev pub FitsCheck : Check → Trace → Type 0
-FitsCheck c es = FitsSession (λ (j : CheckJob). tt {0}) (λ h. check_rule) IsFresh KnowsCheck c.session es
+FitsCheck c es = FitsSession (λ (j : CheckJob). tt {0}) (λ h. check_rule) IsFreshCheck KnowsCheck c.session es

@@ -21,7 +21,7 @@ use Rattle.repo_session.specs.Askers.{Asker}
 use Rattle.repo_session.specs.Jobs.{Rule}
 use Rattle.repo_session.specs.Order.{Task, IsReading}
 use Rattle.repo_session.specs.Traces.{Each, Exchange, Trace, Exchanged, names_in, IsListed}
-use Rattle.repo_check.specs.Answers.{Answer, Answers, LiesAt, IsReached}
+use Rattle.repo_check.specs.Answers.{Answer, Gathered, LiesAt, IsReachedBlob}
 use Rattle.repo_check.specs.Findings.{ObjectIs, BlobIs}
 
 -- it is done under a lock of its own
@@ -31,15 +31,15 @@ check_task who = record { who = who; exclusive = true; snapshot = None }
 -- ---- faults
 
 -- this is found of an object that was asked for
-abbrev pub OfObject : Answers → Kind → Name → Option FaultKind → Type 0
+abbrev pub OfObject : Gathered → Kind → Name → Option FaultKind → Type 0
 OfObject answers k n found = (a : Answer) × Contains (answers.objects k) a × (a.name ≡ n) × ObjectIs answers k a found
 
 -- and this of a blob that is reached
-abbrev pub OfBlob : Answers → BlobKind → Name → Option FaultKind → Type 0
-OfBlob answers k n found = IsReached answers k n × BlobIs answers k n found
+abbrev pub OfBlob : Gathered → BlobKind → Name → Option FaultKind → Type 0
+OfBlob answers k n found = IsReachedBlob answers k n × BlobIs answers k n found
 
 -- what is found of a thing
-abbrev pub IsFound : Answers → Thing → Name → Option FaultKind → Type 0
+abbrev pub IsFound : Gathered → Thing → Name → Option FaultKind → Type 0
 IsFound answers Thing.Pack n found = OfObject answers Kind.Pack n found
 IsFound answers Thing.Index n found = OfObject answers Kind.Index n found
 IsFound answers Thing.Snapshot n found = OfObject answers Kind.Snapshot n found
@@ -47,13 +47,13 @@ IsFound answers Thing.Content n found = OfBlob answers Content n found
 IsFound answers Thing.Tree n found = OfBlob answers Tree n found
 
 -- a thing is at fault
-abbrev pub IsFault : Answers → CheckFault → Type 0
+abbrev pub IsFault : Gathered → CheckFault → Type 0
 IsFault answers fault = IsFound answers fault.thing fault.name (Some fault.what)
 
 -- all things are well
-pub record AreWell (answers : Answers) : Type 0 where
+pub record AreWell (answers : Gathered) : Type 0 where
   pub objects : (k : Kind) (a : Answer) → Contains (answers.objects k) a → ObjectIs answers k a None
-  pub blobs : (k : BlobKind) (n : Name) → IsReached answers k n → BlobIs answers k n None
+  pub blobs : (k : BlobKind) (n : Name) → IsReachedBlob answers k n → BlobIs answers k n None
 
 -- which faults are told first: those of snapshots, of indexes, of packs, of indexes that don't fit the packs, of content, and of trees
 abbrev pub rank : Thing → FaultKind → ℕ
@@ -72,7 +72,7 @@ abbrev pub fault_cmp : CheckFault → CheckFault → Ordering
 fault_cmp a b = ordering_then (nat_cmp (rank a.thing a.what) (rank b.thing b.what)) (name_cmp a.name b.name)
 
 -- these are the faults, each once and in order
-pub record AreFaults (answers : Answers) (faults : List CheckFault) : Type 0 where
+pub record AreFaults (answers : Gathered) (faults : List CheckFault) : Type 0 where
   pub each : (fault : CheckFault) → Contains faults fault ↔ IsFault answers fault
   pub ascend : IsStrictlySortedBy fault_cmp faults
 
@@ -96,13 +96,13 @@ pub record AreGot (es : Trace) (k : Kind) (answers : List Answer) : Type 0 where
   pub each : Each (λ (a : Answer). IsGot es k a.name a.bytes) answers
 
 -- each tree that is reached and lies somewhere was asked for, once and at its place, and no other
-pub record AreRanged (es : Trace) (answers : Answers) : Type 0 where
-  pub each : (a : Answer) → Contains answers.trees a → IsReached answers Tree a.name × ((place : Place) × LiesAt answers Tree a.name place × IsRanged es place a.bytes)
-  pub all : (n : Name) (place : Place) → IsReached answers Tree n → LiesAt answers Tree n place → (a : Answer) × Contains answers.trees a × (a.name ≡ n)
+pub record AreRanged (es : Trace) (answers : Gathered) : Type 0 where
+  pub each : (a : Answer) → Contains answers.trees a → IsReachedBlob answers Tree a.name × ((place : Place) × LiesAt answers Tree a.name place × IsRanged es place a.bytes)
+  pub all : (n : Name) (place : Place) → IsReachedBlob answers Tree n → LiesAt answers Tree n place → (a : Answer) × Contains answers.trees a × (a.name ≡ n)
   pub once : (a b : Answer) → Contains answers.trees a → Contains answers.trees b → a.name ≡ b.name → a ≡ b
 
 -- all was received: these are the objects that are listed, and the trees that are reached
-pub record AreAnswers (es : Trace) (answers : Answers) : Type 0 where
+pub record AreAnswers (es : Trace) (answers : Gathered) : Type 0 where
   pub objects : (k : Kind) → AreGot es k (answers.objects k)
   pub trees : AreRanged es answers
 
@@ -122,12 +122,12 @@ abbrev pub pair_cmp : Pair → Pair → Ordering
 pair_cmp a b = ordering_then (nat_cmp (kind_number a.kind) (kind_number b.kind)) (name_cmp a.name b.name)
 
 -- these are the pairs that are reached, each once
-pub record ArePairs (answers : Answers) (pairs : List Pair) : Type 0 where
-  pub each : (pair : Pair) → Contains pairs pair ↔ IsReached answers pair.kind pair.name
+pub record ArePairs (answers : Gathered) (pairs : List Pair) : Type 0 where
+  pub each : (pair : Pair) → Contains pairs pair ↔ IsReachedBlob answers pair.kind pair.name
   pub ascend : IsStrictlySortedBy pair_cmp pairs
 
 -- so many objects were received, and so many pairs are reached
-pub record AreCounts (answers : Answers) (snapshots indexes packs blobs : ℕ) : Type 0 where
+pub record AreCounts (answers : Gathered) (snapshots indexes packs blobs : ℕ) : Type 0 where
   pub snapshots_are : IsCount snapshots (length (answers.objects Kind.Snapshot))
   pub indexes_are : IsCount indexes (length (answers.objects Kind.Index))
   pub packs_are : IsCount packs (length (answers.objects Kind.Pack))
@@ -137,18 +137,18 @@ pub record AreCounts (answers : Answers) (snapshots indexes packs blobs : ℕ) :
 
 -- clean: all was received and is well, and these are the counts
 pub record IsClean (es : Trace) (snapshots indexes packs blobs : ℕ) : Type 0 where
-  pub answers : Answers
+  pub answers : Gathered
   pub received : AreAnswers es answers
   pub well : AreWell answers
   pub counts : AreCounts answers snapshots indexes packs blobs
 
 -- each object is well, or at fault; a snapshot of a version that isn't known is neither
-abbrev pub AreJudged : Answers → Type 0
+abbrev pub AreJudged : Gathered → Type 0
 AreJudged answers = (k : Kind) (a : Answer) → Contains (answers.objects k) a → (found : Option FaultKind) × ObjectIs answers k a found
 
 -- not clean: all was received and judged, and these are the faults, of which there is one
 pub record IsAtFault (es : Trace) (faults : List CheckFault) : Type 0 where
-  pub answers : Answers
+  pub answers : Gathered
   pub received : AreAnswers es answers
   pub judged : AreJudged answers
   pub are : AreFaults answers faults

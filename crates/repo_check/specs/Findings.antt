@@ -18,7 +18,7 @@ use Rattle.repo_tree.specs.declared.nodes.NodeKind.{NodeKind}
 use Rattle.repo_tree.specs.declared.snapshots.Snapshot.{Snapshot}
 use Rattle.repo_session.specs.Ends.{IsUnreadable}
 use Rattle.repo_session.specs.declared.outcomes.FaultKind.{FaultKind}
-use Rattle.repo_check.specs.Answers.{Answer, Answers, Came, LiesAt, LiesNowhere, IsDeepest}
+use Rattle.repo_check.specs.Answers.{Answer, Gathered, Came, LiesAt, LiesNowhere, IsDeepest}
 
 -- ---- objects
 
@@ -34,7 +34,7 @@ IsIllegible Kind.Snapshot x = IsUnreadable Kind.Snapshot x
 IsIllegible k x = ¬ Reads k x
 
 -- a pack came that reads, and these facts of it are exactly its blobs
-pub record IsExactOf (answers : Answers) (packs : List PackFacts) (pack : Name) : Type 0 where
+pub record IsExactOf (answers : Gathered) (packs : List PackFacts) (pack : Name) : Type 0 where
   pub bytes : List ℕ
   pub items : List Item
   pub came : Came (answers.objects Kind.Pack) pack bytes
@@ -42,17 +42,17 @@ pub record IsExactOf (answers : Answers) (packs : List PackFacts) (pack : Name) 
   pub exact : IsExactFor packs pack items
 
 -- of an index that reads: its facts of each pack that they name are exactly the blobs of that; the others are well where they read
-abbrev pub IsFitting : Answers → Kind → List ℕ → Type 0
+abbrev pub IsFitting : Gathered → Kind → List ℕ → Type 0
 IsFitting answers Kind.Index x = (packs : List PackFacts) × IsIndexText x packs × ((fact : Fact) → Contains (facts_in packs) fact → IsExactOf answers packs fact.place.pack)
 IsFitting answers k x = Reads k x
 
 -- for some pack they aren't
-abbrev pub IsMisplaced : Answers → Kind → List ℕ → Type 0
+abbrev pub IsMisplaced : Gathered → Kind → List ℕ → Type 0
 IsMisplaced answers Kind.Index x = (packs : List PackFacts) × IsIndexText x packs × ((fact : Fact) × Contains (facts_in packs) fact × ¬ IsExactOf answers packs fact.place.pack)
 IsMisplaced answers k x = ⊥
 
 -- what is found of an object that was asked for
-abbrev pub ObjectIs : Answers → Kind → Answer → Option FaultKind → Type 0
+abbrev pub ObjectIs : Gathered → Kind → Answer → Option FaultKind → Type 0
 ObjectIs answers k a None = (x : List ℕ) × (a.bytes ≡ Some x) × (naming.name x ≡ a.name) × IsFitting answers k x
 ObjectIs answers k a (Some FaultKind.Missing) = a.bytes ≡ None
 ObjectIs answers k a (Some FaultKind.Name) = (x : List ℕ) × (a.bytes ≡ Some x) × (naming.name x ≢ a.name)
@@ -63,27 +63,27 @@ ObjectIs answers k a (Some FaultKind.Unindexed) = ⊥
 -- ---- blobs that are reached
 
 -- these blobs have so many bytes together, by the lengths of their places
-abbrev pub Measure : Answers → List Name → ℕ → Type 0
+abbrev pub Measure : Gathered → List Name → ℕ → Type 0
 Measure answers [] size = size ≡ 0
 Measure answers (n ∷ names) size = (place : Place) × (rest : ℕ) × LiesAt answers Content n place × Measure answers names rest × (size ≡ place.length + rest)
 
 -- a file's blobs have its size, or one of them lies nowhere
-abbrev pub IsMeasured : Answers → NodeKind → Type 0
+abbrev pub IsMeasured : Gathered → NodeKind → Type 0
 IsMeasured answers (NodeKind.File size content) = Measure answers content size ⊎ ((n : Name) × Contains content n × LiesNowhere answers Content n)
 IsMeasured answers (NodeKind.Dir subtree) = ⊤
 
 -- they have another
-abbrev pub IsMismeasured : Answers → NodeKind → Type 0
+abbrev pub IsMismeasured : Gathered → NodeKind → Type 0
 IsMismeasured answers (NodeKind.File size content) = (sum : ℕ) × Measure answers content sum × (sum ≢ size)
 IsMismeasured answers (NodeKind.Dir subtree) = ⊥
 
 -- a tree of these nodes is well: it has none where none may be, and its files have their sizes
-pub record IsWellTree (answers : Answers) (n : Name) (nodes : List Node) : Type 0 where
+pub record IsWellTree (answers : Gathered) (n : Name) (nodes : List Node) : Type 0 where
   pub bare : IsDeepest answers n → nodes ≡ []
   pub measured : (node : Node) → Contains nodes node → IsMeasured answers node.what
 
 -- it isn't
-abbrev pub IsIllTree : Answers → Name → List Node → Type 0
+abbrev pub IsIllTree : Gathered → Name → List Node → Type 0
 IsIllTree answers n nodes = (IsDeepest answers n × (nodes ≢ [])) ⊎ ((node : Node) × Contains nodes node × IsMismeasured answers node.what)
 
 -- bytes that came from this place are the text of a tree of these nodes
@@ -92,7 +92,7 @@ pub record IsTreeAt (place : Place) (x : List ℕ) (nodes : List Node) : Type 0 
   pub reads : IsTreeText x nodes
 
 -- what is found of a tree that was asked for at its place
-abbrev pub TreeIs : Answers → Place → Answer → Option FaultKind → Type 0
+abbrev pub TreeIs : Gathered → Place → Answer → Option FaultKind → Type 0
 TreeIs answers place a None = (x : List ℕ) × (nodes : List Node) × (a.bytes ≡ Some x) × (naming.name x ≡ a.name) × IsTreeAt place x nodes × IsWellTree answers a.name nodes
 TreeIs answers place a (Some FaultKind.Missing) = a.bytes ≡ None
 TreeIs answers place a (Some FaultKind.Name) = (x : List ℕ) × (a.bytes ≡ Some x) × (naming.name x ≢ a.name)
@@ -102,13 +102,13 @@ TreeIs answers place a (Some FaultKind.Place) = ⊥
 TreeIs answers place a (Some FaultKind.Unindexed) = ⊥
 
 -- what is found of a content blob: it lies somewhere, or nowhere; it isn't asked for
-abbrev pub ContentIs : Answers → Name → Option FaultKind → Type 0
+abbrev pub ContentIs : Gathered → Name → Option FaultKind → Type 0
 ContentIs answers n None = (place : Place) × LiesAt answers Content n place
 ContentIs answers n (Some FaultKind.Unindexed) = LiesNowhere answers Content n
 ContentIs answers n (Some _) = ⊥
 
 -- what is found of a blob
-abbrev pub BlobIs : Answers → BlobKind → Name → Option FaultKind → Type 0
+abbrev pub BlobIs : Gathered → BlobKind → Name → Option FaultKind → Type 0
 BlobIs answers Content n found = ContentIs answers n found
 BlobIs answers Tree n found = ((found ≡ Some FaultKind.Unindexed) × LiesNowhere answers Tree n)
     ⊎ ((place : Place) × (a : Answer) × LiesAt answers Tree n place × Contains answers.trees a × (a.name ≡ n) × TreeIs answers place a found)

@@ -9,7 +9,7 @@ use Rattle.repo_index.specs.IndexText.{facts_in}
 use Rattle.repo_index.specs.Lookups.{Joins, AreFactsOf}
 use Rattle.repo_index.specs.declared.facts.Fact.{Fact}
 use Rattle.repo_index.specs.declared.facts.PackFacts.{PackFacts}
-use Rattle.repo_check.specs.Answers.{Answers, Came}
+use Rattle.repo_check.specs.Answers.{Gathered, Came}
 use Rattle.repo_check.specs.Arrivals.{AreToldOf}
 use Rattle.repo_check.specs.Gathering.{well_noted}
 use Rattle.repo_check.specs.Rounds.{RoundView}
@@ -30,12 +30,12 @@ abbrev pub facts_by : RoundView (List Fact) → FactsOfPacks
 facts_by round = facts_at round.names round.notes
 
 -- the pack's facts are known: those of the pack that came; none came, where there are none
-abbrev pub IsKnownAs : Answers → Name → Option (List Fact) → Type 0
+abbrev pub IsKnownAs : Gathered → Name → Option (List Fact) → Type 0
 IsKnownAs answers pack (Some facts) = (x : List ℕ) × (items : List Item) × Came (answers.objects Kind.Pack) pack x × IsTruePack x items × AreToldOf pack items facts
 IsKnownAs answers pack None = (x : List ℕ) (items : List Item) → Came (answers.objects Kind.Pack) pack x → ¬ IsTruePack x items
 
 -- so are those of all packs
-abbrev pub AreKnown : Answers → FactsOfPacks → Type 0
+abbrev pub AreKnown : Gathered → FactsOfPacks → Type 0
 AreKnown answers packs = (pack : Name) → IsKnownAs answers pack (packs pack)
 
 -- an index of these facts lists the pack with the facts that are known of it

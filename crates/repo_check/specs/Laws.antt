@@ -15,27 +15,27 @@ use Rattle.repo_check.specs.Findings.{IsFitting, IsMisplaced}
 use Rattle.repo_check.specs.Fitting.{FactsOfPacks, AreKnown, Fits, Misfits}
 use Rattle.repo_index.specs.IndexText.{IsIndexText}
 use Rattle.repo_index.specs.declared.facts.PackFacts.{PackFacts}
-use Rattle.repo_check.specs.Answers.{Answer, Answers, Gives}
+use Rattle.repo_check.specs.Answers.{Answer, Gathered, GivesFact}
 use Rattle.repo_check.specs.Checking.{IsFault, IsFound, AreWell, IsClean, AreAnswers}
 
 -- the objects that came, under the names for which they came
-abbrev pub AreObjects : Answers → Objects → Type 0
+abbrev pub AreObjects : Gathered → Objects → Type 0
 AreObjects answers objects = (k : Kind) (n : Name) (x : List ℕ) → (objects k n ≡ Some x) ↔ Contains (answers.objects k) (record { name = n; bytes = Some x })
 
 -- the byte lists of which no two may have one name: objects and trees that came, and what lies in packs at the places that indexes give
-pub data IsSpoken (answers : Answers) (x : List ℕ) : Type 0 where
+pub data IsSpoken (answers : Gathered) (x : List ℕ) : Type 0 where
   of_object : (k : Kind) (n : Name) → Contains (answers.objects k) (record { name = n; bytes = Some x }) → IsSpoken answers x
   of_tree : (n : Name) → Contains answers.trees (record { name = n; bytes = Some x }) → IsSpoken answers x
-  of_pack : (fact : Fact) (pack : List ℕ) → Gives answers fact → Contains (answers.objects Kind.Pack) (record { name = fact.place.pack; bytes = Some pack })
+  of_pack : (fact : Fact) (pack : List ℕ) → GivesFact answers fact → Contains (answers.objects Kind.Pack) (record { name = fact.place.pack; bytes = Some pack })
       → range pack fact.place.offset fact.place.length ≡ Some x → IsSpoken answers x
 
 -- no two of these have one name
-abbrev pub HasNoClash : Answers → Type 0
+abbrev pub HasNoClash : Gathered → Type 0
 HasNoClash answers = (x y : List ℕ) → IsSpoken answers x → IsSpoken answers y → naming.name x ≡ naming.name y → x ≡ y
 
 -- where all things are well, the objects that came are a sound store
 abbrev pub WellIsSound : Type 0
-WellIsSound = (answers : Answers) (objects : Objects) → AreWell answers → AreObjects answers objects → HasNoClash answers → IsSound objects
+WellIsSound = (answers : Gathered) (objects : Objects) → AreWell answers → AreObjects answers objects → HasNoClash answers → IsSound objects
 
 -- so they are where a check is clean
 abbrev pub CleanIsSound : Type 0
@@ -44,15 +44,15 @@ CleanIsSound = (es : Trace) (snapshots indexes packs blobs : ℕ) (objects : Obj
 
 -- one thing is found of each: that it is well, or one fault
 abbrev pub FoundOnce : Type 0
-FoundOnce = (es : Trace) (answers : Answers) → AreAnswers es answers → (thing : Thing) (n : Name) (one other : Option FaultKind)
+FoundOnce = (es : Trace) (answers : Gathered) → AreAnswers es answers → (thing : Thing) (n : Name) (one other : Option FaultKind)
     → IsFound answers thing n one → IsFound answers thing n other → one ≡ other
 
 -- an index that reads is found well, or misplaced, by what is known of the packs
 abbrev pub FitsAsFound : Type 0
-FitsAsFound = (answers : Answers) (packs : FactsOfPacks) (x : List ℕ) (text : List PackFacts) → AreKnown answers packs
+FitsAsFound = (answers : Gathered) (packs : FactsOfPacks) (x : List ℕ) (text : List PackFacts) → AreKnown answers packs
     → ((a b : Answer) → Contains (answers.objects Kind.Pack) a → Contains (answers.objects Kind.Pack) b → a.name ≡ b.name → a ≡ b)
     → IsIndexText x text → (Fits text packs → IsFitting answers Kind.Index x) × (Misfits text packs → IsMisplaced answers Kind.Index x)
 
 -- where all things are well, none is at fault
 abbrev pub WellHasNoFault : Type 0
-WellHasNoFault = (es : Trace) (answers : Answers) → AreAnswers es answers → AreWell answers → (fault : CheckFault) → ¬ IsFault answers fault
+WellHasNoFault = (es : Trace) (answers : Gathered) → AreAnswers es answers → AreWell answers → (fault : CheckFault) → ¬ IsFault answers fault

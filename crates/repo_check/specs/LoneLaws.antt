@@ -8,7 +8,7 @@ use Rattle.repo_session.specs.Alone.{IsFit, IsSent, IsSpoken, NoClash}
 use Rattle.repo_session.specs.Askers.{Asker}
 use Rattle.repo_session.specs.Clients.{IsObedient}
 use Rattle.repo_session.specs.Soundness.{IsSound}
-use Rattle.repo_session.specs.Talks.{Talk, trace_of, TalkRan, MayStep}
+use Rattle.repo_session.specs.Talks.{Talk, trace_of, TalkRan, MayBeAhead}
 use Rattle.repo_session.specs.Traces.{Trace}
 use Rattle.repo_session.specs.declared.outcomes.End.{End}
 use Rattle.repo_session.specs.declared.outcomes.Outcome.{Outcome}
@@ -25,7 +25,7 @@ AreStoredApart from = NoClash (IsSpoken (λ x. ⊥) from (IsSent [] None))
 -- a check changes no object: after every exchange, whatever the store says, and also where it is one step ahead
 abbrev pub CheckChangesNothing : Type 0
 CheckChangesNothing = (who : Asker) (from mid to : Store) (failed failing : ℕ) (talk : Talk) (next : Option Request) (outcome : Option Outcome)
-    → TalkRan from failed talk mid failing → MayStep mid next to → IsCheck who next outcome (trace_of talk) → to.objects ≡ from.objects
+    → TalkRan from failed talk mid failing → MayBeAhead mid next to → IsCheck who next outcome (trace_of talk) → to.objects ≡ from.objects
 
 -- a check alone with a store, whatever that is, is clean only where it is sound
 abbrev pub CleanIsOfSound : Type 0

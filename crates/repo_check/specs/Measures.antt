@@ -16,7 +16,7 @@ use Rattle.repo_tree.specs.declared.nodes.NodeKind.{NodeKind}
 use Rattle.repo_session.specs.Blobs.{range_of}
 use Rattle.repo_session.specs.Ends.{IsUnwelcome}
 use Rattle.repo_session.specs.declared.outcomes.FaultKind.{FaultKind}
-use Rattle.repo_check.specs.Answers.{Answer, Answers, Gives}
+use Rattle.repo_check.specs.Answers.{Answer, Gathered, GivesFact}
 use Rattle.repo_check.specs.Arrivals.{HasBytes}
 use Rattle.repo_check.specs.Findings.{IsMeasured, IsMismeasured, IsTreeAt}
 use Rattle.repo_check.specs.declared.trees.TreeLook.{TreeLook}
@@ -45,11 +45,11 @@ IsUnsuited facts (NodeKind.File size content) = (sum : ℕ) × Measures facts co
 IsUnsuited facts (NodeKind.Dir subtree) = ⊥
 
 -- the facts are those that were given
-abbrev pub AreGiven : Answers → List Fact → Type 0
-AreGiven answers facts = (fact : Fact) → Contains facts fact ↔ Gives answers fact
+abbrev pub AreGiven : Gathered → List Fact → Type 0
+AreGiven answers facts = (fact : Fact) → Contains facts fact ↔ GivesFact answers fact
 
 -- whether the sizes of the files among some nodes are right
-pub record Judges (answers : Answers) (nodes : List Node) (right : Bool) : Type 0 where
+pub record Judges (answers : Gathered) (nodes : List Node) (right : Bool) : Type 0 where
   pub well : IsTrue right → (node : Node) → Contains nodes node → IsMeasured answers node.what
   pub ill : IsFalse right → (node : Node) × Contains nodes node × IsMismeasured answers node.what
 
@@ -67,7 +67,7 @@ pub record IsReadAs (facts : List Fact) (place : Place) (a : Answer) (links : Li
   pub has : HasBytes a bytes
   pub tree : IsTreeAt place bytes nodes
   pub lead : LeadTo nodes links
-  pub judged : (answers : Answers) → AreGiven answers facts → Judges answers nodes right
+  pub judged : (answers : Gathered) → AreGiven answers facts → Judges answers nodes right
 
 -- it is at fault by itself, whatever else came: one whose bytes are a tree's text isn't
 abbrev pub IsFaultyTree : Place → Answer → FaultKind → Type 0

@@ -48,7 +48,7 @@ pub record IsGetting {T : Type 0} (k : Kind) (round : RoundView T) (n : Name) (e
   pub next : slice_get round.names (length round.notes) ≡ Some n
 
 -- each object was noted
-pub record IsWhole {T : Type 0} (k : Kind) (round : RoundView T) (es : Trace) : Type 0 where
+pub record IsWholeRound {T : Type 0} (k : Kind) (round : RoundView T) (es : Trace) : Type 0 where
   pub of_kind : round.kind ≡ k
   pub paged : IsPaged k round.names true es
   pub all : length round.names ≤ length round.notes
@@ -77,7 +77,7 @@ KnowsRound k round _ es = ⊥
 -- what comes next after an exchange
 abbrev pub TurnsOn : {T : Type 0} → Task → Kind → RoundView T → Turn → Exchange → Trace → Type 0
 TurnsOn task k round (Turn.Ask ask) e es = KnowsRound k round ask (e ∷ es) × May task (e ∷ es) ask
-TurnsOn task k round Turn.All e es = IsWhole k round (e ∷ es)
+TurnsOn task k round Turn.All e es = IsWholeRound k round (e ∷ es)
 TurnsOn task k round Turn.Senseless e es = IsSenseless e.ask e.say
 TurnsOn task k round Turn.Version e es = IsOfOtherVersion e.ask e.say
 TurnsOn task k round Turn.Away e es = IsUnwelcome e.ask e.say
@@ -113,8 +113,8 @@ pub record AreNoted {T : Type 0} (k : Kind) (Gives : Answer → T → Type 0) (n
   pub noted : Match (IsNoted k Gives) answers notes
 
 -- what a reply to the request for the next object comes to, after each trace at whose end it was pending
-abbrev pub Takes : {T : Type 0} → Kind → (Answer → T → Type 0) → RoundView T → Name → Say → Turn → RoundView T → Type 0
-Takes k Gives old n say turn new = (task : Task) (token : Token) (es : Trace) → IsWorking task token (silent (Ask.Get k n) say ∷ es) → IsGetting k old n es → AreNoted k Gives old.names old.notes es
+abbrev pub TakesObject : {T : Type 0} → Kind → (Answer → T → Type 0) → RoundView T → Name → Say → Turn → RoundView T → Type 0
+TakesObject k Gives old n say turn new = (task : Task) (token : Token) (es : Trace) → IsWorking task token (silent (Ask.Get k n) say ∷ es) → IsGetting k old n es → AreNoted k Gives old.names old.notes es
     → TurnsOn task k new turn (silent (Ask.Get k n) say) es × AreNoted k Gives new.names new.notes (silent (Ask.Get k n) say ∷ es)
 
 -- there is one note more

@@ -19,14 +19,14 @@ use Rattle.repo_session.specs.Order.{Task, IsWorking, May, last_of}
 use Rattle.repo_session.specs.Traces.{Exchange, Trace, silent}
 use Rattle.repo_reach.specs.declared.links.Links.{Links}
 use Rattle.repo_tree.specs.Spelling.{greatest_depth}
-use Rattle.repo_check.specs.Answers.{Answer, Answers, IsDeepest, IsReached}
+use Rattle.repo_check.specs.Answers.{Answer, Gathered, IsDeepest, IsReachedBlob}
 use Rattle.repo_check.specs.Arrivals.{IsIndexOf, IsPackOf, IsRootOf}
 use Rattle.repo_check.specs.Checking.{AreAnswers, IsFault}
 use Rattle.repo_check.specs.Findings.{BlobIs}
 use Rattle.repo_check.specs.Gathering.{AreOnce, facts_noted, fault_noted, root_noted}
-use Rattle.repo_check.specs.Rounds.{AreNoted, HasOneMore, IsFreshRound, IsUntouched, IsWhole, KnowsRound, RoundView, round_of}
+use Rattle.repo_check.specs.Rounds.{AreNoted, HasOneMore, IsFreshRound, IsUntouched, IsWholeRound, KnowsRound, RoundView, round_of}
 use Rattle.repo_check.specs.Telling.{told}
-use Rattle.repo_check.specs.Walks.{ContentFault, Awaits, HasNoted, IsFreshKnown, IsOver, IsWalkMark, Reads, WalkView, Walks, WalksOn, tree_fault}
+use Rattle.repo_check.specs.Walks.{ContentFault, Awaits, HasNoted, IsFreshKnown, IsOver, IsWalkMark, WalkReads, WalkView, Walks, WalksOn, tree_fault}
 use Rattle.repo_check.specs.declared.knowing.TreeNote.{TreeNote}
 use Rattle.repo_check.specs.declared.rounds.Turn.{Turn}
 use Rattle.repo_check.specs.declared.surveys.Next.{Next}
@@ -61,22 +61,22 @@ pub record AtSnapshots (rounds : RoundsView) (ask : Ask) (es : Trace) : Type 0 w
 
 -- a page of indexes, or an index
 pub record AtIndexes (rounds : RoundsView) (ask : Ask) (es : Trace) : Type 0 where
-  pub snapshots : IsWhole Kind.Snapshot rounds.snapshots es
+  pub snapshots : IsWholeRound Kind.Snapshot rounds.snapshots es
   pub indexes : KnowsRound Kind.Index rounds.indexes ask es
   pub packs : IsFreshRound Kind.Pack rounds.packs
   pub no_packs : IsUntouched Kind.Pack es
 
 -- a page of packs, or a pack
 pub record AtPacks (rounds : RoundsView) (ask : Ask) (es : Trace) : Type 0 where
-  pub snapshots : IsWhole Kind.Snapshot rounds.snapshots es
-  pub indexes : IsWhole Kind.Index rounds.indexes es
+  pub snapshots : IsWholeRound Kind.Snapshot rounds.snapshots es
+  pub indexes : IsWholeRound Kind.Index rounds.indexes es
   pub packs : KnowsRound Kind.Pack rounds.packs ask es
 
 -- all objects came; the walk goes by the facts of the indexes that read, from the trees of the snapshots that read
 pub record HasObjects (rounds : RoundsView) (walk : WalkView) (roots : List Name) (es : Trace) : Type 0 where
-  pub snapshots : IsWhole Kind.Snapshot rounds.snapshots es
-  pub indexes : IsWhole Kind.Index rounds.indexes es
-  pub packs : IsWhole Kind.Pack rounds.packs es
+  pub snapshots : IsWholeRound Kind.Snapshot rounds.snapshots es
+  pub indexes : IsWholeRound Kind.Index rounds.indexes es
+  pub packs : IsWholeRound Kind.Pack rounds.packs es
   pub facts : Joins [] (flat_map facts_noted rounds.indexes.notes) walk.known.facts
   pub roots_are : AreOnce (flat_map root_noted rounds.snapshots.notes) roots
 
@@ -88,7 +88,7 @@ pub record AtTrees (rounds : RoundsView) (walk : WalkView) (ask : Ask) (es : Tra
   pub asked : ask ≡ range_of fact
   pub awaits : Awaits roots walk fact
   pub answers : List Answer
-  pub reads : Reads walk answers es
+  pub reads : WalkReads walk answers es
 
 -- one of these
 abbrev pub Surveys : RoundsView → WalkView → Ask → Trace → Type 0
@@ -101,7 +101,7 @@ pub record IsSurveyed (rounds : RoundsView) (walk : WalkView) (es : Trace) : Typ
   pub objects : HasObjects rounds walk roots es
   pub over : IsOver roots walk
   pub answers : List Answer
-  pub reads : Reads walk answers es
+  pub reads : WalkReads walk answers es
 
 -- ---- steps
 
@@ -151,7 +151,7 @@ next_of (Some fact) = Next.Ask (range_of fact)
 next_of None = Next.Over
 
 -- it went on to the first tree that is to be asked for
-pub record Begins (rounds : RoundsView) (walk : WalkView) (next : Next) : Type 0 where
+pub record WalkBegins (rounds : RoundsView) (walk : WalkView) (next : Next) : Type 0 where
   pub roots : List Name
   pub roots_are : AreOnce (flat_map root_noted rounds.snapshots.notes) roots
   pub facts : Joins [] (flat_map facts_noted rounds.indexes.notes) walk.known.facts
@@ -163,7 +163,7 @@ pub record Begins (rounds : RoundsView) (walk : WalkView) (next : Next) : Type 0
 -- what comes next is what a turn of the packs is; after the last one the walk begins
 abbrev pub GoesToTrees : RoundsView → WalkView → Turn → Next → Type 0
 GoesToTrees rounds walk (Turn.Ask ask) next = next ≡ Next.Ask ask
-GoesToTrees rounds walk Turn.All next = Begins rounds walk next
+GoesToTrees rounds walk Turn.All next = WalkBegins rounds walk next
 GoesToTrees rounds walk Turn.Senseless next = next ≡ Next.Senseless
 GoesToTrees rounds walk Turn.Version next = next ≡ Next.Version
 GoesToTrees rounds walk Turn.Away next = next ≡ Next.Away
@@ -202,7 +202,7 @@ objects_in notes Kind.Index = notes.indexes.answers
 objects_in notes Kind.Snapshot = notes.snapshots.answers
 
 -- all answers that came
-abbrev pub answers_in : {rounds : RoundsView} {walk : WalkView} {es : Trace} → IsSurveyed rounds walk es → Answers
+abbrev pub answers_in : {rounds : RoundsView} {walk : WalkView} {es : Trace} → IsSurveyed rounds walk es → Gathered
 answers_in s = record { objects = objects_in s.notes; trees = s.answers }
 
 -- where all came, the answers are what the definitions ask for
@@ -216,7 +216,7 @@ StandsIn levels d n = (level : List Name) × (slice_get levels d ≡ Some level)
 -- and the trees that are reached are those of the levels; those of the last level are the deepest
 abbrev pub LevelsAreReached : Type 0
 LevelsAreReached = (rounds : RoundsView) (walk : WalkView) (es : Trace) (s : IsSurveyed rounds walk es) (n : Name)
-    → (IsReached (answers_in s) Tree n ↔ ((d : ℕ) × StandsIn walk.levels d n)) × (IsDeepest (answers_in s) n ↔ StandsIn walk.levels greatest_depth n)
+    → (IsReachedBlob (answers_in s) Tree n ↔ ((d : ℕ) × StandsIn walk.levels d n)) × (IsDeepest (answers_in s) n ↔ StandsIn walk.levels greatest_depth n)
 
 -- a tree that reads, in a level above the last, leads to the content
 abbrev pub HoldsContent : WalkView → Name → Type 0
@@ -224,7 +224,7 @@ HoldsContent walk n = (d : ℕ) × (t : Name) × (links : Links) × (d < greates
 
 -- so is the content that is reached
 abbrev pub ContentIsReached : Type 0
-ContentIsReached = (rounds : RoundsView) (walk : WalkView) (es : Trace) (s : IsSurveyed rounds walk es) (n : Name) → IsReached (answers_in s) Content n ↔ HoldsContent walk n
+ContentIsReached = (rounds : RoundsView) (walk : WalkView) (es : Trace) (s : IsSurveyed rounds walk es) (n : Name) → IsReachedBlob (answers_in s) Content n ↔ HoldsContent walk n
 
 -- what is told of the snapshots by their notes is what is at fault of snapshots
 abbrev pub SnapshotsAreTold : Type 0
@@ -238,7 +238,7 @@ PacksAreTold = (rounds : RoundsView) (walk : WalkView) (es : Trace) (s : IsSurve
 
 -- what is told of a tree that is reached is what is found of it
 abbrev pub TreesAreTold : Type 0
-TreesAreTold = (rounds : RoundsView) (walk : WalkView) (es : Trace) (s : IsSurveyed rounds walk es) (n : Name) (deepest : Bool) → IsReached (answers_in s) Tree n → (IsTrue deepest ↔ StandsIn walk.levels greatest_depth n)
+TreesAreTold = (rounds : RoundsView) (walk : WalkView) (es : Trace) (s : IsSurveyed rounds walk es) (n : Name) (deepest : Bool) → IsReachedBlob (answers_in s) Tree n → (IsTrue deepest ↔ StandsIn walk.levels greatest_depth n)
     → BlobIs (answers_in s) Tree n (tree_fault (walk.known.faults n) (walk.known.links n) deepest)
 
 -- so is what is told of content

@@ -162,7 +162,7 @@ pub record DescendsTo (old new : WalkView) : Type 0 where
 -- ---- what came
 
 -- these are the answers that came for trees, and what is known of trees; each of them stands in a level
-pub record Reads (walk : WalkView) (answers : List Answer) (es : Trace) : Type 0 where
+pub record WalkReads (walk : WalkView) (answers : List Answer) (es : Trace) : Type 0 where
   pub seen : AreSeen walk.known answers es
   pub reached : (a : Answer) → Contains answers a → (d : ℕ) × (level : List Name) × (slice_get walk.levels d ≡ Some level) × Contains level a.name
 

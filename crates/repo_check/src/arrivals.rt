@@ -1,6 +1,6 @@
 //! What a reply brings of an object.
 
-ghost use Rattle.repo_check.specs.Arrivals.{Arrives};
+ghost use Rattle.repo_check.specs.Arrivals.{ArrivesAs};
 
 use repo_name::{Kind, Name, name_of};
 use repo_wire::{Code, Say};
@@ -20,7 +20,7 @@ pub enum Arrival<'a> {
 
 /// What a reply brings of an object of this name. It takes no memory.
 pub fn arrival_of<'a>(kind: Kind, name: Name, say: &'a Say) -> Arrival<'a>
-    ensures { Arrives kind name say.now result }
+    ensures { ArrivesAs kind name say.now result }
 {
     match say {
         Say::Bytes(bytes) if name_of(bytes.as_slice()) == name => Arrival::Named(bytes.as_slice()),

@@ -3,7 +3,7 @@
 ghost use Rattle.std.specs.Prelude.{◌≡◌, [], IfOk, OnErr};
 ghost use Rattle.repo_session.specs.Jobs.{IsShortStep};
 ghost use Rattle.repo_session.specs.Traces.{Trace};
-ghost use Rattle.repo_check.specs.CheckStates.{Concluded, FitsCheck, IsFresh, KnowsCheck, TakesBack, checker_of};
+ghost use Rattle.repo_check.specs.CheckStates.{Concluded, FitsCheck, IsFreshCheck, KnowsCheck, TakesBack, checker_of};
 ghost use Rattle.repo_check.specs.Surveys.{IsShortNext};
 
 use crate::surveys::{Next, Survey, SurveyMark};
@@ -22,7 +22,7 @@ pub struct CheckJob {
 impl CheckJob {
     /// A check that hasn't begun. It takes no memory.
     fn new(alloc: Global) -> CheckJob
-        ensures { IsFresh result }
+        ensures { IsFreshCheck result }
     {
         CheckJob {
             survey: Survey::new(alloc),
@@ -49,7 +49,7 @@ impl CheckJob {
 impl Job for CheckJob {
     ghost use Rattle.std.specs.Prelude.{[]};
     ghost use Rattle.repo_check.specs.Checking.{check_rule};
-    ghost use Rattle.repo_check.specs.CheckStates.{IsFresh, KnowsCheck};
+    ghost use Rattle.repo_check.specs.CheckStates.{IsFreshCheck, KnowsCheck};
 
     ghost Handed = { Unit {0} };
 
@@ -57,7 +57,7 @@ impl Job for CheckJob {
 
     ghost rule = { λ h. check_rule };
 
-    ghost fresh = { IsFresh };
+    ghost fresh = { IsFreshCheck };
 
     ghost knows = { KnowsCheck };
 

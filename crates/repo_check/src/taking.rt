@@ -11,7 +11,7 @@ ghost use Rattle.repo_index.specs.declared.facts.Fact.{Fact};
 ghost use Rattle.repo_check.specs.Walks.{walk_of};
 ghost use Rattle.repo_check.specs.declared.rounds.Turn.{Turn};
 ghost use Rattle.repo_check.specs.declared.surveys.Next.{Next};
-ghost use Rattle.repo_check.specs.Surveys.{Begins, HasTaken, Surveys, GoesAfter, GoesToTrees, HasBegun, IsShortNext, TakesSurvey, first_page, next_of, rounds_of};
+ghost use Rattle.repo_check.specs.Surveys.{WalkBegins, HasTaken, Surveys, GoesAfter, GoesToTrees, HasBegun, IsShortNext, TakesSurvey, first_page, next_of, rounds_of};
 
 use crate::gathering::{lookup_of, roots_of};
 use crate::knowing::note_of;
@@ -128,7 +128,7 @@ impl Survey {
 
     /// Begins the walk over the trees. It fails for memory alone, and then nothing changed.
     fn begin(&mut self) -> Result<Next, AllocError>
-        ensures begins { IfOk result (Begins (rounds_of self.old) (walk_of self.new.walk)) }
+        ensures begins { IfOk result (WalkBegins (rounds_of self.old) (walk_of self.new.walk)) }
         ensures short { IfOk result IsShortNext }
         ensures rounds { rounds_of self.new ≡ rounds_of self.old }
     {

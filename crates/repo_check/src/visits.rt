@@ -3,7 +3,7 @@
 ghost use Rattle.std.specs.Prelude.{◌≡◌, IfOk, OnErr};
 ghost use Rattle.repo_name.specs.declared.kinds.Kind.{Kind};
 ghost use Rattle.repo_check.specs.Arrivals.{IsIndexOf, IsPackOf, IsRootOf};
-ghost use Rattle.repo_check.specs.Rounds.{HasOneMore, IsShortTurn, Takes, round_of};
+ghost use Rattle.repo_check.specs.Rounds.{HasOneMore, IsShortTurn, TakesObject, round_of};
 ghost use Rattle.repo_check.specs.declared.rounds.Turn.{Turn};
 
 use crate::objects::{
@@ -22,7 +22,7 @@ pub fn take_snapshot(
     name: Name,
     say: &Say,
 ) -> Result<Turn, AllocError>
-    ensures takes { IfOk result (λ turn. Takes Kind.Snapshot IsRootOf (round_of round.old) name say.now turn (round_of round.new)) }
+    ensures takes { IfOk result (λ turn. TakesObject Kind.Snapshot IsRootOf (round_of round.old) name say.now turn (round_of round.new)) }
     ensures short { IfOk result IsShortTurn }
     ensures same { OnErr result (round_of round.new ≡ round_of round.old) }
 {
@@ -41,7 +41,7 @@ pub fn take_index(
     name: Name,
     say: &Say,
 ) -> Result<Turn, AllocError>
-    ensures takes { IfOk result (λ turn. Takes Kind.Index IsIndexOf (round_of round.old) name say.now turn (round_of round.new)) }
+    ensures takes { IfOk result (λ turn. TakesObject Kind.Index IsIndexOf (round_of round.old) name say.now turn (round_of round.new)) }
     ensures short { IfOk result IsShortTurn }
     ensures same { OnErr result (round_of round.new ≡ round_of round.old) }
 {
@@ -59,7 +59,7 @@ pub fn take_pack(
     name: Name,
     say: &Say,
 ) -> Result<Turn, AllocError>
-    ensures takes { IfOk result (λ turn. Takes Kind.Pack IsPackOf (round_of round.old) name say.now turn (round_of round.new)) }
+    ensures takes { IfOk result (λ turn. TakesObject Kind.Pack IsPackOf (round_of round.old) name say.now turn (round_of round.new)) }
     ensures short { IfOk result IsShortTurn }
     ensures noted { IfOk result (λ turn. turn ≡ Turn.All → HasOneMore (round_of round.old) (round_of round.new)) }
     ensures same { OnErr result (round_of round.new ≡ round_of round.old) }

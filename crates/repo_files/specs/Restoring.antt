@@ -27,5 +27,5 @@ IsPlaced (emission.Piece bytes) = ⊤
 IsPlaced emission.Close = ⊤
 
 -- what is taken follows in order, as what a restore gives out does, and is at a path
-abbrev pub Takes : Standing → Emission → Standing → Type 0
-Takes old emission new = (before : Bool) × (after : Bool) × (old ≡ standing before) × MayFollow before emission after × (new ≡ standing after) × IsPlaced emission
+abbrev pub TakesEmission : Standing → Emission → Standing → Type 0
+TakesEmission old emission new = (before : Bool) × (after : Bool) × (old ≡ standing before) × MayFollow before emission after × (new ≡ standing after) × IsPlaced emission

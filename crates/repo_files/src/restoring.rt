@@ -1,7 +1,7 @@
 //! Writes what a restore gives out into a folder.
 
 ghost use Rattle.std.specs.Prelude.{◌≡◌, IfOk, IsTrue, IsFalse};
-ghost use Rattle.repo_files.specs.Restoring.{standing_of, Takes};
+ghost use Rattle.repo_files.specs.Restoring.{standing_of, TakesEmission};
 ghost use Rattle.repo_files.specs.declared.phases.Standing.{Standing};
 
 use crate::drafts::{fill, remove, settle};
@@ -77,7 +77,7 @@ impl<R: Files + AllocGlobal + Clone + Drop> Restorer<R> {
     /// path isn't one, and where a part doesn't belong there; nothing more is taken then. A file that is
     /// open then is removed; what was written before it stays.
     pub fn write(&mut self, emission: &Emission) -> bool
-        ensures taken { IsTrue result → Takes self.old emission.now self.new }
+        ensures taken { IsTrue result → TakesEmission self.old emission.now self.new }
         ensures stopped { IsFalse result → self.new ≡ Standing.Stopped }
     {
         let phase = mem::replace(&mut self.phase, Phase::Stopped);
@@ -113,7 +113,7 @@ fn step<R: Files + AllocGlobal + Clone + Drop>(
     phase: Phase<R::File>,
     emission: &Emission,
 ) -> io::Result<Phase<R::File>>
-    ensures { IfOk result (λ next. Takes (standing_of phase) emission.now (standing_of next)) }
+    ensures { IfOk result (λ next. TakesEmission (standing_of phase) emission.now (standing_of next)) }
 {
     match (phase, emission) {
         (Phase::Between, Emission::Dir(path)) => {

@@ -19,12 +19,12 @@ use Rattle.repo_session.specs.Soundness.{IsSound}
 use Rattle.repo_session.specs.Talks.{Turn, Talk, trace_of, given_in, TalkRan, Went, Steps}
 use Rattle.repo_session.specs.Traces.{Trace, emitted_in}
 use Rattle.repo_backup.specs.Laws.{AreApart, IsBackup}
-use Rattle.repo_backup.specs.Rules.{Ends}
+use Rattle.repo_backup.specs.Rules.{BackupConcludes}
 use Rattle.repo_backup.proofs.LoneRuns.{backup_sound, backup_ends}
 use Rattle.repo_restore.specs.Laws.{IsRestore, IsList}
 use Rattle.repo_restore.specs.Restoring.{Wish}
 use Rattle.repo_restore.proofs.RestoreRuns.{restore_changes_nothing, list_changes_nothing, restore_ends, list_ends}
-use Rattle.repo_laws.specs.Alone.{IsStoredOrMemory, BacksUp, Restores, Lists, GivesBack}
+use Rattle.repo_laws.specs.Alone.{IsStoredOrMemory, BacksUp, RestoresAlone, ListsAlone, GivesBack}
 use Rattle.repo_laws.proofs.StoredRuns.{restored_handed}
 
 -- ---- a client at its end
@@ -72,7 +72,7 @@ if_ok_with P Q (Err e) f h = tt
 
 -- ---- a backup
 
-stored_well : (entries : List Entry) (es : Trace) (outcome : Option Outcome) → EndsWell (Ends entries) es outcome → IsStoredOrMemory outcome
+stored_well : (entries : List Entry) (es : Trace) (outcome : Option Outcome) → EndsWell (BackupConcludes entries) es outcome → IsStoredOrMemory outcome
 stored_well entries es None h = h
 stored_well entries es (Some (Outcome.Stored name blobs bytes)) h = tt
 stored_well entries es (Some (Outcome.Ended End.DirectoryTooLarge)) h = tt
@@ -114,14 +114,14 @@ backs_up who entries from to failed talk outcome fit low ran few is = record {
 -- ---- a restore, and a list
 
 pub restores : (w : Wish) (from to : Store) (failed : ℕ) (talk : Talk) (outcome : Option Outcome) (text : List ℕ) → IsFit from → from.objects Kind.Snapshot w.snapshot ≡ Some text → failed < greatest_count → TalkRan from failed talk to failed
-    → length talk < 2 ^ 64 - 1 → IsRestore w None outcome (trace_of talk) → Restores from to outcome
+    → length talk < 2 ^ 64 - 1 → IsRestore w None outcome (trace_of talk) → RestoresAlone from to outcome
 restores w from to failed talk outcome text fit there low ran few is = record {
   same = restore_changes_nothing w from to to failed failed talk None outcome ran refl is;
   well = λ apart. restore_ends w from to failed talk outcome text fit there low ran few apart is;
 }
 
 pub lists : (who : Asker) (from to : Store) (failed : ℕ) (talk : Talk) (outcome : Option Outcome) → IsFit from → failed < greatest_count → TalkRan from failed talk to failed → length talk < 2 ^ 64 - 1
-    → IsList who None outcome (trace_of talk) → Lists from to outcome
+    → IsList who None outcome (trace_of talk) → ListsAlone from to outcome
 lists who from to failed talk outcome fit low ran few is = record {
   same = list_changes_nothing who from to to failed failed talk None outcome ran refl is;
   well = list_ends who from to failed talk outcome fit low ran few is;

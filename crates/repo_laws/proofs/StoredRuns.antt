@@ -33,7 +33,7 @@ use Rattle.repo_session.proofs.Unchanging.{same_run, shares_run}
 use Rattle.repo_backup.specs.BackupStates.{backup_task}
 use Rattle.repo_backup.specs.Folders.{Folder, blobs_of}
 use Rattle.repo_backup.specs.Laws.{IsMadeOf}
-use Rattle.repo_backup.specs.Rules.{IsMade, SnapshotRule, Allows, GivesNothing}
+use Rattle.repo_backup.specs.Rules.{IsMade, SnapshotRule, BackupAllows, BackupGives}
 use Rattle.repo_session.proofs.Spoken.{was_asked}
 use Rattle.repo_backup.proofs.LoneRuns.{lone, covers_all}
 use Rattle.repo_backup.proofs.Ruling.{is_made_later}
@@ -47,10 +47,10 @@ pub record PutThen (entries : List Entry) (es : Trace) (token : Token) (x : List
   pub rule : SnapshotRule entries older token x
   pub made : (folder : Folder) → IsMade entries older folder → IsMade entries es folder
 
-put_then : (who : Asker) (entries : List Entry) (es : Trace) (token : Token) (n : Name) (x : List ℕ) → Obeys (backup_task who) (Allows entries) (GivesNothing entries) es → WasAsked es (Ask.Put token Kind.Snapshot n x)
+put_then : (who : Asker) (entries : List Entry) (es : Trace) (token : Token) (n : Name) (x : List ℕ) → Obeys (backup_task who) (BackupAllows entries) (BackupGives entries) es → WasAsked es (Ask.Put token Kind.Snapshot n x)
     → PutThen entries es token x
 put_then who entries [] token n x o h = absurd h
-put_then who entries (e ∷ es) token n x o (inl here) = record { older = es; rule = subst (λ a. IsPermitted (Allows entries) es a) here o.1 tt; made = λ folder m. is_made_later entries e es folder m }
+put_then who entries (e ∷ es) token n x o (inl here) = record { older = es; rule = subst (λ a. IsPermitted (BackupAllows entries) es a) here o.1 tt; made = λ folder m. is_made_later entries e es folder m }
 put_then who entries (e ∷ es) token n x o (inr before) =
     let p = put_then who entries es token n x o.3 before in
     record { older = p.older; rule = p.rule; made = λ folder m. is_made_later entries e es folder (p.made folder m) }
@@ -135,7 +135,7 @@ restored_handed who entries from mid to failed failing late last talk talk' next
     let asked = was_asked es (Ask.Put put.0 Kind.Snapshot name stored.text) Say.Done done in
     let found = knows.shares.put put.0 Kind.Snapshot name stored.text done in
     let there : (k : Kind) (n : Name) (x : List ℕ) → mid.objects k n ≡ Some x → WasThere from (IsSent es next) k x = λ k n x p. ⊎_elim (λ old. inl (n, old)) (λ now. inr (now.0, n, covers.sent (Ask.Put now.0 k n x) now.1)) (knows.shares.origin k n x p) in
-    let named = (was_put (backup_task who) (Allows entries) (GivesNothing entries) es put.0 Kind.Snapshot name stored.text is.obeys asked).0 in
+    let named = (was_put (backup_task who) (BackupAllows entries) (BackupGives entries) es put.0 Kind.Snapshot name stored.text is.obeys asked).0 in
     let one : found.0 ≡ stored.text = apart found.0 stored.text (inl (Kind.Snapshot, there Kind.Snapshot name found.0 found.1)) (inl (Kind.Snapshot, inr (put.0, name, covers.sent (Ask.Put put.0 Kind.Snapshot name stored.text) asked)))
     (knows.sound.named Kind.Snapshot name found.0 found.1 ∙ sym named) in
     let then = put_then who entries es put.0 name stored.text is.obeys asked in

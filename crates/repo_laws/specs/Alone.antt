@@ -35,12 +35,12 @@ pub record BacksUp (entries : List Entry) (from to : Store) (outcome : Option Ou
   pub well : AreApart entries from (trace_of talk) None → IsStoredOrMemory outcome
 
 -- what a restore comes to: the store's objects are those that were there; unless two of the byte lists in them have one name, it is complete
-pub record Restores (from to : Store) (outcome : Option Outcome) : Type 0 where
+pub record RestoresAlone (from to : Store) (outcome : Option Outcome) : Type 0 where
   pub same : to.objects ≡ from.objects
   pub well : NoClash (IsSpoken (λ x. ⊥) from (IsSent [] None)) → IsCompleteOrMemory outcome
 
 -- what a list comes to
-pub record Lists (from to : Store) (outcome : Option Outcome) : Type 0 where
+pub record ListsAlone (from to : Store) (outcome : Option Outcome) : Type 0 where
   pub same : to.objects ≡ from.objects
   pub well : IsListedOrMemory outcome
 

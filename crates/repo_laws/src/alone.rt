@@ -11,7 +11,7 @@ ghost use Rattle.repo_backup.specs.Backups.{FitsBackup, handed_to};
 ghost use Rattle.repo_restore.specs.ListStates.{FitsList};
 ghost use Rattle.repo_restore.specs.RestoreObedience.{wish_of};
 ghost use Rattle.repo_restore.specs.RestoreStates.{FitsRestore};
-ghost use Rattle.repo_laws.specs.Alone.{NeverFailed, BacksUp, Restores, Lists, GivesBack, GivesNothing};
+ghost use Rattle.repo_laws.specs.Alone.{NeverFailed, BacksUp, RestoresAlone, ListsAlone, GivesBack, GivesNothing};
 
 use repo_backup::Backup;
 use repo_restore::{Restore, SnapshotList};
@@ -54,7 +54,7 @@ pub fn restore_alone<S: Shelf>(
     requires fresh { FitsRestore restore.old [] }
     ensures went { IfOk result (λ n. (talk : Talk) × Went FitsRestore restore.old talk restore.new × (n ≡ length talk) × (out.new.items ≡ out.old.items ++ given_in talk)) }
     ensures comes { IfOk result (λ _. IsFit (S.store shelf.old) → HasAsked (S.store shelf.old) (Some (wish_of restore.old).snapshot) → NeverFailed (S.failed shelf.old) (S.failed shelf.new)
-        → Restores (S.store shelf.old) (S.store shelf.new) (ended_in restore.new.session)) }
+        → RestoresAlone (S.store shelf.old) (S.store shelf.new) (ended_in restore.new.session)) }
 {
     lockstep(alloc, restore, shelf, out)
 }
@@ -71,7 +71,7 @@ pub fn list_alone<S: Shelf>(
     requires honest { S.honest shelf.old }
     requires fresh { FitsList list.old [] }
     ensures went { IfOk result (λ n. (talk : Talk) × Went FitsList list.old talk list.new × (n ≡ length talk)) }
-    ensures comes { IfOk result (λ _. IsFit (S.store shelf.old) → NeverFailed (S.failed shelf.old) (S.failed shelf.new) → Lists (S.store shelf.old) (S.store shelf.new) (ended_in list.new.session)) }
+    ensures comes { IfOk result (λ _. IsFit (S.store shelf.old) → NeverFailed (S.failed shelf.old) (S.failed shelf.new) → ListsAlone (S.store shelf.old) (S.store shelf.new) (ended_in list.new.session)) }
 {
     let mut nothing = Vec::new(alloc);
     lockstep(alloc, list, shelf, &mut nothing)

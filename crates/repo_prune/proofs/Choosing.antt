@@ -1,5 +1,5 @@
 -- What a forget knows while it reads, and while it deletes.
-use Rattle.std.proofs.Common.{◌≡◌, ◌<◌, ◌+◌, ◌++◌, ◌∷◌, [], ℕ, true, List, Option, Some, None, Vec, Global, length, map, take, slice_get, refl, sym, subst, inl, inr, Contains}
+use Rattle.std.proofs.Common.{◌≡◌, ◌<◌, ◌+◌, ◌++◌, ◌∷◌, [], ℕ, true, List, Option, Some, None, length, map, take, slice_get, refl, sym, subst, inl, inr, Contains}
 use Rattle.std.specs.List.Sorted.{IsStrictlySortedBy}
 use Rattle.std.specs.List.{AllByRecursion}
 use Rattle.std.specs.declared.cmp.Ordering.TheVariants.{Less}
@@ -27,7 +27,7 @@ use Rattle.repo_session.proofs.Receiving.{each_more, is_listed}
 use Rattle.repo_prune.proofs.Repacking.{one_taken}
 use Rattle.repo_prune.specs.declared.choices.Choice.{Choice}
 use Rattle.repo_prune.specs.declared.forgets.ForgetJob.{ForgetJob}
-use Rattle.repo_prune.specs.Forgetting.{IsKnown, AreChosen, ForgetAllows, forget_rule, forget_task}
+use Rattle.repo_prune.specs.Forgetting.{IsDecided, AreChosen, ForgetAllows, forget_rule, forget_task}
 use Rattle.repo_prune.specs.ForgetStates.{Deletes, KnowsForget, KnowsReading}
 use Rattle.repo_prune.specs.Keeping.{Row}
 use Rattle.repo_prune.specs.Picking.{AreChosenOf}
@@ -92,7 +92,7 @@ ascending_sorted after (n ∷ []) h = (tt, tt)
 ascending_sorted after (n ∷ m ∷ names) h = let rest = ascending_sorted (Some n) (m ∷ names) h.1 in ((h.1.0, all_above n m names h.1.0 rest.0), rest)
 
 -- what is chosen of the names that were listed
-pub listed_chosen : (choice : Choice) (rows : List Row) (listed picked : List Name) (es : Trace) → IsKnown choice es rows → IsListed Kind.Snapshot es → listed ≡ names_in Kind.Snapshot es → AreChosenOf choice rows listed picked → AreChosen choice es picked
+pub listed_chosen : (choice : Choice) (rows : List Row) (listed picked : List Name) (es : Trace) → IsDecided choice es rows → IsListed Kind.Snapshot es → listed ≡ names_in Kind.Snapshot es → AreChosenOf choice rows listed picked → AreChosen choice es picked
 listed_chosen choice rows listed picked es known is same h = record {
   rows = rows;
   decided = known;
@@ -104,13 +104,13 @@ listed_chosen choice rows listed picked es known is same h = record {
 }
 
 -- what is chosen by names, where the last page came
-pub page_chosen : (names : Vec Name Global) (rows : List Row) (listed : List Name) (read : ℕ) (picked : List Name) (es : Trace) → IsRolled Kind.Snapshot listed read true es → AreChosenOf (Choice.Names names) rows listed picked
+pub page_chosen : (names : List Name) (rows : List Row) (listed : List Name) (read : ℕ) (picked : List Name) (es : Trace) → IsRolled Kind.Snapshot listed read true es → AreChosenOf (Choice.Names names) rows listed picked
     → AreChosen (Choice.Names names) es picked
 page_chosen names rows listed read picked es h picks =
     let is : IsListed Kind.Snapshot es = is_listed Kind.Snapshot listed read es h in
     listed_chosen (Choice.Names names) rows listed picked es is is (sym h.paged.listed) picks
 
-known_by_listing : (choice : Choice) (es : Trace) (rows : List Row) → IsListing es rows → IsKnown choice es rows
+known_by_listing : (choice : Choice) (es : Trace) (rows : List Row) → IsListing es rows → IsDecided choice es rows
 known_by_listing (Choice.Names names) es rows l = l.listed
 known_by_listing (Choice.Keep policy) es rows l = l
 
@@ -120,7 +120,7 @@ read_chosen choice rows picked es l h = listed_chosen choice rows (map (λ (row 
 
 -- ---- deleting
 
-known_stays : (choice : Choice) (e : Exchange) (es : Trace) (rows : List Row) → ListsNone Kind.Snapshot e → IsKnown choice es rows → IsKnown choice (e ∷ es) rows
+known_stays : (choice : Choice) (e : Exchange) (es : Trace) (rows : List Row) → ListsNone Kind.Snapshot e → IsDecided choice es rows → IsDecided choice (e ∷ es) rows
 known_stays (Choice.Names names) e es rows none h = listed_stays Kind.Snapshot e es none h
 known_stays (Choice.Keep policy) e es rows none h = listing_stays e es rows none h
 

@@ -24,7 +24,7 @@ use Rattle.repo_name.proofs.Containing.{none_contained, first_contained, later_c
 use Rattle.repo_writing.specs.Blobs.{HasFact}
 use Rattle.repo_prune.proofs.Ascending.{each_all}
 use Rattle.repo_prune.proofs.Planning.{least_one}
-use Rattle.repo_prune.specs.Plans.{IsUsedCopy, Stays, IsPlanOf, Covers, planned_facts}
+use Rattle.repo_prune.specs.Plans.{IsUsedCopy, MayStay, IsPlanOf, Covers, planned_facts}
 use Rattle.repo_prune.specs.Pruning.{AreFactsOnce}
 use Rattle.repo_prune.specs.declared.plans.Plan.{Plan}
 
@@ -158,7 +158,7 @@ sorted_apart {K} c total (x ∷ xs) h = (
 
 module _ (used : Used) (facts : List Fact) (plan : Plan) (is : IsPlanOf used facts plan) where
   -- where a fact of the packs that stay comes from
-  kept_fact : (fact : Fact) → Contains (facts_in plan.kept.items) fact → (listed : PackFacts) × Stays used facts listed × Contains listed.facts fact
+  kept_fact : (fact : Fact) → Contains (facts_in plan.kept.items) fact → (listed : PackFacts) × MayStay used facts listed × Contains listed.facts fact
   kept_fact fact h = let f = flat_contains (λ (p : PackFacts). p.facts) plan.kept.items fact h in (f.0, (is.kept f.0).0 f.1, f.2)
 
   copy_of : (fact : Fact) → Contains (planned_facts plan) fact → IsUsedCopy used facts fact
@@ -188,7 +188,7 @@ module _ (used : Used) (facts : List Fact) (plan : Plan) (is : IsPlanOf used fac
   ]
 
   -- no fact stands twice in packs that stay and ascend
-  kept_apart : (packs : List PackFacts) → ((l : PackFacts) → Contains packs l → Stays used facts l) → IsStrictlySortedBy name_cmp (map (λ (l : PackFacts). l.pack) packs) → AreApart (facts_in packs)
+  kept_apart : (packs : List PackFacts) → ((l : PackFacts) → Contains packs l → MayStay used facts l) → IsStrictlySortedBy name_cmp (map (λ (l : PackFacts). l.pack) packs) → AreApart (facts_in packs)
   kept_apart [] each sorted = tt
   kept_apart (p ∷ packs) each sorted =
       let stays = each p (first_contained p packs) in

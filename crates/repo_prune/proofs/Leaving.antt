@@ -15,7 +15,7 @@ use Rattle.repo_session.specs.declared.outcomes.Outcome.{Outcome}
 use Rattle.repo_session.specs.Askers.{Asker}
 use Rattle.repo_session.specs.Clients.{exchange}
 use Rattle.repo_session.specs.Ends.{before_unlock, without_unlock}
-use Rattle.repo_session.specs.Listings.{IsRow}
+use Rattle.repo_session.specs.Listings.{IsReadRow}
 use Rattle.repo_session.specs.Order.{IsPermitted, IsReading, Obeys}
 use Rattle.repo_session.specs.Talks.{Talk, trace_of}
 use Rattle.repo_session.specs.Told.{AskedToDelete}
@@ -26,7 +26,7 @@ use Rattle.repo_session.proofs.Growing.{Led, led, step_moves, leaves, comes, ans
 use Rattle.repo_session.proofs.PageLemmas.{page_or, GivenOrLater, given_without}
 use Rattle.repo_session.proofs.Telling.{seen_run}
 use Rattle.repo_prune.specs.declared.choices.Choice.{Choice}
-use Rattle.repo_prune.specs.Forgetting.{forget_task, ForgetAllows, ForgetGives, IsKnown, IsChosen, MayForget, IsForgotten}
+use Rattle.repo_prune.specs.Forgetting.{forget_task, ForgetAllows, ForgetGives, IsDecided, IsChosen, MayForget, IsForgotten}
 use Rattle.repo_prune.specs.Keeping.{Row}
 use Rattle.repo_prune.specs.Laws.{AreChosenFrom, ForgetLeavesTheOthers}
 use Rattle.repo_prune.proofs.ForgetRuns.{read_first, undeleted}
@@ -155,7 +155,7 @@ module _ (who : Asker) (choice : Choice) (from : Store) where
 
   -- ---- the listing, and what stays
 
-  stored : (talk : Talk) (to : Store) (rows : List Row) (es : Trace) → ((ask : Ask) (say : Say) → Exchanged es ask say → Exchanged (trace_of talk) ask say) → Keeps (trace_of talk) → Led from talk to → Each (IsRow es) rows → Each (IsStored from) rows
+  stored : (talk : Talk) (to : Store) (rows : List Row) (es : Trace) → ((ask : Ask) (say : Say) → Exchanged es ask say → Exchanged (trace_of talk) ask say) → Keeps (trace_of talk) → Led from talk to → Each (IsReadRow es) rows → Each (IsStored from) rows
   stored talk to [] es among o h each = tt
   stored talk to (r ∷ rows) es among o h each = (
     (each.0.0, got talk to Kind.Snapshot r.0 each.0.0 o h (among (Ask.Get Kind.Snapshot r.0) (Say.Bytes each.0.0) each.0.1.0), each.0.2),
@@ -165,12 +165,12 @@ module _ (who : Asker) (choice : Choice) (from : Store) where
   listed : (talk : Talk) (to : Store) (n : Name) (x : List ℕ) → Keeps (trace_of talk) → Led from talk to → is_complete Kind.Snapshot (trace_of talk) ≡ true → from.objects Kind.Snapshot n ≡ Some x → Lists (trace_of talk) Kind.Snapshot n
   listed talk to n x o h complete there = ⊎_elim (λ g. g) (λ later. (let w : true ≡ false = sym complete ∙ later.0 in absurd (cc))) (given talk to Kind.Snapshot n x o h there)
 
-known_listed : (choice : Choice) (es : Trace) (rows : List Row) → IsKnown choice es rows → is_complete Kind.Snapshot es ≡ true
+known_listed : (choice : Choice) (es : Trace) (rows : List Row) → IsDecided choice es rows → is_complete Kind.Snapshot es ≡ true
 known_listed (Choice.Names names) es rows h = h.complete
 known_listed (Choice.Keep policy) es rows h = h.listed.complete
 
 chosen_from : (who : Asker) (choice : Choice) (from : Store) (talk : Talk) (to : Store) (rows : List Row) (es : Trace) → ((ask : Ask) (say : Say) → Exchanged es ask say → Exchanged (trace_of talk) ask say) → names_in Kind.Snapshot es ≡ names_in Kind.Snapshot (trace_of talk)
-    → Obeys (forget_task who) (ForgetAllows choice) (ForgetGives choice) (trace_of talk) → Led from talk to → is_complete Kind.Snapshot (trace_of talk) ≡ true → IsKnown choice es rows → AreChosenFrom choice from rows
+    → Obeys (forget_task who) (ForgetAllows choice) (ForgetGives choice) (trace_of talk) → Led from talk to → is_complete Kind.Snapshot (trace_of talk) ≡ true → IsDecided choice es rows → AreChosenFrom choice from rows
 chosen_from who (Choice.Names names) from talk to rows es among same o h complete known = tt
 chosen_from who (Choice.Keep policy) from talk to rows es among same o h complete known = record {
   each = stored who (Choice.Keep policy) from talk to rows es among o h known.each;
@@ -180,7 +180,7 @@ chosen_from who (Choice.Keep policy) from talk to rows es among same o h complet
 -- what is chosen by one reading is chosen by the other
 chosen_again : (who : Asker) (choice : Choice) (from : Store) (talk : Talk) (to : Store) (rows others : List Row) (es then : Trace) (n : Name) → ((ask : Ask) (say : Say) → Exchanged es ask say → Exchanged (trace_of talk) ask say)
     → ((ask : Ask) (say : Say) → Exchanged then ask say → Exchanged (trace_of talk) ask say) → names_in Kind.Snapshot es ≡ names_in Kind.Snapshot then → Obeys (forget_task who) (ForgetAllows choice) (ForgetGives choice) (trace_of talk) → Led from talk to
-    → IsKnown choice es rows → IsKnown choice then others → IsChosen choice others n → IsChosen choice rows n
+    → IsDecided choice es rows → IsDecided choice then others → IsChosen choice others n → IsChosen choice rows n
 chosen_again who (Choice.Names names) from talk to rows others es then n among before same o h known other chosen = chosen
 chosen_again who (Choice.Keep policy) from talk to rows others es then n among before same o h known other chosen =
     let one : others ≡ rows = rows_one from others rows (other.names ∙ (sym same ∙ sym known.names)) (stored who (Choice.Keep policy) from talk to others then before o h other.each) (stored who (Choice.Keep policy) from talk to rows es among o h known.each) in

@@ -1,5 +1,5 @@
 -- What is picked from a list.
-use Rattle.std.proofs.Common.{arith, ◌≡◌, ◌<◌, ◌+◌, ◌++◌, ◌∷◌, ◌↔◌, [], ℕ, Bool, IsTrue, true, false, List, Vec, Global, BTreeSet, length, take, get_or, suc, cond, refl, sym, ap, subst, ◌∙◌, inl, inr, Contains}
+use Rattle.std.proofs.Common.{arith, ◌≡◌, ◌<◌, ◌+◌, ◌++◌, ◌∷◌, ◌↔◌, [], ℕ, Bool, IsTrue, true, false, List, BTreeSet, length, take, get_or, suc, cond, refl, sym, ap, subst, ◌∙◌, inl, inr, Contains}
 use Rattle.std.specs.List.{filter}
 use Rattle.std.proofs.Math.Bool.{beq}
 use Rattle.std.proofs.Math.Seq.{take-suc}
@@ -76,7 +76,7 @@ picked_by_set held listed names among holds = record {
 -- ---- by a choice
 
 -- those of the names that were given
-pub chosen_by_names : (names : Vec Name Global) (rows : List Row) (listed picked : List Name) → ArePicked listed names.items true picked → AreChosenOf (Choice.Names names) rows listed picked
+pub chosen_by_names : (names : List Name) (rows : List Row) (listed picked : List Name) → ArePicked listed names true picked → AreChosenOf (Choice.Names names) rows listed picked
 chosen_by_names names rows listed picked h = record {
   each = λ n. (λ has. let r = (h.each n).0 has in (r.0, r.1.0 refl), λ both. (h.each n).1 (both.0, (λ _. both.1, λ _. refl)));
   ascend = h.ascend;

@@ -23,7 +23,7 @@ use Rattle.repo_reach.proofs.Using.{one_more}
 use Rattle.repo_reach.specs.declared.used.Used.{Used}
 use Rattle.repo_name.proofs.Containing.{none_contained, first_contained, later_contained, contained_or, map_contains}
 use Rattle.repo_prune.proofs.Ascending.{sorted_none, sorted_one, sorted_append, sorted_left, less_across}
-use Rattle.repo_prune.specs.Plans.{IsUsedCopy, Stays, IsPlanOf, AreCopiesOf, IsPlanFor, PlansStay, PlansMoves, Plans}
+use Rattle.repo_prune.specs.Plans.{IsUsedCopy, MayStay, IsPlanOf, AreCopiesOf, IsPlanFor, PlansStay, PlansMoves, Plans}
 use Rattle.repo_prune.specs.declared.plans.Plan.{Plan}
 
 -- ---- the least place
@@ -128,15 +128,15 @@ module _ (used : Used) (facts : List Fact) where
   facts_one pack other own theirs e h g = sorted_same place_first place_first_total own theirs h.ascend g.ascend
       (λ f is. let o = (h.each f).0 is in (g.each f).1 (o.0, o.1 ∙ e)) (λ f is. let o = (g.each f).0 is in (h.each f).1 (o.0, o.1 ∙ sym e))
 
-  stays_one : (one other : PackFacts) → one.pack ≡ other.pack → Stays used facts one → Stays used facts other → one ≡ other
+  stays_one : (one other : PackFacts) → one.pack ≡ other.pack → MayStay used facts one → MayStay used facts other → one ≡ other
   stays_one one other e h g = let f = facts_one one.pack other.pack one.facts other.facts e h.all g.all in λ i. record { pack = e i; facts = f i }
 
   stays_whole : (pack : Name) (own copies : List Fact) → AreFactsOf facts pack own → AreCopiesOf used facts own copies → (1 ≤ length own) × (length own ≤ 4_096) × (length copies ≡ length own)
-      → Stays used facts (record { pack = pack; facts = own })
+      → MayStay used facts (record { pack = pack; facts = own })
   stays_whole pack own copies all are is = record { all = all; some = is.0; few = is.1; copies = are.whole.0 is.2 }
 
   leaves_else : (pack : Name) (own copies : List Fact) → AreFactsOf facts pack own → AreCopiesOf used facts own copies → ¬ ((1 ≤ length own) × (length own ≤ 4_096) × (length copies ≡ length own))
-      → (listed : PackFacts) → Stays used facts listed → listed.pack ≢ pack
+      → (listed : PackFacts) → MayStay used facts listed → listed.pack ≢ pack
   leaves_else pack own copies all are not listed stays same =
       let facts_are : listed.facts ≡ own = facts_one listed.pack pack listed.facts own same stays.all all in
       let some = stays.some in
@@ -182,7 +182,7 @@ module _ (used : Used) (facts : List Fact) where
       kept = λ l. (
         λ h. elim (in_or old.kept.items s.listed l (subst (λ (ls : List PackFacts). Contains ls l) s.kept h)) [
           | inl was ↦ let e = (before.kept l).0 was in (was_in done pack l.pack e.0, e.1)
-          | inr same ↦ (subst (λ (z : PackFacts). Contains (done ++ pack ∷ []) z.pack) same (subst (Contains (done ++ pack ∷ [])) (sym s.named) (last_in done pack)), subst (Stays used facts) same s.stays)
+          | inr same ↦ (subst (λ (z : PackFacts). Contains (done ++ pack ∷ []) z.pack) same (subst (Contains (done ++ pack ∷ [])) (sym s.named) (last_in done pack)), subst (MayStay used facts) same s.stays)
         ],
         λ h. subst (λ (ls : List PackFacts). Contains ls l) (sym s.kept) (elim (in_or done pack l.pack h.0) [
           | inl was ↦ was_in old.kept.items s.listed l ((before.kept l).1 (was, h.1))
@@ -269,5 +269,5 @@ module _ (used : Used) (facts : List Fact) where
       one_of [] h = absurd (omega (arith, h))
       one_of (x ∷ xs) h = (x, first_contained x xs)
 
-      first_of : (l : PackFacts) → Stays used facts l → (fact : Fact) × Contains facts fact × (fact.place.pack ≡ l.pack)
+      first_of : (l : PackFacts) → MayStay used facts l → (fact : Fact) × Contains facts fact × (fact.place.pack ≡ l.pack)
       first_of l s = let f = one_of l.facts s.some in let e = (s.all.each f.0).0 f.1 in (f.0, e.0, e.1)

@@ -29,7 +29,7 @@ use Rattle.repo_session.specs.Alone.{IsSent, IsSpoken, NoClash}
 use Rattle.repo_session.specs.Askers.{Asker}
 use Rattle.repo_session.specs.Deletions.{DeleteDone}
 use Rattle.repo_session.specs.Ends.{before_unlock}
-use Rattle.repo_session.specs.Listings.{IsRow}
+use Rattle.repo_session.specs.Listings.{IsReadRow}
 use Rattle.repo_session.specs.Order.{Obeys}
 use Rattle.repo_session.specs.Soundness.{IsHeld, IsSound, IsExactPack}
 use Rattle.repo_session.specs.Talks.{Talk, trace_of}
@@ -94,7 +94,7 @@ module _ (who : Asker) (from : Store) (start : IsSound from.objects) (Sent : Ask
 
   row_there : (row : Row) → Contains s.rows row → (x : List ℕ) × (to.objects Kind.Snapshot row.0 ≡ Some x) × IsSnapshotText x row.1
   row_there row among =
-      let is : IsRow (trace_of talk) row = each_contained (IsRow (trace_of talk)) s.rows row s.snapshots.each among in
+      let is : IsReadRow (trace_of talk) row = each_contained (IsReadRow (trace_of talk)) s.rows row s.snapshots.each among in
       (is.0, ⊎_elim (λ there. there) (λ d. absurd (no_delete who from start Sent clash talk to o sent h sound row.0 d)) (told.got Kind.Snapshot row.0 is.0 is.1.0), is.2)
 
   is_needed : (fact : Fact) → IsListedIn to.objects fact → IsReachedIn to.objects fact.kind fact.name

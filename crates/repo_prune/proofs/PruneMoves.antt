@@ -24,7 +24,7 @@ use Rattle.repo_writing.proofs.PutLemmas.{objects_put_other}
 use Rattle.repo_writing.proofs.Writings.{none_put, packs_stay, pack_sent, pack_done, items_push, put_of, is_put}
 use Rattle.repo_writing.specs.Writing.{Put, IsPut, items_of, ArePut, AreCounts}
 use Rattle.repo_writing.specs.declared.counts.Counts.{Counts}
-use Rattle.repo_prune.specs.Moving.{IsMoving, AwaitsBlob, MovesOn, Sends}
+use Rattle.repo_prune.specs.Moving.{IsMoving, AwaitsBlob, MovesOn, SendsPack}
 use Rattle.repo_prune.specs.PruneStates.{Known, ArePlanned, HasPlanned, IsRepacking, KnowsMove, HasMoved, KnowsStage, IsNextStep, MovesTo}
 use Rattle.repo_prune.specs.Pruning.{prune_rule, prune_task}
 use Rattle.repo_prune.specs.declared.moving.Moved.{Moved}
@@ -93,7 +93,7 @@ module _ (k : Known) (m n : Moving) (puts : List Put) (es : Trace) (r : IsRepack
       }
 
   -- a pack may be put
-  pub pack_asked : (sealed : Sealed) → Sends (items_of puts) m.listed.items sealed n → MayAsk prune_rule who (KnowsStage k (Stage.Moving n)) es (Ask.Put token Kind.Pack sealed.name sealed.bytes)
+  pub pack_asked : (sealed : Sealed) → SendsPack (items_of puts) m.listed.items sealed n → MayAsk prune_rule who (KnowsStage k (Stage.Moving n)) es (Ask.Put token Kind.Pack sealed.name sealed.bytes)
   pack_asked sealed s =
       let p : Put = put_of sealed s.items s.listed in
       let is : IsPut p = is_put (Some sealed) s.items sealed s.listed s.lists in

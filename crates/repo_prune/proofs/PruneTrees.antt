@@ -26,7 +26,7 @@ use Rattle.repo_session.specs.Blobs.{range_of}
 use Rattle.repo_session.specs.Catalogs.{IsNowhere}
 use Rattle.repo_session.specs.Ends.{blob_thing, Concludes, IsBad}
 use Rattle.repo_session.specs.Jobs.{MayAsk}
-use Rattle.repo_session.specs.Listings.{IsListing, IsRow}
+use Rattle.repo_session.specs.Listings.{IsListing, IsReadRow}
 use Rattle.repo_session.specs.Order.{IsWorking}
 use Rattle.repo_session.specs.Received.{Received}
 use Rattle.repo_session.specs.Traces.{Exchange, Trace, Lists, ReadFact}
@@ -74,8 +74,8 @@ tree_asked k who token es texts trees fact w over a = record {
 
 -- a row's snapshot is of version 1, was read, and is listed
 module _ (es : Trace) (rows : List Row) (l : IsListing es rows) (row : Row) (among : Contains rows row) where
-  row_is : IsRow es row
-  row_is = each_contained (IsRow es) rows row l.each among
+  row_is : IsReadRow es row
+  row_is = each_contained (IsReadRow es) rows row l.each among
 
   pub row_version : row.1.version ≡ 1
   row_version = row_is.2.known

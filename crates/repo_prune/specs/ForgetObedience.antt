@@ -5,8 +5,8 @@ use Rattle.repo_session.specs.Sessions.{next_in, ended_in}
 use Rattle.repo_session.specs.Traces.{Trace}
 use Rattle.repo_prune.specs.declared.forgets.Forget.{Forget}
 use Rattle.repo_prune.specs.Forgetting.{forget_task, forget_rule, ForgetAllows, ForgetGives, ForgetConcludes}
-use Rattle.repo_prune.specs.ForgetStates.{FitsForget, IsFresh, KnowsForget, choice_in, choice_of, who_of}
+use Rattle.repo_prune.specs.ForgetStates.{FitsForget, IsFreshForget, KnowsForget, choice_in, choice_of, who_of}
 
 pub forget_obeys : (f : Forget) (es : Trace) → FitsForget f es
     → IsObedient (forget_task (who_of f)) (ForgetAllows (choice_of f)) (ForgetGives (choice_of f)) (ForgetConcludes (choice_of f)) (next_in f.session) (ended_in f.session) es
-forget_obeys f es fits = session_obeys choice_in forget_rule IsFresh KnowsForget f.session es fits
+forget_obeys f es fits = session_obeys choice_in forget_rule IsFreshForget KnowsForget f.session es fits

@@ -19,8 +19,8 @@ use Rattle.repo_prune.specs.declared.forgets.Forget.{Forget}
 use Rattle.repo_prune.specs.Forgetting.{forget_rule, forget_task, AreChosen}
 
 -- nothing was listed yet
-abbrev pub IsFresh : ForgetJob → Type 0
-IsFresh f = IsFreshRoll f.snapshots
+abbrev pub IsFreshForget : ForgetJob → Type 0
+IsFreshForget f = IsFreshRoll f.snapshots
 
 -- the chosen snapshots are known, and of the first of them the deletes are done
 pub record Deletes (choice : Choice) (names : List Name) (done : ℕ) (es : Trace) : Type 0 where
@@ -44,13 +44,13 @@ abbrev pub ReadsOn : ForgetJob → Holding → Ask → Say → Step → ForgetJo
 ReadsOn old holding ask say step new = StepsOn (forget_rule old.choice) holding (KnowsReading old) (KnowsForget new) (silent ask say) step
 
 -- the step where these were chosen on an exchange
-abbrev pub BeginsWith : ForgetJob → Holding → List Name → Step → ForgetJob → Type 0
-BeginsWith old holding names step new = (ask : Ask) (say : Say) (es : Trace) → IsWorking (forget_task holding.who) holding.token (silent ask say ∷ es) → AreChosen old.choice (silent ask say ∷ es) names
+abbrev pub ForgetBegins : ForgetJob → Holding → List Name → Step → ForgetJob → Type 0
+ForgetBegins old holding names step new = (ask : Ask) (say : Say) (es : Trace) → IsWorking (forget_task holding.who) holding.token (silent ask say ∷ es) → AreChosen old.choice (silent ask say ∷ es) names
     → MayStep (forget_rule old.choice) holding.who (KnowsForget new) es (silent ask say) step
 
 -- the step where the next one is to be deleted after an exchange
-abbrev pub GoesOn : ForgetJob → Holding → Step → ForgetJob → Type 0
-GoesOn old holding step new = (ask : Ask) (say : Say) (es : Trace) → IsWorking (forget_task holding.who) holding.token (silent ask say ∷ es) → Deletes old.choice old.chosen.items old.deleted (silent ask say ∷ es)
+abbrev pub ForgetGoesOn : ForgetJob → Holding → Step → ForgetJob → Type 0
+ForgetGoesOn old holding step new = (ask : Ask) (say : Say) (es : Trace) → IsWorking (forget_task holding.who) holding.token (silent ask say ∷ es) → Deletes old.choice old.chosen.items old.deleted (silent ask say ∷ es)
     → MayStep (forget_rule old.choice) holding.who (KnowsForget new) es (silent ask say) step
 
 -- what it was handed
@@ -67,4 +67,4 @@ choice_of f = f.session.job.choice
 
 -- the forget stands where the trace leaves it
 abbrev pub FitsForget : Forget → Trace → Type 0
-FitsForget f es = FitsSession choice_in forget_rule IsFresh KnowsForget f.session es
+FitsForget f es = FitsSession choice_in forget_rule IsFreshForget KnowsForget f.session es

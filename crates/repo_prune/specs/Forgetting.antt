@@ -21,26 +21,26 @@ IsNoPolicy (Choice.Names names) = ⊥
 IsNoPolicy (Choice.Keep policy) = (policy.last ≡ 0) × (policy.daily ≡ 0)
 
 -- what is to be known before anything is chosen: by names, the snapshots are listed to their end; by a policy, these rows are the listing, each as it was read
-abbrev pub IsKnown : Choice → Trace → List Row → Type 0
-IsKnown (Choice.Names names) es rows = IsListed Kind.Snapshot es
-IsKnown (Choice.Keep policy) es rows = IsListing es rows
+abbrev pub IsDecided : Choice → Trace → List Row → Type 0
+IsDecided (Choice.Names names) es rows = IsListed Kind.Snapshot es
+IsDecided (Choice.Keep policy) es rows = IsListing es rows
 
 -- a snapshot that is chosen: its name is given; or the policy keeps no row of its name
 abbrev pub IsChosen : Choice → List Row → Name → Type 0
-IsChosen (Choice.Names names) rows n = Contains names.items n
+IsChosen (Choice.Names names) rows n = Contains names n
 IsChosen (Choice.Keep policy) rows n = (row : Row) → Contains rows row → row.0 ≡ n → ¬ IsKept policy rows row
 
 -- a snapshot may be deleted: all are listed, and by a policy read; it is listed, and chosen
 pub record MayForget (choice : Choice) (es : Trace) (n : Name) : Type 0 where
   pub rows : List Row
-  pub decided : IsKnown choice es rows
+  pub decided : IsDecided choice es rows
   pub among : Lists es Kind.Snapshot n
   pub chosen : IsChosen choice rows n
 
 -- these are the listed snapshots that are chosen, each once and ascending
 pub record AreChosen (choice : Choice) (es : Trace) (names : List Name) : Type 0 where
   pub rows : List Row
-  pub decided : IsKnown choice es rows
+  pub decided : IsDecided choice es rows
   pub each : (n : Name) → Contains names n ↔ (Lists es Kind.Snapshot n × IsChosen choice rows n)
   pub ascend : IsStrictlySortedBy name_cmp names
 

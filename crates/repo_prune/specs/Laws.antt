@@ -12,7 +12,7 @@ use Rattle.repo_session.specs.Alone.{IsFit, IsSent, IsSpoken, NoClash}
 use Rattle.repo_session.specs.Askers.{Asker}
 use Rattle.repo_session.specs.Clients.{IsObedient}
 use Rattle.repo_session.specs.Soundness.{IsSound}
-use Rattle.repo_session.specs.Talks.{Talk, trace_of, TalkRan, MayStep}
+use Rattle.repo_session.specs.Talks.{Talk, trace_of, TalkRan, MayBeAhead}
 use Rattle.repo_session.specs.Traces.{Each, Trace}
 use Rattle.repo_session.specs.declared.outcomes.End.{End}
 use Rattle.repo_session.specs.declared.outcomes.Outcome.{Outcome}
@@ -37,7 +37,7 @@ pub record HasFewerSnapshots (from to : Store) : Type 0 where
 -- step ahead
 abbrev pub ForgetKeepsSound : Type 0
 ForgetKeepsSound = (who : Asker) (choice : Choice) (from mid to : Store) (failed failing : ℕ) (talk : Talk) (next : Option Request) (outcome : Option Outcome)
-    → IsSound from.objects → AreStoredApart from → TalkRan from failed talk mid failing → MayStep mid next to → IsForget who choice next outcome (trace_of talk) → HasFewerSnapshots from to × IsSound to.objects
+    → IsSound from.objects → AreStoredApart from → TalkRan from failed talk mid failing → MayBeAhead mid next to → IsForget who choice next outcome (trace_of talk) → HasFewerSnapshots from to × IsSound to.objects
 
 -- a forget alone with a store in which it finds all that it wants, which isn't one that only appends, and whose device doesn't fail, tells at its end what
 -- it forgot, or the store had no memory

@@ -7,7 +7,7 @@ use Rattle.repo_pack.specs.PackWriting.{IsOpen}
 use Rattle.repo_pack.specs.declared.writers.Sealed.{Sealed}
 use Rattle.repo_index.specs.declared.facts.Fact.{Fact}
 use Rattle.repo_index.specs.declared.facts.PackFacts.{PackFacts}
-use Rattle.repo_writing.specs.Sealing.{IsSealed, IsListed}
+use Rattle.repo_writing.specs.Sealing.{IsSealed, IsListedAs}
 use Rattle.repo_writing.specs.Writing.{AreCounts}
 use Rattle.repo_prune.specs.declared.moving.Moved.{Moved}
 use Rattle.repo_prune.specs.declared.moving.Moving.{Moving}
@@ -43,10 +43,10 @@ pub record AwaitsBlob (m : Moving) (fact : Fact) (sent sealed : List Item) : Typ
   pub next : ((m.added ≡ m.asked) × IsOpen m.packer.writer × (m.packer.sealed ≡ None)) ⊎ (m.added ≡ m.asked + 1)
 
 -- a pack is sent: it has these blobs, and is listed with exactly them behind those listed before
-pub record Sends (sent : List Item) (old : List PackFacts) (sealed : Sealed) (new : Moving) : Type 0 where
+pub record SendsPack (sent : List Item) (old : List PackFacts) (sealed : Sealed) (new : Moving) : Type 0 where
   pub items : List Item
   pub listed : PackFacts
-  pub lists : IsListed (Some sealed) items sealed listed
+  pub lists : IsListedAs (Some sealed) items sealed listed
   pub behind : new.listed.items ≡ old ++ listed ∷ []
   pub moving : IsMoving new (sent ++ items) []
   pub none : new.packer.sealed ≡ None
@@ -54,7 +54,7 @@ pub record Sends (sent : List Item) (old : List PackFacts) (sealed : Sealed) (ne
 -- what comes next: a pack; a blob; or nothing, once all were sent
 abbrev pub MovesOn : List Item → List PackFacts → Moved → Moving → Type 0
 MovesOn sent old (Moved.Ask fact) new = AwaitsBlob new fact sent [] × (new.listed.items ≡ old)
-MovesOn sent old (Moved.Put sealed) new = Sends sent old sealed new
+MovesOn sent old (Moved.Put sealed) new = SendsPack sent old sealed new
 MovesOn sent old Moved.Done new = IsMoving new sent [] × (new.packer.writer.items ≡ []) × (length new.moves.items ≤ new.added) × (new.listed.items ≡ old)
 MovesOn sent old Moved.Nothing new = ⊥
 

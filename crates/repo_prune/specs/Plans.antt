@@ -22,21 +22,21 @@ pub record IsUsedCopy (used : Used) (facts : List Fact) (fact : Fact) : Type 0 w
   pub least : IsLeast facts fact.kind fact.name fact.place
 
 -- a pack stays: these are its facts, 1 to 4,096, and all are used copies
-pub record Stays (used : Used) (facts : List Fact) (listed : PackFacts) : Type 0 where
+pub record MayStay (used : Used) (facts : List Fact) (listed : PackFacts) : Type 0 where
   pub all : AreFactsOf facts listed.pack listed.facts
   pub some : 1 ≤ length listed.facts
   pub few : length listed.facts ≤ blobs_limit
   pub copies : (fact : Fact) → Contains listed.facts fact → IsUsedCopy used facts fact
 
 -- a blob moves: it is a used copy, and its pack doesn't stay
-pub record Moves (used : Used) (facts : List Fact) (fact : Fact) : Type 0 where
+pub record MustMove (used : Used) (facts : List Fact) (fact : Fact) : Type 0 where
   pub copy : IsUsedCopy used facts fact
-  pub leaves : (listed : PackFacts) → Stays used facts listed → listed.pack ≢ fact.place.pack
+  pub leaves : (listed : PackFacts) → MayStay used facts listed → listed.pack ≢ fact.place.pack
 
 -- the packs that stay, and the blobs that move, ascending
 pub record IsPlanOf (used : Used) (facts : List Fact) (plan : Plan) : Type 0 where
-  pub kept : (listed : PackFacts) → Contains plan.kept.items listed ↔ Stays used facts listed
-  pub moves : (fact : Fact) → Contains plan.moves.items fact ↔ Moves used facts fact
+  pub kept : (listed : PackFacts) → Contains plan.kept.items listed ↔ MayStay used facts listed
+  pub moves : (fact : Fact) → Contains plan.moves.items fact ↔ MustMove used facts fact
   pub kept_ascend : IsStrictlySortedBy name_cmp (map (λ (listed : PackFacts). listed.pack) plan.kept.items)
   pub moves_ascend : IsStrictlySortedBy place_first plan.moves.items
 
@@ -61,8 +61,8 @@ pub record AreCopiesOf (used : Used) (facts own copies : List Fact) : Type 0 whe
 
 -- a plan for the packs of these names alone
 pub record IsPlanFor (used : Used) (facts : List Fact) (packs : List Name) (plan : Plan) : Type 0 where
-  pub kept : (listed : PackFacts) → Contains plan.kept.items listed ↔ (Contains packs listed.pack × Stays used facts listed)
-  pub moves : (fact : Fact) → Contains plan.moves.items fact ↔ (Contains packs fact.place.pack × Moves used facts fact)
+  pub kept : (listed : PackFacts) → Contains plan.kept.items listed ↔ (Contains packs listed.pack × MayStay used facts listed)
+  pub moves : (fact : Fact) → Contains plan.moves.items fact ↔ (Contains packs fact.place.pack × MustMove used facts fact)
   pub kept_ascend : IsStrictlySortedBy name_cmp (map (λ (listed : PackFacts). listed.pack) plan.kept.items)
   pub moves_ascend : IsStrictlySortedBy place_first plan.moves.items
 
@@ -70,7 +70,7 @@ pub record IsPlanFor (used : Used) (facts : List Fact) (packs : List Name) (plan
 pub record PlansStay (used : Used) (facts : List Fact) (pack : Name) (old new : Plan) : Type 0 where
   pub listed : PackFacts
   pub named : listed.pack ≡ pack
-  pub stays : Stays used facts listed
+  pub stays : MayStay used facts listed
   pub kept : new.kept.items ≡ old.kept.items ++ listed ∷ []
   pub moves : new.moves.items ≡ old.moves.items
 
@@ -79,7 +79,7 @@ pub record PlansMoves (used : Used) (facts : List Fact) (pack : Name) (old new :
   pub copies : List Fact
   pub each : (fact : Fact) → Contains copies fact ↔ ((fact.place.pack ≡ pack) × IsUsedCopy used facts fact)
   pub ascend : IsStrictlySortedBy place_first copies
-  pub leaves : (listed : PackFacts) → Stays used facts listed → listed.pack ≢ pack
+  pub leaves : (listed : PackFacts) → MayStay used facts listed → listed.pack ≢ pack
   pub moves : new.moves.items ≡ old.moves.items ++ copies
   pub kept : new.kept.items ≡ old.kept.items
 

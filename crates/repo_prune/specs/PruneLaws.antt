@@ -18,7 +18,7 @@ use Rattle.repo_session.specs.Alone.{IsFit, IsSent, IsSpoken, NoClash}
 use Rattle.repo_session.specs.Askers.{Asker}
 use Rattle.repo_session.specs.Clients.{IsObedient}
 use Rattle.repo_session.specs.Soundness.{IsHeld, IsSound}
-use Rattle.repo_session.specs.Talks.{Talk, trace_of, TalkRan, MayStep}
+use Rattle.repo_session.specs.Talks.{Talk, trace_of, TalkRan, MayBeAhead}
 use Rattle.repo_session.specs.Traces.{Trace}
 use Rattle.repo_session.specs.declared.outcomes.End.{End}
 use Rattle.repo_session.specs.declared.outcomes.Outcome.{Outcome}
@@ -39,7 +39,7 @@ HaveSameSnapshots from to = (n : Name) (x : List ℕ) → (to.objects Kind.Snaps
 -- a prune leaves the snapshots as they are, and a sound store sound: after every exchange, whatever the store says, and also where it is one step ahead
 abbrev pub PruneKeepsSound : Type 0
 PruneKeepsSound = (who : Asker) (from mid to : Store) (failed failing : ℕ) (talk : Talk) (next : Option Request) (outcome : Option Outcome)
-    → IsSound from.objects → AreApart from (trace_of talk) next → TalkRan from failed talk mid failing → MayStep mid next to → IsPrune who next outcome (trace_of talk) → HaveSameSnapshots from to × IsSound to.objects
+    → IsSound from.objects → AreApart from (trace_of talk) next → TalkRan from failed talk mid failing → MayBeAhead mid next to → IsPrune who next outcome (trace_of talk) → HaveSameSnapshots from to × IsSound to.objects
 
 -- a prune alone with a store in which it finds all that it wants, which isn't one that only appends, and whose device doesn't fail, is done at its end, or
 -- the store had no memory

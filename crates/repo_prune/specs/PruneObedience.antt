@@ -6,7 +6,7 @@ use Rattle.repo_session.specs.Traces.{Trace}
 use Rattle.repo_prune.specs.declared.prunes.Prune.{Prune}
 use Rattle.repo_prune.specs.declared.prunes.PruneJob.{PruneJob}
 use Rattle.repo_prune.specs.Pruning.{prune_task, prune_rule, PruneAllows, PruneGives, PruneConcludes}
-use Rattle.repo_prune.specs.PruneStates.{FitsPrune, IsFresh, KnowsPrune, pruner_of}
+use Rattle.repo_prune.specs.PruneStates.{FitsPrune, IsFreshPrune, KnowsPrune, pruner_of}
 
 pub prune_obeys : (p : Prune) (es : Trace) → FitsPrune p es → IsObedient (prune_task (pruner_of p)) PruneAllows PruneGives PruneConcludes (next_in p.session) (ended_in p.session) es
-prune_obeys p es fits = session_obeys (λ (j : PruneJob). tt {0}) (λ h. prune_rule) IsFresh KnowsPrune p.session es fits
+prune_obeys p es fits = session_obeys (λ (j : PruneJob). tt {0}) (λ h. prune_rule) IsFreshPrune KnowsPrune p.session es fits

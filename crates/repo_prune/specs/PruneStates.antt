@@ -27,7 +27,7 @@ use Rattle.repo_session.specs.Rolls.{IsPaged, Rolls}
 use Rattle.repo_session.specs.Sessions.{FitsSession, who_in}
 use Rattle.repo_session.specs.Told.{AskedToPut}
 use Rattle.repo_session.specs.Traces.{Each, Object, Trace, silent, names_in, objects_put, IsListed, Lists, ReadFact}
-use Rattle.repo_reach.specs.Laws.{IsWhole}
+use Rattle.repo_reach.specs.Laws.{IsWholeWalk}
 use Rattle.repo_reach.specs.declared.trees.Trees.{Trees}
 use Rattle.repo_writing.specs.Blobs.{HasFact}
 use Rattle.repo_writing.specs.Laws.{IsPutOrKept}
@@ -87,7 +87,7 @@ pub record HasWalked (k : Known) (trees : Trees) (es : Trace) : Type 0 where
   pub texts : List (List ℕ)
   pub over : IsWalkOver k texts trees es
   pub walks : Walks k.facts texts trees
-  pub whole : IsWhole trees
+  pub whole : IsWholeWalk trees
 
 -- ---- the plan
 
@@ -252,7 +252,7 @@ pub record ListsPacks (j : PruneJob) (ask : Ask) (es : Trace) : Type 0 where
 -- ---- in each stage
 
 -- nothing was listed yet
-pub record IsFresh (j : PruneJob) : Type 0 where
+pub record IsFreshPrune (j : PruneJob) : Type 0 where
   pub snapshots : IsFreshRoll j.snapshots
   pub of_indexes : j.catalog.roll.kind ≡ Kind.Index
   pub no_indexes : j.catalog.roll.names.items ≡ []
@@ -349,4 +349,4 @@ pruner_of p = who_in p.session
 
 -- the prune stands where the trace leaves it
 abbrev pub FitsPrune : Prune → Trace → Type 0
-FitsPrune p es = FitsSession (λ (j : PruneJob). tt {0}) (λ h. prune_rule) IsFresh KnowsPrune p.session es
+FitsPrune p es = FitsSession (λ (j : PruneJob). tt {0}) (λ h. prune_rule) IsFreshPrune KnowsPrune p.session es

@@ -14,7 +14,7 @@ use Rattle.repo_session.specs.Ends.{blob_thing, IsBadBlob, IsUnwelcome}
 use Rattle.repo_session.specs.Trees.{Under, IsNeeded, IsBroken}
 use Rattle.repo_session.specs.declared.outcomes.End.{End}
 use Rattle.repo_reach.specs.Collected.{tree_blobs}
-use Rattle.repo_reach.specs.Laws.{IsWhole}
+use Rattle.repo_reach.specs.Laws.{IsWholeWalk}
 use Rattle.repo_reach.specs.Walks.{IsWalk, TurnIs, Adds, IsSameWalk}
 use Rattle.repo_reach.specs.declared.links.Links.{Links}
 use Rattle.repo_reach.specs.declared.trees.Seen.{Seen}
@@ -46,7 +46,7 @@ CannotGoOn facts B roots _ = ⊥
 -- what comes next of it
 abbrev pub WalksOn : List Fact → List (List ℕ) → Trees → Walked → Type 0
 WalksOn facts texts trees (Walked.Ask fact) = Awaits facts texts trees fact
-WalksOn facts texts trees Walked.Done = Walks facts texts trees × IsWhole trees
+WalksOn facts texts trees Walked.Done = Walks facts texts trees × IsWholeWalk trees
 WalksOn facts texts trees (Walked.Ended end) = CannotGoOn facts (tree_blobs texts) trees.roots.items end
 WalksOn facts texts trees Walked.Away = ⊥
 

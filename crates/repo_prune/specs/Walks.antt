@@ -50,9 +50,9 @@ pub record StandsAt (rows : List Row) (place : ℕ) (row : Row) (s : Standing) :
   pub last : IsTrue s.is_last ↔ IsLastOfDay rows row
 
 -- where the row before it stands, if there is one
-abbrev pub StandsBefore : List Row → ℕ → Option Standing → Type 0
-StandsBefore rows place None = place ≡ 0
-StandsBefore rows place (Some s) = (before : ℕ) × (place ≡ before + 1) × StandsAt rows before s.row.now s
+abbrev pub RowsBefore : List Row → ℕ → Option Standing → Type 0
+RowsBefore rows place None = place ≡ 0
+RowsBefore rows place (Some s) = (before : ℕ) × (place ≡ before + 1) × StandsAt rows before s.row.now s
 
 -- so a row is kept
 abbrev pub IsKeptAt : Policy → List Row → Row → Type 0

@@ -1,7 +1,6 @@
 //! The forgetting of a store's snapshots.
 
-ghost use Rattle.std.specs.Prelude.{◌≡◌, ◌↔◌, [], map, Vec, Option, IfOk, OnErr, IsErr};
-ghost use Rattle.std.specs.Global.{Global};
+ghost use Rattle.std.specs.Prelude.{◌≡◌, ◌↔◌, [], map, List, Option, IfOk, OnErr, IsErr};
 ghost use Rattle.repo_name.specs.declared.kinds.Kind.{Kind};
 ghost use Rattle.repo_name.specs.declared.names.Name.{Name};
 ghost use Rattle.repo_wire.specs.declared.messages.Ask.{Ask};
@@ -11,7 +10,7 @@ ghost use Rattle.repo_session.specs.Traces.{silent};
 ghost use Rattle.repo_prune.specs.declared.choices.Choice.{Choice};
 ghost use Rattle.repo_prune.specs.Forgetting.{IsNoPolicy, forget_rule};
 ghost use Rattle.repo_prune.specs.Picking.{AreChosenOf};
-ghost use Rattle.repo_prune.specs.ForgetStates.{FitsForget, IsFresh, KnowsDelete, KnowsForget, BeginsWith, GoesOn, ReadsOn, who_of, choice_of};
+ghost use Rattle.repo_prune.specs.ForgetStates.{FitsForget, IsFreshForget, KnowsDelete, KnowsForget, ForgetBegins, ForgetGoesOn, ReadsOn, who_of, choice_of};
 
 use crate::choices::{Choice, ForgetError};
 use crate::keeping::Policy;
@@ -40,7 +39,7 @@ struct ForgetJob {
 impl ForgetJob {
     /// A forget of nothing so far. It takes no memory.
     fn new(alloc: Global, choice: Choice) -> ForgetJob
-        ensures fresh { IsFresh result }
+        ensures fresh { IsFreshForget result }
         ensures choice { result.choice ≡ choice }
     {
         ForgetJob {
@@ -54,7 +53,7 @@ impl ForgetJob {
 
     /// The delete of the next one of the chosen, or the end. It takes no memory.
     fn go_on(&mut self, holder: &Holder) -> Step
-        ensures goes { GoesOn self.old holder.now result self.new }
+        ensures goes { ForgetGoesOn self.old holder.now result self.new }
         ensures short { IsShortStep result }
         ensures choice { self.new.choice ≡ self.old.choice }
     {
@@ -114,7 +113,7 @@ impl ForgetJob {
 
     /// Begins to delete the chosen ones. It takes no memory.
     fn begin(&mut self, holder: &Holder, picked: Vec<Name>) -> Step
-        ensures begins { BeginsWith self.old holder.now picked.items result self.new }
+        ensures begins { ForgetBegins self.old holder.now picked.items result self.new }
         ensures short { IsShortStep result }
         ensures choice { self.new.choice ≡ self.old.choice }
     {
@@ -126,7 +125,7 @@ impl ForgetJob {
     /// Takes the reply to the request for a page, where names were given. It fails for memory alone, and then what was
     /// known is known.
     fn take_page(&mut self, holder: &Holder, say: &Say) -> Result<Step, AllocError>
-        ensures steps { IfOk result (λ step. (kind : Kind) (after : Option Name) (names : Vec Name Global) → self.old.choice ≡ Choice.Names names → ReadsOn self.old holder.now (Ask.List kind after) say.now step self.new) }
+        ensures steps { IfOk result (λ step. (kind : Kind) (after : Option Name) (names : List Name) → self.old.choice ≡ Choice.Names names → ReadsOn self.old holder.now (Ask.List kind after) say.now step self.new) }
         ensures short { IfOk result IsShortStep }
         ensures knows { OnErr result (KnowsAsMuch self.old.snapshots self.new.snapshots) }
         ensures choice { self.new.choice ≡ self.old.choice }
@@ -179,7 +178,7 @@ impl ForgetJob {
 impl Job for ForgetJob {
     ghost use Rattle.repo_prune.specs.declared.choices.Choice.{Choice};
     ghost use Rattle.repo_prune.specs.Forgetting.{forget_rule};
-    ghost use Rattle.repo_prune.specs.ForgetStates.{IsFresh, KnowsForget, choice_in};
+    ghost use Rattle.repo_prune.specs.ForgetStates.{IsFreshForget, KnowsForget, choice_in};
 
     ghost Handed = { Choice };
 
@@ -187,7 +186,7 @@ impl Job for ForgetJob {
 
     ghost rule = { forget_rule };
 
-    ghost fresh = { IsFresh };
+    ghost fresh = { IsFreshForget };
 
     ghost knows = { KnowsForget };
 

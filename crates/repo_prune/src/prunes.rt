@@ -2,7 +2,7 @@
 
 ghost use Rattle.std.specs.Prelude.{◌≡◌, [], IfOk, OnErr};
 ghost use Rattle.repo_session.specs.Jobs.{IsShortStep};
-ghost use Rattle.repo_prune.specs.PruneStates.{IsFresh, StepsFrom, KnowsAsMuch, FitsPrune, pruner_of};
+ghost use Rattle.repo_prune.specs.PruneStates.{IsFreshPrune, StepsFrom, KnowsAsMuch, FitsPrune, pruner_of};
 
 use crate::deleting::Deleting;
 use crate::moving::Moving;
@@ -54,7 +54,7 @@ pub struct PruneJob {
 impl PruneJob {
     /// A prune that hasn't begun. It takes no memory.
     fn new(alloc: Global) -> PruneJob
-        ensures { IsFresh result }
+        ensures { IsFreshPrune result }
     {
         PruneJob {
             snapshots: SnapshotRoll::new(alloc),
@@ -86,7 +86,7 @@ impl PruneJob {
 impl Job for PruneJob {
     ghost use Rattle.std.specs.Prelude.{[]};
     ghost use Rattle.repo_prune.specs.Pruning.{prune_rule};
-    ghost use Rattle.repo_prune.specs.PruneStates.{IsFresh, KnowsPrune};
+    ghost use Rattle.repo_prune.specs.PruneStates.{IsFreshPrune, KnowsPrune};
 
     ghost Handed = { Unit {0} };
 
@@ -94,7 +94,7 @@ impl Job for PruneJob {
 
     ghost rule = { λ h. prune_rule };
 
-    ghost fresh = { IsFresh };
+    ghost fresh = { IsFreshPrune };
 
     ghost knows = { KnowsPrune };
 

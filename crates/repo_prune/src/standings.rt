@@ -2,7 +2,7 @@
 
 ghost use Rattle.std.specs.Prelude.{◌≡◌, ◌↔◌, ℕ, true, List, IsTrue, Some, slice_get};
 ghost use Rattle.repo_prune.specs.Keeping.{Row};
-ghost use Rattle.repo_prune.specs.Walks.{row_cmp, Descends, GoesDown, IsKeptAt, StandsAt, StandsBefore};
+ghost use Rattle.repo_prune.specs.Walks.{row_cmp, Descends, GoesDown, IsKeptAt, StandsAt, RowsBefore};
 
 use crate::keeping::Policy;
 use repo_name::Name;
@@ -76,7 +76,7 @@ impl<'a> Standing<'a> {
 
     /// Where a row stands, after the one before it.
     pub fn after(before: Option<Standing<'a>>, row: &'a (Name, Snapshot)) -> Standing<'a>
-        ensures { (rows : List Row) (place : ℕ) → Descends rows → slice_get rows place ≡ Some row.now → StandsBefore rows place before.entry → StandsAt rows place row.now result }
+        ensures { (rows : List Row) (place : ℕ) → Descends rows → slice_get rows place ≡ Some row.now → RowsBefore rows place before.entry → StandsAt rows place row.now result }
     {
         match before {
             Some(before) => {

@@ -12,7 +12,7 @@ use Rattle.repo_tree.specs.declared.nodes.NodeKind.{NodeKind}
 use Rattle.repo_name.proofs.Containing.{contained_or, contains_flat, first_contained, flat_contains, none_contained, stands_at}
 use Rattle.repo_tree.proofs.DirectoryLemmas.{tree_once}
 use Rattle.repo_reach.specs.Collected.{tree_blobs, LeadsTo, IsReached}
-use Rattle.repo_reach.specs.Laws.{IsUsed, IsWhole, UsedIsReached}
+use Rattle.repo_reach.specs.Laws.{IsUsed, IsWholeWalk, UsedIsReached}
 use Rattle.repo_reach.specs.Links.{trees_in, content_in, trees_of, content_of}
 use Rattle.repo_reach.specs.Walks.{WasAt, IsLooked, HasText, IsMet, IsWalk}
 use Rattle.repo_reach.specs.declared.links.Links.{Links}
@@ -79,7 +79,7 @@ module _ (texts : List (List ℕ)) (c : Trees) (w : IsWalk texts c) where
 
   -- ---- what is reached the walk came upon
 
-  module _ (done : IsWhole c) where
+  module _ (done : IsWholeWalk c) where
     agree : Agree B B
     agree k x y h g same = w.seen.one x y h.1 g.1 same
 

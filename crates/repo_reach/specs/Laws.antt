@@ -24,11 +24,11 @@ IsUsed all Tree n = (depth : ℕ) × IsLooked all n depth
 IsUsed all Content n = (i : ℕ) × (seen : Seen) × (depth : ℕ) × (slice_get all i ≡ Some seen) × HoldsAt seen depth n
 
 -- nothing is left to look at, and each tree that was seen was read
-pub record IsWhole (c : Trees) : Type 0 where
+pub record IsWholeWalk (c : Trees) : Type 0 where
   pub waiting : c.waiting.items ≡ []
   pub roots : length c.roots.items ≤ c.root
   pub read : (i : ℕ) (seen : Seen) → slice_get c.seen.items i ≡ Some seen → (links : Links) × (seen.links ≡ Some links)
 
 -- then what the walk came upon is what the roots reach
 abbrev pub UsedIsReached : Type 0
-UsedIsReached = (texts : List (List ℕ)) (c : Trees) → IsWalk texts c → IsWhole c → (k : BlobKind) (n : Name) → IsReached texts c.roots.items k n ↔ IsUsed c.seen.items k n
+UsedIsReached = (texts : List (List ℕ)) (c : Trees) → IsWalk texts c → IsWholeWalk c → (k : BlobKind) (n : Name) → IsReached texts c.roots.items k n ↔ IsUsed c.seen.items k n

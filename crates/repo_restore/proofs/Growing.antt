@@ -12,12 +12,12 @@ use Rattle.repo_session.specs.declared.emissions.Emission.{Emission}
 use Rattle.repo_session.proofs.Descending.{under_grows}
 use Rattle.repo_restore.specs.declared.nodes.Level.{Level}
 use Rattle.repo_restore.specs.Walking.{FileWaits, WaitsByKind, WalkWaits}
-use Rattle.repo_restore.specs.Walks.{IsOpen, IsBegun, Leads}
+use Rattle.repo_restore.specs.Walks.{IsOpenLevel, IsBegun, LeadsOn}
 
 tree_grows : (B C : Blobs) → Grows B C → (t : Name) (nodes : List Node) → IsTree B t nodes → IsTree C t nodes
 tree_grows B C grows t nodes h = record { text = h.text; among = grows BlobKind.Tree h.text h.among; named = h.named; reads = h.reads }
 
-open_grows : (B C : Blobs) → Grows B C → (root tree : Name) (path : List (List ℕ)) (nodes : List Node) (begun : ℕ) (inside : List Entry) → IsOpen B root tree path nodes begun inside → IsOpen C root tree path nodes begun inside
+open_grows : (B C : Blobs) → Grows B C → (root tree : Name) (path : List (List ℕ)) (nodes : List Node) (begun : ℕ) (inside : List Entry) → IsOpenLevel B root tree path nodes begun inside → IsOpenLevel C root tree path nodes begun inside
 open_grows B C grows root tree path nodes begun inside h = record {
   under = under_grows 1 B C grows root path tree h.under;
   read = tree_grows B C grows tree nodes h.read;
@@ -28,8 +28,8 @@ open_grows B C grows root tree path nodes begun inside h = record {
 begun_grows : (B C : Blobs) → Grows B C → (root : Name) (level : Level) (inside : List Entry) (node : Node) → IsBegun B root level inside node → IsBegun C root level inside node
 begun_grows B C grows root level inside node h = record { at = h.at; counts = h.counts; node_is = h.node_is; opened = open_grows B C grows root level.tree level.path level.nodes.items h.at inside h.opened }
 
-leads_grow : (B C : Blobs) → Grows B C → (root from : Name) (path : List (List ℕ)) (outer : List Entry) (levels : List Level) (tree : Name) (last : List (List ℕ)) (all : List Entry) → Leads B root from path outer levels tree last all
-    → Leads C root from path outer levels tree last all
+leads_grow : (B C : Blobs) → Grows B C → (root from : Name) (path : List (List ℕ)) (outer : List Entry) (levels : List Level) (tree : Name) (last : List (List ℕ)) (all : List Entry) → LeadsOn B root from path outer levels tree last all
+    → LeadsOn C root from path outer levels tree last all
 leads_grow B C grows root from path outer [] tree last all h = h
 leads_grow B C grows root from path outer (l ∷ levels) tree last all h =
     (h.0, h.1, h.2, h.3, h.4, begun_grows B C grows root l h.0 h.1 h.5, h.6, leads_grow B C grows root h.2 _ _ levels tree last all h.7)

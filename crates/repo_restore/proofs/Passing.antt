@@ -22,7 +22,7 @@ use Rattle.repo_restore.specs.Nodes.{WaitsFor, BlobFollows}
 use Rattle.repo_session.specs.Trees.{Under, IsNodeAt, IsNeeded}
 use Rattle.repo_restore.specs.Restoring.{MayGive, counted}
 use Rattle.repo_restore.specs.Walking.{WaitsIn, WaitsAs, with_begun, IsNextPath, FileWaits, TreeWaits, WaitsByKind, WalkWaits, WalkEnds}
-use Rattle.repo_restore.specs.Walks.{IsOpen, IsBegun, IsFile, IsWriting, Leads, AtLevel, AtOpen, Sums}
+use Rattle.repo_restore.specs.Walks.{IsOpenLevel, IsBegun, IsFile, IsWriting, LeadsOn, AtLevel, AtOpen, Sums}
 use Rattle.repo_session.proofs.Descending.{under_more}
 use Rattle.repo_restore.proofs.Rebuilds.{rebuilt_length, writing_more, writing_done}
 use Rattle.repo_restore.proofs.Summing.{one_more, sums_drop}
@@ -39,7 +39,7 @@ least_of facts kind name fact h = subst (λ k. IsLeast facts k fact.name fact.pl
 
 -- the innermost level waits: it stays open, with so many nodes begun
 module _ (facts : List Fact) (B : Blobs) (root : Name) (levels : List Level) (level : Level) (begun : ℕ) (before : List Entry) (old out : List Emission) (fact : Fact) where
-  waits_by : (what : NodeKind) (w : WaitsIn facts B root level begun before old out fact) → Leads B root root [] [] levels level.tree level.path before → w.node.what ≡ what
+  waits_by : (what : NodeKind) (w : WaitsIn facts B root level begun before old out fact) → LeadsOn B root root [] [] levels level.tree level.path before → w.node.what ≡ what
       → WaitsAs facts what (level.path ++ w.node.name ∷ []) fact (before ++ w.inside) (old ++ out)
       → IsLeast facts fact.kind fact.name fact.place × WaitsByKind fact.kind facts B root (levels ++ with_begun level begun ∷ []) 0 fact (old ++ out)
   waits_by (NodeKind.Dir subtree) w leads is h =
@@ -80,7 +80,7 @@ module _ (facts : List Fact) (B : Blobs) (root : Name) (levels : List Level) (le
       } in
       (least_of facts BlobKind.Content fact.name fact h.1, subst (λ k. WaitsByKind k facts B root (levels ++ now ∷ []) 0 fact (old ++ out)) (sym h.1.0) waits)
 
-  pub kept_open : (entries : ℕ) → WaitsIn facts B root level begun before old out fact → Leads B root root [] [] levels level.tree level.path before → entries ≡ counted (length (rebuilt (old ++ out)))
+  pub kept_open : (entries : ℕ) → WaitsIn facts B root level begun before old out fact → LeadsOn B root root [] [] levels level.tree level.path before → entries ≡ counted (length (rebuilt (old ++ out)))
       → WalkWaits facts B root (levels ++ with_begun level begun ∷ []) 0 entries fact (old ++ out)
   kept_open entries w leads count =
       let r = waits_by w.node.what w leads refl w.waits in
@@ -110,20 +110,20 @@ take_front [] level = refl
 take_front (l ∷ above) level = ap (λ ls. l ∷ ls) (take_front above level)
 
 -- where the tree stands that is waited for
-pub path_is : (B : Blobs) (root : Name) (levels : List Level) (tree : Name) (path at : List (List ℕ)) (all : List Entry) → Leads B root root [] [] levels tree path all → IsNextPath levels at → at ≡ path
+pub path_is : (B : Blobs) (root : Name) (levels : List Level) (tree : Name) (path at : List (List ℕ)) (all : List Entry) → LeadsOn B root root [] [] levels tree path all → IsNextPath levels at → at ≡ path
 path_is B root levels tree path at all h next = by (last_level levels)
   where
     by : (levels ≡ []) ⊎ ((above : List Level) × (level : Level) × (levels ≡ above ++ level ∷ [])) → at ≡ path
-    by (inl none) = let l = subst (λ ls. Leads B root root [] [] ls tree path all) none h in next.0 none ∙ sym l.1
+    by (inl none) = let l = subst (λ ls. LeadsOn B root root [] [] ls tree path all) none h in next.0 none ∙ sym l.1
     by (inr some) =
-        let r = leads_pop B root root [] [] some.0 some.1 tree path all (subst (λ ls. Leads B root root [] [] ls tree path all) some.2 h) in
+        let r = leads_pop B root root [] [] some.0 some.1 tree path all (subst (λ ls. LeadsOn B root root [] [] ls tree path all) some.2 h) in
         next.1 some.0 some.1 r.node some.2 (r.begun.at, r.begun.counts, r.begun.node_is) ∙ sym r.below
 
 pub last_same : (levels items above : List Level) (x level : Level) → items ≡ levels → Some x ≡ slice_get items (length items - 1) → levels ≡ above ++ level ∷ [] → x ≡ level
 last_same levels items above x level p q r = same_Some x level (q ∙ last_got items above level (p ∙ r))
 
 -- a tree's nodes are entered
-pub entered : (B : Blobs) (root tree : Name) (levels : List Level) (level : Level) (path : List (List ℕ)) (old : List Emission) → Leads B root root [] [] levels tree path (rebuilt old) → Under 1 B root path tree → IsTree B tree level.nodes.items
+pub entered : (B : Blobs) (root tree : Name) (levels : List Level) (level : Level) (path : List (List ℕ)) (old : List Emission) → LeadsOn B root root [] [] levels tree path (rebuilt old) → Under 1 B root path tree → IsTree B tree level.nodes.items
     → level.tree ≡ tree → level.path ≡ path → (length path < greatest_depth) ⊎ (level.nodes.items ≡ []) → AtOpen B root (levels ++ level ∷ []) (length (levels ++ level ∷ [])) 0 (rebuilt (old ++ []))
 entered B root tree levels level path old leads under read t p shallow =
     let many : suc (length levels) ≡ length (levels ++ level ∷ []) = omega (arith, length-append levels (level ∷ [])) in
@@ -132,7 +132,7 @@ entered B root tree levels level path old leads under read t p shallow =
       before = rebuilt old;
       inside = [];
       level_is = got_last levels level;
-      leads = subst (λ ls. Leads B root root [] [] ls level.tree level.path (rebuilt old)) (sym (take_front levels level)) (subst (λ n. Leads B root root [] [] levels n level.path (rebuilt old)) (sym t) (subst (λ q. Leads B root root [] [] levels tree q (rebuilt old)) (sym p) leads));
+      leads = subst (λ ls. LeadsOn B root root [] [] ls level.tree level.path (rebuilt old)) (sym (take_front levels level)) (subst (λ n. LeadsOn B root root [] [] levels n level.path (rebuilt old)) (sym t) (subst (λ q. LeadsOn B root root [] [] levels tree q (rebuilt old)) (sym p) leads));
       opened = record {
         under = subst (λ n. Under 1 B root level.path n) (sym t) (subst (λ q. Under 1 B root q tree) (sym p) under);
         read = subst (λ n. IsTree B n level.nodes.items) (sym t) read;
@@ -176,7 +176,7 @@ part_all facts B size sent content bytes h p =
 
 -- a file that is closed: the level goes on behind it
 pub closed : (facts : List Fact) (B : Blobs) (root : Name) (levels above : List Level) (level : Level) (before inside : List Entry) (node : Node) (size sent : ℕ) (content : List Name) (bytes : List ℕ) (emitted : List Emission)
-    → levels ≡ above ++ level ∷ [] → Leads B root root [] [] above level.tree level.path before → IsBegun B root level inside node → node.what ≡ NodeKind.File size content → IsFile facts B size content sent bytes
+    → levels ≡ above ++ level ∷ [] → LeadsOn B root root [] [] above level.tree level.path before → IsBegun B root level inside node → node.what ≡ NodeKind.File size content → IsFile facts B size content sent bytes
     → slice_get content sent ≡ None → IsWriting emitted (before ++ inside) (level.path ++ node.name ∷ []) bytes → AtOpen B root levels (length levels) level.begun (rebuilt (emitted ++ Emission.Close ∷ []))
 closed facts B root levels above level before inside node size sent content bytes emitted are leads begun file part none writing =
     let path : List (List ℕ) = level.path ++ node.name ∷ [] in
@@ -189,8 +189,8 @@ closed facts B root levels above level before inside node size sent content byte
       before = before;
       inside = inside ++ file_entry path bytes ∷ [];
       level_is = got_last above level;
-      leads = subst (λ ls. Leads B root root [] [] ls level.tree level.path before) (sym (take_front above level)) leads;
-      opened = subst (λ n. IsOpen B root level.tree level.path level.nodes.items n (inside ++ file_entry path bytes ∷ [])) (sym begun.counts) more;
+      leads = subst (λ ls. LeadsOn B root root [] [] ls level.tree level.path before) (sym (take_front above level)) leads;
+      opened = subst (λ n. IsOpenLevel B root level.tree level.path level.nodes.items n (inside ++ file_entry path bytes ∷ [])) (sym begun.counts) more;
       whole = entries;
     } in
     let many : suc (length above) ≡ length levels = omega (arith, length-append above (level ∷ []), ap (λ (ls : List Level). length ls) are) in

@@ -12,12 +12,12 @@ use Rattle.repo_tree.specs.Spelling.{NodeSpells, NodesSpell, Spells, greatest_de
 use Rattle.repo_tree.proofs.SpellingLemmas.{made_spelled, empty_spelled, nodes_push}
 use Rattle.repo_restore.specs.declared.nodes.Level.{Level}
 use Rattle.repo_session.specs.Trees.{IsNodeAt}
-use Rattle.repo_restore.specs.Walks.{IsOpen, IsBegun, Leads, AtLevel, AtOpen}
+use Rattle.repo_restore.specs.Walks.{IsOpenLevel, IsBegun, LeadsOn, AtLevel, AtOpen}
 use Rattle.repo_restore.proofs.Summing.{one_more}
 
 -- one more node
-pub open_more : (B : Blobs) (root tree : Name) (path : List (List ℕ)) (nodes : List Node) (at : ℕ) (inside : List Entry) (node : Node) (more : List Entry) → IsOpen B root tree path nodes at inside → slice_get nodes at ≡ Some node
-    → NodeSpells B (Spells 1 B) (path ++ node.name ∷ []) node.what more → IsOpen B root tree path nodes (at + 1) (inside ++ more)
+pub open_more : (B : Blobs) (root tree : Name) (path : List (List ℕ)) (nodes : List Node) (at : ℕ) (inside : List Entry) (node : Node) (more : List Entry) → IsOpenLevel B root tree path nodes at inside → slice_get nodes at ≡ Some node
+    → NodeSpells B (Spells 1 B) (path ++ node.name ∷ []) node.what more → IsOpenLevel B root tree path nodes (at + 1) (inside ++ more)
 open_more B root tree path nodes at inside node more h p s = record {
   under = h.under;
   read = h.read;
@@ -26,7 +26,7 @@ open_more B root tree path nodes at inside node more h p s = record {
 }
 
 -- past the last node
-pub open_all : (B : Blobs) (root tree : Name) (path : List (List ℕ)) (nodes : List Node) (at : ℕ) (inside : List Entry) → length nodes ≤ at → IsOpen B root tree path nodes at inside → IsOpen B root tree path nodes (length nodes) inside
+pub open_all : (B : Blobs) (root tree : Name) (path : List (List ℕ)) (nodes : List Node) (at : ℕ) (inside : List Entry) → length nodes ≤ at → IsOpenLevel B root tree path nodes at inside → IsOpenLevel B root tree path nodes (length nodes) inside
 open_all B root tree path nodes at inside w h = record {
   under = h.under;
   read = h.read;
@@ -41,12 +41,12 @@ spelled_by B tree path nodes inside (inr none) read s =
     subst (λ es. Spells 1 B tree path es) (sym none_inside) (empty_spelled 1 B tree path (subst (λ ns. IsTree B tree ns) none read))
 
 -- a directory all of whose nodes were given out
-pub open_spells : (B : Blobs) (root tree : Name) (path : List (List ℕ)) (nodes : List Node) (inside : List Entry) → IsOpen B root tree path nodes (length nodes) inside → Spells 1 B tree path inside
+pub open_spells : (B : Blobs) (root tree : Name) (path : List (List ℕ)) (nodes : List Node) (inside : List Entry) → IsOpenLevel B root tree path nodes (length nodes) inside → Spells 1 B tree path inside
 open_spells B root tree path nodes inside h =
     spelled_by B tree path nodes inside h.shallow h.read (subst (λ ns. NodesSpell B (Spells 1 B) path ns inside) (take_all (length nodes) nodes (omega arith)) h.spelled)
 
 -- a node stands at its path
-pub node_at : (B : Blobs) (root tree : Name) (path : List (List ℕ)) (nodes : List Node) (at begun : ℕ) (inside : List Entry) (node : Node) → IsOpen B root tree path nodes begun inside → slice_get nodes at ≡ Some node
+pub node_at : (B : Blobs) (root tree : Name) (path : List (List ℕ)) (nodes : List Node) (at begun : ℕ) (inside : List Entry) (node : Node) → IsOpenLevel B root tree path nodes begun inside → slice_get nodes at ≡ Some node
     → IsNodeAt 1 B root (path ++ node.name ∷ []) node.what
 node_at B root tree path nodes at begun inside node h p = record {
   above = path;
@@ -64,14 +64,14 @@ pub record LastOpen (B : Blobs) (root from : Name) (path : List (List ℕ)) (out
   pub before : List Entry
   pub inside : List Entry
   pub node : Node
-  pub leads : Leads B root from path outer levels level.tree level.path before
+  pub leads : LeadsOn B root from path outer levels level.tree level.path before
   pub begun : IsBegun B root level inside node
   pub dir : node.what ≡ NodeKind.Dir tree
   pub below : last ≡ level.path ++ node.name ∷ []
   pub whole : all ≡ before ++ inside ++ dir_entry (level.path ++ node.name ∷ []) ∷ []
 
 pub leads_push : (B : Blobs) (root from : Name) (path : List (List ℕ)) (outer : List Entry) (levels : List Level) (level : Level) (tree : Name) (last : List (List ℕ)) (all : List Entry)
-    → LastOpen B root from path outer levels level tree last all → Leads B root from path outer (levels ++ level ∷ []) tree last all
+    → LastOpen B root from path outer levels level tree last all → LeadsOn B root from path outer (levels ++ level ∷ []) tree last all
 leads_push B root from path outer [] level tree last all h =
     let at : level.path ≡ path = h.leads.1 in (
       h.inside,
@@ -97,7 +97,7 @@ leads_push B root from path outer (l ∷ levels) level tree last all h =
     )
 
 pub leads_pop : (B : Blobs) (root from : Name) (path : List (List ℕ)) (outer : List Entry) (levels : List Level) (level : Level) (tree : Name) (last : List (List ℕ)) (all : List Entry)
-    → Leads B root from path outer (levels ++ level ∷ []) tree last all → LastOpen B root from path outer levels level tree last all
+    → LeadsOn B root from path outer (levels ++ level ∷ []) tree last all → LastOpen B root from path outer levels level tree last all
 leads_pop B root from path outer [] level tree last all h =
     let at : level.path ≡ path = h.4 in
     record {
@@ -133,7 +133,7 @@ close_level B root levels (suc depth) begun level all h up = above (got levels d
         let l = found.0 in
         let s : depth + 1 ≡ suc depth = omega arith in
         let same : take (suc depth) levels ≡ take depth levels ++ l ∷ [] = ap (λ j. take j levels) (sym s) ∙ one_more levels depth l found.1 in
-        let r = leads_pop B root root [] [] (take depth levels) l level.tree level.path h.before (subst (λ ls. Leads B root root [] [] ls level.tree level.path h.before) same h.leads) in
+        let r = leads_pop B root root [] [] (take depth levels) l level.tree level.path h.before (subst (λ ls. LeadsOn B root root [] [] ls level.tree level.path h.before) same h.leads) in
         let spelled = open_spells B root level.tree level.path level.nodes.items h.inside h.opened in
         let path : List (List ℕ) = l.path ++ r.node.name ∷ [] in
         let P : NodeKind → Type 0 = λ what. NodeSpells B (Spells 1 B) path what (dir_entry path ∷ h.inside) in
@@ -146,7 +146,7 @@ close_level B root levels (suc depth) begun level all h up = above (got levels d
             inside = r.inside ++ dir_entry path ∷ h.inside;
             level_is = found.1;
             leads = r.leads;
-            opened = subst (λ n. IsOpen B root l.tree l.path l.nodes.items n (r.inside ++ dir_entry path ∷ h.inside)) (sym counts) more;
+            opened = subst (λ n. IsOpenLevel B root l.tree l.path l.nodes.items n (r.inside ++ dir_entry path ∷ h.inside)) (sym counts) more;
             whole = h.whole ∙ ap (λ b. b ++ h.inside) r.whole ∙ append_assoc (r.before ++ r.inside) (dir_entry path ∷ []) h.inside ∙ append_assoc r.before r.inside (dir_entry path ∷ h.inside);
           },
         )

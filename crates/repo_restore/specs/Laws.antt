@@ -8,7 +8,7 @@ use Rattle.repo_store.specs.Stores.{Store}
 use Rattle.repo_session.specs.Alone.{IsFit, IsSent, IsSpoken, NoClash}
 use Rattle.repo_session.specs.Askers.{Asker}
 use Rattle.repo_session.specs.Clients.{IsObedient}
-use Rattle.repo_session.specs.Talks.{Talk, trace_of, TalkRan, MayStep}
+use Rattle.repo_session.specs.Talks.{Talk, trace_of, TalkRan, MayBeAhead}
 use Rattle.repo_session.specs.Traces.{Trace}
 use Rattle.repo_session.specs.declared.outcomes.End.{End}
 use Rattle.repo_session.specs.declared.outcomes.Outcome.{Outcome}
@@ -26,11 +26,11 @@ IsList who next outcome es = IsObedient (list_task who) (ListAllows who) (ListGi
 -- a restore, or a list, changes no object of the store, also where it is one step ahead
 abbrev pub RestoreChangesNothing : Type 0
 RestoreChangesNothing = (w : Wish) (from mid to : Store) (failed failing : ℕ) (talk : Talk) (next : Option Request) (outcome : Option Outcome)
-    → TalkRan from failed talk mid failing → MayStep mid next to → IsRestore w next outcome (trace_of talk) → to.objects ≡ from.objects
+    → TalkRan from failed talk mid failing → MayBeAhead mid next to → IsRestore w next outcome (trace_of talk) → to.objects ≡ from.objects
 
 abbrev pub ListChangesNothing : Type 0
 ListChangesNothing = (who : Asker) (from mid to : Store) (failed failing : ℕ) (talk : Talk) (next : Option Request) (outcome : Option Outcome)
-    → TalkRan from failed talk mid failing → MayStep mid next to → IsList who next outcome (trace_of talk) → to.objects ≡ from.objects
+    → TalkRan from failed talk mid failing → MayBeAhead mid next to → IsList who next outcome (trace_of talk) → to.objects ≡ from.objects
 
 -- a list alone with a store in which it finds all that it wants, and whose device doesn't fail, is listed at its end, or the store had no memory
 abbrev pub IsListedOrMemory : Option Outcome → Type 0

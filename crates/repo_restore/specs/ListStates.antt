@@ -9,8 +9,8 @@ use Rattle.repo_restore.specs.declared.listings.SnapshotList.{SnapshotList}
 use Rattle.repo_restore.specs.Listing.{list_rule}
 
 -- nothing was listed yet
-abbrev pub IsFresh : ListJob → Type 0
-IsFresh l = IsFreshRoll l.snapshots
+abbrev pub IsFreshList : ListJob → Type 0
+IsFreshList l = IsFreshRoll l.snapshots
 
 -- what is known where this is pending
 abbrev pub KnowsList : ListJob → Ask → Trace → Type 0
@@ -22,4 +22,4 @@ who_of l = who_in l.session
 
 -- the list stands where the trace leaves it
 abbrev pub FitsList : SnapshotList → Trace → Type 0
-FitsList l es = FitsSession (λ (j : ListJob). tt {0}) (λ h. list_rule) IsFresh KnowsList l.session es
+FitsList l es = FitsSession (λ (j : ListJob). tt {0}) (λ h. list_rule) IsFreshList KnowsList l.session es

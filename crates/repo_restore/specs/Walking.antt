@@ -23,7 +23,7 @@ use Rattle.repo_restore.specs.Nodes.{WaitsFor, DirBegins, FileBegins}
 use Rattle.repo_session.specs.Trees.{Under, IsNeeded, IsBroken}
 use Rattle.repo_restore.specs.Restoring.{MayGive, counted}
 use Rattle.repo_session.specs.Catalogs.{IsNowhere}
-use Rattle.repo_restore.specs.Walks.{Sums, IsOpen, IsBegun, IsFile, Leads, IsWriting}
+use Rattle.repo_restore.specs.Walks.{Sums, IsOpenLevel, IsBegun, IsFile, LeadsOn, IsWriting}
 
 -- what beginning a node gives
 abbrev pub NodeBegins : List Fact → Name → List (List ℕ) → NodeKind → List Emission → List Emission → Begun → Type 0
@@ -33,7 +33,7 @@ NodeBegins facts tree path (NodeKind.Dir subtree) old new begun = DirBegins fact
 -- a level whose first nodes were given out, after what was given out before
 pub record StandsIn (B : Blobs) (root : Name) (level : Level) (begun : ℕ) (before : List Entry) (old out : List Emission) : Type 0 where
   pub inside : List Entry
-  pub opened : IsOpen B root level.tree level.path level.nodes.items begun inside
+  pub opened : IsOpenLevel B root level.tree level.path level.nodes.items begun inside
   pub whole : rebuilt (old ++ out) ≡ before ++ inside
   pub given : Each (MayGive 1 B root) out
 
@@ -49,7 +49,7 @@ pub record WaitsIn (facts : List Fact) (B : Blobs) (root : Name) (level : Level)
   pub node : Node
   pub node_is : slice_get level.nodes.items at ≡ Some node
   pub inside : List Entry
-  pub opened : IsOpen B root level.tree level.path level.nodes.items at inside
+  pub opened : IsOpenLevel B root level.tree level.path level.nodes.items at inside
   pub waits : WaitsAs facts node.what (level.path ++ node.name ∷ []) fact (before ++ inside) (old ++ out)
   pub given : Each (MayGive 1 B root) out
 
@@ -77,7 +77,7 @@ NextBegins facts B root level before old out now (Begun.Ended end) = WalkEnds fa
 abbrev pub StopsAt : List Fact → Blobs → Name → List Level → List Emission → List Emission → ℕ → ℕ → Begun → Type 0
 StopsAt facts B root levels old out depth begun Begun.Done = Spells 1 B root [] (rebuilt (old ++ out)) × Each (MayGive 1 B root) out
 StopsAt facts B root levels old out depth begun (Begun.Waits fact) = (level : Level) × (before : List Entry) × (slice_get levels depth ≡ Some level)
-    × Leads B root root [] [] (take depth levels) level.tree level.path before × WaitsIn facts B root level begun before old out fact
+    × LeadsOn B root root [] [] (take depth levels) level.tree level.path before × WaitsIn facts B root level begun before old out fact
 StopsAt facts B root levels old out depth begun (Begun.Ended end) = WalkEnds facts B root end × Each (MayGive 1 B root) out
 
 -- a level of which so many nodes are begun
@@ -95,7 +95,7 @@ pub record FileWaits (facts : List Fact) (B : Blobs) (root : Name) (levels : Lis
   pub content : List Name
   pub bytes : List ℕ
   pub levels_are : levels ≡ above ++ level ∷ []
-  pub leads : Leads B root root [] [] above level.tree level.path before
+  pub leads : LeadsOn B root root [] [] above level.tree level.path before
   pub begun : IsBegun B root level inside node
   pub file : node.what ≡ NodeKind.File size content
   pub asked : slice_get content sent ≡ Some fact.name
@@ -104,7 +104,7 @@ pub record FileWaits (facts : List Fact) (B : Blobs) (root : Name) (levels : Lis
 
 -- the tree of a directory waits
 abbrev pub TreeWaits : Blobs → Name → List Level → Fact → List Emission → Type 0
-TreeWaits B root levels fact emitted = (path : List (List ℕ)) × Leads B root root [] [] levels fact.name path (rebuilt emitted) × Under 1 B root path fact.name
+TreeWaits B root levels fact emitted = (path : List (List ℕ)) × LeadsOn B root root [] [] levels fact.name path (rebuilt emitted) × Under 1 B root path fact.name
 
 -- by the kind of the blob that a walk waits for
 abbrev pub WaitsByKind : BlobKind → List Fact → Blobs → Name → List Level → ℕ → Fact → List Emission → Type 0

@@ -34,7 +34,7 @@ Files facts size content (Filed.Missing name) = Contains content name × IsNowhe
 Files facts size content Filed.Uneven = (total : ℕ) × Sums facts content total × (total ≢ size)
 
 -- a directory's tree was received, and what its first nodes spell is known
-pub record IsOpen (B : Blobs) (root tree : Name) (path : List (List ℕ)) (nodes : List Node) (begun : ℕ) (inside : List Entry) : Type 0 where
+pub record IsOpenLevel (B : Blobs) (root tree : Name) (path : List (List ℕ)) (nodes : List Node) (begun : ℕ) (inside : List Entry) : Type 0 where
   pub under : Under 1 B root path tree
   pub read : IsTree B tree nodes
   pub shallow : (length path < greatest_depth) ⊎ (nodes ≡ [])
@@ -45,22 +45,22 @@ pub record IsBegun (B : Blobs) (root : Name) (level : Level) (inside : List Entr
   pub at : ℕ
   pub counts : level.begun ≡ at + 1
   pub node_is : slice_get level.nodes.items at ≡ Some node
-  pub opened : IsOpen B root level.tree level.path level.nodes.items at inside
+  pub opened : IsOpenLevel B root level.tree level.path level.nodes.items at inside
 
 -- the open directories lead from the root to a tree at a path; all that was given out before its nodes are these entries
-abbrev pub Leads : Blobs → Name → Name → List (List ℕ) → List Entry → List Level → Name → List (List ℕ) → List Entry → Type 0
-Leads B root from path outer [] tree last all = (tree ≡ from) × (last ≡ path) × (all ≡ outer)
-Leads B root from path outer (level ∷ levels) tree last all = (inside : List Entry) × (node : Node) × (subtree : Name)
+abbrev pub LeadsOn : Blobs → Name → Name → List (List ℕ) → List Entry → List Level → Name → List (List ℕ) → List Entry → Type 0
+LeadsOn B root from path outer [] tree last all = (tree ≡ from) × (last ≡ path) × (all ≡ outer)
+LeadsOn B root from path outer (level ∷ levels) tree last all = (inside : List Entry) × (node : Node) × (subtree : Name)
     × (level.tree ≡ from) × (level.path ≡ path) × IsBegun B root level inside node × (node.what ≡ NodeKind.Dir subtree)
-    × Leads B root subtree (path ++ node.name ∷ []) (outer ++ inside ++ dir_entry (path ++ node.name ∷ []) ∷ []) levels tree last all
+    × LeadsOn B root subtree (path ++ node.name ∷ []) (outer ++ inside ++ dir_entry (path ++ node.name ∷ []) ∷ []) levels tree last all
 
 -- a level of the open ones, whose first nodes were given out
 pub record AtLevel (B : Blobs) (root : Name) (levels : List Level) (depth begun : ℕ) (level : Level) (all : List Entry) : Type 0 where
   pub before : List Entry
   pub inside : List Entry
   pub level_is : slice_get levels depth ≡ Some level
-  pub leads : Leads B root root [] [] (take depth levels) level.tree level.path before
-  pub opened : IsOpen B root level.tree level.path level.nodes.items begun inside
+  pub leads : LeadsOn B root root [] [] (take depth levels) level.tree level.path before
+  pub opened : IsOpenLevel B root level.tree level.path level.nodes.items begun inside
   pub whole : all ≡ before ++ inside
 
 -- so many levels are open: none where all was given out

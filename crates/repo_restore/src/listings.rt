@@ -1,7 +1,7 @@
 //! The list of a store's snapshots.
 
 ghost use Rattle.std.specs.Prelude.{◌≡◌, []};
-ghost use Rattle.repo_restore.specs.ListStates.{FitsList, IsFresh, who_of};
+ghost use Rattle.repo_restore.specs.ListStates.{FitsList, IsFreshList, who_of};
 
 use repo_name::Thing;
 use repo_session::{
@@ -20,7 +20,7 @@ struct ListJob {
 impl ListJob {
     /// A list of nothing so far. It takes no memory.
     fn new(alloc: Global) -> ListJob
-        ensures { IsFresh result }
+        ensures { IsFreshList result }
     {
         ListJob {
             snapshots: SnapshotRoll::new(alloc),
@@ -30,7 +30,7 @@ impl ListJob {
 
 impl Job for ListJob {
     ghost use Rattle.repo_restore.specs.Listing.{list_rule};
-    ghost use Rattle.repo_restore.specs.ListStates.{IsFresh, KnowsList};
+    ghost use Rattle.repo_restore.specs.ListStates.{IsFreshList, KnowsList};
 
     ghost Handed = { Unit {0} };
 
@@ -38,7 +38,7 @@ impl Job for ListJob {
 
     ghost rule = { λ h. list_rule };
 
-    ghost fresh = { IsFresh };
+    ghost fresh = { IsFreshList };
 
     ghost knows = { KnowsList };
 

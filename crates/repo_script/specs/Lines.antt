@@ -93,7 +93,7 @@ abbrev pub IsLine : List ℕ → Line → Type 0
 IsLine line what = IsUtf8 line × All (λ word. word ≢ []) (words line) × (line_of (words line) ≡ Some what)
 
 -- what is wanted is given: it, or that it isn't there, unless memory ran out
-abbrev pub Gives : {T : Type 0} → Option T → Result T LineError → Type 0
-Gives wanted (Ok x) = wanted ≡ Some x
-Gives wanted (Err LineError.NotUnderstood) = wanted ≡ None
-Gives wanted (Err LineError.Memory) = ⊤
+abbrev pub GivesLine : {T : Type 0} → Option T → Result T LineError → Type 0
+GivesLine wanted (Ok x) = wanted ≡ Some x
+GivesLine wanted (Err LineError.NotUnderstood) = wanted ≡ None
+GivesLine wanted (Err LineError.Memory) = ⊤

@@ -1,7 +1,7 @@
 //! The words of a line that are left behind those that say what it is.
 
 ghost use Rattle.std.specs.Prelude.{◌≡◌, Some, IfOk, map, option_map};
-ghost use Rattle.repo_script.specs.Lines.{alone, one, two, host, bytes, clients, Gives};
+ghost use Rattle.repo_script.specs.Lines.{alone, one, two, host, bytes, clients, GivesLine};
 ghost use Rattle.repo_script.specs.Numbers.{number, numbers};
 ghost use Rattle.repo_script.specs.Tables.{word_in, sorts, fails};
 
@@ -92,7 +92,7 @@ pub fn policy_of(left: &[&str]) -> Option<Policy>
 
 /// The host that a word is.
 pub fn host_of(alloc: Global, word: &str) -> Result<Text, LineError>
-    ensures { Gives (host word.now) result }
+    ensures { GivesLine (host word.now) result }
 {
     if !is_host(word) {
         return Err(LineError::NotUnderstood);
@@ -102,7 +102,7 @@ pub fn host_of(alloc: Global, word: &str) -> Result<Text, LineError>
 
 /// The bytes that a word is.
 pub fn bytes_of(alloc: Global, word: &str) -> Result<Bytes, LineError>
-    ensures { Gives (bytes word.now) result }
+    ensures { GivesLine (bytes word.now) result }
 {
     if word == "-" {
         return Ok(Bytes::of(Vec::new(alloc)));
@@ -116,7 +116,7 @@ pub fn bytes_of(alloc: Global, word: &str) -> Result<Bytes, LineError>
 
 /// The clients that all these words are.
 fn indexes(alloc: Global, left: &[&str]) -> Result<Clients, LineError>
-    ensures { Gives (numbers (map (λ w. w.now) left.now)) result }
+    ensures { GivesLine (numbers (map (λ w. w.now) left.now)) result }
 {
     let mut found = Vec::new(alloc);
     for word in left {
@@ -132,7 +132,7 @@ fn indexes(alloc: Global, left: &[&str]) -> Result<Clients, LineError>
 
 /// The clients of the words left.
 pub fn clients_of(alloc: Global, left: &[&str]) -> Result<Clients, LineError>
-    ensures { Gives (clients (map (λ w. w.now) left.now)) result }
+    ensures { GivesLine (clients (map (λ w. w.now) left.now)) result }
 {
     if left.is_empty() {
         return Err(LineError::NotUnderstood);

@@ -2,7 +2,7 @@
 
 ghost use Rattle.std.specs.Prelude.{◌≡◌, ◌≢◌, [], map, IfOk, IsErrOf};
 ghost use Rattle.std.specs.Option.{MatchOption};
-ghost use Rattle.repo_script.specs.Lines.{event_with, line_with, line_of, IsLine, Gives};
+ghost use Rattle.repo_script.specs.Lines.{event_with, line_with, line_of, IsLine, GivesLine};
 ghost use Rattle.repo_script.specs.declared.faults.LineError.{LineError};
 ghost use Rattle.repo_script.specs.declared.lines.Line.{Line};
 
@@ -21,7 +21,7 @@ use std::alloc::Global;
 
 /// The line of a directory.
 fn dir_line(alloc: Global, left: &[&str]) -> Result<Line, LineError>
-    ensures { Gives (line_with Verb.Dir (map (λ w. w.now) left.now)) result }
+    ensures { GivesLine (line_with Verb.Dir (map (λ w. w.now) left.now)) result }
 {
     let Some(path) = one_word(left) else {
         return Err(LineError::NotUnderstood);
@@ -33,7 +33,7 @@ fn dir_line(alloc: Global, left: &[&str]) -> Result<Line, LineError>
 
 /// The line of a file.
 fn file_line(alloc: Global, left: &[&str]) -> Result<Line, LineError>
-    ensures { Gives (line_with Verb.File (map (λ w. w.now) left.now)) result }
+    ensures { GivesLine (line_with Verb.File (map (λ w. w.now) left.now)) result }
 {
     let Some((path, bytes)) = two_words(left) else {
         return Err(LineError::NotUnderstood);
@@ -72,7 +72,7 @@ fn event_with(verb: Verb, left: &[&str]) -> Option<Line>
 
 /// The line that begins so, by the words left.
 fn line_with(alloc: Global, verb: Verb, left: &[&str]) -> Result<Line, LineError>
-    ensures { Gives (line_with verb (map (λ w. w.now) left.now)) result }
+    ensures { GivesLine (line_with verb (map (λ w. w.now) left.now)) result }
 {
     match verb {
         Verb::Dir => dir_line(alloc, left),
@@ -84,7 +84,7 @@ fn line_with(alloc: Global, verb: Verb, left: &[&str]) -> Result<Line, LineError
 
 /// The line that some words are.
 fn line_of(alloc: Global, words: &[&str]) -> Result<Line, LineError>
-    ensures { Gives (line_of (map (λ w. w.now) words.now)) result }
+    ensures { GivesLine (line_of (map (λ w. w.now) words.now)) result }
 {
     let [word, left @ ..] = words else {
         return Err(LineError::NotUnderstood);

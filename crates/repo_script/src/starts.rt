@@ -1,7 +1,7 @@
 //! What clients start for.
 
 ghost use Rattle.std.specs.Prelude.{◌≡◌, map};
-ghost use Rattle.repo_script.specs.Lines.{start_with, start_of, Gives};
+ghost use Rattle.repo_script.specs.Lines.{start_with, start_of, GivesLine};
 
 use crate::arguments::{clients_of, host_of, one_index, policy_of, two_words};
 use crate::faults::LineError;
@@ -13,7 +13,7 @@ use std::alloc::Global;
 
 /// The start of a backup, by its host and time.
 fn backup_start(alloc: Global, left: &[&str]) -> Result<Start, LineError>
-    ensures { Gives (start_with Purpose.Backup (map (λ w. w.now) left.now)) result }
+    ensures { GivesLine (start_with Purpose.Backup (map (λ w. w.now) left.now)) result }
 {
     let Some((host, time)) = two_words(left) else {
         return Err(LineError::NotUnderstood);
@@ -27,7 +27,7 @@ fn backup_start(alloc: Global, left: &[&str]) -> Result<Start, LineError>
 
 /// The start of a client that is for this.
 fn start_with(alloc: Global, purpose: Purpose, left: &[&str]) -> Result<Start, LineError>
-    ensures { Gives (start_with purpose (map (λ w. w.now) left.now)) result }
+    ensures { GivesLine (start_with purpose (map (λ w. w.now) left.now)) result }
 {
     let start = match purpose {
         Purpose::Backup => return backup_start(alloc, left),
@@ -44,7 +44,7 @@ fn start_with(alloc: Global, purpose: Purpose, left: &[&str]) -> Result<Start, L
 
 /// The start that some words are.
 pub fn start_of(alloc: Global, words: &[&str]) -> Result<Start, LineError>
-    ensures { Gives (start_of (map (λ w. w.now) words.now)) result }
+    ensures { GivesLine (start_of (map (λ w. w.now) words.now)) result }
 {
     let [word, left @ ..] = words else {
         return Err(LineError::NotUnderstood);

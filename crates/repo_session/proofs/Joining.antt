@@ -14,14 +14,14 @@ use Rattle.repo_wire.proofs.Frames.{frames_one, length-frame}
 use Rattle.repo_wire.proofs.Replies.{replies_one}
 use Rattle.repo_wire.proofs.Requests.{requests_one}
 use Rattle.repo_store.specs.declared.serving.ServeError.{ServeError}
-use Rattle.repo_store.specs.Runs.{Replies, Run}
+use Rattle.repo_store.specs.Runs.{Replies, StoreRun}
 use Rattle.repo_store.specs.Serving.{Moment, Past, shown, plain, AllServed, SomeServed, TellsFault, HaveCause}
 use Rattle.repo_store.specs.Stores.{Store}
 use Rattle.repo_store.proofs.RunLemmas.{run_on}
 use Rattle.repo_session.specs.declared.driving.DriveError.{DriveError}
-use Rattle.repo_session.specs.Clients.{Answers}
+use Rattle.repo_session.specs.Clients.{IsReplyTo}
 use Rattle.repo_session.specs.Joined.{AreFirst, IsSaid, IsSendable, JoinedTalkIsARun, ServingServes}
-use Rattle.repo_session.specs.Talks.{Turn, Talk, IsTurn, Said, IsHeard, DriveCause, Drives, sent_in, taken_in, read_in, frames_of, pending_frame, MayStep}
+use Rattle.repo_session.specs.Talks.{Turn, Talk, IsTurn, Said, IsHeard, DriveCause, Drives, sent_in, taken_in, read_in, frames_of, pending_frame, MayBeAhead}
 use Rattle.repo_session.specs.Traces.{Each, Trace}
 
 -- ---- frames
@@ -86,11 +86,11 @@ pending_fits (Some request) h = (h request refl, tt)
 record Made (from : Store) (talk : Talk) (asked : List Request) (given further : List Reply) (to : Store) : Type 0 where
   read : read_in talk ≡ taken_in talk
   mid : Store
-  run : Run from (sent_in talk) (taken_in talk) mid
+  run : StoreRun from (sent_in talk) (taken_in talk) mid
   left : List Request
   asked_are : asked ≡ sent_in talk ++ left
   given_are : given ≡ taken_in talk ++ further
-  goes_on : Run mid left further to
+  goes_on : StoreRun mid left further to
 
 -- the next request of a run is the talk's, and its reply is the one that was taken: none was passed over
 next_turn : (from : Store) (turn : Turn) (talk : Talk) (asked : List Request) (given further : List Reply) (to : Store) (tail unread : List Request) → IsTurn turn
@@ -99,13 +99,13 @@ next_turn from turn talk asked given further to tail unread is sent made =
     let same : turn.request ∷ tail ≡ made.left ++ unread = append_cancel_left (sent_in talk) (turn.request ∷ tail) (made.left ++ unread)
     (sent ∙ ap (λ s. s ++ unread) made.asked_are ∙ append_assoc (sent_in talk) made.left unread) in
     step made.left turn.passed refl refl same made.goes_on is.passed where
-      step : (left : List Request) (passed : List Reply) → made.left ≡ left → turn.passed ≡ passed → turn.request ∷ tail ≡ left ++ unread → Run made.mid left (passed ++ turn.reply ∷ further) to
-          → Each (λ reply. ¬ Answers turn.request reply) passed → Made from (turn ∷ talk) asked given further to
+      step : (left : List Request) (passed : List Reply) → made.left ≡ left → turn.passed ≡ passed → turn.request ∷ tail ≡ left ++ unread → StoreRun made.mid left (passed ++ turn.reply ∷ further) to
+          → Each (λ reply. ¬ IsReplyTo turn.request reply) passed → Made from (turn ∷ talk) asked given further to
       step [] [] l p same run others = absurd run
       step [] (r ∷ rs) l p same run others = absurd run
       step (q ∷ qs) (r ∷ rs) l p same run others =
           let head : turn.request ≡ q = cc in
-          let P : Request → Type 0 = λ x. Answers x r in
+          let P : Request → Type 0 = λ x. IsReplyTo x r in
           absurd (others.0 (subst P (sym head) (run.1.instance, run.1.sequence)))
       step (q ∷ qs) [] l p same run others =
           let head : q ≡ turn.request = cc in
@@ -122,9 +122,9 @@ next_turn from turn talk asked given further to tail unread is sent made =
 
 -- a run whose requests begin as those of a talk, and whose replies begin as those that were read, made the talk
 made : (from : Store) (talk : Talk) (asked : List Request) (given further : List Reply) (to : Store) (tail unread : List Request) → Each IsTurn talk
-    → sent_in talk ++ tail ≡ asked ++ unread → given ≡ read_in talk ++ further → Run from asked given to → Made from talk asked given further to
+    → sent_in talk ++ tail ≡ asked ++ unread → given ≡ read_in talk ++ further → StoreRun from asked given to → Made from talk asked given further to
 made from [] asked given further to tail unread turns sent read run =
-    let P : List Reply → Type 0 = λ x. Run from asked x to in
+    let P : List Reply → Type 0 = λ x. StoreRun from asked x to in
     record { read = refl; mid = from; run = refl; left = asked; asked_are = refl; given_are = read; goes_on = subst P read run }
 made from (turn ∷ talk) asked given further to tail unread turns sent read run =
     let before = made from talk asked given (turn.passed ++ turn.reply ∷ further) to (turn.request ∷ tail) unread turns.1
@@ -135,7 +135,7 @@ made from (turn ∷ talk) asked given further to tail unread turns sent read run
       sent_here = sym (append_assoc (sent_in talk) (turn.request ∷ []) tail) ∙ sent
 
 -- what is left is at most the request that is pending
-left_over : (mid : Store) (next : Option Request) (left unread : List Request) (further : List Reply) (to : Store) → pending_in next ≡ left ++ unread → Run mid left further to → MayStep mid next to
+left_over : (mid : Store) (next : Option Request) (left unread : List Request) (further : List Reply) (to : Store) → pending_in next ≡ left ++ unread → StoreRun mid left further to → MayBeAhead mid next to
 left_over mid None [] unread [] to h run = run
 left_over mid None [] unread (r ∷ rs) to h run = absurd run
 left_over mid None (q ∷ qs) unread further to h run = absurd (cc)

@@ -14,7 +14,7 @@ use Rattle.repo_tree.specs.SnapshotText.{IsSnapshotText}
 use Rattle.repo_session.specs.declared.emissions.Emission.{Emission}
 use Rattle.repo_session.specs.declared.snapshot_rolls.SnapshotReading.{SnapshotReading}
 use Rattle.repo_session.specs.declared.snapshot_rolls.SnapshotRoll.{SnapshotRoll}
-use Rattle.repo_session.specs.Listings.{IsRow, IsListing, AreRows, IsFreshRoll, RollsSnapshots, KnowsSnapshots, ListsAll}
+use Rattle.repo_session.specs.Listings.{IsReadRow, IsListing, AreRows, IsFreshRoll, RollsSnapshots, KnowsSnapshots, ListsAll}
 use Rattle.repo_session.specs.Order.{Task, opened}
 use Rattle.repo_session.specs.Readings.{IsDue, KnowsRoll}
 use Rattle.repo_session.specs.Rolls.{IsRolled}
@@ -27,10 +27,10 @@ no_rows names read rows es none empty =
     subst (λ (rs : List (Name × Snapshot)). AreRows names read rs es) (sym empty) (subst (λ n. AreRows names n [] es) (sym none) (record { named = refl; each = tt }))
 
 -- a row stays one
-pub row_grows : (e : Exchange) (es : Trace) (row : Name × Snapshot) → IsRow es row → IsRow (e ∷ es) row
+pub row_grows : (e : Exchange) (es : Trace) (row : Name × Snapshot) → IsReadRow es row → IsReadRow (e ∷ es) row
 row_grows e es row h = (h.0, (inr h.1.0, h.1.1), h.2)
 
-pub rows_grow : (e : Exchange) (es : Trace) (rows : List (Name × Snapshot)) → Each (IsRow es) rows → Each (IsRow (e ∷ es)) rows
+pub rows_grow : (e : Exchange) (es : Trace) (rows : List (Name × Snapshot)) → Each (IsReadRow es) rows → Each (IsReadRow (e ∷ es)) rows
 rows_grow e es [] h = tt
 rows_grow e es (row ∷ rows) h = (row_grows e es row h.0, rows_grow e es rows h.1)
 
@@ -60,7 +60,7 @@ row_more : (names : List Name) (read : ℕ) (rows : List (Name × Snapshot)) (n 
     → AreRows names (read + 1) (rows ++ (n, s) ∷ []) (giving (Ask.Get Kind.Snapshot n) (Say.Bytes x) emitted ∷ es)
 row_more names read rows n x s emitted es p named reads h = record {
   named = map_end rows (n, s) ∙ ap (λ l. l ++ n ∷ []) h.named ∙ sym (one_more names read n p);
-  each = let e : Exchange = giving (Ask.Get Kind.Snapshot n) (Say.Bytes x) emitted in each_end (IsRow (e ∷ es)) rows (n, s) (rows_grow e es rows h.each) (x, (inl (refl, refl), named), reads);
+  each = let e : Exchange = giving (Ask.Get Kind.Snapshot n) (Say.Bytes x) emitted in each_end (IsReadRow (e ∷ es)) rows (n, s) (rows_grow e es rows h.each) (x, (inl (refl, refl), named), reads);
 }
 
 -- ---- over the code's own types

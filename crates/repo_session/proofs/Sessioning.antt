@@ -19,10 +19,10 @@ use Rattle.repo_session.specs.Clients.{IsSteady}
 use Rattle.repo_session.specs.Obedience.{beside_unlock}
 use Rattle.repo_session.specs.Ends.{CausedBy, Concludes, IsCause, IsSpent, IsUnwelcome, before_unlock, without_unlock}
 use Rattle.repo_session.specs.Jobs.{Rule, task_under, MayAsk, MayStep}
-use Rattle.repo_session.specs.Lines.{IsSent, IsFinished, IsClosed, or_spent}
+use Rattle.repo_session.specs.Lines.{IsSentOnLine, IsFinished, IsClosed, or_spent}
 use Rattle.repo_session.specs.Obedience.{still_whole, holds_whole}
 use Rattle.repo_session.specs.Order.{Task, ticketed, locked, lock_row, opened, Holds, IsWork, IsUnlock, IsWorking, May, IsPermitted, Obeys}
-use Rattle.repo_session.specs.Sessions.{KnowsAt, Waits, Stands, SessionAt, EndsBy, Leaves, Follows, took}
+use Rattle.repo_session.specs.Sessions.{KnowsAt, Waits, Stands, SessionAt, SessionEndsBy, Leaves, Follows, took}
 use Rattle.repo_session.specs.Traces.{Each, Exchange, Trace, giving, silent}
 use Rattle.repo_session.proofs.Holding.{holds_of, unwelcome_ticket, unwelcome_lock, work_no_unlock, working_more}
 
@@ -114,7 +114,7 @@ module _ (rule : Rule) (holding : Holding) (lock : Option LockRow) (Fresh : Type
   spent_is None = (Outcome.Ended (End.Refused Code.Exhausted), refl)
   spent_is (Some o) = (o, refl)
 
-  sent : (line now : Line) (ask : Ask) (es : Trace) → IsSent line ask now → line.instance ≡ holding.who.instance → line.sequence ≡ length es → Obeys (task_under rule holding.who) rule.allows rule.gives es
+  sent : (line now : Line) (ask : Ask) (es : Trace) → IsSentOnLine line ask now → line.instance ≡ holding.who.instance → line.sequence ≡ length es → Obeys (task_under rule holding.who) rule.allows rule.gives es
       → May (task_under rule holding.who) es ask → IsPermitted rule.allows es ask → KnowsAt rule holding lock Fresh Knows line.outcome ask es
       → ((o : Outcome) → or_spent line.outcome ≡ Some o → IsSpent es → Concludes rule.concludes (before_unlock es) o) → SessionAt rule holding lock Fresh Knows now es
   sent line now ask es (inl p) i counted obeys may permitted knows ends = subst (λ l. SessionAt rule holding lock Fresh Knows l es) (sym p) (record {
@@ -136,7 +136,7 @@ module _ (rule : Rule) (holding : Holding) (lock : Option LockRow) (Fresh : Type
   spent_cause (e ∷ es) h = inr (refl, h)
 
   -- where there is no outcome yet
-  pub goes_on : (line now : Line) (ask : Ask) (es : Trace) → IsSent line ask now → line.instance ≡ holding.who.instance → line.sequence ≡ length es → line.outcome ≡ None → before_unlock es ≡ es
+  pub goes_on : (line now : Line) (ask : Ask) (es : Trace) → IsSentOnLine line ask now → line.instance ≡ holding.who.instance → line.sequence ≡ length es → line.outcome ≡ None → before_unlock es ≡ es
       → Obeys (task_under rule holding.who) rule.allows rule.gives es → May (task_under rule holding.who) es ask → IsPermitted rule.allows es ask → KnowsAt rule holding lock Fresh Knows line.outcome ask es
       → SessionAt rule holding lock Fresh Knows now es
   goes_on line now ask es s i counted none whole obeys may permitted knows =
@@ -212,7 +212,7 @@ module _ (rule : Rule) (holding : Holding) (lock : Option LockRow) (Fresh : Type
     obeys_more = (waits.next.may, waits.next.permitted, inl refl, at.obeys)
 
     -- the reply to the ticket
-    ticketed_now : (t : Token) (lock' : Option LockRow) (now : Line) → r.ask ≡ Ask.Ticket → say ≡ Say.Token t → IsSent line (Ask.Lock (lock_row (task_under rule holding.who) t)) now
+    ticketed_now : (t : Token) (lock' : Option LockRow) (now : Line) → r.ask ≡ Ask.Ticket → say ≡ Say.Token t → IsSentOnLine line (Ask.Lock (lock_row (task_under rule holding.who) t)) now
         → SessionAt rule (record { who = holding.who; token = t }) lock' Fresh Knows now (e ∷ es)
     ticketed_now t lock' now q is s =
         let k = known Ask.Ticket q in
@@ -230,14 +230,14 @@ module _ (rule : Rule) (holding : Holding) (lock : Option LockRow) (Fresh : Type
         (closes rule (record { who = holding.who; token = holding'.token }) lock' Fresh Knows line now (Outcome.Ended end) (e ∷ es) c at.instance obeys_more
         (subst (λ fs. Concludes rule.concludes fs (Outcome.Ended end)) (sym (still_whole e es plain)) (inl (inl caused))) (λ t h. absurd (free t h)))
 
-    ticket_closed : (holding' : Holding) (lock' : Option LockRow) (end : End) (now : Line) → holding'.who ≡ holding.who → r.ask ≡ Ask.Ticket → ((t : Token) → say ≢ Say.Token t) → EndsBy r.ask say end
+    ticket_closed : (holding' : Holding) (lock' : Option LockRow) (end : End) (now : Line) → holding'.who ≡ holding.who → r.ask ≡ Ask.Ticket → ((t : Token) → say ≢ Say.Token t) → SessionEndsBy r.ask say end
         → IsClosed line (Outcome.Ended end) now → SessionAt rule holding' lock' Fresh Knows now (e ∷ es)
     ticket_closed holding' lock' end now who q other ends c =
         closed_now holding' lock' end now who c (plain_by r.ask Ask.Ticket q ticket_plain) (ends.1 (subst (λ a. IsUnwelcome a say) (sym q) (unwelcome_ticket say other)) (e ∷ es))
         (λ t h. unasked_free (task_under rule holding.who) e es t (may Ask.Ticket q) h)
 
     -- the reply to the lock
-    locked_now : (row : LockRow) (now : Line) → r.ask ≡ Ask.Lock row → say ≡ Say.Done → IsSent line Ask.Config now → SessionAt rule holding lock Fresh Knows now (e ∷ es)
+    locked_now : (row : LockRow) (now : Line) → r.ask ≡ Ask.Lock row → say ≡ Say.Done → IsSentOnLine line Ask.Config now → SessionAt rule holding lock Fresh Knows now (e ∷ es)
     locked_now row now q is s =
         let k = known (Ask.Lock row) q in
         let m : (token : Token) × (es ≡ ticketed token) × (row ≡ lock_row (task_under rule holding.who) token) = may (Ask.Lock row) q in
@@ -259,7 +259,7 @@ module _ (rule : Rule) (holding : Holding) (lock : Option LockRow) (Fresh : Type
         one_ticket : (t u : Token) → ticketed t ≡ ticketed u → t ≡ u
         one_ticket t u h = ap (λ fs. token_in (newest fs)) h
 
-    lock_closed : (row : LockRow) (end : End) (now : Line) → r.ask ≡ Ask.Lock row → say ≢ Say.Done → EndsBy r.ask say end → IsClosed line (Outcome.Ended end) now
+    lock_closed : (row : LockRow) (end : End) (now : Line) → r.ask ≡ Ask.Lock row → say ≢ Say.Done → SessionEndsBy r.ask say end → IsClosed line (Outcome.Ended end) now
         → SessionAt rule holding lock Fresh Knows now (e ∷ es)
     lock_closed row end now q other ends c =
         let k = known (Ask.Lock row) q in
@@ -274,7 +274,7 @@ module _ (rule : Rule) (holding : Holding) (lock : Option LockRow) (Fresh : Type
         ap (λ a. silent a say ∷ es) q ∙ ap (λ s. silent Ask.Config s ∷ es) is ∙ ap (λ fs. silent Ask.Config (Say.Bytes text) ∷ fs) k.2
 
     -- it is read, and the job begins
-    pub begun : (Fresh' : Type 0) (Knows' : Ask → Trace → Type 0) (text : List ℕ) (config : Config) (ask : Ask) (now : Line) → r.ask ≡ Ask.Config → say ≡ Say.Bytes text → IsConfigText text config → IsSent line ask now
+    pub begun : (Fresh' : Type 0) (Knows' : Ask → Trace → Type 0) (text : List ℕ) (config : Config) (ask : Ask) (now : Line) → r.ask ≡ Ask.Config → say ≡ Say.Bytes text → IsConfigText text config → IsSentOnLine line ask now
         → (Fresh → MayAsk rule holding.who Knows' (opened (task_under rule holding.who) holding.token text) ask) → SessionAt rule holding lock Fresh' Knows' now (e ∷ es)
     begun Fresh' Knows' text config ask now q is reads s begins =
         let k = known Ask.Config q in
@@ -294,8 +294,8 @@ module _ (rule : Rule) (holding : Holding) (lock : Option LockRow) (Fresh : Type
         (λ live. record { later = e ∷ []; since = ap (λ fs. e ∷ fs) k.2; held = record { unfenced = (live, tt); unended = (plain, tt) } })
 
   -- what a ticket's reply makes of the session
-  pub ticket_taken : (say : Say) (holding' : Holding) (lock' : Option LockRow) (end : End) (now : Line) → holding'.who ≡ holding.who → r.ask ≡ Ask.Ticket → EndsBy r.ask say end
-      → ((t : Token) (row : LockRow) → say ≡ Say.Token t → lock ≡ Some row → (holding'.token ≡ t) × IsSent line (Ask.Lock (row_of t row.exclusive row.time row.host)) now)
+  pub ticket_taken : (say : Say) (holding' : Holding) (lock' : Option LockRow) (end : End) (now : Line) → holding'.who ≡ holding.who → r.ask ≡ Ask.Ticket → SessionEndsBy r.ask say end
+      → ((t : Token) (row : LockRow) → say ≡ Say.Token t → lock ≡ Some row → (holding'.token ≡ t) × IsSentOnLine line (Ask.Lock (row_of t row.exclusive row.time row.host)) now)
       → (((t : Token) → say ≢ Say.Token t) → IsClosed line (Outcome.Ended end) now) → SessionAt rule holding' lock' Fresh Knows now (silent r.ask say ∷ es)
   ticket_taken (Say.Token t) holding' lock' end now who q ends given other =
       let g = given t (lock_row (task_under rule holding.who) (record { 0 = 0 })) refl (known Ask.Ticket q).2 in
@@ -313,7 +313,7 @@ module _ (rule : Rule) (holding : Holding) (lock : Option LockRow) (Fresh : Type
       let n : (t : Token) → Say.Refused code ≢ Say.Token t = λ t x. absurd (cc) in ticket_closed (Say.Refused code) holding' lock' end now who q n ends (other n)
 
   -- and a lock's
-  pub lock_taken : (say : Say) (row : LockRow) (end : End) (now : Line) → r.ask ≡ Ask.Lock row → EndsBy r.ask say end → (say ≡ Say.Done → IsSent line Ask.Config now)
+  pub lock_taken : (say : Say) (row : LockRow) (end : End) (now : Line) → r.ask ≡ Ask.Lock row → SessionEndsBy r.ask say end → (say ≡ Say.Done → IsSentOnLine line Ask.Config now)
       → (say ≢ Say.Done → IsClosed line (Outcome.Ended end) now) → SessionAt rule holding lock Fresh Knows now (silent r.ask say ∷ es)
   lock_taken Say.Done row end now q ends given other = locked_now Say.Done row now q refl (given refl)
   lock_taken (Say.Token t) row end now q ends given other = let n : Say.Token t ≢ Say.Done = λ x. absurd (cc) in lock_closed (Say.Token t) row end now q n ends (other n)
@@ -336,7 +336,7 @@ module _ (rule : Rule) (holding : Holding) (lock : Option LockRow) (Fresh : Type
     working_on f is live = working_more (task_under rule holding.who) holding.token f es working.0 live (plain_by f.ask r.ask is (work_no_unlock r.ask work))
 
     -- the session ends on the reply
-    pub work_left : (say : Say) (Fresh' : Type 0) (Knows' : Ask → Trace → Type 0) (end : End) (old new : Head) → old.line ≡ line → old.holder ≡ holding → IsUnwelcome r.ask say → EndsBy r.ask say end
+    pub work_left : (say : Say) (Fresh' : Type 0) (Knows' : Ask → Trace → Type 0) (end : End) (old new : Head) → old.line ≡ line → old.holder ≡ holding → IsUnwelcome r.ask say → SessionEndsBy r.ask say end
         → Leaves old end new → SessionAt rule holding lock Fresh' Knows' new.line (silent r.ask say ∷ es)
     work_left say Fresh' Knows' end old new same is unwelcome ends left =
         let f : Exchange = silent r.ask say in
@@ -345,11 +345,11 @@ module _ (rule : Rule) (holding : Holding) (lock : Option LockRow) (Fresh : Type
 
     -- the job goes on, or ends
     pub stepped : (Fresh' : Type 0) (Knows' : Ask → Trace → Type 0) (say : Say) (emitted : List Emission) (step : Step) (end : End) (old new : Head) → old.line ≡ line → old.holder ≡ holding → say ≢ Say.Refused Code.Dead
-        → MayStep rule holding.who Knows' es (giving r.ask say emitted) step → EndsBy r.ask say end → Follows old step end new
+        → MayStep rule holding.who Knows' es (giving r.ask say emitted) step → SessionEndsBy r.ask say end → Follows old step end new
         → SessionAt rule holding lock Fresh' Knows' new.line (giving r.ask say (cond (took step) emitted []) ∷ es)
     stepped Fresh' Knows' say emitted (Step.Ask ask) end old new same is live m ends s =
         let f : Exchange = giving r.ask say emitted in
-        goes_on rule holding lock Fresh' Knows' line new.line ask (f ∷ es) (subst (λ l. IsSent l ask new.line) same s) at.instance (more line.sequence f es waits.counted) working.1 (still_whole f es (work_no_unlock r.ask work))
+        goes_on rule holding lock Fresh' Knows' line new.line ask (f ∷ es) (subst (λ l. IsSentOnLine l ask new.line) same s) at.instance (more line.sequence f es waits.counted) working.1 (still_whole f es (work_no_unlock r.ask work))
         (waits.next.may, waits.next.permitted, m.0, at.obeys) m.1.may (λ w. m.1.allowed) (at_work rule holding lock Fresh' Knows' line.outcome ask (f ∷ es) m.1.work (working_on f refl live, working.1, m.1.knows))
     stepped Fresh' Knows' say emitted (Step.Finish o) end old new same is live m ends s =
         let f : Exchange = giving r.ask say emitted in

@@ -18,9 +18,9 @@ use Rattle.repo_store.proofs.ServiceLemmas.{causes_on}
 use Rattle.repo_session.specs.declared.connections.Connection.{Connection}
 use Rattle.repo_session.specs.declared.driving.DriveError.{DriveError}
 use Rattle.repo_session.specs.declared.emissions.Emission.{Emission}
-use Rattle.repo_session.specs.Clients.{Answers, exchange}
-use Rattle.repo_session.specs.Connections.{BeginsWith, Asks}
-use Rattle.repo_session.specs.Talks.{Turn, Talk, IsTurn, trace_of, sent_in, taken_in, read_in, frames_of, Went, Said, IsHeard, WritesPart, ArePassed, DriveCause, TalkRan, MayStep, AskGives}
+use Rattle.repo_session.specs.Clients.{IsReplyTo, exchange}
+use Rattle.repo_session.specs.Connections.{BeginsWithReplies, Asks}
+use Rattle.repo_session.specs.Talks.{Turn, Talk, IsTurn, first_carried, trace_of, sent_in, taken_in, read_in, frames_of, Went, Said, IsHeard, WritesPart, ArePassed, DriveCause, TalkRan, MayBeAhead, AskGives}
 use Rattle.repo_session.specs.Traces.{Each, Trace}
 use Rattle.repo_session.proofs.Connecting.{begins}
 
@@ -52,6 +52,12 @@ whole_next a b sent request p =
     let same : frames_of (sent ++ request ∷ []) ≡ frames_of sent ++ take (length body) body = frames_on sent request ∙ ap (λ x. frames_of sent ++ x) (sym (take-length body)) in
     (length body, subst (λ x. Appends a b x) same p)
 
+-- after one turn more the same request is the one that is carried first
+pub first_of_more : (sent : List Request) (request : Request) (before now later : Option Request) → now ≡ Some request → first_carried sent now ≡ before
+    → first_carried (sent ++ request ∷ []) later ≡ before
+first_of_more [] request before now later is first = sym is ∙ first
+first_of_more (r ∷ sent) request before now later is first = first
+
 -- no turn
 pub went_nowhere : {C : Type 0} (Fits : C → Trace → Type 0) (client : C) → Went Fits client [] client
 went_nowhere Fits client = record { turns = tt; fits = λ es h. h }
@@ -61,8 +67,8 @@ passed_none None = tt
 passed_none (Some request) = tt
 
 -- what was heard, with no more replies behind the turns
-pub heard_all : (bytes : List ℕ) (talk : Talk) → BeginsWith bytes (read_in talk) → IsHeard (record { bytes = bytes; talk = talk; more = [] })
-heard_all bytes talk h = subst (λ x. BeginsWith bytes x) (sym (append-nil (read_in talk))) h
+pub heard_all : (bytes : List ℕ) (talk : Talk) → BeginsWithReplies bytes (read_in talk) → IsHeard (record { bytes = bytes; talk = talk; more = [] })
+heard_all bytes talk h = subst (λ x. BeginsWithReplies bytes x) (sym (append-nil (read_in talk))) h
 
 -- why a request wasn't answered
 pub unanswered : (error : DriveError) (request : Request) (bytes : List ℕ) (talk : Talk) (passed : List Reply) (new : Connection) (next : Option Request) (a b c : Option (List ℕ))
@@ -75,7 +81,7 @@ unanswered error request bytes talk passed new next a b c same h asks w =
     at : (error : DriveError) → Asks request (Err error) bytes (read_in talk) passed new b c
         → DriveCause error (record { bytes = bytes; talk = talk; more = passed }) (Some request) × ((k : ℕ) × Appends b c (take k (frame (request_body request))))
     at DriveError.Read x = ((x.0, h), x.1)
-    at DriveError.Write x = ((subst (λ more. BeginsWith bytes (read_in talk ++ more)) (sym x.1) (subst (λ z. BeginsWith bytes z) (sym (append-nil (read_in talk))) x.0), x.1), x.2)
+    at DriveError.Write x = ((subst (λ more. BeginsWithReplies bytes (read_in talk ++ more)) (sym x.1) (subst (λ z. BeginsWithReplies bytes z) (sym (append-nil (read_in talk))) x.0), x.1), x.2)
     at DriveError.Malformed x = ((x.0.0, x.0.1, h), x.1)
     at DriveError.Limit x = ((x.0.0, h, inr x.0.1), x.1)
     at DriveError.Memory x = (x.0, x.1)
@@ -100,12 +106,12 @@ ran_on from failed talk turn mid count to failing r s f = record {
   cause = causes_on failed count failing (taken_in talk) turn.reply r.cause f;
 }
 
-pub may_stay : (mid : Store) (next : Option Request) → MayStep mid next mid
+pub may_stay : (mid : Store) (next : Option Request) → MayBeAhead mid next mid
 may_stay mid None = refl
 may_stay mid (Some request) = inl refl
 
-pub may_step : (mid : Store) (next : Option Request) (request : Request) (reply : Reply) (to : Store) → next ≡ Some request → Replies mid request reply to → MayStep mid next to
-may_step mid next request reply to same s = subst (λ n. MayStep mid n to) (sym same) (inr (reply, s))
+pub may_step : (mid : Store) (next : Option Request) (request : Request) (reply : Reply) (to : Store) → next ≡ Some request → Replies mid request reply to → MayBeAhead mid next to
+may_step mid next request reply to same s = subst (λ n. MayBeAhead mid n to) (sym same) (inr (reply, s))
 
 -- what was kept of one turn more
 pub kept_on : (out old new given emitted : List Emission) → old ≡ out ++ given → new ≡ old ++ emitted → new ≡ out ++ (given ++ emitted)
@@ -153,11 +159,11 @@ unasked request contents = (refl, ([], refl), (0, Appends-nil contents))
 
 -- what asking over a new connection gives
 pub once_asked : (request : Request) → FitsFrame requests request → (result : Result Reply DriveError) (bytes : List ℕ) (passed : List Reply) (new : Connection) (a b c d : Option (List ℕ)) → Consumes a b bytes
-    → Each (λ reply. ¬ Answers request reply) passed → Asks request result bytes [] passed new c d → (said : Said) × Consumes a b said.bytes × AskGives request result said c d
+    → Each (λ reply. ¬ IsReplyTo request reply) passed → Asks request result bytes [] passed new c d → (said : Said) × Consumes a b said.bytes × AskGives request result said c d
 once_asked request fits (Ok reply) bytes passed new a b c d read others asks =
     let turn : Turn = record { request = request; passed = passed; reply = reply; emitted = [] } in
     let talk : Talk = turn ∷ [] in
-    let heard : BeginsWith bytes (passed ++ reply ∷ []) = begins bytes (passed ++ reply ∷ []) new asks.0.1 in (
+    let heard : BeginsWithReplies bytes (passed ++ reply ∷ []) = begins bytes (passed ++ reply ∷ []) new asks.0.1 in (
       record { bytes = bytes; talk = talk; more = [] },
       read,
       (passed, refl, (record { fits = fits; passed = others; answers = asks.0.0 }, tt), heard_all bytes talk heard, refl, subst (λ x. Appends c d x) (sym (append-nil (frame (request_body request)))) asks.1),

@@ -11,13 +11,13 @@ use Rattle.repo_session.specs.Order.{Task, IsUnlock, Holds, May, IsPermitted, Ob
 use Rattle.repo_session.specs.Traces.{Exchange, Trace, giving}
 
 -- the reply is to this request
-abbrev pub Answers : Request → Reply → Type 0
-Answers request reply = (reply.instance ≡ request.instance) × (reply.sequence ≡ request.sequence)
+abbrev pub IsReplyTo : Request → Reply → Type 0
+IsReplyTo request reply = (reply.instance ≡ request.instance) × (reply.sequence ≡ request.sequence)
 
 -- the reply is to the request that is pending
 abbrev pub AnswersNext : Option Request → Reply → Type 0
 AnswersNext None reply = ⊥
-AnswersNext (Some request) reply = Answers request reply
+AnswersNext (Some request) reply = IsReplyTo request reply
 
 -- the exchange of a request and its reply, on which this was given out
 abbrev pub exchange : Request → Reply → List Emission → Exchange

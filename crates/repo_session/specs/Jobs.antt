@@ -50,8 +50,8 @@ MayStep rule who Knows es e Step.Away = IsUnwelcome e.ask e.say
 -- ---- what a job's calls owe
 
 -- the first request, after each trace that only opened
-abbrev pub Begins : Rule → Holding → Type 0 → (Ask → Trace → Type 0) → Config → Ask → Type 0
-Begins rule holding Fresh Knows config ask = (text : List ℕ) → Fresh → IsConfigText text config → MayAsk rule holding.who Knows (opened (task_under rule holding.who) holding.token text) ask
+abbrev pub JobBegins : Rule → Holding → Type 0 → (Ask → Trace → Type 0) → Config → Ask → Type 0
+JobBegins rule holding Fresh Knows config ask = (text : List ℕ) → Fresh → IsConfigText text config → MayAsk rule holding.who Knows (opened (task_under rule holding.who) holding.token text) ask
 
 -- the step on an exchange, after each trace at whose end the job's request was pending; the lock is held after the exchange
 abbrev pub StepsOn : Rule → Holding → (Ask → Trace → Type 0) → (Ask → Trace → Type 0) → Exchange → Step → Type 0

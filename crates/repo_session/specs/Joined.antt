@@ -5,9 +5,9 @@ use Rattle.repo_wire.specs.declared.messages.Request.{Request}
 use Rattle.repo_wire.specs.Messages.{requests}
 use Rattle.repo_wire.specs.Stream.{FitsFrame}
 use Rattle.repo_store.specs.declared.serving.ServeError.{ServeError}
-use Rattle.repo_store.specs.Serving.{Moment, Past, shown, plain, SomeServed, Serves}
+use Rattle.repo_store.specs.Serving.{Moment, Past, shown, plain, SomeServed, ServesConnection}
 use Rattle.repo_store.specs.Stores.{Store}
-use Rattle.repo_session.specs.Talks.{Said, IsTurn, IsHeard, sent_in, frames_of, pending_frame, TalkRan, MayStep}
+use Rattle.repo_session.specs.Talks.{Said, IsTurn, IsHeard, sent_in, frames_of, pending_frame, TalkRan, MayBeAhead}
 use Rattle.repo_session.specs.Traces.{Each}
 
 -- these are the first ones of some bytes
@@ -34,9 +34,9 @@ IsSendable next = (request : Request) → next ≡ Some request → FitsFrame re
 abbrev pub JoinedTalkIsARun : Type 0
 JoinedTalkIsARun = (said : Said) (next : Option Request) (before after : Moment) (past : Past)
     → IsSaid said → IsSendable next → SomeServed plain before past after → AreJoined said next past
-    → (mid : Store) × TalkRan before.store before.failures said.talk mid after.failures × MayStep mid next after.store
+    → (mid : Store) × TalkRan before.store before.failures said.talk mid after.failures × MayBeAhead mid next after.store
 
 -- whatever serving gives, there are first bytes of those that were read, whose requests were answered, and some first part of the replies' frames was written
 abbrev pub ServingServes : Type 0
-ServingServes = (input left : Option (List ℕ)) (before after : Moment) (result : Result ℕ ServeError) → Serves input before result left after
+ServingServes = (input left : Option (List ℕ)) (before after : Moment) (result : Result ℕ ServeError) → ServesConnection input before result left after
     → (past : Past) × (unread : List ℕ) × Consumes input left (past.bytes ++ unread) × SomeServed plain before past after

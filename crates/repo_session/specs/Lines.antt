@@ -13,14 +13,14 @@ or_spent None = Some (Outcome.Ended (End.Refused Code.Exhausted))
 or_spent (Some outcome) = Some outcome
 
 -- the request is pending; or the numbers are spent, and nothing is
-abbrev pub IsSent : Line → Ask → Line → Type 0
-IsSent old ask new =
+abbrev pub IsSentOnLine : Line → Ask → Line → Type 0
+IsSentOnLine old ask new =
     (new ≡ record { instance = old.instance; sequence = old.sequence + 1; next = Some (record { instance = old.instance; sequence = old.sequence + 1; ask = ask }); outcome = old.outcome })
     ⊎ ((2 ^ 64 - 1 ≤ old.sequence) × (new ≡ record { instance = old.instance; sequence = old.sequence; next = None; outcome = or_spent old.outcome }))
 
 -- there is this outcome, and the unlock is pending unless the numbers are spent
 abbrev pub IsFinished : Line → Outcome → Token → Line → Type 0
-IsFinished old outcome token new = IsSent (record { instance = old.instance; sequence = old.sequence; next = old.next; outcome = Some outcome }) (Ask.Unlock token) new
+IsFinished old outcome token new = IsSentOnLine (record { instance = old.instance; sequence = old.sequence; next = old.next; outcome = Some outcome }) (Ask.Unlock token) new
 
 -- there is this outcome, and nothing is pending
 abbrev pub IsClosed : Line → Outcome → Line → Type 0

@@ -20,19 +20,19 @@ use Rattle.repo_session.specs.Rolls.{Rolls}
 use Rattle.repo_session.specs.Traces.{Each, Exchange, Trace, giving, names_in, IsListed, IsRead}
 
 -- the snapshot is what the bytes read under its name say
-abbrev pub IsRow : Trace → Name × Snapshot → Type 0
-IsRow es row = (x : List ℕ) × IsRead es Kind.Snapshot row.0 x × IsSnapshotText x row.1
+abbrev pub IsReadRow : Trace → Name × Snapshot → Type 0
+IsReadRow es row = (x : List ℕ) × IsRead es Kind.Snapshot row.0 x × IsSnapshotText x row.1
 
 -- the snapshots are listed to their end; the rows have the names that were listed, in order, and each row's snapshot is what was read under its name
 pub record IsListing (es : Trace) (rows : List (Name × Snapshot)) : Type 0 where
   pub listed : IsListed Kind.Snapshot es
   pub names : map (λ row. row.0) rows ≡ names_in Kind.Snapshot es
-  pub each : Each (IsRow es) rows
+  pub each : Each (IsReadRow es) rows
 
 -- the rows are those of the first names
 pub record AreRows (names : List Name) (read : ℕ) (rows : List (Name × Snapshot)) (es : Trace) : Type 0 where
   pub named : map (λ row. row.0) rows ≡ take read names
-  pub each : Each (IsRow es) rows
+  pub each : Each (IsReadRow es) rows
 
 -- ---- over the code's own types
 

@@ -17,7 +17,7 @@ use Rattle.repo_session.specs.Askers.{Asker, Holding}
 use Rattle.repo_session.specs.Clients.{IsNext}
 use Rattle.repo_session.specs.Ends.{CausedBy, Concludes, IsSpent, IsUnwelcome, before_unlock}
 use Rattle.repo_session.specs.Jobs.{Rule, task_under}
-use Rattle.repo_session.specs.Lines.{IsSent, IsFinished, IsClosed}
+use Rattle.repo_session.specs.Lines.{IsSentOnLine, IsFinished, IsClosed}
 use Rattle.repo_session.specs.Order.{ticketed, locked, lock_row, Holds, IsWorking, Obeys}
 use Rattle.repo_session.specs.Traces.{Trace}
 
@@ -56,8 +56,8 @@ pub record SessionAt (rule : Rule) (holding : Holding) (lock : Option LockRow) (
   pub stands : Stands rule holding lock Fresh Knows line line.next es
 
 -- where the reply is a refusal, or of the wrong sort, it is a cause of this end
-abbrev pub EndsBy : Ask → Say → End → Type 0
-EndsBy ask say end = (say ≡ Say.Refused Code.Dead → end ≡ End.Fenced) × (IsUnwelcome ask say → (es : Trace) → CausedBy es ask say end)
+abbrev pub SessionEndsBy : Ask → Say → End → Type 0
+SessionEndsBy ask say end = (say ≡ Say.Refused Code.Dead → end ≡ End.Fenced) × (IsUnwelcome ask say → (es : Trace) → CausedBy es ask say end)
 
 -- ---- over the code's own types
 
@@ -86,7 +86,7 @@ pub record Leaves (old : Head) (end : End) (new : Head) : Type 0 where
 
 -- what is sent on a job's step, of whose reply this would be the end
 abbrev pub Follows : Head → Step → End → Head → Type 0
-Follows old (Step.Ask ask) end new = IsSent old.line ask new.line
+Follows old (Step.Ask ask) end new = IsSentOnLine old.line ask new.line
 Follows old (Step.Finish outcome) end new = IsFinished old.line outcome old.holder.token new.line
 Follows old Step.Away end new = Leaves old end new
 

@@ -7,13 +7,13 @@ use Rattle.repo_wire.specs.declared.messages.Reply.{Reply}
 use Rattle.repo_wire.specs.declared.messages.Request.{Request}
 use Rattle.repo_wire.specs.Messages.{replies, requests, request_body}
 use Rattle.repo_wire.specs.Stream.{frame, FitsFrame, AreFrames, IsStream, Fails}
-use Rattle.repo_store.specs.Runs.{Replies, Run}
+use Rattle.repo_store.specs.Runs.{Replies, StoreRun}
 use Rattle.repo_store.specs.Serving.{HaveCause}
 use Rattle.repo_store.specs.Stores.{Store}
 use Rattle.repo_session.specs.declared.driving.DriveError.{DriveError}
 use Rattle.repo_session.specs.declared.emissions.Emission.{Emission}
 use Rattle.repo_session.specs.declared.stepping.StepError.{StepError}
-use Rattle.repo_session.specs.Clients.{Answers, exchange}
+use Rattle.repo_session.specs.Clients.{IsReplyTo, exchange}
 use Rattle.repo_session.specs.Traces.{Each, Trace}
 
 -- a request that was sent, the replies that were passed over as they weren't to it, the reply to it, and what was given out on that
@@ -30,8 +30,8 @@ Talk = List Turn
 -- the request fits a frame; the reply is to it, and those passed over aren't
 pub record IsTurn (turn : Turn) : Type 0 where
   pub fits : FitsFrame requests turn.request
-  pub passed : Each (λ reply. ¬ Answers turn.request reply) turn.passed
-  pub answers : Answers turn.request turn.reply
+  pub passed : Each (λ reply. ¬ IsReplyTo turn.request reply) turn.passed
+  pub answers : IsReplyTo turn.request turn.reply
 
 -- the exchanges of a talk
 abbrev pub trace_of : Talk → Trace
@@ -83,6 +83,11 @@ abbrev pub pending_frame : Option Request → List ℕ
 pending_frame None = []
 pending_frame (Some request) = frame (request_body request)
 
+-- the request that is carried first: of those that were sent the first, and where none was answered the one that is pending
+abbrev pub first_carried : List Request → Option Request → Option Request
+first_carried [] next = next
+first_carried (request ∷ sent) next = Some request
+
 -- the frames of the requests sent were written, and some first part of the pending one's
 abbrev pub WritesPart : Option (List ℕ) → List Request → Option Request → Option (List ℕ) → Type 0
 WritesPart start sent next contents = (k : ℕ) × Appends start contents (frames_of sent ++ take k (pending_frame next))
@@ -90,7 +95,7 @@ WritesPart start sent next contents = (k : ℕ) × Appends start contents (frame
 -- where a request is pending, the replies after the turns aren't to it
 abbrev pub ArePassed : Option Request → List Reply → Type 0
 ArePassed None more = ⊤
-ArePassed (Some request) more = Each (λ reply. ¬ Answers request reply) more
+ArePassed (Some request) more = Each (λ reply. ¬ IsReplyTo request reply) more
 
 -- what an error of a driver comes for, where this request is pending
 abbrev pub DriveCause : DriveError → Said → Option Request → Type 0
@@ -102,12 +107,13 @@ DriveCause DriveError.Memory said next = IsHeard said
 DriveCause DriveError.Sink said next = IsHeard said × (said.more ≡ [])
 
 -- what driving a client gives: on Ok all requests were sent and answered, and nothing is pending; on an error the same of some first ones,
--- and of the one that is pending some first part may have been written
+-- and of the one that is pending some first part may have been written. The one that was pending before goes first.
 abbrev pub Drives : {C : Type 0} → (C → Trace → Type 0) → (C → Option Request) → C → Result ℕ DriveError → C → Said → Option (List ℕ) → Option (List ℕ) → Type 0
 Drives Fits next old (Ok n) new said start contents =
     Went Fits old said.talk new × (n ≡ length said.talk) × (next new ≡ None) × IsHeard said × (said.more ≡ []) × Appends start contents (frames_of (sent_in said.talk))
+    × (first_carried (sent_in said.talk) (next new) ≡ next old)
 Drives Fits next old (Err error) new said start contents =
-    Went Fits old said.talk new × DriveCause error said (next new) × WritesPart start (sent_in said.talk) (next new) contents
+    Went Fits old said.talk new × DriveCause error said (next new) × WritesPart start (sent_in said.talk) (next new) contents × (first_carried (sent_in said.talk) (next new) ≡ next old)
 
 -- what asking one request gives
 abbrev pub AskGives : Request → Result Reply DriveError → Said → Option (List ℕ) → Option (List ℕ) → Type 0
@@ -119,13 +125,13 @@ AskGives request (Err error) said start contents = (said.talk ≡ []) × DriveCa
 
 -- the requests and replies of a talk are a run of the store machine
 pub record TalkRan (from : Store) (failed : ℕ) (talk : Talk) (to : Store) (failing : ℕ) : Type 0 where
-  pub run : Run from (sent_in talk) (taken_in talk) to
+  pub run : StoreRun from (sent_in talk) (taken_in talk) to
   pub cause : HaveCause failed (taken_in talk) failing
 
 -- the store may have gone one step further, on the request that is pending
-abbrev pub MayStep : Store → Option Request → Store → Type 0
-MayStep mid None to = to ≡ mid
-MayStep mid (Some request) to = (to ≡ mid) ⊎ ((reply : Reply) × Replies mid request reply to)
+abbrev pub MayBeAhead : Store → Option Request → Store → Type 0
+MayBeAhead mid None to = to ≡ mid
+MayBeAhead mid (Some request) to = (to ≡ mid) ⊎ ((reply : Reply) × Replies mid request reply to)
 
 -- what a client's steps against an honest shelf give: its requests and replies are a run of the store machine. On Ok all were made, and nothing is
 -- pending; without memory some first ones, the store may be one step ahead of the client, and some first part of what was given out was kept
@@ -135,4 +141,4 @@ Steps Fits next old (Ok n) new talk from failed to failing out kept =
 Steps Fits next old (Err StepError.Limit) new talk from failed to failing out kept =
     Went Fits old talk new × (length talk ≡ 2 ^ 32) × (next new ≢ None) × TalkRan from failed talk to failing × (kept ≡ out ++ given_in talk)
 Steps Fits next old (Err StepError.Memory) new talk from failed to failing out kept =
-    Went Fits old talk new × ((mid : Store) × (count : ℕ) × TalkRan from failed talk mid count × (count ≤ failing) × MayStep mid (next new) to) × ((k : ℕ) × (kept ≡ out ++ take k (given_in talk)))
+    Went Fits old talk new × ((mid : Store) × (count : ℕ) × TalkRan from failed talk mid count × (count ≤ failing) × MayBeAhead mid (next new) to) × ((k : ℕ) × (kept ≡ out ++ take k (given_in talk)))

@@ -9,7 +9,7 @@ ghost use Rattle.repo_wire.specs.Messages.{requests};
 ghost use Rattle.repo_wire.specs.Stream.{FitsFrame};
 ghost use Rattle.repo_session.specs.declared.emissions.Emission.{Emission};
 ghost use Rattle.repo_session.specs.declared.outcomes.Outcome.{Outcome};
-ghost use Rattle.repo_session.specs.Clients.{Answers, AnswersNext, exchange, IsObedient, IsSteady};
+ghost use Rattle.repo_session.specs.Clients.{IsReplyTo, AnswersNext, exchange, IsObedient, IsSteady};
 ghost use Rattle.repo_session.specs.Order.{Task};
 ghost use Rattle.repo_session.specs.Traces.{Exchange, Trace};
 
@@ -59,7 +59,7 @@ pub trait Client {
     /// may be taken again. No memory is asked for a reply that isn't to the pending request, nor for one to
     /// a ticket, a lock or an unlock, nor for a refusal where the job is calm. An outcome that is there stays.
     fn take(&mut self, reply: &Reply) -> Result<(), AllocError>
-        ensures taken { OnOk result ((request : Request) → next self.old ≡ Some request → Answers request reply.now
+        ensures taken { OnOk result ((request : Request) → next self.old ≡ Some request → IsReplyTo request reply.now
             → (es : Trace) → fits self.old es → fits self.new (exchange request reply.now (given self.new) ∷ es)) }
         ensures other { ¬ AnswersNext (next self.old) reply.now → self.new ≡ self.old }
         ensures steady { ¬ AnswersNext (next self.old) reply.now → IsOk result }

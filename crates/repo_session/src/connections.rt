@@ -5,8 +5,8 @@ ghost use Rattle.std.specs.Io.KnownBytes.{Consumes};
 ghost use Rattle.repo_wire.specs.declared.messages.Reply.{Reply};
 ghost use Rattle.repo_wire.specs.Messages.{requests};
 ghost use Rattle.repo_wire.specs.Stream.{FitsFrame};
-ghost use Rattle.repo_session.specs.Clients.{Answers};
-ghost use Rattle.repo_session.specs.Connections.{Heard, ReadsOn, HearsNext, ArePassed, Hears, Asks};
+ghost use Rattle.repo_session.specs.Clients.{IsReplyTo};
+ghost use Rattle.repo_session.specs.Connections.{Heard, ConnectionReads, HearsNext, AreReadPast, Hears, Asks};
 
 use crate::driving::DriveError;
 use repo_store::write_whole;
@@ -19,7 +19,7 @@ const READS: u64 = 1 << 48;
 
 /// Whether the reply is to the request.
 pub fn answers(request: &Request, reply: &Reply) -> bool
-    ensures { IsTrue result ↔ Answers request.now reply.now }
+    ensures { IsTrue result ↔ IsReplyTo request.now reply.now }
 {
     reply.instance == request.instance && reply.sequence == request.sequence
 }
@@ -52,7 +52,7 @@ impl Connection {
         ensures counted { IfOk result (λ _. self.new.reads ≡ self.old.reads + 1) }
         ensures room { length piece.new ≡ length piece.old }
         ensures heard { (bytes : List ℕ) (told : List Reply) → Heard bytes told self.old
-            → (more : List ℕ) × Consumes (R.remaining reader.old) (R.remaining reader.new) more × ReadsOn result (bytes ++ more) told self.new }
+            → (more : List ℕ) × Consumes (R.remaining reader.old) (R.remaining reader.new) more × ConnectionReads result (bytes ++ more) told self.new }
     {
         match reader.read(piece) {
             Ok(0) => Err(DriveError::Read),
@@ -91,7 +91,7 @@ impl Connection {
         requires room { 0 < length piece.old }
         ensures { (bytes : List ℕ) (told : List Reply) → Heard bytes told self.old
             → (more : List ℕ) × Consumes (R.remaining reader.old) (R.remaining reader.new) more
-            × (passed : List Reply) × ArePassed request.now passed × Hears request.now result (bytes ++ more) told passed self.new }
+            × (passed : List Reply) × AreReadPast request.now passed × Hears request.now result (bytes ++ more) told passed self.new }
     {
         for turn in 0..READS {
             let reply = self.next(piece, reader)?;
@@ -114,7 +114,7 @@ impl Connection {
         requires room { 0 < length piece.old }
         ensures { (bytes : List ℕ) (told : List Reply) → Heard bytes told self.old
             → (more : List ℕ) × Consumes (R.remaining reader.old) (R.remaining reader.new) more
-            × (passed : List Reply) × ArePassed request.now passed × Asks request.now result (bytes ++ more) told passed self.new (W.contents writer.old) (W.contents writer.new) }
+            × (passed : List Reply) × AreReadPast request.now passed × Asks request.now result (bytes ++ more) told passed self.new (W.contents writer.old) (W.contents writer.new) }
     {
         self.frame.clear();
         write_request(request, &mut self.frame)?;

@@ -5,7 +5,7 @@ ghost use Rattle.repo_wire.specs.declared.messages.Ask.{Ask};
 ghost use Rattle.repo_wire.specs.declared.messages.Code.{Code};
 ghost use Rattle.repo_wire.specs.declared.messages.Say.{Say};
 ghost use Rattle.repo_session.specs.declared.emissions.Emission.{Emission};
-ghost use Rattle.repo_session.specs.Jobs.{Rule, Begins, StepsOn, IsShort, IsShortStep};
+ghost use Rattle.repo_session.specs.Jobs.{Rule, JobBegins, StepsOn, IsShort, IsShortStep};
 ghost use Rattle.repo_session.specs.Traces.{Trace, giving};
 
 use crate::emissions::Emission;
@@ -50,7 +50,7 @@ pub trait Job {
 
     /// Begins by the config, and gives the first request. It takes no memory.
     fn opened(&mut self, holder: &Holder, config: &Config) -> Ask
-        ensures begins { Begins (rule (handed self.old)) holder.now (fresh self.old) (knows self.new) config.now result }
+        ensures begins { JobBegins (rule (handed self.old)) holder.now (fresh self.old) (knows self.new) config.now result }
         ensures short { IsShort result }
         ensures handed { handed self.new ≡ handed self.old };
 

@@ -2,7 +2,7 @@
 
 ghost use Rattle.std.specs.Prelude.{◌≡◌};
 ghost use Rattle.repo_wire.specs.Messages.{IsAsk, IsShortAsk};
-ghost use Rattle.repo_session.specs.Lines.{IsSent, IsFinished, IsClosed};
+ghost use Rattle.repo_session.specs.Lines.{IsSentOnLine, IsFinished, IsClosed};
 
 use crate::letters::Letter;
 use crate::outcomes::{End, Outcome};
@@ -35,7 +35,7 @@ impl Line {
     /// Makes this the pending request, unless the numbers are spent.
     pub fn send(&mut self, ask: Ask)
         requires { IsAsk ask × IsShortAsk ask }
-        ensures { IsSent self.old ask self.new }
+        ensures { IsSentOnLine self.old ask self.new }
     {
         match self.sequence.checked_add(1) {
             Some(sequence) => {

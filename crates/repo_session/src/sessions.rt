@@ -10,11 +10,11 @@ ghost use Rattle.repo_wire.specs.declared.messages.Say.{Say};
 ghost use Rattle.repo_session.specs.declared.outcomes.End.{End};
 ghost use Rattle.repo_session.specs.declared.outcomes.Outcome.{Outcome};
 ghost use Rattle.repo_session.specs.Askers.{row_of};
-ghost use Rattle.repo_session.specs.Clients.{Answers, AnswersNext, exchange, IsSteady};
+ghost use Rattle.repo_session.specs.Clients.{IsReplyTo, AnswersNext, exchange, IsSteady};
 ghost use Rattle.repo_session.specs.Jobs.{IsShortStep};
-ghost use Rattle.repo_session.specs.Lines.{IsSent, IsClosed};
+ghost use Rattle.repo_session.specs.Lines.{IsSentOnLine, IsClosed};
 ghost use Rattle.repo_session.specs.Order.{IsWork};
-ghost use Rattle.repo_session.specs.Sessions.{EndsBy, FitsSession, KeepsLock, Leaves, Follows, given_by, took, who_in};
+ghost use Rattle.repo_session.specs.Sessions.{SessionEndsBy, FitsSession, KeepsLock, Leaves, Follows, given_by, took, who_in};
 ghost use Rattle.repo_session.specs.Traces.{Trace, giving};
 
 use crate::clients::Client;
@@ -42,7 +42,7 @@ impl Head {
     /// Takes the reply to the ticket.
     fn take_ticket(&mut self, say: &Say, end: End)
         ensures given { (token : Token) (row : LockRow) → say.now ≡ Say.Token token → self.old.lock ≡ Some row
-            → (self.new.holder.token ≡ token) × IsSent self.old.line (Ask.Lock (row_of token row.exclusive row.time row.host)) self.new.line }
+            → (self.new.holder.token ≡ token) × IsSentOnLine self.old.line (Ask.Lock (row_of token row.exclusive row.time row.host)) self.new.line }
         ensures other { ((token : Token) → say.now ≢ Say.Token token) → IsClosed self.old.line (Outcome.Ended end) self.new.line }
         ensures who { self.new.holder.who ≡ self.old.holder.who }
     {
@@ -60,7 +60,7 @@ impl Head {
 
     /// Takes the reply to the lock.
     fn take_lock(&mut self, say: &Say, end: End)
-        ensures given { say.now ≡ Say.Done → IsSent self.old.line Ask.Config self.new.line }
+        ensures given { say.now ≡ Say.Done → IsSentOnLine self.old.line Ask.Config self.new.line }
         ensures other { say.now ≢ Say.Done → IsClosed self.old.line (Outcome.Ended end) self.new.line }
         ensures kept { KeepsLock self.old self.new }
     {
@@ -160,7 +160,7 @@ impl<J: Job + Drop> Session<J> {
 
     /// Takes the reply to the config. It fails for memory alone, and then nothing changed.
     fn take_config(&mut self, say: &Say, end: End) -> Result<(), AllocError>
-        ensures taken { OnOk result ((request : Request) (es : Trace) → self.old.head.line.next ≡ Some request → request.ask ≡ Ask.Config → EndsBy Ask.Config say.now end
+        ensures taken { OnOk result ((request : Request) (es : Trace) → self.old.head.line.next ≡ Some request → request.ask ≡ Ask.Config → SessionEndsBy Ask.Config say.now end
             → FitsSession J.handed J.rule J.fresh J.knows self.old es → FitsSession J.handed J.rule J.fresh J.knows self.new (giving request.ask say.now (given_by J.given self.new) ∷ es)) }
         ensures err { OnErr result (self.new ≡ self.old) }
         ensures calm { (code : Code) → say.now ≡ Say.Refused code → IsOk result }
@@ -190,7 +190,7 @@ impl<J: Job + Drop> Session<J> {
 
     /// Takes the reply to a request of the job. It fails for memory alone, and then what fitted fits.
     fn take_work(&mut self, say: &Say, end: End) -> Result<(), AllocError>
-        ensures taken { OnOk result ((request : Request) (es : Trace) → self.old.head.line.next ≡ Some request → IsWork request.ask → EndsBy request.ask say.now end
+        ensures taken { OnOk result ((request : Request) (es : Trace) → self.old.head.line.next ≡ Some request → IsWork request.ask → SessionEndsBy request.ask say.now end
             → FitsSession J.handed J.rule J.fresh J.knows self.old es → FitsSession J.handed J.rule J.fresh J.knows self.new (giving request.ask say.now (given_by J.given self.new) ∷ es)) }
         ensures calm { (code : Code) → say.now ≡ Say.Refused code → (J.rule (J.handed self.old.job)).calm → IsOk result }
         ensures fits { OnErr result ((request : Request) (es : Trace) → self.old.head.line.next ≡ Some request → IsWork request.ask → FitsSession J.handed J.rule J.fresh J.knows self.old es → FitsSession J.handed J.rule J.fresh J.knows self.new es) }
@@ -217,7 +217,7 @@ impl<J: Job + Drop> Session<J> {
 
     /// Takes a reply. One that isn't to the pending request changes nothing. It fails for memory alone.
     fn take_reply(&mut self, reply: &Reply) -> Result<(), AllocError>
-        ensures taken { OnOk result ((request : Request) → self.old.head.line.next ≡ Some request → Answers request reply.now
+        ensures taken { OnOk result ((request : Request) → self.old.head.line.next ≡ Some request → IsReplyTo request reply.now
             → (es : Trace) → FitsSession J.handed J.rule J.fresh J.knows self.old es → FitsSession J.handed J.rule J.fresh J.knows self.new (exchange request reply.now (given_by J.given self.new) ∷ es)) }
         ensures other { ¬ AnswersNext self.old.head.line.next reply.now → self.new ≡ self.old }
         ensures steady { ¬ AnswersNext self.old.head.line.next reply.now → IsOk result }

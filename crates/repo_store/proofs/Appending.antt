@@ -8,10 +8,10 @@ use Rattle.repo_wire.specs.declared.messages.Reply.{Reply}
 use Rattle.repo_wire.specs.declared.messages.Request.{Request}
 use Rattle.repo_wire.specs.declared.messages.Say.{Say}
 use Rattle.repo_store.specs.AppendOnly.{KeepsObjects, OnlyAppends, StepsOnlyAppend, RunsOnlyAppend, ModeStays}
-use Rattle.repo_store.specs.Runs.{Replies, Run}
+use Rattle.repo_store.specs.Runs.{Replies, StoreRun}
 use Rattle.repo_store.specs.StoreMachine.{Answers, Step, PutAnswer, RemoveAnswer, DeleteAnswer, RangeAnswer}
 use Rattle.repo_store.specs.declared.serving.ServeError.{ServeError}
-use Rattle.repo_store.specs.Serving.{Moment, Serves}
+use Rattle.repo_store.specs.Serving.{Moment, ServesConnection}
 use Rattle.repo_store.specs.Stores.{Store}
 use Rattle.repo_store.proofs.ServiceLemmas.{serving_runs}
 
@@ -115,5 +115,5 @@ runs_only_append old new [] (r ∷ rs) h only = elim h [ ]
 runs_only_append old new (q ∷ qs) [] h only = elim h [ ]
 
 -- serving is such a run
-pub serving_only_appends : (input left : Option (List ℕ)) (before after : Moment) (result : Result ℕ ServeError) → Serves input before result left after → OnlyAppends before.store after.store
+pub serving_only_appends : (input left : Option (List ℕ)) (before after : Moment) (result : Result ℕ ServeError) → ServesConnection input before result left after → OnlyAppends before.store after.store
 serving_only_appends input left before after result h = let r = serving_runs input left before after result h in runs_only_append before.store after.store r.0 r.1 r.2

@@ -9,7 +9,7 @@ use Rattle.repo_wire.specs.Stream.{IsStream, Waits, Fails}
 use Rattle.repo_store.specs.declared.serving.ServeError.{ServeError}
 use Rattle.repo_store.specs.declared.services.Service.{Service}
 use Rattle.repo_store.specs.declared.forms.ServiceError.{ServiceError}
-use Rattle.repo_store.specs.Serving.{Moment, Past, shown, plain, IsAnswered, AllServed, SomeServed, Serves}
+use Rattle.repo_store.specs.Serving.{Moment, Past, shown, plain, IsAnswered, AllServed, SomeServed, ServesConnection}
 
 -- the error of a reader's error
 abbrev pub service_error : WireError → ServiceError
@@ -36,7 +36,7 @@ abbrev pub with_bytes : Past → List ℕ → Past
 with_bytes past piece = record { bytes = past.bytes ++ piece; asked = past.asked; replies = past.replies }
 
 -- a service with this past: its reader followed the bytes, the requests were answered, and all replies were written
-pub record Has {F : Type 0} (form : List ℕ → List ℕ) (before : Moment) (service : Service F) (past : Past) (after : Moment) : Type 0 where
+pub record HasServed {F : Type 0} (form : List ℕ → List ℕ) (before : Moment) (service : Service F) (past : Past) (after : Moment) : Type 0 where
   pub reader : Follows requests past.bytes past.asked service.reader
   pub answered : IsAnswered before past after
   pub count : service.answered ≡ length past.asked
@@ -44,7 +44,7 @@ pub record Has {F : Type 0} (form : List ℕ → List ℕ) (before : Moment) (se
 
 -- it rests: each request of the bytes was answered
 pub record Rests {F : Type 0} (form : List ℕ → List ℕ) (before : Moment) (service : Service F) (past : Past) (after : Moment) : Type 0 where
-  pub has : Has form before service past after
+  pub has : HasServed form before service past after
   pub waits : IsStream requests past.bytes past.asked (Waits service.reader.unread)
 
 -- what each error comes for
@@ -55,19 +55,19 @@ EndsBy form ServiceError.Limit before past after = SomeServed form before past a
 EndsBy form ServiceError.Memory before past after = SomeServed form before past after
 
 -- it ended with an error, with these bytes
-abbrev pub Ends : (List ℕ → List ℕ) → ServiceError → Moment → List ℕ → Moment → Type 0
-Ends form error before bytes after = (next : Past) × (next.bytes ≡ bytes) × EndsBy form error before next after
+abbrev pub ServiceEnds : (List ℕ → List ℕ) → ServiceError → Moment → List ℕ → Moment → Type 0
+ServiceEnds form error before bytes after = (next : Past) × (next.bytes ≡ bytes) × EndsBy form error before next after
 
 -- what answering the next request gives
-abbrev pub AnswersNext : {F : Type 0} → (List ℕ → List ℕ) → Result Bool ServiceError → Moment → Past → Service F → Moment → Type 0
-AnswersNext form (Ok true) before past service after = (request : Request) × (reply : Reply) × Has form before service (with_reply past request reply) after
-AnswersNext form (Ok false) before past service after = Rests form before service past after
-AnswersNext form (Err error) before past service after = Ends form error before past.bytes after
+abbrev pub ServiceAnswers : {F : Type 0} → (List ℕ → List ℕ) → Result Bool ServiceError → Moment → Past → Service F → Moment → Type 0
+ServiceAnswers form (Ok true) before past service after = (request : Request) × (reply : Reply) × HasServed form before service (with_reply past request reply) after
+ServiceAnswers form (Ok false) before past service after = Rests form before service past after
+ServiceAnswers form (Err error) before past service after = ServiceEnds form error before past.bytes after
 
 -- what answering all requests of the bytes gives
 abbrev pub AnswersAll : {F : Type 0} → (List ℕ → List ℕ) → Result (Unit {0}) ServiceError → Moment → List ℕ → Service F → Moment → Type 0
 AnswersAll form (Ok done) before bytes service after = (next : Past) × (next.bytes ≡ bytes) × Rests form before service next after
-AnswersAll form (Err error) before bytes service after = Ends form error before bytes after
+AnswersAll form (Err error) before bytes service after = ServiceEnds form error before bytes after
 
 -- what the end of the bytes gives: the number of requests, between frames alone
 abbrev pub Finishes : (List ℕ → List ℕ) → Moment → Past → Option ℕ → Moment → Type 0
@@ -79,4 +79,4 @@ abbrev pub PieceGives : {F : Type 0} → Option (List ℕ) → Moment → Past �
 PieceGives input before past (Ok true) left service after =
     (next : Past) × Consumes input left next.bytes × (length past.bytes < length next.bytes) × Rests plain before service next after
 PieceGives input before past (Ok false) left service after = Consumes input left past.bytes × IsAtEnd left × Rests plain before service past after
-PieceGives input before past (Err error) left service after = Serves input before (Err error) left after
+PieceGives input before past (Err error) left service after = ServesConnection input before (Err error) left after

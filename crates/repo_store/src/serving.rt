@@ -4,7 +4,7 @@ ghost use Rattle.std.specs.Prelude.{◌≡◌, ◌<◌, ℕ, List, length, Optio
 ghost use Rattle.std.specs.Io.KnownBytes.{Consumes};
 ghost use Rattle.repo_store.specs.AppendOnly.{OnlyAppends};
 ghost use Rattle.repo_store.specs.Services.{Rests, PieceGives};
-ghost use Rattle.repo_store.specs.Serving.{Past, Moment, seen, plain, Serves};
+ghost use Rattle.repo_store.specs.Serving.{Past, Moment, seen, plain, ServesConnection};
 
 use crate::forms::{Plain, ServiceError};
 use crate::services::Service;
@@ -114,7 +114,7 @@ pub fn serve<R: Read, W: Write, S: Shelf>(
     writer: &mut W,
     shelf: &mut S,
 ) -> Result<u64, ServeError>
-    ensures serves { S.honest shelf.old → Serves (R.remaining reader.old) (seen (S.store shelf.old) (S.failed shelf.old) (W.contents writer.old)) result
+    ensures serves { S.honest shelf.old → ServesConnection (R.remaining reader.old) (seen (S.store shelf.old) (S.failed shelf.old) (W.contents writer.old)) result
         (R.remaining reader.new) (seen (S.store shelf.new) (S.failed shelf.new) (W.contents writer.new)) }
     ensures kept { S.honest shelf.old → OnlyAppends (S.store shelf.old) (S.store shelf.new) }
     ensures honest { S.honest shelf.old → S.honest shelf.new }

@@ -9,7 +9,7 @@ use Rattle.repo_wire.specs.declared.faults.WireError.{WireError}
 use Rattle.repo_wire.specs.declared.messages.Ask.{Ask}
 use Rattle.repo_wire.specs.declared.messages.Say.{Say}
 use Rattle.repo_wire.specs.Messages.{short_number, kind_number, ask_tag, ask_fields, IsAsk, requests, say_tag, say_fields, IsSay, replies}
-use Rattle.repo_wire.specs.Stream.{Sort, Begins, HasFault, IsPartial}
+use Rattle.repo_wire.specs.Stream.{Sort, StreamBegins, HasFault, IsPartial}
 
 -- the fault of fields that are no row
 abbrev pub fields_fault : RowError → WireError
@@ -60,7 +60,7 @@ MessageRead sort body (Err WireError.Memory) = ⊤
 
 -- the message whose frame is at the front, with the frame's length, or why there is none
 abbrev pub FrameRead : {M : Type 0} → Sort M → List ℕ → Result (Option (M × ℕ)) WireError → Type 0
-FrameRead sort stream (Ok (Some found)) = (found.1 ≤ length stream) × Begins sort stream found.0 (drop found.1 stream)
+FrameRead sort stream (Ok (Some found)) = (found.1 ≤ length stream) × StreamBegins sort stream found.0 (drop found.1 stream)
 FrameRead sort stream (Ok None) = IsPartial stream
 FrameRead sort stream (Err (WireError.Fault fault)) = HasFault sort stream fault
 FrameRead sort stream (Err WireError.Memory) = ⊤

@@ -1,12 +1,13 @@
 //! Requests, replies, and the codes of refusals.
 
-ghost use Rattle.std.specs.Prelude.{◌≡◌};
+ghost use Rattle.std.specs.Prelude.{◌≡◌, IfOk};
 ghost use Rattle.repo_wire.specs.Messages.{code_number};
 
 use repo_name::{Bytes, Instance, Kind, LockRow, LockRows, Name, Names, Token};
+use std::alloc::AllocError;
 
 /// What a client asks.
-#[derive(Clone, Debug, Drop, PartialEq)]
+#[derive(Debug, Drop, PartialEq)]
 pub enum Ask {
     /// A new token.
     Ticket,
@@ -54,12 +55,77 @@ pub enum Ask {
     Config,
 }
 
+impl Ask {
+    /// An equal one. It fails for memory alone.
+    fn copy(&self) -> Result<Ask, AllocError>
+        ensures { IfOk result (λ copy. copy ≡ self.now) }
+    {
+        Ok(match self {
+            Ask::Ticket => Ask::Ticket,
+            Ask::Lock(row) => Ask::Lock(row.clone()?),
+            Ask::Refresh { token, time } => Ask::Refresh {
+                token: *token,
+                time: *time,
+            },
+            Ask::Unlock(token) => Ask::Unlock(*token),
+            Ask::Locks => Ask::Locks,
+            Ask::List { kind, after } => Ask::List {
+                kind: *kind,
+                after: *after,
+            },
+            Ask::Get { kind, name } => Ask::Get {
+                kind: *kind,
+                name: *name,
+            },
+            Ask::Range {
+                pack,
+                offset,
+                length,
+            } => Ask::Range {
+                pack: *pack,
+                offset: *offset,
+                length: *length,
+            },
+            Ask::Put {
+                token,
+                kind,
+                name,
+                bytes,
+            } => Ask::Put {
+                token: *token,
+                kind: *kind,
+                name: *name,
+                bytes: bytes.clone()?,
+            },
+            Ask::Delete { token, kind, name } => Ask::Delete {
+                token: *token,
+                kind: *kind,
+                name: *name,
+            },
+            Ask::Config => Ask::Config,
+        })
+    }
+}
+
 /// A request: what one client asks, by its sequence number.
-#[derive(Clone, Debug, Drop, PartialEq)]
+#[derive(Debug, Drop, PartialEq)]
 pub struct Request {
     pub instance: Instance,
     pub sequence: u64,
     pub ask: Ask,
+}
+
+impl Request {
+    /// An equal request. It fails for memory alone.
+    pub fn copy(&self) -> Result<Request, AllocError>
+        ensures { IfOk result (λ copy. copy ≡ self.now) }
+    {
+        Ok(Request {
+            instance: self.instance,
+            sequence: self.sequence,
+            ask: self.ask.copy()?,
+        })
+    }
 }
 
 /// Why a store refuses. The numbers are those of the frames.

@@ -3,7 +3,7 @@
 ghost use Rattle.std.specs.Prelude.{◌≡◌, ◌≤◌, ◌<◌, ◌^◌, ◌++◌, ◌∷◌, length, IfOk, IfErr, MatchOption};
 ghost use Rattle.repo_name.specs.Naming.{IsInstance};
 ghost use Rattle.repo_name.specs.Rows.{number};
-ghost use Rattle.repo_wire.specs.Stream.{body_at, named_length, IsAllowed, IsPartial, IsWhole};
+ghost use Rattle.repo_wire.specs.Stream.{body_at, named_length, IsAllowed, IsPartial, IsWholeFrame};
 
 use crate::faults::Fault;
 use byteorder::{BigEndian, ByteOrder};
@@ -17,7 +17,7 @@ pub const GREATEST: usize = 26_214_400;
 
 /// The body of the frame at the front, where all of it is there.
 pub fn body_in(stream: &[u8]) -> Result<Option<&[u8]>, Fault>
-    ensures found { IfOk result (λ found. MatchOption found (IsPartial stream.now) (λ body. IsWhole stream.now × (body.now ≡ body_at stream.now))) }
+    ensures found { IfOk result (λ found. MatchOption found (IsPartial stream.now) (λ body. IsWholeFrame stream.now × (body.now ≡ body_at stream.now))) }
     ensures fault { IfErr result (λ fault. (fault ≡ Fault.Length) × (4 ≤ length stream.now) × ¬ IsAllowed (named_length stream.now)) }
 {
     if stream.len() < 4 {

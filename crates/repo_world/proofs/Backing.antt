@@ -43,7 +43,7 @@ use Rattle.repo_writing.proofs.PutLemmas.{indexed_later}
 use Rattle.repo_backup.specs.Folders.{nothing, tree_of, blobs_of}
 use Rattle.repo_backup.specs.Rules as backing
 use Rattle.repo_world.specs.Backed.{configured, snapshot_of, AreTexts, stored, IsBackedUp, BackupIsARun}
-use Rattle.repo_world.specs.Clients.{task_of, Allows, Gives, Concludes, IsDutiful}
+use Rattle.repo_world.specs.Clients.{task_of, JobAllows, JobGives, JobConcludes, IsDutiful}
 use Rattle.repo_world.specs.Lone.{ended}
 use Rattle.repo_world.specs.World.{beginning, instance_of}
 use Rattle.repo_world.proofs.Joining.{Stepped, finished, held_end}
@@ -253,7 +253,7 @@ module _ (host : List ℕ) (time : ℕ) (config pack index snapshot : List ℕ) 
     given = given;
   }
 
-  obeys : Obeys task (Allows (Job.Backup [])) (Gives (Job.Backup [])) all
+  obeys : Obeys task (JobAllows (Job.Backup [])) (JobGives (Job.Backup [])) all
   obeys = (
     holds_of task token storing works_4,
     (λ w. absurd w),
@@ -299,7 +299,7 @@ module _ (host : List ℕ) (time : ℕ) (config pack index snapshot : List ℕ) 
     obeys = obeys;
     pending = λ r h. absurd (none-some r h);
     settled = λ e q. absurd (none-some (stored snapshot) (sym q));
-    concluded = λ o e. subst (λ x. ends.Concludes (Concludes (Job.Backup [])) storing x) (same_Some (stored snapshot) o e) is_stored;
+    concluded = λ o e. subst (λ x. ends.Concludes (JobConcludes (Job.Backup [])) storing x) (same_Some (stored snapshot) o e) is_stored;
     released = λ e o t h. absurd (held_end task t h.later (silent (Ask.Unlock token) Say.Done) storing h.since h.held.unended tt);
     beside = λ r h o. absurd (none-some r h);
     ending = λ r h u. absurd (none-some r h);

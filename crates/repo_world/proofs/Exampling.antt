@@ -20,7 +20,7 @@ use Rattle.repo_session.specs.Order.{IsUnlock, locked}
 use Rattle.repo_session.specs.Traces.{Trace, Exchanged}
 use Rattle.repo_session.specs.declared.outcomes.End.{End}
 use Rattle.repo_session.specs.declared.outcomes.Outcome.{Outcome}
-use Rattle.repo_world.specs.Clients.{task_of, Allows, Concludes, Client, IsDutiful}
+use Rattle.repo_world.specs.Clients.{task_of, JobAllows, JobConcludes, Client, IsDutiful}
 use Rattle.repo_world.specs.Events.{Happens, Run}
 use Rattle.repo_world.specs.Example.{host, token, given, row, second, failed, done, with_tokens, refused, last, events, ExampleIsARun}
 use Rattle.repo_world.specs.Safe.{IsSpoken, by_put, by_reply, IsKnown, known_spoken, known_part, known_made, HasNoClash}
@@ -61,13 +61,13 @@ w6 = record { store = with_tokens (granted (issued start) row); clients = refuse
 some_none : (r : Request) → Some r ≡ None → ⊥
 some_none r e = absurd (cc)
 
-next_1 : IsNext (task_of (Job.Backup []) asking.who) (Allows (Job.Backup [])) asking.trace second
+next_1 : IsNext (task_of (Job.Backup []) asking.who) (JobAllows (Job.Backup [])) asking.trace second
 next_1 = record { instance = refl; sequence = refl; may = (token, refl, refl); permitted = λ work. absurd work }
 
 dutiful_1 : IsDutiful asking
 dutiful_1 = record {
   obeys = (refl, (λ work. absurd work), inl refl, tt);
-  pending = λ r e. subst (λ (q : Request). IsNext (task_of (Job.Backup []) asking.who) (Allows (Job.Backup [])) asking.trace q) (same_Some second r e) next_1;
+  pending = λ r e. subst (λ (q : Request). IsNext (task_of (Job.Backup []) asking.who) (JobAllows (Job.Backup [])) asking.trace q) (same_Some second r e) next_1;
   settled = λ e. absurd (some_none second e);
   concluded = λ o e. absurd (none-some o e);
   released = λ e. absurd (some_none second e);
@@ -86,7 +86,7 @@ not_held (x ∷ []) t e = absurd (cc)
 not_held (x ∷ y ∷ []) t e = absurd (cc)
 not_held (x ∷ y ∷ z ∷ later) t e = absurd (cc)
 
-caused : ends.Concludes (Concludes (Job.Backup [])) refused.trace (Outcome.Ended (End.Refused Code.Fault))
+caused : ends.Concludes (JobConcludes (Job.Backup [])) refused.trace (Outcome.Ended (End.Refused Code.Fault))
 caused = inl (inl (refl, ((λ q. absurd (cc)), (λ q. absurd (cc)))))
 
 dutiful_2 : IsDutiful refused
@@ -94,7 +94,7 @@ dutiful_2 = record {
   obeys = ((token, refl, refl), (λ work. absurd work), inl refl, (refl, (λ work. absurd work), inl refl, tt));
   pending = λ r e. absurd (none-some r e);
   settled = λ e q. absurd (none-some (Outcome.Ended (End.Refused Code.Fault)) (sym q));
-  concluded = λ o e. subst (λ x. ends.Concludes (Concludes (Job.Backup [])) refused.trace x) (same_Some (Outcome.Ended (End.Refused Code.Fault)) o e) caused;
+  concluded = λ o e. subst (λ x. ends.Concludes (JobConcludes (Job.Backup [])) refused.trace x) (same_Some (Outcome.Ended (End.Refused Code.Fault)) o e) caused;
   released = λ e o t h. absurd (not_held h.later t h.since);
   beside = λ r e o. absurd (none-some r e);
   ending = λ r e u. absurd (none-some r e);

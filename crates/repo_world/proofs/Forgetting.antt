@@ -30,7 +30,7 @@ use Rattle.repo_session.proofs.Holding.{working_more, holds_of, opened_working}
 use Rattle.repo_session.proofs.Meeting.{first_page}
 use Rattle.repo_prune.specs.Pruning.{AreCovered, IsSettled, IsPruned}
 use Rattle.repo_world.specs.Backed.{configured, AreTexts, stored}
-use Rattle.repo_world.specs.Clients.{task_of, Allows, Gives, Concludes, Client, IsDutiful}
+use Rattle.repo_world.specs.Clients.{task_of, JobAllows, JobGives, JobConcludes, Client, IsDutiful}
 use Rattle.repo_world.specs.Events.{Run}
 use Rattle.repo_world.specs.Lone.{ended}
 use Rattle.repo_world.specs.World.{World, client_at, beginning, instance_of}
@@ -38,7 +38,7 @@ use Rattle.repo_world.proofs.Backing as backup
 use Rattle.repo_world.proofs.Backing.{there_now}
 use Rattle.repo_world.proofs.GivingBack.{bytes_no_dead, names_no_dead, token}
 use Rattle.repo_world.proofs.Joining.{Stepped, finished, held_end, run_more}
-use Rattle.std.proofs.Common.{Vec, Global, ◌⊎◌}
+use Rattle.std.proofs.Common.{◌⊎◌}
 use Rattle.repo_name.specs.declared.tokens.Token.{Token}
 use Rattle.std.specs.List.Sorted.{IsStrictlySortedBy}
 use Rattle.repo_store.specs.Stores.{Removed}
@@ -48,7 +48,7 @@ use Rattle.repo_session.specs.Traces.{IsRead, objects_put}
 use Rattle.repo_prune.specs.Forgetting as forgets
 use Rattle.repo_prune.specs.Pruning.{MayDeleteIndex, MayDeletePack}
 use Rattle.repo_prune.specs.declared.choices.Choice.{Choice}
-use Rattle.repo_world.specs.Backed.{IsForgotten, ForgetIsARun}
+use Rattle.repo_world.specs.Backed.{IsForgottenInRun, ForgetIsARun}
 use Rattle.repo_world.proofs.Backing.{is_here, at_here, here_is}
 use Rattle.repo_world.proofs.Tidying.{only}
 use Rattle.repo_world.specs.declared.jobs.Job.{Job}
@@ -88,7 +88,7 @@ strictly_one : (n : Name) → IsStrictlySortedBy name_cmp (n ∷ [])
 unfolding IsStrictlySortedBy
 strictly_one n = (tt, tt)
 
-module _ (host : List ℕ) (time : ℕ) (config pack index snapshot : List ℕ) (names : Vec Name Global) (limits : (time < 2 ^ 64) × IsHost host) (texts : AreTexts host time config pack index snapshot) (chosen : Contains names.items (naming.name snapshot)) where
+module _ (host : List ℕ) (time : ℕ) (config pack index snapshot : List ℕ) (names : List Name) (limits : (time < 2 ^ 64) × IsHost host) (texts : AreTexts host time config pack index snapshot) (chosen : Contains names (naming.name snapshot)) where
   abbrev np : Name
   np = naming.name pack
 
@@ -158,7 +158,7 @@ module _ (host : List ℕ) (time : ℕ) (config pack index snapshot : List ℕ) 
     no_page after (inr (inr (inr (inr (inl h))))) = let q = h.0 in absurd (cc)
     no_page after (inr (inr (inr (inr (inr h))))) = h
 
-    obeys : Obeys task (Allows (Job.Forget choice)) (Gives (Job.Forget choice)) forgetting
+    obeys : Obeys task (JobAllows (Job.Forget choice)) (JobGives (Job.Forget choice)) forgetting
     obeys = (
       holds_of task token f2 works_2,
       (λ x. absurd x),
@@ -182,7 +182,7 @@ module _ (host : List ℕ) (time : ℕ) (config pack index snapshot : List ℕ) 
         rows = [];
         decided = record { complete = refl; rise = record { ascend = (tt, tt); moves = no_page } };
         each = λ n. (
-          λ c. (let e = only ns n c in (inl (sym e), subst (λ m. Contains names.items m) e chosen)),
+          λ c. (let e = only ns n c in (inl (sym e), subst (λ m. Contains names m) e chosen)),
           λ l. ⊎_elim (λ e. subst (λ m. Contains (ns ∷ []) m) (sym e) (first_contained ns [])) (λ none. absurd none) l.0,
         );
         ascend = strictly_one ns;
@@ -195,7 +195,7 @@ module _ (host : List ℕ) (time : ℕ) (config pack index snapshot : List ℕ) 
       obeys = obeys;
       pending = λ r h. absurd (none-some r h);
       settled = λ e q. absurd (none-some (Outcome.Forgotten (ns ∷ [])) (sym q));
-      concluded = λ o e. subst (λ x. ends.Concludes (Concludes (Job.Forget choice)) f2 x) (same_Some (Outcome.Forgotten (ns ∷ [])) o e) is_forgotten;
+      concluded = λ o e. subst (λ x. ends.Concludes (JobConcludes (Job.Forget choice)) f2 x) (same_Some (Outcome.Forgotten (ns ∷ [])) o e) is_forgotten;
       released = λ e o t h. absurd (held_end task t h.later (silent (Ask.Unlock token) Say.Done) f2 h.since h.held.unended tt);
       beside = λ r h o. absurd (none-some r h);
       ending = λ r h u. absurd (none-some r h);
@@ -381,7 +381,7 @@ module _ (host : List ℕ) (time : ℕ) (config pack index snapshot : List ℕ) 
         unlisted = λ l. none_contained l.0 l.1;
       }
 
-      keeps_order : Obeys work (Allows Job.Prune) (Gives Job.Prune) pruning
+      keeps_order : Obeys work (JobAllows Job.Prune) (JobGives Job.Prune) pruning
       keeps_order = (
         holds_of work third p6 at_6,
         (λ x. absurd x),
@@ -436,7 +436,7 @@ module _ (host : List ℕ) (time : ℕ) (config pack index snapshot : List ℕ) 
         obeys = keeps_order;
         pending = λ r h. absurd (none-some r h);
         settled = λ e q. absurd (none-some (Outcome.Pruned 1 0) (sym q));
-        concluded = λ o e. subst (λ x. ends.Concludes (Concludes Job.Prune) p6 x) (same_Some (Outcome.Pruned 1 0) o e) is_pruned;
+        concluded = λ o e. subst (λ x. ends.Concludes (JobConcludes Job.Prune) p6 x) (same_Some (Outcome.Pruned 1 0) o e) is_pruned;
         released = λ e o t h. absurd (held_end work t h.later (silent (Ask.Unlock third) Say.Done) p6 h.since h.held.unended tt);
         beside = λ r h o. absurd (none-some r h);
         ending = λ r h u. absurd (none-some r h);
@@ -501,7 +501,7 @@ module _ (host : List ℕ) (time : ℕ) (config pack index snapshot : List ℕ) 
   backer = ended 0 (Job.Backup []) host time (backup.all host time config pack index snapshot limits texts) (Some (stored snapshot))
 
   after_forget : (w v : World) (events : List Event) → Run (beginning (configured config)) events v → (same : w.store ≡ from) → (next : v.store ≡ left w same)
-      → v.clients ≡ backer ∷ ended (length w.clients) (Job.Forget choice) host time (forgetting w same) (Some (Outcome.Forgotten (ns ∷ []))) ∷ [] → IsForgotten names config snapshot
+      → v.clients ≡ backer ∷ ended (length w.clients) (Job.Forget choice) host time (forgetting w same) (Some (Outcome.Forgotten (ns ∷ []))) ∷ [] → IsForgottenInRun names config snapshot
   after_forget w v events run same next two =
       let done = finished v Job.Prune host time tt limits (silent (Ask.Unlock third) Say.Done) (p6 w same v next) (store_of w same (without_pack w same) (unlocked (last_tokens w same v next) third)) (Some (Outcome.Pruned 1 0)) (prune_steps w same v next) (prunes_well w same v next) in
       record {
@@ -515,13 +515,13 @@ module _ (host : List ℕ) (time : ℕ) (config pack index snapshot : List ℕ) 
         none_left = none_left;
       }
 
-  after_backup : (w : World) (events : List Event) → Run (beginning (configured config)) events w → (same : w.store ≡ from) → w.clients ≡ backer ∷ [] → IsForgotten names config snapshot
+  after_backup : (w : World) (events : List Event) → Run (beginning (configured config)) events w → (same : w.store ≡ from) → w.clients ≡ backer ∷ [] → IsForgottenInRun names config snapshot
   after_backup w events run same one =
       let done = finished w (Job.Forget choice) host time (λ none. none) limits (silent (Ask.Unlock token) Say.Done) (f2 w same) (left w same) (Some (Outcome.Forgotten (ns ∷ []))) (steps w same) (dutiful w same) in
       after_forget w _ (events ++ done.0) (run_more (beginning (configured config)) events done.0 w _ run done.1) same refl
       (ap (λ (cs : List Client). cs ++ ended (length w.clients) (Job.Forget choice) host time (forgetting w same) (Some (Outcome.Forgotten (ns ∷ []))) ∷ []) one)
 
-  all_forgotten : IsForgotten names config snapshot
+  all_forgotten : IsForgottenInRun names config snapshot
   all_forgotten =
       let first = finished (beginning (configured config)) (Job.Backup []) host time tt limits (silent (Ask.Unlock backup.token) Say.Done) (backup.storing host time config pack index snapshot limits texts) from (Some (stored snapshot))
       (backup.steps host time config pack index snapshot limits texts) (backup.dutiful host time config pack index snapshot limits texts) in

@@ -39,7 +39,7 @@ use Rattle.repo_session.proofs.Holding.{working_more, holds_of, opened_working}
 use Rattle.repo_backup.specs.Folders.{nothing, tree_of}
 use Rattle.repo_restore.specs.Restoring.{IsRestored}
 use Rattle.repo_world.specs.Backed.{configured, snapshot_of, AreTexts, stored, IsGivenBack, RestoreIsARun}
-use Rattle.repo_world.specs.Clients.{task_of, Allows, Gives, Concludes, Client, IsDutiful}
+use Rattle.repo_world.specs.Clients.{task_of, JobAllows, JobGives, JobConcludes, Client, IsDutiful}
 use Rattle.repo_world.specs.Events.{Run}
 use Rattle.repo_world.specs.Lone.{ended}
 use Rattle.repo_world.specs.World.{World, client_at, beginning, instance_of}
@@ -137,7 +137,7 @@ module _ (host : List ℕ) (time : ℕ) (config pack index snapshot : List ℕ) 
     read_fact : (es : Trace) → Exchanged es (Ask.Get Kind.Index ni) (Say.Bytes index) → ReadFact es fact
     read_fact es h = record { index = ni; text = index; read = (h, refl); says = says }
 
-    obeys : Obeys task (Allows (Job.Restore ns)) (Gives (Job.Restore ns)) all
+    obeys : Obeys task (JobAllows (Job.Restore ns)) (JobGives (Job.Restore ns)) all
     obeys = (
       holds_of task token walking works_4,
       (λ x. absurd x),
@@ -183,7 +183,7 @@ module _ (host : List ℕ) (time : ℕ) (config pack index snapshot : List ℕ) 
       obeys = obeys;
       pending = λ r h. absurd (none-some r h);
       settled = λ e q. absurd (none-some (Outcome.Complete 0) (sym q));
-      concluded = λ o e. subst (λ x. ends.Concludes (Concludes (Job.Restore ns)) walking x) (same_Some (Outcome.Complete 0) o e) restored;
+      concluded = λ o e. subst (λ x. ends.Concludes (JobConcludes (Job.Restore ns)) walking x) (same_Some (Outcome.Complete 0) o e) restored;
       released = λ e o t h. absurd (held_end task t h.later (silent (Ask.Unlock token) Say.Done) walking h.since h.held.unended tt);
       beside = λ r h o. absurd (none-some r h);
       ending = λ r h u. absurd (none-some r h);

@@ -8,7 +8,7 @@ use Rattle.repo_wire.specs.declared.messages.Say.{Say}
 use Rattle.repo_session.specs.Order.{IsWorking}
 use Rattle.repo_session.specs.Traces.{Trace, Exchanged}
 use Rattle.repo_world.specs.Bag.{AskedAt, StillSays, IsLawfulAsk, IsWithin, HasBag}
-use Rattle.repo_world.specs.Clients.{task_of, Allows, Gives, Client}
+use Rattle.repo_world.specs.Clients.{task_of, JobAllows, JobGives, Client}
 use Rattle.repo_world.specs.Laws.{Behaves}
 use Rattle.repo_world.specs.Safe.{Took}
 use Rattle.repo_world.specs.World.{World, Message, client, client_at, Has, Asked, Said}
@@ -54,7 +54,7 @@ module _ (w : World) (bag : HasBag w) (clients : List Client) (messages : List M
   took_back : (k : ℕ) (t u : Token) (es : Trace) → Within es (client w k).trace → IsWorking (task_of (client w k).job (client w k).who) u es → Took (moved w clients messages) k t → Took w k t
   took_back k t u es within working took =
       let old : Took w k u = within Ask.Ticket (Say.Token u) (working_took (task_of (client w k).job (client w k).who) u es working) in
-      let same : u ≡ t = one_token (task_of (client_at clients k).job (client_at clients k).who) (Allows (client_at clients k).job) (Gives (client_at clients k).job) (client_at clients k).trace u t (ruled (client_at clients k) (behave k)).obeys ((later.grows k).trace Ask.Ticket (Say.Token u) old) took in
+      let same : u ≡ t = one_token (task_of (client_at clients k).job (client_at clients k).who) (JobAllows (client_at clients k).job) (JobGives (client_at clients k).job) (client_at clients k).trace u t (ruled (client_at clients k) (behave k)).obeys ((later.grows k).trace Ask.Ticket (Say.Token u) old) took in
       subst (λ z. Took w k z) same old
 
   of : (k q : ℕ) (a b : Ask) → AskedAt (client w k) q a → a ≡ b → Sending (client w k).job (client w k).who (client w k).trace b

@@ -19,7 +19,7 @@ use Rattle.repo_session.specs.Order.{Task, May, IsPermitted, IsUnlock, IsNoUnloc
 use Rattle.repo_session.specs.Talks.{Talk, trace_of}
 use Rattle.repo_session.specs.Traces.{Each, Exchange, Trace}
 use Rattle.repo_session.proofs.Growing.{Led, led}
-use Rattle.repo_world.specs.Clients.{Accepts, task_of, Allows, Gives, Concludes, Client, IsDutiful}
+use Rattle.repo_world.specs.Clients.{Accepts, task_of, JobAllows, JobGives, JobConcludes, Client, IsDutiful}
 use Rattle.repo_world.specs.Events.{Delivers, Takes, Happens, Run}
 use Rattle.repo_store.specs.Failing.{Plainly}
 use Rattle.repo_world.specs.Lone.{LoneTalkIsARun}
@@ -213,7 +213,7 @@ module _ (w : World) (job : Job) (host : List ℕ) (time : ℕ) (accepted : Acce
 
   -- what is shown while this is pending: an outcome beside the end of the lock, else none
   abbrev Shows : Option Outcome → Ask → Trace → Type 0
-  Shows o a es = ((¬ IsUnlock a) × (o ≡ None)) ⊎ (IsUnlock a × ((x : Outcome) × (o ≡ Some x) × ends.Concludes (Concludes job) es x))
+  Shows o a es = ((¬ IsUnlock a) × (o ≡ None)) ⊎ (IsUnlock a × ((x : Outcome) × (o ≡ Some x) × ends.Concludes (JobConcludes job) es x))
 
   -- the store's steps over these exchanges
   abbrev pub Stepped : Store → Trace → Store → Type 0
@@ -227,10 +227,10 @@ module _ (w : World) (job : Job) (host : List ℕ) (time : ℕ) (accepted : Acce
   not_none o x e q = none-some x (sym q ∙ e)
 
   -- a client that waits is dutiful
-  waits : (es : Trace) (a : Ask) (o : Option Outcome) → Obeys (task_of job who) (Allows job) (Gives job) es → May (task_of job who) es a → IsPermitted (Allows job) es a → Shows o a es → IsDutiful (talking es (Some (asked_of (length w.clients) es a)) o)
+  waits : (es : Trace) (a : Ask) (o : Option Outcome) → Obeys (task_of job who) (JobAllows job) (JobGives job) es → May (task_of job who) es a → IsPermitted (JobAllows job) es a → Shows o a es → IsDutiful (talking es (Some (asked_of (length w.clients) es a)) o)
   waits es a o obeys may permitted shows = record {
     obeys = obeys;
-    pending = λ r q. subst (λ (z : Request). IsNext (task_of job who) (Allows job) es z) (same_Some (asked_of (length w.clients) es a) r q) (record { instance = refl; sequence = refl; may = may; permitted = permitted });
+    pending = λ r q. subst (λ (z : Request). IsNext (task_of job who) (JobAllows job) es z) (same_Some (asked_of (length w.clients) es a) r q) (record { instance = refl; sequence = refl; may = may; permitted = permitted });
     settled = λ q. absurd (some_none (asked_of (length w.clients) es a) q);
     concluded = λ x q. concluded x q shows;
     released = λ q. absurd (some_none (asked_of (length w.clients) es a) q);
@@ -238,11 +238,11 @@ module _ (w : World) (job : Job) (host : List ℕ) (time : ℕ) (accepted : Acce
     ending = λ r q u. ending (subst (λ (z : Request). IsUnlock z.ask) (sym (same_Some (asked_of (length w.clients) es a) r q)) u) shows;
   }
     where
-      concluded : (x : Outcome) → o ≡ Some x → Shows o a es → ends.Concludes (Concludes job) (ends.before_unlock es) x
+      concluded : (x : Outcome) → o ≡ Some x → Shows o a es → ends.Concludes (JobConcludes job) (ends.before_unlock es) x
       concluded x q (inl none) = absurd (none-some x (sym none.1 ∙ q))
       concluded x q (inr s) =
           let same : s.1.0 ≡ x = same_Some s.1.0 x (sym s.1.1 ∙ q) in
-          subst (λ y. ends.Concludes (Concludes job) (ends.before_unlock es) y) same (subst (λ fs. ends.Concludes (Concludes job) fs s.1.0) (sym (whole a may s.0)) s.1.2)
+          subst (λ y. ends.Concludes (JobConcludes job) (ends.before_unlock es) y) same (subst (λ fs. ends.Concludes (JobConcludes job) fs s.1.0) (sym (whole a may s.0)) s.1.2)
         where
           whole : (b : Ask) → May (task_of job who) es b → IsUnlock b → ends.before_unlock es ≡ es
           whole (Ask.Unlock t) m u = holds_whole (task_of job who) t es m
@@ -281,7 +281,7 @@ module _ (w : World) (job : Job) (host : List ℕ) (time : ℕ) (accepted : Acce
           ∙ ap (λ (ms : List Message). record { store = w.store; clients = w.clients ++ started (length w.clients) job host time ∷ []; messages = ms ++ Asked (length w.clients) (first_of (length w.clients)) ∷ [] }) (append-nil w.messages))
 
   -- it comes to where a request is pending
-  comes : (es : Trace) (mid : Store) (a : Ask) (o : Option Outcome) → Stepped w.store es mid → Obeys (task_of job who) (Allows job) (Gives job) es → May (task_of job who) es a → IsPermitted (Allows job) es a → Shows o a es
+  comes : (es : Trace) (mid : Store) (a : Ask) (o : Option Outcome) → Stepped w.store es mid → Obeys (task_of job who) (JobAllows job) (JobGives job) es → May (task_of job who) es a → IsPermitted (JobAllows job) es a → Shows o a es
       → (events : List Event) × Run w events (at es (Some (asked_of (length w.clients) es a)) o mid)
   comes [] mid a o steps obeys may permitted shows =
       subst (λ (s : Store). (events : List Event) × Run w events (at [] (Some (asked_of (length w.clients) [] a)) o s)) (sym steps) (starts a o (first_ticket (task_of job who) a may) shows)
@@ -340,7 +340,7 @@ module _ (w : World) (job : Job) (host : List ℕ) (time : ℕ) (accepted : Acce
       by_end (inr u) =
           let there = some_of outcome (dutiful.settled refl) in
           let concluded = dutiful.concluded there.0 there.1 in
-          ends_so e es to outcome outcome steps dutiful (inr (u, (there.0, there.1, subst (λ fs. ends.Concludes (Concludes job) fs there.0) (older e.ask u) concluded))) (λ x q. q)
+          ends_so e es to outcome outcome steps dutiful (inr (u, (there.0, there.1, subst (λ fs. ends.Concludes (JobConcludes job) fs there.0) (older e.ask u) concluded))) (λ x q. q)
 
 -- ---- a talk
 

@@ -18,7 +18,7 @@ use Rattle.repo_session.specs.Told.{Told, Seen}
 use Rattle.repo_session.specs.Traces.{Trace, Exchanged, WasAsked}
 use Rattle.repo_writing.specs.Laws.{StandAsPut}
 use Rattle.repo_world.specs.Bag.{AskedAt, HasPut, HasDeleted, IsLive, IsExclusive, IsSpent, StillSays, HasBag}
-use Rattle.repo_world.specs.Clients.{task_of, Allows, Gives}
+use Rattle.repo_world.specs.Clients.{task_of, JobAllows, JobGives}
 use Rattle.repo_world.specs.Safe.{IsPutBy, Took, by_put, by_reply, IsKnown, known_spoken, known_part, HasNoClash}
 use Rattle.repo_world.specs.World.{World, client}
 use Rattle.repo_world.proofs.Sending.{Within, asked_within, exchange_asked, trace_asked, IsRuled, ruled, ruled_as, Sending, sending, one_token, working_took, working_locked}
@@ -50,7 +50,7 @@ module _ (w : World) (bag : HasBag w) where
   pub same_ticket : (k : ℕ) (t u : Token) (es : Trace) → Within es (client w k).trace → IsWorking (task_of (client w k).job (client w k).who) u es → Took w k t → u ≡ t
   same_ticket k t u es within working took =
       let c = client w k in
-      one_token (task_of c.job c.who) (Allows c.job) (Gives c.job) c.trace u t (ruled c (bag.behave k)).obeys (within Ask.Ticket (Say.Token u) (working_took (task_of c.job c.who) u es working)) took
+      one_token (task_of c.job c.who) (JobAllows c.job) (JobGives c.job) c.trace u t (ruled c (bag.behave k)).obeys (within Ask.Ticket (Say.Token u) (working_took (task_of c.job c.who) u es working)) took
 
   -- which is spent
   pub spent_working : (k : ℕ) (t u : Token) (es : Trace) → Within es (client w k).trace → IsWorking (task_of (client w k).job (client w k).who) u es → Took w k t → IsSpent w.store.tokens t

@@ -6,7 +6,7 @@ use Rattle.repo_wire.specs.declared.messages.Say.{Say}
 use Rattle.repo_store.specs.StoreMachine.{Answers, Step}
 use Rattle.repo_store.specs.Stores.{Store, Objects}
 use Rattle.repo_session.proofs.Growing.{range_same}
-use Rattle.repo_world.specs.BagLaws.{PutKeepsBag, DeleteKeepsBag, IsOfDead, DeadKeepBag, IsRead, ReadsKeepBag, IsOnLocks, LocksKeepBag}
+use Rattle.repo_world.specs.BagLaws.{PutKeepsBag, DeleteKeepsBag, IsOfDead, DeadKeepBag, IsReadingAsk, ReadsKeepBag, IsOnLocks, LocksKeepBag}
 use Rattle.repo_world.specs.Events.{Serves}
 use Rattle.repo_world.specs.World.{World}
 use Rattle.repo_world.proofs.Happening.{serve_keeps}
@@ -49,7 +49,7 @@ locks_keep w v k request bag clash (m, h) on = (
 
 -- ---- that read
 
-read_answer : (old : Store) (ask : Ask) (say : Say) (new : Store) → IsRead ask → Answers old ask say new → new ≡ old
+read_answer : (old : Store) (ask : Ask) (say : Say) (new : Store) → IsReadingAsk ask → Answers old ask say new → new ≡ old
 read_answer old (Ask.List k after) say new r h = h.4
 read_answer old (Ask.Get k n) say new r h = h.1
 read_answer old (Ask.Range pack offset len) say new r h = range_same old pack offset len say new h
@@ -62,7 +62,7 @@ read_answer old (Ask.Unlock t) say new r h = absurd r
 read_answer old (Ask.Put t k n x) say new r h = absurd r
 read_answer old (Ask.Delete t k n) say new r h = absurd r
 
-read_step : (old : Store) (ask : Ask) (say : Say) (new : Store) → IsRead ask → Step old ask say new → new ≡ old
+read_step : (old : Store) (ask : Ask) (say : Say) (new : Store) → IsReadingAsk ask → Step old ask say new → new ≡ old
 read_step old ask say new r (inl h) = read_answer old ask say new r h
 read_step old ask say new r (inr (looks, inl (fault, inl h))) = h
 read_step old ask say new r (inr (looks, inl (fault, inr h))) = read_answer old ask h.0 new r h.1

@@ -29,7 +29,7 @@ use Rattle.repo_backup.specs.Rules as backing
 use Rattle.repo_writing.specs.Putting.{PutDone}
 use Rattle.repo_restore.specs.Restoring.{IsRestored, IsForBlob, RestoreAllows, RestoreGives}
 use Rattle.repo_world.specs.Bag.{AskedAt, HasBag}
-use Rattle.repo_world.specs.Clients.{task_of, Concludes, handed_to, MadeOf}
+use Rattle.repo_world.specs.Clients.{task_of, JobConcludes, handed_to, MadeOf}
 use Rattle.repo_world.specs.Safe.{IsPutBy, IsThereOrAsked, Took, Handed, IsKnown, known_made, HasNoClash, IsSafe, HandedIsOne, known_spoken, by_put}
 use Rattle.repo_world.specs.World.{World, client}
 use Rattle.repo_world.proofs.Knowing.{rule_at, sent_as, put_named, held_known, received_known, owner_of}
@@ -141,7 +141,7 @@ module _ (w : World) (bag : HasBag w) (clash : HasNoClash w) where
   stored_put : (k : ℕ) (s : Name) (x : List ℕ) → PutDone (before_unlock (client w k).trace) Kind.Snapshot s x → IsThereOrAsked w s
   stored_put k s x (t, done) = (bag.told k (Ask.Put t Kind.Snapshot s x) Say.Done (exchanged_before (client w k).trace (Ask.Put t Kind.Snapshot s x) Say.Done done)).0.stored t s x refl refl
 
-  stored_by : (k : ℕ) (s : Name) (blobs bytes : ℕ) (b : Job) → Concludes b (before_unlock (client w k).trace) (Outcome.Stored s blobs bytes) → IsThereOrAsked w s
+  stored_by : (k : ℕ) (s : Name) (blobs bytes : ℕ) (b : Job) → JobConcludes b (before_unlock (client w k).trace) (Outcome.Stored s blobs bytes) → IsThereOrAsked w s
   stored_by k s blobs bytes (Job.Backup entries) r = stored_put k s r.text r.put
   stored_by k s blobs bytes (Job.Restore n) r = absurd r
   stored_by k s blobs bytes Job.List r = absurd r
@@ -183,7 +183,7 @@ module _ (w : World) (bag : HasBag w) (clash : HasNoClash w) where
       let source = source_by k entries x s t job (sent_as w bag k q.0 (Ask.Put t Kind.Snapshot s x) (Job.Backup entries) job q.1) in
       handed_of s x entries (record { by = k; request = sent.0; token = t; message = sent.1; asks = sent.2 }) source
 
-  own_of : (k : ℕ) (s : Name) (blobs bytes : ℕ) (b : Job) (entries : List Entry) → (client w k).job ≡ b → handed_to b ≡ Some entries → Concludes b (before_unlock (client w k).trace) (Outcome.Stored s blobs bytes) → Handed w s entries
+  own_of : (k : ℕ) (s : Name) (blobs bytes : ℕ) (b : Job) (entries : List Entry) → (client w k).job ≡ b → handed_to b ≡ Some entries → JobConcludes b (before_unlock (client w k).trace) (Outcome.Stored s blobs bytes) → Handed w s entries
   own_of k s blobs bytes (Job.Backup handed) entries job same r = subst (λ (es : List Entry). Handed w s es) (same_Some handed entries same) (own_source k s r.text handed job r.put)
   own_of k s blobs bytes (Job.Restore n) entries job same r = absurd r
   own_of k s blobs bytes Job.List entries job same r = absurd r

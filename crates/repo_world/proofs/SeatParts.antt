@@ -3,7 +3,7 @@ use Rattle.std.proofs.Common.{◌≡◌, ◌∙◌, ◌<◌, ◌++◌, ◌∷◌
 use Rattle.std.proofs.lemmas.List.{map-append}
 use Rattle.repo_wire.specs.declared.messages.Reply.{Reply}
 use Rattle.repo_wire.specs.declared.messages.Request.{Request}
-use Rattle.repo_session.specs.Clients.{Answers, exchange}
+use Rattle.repo_session.specs.Clients.{IsReplyTo, exchange}
 use Rattle.repo_session.specs.Traces.{Trace, giving}
 use Rattle.repo_session.specs.declared.outcomes.Outcome.{Outcome}
 use Rattle.repo_world.specs.AnyClients.{FitsAny, any_ended, any_given, any_next, any_obeys, client_of, given_to}
@@ -42,7 +42,7 @@ module _ (old new : AnyClient) (pasts : List Past) (replies : List Reply) (crash
 -- ---- the client took a reply
 
 module _ (old new : AnyClient) (pasts : List Past) (p : Past) (replies : List Reply) (s : IsSeated old pasts replies) (request : Request) (reply : Reply)
-    (pending : any_next old ≡ Some request) (answers : Answers request reply)
+    (pending : any_next old ≡ Some request) (answers : IsReplyTo request reply)
     (letter : p.letter ≡ request) (said : say_of replies p.reply ≡ reply.say) (place : p.reply < length replies) (before : p.before.items ≡ any_given old)
     (taken : (es : Trace) → FitsAny old es → FitsAny new (exchange request reply (any_given new) ∷ es))
     (stays : (es : Trace) (o : Outcome) → FitsAny old es → any_ended old ≡ Some o → any_ended new ≡ Some o)

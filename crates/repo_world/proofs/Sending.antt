@@ -19,7 +19,7 @@ use Rattle.repo_session.proofs.Spoken.{was_asked}
 use Rattle.repo_prune.specs.Pruning.{PruneAllows}
 use Rattle.repo_prune.proofs.ForgetRuns.{undeleted}
 use Rattle.repo_world.specs.Bag.{AskedIn, AskedAt, with_next}
-use Rattle.repo_world.specs.Clients.{task_of, Allows, Gives, Concludes, Client}
+use Rattle.repo_world.specs.Clients.{task_of, JobAllows, JobGives, JobConcludes, Client}
 use Rattle.repo_world.specs.Laws.{Behaves}
 use Rattle.repo_world.specs.World.{nobody}
 use Rattle.repo_world.specs.declared.jobs.Job.{Job}
@@ -75,20 +75,20 @@ working_locked task token es h =
     subst (λ fs. Exchanged fs (Ask.Lock (lock_row task token)) Say.Done) (sym o.since) (exchanged_later o.later (opened task token o.text) (Ask.Lock (lock_row task token)) Say.Done (inr (inl (refl, refl))))
 
 -- a client takes one ticket
-pub one_token : (task : Task) (Allows : Trace → Ask → Type 0) (Gives : Trace → Exchange → Type 0) (es : Trace) (t u : Token) → Obeys task Allows Gives es → Exchanged es Ask.Ticket (Say.Token t) → Exchanged es Ask.Ticket (Say.Token u) → t ≡ u
-one_token task Allows Gives [] t u o x y = absurd x
-one_token task Allows Gives (e ∷ es) t u o (inl x) (inl y) = let a : e.say ≡ Say.Token t = x.1 in let b : e.say ≡ Say.Token u = y.1 in cc
-one_token task Allows Gives (e ∷ es) t u o (inl x) (inr y) = let m : es ≡ [] = subst (λ a. May task es a) x.0 o.0 in absurd (subst (λ fs. Exchanged fs Ask.Ticket (Say.Token u)) m y)
-one_token task Allows Gives (e ∷ es) t u o (inr x) (inl y) = let m : es ≡ [] = subst (λ a. May task es a) y.0 o.0 in absurd (subst (λ fs. Exchanged fs Ask.Ticket (Say.Token t)) m x)
-one_token task Allows Gives (e ∷ es) t u o (inr x) (inr y) = one_token task Allows Gives es t u o.3 x y
+pub one_token : (task : Task) (JobAllows : Trace → Ask → Type 0) (JobGives : Trace → Exchange → Type 0) (es : Trace) (t u : Token) → Obeys task JobAllows JobGives es → Exchanged es Ask.Ticket (Say.Token t) → Exchanged es Ask.Ticket (Say.Token u) → t ≡ u
+one_token task JobAllows JobGives [] t u o x y = absurd x
+one_token task JobAllows JobGives (e ∷ es) t u o (inl x) (inl y) = let a : e.say ≡ Say.Token t = x.1 in let b : e.say ≡ Say.Token u = y.1 in cc
+one_token task JobAllows JobGives (e ∷ es) t u o (inl x) (inr y) = let m : es ≡ [] = subst (λ a. May task es a) x.0 o.0 in absurd (subst (λ fs. Exchanged fs Ask.Ticket (Say.Token u)) m y)
+one_token task JobAllows JobGives (e ∷ es) t u o (inr x) (inl y) = let m : es ≡ [] = subst (λ a. May task es a) y.0 o.0 in absurd (subst (λ fs. Exchanged fs Ask.Ticket (Say.Token t)) m x)
+one_token task JobAllows JobGives (e ∷ es) t u o (inr x) (inr y) = one_token task JobAllows JobGives es t u o.3 x y
 
 -- ---- the rule of a client
 
 -- what the rule of a job says of a client
 pub record IsRuled (b : Job) (c : Client) : Type 0 where
-  pub obeys : Obeys (task_of b c.who) (Allows b) (Gives b) c.trace
-  pub pending : (r : Request) → c.next ≡ Some r → IsNext (task_of b c.who) (Allows b) c.trace r
-  pub concluded : (o : Outcome) → c.outcome ≡ Some o → ends.Concludes (Concludes b) (ends.before_unlock c.trace) o
+  pub obeys : Obeys (task_of b c.who) (JobAllows b) (JobGives b) c.trace
+  pub pending : (r : Request) → c.next ≡ Some r → IsNext (task_of b c.who) (JobAllows b) c.trace r
+  pub concluded : (o : Outcome) → c.outcome ≡ Some o → ends.Concludes (JobConcludes b) (ends.before_unlock c.trace) o
 
 nobody_ruled : IsRuled nobody.job nobody
 nobody_ruled = record { obeys = tt; pending = λ r h. absurd (none-some r h); concluded = λ o h. absurd (none-some o h) }
@@ -104,32 +104,32 @@ ruled_as c b e h = subst (λ (j : Job). IsRuled j c) e (ruled c h)
 pub record Sending (b : Job) (who : Asker) (es : Trace) (a : Ask) : Type 0 where
   pub older : Trace
   pub within : Within older es
-  pub obeys : Obeys (task_of b who) (Allows b) (Gives b) older
+  pub obeys : Obeys (task_of b who) (JobAllows b) (JobGives b) older
   pub may : May (task_of b who) older a
-  pub permitted : IsPermitted (Allows b) older a
+  pub permitted : IsPermitted (JobAllows b) older a
 
 module _ (b : Job) (who : Asker) where
-  sending_in : (es : Trace) (q : ℕ) (a : Ask) → Obeys (task_of b who) (Allows b) (Gives b) es → AskedIn es q a → Sending b who es a
+  sending_in : (es : Trace) (q : ℕ) (a : Ask) → Obeys (task_of b who) (JobAllows b) (JobGives b) es → AskedIn es q a → Sending b who es a
   sending_in [] q a o h = absurd h
   sending_in (e ∷ es) q a o (inl h) = record {
     older = es;
     within = λ c s g. inr g;
     obeys = o.3;
     may = subst (λ c. May (task_of b who) es c) h.0 o.0;
-    permitted = subst (λ c. IsPermitted (Allows b) es c) h.0 o.1;
+    permitted = subst (λ c. IsPermitted (JobAllows b) es c) h.0 o.1;
   }
   sending_in (e ∷ es) q a o (inr h) =
       let g = sending_in es q a o.3 h in
       record { older = g.older; within = λ c s x. inr (g.within c s x); obeys = g.obeys; may = g.may; permitted = g.permitted }
 
-  sending_next : (next : Option Request) (es : Trace) (q : ℕ) (a : Ask) → Obeys (task_of b who) (Allows b) (Gives b) es → ((r : Request) → next ≡ Some r → IsNext (task_of b who) (Allows b) es r) → AskedIn (with_next next es) q a → Sending b who es a
+  sending_next : (next : Option Request) (es : Trace) (q : ℕ) (a : Ask) → Obeys (task_of b who) (JobAllows b) (JobGives b) es → ((r : Request) → next ≡ Some r → IsNext (task_of b who) (JobAllows b) es r) → AskedIn (with_next next es) q a → Sending b who es a
   sending_next None es q a o m h = sending_in es q a o h
   sending_next (Some r) es q a o m (inl h) = record {
     older = es;
     within = λ c s g. g;
     obeys = o;
     may = subst (λ c. May (task_of b who) es c) h.0 (m r refl).may;
-    permitted = subst (λ c. IsPermitted (Allows b) es c) h.0 (m r refl).permitted;
+    permitted = subst (λ c. IsPermitted (JobAllows b) es c) h.0 (m r refl).permitted;
   }
   sending_next (Some r) es q a o m (inr h) = sending_in es q a o h
 
@@ -157,7 +157,7 @@ late_put es a p t i m u j n x permitted h q =
 pub record Deleting (who : Asker) (es all : Trace) (t : Token) (i : Kind) (m : Name) : Type 0 where
   pub older : Trace
   pub within : Within older es
-  pub obeys : Obeys (task_of Job.Prune who) (Allows Job.Prune) (Gives Job.Prune) older
+  pub obeys : Obeys (task_of Job.Prune who) (JobAllows Job.Prune) (JobGives Job.Prune) older
   pub working : IsWorking (task_of Job.Prune who) t older
   pub rule : PruneAllows older (Ask.Delete t i m)
   pub before : (q : ℕ) (u : Token) (j : Kind) (n : Name) (x : List ℕ) → AskedIn all q (Ask.Put u j n x) → WasAsked older (Ask.Put u j n x)
@@ -166,7 +166,7 @@ not_both : (a : Ask) (t : Token) (i : Kind) (m : Name) (u : Token) (j : Kind) (n
 not_both a t i m u j n x d p = absurd (cc)
 
 module _ (who : Asker) where
-  deleting_in : (es : Trace) (p : ℕ) (t : Token) (i : Kind) (m : Name) → Obeys (task_of Job.Prune who) (Allows Job.Prune) (Gives Job.Prune) es → AskedIn es p (Ask.Delete t i m) → Deleting who es es t i m
+  deleting_in : (es : Trace) (p : ℕ) (t : Token) (i : Kind) (m : Name) → Obeys (task_of Job.Prune who) (JobAllows Job.Prune) (JobGives Job.Prune) es → AskedIn es p (Ask.Delete t i m) → Deleting who es es t i m
   deleting_in [] p t i m o h = absurd h
   deleting_in (d ∷ es) p t i m o (inl h) =
       let may : May (task_of Job.Prune who) es (Ask.Delete t i m) = subst (λ a. May (task_of Job.Prune who) es a) h.0 o.0 in
@@ -189,7 +189,7 @@ module _ (who : Asker) where
         before = λ q u j n x. ⊎_elim (λ f. absurd (late_put es d.ask p t i m u j n x o.1 h f.0)) (g.before q u j n x);
       }
 
-  deleting_next : (next : Option Request) (es : Trace) (p : ℕ) (t : Token) (i : Kind) (m : Name) → Obeys (task_of Job.Prune who) (Allows Job.Prune) (Gives Job.Prune) es → ((r : Request) → next ≡ Some r → IsNext (task_of Job.Prune who) (Allows Job.Prune) es r) → AskedIn (with_next next es) p (Ask.Delete t i m)
+  deleting_next : (next : Option Request) (es : Trace) (p : ℕ) (t : Token) (i : Kind) (m : Name) → Obeys (task_of Job.Prune who) (JobAllows Job.Prune) (JobGives Job.Prune) es → ((r : Request) → next ≡ Some r → IsNext (task_of Job.Prune who) (JobAllows Job.Prune) es r) → AskedIn (with_next next es) p (Ask.Delete t i m)
       → Deleting who es (with_next next es) t i m
   deleting_next None es p t i m o may h = deleting_in es p t i m o h
   deleting_next (Some r) es p t i m o may (inl h) =

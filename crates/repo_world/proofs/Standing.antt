@@ -20,7 +20,7 @@ use Rattle.repo_world.specs.Flows.{Flow, seat_at, world_of}
 use Rattle.repo_world.specs.Laws.{IsEmpty}
 use Rattle.repo_world.specs.Seating.{StepsAsArmed}
 use Rattle.repo_world.specs.Seats.{Seated, empty_seat}
-use Rattle.repo_world.specs.Stages.{IsReached, IsSafely, Leads, Shelf, Stage, seen}
+use Rattle.repo_world.specs.Stages.{IsReachable, IsSafely, Leads, Shelf, Stage, seen}
 use Rattle.repo_world.specs.World.{Asked, Message, Said, World, beginning, client_at}
 use Rattle.repo_world.specs.declared.events.Applied.{Applied}
 use Rattle.repo_world.specs.declared.events.Event.{Event}
@@ -113,14 +113,14 @@ pub run_more : (w : World) (es : List Event) (u : World) (e : Event) (a : Applie
 run_more w [] u e a v r h = (v, (a, subst (λ x. Happens ⊤ x e a v) r h), refl)
 run_more w (d ∷ es) u e a v r h = (r.0, r.1, run_more r.0 es u e a v r.2 h)
 
-pub reached_more : (Own : Type 0) (w : World) (e : Event) (a : Applied) (v : World) → IsReached w → Happens Own w e a v → IsReached v
+pub reached_more : (Own : Type 0) (w : World) (e : Event) (a : Applied) (v : World) → IsReachable w → Happens Own w e a v → IsReachable v
 reached_more Own w e a v r h = record { store = r.store; empty = r.empty; events = r.events ++ e ∷ []; run = run_more (beginning r.store) r.events w e a v r.run (happens_any Own w e a v h) }
 
-pub reached_first : (store : Store) → IsEmpty store → IsReached (beginning store)
+pub reached_first : (store : Store) → IsEmpty store → IsReachable (beginning store)
 reached_first store empty = record { store = store; empty = empty; events = []; run = refl }
 
 -- it is safe
-pub safely : (w : World) → IsReached w → IsSafely w
+pub safely : (w : World) → IsReachable w → IsSafely w
 safely w r clash = every_run_is_safe r.store r.empty r.events [] w w r.run refl clash
 
 -- ---- some of a list of events happened, the first ones
@@ -173,9 +173,9 @@ module _ (S : Type 0) (store : S → Store) (failed : S → ℕ) where
   unhappened (Ok x) shelf after flow later f s = tt
   unhappened (Err e) shelf after flow later f s = λ i. world_of (store (s i).inner.inner) (f i)
 
-  pub reached_by : {E : Type 0} (r : Result Applied E) (old : Stage S) (e : Event) (new : Stage S) → IsReached (seen store old) → IfOk r (λ applied. Leads store failed old e applied new) → OnErr r (seen store new ≡ seen store old) → IsReached (seen store new)
+  pub reached_by : {E : Type 0} (r : Result Applied E) (old : Stage S) (e : Event) (new : Stage S) → IsReachable (seen store old) → IfOk r (λ applied. Leads store failed old e applied new) → OnErr r (seen store new ≡ seen store old) → IsReachable (seen store new)
   reached_by (Ok a) old e new reached leads same = reached_more (HasFailed (failed old.device) (failed new.device)) (seen store old) e a (seen store new) reached leads
-  reached_by (Err x) old e new reached leads same = subst IsReached (sym same) reached
+  reached_by (Err x) old e new reached leads same = subst IsReachable (sym same) reached
 
 -- ---- a call that failed, or didn't
 
@@ -194,17 +194,17 @@ carried P {a} {x} {b} {y} {c} {z} p q r h = subst (λ k. P k y z) (sym p) (subst
 
 -- ---- a lock's removal, whatever is said to it
 
-pub unlock_reached : (own owned : ℕ) (left : Armed) (w : World) (t : Token) (say : Say) (new : Store) → StepsAsArmed Armed.Nothing own left owned w.store (Ask.Unlock t) say new → IsReached w → IsReached (over w new)
+pub unlock_reached : (own owned : ℕ) (left : Armed) (w : World) (t : Token) (say : Say) (new : Store) → StepsAsArmed Armed.Nothing own left owned w.store (Ask.Unlock t) say new → IsReachable w → IsReachable (over w new)
 unlock_reached own owned left w t say new s reached = let p = steps_plainly own owned left w.store (Ask.Unlock t) say new s in go p.0 p.1
   where
-    by : Unlocks w t (over w new) ⊎ (HasFailed own owned × (over w new ≡ w)) → IsReached (over w new)
+    by : Unlocks w t (over w new) ⊎ (HasFailed own owned × (over w new ≡ w)) → IsReachable (over w new)
     by u = reached_more (HasFailed own owned) w (Event.Unlock t) Applied.Done (over w new) reached (refl, u)
 
-    go : Step w.store (Ask.Unlock t) say new → (say ≡ Say.Refused Code.Fault → HasFailed own owned) → IsReached (over w new)
+    go : Step w.store (Ask.Unlock t) say new → (say ≡ Say.Refused Code.Fault → HasFailed own owned) → IsReachable (over w new)
     go (inl a) own_fault = by (inl (unlocks w t say new a))
     go (inr (l, inl (e, inl same))) own_fault = by (inr (own_fault e, ap (over w) same))
     go (inr (l, inl (e, inr (told, a)))) own_fault = by (inl (unlocks w t told new a))
-    go (inr (l, inr (e, same))) own_fault = subst IsReached (sym (ap (over w) same)) reached
+    go (inr (l, inr (e, same))) own_fault = subst IsReachable (sym (ap (over w) same)) reached
 
 -- nothing was armed, and nothing is
 pub nothing_left : (own owned : ℕ) (say : Say) (left : Armed) → IsLeft (HasFailed own owned) Armed.Nothing say left → left ≡ Armed.Nothing

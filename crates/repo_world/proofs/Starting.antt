@@ -12,10 +12,10 @@ use Rattle.repo_session.specs.Traces.{Trace, is_complete}
 use Rattle.repo_session.specs.declared.outcomes.End.{End}
 use Rattle.repo_session.specs.declared.outcomes.Outcome.{Outcome}
 use Rattle.repo_session.specs.Ends as ends
-use Rattle.repo_prune.specs.Forgetting.{IsForgotten, IsKnown}
+use Rattle.repo_prune.specs.Forgetting.{IsForgotten, IsDecided}
 use Rattle.repo_prune.specs.declared.choices.Choice.{Choice}
 use Rattle.repo_world.specs.AnyClients.{FitsAny, any_ended, any_next, any_obeys, given_to}
-use Rattle.repo_world.specs.Clients.{Allows, Concludes, Gives, task_of}
+use Rattle.repo_world.specs.Clients.{JobAllows, JobConcludes, JobGives, task_of}
 use Rattle.repo_world.specs.declared.any_clients.AnyClient.{AnyClient}
 use Rattle.repo_world.specs.declared.jobs.Job.{Job}
 
@@ -24,7 +24,7 @@ use Rattle.repo_world.specs.declared.jobs.Job.{Job}
 unlisted : false ≡ true → ⊥
 unlisted e = absurd (cc)
 
-restore_ends : (snapshot : Name) (end : End) → Concludes (Job.Restore snapshot) [] (Outcome.Ended end) → ⊥
+restore_ends : (snapshot : Name) (end : End) → JobConcludes (Job.Restore snapshot) [] (Outcome.Ended end) → ⊥
 restore_ends snapshot (End.Missing thing name) h = h.found.2.0
 restore_ends snapshot (End.BadObject Thing.Tree tree) h = h.found.2.0
 restore_ends snapshot (End.BadObject Thing.Pack tree) h = h
@@ -38,7 +38,7 @@ restore_ends snapshot End.BadReply h = h
 restore_ends snapshot End.Version h = h
 restore_ends snapshot End.DirectoryTooLarge h = h
 
-prune_ends : (end : End) → Concludes Job.Prune [] (Outcome.Ended end) → ⊥
+prune_ends : (end : End) → JobConcludes Job.Prune [] (Outcome.Ended end) → ⊥
 prune_ends (End.Missing thing name) h = h.1.1
 prune_ends (End.BadObject Thing.Tree tree) h = h.1.among
 prune_ends (End.BadObject Thing.Pack tree) h = h
@@ -52,7 +52,7 @@ prune_ends End.BadReply h = h
 prune_ends End.Version h = h
 prune_ends End.DirectoryTooLarge h = h
 
-backup_ends : (entries : List Entry) (end : End) → Concludes (Job.Backup entries) [] (Outcome.Ended end) → ⊥
+backup_ends : (entries : List Entry) (end : End) → JobConcludes (Job.Backup entries) [] (Outcome.Ended end) → ⊥
 backup_ends entries End.DirectoryTooLarge h = h.cut.read
 backup_ends entries (End.Missing thing name) h = h
 backup_ends entries (End.BadObject thing name) h = h
@@ -63,7 +63,7 @@ backup_ends entries End.BadReply h = h
 backup_ends entries End.Version h = h
 
 -- an end of a job's own has something that was asked
-no_end : (job : Job) (end : End) → Concludes job [] (Outcome.Ended end) → ⊥
+no_end : (job : Job) (end : End) → JobConcludes job [] (Outcome.Ended end) → ⊥
 no_end (Job.Backup entries) end h = backup_ends entries end h
 no_end (Job.Restore snapshot) end h = restore_ends snapshot end h
 no_end Job.List end h = h
@@ -73,11 +73,11 @@ no_end Job.Check end h = h
 
 forgot_listed : (choice : Choice) (es : Trace) (names : List Name) → IsForgotten choice es names → is_complete Kind.Snapshot es ≡ true
 forgot_listed choice es names h = go choice h.chosen.decided where
-  go : (c : Choice) → IsKnown c es h.chosen.rows → is_complete Kind.Snapshot es ≡ true
+  go : (c : Choice) → IsDecided c es h.chosen.rows → is_complete Kind.Snapshot es ≡ true
   go (Choice.Names given) k = k.complete
   go (Choice.Keep policy) k = k.listed.complete
 
-no_outcome : (job : Job) (o : Outcome) → Concludes job [] o → ⊥
+no_outcome : (job : Job) (o : Outcome) → JobConcludes job [] o → ⊥
 no_outcome job (Outcome.Ended end) h = no_end job end h
 no_outcome (Job.Backup entries) (Outcome.Stored name blobs bytes) h = h.put.1
 no_outcome (Job.Restore snapshot) (Outcome.Complete entries) h = h.2.2.0
@@ -93,7 +93,7 @@ no_outcome (Job.Forget choice) _ h = h
 no_outcome Job.Prune _ h = h
 no_outcome Job.Check _ h = h
 
-not_concluded : (job : Job) (o : Outcome) → ends.Concludes (Concludes job) [] o → ⊥
+not_concluded : (job : Job) (o : Outcome) → ends.Concludes (JobConcludes job) [] o → ⊥
 not_concluded job (Outcome.Ended end) (inl h) = h
 not_concluded job (Outcome.Ended end) (inr h) = no_end job end h
 not_concluded job (Outcome.Stored name blobs bytes) h = no_outcome job (Outcome.Stored name blobs bytes) h
@@ -124,7 +124,7 @@ only_ticket task (Ask.Refresh token time) h = absurd h
 only_ticket task Ask.Locks h = absurd h
 
 module _ (c : AnyClient) (f : FitsAny c []) where
-  owes : IsObedient (task_of (given_to c).handed (given_to c).who) (Allows (given_to c).handed) (Gives (given_to c).handed) (Concludes (given_to c).handed) (any_next c) (any_ended c) []
+  owes : IsObedient (task_of (given_to c).handed (given_to c).who) (JobAllows (given_to c).handed) (JobGives (given_to c).handed) (JobConcludes (given_to c).handed) (any_next c) (any_ended c) []
   owes = any_obeys c [] f
 
   pub no_outcome_yet : any_ended c ≡ None

@@ -12,7 +12,7 @@ use Rattle.repo_session.specs.Clients.{exchange, IsNext}
 use Rattle.repo_session.specs.Order.{May}
 use Rattle.repo_session.specs.Traces.{Trace, Exchanged}
 use Rattle.repo_world.specs.Bag.{AskedIn, AskedAt, with_next, StillSays, IsLawfulAsk, IsWithin, HasBag}
-use Rattle.repo_world.specs.Clients.{task_of, Allows, Client, IsDutiful}
+use Rattle.repo_world.specs.Clients.{task_of, JobAllows, Client, IsDutiful}
 use Rattle.repo_world.specs.Events.{Takes, Starts, Crashes}
 use Rattle.repo_world.specs.Laws.{Behaves}
 use Rattle.repo_world.specs.World.{World, Asked, Said, client, nobody, Has, sends, first_of, started, crashed_one}
@@ -83,7 +83,7 @@ takes_grows w k reply v t = grows_with (client w k) t.new t.job
     (λ q a h. trace_asked t.new.next t.new.trace q a (subst (λ es. AskedIn es q a) (sym t.trace) (taken_on (client w k).next t.request (client w k).trace (exchange t.request reply t.emitted ∷ (client w k).trace) q a t.pending (λ z n e d. inl (e, d)) (λ g. inr g) h)))
 
 module _ (w : World) (bag : HasBag w) (k : ℕ) (reply : Reply) (v : World) (m : Has w.messages (Said k reply)) (t : Takes w k reply v) where
-  now : IsNext (task_of (client w k).job (client w k).who) (Allows (client w k).job) (client w k).trace t.request
+  now : IsNext (task_of (client w k).job (client w k).who) (JobAllows (client w k).job) (client w k).trace t.request
   now = (ruled (client w k) (bag.behave k)).pending t.request t.pending
 
   here : AskedAt (client w k) reply.sequence t.request.ask
@@ -165,7 +165,7 @@ some_none r e = absurd (cc)
 pub started_dutiful : (k : ℕ) (job : Job) (host : List ℕ) (time : ℕ) → IsDutiful (started k job host time)
 started_dutiful k job host time = record {
   obeys = tt;
-  pending = λ r h. subst (λ (q : Request). IsNext (task_of job (started k job host time).who) (Allows job) [] q) (same_Some (first_of k) r h) (record { instance = refl; sequence = refl; may = refl; permitted = λ work. absurd work });
+  pending = λ r h. subst (λ (q : Request). IsNext (task_of job (started k job host time).who) (JobAllows job) [] q) (same_Some (first_of k) r h) (record { instance = refl; sequence = refl; may = refl; permitted = λ work. absurd work });
   settled = λ e. absurd (some_none (first_of k) e);
   concluded = λ o e. absurd (none-some o e);
   released = λ e. absurd (some_none (first_of k) e);

@@ -53,7 +53,7 @@ use Rattle.repo_backup.specs.Folders.{nothing, tree_of}
 use Rattle.repo_prune.specs.Keeping.{Row}
 use Rattle.repo_prune.specs.Pruning.{AreCovered, AreFactsOnce, IsNeededBy, IsSettled, IsPruned, MayPutIndex}
 use Rattle.repo_world.specs.Backed.{configured, snapshot_of, AreTexts, stored, IsTidied, PruneIsARun}
-use Rattle.repo_world.specs.Clients.{task_of, Allows, Gives, Concludes, Client, IsDutiful}
+use Rattle.repo_world.specs.Clients.{task_of, JobAllows, JobGives, JobConcludes, Client, IsDutiful}
 use Rattle.repo_world.specs.Events.{Run}
 use Rattle.repo_world.specs.Lone.{ended}
 use Rattle.repo_world.specs.World.{World, client_at, beginning, instance_of}
@@ -249,7 +249,7 @@ module _ (host : List ℕ) (time : ℕ) (config pack index snapshot : List ℕ) 
       lists = record { packs = listed ∷ []; reads = texts.indexed; each = λ p c. inr (subst (λ (q : PackFacts). IsKeptPack t6 q) (only listed p c) kept) };
     }
 
-    obeys : Obeys task (Allows Job.Prune) (Gives Job.Prune) all
+    obeys : Obeys task (JobAllows Job.Prune) (JobGives Job.Prune) all
     obeys = (
       holds_of task token t7 works_7,
       (λ x. absurd x),
@@ -363,7 +363,7 @@ module _ (host : List ℕ) (time : ℕ) (config pack index snapshot : List ℕ) 
       obeys = obeys;
       pending = λ r h. absurd (none-some r h);
       settled = λ e q. absurd (none-some (Outcome.Pruned 0 0) (sym q));
-      concluded = λ o e. subst (λ x. ends.Concludes (Concludes Job.Prune) t7 x) (same_Some (Outcome.Pruned 0 0) o e) pruned;
+      concluded = λ o e. subst (λ x. ends.Concludes (JobConcludes Job.Prune) t7 x) (same_Some (Outcome.Pruned 0 0) o e) pruned;
       released = λ e o t h. absurd (held_end task t h.later (silent (Ask.Unlock token) Say.Done) t7 h.since h.held.unended tt);
       beside = λ r h o. absurd (none-some r h);
       ending = λ r h u. absurd (none-some r h);

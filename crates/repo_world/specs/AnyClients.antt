@@ -21,7 +21,7 @@ use Rattle.repo_prune.specs.PruneObedience.{prune_obeys}
 use Rattle.repo_prune.specs.PruneStates.{FitsPrune, pruner_of}
 use Rattle.repo_check.specs.CheckObedience.{check_obeys}
 use Rattle.repo_check.specs.CheckStates.{FitsCheck, checker_of}
-use Rattle.repo_world.specs.Clients.{Allows, Client, Concludes, Gives, task_of}
+use Rattle.repo_world.specs.Clients.{JobAllows, Client, JobConcludes, JobGives, task_of}
 use Rattle.repo_world.specs.declared.any_clients.AnyClient.{AnyClient}
 use Rattle.repo_world.specs.declared.jobs.Job.{Job}
 
@@ -71,8 +71,8 @@ any_given (AnyClient.Prune c) = given_by (λ j. []) c.session
 any_given (AnyClient.Check c) = given_by (λ j. []) c.session
 
 -- it owes what its job owes
-pub any_obeys : (c : AnyClient) (es : Trace) → FitsAny c es → IsObedient (task_of (given_to c).handed (given_to c).who) (Allows (given_to c).handed) (Gives (given_to c).handed)
-    (Concludes (given_to c).handed) (any_next c) (any_ended c) es
+pub any_obeys : (c : AnyClient) (es : Trace) → FitsAny c es → IsObedient (task_of (given_to c).handed (given_to c).who) (JobAllows (given_to c).handed) (JobGives (given_to c).handed)
+    (JobConcludes (given_to c).handed) (any_next c) (any_ended c) es
 any_obeys (AnyClient.Backup c) es f = backup_obeys c es f
 any_obeys (AnyClient.Restore c) es f = restore_obeys c es f
 any_obeys (AnyClient.List c) es f = list_obeys c es f

@@ -1,7 +1,6 @@
 -- A backup, a restore and a prune, as examples: an empty folder is backed up to a store without objects, and its snapshot is reported as stored; then it is
 -- restored, or the store is pruned, or it is forgotten and the store pruned.
-use Rattle.std.specs.Prelude.{false, ◌≡◌, ◌≤◌, ◌<◌, ◌^◌, ◌-◌, ◌∷◌, [], ℕ, List, length, min, Some, None, Vec, Contains}
-use Rattle.std.specs.Global.{Global}
+use Rattle.std.specs.Prelude.{false, ◌≡◌, ◌≤◌, ◌<◌, ◌^◌, ◌-◌, ◌∷◌, [], ℕ, List, length, min, Some, None, Contains}
 use Rattle.repo_name.specs.Naming as naming
 use Rattle.repo_name.specs.Rows.{IsHost}
 use Rattle.repo_name.specs.declared.kinds.Kind.{Kind}
@@ -94,7 +93,7 @@ abbrev pub PruneIsARun : Type 0
 PruneIsARun = (host : List ℕ) (time : ℕ) (config pack index snapshot : List ℕ) → (time < 2 ^ 64) × IsHost host → AreTexts host time config pack index snapshot → IsTidied config snapshot
 
 -- the same; then a second client, a forget of names, forgets the snapshot; then a third, a prune, deletes the index and the pack, and no object is left
-pub record IsForgotten (names : Vec Name Global) (config snapshot : List ℕ) : Type 0 where
+pub record IsForgottenInRun (names : List Name) (config snapshot : List ℕ) : Type 0 where
   pub events : List Event
   pub last : World
   pub run : Run (beginning (configured config)) events last
@@ -106,5 +105,5 @@ pub record IsForgotten (names : Vec Name Global) (config snapshot : List ℕ) : 
 
 -- with any such texts, and any names that the snapshot's is among, there is such a run
 abbrev pub ForgetIsARun : Type 0
-ForgetIsARun = (host : List ℕ) (time : ℕ) (config pack index snapshot : List ℕ) (names : Vec Name Global) → (time < 2 ^ 64) × IsHost host → AreTexts host time config pack index snapshot → Contains names.items (naming.name snapshot)
-    → IsForgotten names config snapshot
+ForgetIsARun = (host : List ℕ) (time : ℕ) (config pack index snapshot : List ℕ) (names : List Name) → (time < 2 ^ 64) × IsHost host → AreTexts host time config pack index snapshot → Contains names (naming.name snapshot)
+    → IsForgottenInRun names config snapshot

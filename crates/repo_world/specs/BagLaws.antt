@@ -50,17 +50,17 @@ DeadKeepBag = (w v : World) (k : ℕ) (request : Request) → HasBag w → HasNo
 -- ---- the other requests
 
 -- a request that reads
-abbrev pub IsRead : Ask → Type 0
-IsRead (Ask.List j after) = ⊤
-IsRead (Ask.Get j n) = ⊤
-IsRead (Ask.Range pack offset len) = ⊤
-IsRead Ask.Config = ⊤
-IsRead Ask.Locks = ⊤
-IsRead _ = ⊥
+abbrev pub IsReadingAsk : Ask → Type 0
+IsReadingAsk (Ask.List j after) = ⊤
+IsReadingAsk (Ask.Get j n) = ⊤
+IsReadingAsk (Ask.Range pack offset len) = ⊤
+IsReadingAsk Ask.Config = ⊤
+IsReadingAsk Ask.Locks = ⊤
+IsReadingAsk _ = ⊥
 
 -- it changes nothing
 abbrev pub ReadsKeepBag : Type 0
-ReadsKeepBag = (w v : World) (k : ℕ) (request : Request) → HasBag w → HasNoClash v → IsServed w k request v → IsRead request.ask → HasBag v × (v.store ≡ w.store)
+ReadsKeepBag = (w v : World) (k : ℕ) (request : Request) → HasBag w → HasNoClash v → IsServed w k request v → IsReadingAsk request.ask → HasBag v × (v.store ≡ w.store)
 
 -- a request on tickets and locks
 abbrev pub IsOnLocks : Ask → Type 0

@@ -69,16 +69,16 @@ abbrev pub task_of : Job → Asker → Task
 task_of job who = task_under (rule_of job) who
 
 -- what its rule lets it ask
-abbrev pub Allows : Job → Trace → Ask → Type 0
-Allows job = (rule_of job).allows
+abbrev pub JobAllows : Job → Trace → Ask → Type 0
+JobAllows job = (rule_of job).allows
 
 -- what its rule lets it give out
-abbrev pub Gives : Job → Trace → Exchange → Type 0
-Gives job = (rule_of job).gives
+abbrev pub JobGives : Job → Trace → Exchange → Type 0
+JobGives job = (rule_of job).gives
 
 -- how its rule lets it end
-abbrev pub Concludes : Job → Trace → Outcome → Type 0
-Concludes job = (rule_of job).concludes
+abbrev pub JobConcludes : Job → Trace → Outcome → Type 0
+JobConcludes job = (rule_of job).concludes
 
 -- a client: its job, who asks, all its exchanges, what is pending, how it ended, and whether it stopped for good
 pub record Client : Type 0 where
@@ -91,4 +91,4 @@ pub record Client : Type 0 where
 
 -- it stands where the order and its rule allow
 abbrev pub IsDutiful : Client → Type 0
-IsDutiful c = IsObedient (task_of c.job c.who) (Allows c.job) (Gives c.job) (Concludes c.job) c.next c.outcome c.trace
+IsDutiful c = IsObedient (task_of c.job c.who) (JobAllows c.job) (JobGives c.job) (JobConcludes c.job) c.next c.outcome c.trace

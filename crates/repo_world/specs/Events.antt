@@ -10,7 +10,7 @@ use Rattle.repo_locks.specs.TokenMachine.{unlocked}
 use Rattle.repo_store.specs.Stores.{Store, SavesTokens}
 use Rattle.repo_session.specs.declared.emissions.Emission.{Emission}
 use Rattle.repo_session.specs.declared.outcomes.Outcome.{Outcome}
-use Rattle.repo_session.specs.Clients.{AnswersNext, Answers, exchange}
+use Rattle.repo_session.specs.Clients.{AnswersNext, IsReplyTo, exchange}
 use Rattle.repo_world.specs.Clients.{Accepts, Refuses, Client, IsDutiful}
 use Rattle.repo_world.specs.World.{Message, Asked, Said, World, first_of, started, crashed_one, client, sends}
 use Rattle.repo_store.specs.Failing.{Plainly, Failing}
@@ -26,7 +26,7 @@ use Rattle.repo_world.specs.declared.jobs.Refusal.{Refusal}
 pub record Serves (How : Store → Ask → Say → Store → Type 0) (w : World) (k : ℕ) (request : Request) (v : World) : Type 0 where
   pub reply : Reply
   pub store : Store
-  pub answers : Answers request reply
+  pub answers : IsReplyTo request reply
   pub step : How w.store request.ask reply.say store
   pub is : v ≡ record { store = store; clients = w.clients; messages = w.messages ++ Said k reply ∷ [] }
 
@@ -35,7 +35,7 @@ pub record Takes (w : World) (k : ℕ) (reply : Reply) (v : World) : Type 0 wher
   pub running : (client w k).crashed ≡ false
   pub request : Request
   pub pending : (client w k).next ≡ Some request
-  pub answers : Answers request reply
+  pub answers : IsReplyTo request reply
   pub emitted : List Emission
   pub new : Client
   pub job : new.job ≡ (client w k).job

@@ -8,7 +8,7 @@ use Rattle.repo_store.specs.Failing.{IsAsArmed}
 use Rattle.repo_store.specs.StoreMachine.{Step}
 use Rattle.repo_store.specs.Stores.{Store}
 use Rattle.repo_store.specs.declared.faults.Armed.{Armed}
-use Rattle.repo_session.specs.Clients.{Answers, AnswersNext, exchange}
+use Rattle.repo_session.specs.Clients.{IsReplyTo, AnswersNext, exchange}
 use Rattle.repo_session.specs.declared.emissions.Emission.{Emission}
 use Rattle.repo_session.specs.declared.outcomes.Outcome.{Outcome}
 use Rattle.repo_world.specs.Clients.{IsDutiful}
@@ -31,7 +31,7 @@ Replied old new = (reply : Reply) × (new ≡ record { client = old.client; requ
 -- the request at a place was answered, and the reply stands behind the others
 pub record Answered (old : Seated) (place : ℕ) (new : Seated) (from : Store) (armed : Armed) (own : ℕ) (to : Store) (left : Armed) (owned : ℕ) : Type 0 where
   pub reply : Reply
-  pub answers : Answers (slice_index_or old.requests place nothing) reply
+  pub answers : IsReplyTo (slice_index_or old.requests place nothing) reply
   pub step : StepsAsArmed armed own left owned from (slice_index_or old.requests place nothing).ask reply.say to
   pub is : new ≡ record { client = old.client; requests = old.requests; replies = old.replies ++ reply ∷ [] }
 
@@ -40,7 +40,7 @@ pub record TookReply (old : Seated) (reply : Reply) (new : Seated) : Type 0 wher
   pub running : old.client.crashed ≡ false
   pub request : Request
   pub pending : old.client.next ≡ Some request
-  pub answers : Answers request reply
+  pub answers : IsReplyTo request reply
   pub emitted : List Emission
   pub job : new.client.job ≡ old.client.job
   pub who : new.client.who ≡ old.client.who
@@ -52,7 +52,7 @@ pub record TookReply (old : Seated) (reply : Reply) (new : Seated) : Type 0 wher
   pub replies : new.replies ≡ old.replies
 
 -- what came of a reply that was delivered
-abbrev pub Took : Seated → ℕ → Seated → Arrival → Type 0
-Took old place new Arrival.Stopped = (old.client.crashed ≡ true) × (new ≡ old)
-Took old place new Arrival.Unawaited = (old.client.crashed ≡ false) × (¬ AnswersNext old.client.next (slice_index_or old.replies place silence)) × (new ≡ old)
-Took old place new Arrival.Taken = TookReply old (slice_index_or old.replies place silence) new
+abbrev pub SeatTook : Seated → ℕ → Seated → Arrival → Type 0
+SeatTook old place new Arrival.Stopped = (old.client.crashed ≡ true) × (new ≡ old)
+SeatTook old place new Arrival.Unawaited = (old.client.crashed ≡ false) × (¬ AnswersNext old.client.next (slice_index_or old.replies place silence)) × (new ≡ old)
+SeatTook old place new Arrival.Taken = TookReply old (slice_index_or old.replies place silence) new

@@ -28,7 +28,7 @@ abbrev pub Leads : {S : Type 0} → (S → Store) → (S → ℕ) → Stage S �
 Leads store failed old event applied new = Happens (HasFailed (failed old.device) (failed new.device)) (seen store old) event applied (seen store new)
 
 -- a run from a store without objects leads to the world
-pub record IsReached (w : World) : Type 0 where
+pub record IsReachable (w : World) : Type 0 where
   pub store : Store
   pub empty : IsEmpty store
   pub events : List Event
@@ -43,7 +43,7 @@ pub record Stands {S : Type 0} (Honest : S → Type 0) (store : S → Store) (sh
   pub honest : Honest shelf.inner.inner
   pub agrees : Agrees shelf.known (store shelf.inner.inner)
   pub disarmed : shelf.inner.armed ≡ Armed.Nothing
-  pub reached : IsReached (world_of (store shelf.inner.inner) flow)
+  pub reached : IsReachable (world_of (store shelf.inner.inner) flow)
 
 -- without a clash the world is safe, and what was handed to a snapshot's backup is one list
 abbrev pub IsSafely : World → Type 0

@@ -92,7 +92,7 @@ impl AnyClient {
 impl Client for AnyClient {
     ghost use Rattle.repo_session.specs.Sessions.{Given};
     ghost use Rattle.repo_world.specs.AnyClients.{FitsAny, any_ended, any_given, any_next, any_obeys, given_to};
-    ghost use Rattle.repo_world.specs.Clients.{Allows, Concludes, Gives, rule_of, task_of};
+    ghost use Rattle.repo_world.specs.Clients.{JobAllows, JobConcludes, JobGives, rule_of, task_of};
     ghost use Rattle.repo_world.specs.declared.jobs.Job.{Job as AnyJob};
 
     ghost Job = { Given AnyJob };
@@ -101,11 +101,11 @@ impl Client for AnyClient {
 
     ghost task = { λ j. task_of j.handed j.who };
 
-    ghost allows = { λ j. Allows j.handed };
+    ghost allows = { λ j. JobAllows j.handed };
 
-    ghost gives = { λ j. Gives j.handed };
+    ghost gives = { λ j. JobGives j.handed };
 
-    ghost concludes = { λ j. Concludes j.handed };
+    ghost concludes = { λ j. JobConcludes j.handed };
 
     ghost calm = { λ j. (rule_of j.handed).calm };
 

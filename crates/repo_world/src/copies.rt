@@ -1,67 +1,85 @@
-//! Copies of requests.
+//! Copies of events.
 
 ghost use Rattle.std.specs.Prelude.{◌≡◌, IfOk};
 
-use repo_wire::{Ask, Request};
-use std::alloc::AllocError;
+use crate::events::Event;
+use crate::jobs::{Entries, Job};
+use repo_prune::Choice;
+use repo_tree::{Entry, EntryKind};
+use std::alloc::{AllocError, Global};
 
-/// An equal one of what is asked. It fails for memory alone.
-fn copy_of_ask(ask: &Ask) -> Result<Ask, AllocError>
-    ensures { IfOk result (λ copy. copy ≡ ask.now) }
+/// An equal one of what stands at a path. It fails for memory alone.
+fn copy_of_kind(what: &EntryKind) -> Result<EntryKind, AllocError>
+    ensures { IfOk result (λ copy. copy ≡ what.now) }
 {
-    Ok(match ask {
-        Ask::Ticket => Ask::Ticket,
-        Ask::Lock(row) => Ask::Lock(row.clone()?),
-        Ask::Refresh { token, time } => Ask::Refresh {
-            token: *token,
-            time: *time,
-        },
-        Ask::Unlock(token) => Ask::Unlock(*token),
-        Ask::Locks => Ask::Locks,
-        Ask::List { kind, after } => Ask::List {
-            kind: *kind,
-            after: *after,
-        },
-        Ask::Get { kind, name } => Ask::Get {
-            kind: *kind,
-            name: *name,
-        },
-        Ask::Range {
-            pack,
-            offset,
-            length,
-        } => Ask::Range {
-            pack: *pack,
-            offset: *offset,
-            length: *length,
-        },
-        Ask::Put {
-            token,
-            kind,
-            name,
-            bytes,
-        } => Ask::Put {
-            token: *token,
-            kind: *kind,
-            name: *name,
-            bytes: bytes.clone()?,
-        },
-        Ask::Delete { token, kind, name } => Ask::Delete {
-            token: *token,
-            kind: *kind,
-            name: *name,
-        },
-        Ask::Config => Ask::Config,
+    match what {
+        EntryKind::Dir => Ok(EntryKind::Dir),
+        EntryKind::File(bytes) => Ok(EntryKind::File(bytes.clone()?)),
+    }
+}
+
+/// An equal entry. It fails for memory alone.
+fn copy_of_entry(entry: &Entry) -> Result<Entry, AllocError>
+    ensures { IfOk result (λ copy. copy ≡ entry.now) }
+{
+    Ok(Entry {
+        path: entry.path.clone()?,
+        what: copy_of_kind(&entry.what)?,
     })
 }
 
-/// An equal request. It fails for memory alone.
-pub fn copy_of_request(request: &Request) -> Result<Request, AllocError>
-    ensures { IfOk result (λ copy. copy ≡ request.now) }
+/// Equal entries. It fails for memory alone.
+fn copy_of_entries(alloc: Global, entries: &Entries) -> Result<Entries, AllocError>
+    ensures { IfOk result (λ copy. copy ≡ entries.now) }
 {
-    Ok(Request {
-        instance: request.instance,
-        sequence: request.sequence,
-        ask: copy_of_ask(&request.ask)?,
-    })
+    let mut copies = Vec::new(alloc);
+    for entry in entries.as_slice() {
+        copies.push(copy_of_entry(entry)?)?;
+    }
+    Ok(Entries::of(copies))
+}
+
+/// An equal choice. It fails for memory alone.
+fn copy_of_choice(choice: &Choice) -> Result<Choice, AllocError>
+    ensures { IfOk result (λ copy. copy ≡ choice.now) }
+{
+    match choice {
+        Choice::Names(names) => Ok(Choice::Names(names.clone()?)),
+        Choice::Keep(policy) => Ok(Choice::Keep(*policy)),
+    }
+}
+
+/// An equal job. It fails for memory alone.
+fn copy_of_job(alloc: Global, job: &Job) -> Result<Job, AllocError>
+    ensures { IfOk result (λ copy. copy ≡ job.now) }
+{
+    match job {
+        Job::Backup(entries) => Ok(Job::Backup(copy_of_entries(alloc, entries)?)),
+        Job::Restore(name) => Ok(Job::Restore(*name)),
+        Job::List => Ok(Job::List),
+        Job::Forget(choice) => Ok(Job::Forget(copy_of_choice(choice)?)),
+        Job::Prune => Ok(Job::Prune),
+        Job::Check => Ok(Job::Check),
+    }
+}
+
+/// An equal event. It fails for memory alone, and takes some for a start alone.
+pub fn copy_of_event(alloc: Global, event: &Event) -> Result<Event, AllocError>
+    ensures { IfOk result (λ copy. copy ≡ event.now) }
+{
+    match event {
+        Event::Start { job, host, time } => Ok(Event::Start {
+            job: copy_of_job(alloc, job)?,
+            host: host.copy()?,
+            time: *time,
+        }),
+        Event::Deliver(message) => Ok(Event::Deliver(*message)),
+        Event::Fault { message, fail } => Ok(Event::Fault {
+            message: *message,
+            fail: *fail,
+        }),
+        Event::Unlock(token) => Ok(Event::Unlock(*token)),
+        Event::Crash(client) => Ok(Event::Crash(*client)),
+        Event::Restart => Ok(Event::Restart),
+    }
 }

@@ -5,7 +5,7 @@ use repo_name::Token;
 use repo_store::Fail;
 
 /// What may happen in a world. Clients and messages are numbered from 0 on, as they come.
-#[derive(Clone, Debug, Drop)]
+#[derive(Debug, Drop)]
 pub enum Event {
     /// A client starts, under the name of its machine and at a moment, in seconds since 1970, and asks for its
     /// ticket.

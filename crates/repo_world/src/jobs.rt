@@ -12,7 +12,7 @@ use std::marker::Model;
 use thiserror::Error;
 
 /// The entries that a backup is handed. A clause sees the list of them.
-#[derive(Clone, Debug, Drop)]
+#[derive(Debug, Drop)]
 pub struct Entries {
     inner: Vec<Entry>,
 }
@@ -34,6 +34,13 @@ impl Entries {
         Entries { inner }
     }
 
+    /// The entries, lent.
+    pub fn as_slice(&self) -> &[Entry]
+        ensures { result.now ≡ self.now }
+    {
+        self.inner.as_slice()
+    }
+
     /// The entries.
     pub fn into_inner(self) -> Vec<Entry>
         ensures { result.items ≡ self }
@@ -43,7 +50,7 @@ impl Entries {
 }
 
 /// What a client is for, with all that it is handed.
-#[derive(Clone, Debug, Drop)]
+#[derive(Debug, Drop)]
 pub enum Job {
     /// It backs up entries.
     Backup(Entries),
@@ -80,7 +87,7 @@ pub enum Refusal {
 }
 
 /// The name of a client's machine, 1 to 255 bytes of UTF-8. A clause sees the list of its bytes.
-#[derive(Clone, Debug, Drop)]
+#[derive(Debug, Drop)]
 pub struct Host {
     text: Text,
 }
@@ -127,6 +134,14 @@ impl Host {
             return Err(HostError::Length);
         }
         let text = Text::of(String::from_str(alloc, text)?);
+        Ok(Host { text })
+    }
+
+    /// An equal host. It fails for memory alone.
+    pub fn copy(&self) -> Result<Host, AllocError>
+        ensures { IfOk result (λ copy. copy ≡ self.now) }
+    {
+        let text = self.text.clone()?;
         Ok(Host { text })
     }
 

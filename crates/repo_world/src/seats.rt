@@ -9,10 +9,9 @@ ghost use Rattle.repo_session.specs.declared.outcomes.Outcome.{Outcome};
 ghost use Rattle.repo_world.specs.AnyClients.{FitsAny, any_next, client_of};
 ghost use Rattle.repo_world.specs.Reports.{line_of};
 ghost use Rattle.repo_world.specs.Seats.{Seated, listed};
-ghost use Rattle.repo_world.specs.Seating.{Answered, Crashed, Replied, Took};
+ghost use Rattle.repo_world.specs.Seating.{Answered, Crashed, Replied, SeatTook};
 
 use crate::any_clients::AnyClient;
-use crate::copies::copy_of_request;
 use crate::pasts::Past;
 use crate::reports::client_line;
 use repo_session::{Client, Letter, Outcome, answers, keep};
@@ -167,7 +166,7 @@ impl Seat {
     /// asked for where the client stopped.
     pub fn take(&mut self, place: usize) -> Result<Arrival, AllocError>
         requires { place < length self.old.replies }
-        ensures took { IfOk result (Took self.old place self.new) }
+        ensures took { IfOk result (SeatTook self.old place self.new) }
         ensures err { OnErr result (self.new ≡ self.old) }
     {
         if self.crashed {
@@ -181,7 +180,7 @@ impl Seat {
             return Ok(Arrival::Unawaited);
         }
         self.pasts.reserve(1)?;
-        let letter = Letter::of(copy_of_request(request)?);
+        let letter = Letter::of(request.copy()?);
         let mut before = Vec::new(self.alloc);
         keep(self.client.emitted(), &mut before)?;
         self.client.take(reply)?;

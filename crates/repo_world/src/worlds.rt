@@ -20,6 +20,7 @@ ghost use Rattle.repo_world.specs.World.{awaited};
 ghost use Rattle.repo_world.specs.declared.events.Applied.{Applied};
 ghost use Rattle.repo_world.specs.declared.events.Event.{Event};
 
+use crate::copies::copy_of_event;
 use crate::events::{Applied, Event};
 use crate::jobs::{Host, Job};
 use crate::messages::Message;
@@ -195,20 +196,30 @@ impl<S: Shelf + Drop> World<S> {
         applied
     }
 
+    /// An event that is lent happens. It fails for memory alone, and then nothing changed.
+    fn apply_lent(&mut self, event: &Event) -> Result<Applied, AllocError>
+        ensures happens { IfOk result (λ applied. Leads S.store S.failed self.old event.now applied self.new) }
+        ensures safe { IsSafely (seen S.store self.new) }
+        ensures err { OnErr result (seen S.store self.new ≡ seen S.store self.old) }
+    {
+        // A look at a field tells the prover the invariant.
+        let _ = &self.shelf;
+        let copy = copy_of_event(self.alloc, event)?;
+        self.apply(copy)
+    }
+
     /// The events happen, one after another, until there is no memory. The world is safe after those that happened.
-    pub fn run(&mut self, events: Vec<Event>) -> Result<(), RunError>
-        ensures ran { OnOk result (Run (seen S.store self.old) events.items (seen S.store self.new)) }
-        ensures stopped { IfErr result (λ e. (e.applied < length events.items) × Run (seen S.store self.old) (take e.applied events.items) (seen S.store self.new)) }
+    pub fn run(&mut self, events: &[Event]) -> Result<(), RunError>
+        ensures ran { OnOk result (Run (seen S.store self.old) events.now (seen S.store self.new)) }
+        ensures stopped { IfErr result (λ e. (e.applied < length events.now) × Run (seen S.store self.old) (take e.applied events.now) (seen S.store self.new)) }
         ensures safe { IsSafely (seen S.store self.new) }
     {
         // A look at a field tells the prover the invariant.
         let _ = &self.shelf;
-        let mut applied = 0;
-        for event in events {
-            if self.apply(event).is_err() {
+        for (applied, event) in events.iter().enumerate() {
+            if self.apply_lent(event).is_err() {
                 return Err(RunError { applied });
             }
-            applied += 1;
         }
         Ok(())
     }

@@ -13,7 +13,7 @@ use Rattle.repo_pack.specs.declared.writers.Sealed.{Sealed}
 use Rattle.repo_index.specs.declared.facts.Fact.{Fact}
 use Rattle.repo_index.specs.declared.facts.PackFacts.{PackFacts}
 use Rattle.repo_index.specs.Exactness.{fact_in, AreFactsAt}
-use Rattle.repo_writing.specs.Sealing.{IsSealedOf, IsListed}
+use Rattle.repo_writing.specs.Sealing.{IsSealedOf, IsListedAs}
 use Rattle.repo_writing.specs.Writing.{bytes_of}
 
 -- the image of what stands at an index
@@ -38,7 +38,7 @@ facts_within (b ∷ placed) h =
 
 -- so a sealed pack is listed with exactly its items
 pub listed_so : (there : Option Sealed) (items : List Item) (sealed : Sealed) (listed : PackFacts) → there ≡ Some sealed → IsSealedOf sealed items → listed.pack ≡ sealed.name
-    → listed.facts ≡ map fact_in sealed.blobs.items → IsListed there items sealed listed
+    → listed.facts ≡ map fact_in sealed.blobs.items → IsListedAs there items sealed listed
 listed_so there items sealed listed is h same facts = record {
   is = is;
   holds = h;

@@ -22,7 +22,7 @@ use Rattle.repo_store.specs.Pages.{Has}
 use Rattle.repo_store.specs.Stores.{Objects, Removed}
 use Rattle.repo_session.specs.Changes.{AreHeldApart}
 use Rattle.repo_session.specs.Deletions.{DeleteDone}
-use Rattle.repo_session.specs.Listings.{IsRow, IsListing}
+use Rattle.repo_session.specs.Listings.{IsReadRow, IsListing}
 use Rattle.repo_session.specs.Order.{Task, Obeys}
 use Rattle.repo_session.specs.Soundness.{IsHeld, IsSound}
 use Rattle.repo_session.specs.Told.{Told, Seen, AskedToPut}
@@ -49,9 +49,9 @@ pub snapshot_row : (Put Deleted : Kind → Name → Type 0) (task : Task) (Allow
     → (s : Name) (x : List ℕ) (snapshot : Snapshot) → objects Kind.Snapshot s ≡ Some x → IsSnapshotText x snapshot → (row : Name × Snapshot) × Contains rows row × (row.1 ≡ snapshot)
 snapshot_row Put Deleted task Allows Gives es objects o told seen unput undeleted rows l s x snapshot there reads =
     let lists : Lists es Kind.Snapshot s = ⊎_elim (λ g. g) (λ p. absurd (unput s p)) (listed_or_put Put task Allows Gives Kind.Snapshot s es objects x o seen l.listed there) in
-    let found = has_row (IsRow es) rows s l.each (subst (λ ns. Has ns s) (sym l.names) lists) in
+    let found = has_row (IsReadRow es) rows s l.each (subst (λ ns. Has ns s) (sym l.names) lists) in
     let row : Name × Snapshot = found.0 in
-    let is : IsRow es row = found.3 in
+    let is : IsReadRow es row = found.3 in
     let here : objects Kind.Snapshot row.0 ≡ Some is.0 = ⊎_elim (λ h. h) (λ d. absurd (undeleted row.0 d)) (told.got Kind.Snapshot row.0 is.0 is.1.0) in
     let one : is.0 ≡ x = same_Some is.0 x (sym here ∙ (ap (λ n. objects Kind.Snapshot n) found.2 ∙ there)) in
     (row, found.1, snapshot_texts_one x row.1 snapshot (subst (λ y. IsSnapshotText y row.1) one is.2) reads)

@@ -25,7 +25,7 @@ use Rattle.repo_session.specs.Traces.{Each, Exchange, Trace, Object, object_put,
 use Rattle.repo_session.proofs.Receiving.{each_both, each_more}
 use Rattle.repo_writing.specs.Blobs.{HasItem}
 use Rattle.repo_writing.specs.Putting.{PutDone, AreDone, IsPacked, IsIndexed, IsListedPack, IsIndexOf, Packed, IsCount, AreCounted}
-use Rattle.repo_writing.specs.Sealing.{IsSealedOf, IsListed}
+use Rattle.repo_writing.specs.Sealing.{IsSealedOf, IsListedAs}
 use Rattle.repo_writing.specs.Writing.{Put, IsPut, items_of, bytes_of, AreCounts, ArePut, Listing, packs_of, IsDone, AreListed, FewWait}
 use Rattle.repo_writing.specs.declared.counts.Counts.{Counts}
 use Rattle.repo_writing.proofs.Listings.{placed_sum}
@@ -303,5 +303,5 @@ module _ (listed waiting : List PackFacts) (es : Trace) (g : AreListed listed wa
 abbrev pub put_of : Sealed → List Item → PackFacts → Put
 put_of sealed items listed = record { pack = record { name = sealed.name; bytes = sealed.bytes }; items = items; listed = listed }
 
-pub is_put : (there : Option Sealed) (items : List Item) (sealed : Sealed) (listed : PackFacts) → IsListed there items sealed listed → IsPut (put_of sealed items listed)
+pub is_put : (there : Option Sealed) (items : List Item) (sealed : Sealed) (listed : PackFacts) → IsListedAs there items sealed listed → IsPut (put_of sealed items listed)
 is_put there items sealed listed h = record { holds = h.holds.holds; named = h.holds.named; same = h.same; exact = h.exact; within = h.within }

@@ -6,7 +6,7 @@ ghost use Rattle.repo_index.specs.declared.facts.PackFacts.{PackFacts};
 ghost use Rattle.repo_pack.specs.PackLayout.{Item, item_of};
 ghost use Rattle.repo_pack.specs.PackWriting.{IsOpen, with_item};
 ghost use Rattle.repo_pack.specs.declared.writers.Sealed.{Sealed};
-ghost use Rattle.repo_writing.specs.Sealing.{IsSealed, IsListed};
+ghost use Rattle.repo_writing.specs.Sealing.{IsSealed, IsListedAs};
 ghost use Rattle.repo_name.specs.Limits.{blob_limit};
 
 use crate::targets::Target;
@@ -83,7 +83,7 @@ impl Packer {
     /// How the sealed pack is listed. `None` where none is sealed. It fails for memory alone.
     pub fn facts(&self) -> Result<Option<PackFacts>, AllocError>
         ensures listed { IfOk result (λ facts. (items : List Item) → self.now.sealed ≢ None → IsSealed self.now.sealed items
-            → (sealed : Sealed) × (listed : PackFacts) × (facts ≡ Some listed) × IsListed self.now.sealed items sealed listed) }
+            → (sealed : Sealed) × (listed : PackFacts) × (facts ≡ Some listed) × IsListedAs self.now.sealed items sealed listed) }
         ensures none { IfOk result (λ facts. self.now.sealed ≡ None → facts ≡ None) }
     {
         match &self.sealed {

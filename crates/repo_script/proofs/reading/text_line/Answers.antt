@@ -3,7 +3,7 @@ use Rattle.std.specs.Borrow.{Bor}
 use Rattle.std.specs.List.{All}
 use Rattle.std.proofs.lemmas.List.Elements.{All-map}
 use Rattle.repo_script.specs.Cuts.{words}
-use Rattle.repo_script.specs.Lines.{line_of, IsLine, Gives}
+use Rattle.repo_script.specs.Lines.{line_of, IsLine, GivesLine}
 use Rattle.repo_script.specs.declared.faults.LineError.{LineError}
 use Rattle.repo_script.specs.declared.lines.Line.{Line}
 use Rattle.repo_script.proofs.CutLemmas.{all_mapped}
@@ -18,7 +18,7 @@ returns-then-not-are_words-clause-refused c = λ e line h.
     let each = all_mapped (λ word. word ≢ []) now items (rw (sym c.in_ok-words.ensures) at h.1) in
     true≢false (sym (c.are_words.ensures.1 (rw c.as_slice.ensures.value each)) ∙ c.if-not-are_words.true)
 
-read_so : (text : List ℕ) (r : Result Line LineError) → IsUtf8 text → All (λ word. word ≢ []) (words text) → Gives (line_of (words text)) r → IfOk r (λ line. IsLine text line)
+read_so : (text : List ℕ) (r : Result Line LineError) → IsUtf8 text → All (λ word. word ≢ []) (words text) → GivesLine (line_of (words text)) r → IfOk r (λ line. IsLine text line)
 read_so text (Ok line) utf8 each given = (utf8, each, given)
 read_so text (Err e) utf8 each given = tt
 

@@ -1,9 +1,9 @@
 use Rattle.std.proofs.Common.{◌≡◌, ◌++◌, ◌∷◌, [], Some, None, refl, sym, ap, inl, lit≤, arith, option_map, ◌∙◌}
 use Rattle.std.proofs.KnownBytes.{Consumes-nil, Appends-nil}
 use Rattle.std.proofs.lemmas.Result.{err_from_is_err_and}
-use Rattle.repo_session.specs.Talks.{Turn, Talk, IsTurn, Said, read_in, sent_in}
+use Rattle.repo_session.specs.Talks.{Turn, Talk, IsTurn, Said, first_carried, read_in, sent_in}
 use Rattle.repo_session.proofs.Connecting.{begins, consumed}
-use Rattle.repo_session.proofs.Talking.{silent, written_on, whole_next, whole_part, part_next, passed_none, heard_all, unanswered, went_nowhere, went_on, went_same}
+use Rattle.repo_session.proofs.Talking.{first_of_more, silent, written_on, whole_next, whole_part, part_next, passed_none, heard_all, unanswered, went_nowhere, went_on, went_same}
 use Rattle.repo_session.proofs.driving.drive.Goals as goal
 
 pub returns-in_err-piece-clause-carries : goal.returns-in_err-piece-clause-carries
@@ -13,12 +13,12 @@ returns-in_err-piece-clause-carries g c =
     rw (p.1, p.2) (
       silent,
       Consumes-nil (g.R.Read.remaining c.args.reader.now),
-      (went_nowhere g.C.Client.fits c.args.client.now, ([], refl), whole_part start start [] (g.C.Client.next c.args.client.now) (Appends-nil start)),
+      (went_nowhere g.C.Client.fits c.args.client.now, ([], refl), whole_part start start [] (g.C.Client.next c.args.client.now) (Appends-nil start), refl),
     )
 
 pub loop-turn-init : goal.loop-turn-init
 loop-turn-init g c = record {
-  gone = ([], [], Consumes-nil (g.R.Read.remaining c.args.reader.now), c.new-connection.ensures, went_nowhere g.C.Client.fits c.args.client.now, refl, Appends-nil (g.W.Write.contents c.args.writer.now));
+  gone = ([], [], Consumes-nil (g.R.Read.remaining c.args.reader.now), c.new-connection.ensures, went_nowhere g.C.Client.fits c.args.client.now, refl, Appends-nil (g.W.Write.contents c.args.writer.now), refl);
   few = lit≤ tt;
   room = c.in_ok-piece.ensures;
   sink = c.requires;
@@ -30,7 +30,7 @@ returns-in-None-clause-carries g c =
     let i = c.loop-turn.invariant.gone in
     let none : g.C.Client.next c.loop-turn.client ≡ None = sym c.pending.ensures.next ∙ ap (option_map (λ r. r.now)) c.in-None.is in
     let said : Said = record { bytes = i.0; talk = i.1; more = [] } in
-    (said, i.2, (i.4, i.5, none, heard_all i.0 i.1 (begins i.0 (read_in i.1) c.loop-turn.connection i.3), refl, i.6))
+    (said, i.2, (i.4, i.5, none, heard_all i.0 i.1 (begins i.0 (read_in i.1) c.loop-turn.connection i.3), refl, i.6, i.7))
 
 pub ask-requires-clause-fits : goal.ask-requires-clause-fits
 ask-requires-clause-fits g c =
@@ -46,7 +46,7 @@ returns-in_err-reply-in-Some-clause-carries g c =
     let said : Said = record { bytes = i.0 ++ n.0; talk = i.1; more = n.2 } in
     let r = unanswered c.in_err-reply-in-Some.field-0.0 c.in-Some.request.now (i.0 ++ n.0) i.1 n.2 c.ask.new.self (g.C.Client.next c.loop-turn.client) (g.W.Write.contents c.args.writer.now)
     (g.W.Write.contents c.loop-turn.writer) (g.W.Write.contents c.ask.new.writer) pending n.3 n.4 i.6 in
-    rw (p.1, p.2) (said, consumed (g.R.Read.remaining c.args.reader.now) (g.R.Read.remaining c.loop-turn.reader) (g.R.Read.remaining c.ask.new.reader) i.0 n.0 i.2 n.1, (i.4, r.0, r.1))
+    rw (p.1, p.2) (said, consumed (g.R.Read.remaining c.args.reader.now) (g.R.Read.remaining c.loop-turn.reader) (g.R.Read.remaining c.ask.new.reader) i.0 n.0 i.2 n.1, (i.4, r.0, r.1, i.7))
 
 pub returns-in_err-take-clause-carries : goal.returns-in_err-take-clause-carries
 returns-in_err-take-clause-carries g c =
@@ -67,6 +67,7 @@ returns-in_err-take-clause-carries g c =
         went_same g.C.Client.fits c.args.client.now c.loop-turn.client c.take.new.self i.1 i.4 c.in_err-take.ensures.fits,
         begins (i.0 ++ n.0) (read_in i.1 ++ more) c.ask.new.self n.4.0.1,
         part_next start end (sent_in i.1) c.in-Some.request.now (g.C.Client.next c.take.new.self) still (whole_next start end (sent_in i.1) c.in-Some.request.now written),
+        ap (first_carried (sent_in i.1)) c.in_err-take.ensures.next ∙ i.7,
       ),
     )
 
@@ -88,6 +89,7 @@ returns-then-not-hand_out-clause-carries g c =
         went_on g.C.Client.fits c.args.client.now c.loop-turn.client c.take.new.self i.1 turn i.4 is (c.in_ok-take.ensures.taken c.in-Some.request.now pending is.answers),
         (heard_all (i.0 ++ n.0) talk (begins (i.0 ++ n.0) (read_in talk) c.ask.new.self n.4.0.1), refl),
         whole_part start end (sent_in talk) (g.C.Client.next c.take.new.self) written,
+        first_of_more (sent_in i.1) c.in-Some.request.now (g.C.Client.next c.args.client.now) (g.C.Client.next c.loop-turn.client) (g.C.Client.next c.take.new.self) pending i.7,
       ),
     )
 
@@ -109,6 +111,7 @@ loop-turn-preserved g c =
         went_on g.C.Client.fits c.args.client.now c.loop-turn.client c.take.new.self i.1 turn i.4 is (c.in_ok-take.ensures.taken c.in-Some.request.now pending is.answers),
         omega (arith, i.5),
         written_on start (g.W.Write.contents c.loop-turn.writer) end (sent_in i.1) c.in-Some.request.now i.6 n.4.1,
+        first_of_more (sent_in i.1) c.in-Some.request.now (g.C.Client.next c.args.client.now) (g.C.Client.next c.loop-turn.client) (g.C.Client.next c.take.new.self) pending i.7,
       );
       few = omega (arith, c.loop-turn-test.true);
       room = c.loop-turn.invariant.room;
@@ -122,7 +125,7 @@ returns-in-None-pending-clause-carries g c =
     let none : g.C.Client.next c.loop-turn.client ≡ None = sym c.pending-2.ensures.next ∙ ap (option_map (λ r. r.now)) c.in-None-pending.is in
     let said : Said = record { bytes = i.0; talk = i.1; more = [] } in
     let many = c.loop-turn-test.false in
-    (said, i.2, (i.4, omega (arith, i.5, many, c.loop-turn.invariant.few), none, heard_all i.0 i.1 (begins i.0 (read_in i.1) c.loop-turn.connection i.3), refl, i.6))
+    (said, i.2, (i.4, omega (arith, i.5, many, c.loop-turn.invariant.few), none, heard_all i.0 i.1 (begins i.0 (read_in i.1) c.loop-turn.connection i.3), refl, i.6, i.7))
 
 pub returns-clause-carries : goal.returns-clause-carries
 returns-clause-carries g c =
@@ -136,5 +139,6 @@ returns-clause-carries g c =
         i.4,
         (heard_all i.0 i.1 (begins i.0 (read_in i.1) c.loop-turn.connection i.3), passed_none next, inl (omega (arith, i.5, many))),
         whole_part (g.W.Write.contents c.args.writer.now) (g.W.Write.contents c.loop-turn.writer) (sent_in i.1) next i.6,
+        i.7,
       ),
     )

@@ -1,7 +1,7 @@
 use Rattle.std.proofs.Common.{◌∙◌, refl, sym, subst}
 use Rattle.repo_backup.specs.Advancing.{Tells}
 use Rattle.repo_backup.specs.Packings.{all_items}
-use Rattle.repo_backup.specs.Works.{IsWork}
+use Rattle.repo_backup.specs.Works.{WorkStands}
 use Rattle.repo_backup.specs.declared.works.Work.{Work}
 use Rattle.repo_backup.proofs.PackingLemmas.{on_err}
 use Rattle.repo_backup.proofs.Working.{sealed_work, any_err, if_ok}
@@ -33,7 +33,7 @@ pub returns-in-Made-clause-err : goal.returns-in-Made-clause-err
 returns-in-Made-clause-err c = on_err c.end.result _ _ (λ same folder sent sealed h.
     let known = c.args.lookup.now in
     let due = c.loop-self.invariant.work folder sent sealed h in
-    (sealed, subst (λ w. IsWork w known folder sent sealed) (sym same) (c.step.ensures.work folder sent sealed due))) c.end.ensures.err
+    (sealed, subst (λ w. WorkStands w known folder sent sealed) (sym same) (c.step.ensures.work folder sent sealed due))) c.end.ensures.err
 
 pub returns-in-TooLarge-clause-ok : goal.returns-in-TooLarge-clause-ok
 returns-in-TooLarge-clause-ok c = λ folder sent sealed h.
@@ -48,7 +48,7 @@ pub returns-in_err-seal-clause-err : goal.returns-in_err-seal-clause-err
 returns-in_err-seal-clause-err c = any_err c.from_residual-in_err-seal.result _ (λ folder sent sealed h.
     let known = c.args.lookup.now in
     let due = c.loop-self.invariant.work folder sent sealed h in
-    (sealed, subst (λ p. IsWork (record c.loop-self.self { packing = p }) known folder sent sealed) (sym c.in_err-seal.ensures.err) due))
+    (sealed, subst (λ p. WorkStands (record c.loop-self.self { packing = p }) known folder sent sealed) (sym c.in_err-seal.ensures.err) due))
 
 pub returns-clause-ok : goal.returns-clause-ok
 returns-clause-ok c = λ folder sent sealed h.

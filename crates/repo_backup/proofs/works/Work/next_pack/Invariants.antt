@@ -2,13 +2,13 @@
 use Rattle.std.proofs.Common.{◌≡◌, List, None}
 use Rattle.repo_pack.specs.PackLayout.{Item}
 use Rattle.repo_backup.specs.Folders.{Folder}
-use Rattle.repo_backup.specs.Works.{IsWork}
+use Rattle.repo_backup.specs.Works.{WorkStands}
 use Rattle.repo_backup.specs.Advancing.{work_left}
 use Rattle.repo_backup.proofs.works.Work.next_pack.Given as goal
 
 abbrev pub invariant-loop-self : goal.invariant-loop-self
 invariant-loop-self l = record {
-  work : (folder : Folder) (sent sealed : List Item) → IsWork l.fn.self l.lookup folder sent sealed → IsWork l.self l.lookup folder sent sealed;
+  work : (folder : Folder) (sent sealed : List Item) → WorkStands l.fn.self l.lookup folder sent sealed → WorkStands l.self l.lookup folder sent sealed;
   none : l.self.packing.packer.sealed ≡ None;
   steps : l.self.walk.steps ≡ l.fn.self.walk.steps;
 }

@@ -4,10 +4,10 @@ use Rattle.std.proofs.lemmas.Result.{on_ok_weaker}
 use Rattle.repo_name.specs.declared.tokens.Token.{Token}
 use Rattle.repo_wire.specs.declared.messages.Ask.{Ask}
 use Rattle.repo_wire.specs.declared.messages.Request.{Request}
-use Rattle.repo_session.specs.Clients.{Answers, AnswersNext, IsSteady}
+use Rattle.repo_session.specs.Clients.{IsReplyTo, AnswersNext, IsSteady}
 use Rattle.repo_session.specs.Jobs.{task_under}
 use Rattle.repo_session.specs.Order.{May, IsWork}
-use Rattle.repo_session.specs.Sessions.{EndsBy, SessionAt}
+use Rattle.repo_session.specs.Sessions.{SessionEndsBy, SessionAt}
 use Rattle.repo_session.specs.Traces.{Trace}
 use Rattle.repo_session.proofs.Sessioning.{ticket_taken, lock_taken, waits_of, work_of, not_steady, no_outcome, session_as}
 use Rattle.repo_session.proofs.sessions.Session.take_reply.Goals as goal
@@ -22,7 +22,7 @@ returns-in-Ticket-clause-taken g c = λ r p a es f.
     let new = c.take_ticket.new.self in
     let rule = g.J.Job.rule (g.J.Job.handed s.job) in
     let q = asked r c.in-Some.letter c.request-request.result.now Ask.Ticket s.head.line.next c.request-request.ensures.value c.in-Some.is p c.in-Ticket.is in
-    let ends : EndsBy r.ask say c.end_of-end.result = subst (λ x. EndsBy x say c.end_of-end.result) (c.in-Ticket.is ∙ sym q) (c.end_of-end.ensures.fenced, c.end_of-end.ensures.caused) in
+    let ends : SessionEndsBy r.ask say c.end_of-end.result = subst (λ x. SessionEndsBy x say c.end_of-end.result) (c.in-Ticket.is ∙ sym q) (c.end_of-end.ensures.fenced, c.end_of-end.ensures.caused) in
     ticket_taken rule s.head.holder s.head.lock (g.J.Job.fresh s.job) (g.J.Job.knows s.job) s.head.line r es p f say new.holder new.lock c.end_of-end.result new.line c.take_ticket.ensures.who q ends c.take_ticket.ensures.given
     c.take_ticket.ensures.other
 
@@ -34,7 +34,7 @@ returns-in-Lock-clause-taken g c = λ r p a es f.
     let h = g.J.Job.handed s.job in
     let row = c.in-Lock.field-0 in
     let q = asked r c.in-Some.letter c.request-request.result.now (Ask.Lock row) s.head.line.next c.request-request.ensures.value c.in-Some.is p c.in-Lock.is in
-    let ends : EndsBy r.ask say c.end_of-end.result = subst (λ x. EndsBy x say c.end_of-end.result) (c.in-Lock.is ∙ sym q) (c.end_of-end.ensures.fenced, c.end_of-end.ensures.caused) in
+    let ends : SessionEndsBy r.ask say c.end_of-end.result = subst (λ x. SessionEndsBy x say c.end_of-end.result) (c.in-Lock.is ∙ sym q) (c.end_of-end.ensures.fenced, c.end_of-end.ensures.caused) in
     session_as g.J.Job.rule h h s.head.holder new.holder s.head.lock new.lock (g.J.Job.fresh s.job) (g.J.Job.knows s.job) new.line _ refl c.take_lock.ensures.kept.holder c.take_lock.ensures.kept.lock
     (lock_taken (g.J.Job.rule h) s.head.holder s.head.lock (g.J.Job.fresh s.job) (g.J.Job.knows s.job) s.head.line r es p f say row c.end_of-end.result new.line q ends c.take_lock.ensures.given c.take_lock.ensures.other)
 
@@ -44,7 +44,7 @@ returns-in-Config-clause-taken g c =
     let s = c.args.self.now in
     let say = c.args.reply.now.say in
     let q = asked r c.in-Some.letter c.request-request.result.now Ask.Config s.head.line.next c.request-request.ensures.value c.in-Some.is p c.in-Config.is in
-    let ends : EndsBy Ask.Config say c.end_of-end.result = subst (λ x. EndsBy x say c.end_of-end.result) c.in-Config.is (c.end_of-end.ensures.fenced, c.end_of-end.ensures.caused) in
+    let ends : SessionEndsBy Ask.Config say c.end_of-end.result = subst (λ x. SessionEndsBy x say c.end_of-end.result) c.in-Config.is (c.end_of-end.ensures.fenced, c.end_of-end.ensures.caused) in
     h r es p q ends f) c.take_config.ensures.taken
 
 on_err_with : {A E : Type 0} (P Q : Type 0) (result : Result A E) → (P → Q) → OnErr result P → OnErr result Q
@@ -58,11 +58,11 @@ returns-in_default-ask g c =
     let rule = g.J.Job.rule (g.J.Job.handed s.job) in
     let is = c.request-request.ensures.value in
     let d = c.in_default-ask in
-    let A : Request → Type 0 = λ x. Answers x reply in
+    let A : Request → Type 0 = λ x. IsReplyTo x reply in
     let N : Option Request → Type 0 = λ n. AnswersNext n reply in
     let answered = subst N (sym c.in-Some.is) (subst A is (c.answers.ensures.0 c.if-not-answers.false)) in
     let q : (r : Request) → s.head.line.next ≡ Some r → c.request-request.result.now ≡ r = λ r p. is ∙ same_Some c.in-Some.letter r (sym c.in-Some.is ∙ p) in
-    let E : Request → Type 0 = λ x. EndsBy x.ask reply.say c.end_of-end.result in
+    let E : Request → Type 0 = λ x. SessionEndsBy x.ask reply.say c.end_of-end.result in
     let W : Request → Type 0 = λ x. IsWork x.ask in
     let S : Trace → Type 0 = λ es. SessionAt rule s.head.holder s.head.lock (g.J.Job.fresh s.job) (g.J.Job.knows s.job) s.head.line es in
     let work : (r : Request) (es : Trace) → s.head.line.next ≡ Some r → S es → IsWork r.ask = λ r es p f.

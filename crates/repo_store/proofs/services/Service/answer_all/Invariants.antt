@@ -1,12 +1,12 @@
 use Rattle.std.proofs.Common.{◌≡◌, ◌-◌, ◌^◌}
-use Rattle.repo_store.specs.Services.{Has}
+use Rattle.repo_store.specs.Services.{HasServed}
 use Rattle.repo_store.specs.Serving.{Moment, Past, seen}
 use Rattle.repo_store.proofs.services.Service.answer_all.Given as goal
 
 abbrev pub invariant-loop-self : goal.invariant-loop-self
 invariant-loop-self g l = record {
-  all : g.S.Shelf.honest l.fn.shelf → (before : Moment) (past : Past) → Has g.F.Form.shown before l.fn.self past (seen (g.S.Shelf.store l.fn.shelf) (g.S.Shelf.failed l.fn.shelf) (g.W.Write.contents l.fn.writer))
-      → (next : Past) × (next.bytes ≡ past.bytes) × Has g.F.Form.shown before l.self next (seen (g.S.Shelf.store l.shelf) (g.S.Shelf.failed l.shelf) (g.W.Write.contents l.writer));
+  all : g.S.Shelf.honest l.fn.shelf → (before : Moment) (past : Past) → HasServed g.F.Form.shown before l.fn.self past (seen (g.S.Shelf.store l.fn.shelf) (g.S.Shelf.failed l.fn.shelf) (g.W.Write.contents l.fn.writer))
+      → (next : Past) × (next.bytes ≡ past.bytes) × HasServed g.F.Form.shown before l.self next (seen (g.S.Shelf.store l.shelf) (g.S.Shelf.failed l.shelf) (g.W.Write.contents l.writer));
   honest : g.S.Shelf.honest l.fn.shelf → g.S.Shelf.honest l.shelf;
 }
 

@@ -2,7 +2,7 @@ use Rattle.std.proofs.Common.{rules, ◌≡◌, ◌∙◌, ◌++◌, ◌∷◌, 
 use Rattle.std.proofs.lemmas.Option.{get_or_from_slice_get}
 use Rattle.repo_wire.specs.declared.messages.Reply.{Reply}
 use Rattle.repo_wire.specs.declared.messages.Request.{Request}
-use Rattle.repo_session.specs.Clients.{Answers}
+use Rattle.repo_session.specs.Clients.{IsReplyTo}
 use Rattle.repo_world.specs.Seating.{Answered, Replied, StepsAsArmed}
 use Rattle.repo_world.specs.Seats.{IsSeated, Seated, nothing, requests_of, seated}
 use Rattle.repo_world.proofs.SeatParts.{replied_is, replied_seated}
@@ -38,7 +38,7 @@ returns-clause-answered g c h =
     let got : slice_get requests place ≡ Some c.in-Some.request.now = sym c.in-Some.ensures.request in
     let same = get_or_from_slice_get requests place c.in-Some.request.now nothing got in
     let says = c.answer-reply.ensures.replies h in
-    let Is : Request → Type 0 = λ q. Answers q reply × StepsAsArmed armed own left owned from q.ask reply.say to in
+    let Is : Request → Type 0 = λ q. IsReplyTo q reply × StepsAsArmed armed own left owned from q.ask reply.say to in
     let both : Is (slice_index_or requests place nothing) = subst Is (sym same) ((says.instance, says.sequence), (says.step, c.answer-reply.ensures.armed h)) in
     let State : List Reply → Seated = λ rs. seated seat.client seat.pasts.items rs seat.crashed in
     subst (λ (o : Seated). Answered o place (State c.push.new.self.items) from armed own to left owned) c.self.view_is (record {

@@ -1,7 +1,7 @@
 use Rattle.std.proofs.Common.{rules, ◌≡◌, ◌<◌, ◌∙◌, ◌++◌, ◌∷◌, [], Bool, false, List, Some, length, slice_index_or, refl, sym, subst}
 use Rattle.std.proofs.lemmas.List.{get_or_default}
 use Rattle.repo_wire.specs.declared.messages.Reply.{Reply}
-use Rattle.repo_session.specs.Clients.{Answers, exchange}
+use Rattle.repo_session.specs.Clients.{IsReplyTo, exchange}
 use Rattle.repo_session.specs.Traces.{Trace}
 use Rattle.repo_world.specs.AnyClients.{FitsAny, any_given, any_next}
 use Rattle.repo_world.specs.Seating.{TookReply}
@@ -21,13 +21,13 @@ invariant_of-self-2 c =
     let same : c.index-reply.result.now ≡ reply = c.index-reply.ensures ∙ get_or_default seat.replies.items c.args.place c.index-reply.result.now silence there in
     let letter : c.of-letter.result ≡ request = search rules in
     let before : c.keep.new.out.items ≡ any_given seat.client = search rules in
-    let right : Answers request c.index-reply.result.now = search rules in
+    let right : IsReplyTo request c.index-reply.result.now = search rules in
     let pending : any_next seat.client ≡ Some request = sym c.in-Some.ensures.next in
     let pushed : c.push.new.self.items ≡ seat.pasts.items ++ past ∷ [] = search rules in
     let Takes : Reply → Type 0 = λ r. (es : Trace) → FitsAny seat.client es → FitsAny c.take.new.self (exchange request r (any_given c.take.new.self) ∷ es) in
     let fits : Takes reply = subst Takes same (λ es f. taken.taken request pending right es f) in
     subst (λ (ps : List Past). IsSeated c.take.new.self ps seat.replies.items) (sym pushed) (taken_seated seat.client c.take.new.self seat.pasts.items past seat.replies.items c.self.invariant request reply pending
-    (subst (Answers request) same right) letter refl there before fits (λ es o f e. taken.stays es o f e) taken.job)
+    (subst (IsReplyTo request) same right) letter refl there before fits (λ es o f e. taken.stays es o f e) taken.job)
 
 pub returns-clause-took : goal.returns-clause-took
 returns-clause-took c =
@@ -40,7 +40,7 @@ returns-clause-took c =
     let same : c.index-reply.result.now ≡ reply = c.index-reply.ensures ∙ get_or_default seat.replies.items c.args.place c.index-reply.result.now silence there in
     let letter : c.of-letter.result ≡ request = search rules in
     let before : c.keep.new.out.items ≡ any_given seat.client = search rules in
-    let right : Answers request c.index-reply.result.now = search rules in
+    let right : IsReplyTo request c.index-reply.result.now = search rules in
     let pending : any_next seat.client ≡ Some request = sym c.in-Some.ensures.next in
     let pushed : c.push.new.self.items ≡ seat.pasts.items ++ past ∷ [] = search rules in
     let Takes : Reply → Type 0 = λ r. (es : Trace) → FitsAny seat.client es → FitsAny c.take.new.self (exchange request r (any_given c.take.new.self) ∷ es) in
@@ -50,5 +50,5 @@ returns-clause-took c =
     let took : Took (seated seat.client seat.pasts.items seat.replies.items seat.crashed) (State c.push.new.self.items seat.crashed) =
     subst (λ b. Took (seated seat.client seat.pasts.items seat.replies.items b) (State c.push.new.self.items b)) (sym c.if-self.false)
     (subst (λ ps. Took (seated seat.client seat.pasts.items seat.replies.items false) (State ps false)) (sym pushed) (taken_reply seat.client c.take.new.self seat.pasts.items past seat.replies.items c.self.invariant request reply pending
-    (subst (Answers request) same right) letter refl there before fits (λ es o f e. taken.stays es o f e) taken.job)) in
+    (subst (IsReplyTo request) same right) letter refl there before fits (λ es o f e. taken.stays es o f e) taken.job)) in
     subst (λ (o : Seated). Took o (State c.push.new.self.items seat.crashed)) c.self.view_is took

@@ -3,7 +3,7 @@ use Rattle.std.proofs.lemmas.List.{get_or_default}
 use Rattle.repo_session.specs.Clients.{AnswersNext}
 use Rattle.repo_world.specs.Events.{Arrives}
 use Rattle.repo_world.specs.Flows.{AreThere, Flow, seat_at, world_of}
-use Rattle.repo_world.specs.Seating.{Took, TookReply}
+use Rattle.repo_world.specs.Seating.{SeatTook, TookReply}
 use Rattle.repo_world.specs.Seats.{Seated, empty_seat, silence}
 use Rattle.repo_world.specs.declared.events.Applied.{Applied}
 use Rattle.repo_world.specs.declared.messages.Message.{Message}
@@ -67,7 +67,7 @@ invariant_of-self-in-Unawaited c =
     let less : k < length seats = within_replies seats k place (subst (λ (f : Flow). place < length (seat_at f.seats k).replies) (sym c.self.view_is) c.requires) in
     let found : seat_at seats k ≡ s = get_or_default seats k empty_seat s less ∙ sym c.index_mut-seat.ensures.value in
     let rest : c.reserve.new.self.items ≡ messages = search rules in
-    let took : Took s place new Arrival.Unawaited = subst (Took s place new) c.in-Unawaited.is c.in_ok-take.ensures.took in
+    let took : SeatTook s place new Arrival.Unawaited = subst (SeatTook s place new) c.in-Unawaited.is c.in_ok-take.ensures.took in
     subst (AreThere (slice_set seats k new)) (sym rest) (kept_there seats messages k c.self.invariant less new (took.2 ∙ sym found))
 
 pub invariant_of-self-in-Continue-branch-4 : goal.invariant_of-self-in-Continue-branch-4
@@ -81,7 +81,7 @@ invariant_of-self-in-Continue-branch-4 c =
     let less : k < length seats = within_replies seats k place (subst (λ (f : Flow). place < length (seat_at f.seats k).replies) (sym c.self.view_is) c.requires) in
     let found : seat_at seats k ≡ s = get_or_default seats k empty_seat s less ∙ sym c.index_mut-seat.ensures.value in
     let reply = slice_index_or (seat_at seats k).replies place silence in
-    let took : Took s place new Arrival.Taken = subst (Took s place new) c.in-Taken.is c.in_ok-take.ensures.took in
+    let took : SeatTook s place new Arrival.Taken = subst (SeatTook s place new) c.in-Taken.is c.in_ok-take.ensures.took in
     let t : TookReply (seat_at seats k) reply new = subst (λ (x : Seated). TookReply x (slice_index_or x.replies place silence) new) (sym found) took in
     let next = asked_from _ c.pending.result new.client.next c.pending.ensures (sym c.is_some.ensures ∙ c.if-is_some.true) in
     let pushed : c.push.new.self.items ≡ messages ++ Message.Asked k (c.requests-request.result - 1) ∷ [] = search rules in
@@ -99,7 +99,7 @@ invariant_of-self-else-is_some c =
     let less : k < length seats = within_replies seats k place (subst (λ (f : Flow). place < length (seat_at f.seats k).replies) (sym c.self.view_is) c.requires) in
     let found : seat_at seats k ≡ s = get_or_default seats k empty_seat s less ∙ sym c.index_mut-seat.ensures.value in
     let reply = slice_index_or (seat_at seats k).replies place silence in
-    let took : Took s place new Arrival.Taken = subst (Took s place new) c.in-Taken.is c.in_ok-take.ensures.took in
+    let took : SeatTook s place new Arrival.Taken = subst (SeatTook s place new) c.in-Taken.is c.in_ok-take.ensures.took in
     let t : TookReply (seat_at seats k) reply new = subst (λ (x : Seated). TookReply x (slice_index_or x.replies place silence) new) (sym found) took in
     let rest : c.reserve.new.self.items ≡ messages = search rules in
     subst (AreThere (slice_set seats k new)) (sym rest) (took_last_there seats messages k c.self.invariant less reply new t)
@@ -115,7 +115,7 @@ returns-in-Unawaited-clause-arrives c = λ store.
     let less : k < length seats = within_replies seats k place (subst (λ (f : Flow). place < length (seat_at f.seats k).replies) (sym c.self.view_is) c.requires) in
     let found : seat_at seats k ≡ s = get_or_default seats k empty_seat s less ∙ sym c.index_mut-seat.ensures.value in
     let rest : c.reserve.new.self.items ≡ messages = search rules in
-    let took : Took s place new Arrival.Unawaited = subst (Took s place new) c.in-Unawaited.is c.in_ok-take.ensures.took in
+    let took : SeatTook s place new Arrival.Unawaited = subst (SeatTook s place new) c.in-Unawaited.is c.in_ok-take.ensures.took in
     let reply = slice_index_or (seat_at seats k).replies place silence in
     let running : (seat_at seats k).client.crashed ≡ false = ap (λ (x : Seated). x.client.crashed) found ∙ took.0 in
     let other : ¬ AnswersNext (seat_at seats k).client.next reply = subst (λ (x : Seated). ¬ AnswersNext x.client.next (slice_index_or x.replies place silence)) (sym found) took.1 in
@@ -134,7 +134,7 @@ returns-in_ok-push-in-Taken-clause-arrives c = λ store.
     let less : k < length seats = within_replies seats k place (subst (λ (f : Flow). place < length (seat_at f.seats k).replies) (sym c.self.view_is) c.requires) in
     let found : seat_at seats k ≡ s = get_or_default seats k empty_seat s less ∙ sym c.index_mut-seat.ensures.value in
     let reply = slice_index_or (seat_at seats k).replies place silence in
-    let took : Took s place new Arrival.Taken = subst (Took s place new) c.in-Taken.is c.in_ok-take.ensures.took in
+    let took : SeatTook s place new Arrival.Taken = subst (SeatTook s place new) c.in-Taken.is c.in_ok-take.ensures.took in
     let t : TookReply (seat_at seats k) reply new = subst (λ (x : Seated). TookReply x (slice_index_or x.replies place silence) new) (sym found) took in
     let next = asked_from _ c.pending.result new.client.next c.pending.ensures (sym c.is_some.ensures ∙ c.if-is_some.true) in
     let pushed : c.push.new.self.items ≡ messages ++ Message.Asked k (c.requests-request.result - 1) ∷ [] = search rules in
@@ -154,7 +154,7 @@ returns-else-is_some-clause-arrives c = λ store.
     let less : k < length seats = within_replies seats k place (subst (λ (f : Flow). place < length (seat_at f.seats k).replies) (sym c.self.view_is) c.requires) in
     let found : seat_at seats k ≡ s = get_or_default seats k empty_seat s less ∙ sym c.index_mut-seat.ensures.value in
     let reply = slice_index_or (seat_at seats k).replies place silence in
-    let took : Took s place new Arrival.Taken = subst (Took s place new) c.in-Taken.is c.in_ok-take.ensures.took in
+    let took : SeatTook s place new Arrival.Taken = subst (SeatTook s place new) c.in-Taken.is c.in_ok-take.ensures.took in
     let t : TookReply (seat_at seats k) reply new = subst (λ (x : Seated). TookReply x (slice_index_or x.replies place silence) new) (sym found) took in
     let none = none_from _ c.pending.result new.client.next c.pending.ensures (sym c.is_some.ensures ∙ c.if-is_some.false) in
     let rest : c.reserve.new.self.items ≡ messages = search rules in
