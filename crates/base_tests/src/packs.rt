@@ -102,6 +102,11 @@ impl Trial {
         self.count(writer.is_due() == wanted);
     }
 
+    /// A writer wants so many bytes until it is due.
+    fn wants(&mut self, writer: &PackWriter, wanted: usize) {
+        self.count(writer.wanted() == wanted);
+    }
+
     /// A writer's pack has this name. The pack's bytes and its blobs with their places, none where there is no pack.
     fn seals(&mut self, writer: PackWriter, name: Name) -> (Bytes, Vec<PlacedBlob>) {
         match sealed(writer, self) {
@@ -135,6 +140,65 @@ impl Trial {
                 self.count(view.name_holds(0) == is_named);
             }
             _ => self.count(false),
+        }
+    }
+
+    /// Whether each blob of a pack has its name, asked for again where there was no memory.
+    fn names_all(&mut self, bytes: &[u8], wanted: bool) {
+        let Ok(view) = PackView::read(bytes) else {
+            return self.count(false);
+        };
+        let mut answer = view.all_named(self.alloc);
+        if answer.is_err() {
+            self.lack();
+            answer = view.all_named(self.alloc);
+        }
+        match answer {
+            Ok(is_named) => self.count(is_named == wanted),
+            Err(_) => self.count(false),
+        }
+    }
+
+    /// Where another bit stands at a place of a pack's blobs, one of them hasn't its name.
+    fn notices(&mut self, bytes: &[u8], place: usize) {
+        let Ok(mut other) = Vec::from_slice(self.alloc, bytes) else {
+            return self.count(false);
+        };
+        if let Some(byte) = other.get_mut(place) {
+            *byte ^= 1;
+        }
+        self.names_all(&other, false);
+    }
+
+    /// The bytes of a pack of so many blobs, which have unlike lengths. Where there is no memory that counts, and there
+    /// are none.
+    fn pack_of(&mut self, count: usize) -> Bytes
+        requires { count ≤ 20 }
+    {
+        let mut writer = PackWriter::new(self.alloc, 16_777_216);
+        for place in 0..count {
+            let blob = self.filled(place as u8, 1 + 97 * place);
+            self.adds(&mut writer, BlobKind::Content, &blob, Ok(()));
+        }
+        match sealed(writer, self) {
+            Some(sealed) => sealed.bytes,
+            None => {
+                self.count(false);
+                Bytes::of(Vec::new(self.alloc))
+            }
+        }
+    }
+
+    /// A pack of so many blobs has all their names, and with another first byte of any blob it hasn't.
+    fn tells_names(&mut self, count: usize)
+        requires { count ≤ 20 }
+    {
+        let bytes = self.pack_of(count);
+        self.names_all(bytes.as_slice(), true);
+        let mut offset = 0usize;
+        for place in 0..count {
+            self.notices(bytes.as_slice(), offset);
+            offset = offset.saturating_add(1 + 97 * place);
         }
     }
 
@@ -215,6 +279,15 @@ fn a_pack_that_is_read(rt: HostRuntime) {
 }
 
 #[test]
+fn names_of_all_blobs_of_a_pack(rt: HostRuntime) {
+    let mut trial = Trial::new(rt.alloc());
+    for count in 1..21 {
+        trial.tells_names(count);
+    }
+    trial.end(&rt);
+}
+
+#[test]
 fn bytes_that_are_no_pack(rt: HostRuntime) {
     let mut trial = Trial::new(rt.alloc());
     trial.refuses_pack_with(40, 36, PackError::HeaderLength);
@@ -239,6 +312,7 @@ fn blobs_that_a_writer_refuses(rt: HostRuntime) {
     let mut writer = PackWriter::new(rt.alloc(), 1_024);
     trial.adds(&mut writer, BlobKind::Content, &[7; 1_023], Ok(()));
     trial.is_due(&writer, false);
+    trial.wants(&writer, 1);
     trial.adds(
         &mut writer,
         BlobKind::Content,
@@ -247,6 +321,7 @@ fn blobs_that_a_writer_refuses(rt: HostRuntime) {
     );
     trial.adds(&mut writer, BlobKind::Content, &[7], Ok(()));
     trial.is_due(&writer, true);
+    trial.wants(&writer, 0);
     trial.adds(
         &mut writer,
         BlobKind::Content,
@@ -307,5 +382,13 @@ fn refused_growth_of_a_named_blob(rt: HostRuntime) {
     let mut writer = PackWriter::new(rt.alloc(), 1_024);
     trial.adds_named(&mut writer, BlobKind::Content, b"abc");
     trial.has_blobs(&writer, 1);
+    trial.end(&rt);
+}
+
+// It holds where any one growth is refused, and is asked for again.
+#[test]
+fn refused_growth_of_all_names(rt: HostRuntime) {
+    let mut trial = Trial::of_refusals(rt.alloc());
+    trial.names_all(&PACK, true);
     trial.end(&rt);
 }

@@ -1,9 +1,14 @@
 -- The first chunk of some bytes, and the chunks behind others.
-use Rattle.std.proofs.Common.{arith, ◌≡◌, ◌≤◌, ◌<◌, ◌++◌, ◌∷◌, [], ℕ, List, length, map, drop, take, refl, sym, ap, subst, inl, inr, ◌∙◌, append_assoc}
+use Rattle.std.proofs.Common.{arith, ◌≡◌, ◌≤◌, ◌<◌, ◌+◌, ◌++◌, ◌∷◌, [], ℕ, zero, suc, List, length, map, sum, drop, take, get_or, slice_index, refl, sym, ap, subst, inl, inr, ◌∙◌, append_assoc}
+use Rattle.std.proofs.lemmas.List.{drop-drop, get_or-map, length-map}
+use Rattle.std.proofs.lemmas.List.Sums.{sum_by-cons, sum_by_more}
 use Rattle.std.proofs.Math.Seq.{drop-append_seam, take-append_seam}
 use Rattle.repo_chunk.specs.Parameters.{Parameters, AreLawful}
 use Rattle.repo_chunk.specs.Cuts.{IsCut, HasNoCut, AreCuts}
-use Rattle.repo_backup.specs.Chunks.{IsFirstChunk}
+use Rattle.repo_name.specs.Naming as naming
+use Rattle.repo_sha.specs.Pieces.{pieces}
+use Rattle.repo_sha.proofs.PieceLemmas.{length-pieces, piece_at}
+use Rattle.repo_backup.specs.Chunks.{IsFirstChunk, IsNextChunk, AreFirstChunks, AreDigests}
 use Rattle.repo_backup.specs.Folders.{joined}
 
 not_below : (params : Parameters) (bytes : List ℕ) (n k : ℕ) → IsCut params bytes n → IsCut params bytes k → n < k → ⊥
@@ -92,3 +97,43 @@ next_of params (chunk ∷ behind) size cuts first =
   where
     head_is : {a b : ℕ} {xs ys : List ℕ} → a ∷ xs ≡ b ∷ ys → a ≡ b
     head_is e = cc
+
+-- ---- several chunks
+
+behind_one : (n : ℕ) (lengths bytes : List ℕ) → drop (sum lengths) (drop n bytes) ≡ drop (sum (n ∷ lengths)) bytes
+behind_one n lengths bytes = drop-drop (sum lengths) n bytes ∙ ap (λ k. drop k bytes) (sym (sum_by-cons (λ k. k) n lengths))
+
+-- one more chunk
+pub first_more : (params : Parameters) (bytes lengths : List ℕ) (n : ℕ) → AreFirstChunks params bytes lengths → IsNextChunk params (drop (sum lengths) bytes) n
+    → AreFirstChunks params bytes (lengths ++ n ∷ [])
+first_more params bytes [] n first next zero h = next
+first_more params bytes [] n first next (suc k) h = absurd (omega arith)
+first_more params bytes (m ∷ lengths) n first next zero h = first zero (omega arith)
+first_more params bytes (m ∷ lengths) n first next (suc k) h =
+    let rest = drop m bytes in
+    let behind : AreFirstChunks params rest lengths =
+    λ j lt. subst (λ (b : List ℕ). IsNextChunk params b (slice_index lengths j)) (sym (behind_one m (take j lengths) bytes)) (first (suc j) (omega arith)) in
+    let last = subst (λ (b : List ℕ). IsNextChunk params b n) (sym (behind_one m lengths bytes)) next in
+    subst (λ (b : List ℕ). IsNextChunk params b (slice_index (lengths ++ n ∷ []) k)) (behind_one m (take k (lengths ++ n ∷ [])) bytes)
+    (first_more params rest lengths n behind last k (omega arith))
+
+-- what is left behind one more chunk
+pub left_more : (bytes lengths : List ℕ) (k : ℕ) → k < length lengths
+    → drop (slice_index lengths k) (drop (sum (take k lengths)) bytes) ≡ drop (sum (take (k + 1) lengths)) bytes
+left_more bytes lengths k lt =
+    drop-drop (slice_index lengths k) (sum (take k lengths)) bytes ∙ ap (λ n. drop n bytes) (sym (sum_by_more (λ n. n) lengths k 0 lt))
+
+-- a digest is that of the chunk behind those before it
+pub digest_is : (digests : List (List ℕ)) (bytes lengths : List ℕ) (k : ℕ) → k < length lengths → AreDigests digests (pieces bytes lengths)
+    → get_or digests k [] ≡ (naming.name (take (slice_index lengths k) (drop (sum (take k lengths)) bytes))).0
+digest_is digests bytes lengths k lt named =
+    let digest : List ℕ → List ℕ = λ chunk. (naming.name chunk).0 in
+    ap (λ (ds : List (List ℕ)). get_or ds k []) named
+    ∙ get_or-map digest (pieces bytes lengths) k [] [] (omega (arith, length-pieces bytes lengths))
+    ∙ ap digest (piece_at bytes lengths k lt)
+
+-- there is a digest for each chunk
+pub count_is : (digests : List (List ℕ)) (bytes lengths : List ℕ) → AreDigests digests (pieces bytes lengths) → length digests ≡ length lengths
+count_is digests bytes lengths named =
+    let digest : List ℕ → List ℕ = λ chunk. (naming.name chunk).0 in
+    ap length named ∙ length-map (pieces bytes lengths) digest ∙ length-pieces bytes lengths

@@ -214,6 +214,14 @@ pub some_is : {A : Type 0} (o : Option A) → IsSome o → (x : A) × (o ≡ Som
 some_is None h = absurd (cc)
 some_is (Some x) h = (x, refl)
 
+-- a file is open where bytes of one are left
+pub file_open : (walk : Walk) → 1 ≤ length (bytes_left walk) → IsSome walk.file
+file_open walk some = open_by walk.file (next_step walk) some
+  where
+    open_by : (file : Option OpenFile) (step : Option WalkStep) → 1 ≤ length (rest_of file step) → IsSome file
+    open_by None step h = absurd (omega arith)
+    open_by (Some file) step h = refl
+
 -- where a file is open the next step is a file
 pub chunk_of_folder : (walk : Walk) (size : ℕ) (folder : Folder) (taken : List Item) → IsSome walk.file
     → IsFirstChunk walk.params (bytes_left walk) size → IsWalkable walk folder → IsWalking walk folder taken → Contains (blobs_of folder) (item_of Content (take size (bytes_left walk)))

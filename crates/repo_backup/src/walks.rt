@@ -1,6 +1,6 @@
 //! A walk through a folder.
 
-ghost use Rattle.std.specs.Prelude.{◌≡◌, ◌≤◌, ◌<◌, ◌++◌, ◌∷◌, [], ℕ, List, length, take, Some, None, OnOk, OnErr, IsSome};
+ghost use Rattle.std.specs.Prelude.{◌≡◌, ◌≤◌, ◌<◌, ◌++◌, ◌∷◌, [], ℕ, List, length, take, drop, Some, None, OnOk, OnErr, IsSome};
 ghost use Rattle.repo_name.specs.Naming as naming;
 ghost use Rattle.repo_name.specs.declared.kinds.BlobKind.TheVariants.{Content, Tree};
 ghost use Rattle.repo_pack.specs.PackLayout.{Item, item_of};
@@ -11,9 +11,7 @@ ghost use Rattle.repo_backup.specs.Chunks.{IsFirstChunk};
 ghost use Rattle.repo_backup.specs.Folders.{Folder};
 ghost use Rattle.repo_backup.specs.Works.{IsWalkable, IsWalking};
 ghost use Rattle.repo_backup.specs.Advancing.{next_step, bytes_left, IsSameWay, StaysSame, work_left};
-ghost use Rattle.repo_name.specs.Limits.{blob_limit};
 
-use crate::chunks::first_chunk;
 use crate::steps::WalkStep;
 use repo_chunk::Params;
 use repo_name::{Name, Names, Text};
@@ -80,13 +78,9 @@ impl Walk {
         });
     }
 
-    /// The next chunk of the open file, and nothing where none is left.
-    pub fn next_chunk(&self) -> &[u8]
-        ensures none { result.now ≡ [] → bytes_left self.now ≡ [] }
-        ensures first { 1 ≤ length result.now → IsFirstChunk self.now.params (bytes_left self.now) (length result.now) }
-        ensures front { result.now ≡ take (length result.now) (bytes_left self.now) }
-        ensures within { length result.now ≤ length (bytes_left self.now) }
-        ensures small { length result.now ≤ blob_limit }
+    /// What is left of the open file, and nothing where none is open.
+    pub fn rest(&self) -> &[u8]
+        ensures { result.now ≡ bytes_left self.now }
     {
         let Some(file) = &self.file else {
             return &[];
@@ -95,12 +89,7 @@ impl Walk {
             return &[];
         };
         let bytes = bytes.as_slice();
-        if file.start >= bytes.len() {
-            return &[];
-        }
-        let rest = &bytes[file.start..];
-        let size = first_chunk(self.params, rest);
-        &rest[..size]
+        &bytes[file.start.min(bytes.len())..]
     }
 
     /// Notes that the next chunk of the open file, of this size, is a blob of this name. It fails for memory alone,
@@ -112,6 +101,7 @@ impl Walk {
         ensures ok { OnOk result ((folder : Folder) (taken : List Item) → IsWalkable self.old folder → IsWalking self.old folder taken
             → IsWalking self.new folder (taken ++ item_of Content (take size (bytes_left self.old)) ∷ [])) }
         ensures err { OnErr result (StaysSame self.old self.new) }
+        ensures left { OnOk result (bytes_left self.new ≡ drop size (bytes_left self.old)) }
         ensures same { IsSameWay self.old self.new }
         ensures less { OnOk result (work_left self.new < work_left self.old) }
     {

@@ -1,29 +1,33 @@
 //! The work that a backup does by itself between two replies: it walks a folder, makes its blobs, and adds them
 //! to packs.
 
-ghost use Rattle.std.specs.Prelude.{◌≡◌, ◌≢◌, ◌≤◌, ◌<◌, [], ℕ, List, length, Some, None, IfOk, OnOk, OnErr, IsSome, IsTrue, MatchOption, Contains};
+ghost use Rattle.std.specs.Prelude.{◌≡◌, ◌≢◌, ◌≤◌, ◌<◌, [], ℕ, List, length, take, drop, Some, None, IfOk, OnOk, OnErr, IsSome, IsTrue, MatchOption, Contains};
 ghost use Rattle.std.specs.Bool.{OnTrue, OnFalse};
 ghost use Rattle.repo_name.specs.Naming as naming;
 ghost use Rattle.repo_name.specs.declared.kinds.BlobKind.TheVariants.{Tree};
 ghost use Rattle.repo_index.specs.declared.facts.Fact.{Fact};
+ghost use Rattle.repo_sha.specs.Pieces.{pieces};
 ghost use Rattle.repo_pack.specs.PackLayout.{Item, item_of};
 ghost use Rattle.repo_pack.specs.PackWriting.{IsOpen};
 ghost use Rattle.repo_tree.specs.TreeText.{IsTreeText};
 ghost use Rattle.repo_tree.specs.TreeWriting.{tree_text};
 ghost use Rattle.repo_backup.specs.declared.steps.WalkStep.{WalkStep};
+ghost use Rattle.repo_backup.specs.Chunks.{IsNextChunk, AreFirstChunks, AreDigests};
 ghost use Rattle.repo_backup.specs.Folders.{Folder, IsCutBy, blobs_of};
 ghost use Rattle.repo_backup.specs.Packings.{IsCovered, all_items};
 ghost use Rattle.repo_backup.specs.Plans.{IsLawful, steps_of};
 ghost use Rattle.repo_backup.specs.Works.{WorkStands, WalkGoesOn};
-ghost use Rattle.repo_backup.specs.Advancing.{next_step, work_left, IsMadeByWalk, Tells};
+ghost use Rattle.repo_backup.specs.Advancing.{next_step, bytes_left, work_left, IsSameWay, IsMadeByWalk, Tells};
 ghost use Rattle.repo_name.specs.Limits.{blob_limit};
 
+use crate::chunks::first_chunks;
 use crate::packing::Packing;
 use crate::steps::WalkStep;
 use crate::walks::Walk;
 use repo_chunk::Params;
 use repo_index::Lookup;
 use repo_name::{BlobKind, Name, name_of};
+use repo_sha::digests;
 use repo_tree::{TreeError, write_tree};
 use repo_writing::Target;
 use std::alloc::{AllocError, Global};
@@ -146,8 +150,50 @@ impl Work {
         }
     }
 
-    /// Makes the next chunk of the open file a blob; or where none is left, makes the file's node. It fails for
-    /// memory alone.
+    /// Makes the next chunk of the open file, of this size and name, a blob. It fails for memory alone.
+    fn add_chunk(&mut self, lookup: &Lookup, size: usize, name: Name) -> Result<(), AllocError>
+        requires room { IsOpen self.old.packing.packer.writer }
+        requires chunk { IsNextChunk self.old.walk.params (bytes_left self.old.walk) size }
+        requires named { name ≡ naming.name (take size (bytes_left self.old.walk)) }
+        ensures work { (folder : Folder) (sent sealed : List Item) → WorkStands self.old lookup.now folder sent sealed → WorkStands self.new lookup.now folder sent sealed }
+        ensures left { OnOk result (bytes_left self.new.walk ≡ drop size (bytes_left self.old.walk)) }
+        ensures less { OnOk result (work_left self.new.walk < work_left self.old.walk) }
+        ensures sealed { self.new.packing.packer.sealed ≡ self.old.packing.packer.sealed }
+        ensures same { IsSameWay self.old.walk self.new.walk }
+    {
+        let (chunk, _) = self.walk.rest().split_at(size);
+        self.packing.add(lookup, BlobKind::Content, &name, chunk)?;
+        self.walk.take_chunk(name, size)
+    }
+
+    /// Makes the next chunks of the open file, of these sizes and names, blobs: all, or so many that the pack is due.
+    /// There is one at least. It fails for memory alone.
+    fn add_chunks(
+        &mut self,
+        lookup: &Lookup,
+        sizes: &[usize],
+        names: &[[u8; 32]],
+    ) -> Result<(), AllocError>
+        requires room { IsOpen self.old.packing.packer.writer }
+        requires chunks { AreFirstChunks self.old.walk.params (bytes_left self.old.walk) sizes.now }
+        requires some { 1 ≤ length sizes.now }
+        requires named { AreDigests names.now (pieces (bytes_left self.old.walk) sizes.now) }
+        ensures work { (folder : Folder) (sent sealed : List Item) → WorkStands self.old lookup.now folder sent sealed → WorkStands self.new lookup.now folder sent sealed }
+        ensures less { OnOk result (work_left self.new.walk < work_left self.old.walk) }
+        ensures sealed { self.new.packing.packer.sealed ≡ self.old.packing.packer.sealed }
+        ensures same { IsSameWay self.old.walk self.new.walk }
+    {
+        'chunks: for place in 0..sizes.len() {
+            if self.packing.packer.writer.is_due() {
+                return Ok(());
+            }
+            self.add_chunk(lookup, sizes[place], Name(names[place]))?;
+        }
+        Ok(())
+    }
+
+    /// Makes the next chunks of the open file blobs, all of them or so many that the pack is due, where they are named
+    /// side by side; or where none is left, makes the file's node. It fails for memory alone.
     fn cut_file(&mut self, lookup: &Lookup) -> Result<(), AllocError>
         requires room { IsOpen self.old.packing.packer.writer }
         requires node { self.old.walk.node ≡ None }
@@ -157,14 +203,15 @@ impl Work {
         ensures sealed { self.new.packing.packer.sealed ≡ self.old.packing.packer.sealed }
         ensures steps { self.new.walk.steps ≡ self.old.walk.steps }
     {
-        let chunk = self.walk.next_chunk();
-        if chunk.is_empty() {
+        let (alloc, params) = (self.alloc, self.walk.params);
+        let wanted = self.packing.packer.writer.wanted();
+        let rest = self.walk.rest();
+        if rest.is_empty() {
             return self.walk.close_file();
         }
-        let name = name_of(chunk);
-        let size = chunk.len();
-        self.packing.add(lookup, BlobKind::Content, &name, chunk)?;
-        self.walk.take_chunk(name, size)
+        let sizes = first_chunks(alloc, params, rest, wanted)?;
+        let names = digests(alloc, rest, &sizes)?;
+        self.add_chunks(lookup, &sizes, &names)
     }
 
     /// Makes the tree of the open directory, whose nodes are all placed, a blob. `None` where its text is above

@@ -1,8 +1,8 @@
 -- What a reply tells of one object.
-use Rattle.std.proofs.Common.{arith, ◌≡◌, ◌≢◌, ◌<◌, ◌≤◌, ◌+◌, ◌++◌, ℕ, List, Some, None, length, refl, sym, ap, subst, ◌∙◌, length-append}
+use Rattle.std.proofs.Common.{arith, ◌≡◌, ◌≢◌, ◌≤◌, ◌+◌, ◌++◌, ℕ, List, Some, None, length, refl, sym, ap, subst, ◌∙◌, length-append}
 use Rattle.std.proofs.lemmas.List.Elements.{recursion_from_All}
 use Rattle.std.specs.Int.{w32, to_le_bytes}
-use Rattle.std.specs.Prelude.{slice_get, IfOk, Result, Ok, Err}
+use Rattle.std.specs.Prelude.{IfOk, Result, Ok, Err}
 use Rattle.repo_name.specs.Naming as naming
 use Rattle.repo_name.specs.declared.kinds.Kind.{Kind}
 use Rattle.repo_name.specs.declared.names.Name.{Name}
@@ -12,7 +12,7 @@ use Rattle.repo_session.specs.Ends.{IsOfOtherVersion}
 use Rattle.repo_wire.specs.declared.messages.Ask.{Ask}
 use Rattle.repo_wire.specs.declared.messages.Code.{Code}
 use Rattle.repo_wire.specs.declared.messages.Say.{Say}
-use Rattle.repo_pack.specs.PackLayout.{Item, IsPack, IsItem, IsNamed, blobs_of, header_of}
+use Rattle.repo_pack.specs.PackLayout.{Item, IsPack, IsItem, blobs_of, header_of}
 use Rattle.repo_pack.proofs.Entries.{length-header_of}
 use Rattle.repo_session.specs.declared.outcomes.FaultKind.{FaultKind}
 use Rattle.repo_check.specs.Answers.{Answer}
@@ -54,10 +54,6 @@ pack_length bytes items h =
     let few = h.count.1 in
     let four : length tail ≡ 4 = refl in
     omega (arith, whole, front, header, few, four)
-
--- the items up to a place have their names
-abbrev pub HoldsTo : List Item → ℕ → Type 0
-HoldsTo items place = (k : ℕ) (item : Item) → k < place → slice_get items k ≡ Some item → IsNamed item
 
 -- ---- what can't be read
 

@@ -1,8 +1,7 @@
 //! What is found of one object by itself.
 
-ghost use Rattle.std.specs.Prelude.{◌≡◌, ◌↔◌, IfOk, IfSome, IsTrue, None};
-ghost use Rattle.std.specs.List.{All};
-ghost use Rattle.repo_pack.specs.PackLayout.{IsNamed, IsPack, IsTruePack};
+ghost use Rattle.std.specs.Prelude.{◌≡◌, IfOk, IfSome, None};
+ghost use Rattle.repo_pack.specs.PackLayout.{IsPack, IsTruePack};
 ghost use Rattle.repo_name.specs.declared.kinds.Kind.{Kind};
 ghost use Rattle.repo_check.specs.Findings.{Reads};
 ghost use Rattle.repo_check.specs.Arrivals.{LooksAtSnapshot, LooksAtIndex, LooksAtPack, AreToldOf, MisreadAs};
@@ -100,18 +99,6 @@ pub fn look_at_index(alloc: Global, name: Name, say: &Say) -> Result<IndexLook, 
     }
 }
 
-/// Whether each blob of a pack has the name that the pack gives it.
-fn names_hold(view: &PackView) -> bool
-    ensures { IsTrue result ↔ All IsNamed view.now }
-{
-    for place in 0..view.len() {
-        if !view.name_holds(place) {
-            return false;
-        }
-    }
-    true
-}
-
 /// The facts of a pack's blobs, in the pack's order; none of one of 2^32 bytes or more. It fails for memory alone.
 fn facts_of(alloc: Global, name: Name, bytes: &[u8], view: &PackView) -> Result<Facts, AllocError>
     requires { IsPack bytes.now view.now }
@@ -123,14 +110,18 @@ fn facts_of(alloc: Global, name: Name, bytes: &[u8], view: &PackView) -> Result<
     Ok(PackFacts::of_pack(alloc, &name, view)?.facts)
 }
 
-/// The pack in these bytes, if they are one, and each blob has its name. It takes no memory.
-fn true_pack<'a>(bytes: &'a [u8]) -> Option<PackView<'a>>
-    ensures some { IfSome result (IsTruePack bytes.now) }
-    ensures none { result ≡ None → ¬ Reads Kind.Pack bytes.now }
+/// The pack in these bytes, if they are one, and each blob has its name. It fails for memory alone.
+fn true_pack<'a>(alloc: Global, bytes: &'a [u8]) -> Result<Option<PackView<'a>>, AllocError>
+    ensures some { IfOk result (λ found. IfSome found (IsTruePack bytes.now)) }
+    ensures none { IfOk result (λ found. found ≡ None → ¬ Reads Kind.Pack bytes.now) }
 {
-    match PackView::read(bytes) {
-        Ok(view) => if names_hold(&view) { Some(view) } else { None },
-        Err(_) => None,
+    let Ok(view) = PackView::read(bytes) else {
+        return Ok(None);
+    };
+    if view.all_named(alloc)? {
+        Ok(Some(view))
+    } else {
+        Ok(None)
     }
 }
 
@@ -144,7 +135,7 @@ pub fn look_at_pack(alloc: Global, name: Name, say: &Say) -> Result<PackLook, Al
         Arrival::Absent => return Ok(PackLook::Fault(FaultKind::Missing)),
         Arrival::Unwelcome => return Ok(PackLook::Unwelcome),
     };
-    let Some(view) = true_pack(bytes) else {
+    let Some(view) = true_pack(alloc, bytes)? else {
         return Ok(PackLook::Fault(FaultKind::Unreadable));
     };
     Ok(PackLook::Read(facts_of(alloc, name, bytes, &view)?))

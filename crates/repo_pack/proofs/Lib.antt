@@ -1,4 +1,5 @@
 pub mod Entries
+pub mod NameLemmas
 pub mod Offsets
 pub mod Packs
 pub mod Passes

@@ -7,7 +7,7 @@
 //!
 //! Promised: what a [`PackWriter`] seals is a true pack of the blobs added, and [`PackView::read`] takes
 //! exactly the bytes that stand in this layout, of which it shows each blob. Not promised: that a pack
-//! that was read is true, unless [`PackView::name_holds`] says so of each blob.
+//! that was read is true, unless [`PackView::all_named`] says so, or [`PackView::name_holds`] of each blob.
 //!
 //! The definitions stand in `specs/`: `PackLayout` (the layout, a true pack, offsets), `PackReading`
 //! (what bytes show, and the fault of those that are no pack), `PackWriting` (a pack that is written).

@@ -1,6 +1,6 @@
 //! The entries of a header, each of 37 bytes: a kind, a length in four bytes, the lowest first, and a name.
 
-ghost use Rattle.std.specs.Prelude.{◌≡◌, ◌≤◌, ◌<◌, ◌+◌, ◌*◌, ◌↔◌, length, drop, IsTrue, IsSome, IfSome, IfOk};
+ghost use Rattle.std.specs.Prelude.{◌≡◌, ◌≤◌, ◌<◌, ◌+◌, ◌*◌, ◌/◌, ◌↔◌, length, drop, map, IsTrue, IsSome, IfSome, IfOk};
 ghost use Rattle.std.specs.List.{All, sum_by};
 ghost use Rattle.repo_name.specs.Naming.{IsName};
 ghost use Rattle.repo_pack.specs.PackLayout.{IsBlobLength, kind_number};
@@ -132,6 +132,30 @@ pub fn row_and_offset(header: &[u8], place: usize) -> (Row, u64)
         offset += u64::from(length_at(from_entry(header, before)));
     }
     (row_at(from_entry(header, place)), offset)
+}
+
+/// The lengths of the blobs, in the entries' order. It fails for memory alone.
+pub fn lengths_of(alloc: Global, header: &[u8]) -> Result<Vec<usize>, AllocError>
+    ensures { IfOk result (λ lengths. lengths.items ≡ map (λ row. row.length) (header_rows header.now)) }
+{
+    let mut lengths = Vec::new(alloc);
+    for place in 0..header.len() / ENTRY_BYTES {
+        lengths.push(length_at(from_entry(header, place)) as usize)?;
+    }
+    Ok(lengths)
+}
+
+/// Whether the entries have these names, in their order.
+pub fn have_names(header: &[u8], names: &[[u8; 32]]) -> bool
+    requires { length names.now ≡ length header.now / 37 }
+    ensures { IsTrue result ↔ (map (λ row. row.name.0) (header_rows header.now) ≡ names.now) }
+{
+    for place in 0..names.len() {
+        if row_at(from_entry(header, place)).name.0 != names[place] {
+            return false;
+        }
+    }
+    true
 }
 
 /// The header of these entries, and behind it its length.

@@ -1,15 +1,18 @@
 //! Packs as they are read, in place.
 
 ghost use Rattle.std.specs.Prelude.{◌≡◌, ◌≤◌, ◌<◌, ◌↔◌, List, length, slice_get, IsTrue, IfOk, IfErr, OnErr, IsSomeAnd};
+ghost use Rattle.std.specs.List.{All};
 ghost use Rattle.repo_name.specs.Naming.{name};
-ghost use Rattle.repo_pack.specs.PackLayout.{Item, IsPack, blobs_of, offset_of};
+ghost use Rattle.repo_pack.specs.PackLayout.{Item, IsNamed, IsPack, blobs_of, offset_of};
 ghost use Rattle.repo_pack.specs.PackReading.{HasHeader, HasKinds, HasLengths, blobs_in, header_in, IsFault, entry_of};
 
 use crate::faults::PackError;
 use crate::places::Entry;
-use crate::rows::{ENTRY_BYTES, has_kinds, has_lengths, row_and_offset};
+use crate::rows::{ENTRY_BYTES, has_kinds, has_lengths, have_names, lengths_of, row_and_offset};
 use byteorder::{ByteOrder, LittleEndian};
 use repo_name::{HEADER_LIMIT, name_of};
+use repo_sha::digests;
+use std::alloc::{AllocError, Global};
 use std::marker::Model;
 
 /// The bytes of a header's length.
@@ -124,5 +127,15 @@ impl<'a> PackView<'a> {
             (λ item. IsTrue result ↔ (item.name ≡ name item.bytes)) }
     {
         name_of(self.blob(place)) == self.entry(place).name
+    }
+
+    /// Whether each blob has the name that its entry gives it. All are named at once, side by side, and so faster than
+    /// one by one. It fails for memory alone.
+    pub fn all_named(&self, alloc: Global) -> Result<bool, AllocError>
+        ensures { IfOk result (λ named. IsTrue named ↔ All IsNamed self.now) }
+    {
+        let lengths = lengths_of(alloc, self.header)?;
+        let digests = digests(alloc, self.blobs, &lengths)?;
+        Ok(have_names(self.header, &digests))
     }
 }

@@ -1,9 +1,9 @@
 //! Packs as they are written.
 
-ghost use Rattle.std.specs.Prelude.{◌≡◌, ◌≤◌, ◌<◌, ◌+◌, ◌^◌, ◌++◌, [], ◌↔◌, length, IsTrue, IfOk, IfErr, OnOk, OnErr, IsErrOf, vec_len, vec_capacity};
+ghost use Rattle.std.specs.Prelude.{◌≡◌, ◌≤◌, ◌<◌, ◌+◌, ◌-◌, ◌^◌, ◌++◌, [], ◌↔◌, length, IsTrue, IfOk, IfErr, OnOk, OnErr, IsErrOf, vec_len, vec_capacity};
 ghost use Rattle.std.specs.List.{All, sum_by};
 ghost use Rattle.repo_name.specs.Naming as naming;
-ghost use Rattle.repo_pack.specs.PackLayout.{item_of, IsTruePack, IsWithin};
+ghost use Rattle.repo_pack.specs.PackLayout.{item_of, blobs_of, IsTruePack, IsWithin};
 ghost use Rattle.repo_pack.specs.PackWriting.{IsDue, IsOpen, IsRefusal, with_item, ending_of, placed_from, ArePlaced};
 ghost use Rattle.repo_name.specs.Limits.{blob_limit, blobs_limit, greatest_target, least_target, pack_limit};
 
@@ -134,6 +134,13 @@ impl PackWriter {
         ensures some { IsTrue result → 1 ≤ length self.now.items }
     {
         self.blobs.len() >= self.target as usize || self.rows.len() >= BLOBS_LIMIT
+    }
+
+    /// How many bytes of blobs are wanted until they reach the target.
+    pub fn wanted(&self) -> usize
+        ensures { result ≡ self.now.target - length (blobs_of self.now.items) }
+    {
+        (self.target as usize).saturating_sub(self.blobs.len())
     }
 
     /// Whether a blob of so many bytes has room. It answers the first reason against it that stands.
