@@ -4,7 +4,7 @@ use crate::backups::{finish, shelf_with, who};
 use anyhow::{Result, bail};
 use repo_backup::Backup;
 use repo_check::Check;
-use repo_name::{Bytes, Name, Text, name_of};
+use repo_name::{Bytes, Name, Names, Text, name_of};
 use repo_prune::{Choice, Forget, Prune};
 use repo_session::{Client, Outcome, result_text};
 use repo_store::MemShelf;
@@ -89,7 +89,7 @@ fn half_forgotten(alloc: Global, count: usize) -> Result<(MemShelf, Name)> {
     let half = back_up(alloc, &mut shelf, count, Files::EveryOther)?;
     let mut names = Vec::new(alloc);
     names.push(all)?;
-    let Ok(mut forget) = Forget::new(alloc, who(alloc)?, Choice::Names(names)) else {
+    let Ok(mut forget) = Forget::new(alloc, who(alloc)?, Choice::Names(Names::of(names))) else {
         bail!("nothing is forgotten");
     };
     finish(alloc, &mut forget, &mut shelf)?;

@@ -7,10 +7,10 @@ use crate::lines::{ScriptError, cut, name, names, number, policy};
 use crate::streams::{Inlet, Outlet, Pace};
 use crate::told::Told;
 use repo_files::{Scan, Skipped};
-use repo_name::{Instance, Name, Token};
+use repo_name::{Instance, Name, Names, Token};
 use repo_prog::{
-    Caller, Status, backup_found, check_command, forget_command, locks_command, prune_command,
-    refresh_command, restore_into, snapshots_command, unlock_command,
+    Caller, Once, Status, backup_found, check_command, forget_command, locks_command,
+    prune_command, refresh_command, restore_into, snapshots_command, unlock_command,
 };
 use repo_prune::Choice;
 use repo_session::Emission;
@@ -106,44 +106,44 @@ impl Talk<'_> {
     }
 
     fn snapshots(&mut self) -> Status {
-        let (r, w) = (&mut self.reader, &mut self.sent);
+        let mut dial = Once::new(&mut self.reader, &mut self.sent);
         let (o, f) = (&mut self.output, &mut self.faults);
-        snapshots_command(self.alloc, &self.caller, r, w, o, f)
+        snapshots_command(self.alloc, &self.caller, &mut dial, 0, o, f)
     }
 
     fn backup(&mut self, host: &str, found: Scan) -> Result<Status, ScriptError> {
         if !is_host(host) {
             return Err(ScriptError::Line);
         }
-        let (r, w) = (&mut self.reader, &mut self.sent);
+        let mut dial = Once::new(&mut self.reader, &mut self.sent);
         let (o, f) = (&mut self.output, &mut self.faults);
-        Ok(backup_found(self.alloc, &self.caller, host, found, r, w, o, f))
+        Ok(backup_found(self.alloc, &self.caller, host, found, &mut dial, 0, o, f))
     }
 
     fn restore(&mut self, name: Name) -> Status {
-        let (r, w) = (&mut self.reader, &mut self.sent);
+        let mut dial = Once::new(&mut self.reader, &mut self.sent);
         let (o, f) = (&mut self.output, &mut self.faults);
         let sink = &mut self.sink;
         let takes = |emission: &Emission| sink.take(emission);
-        restore_into(self.alloc, &self.caller, name, takes, r, w, o, f)
+        restore_into(self.alloc, &self.caller, name, takes, &mut dial, 0, o, f)
     }
 
     fn forget(&mut self, choice: Choice) -> Status {
-        let (r, w) = (&mut self.reader, &mut self.sent);
+        let mut dial = Once::new(&mut self.reader, &mut self.sent);
         let (o, f) = (&mut self.output, &mut self.faults);
-        forget_command(self.alloc, &self.caller, choice, r, w, o, f)
+        forget_command(self.alloc, &self.caller, choice, &mut dial, 0, o, f)
     }
 
     fn prune(&mut self) -> Status {
-        let (r, w) = (&mut self.reader, &mut self.sent);
+        let mut dial = Once::new(&mut self.reader, &mut self.sent);
         let (o, f) = (&mut self.output, &mut self.faults);
-        prune_command(self.alloc, &self.caller, r, w, o, f)
+        prune_command(self.alloc, &self.caller, &mut dial, 0, o, f)
     }
 
     fn check(&mut self) -> Status {
-        let (r, w) = (&mut self.reader, &mut self.sent);
+        let mut dial = Once::new(&mut self.reader, &mut self.sent);
         let (o, f) = (&mut self.output, &mut self.faults);
-        check_command(self.alloc, &self.caller, r, w, o, f)
+        check_command(self.alloc, &self.caller, &mut dial, 0, o, f)
     }
 
     /// Runs the command of these words.
@@ -156,7 +156,7 @@ impl Talk<'_> {
             "snapshots" => Ok(self.snapshots()),
             "backup" => self.backup(rest, found),
             "restore" => Ok(self.restore(name(rest)?)),
-            "forget" => Ok(self.forget(Choice::Names(names(self.alloc, rest)?))),
+            "forget" => Ok(self.forget(Choice::Names(Names::of(names(self.alloc, rest)?)))),
             "prune" => Ok(self.prune()),
             "check" => Ok(self.check()),
             "keep" => Ok(self.forget(Choice::Keep(policy(rest)?))),

@@ -6,7 +6,7 @@ use crate::stores::{Store, reply_of};
 use crate::told::Told;
 use repo_backup::{Backup, BackupError};
 use repo_check::Check;
-use repo_name::{Instance, Name};
+use repo_name::{Instance, Name, Names};
 use repo_prune::{Choice, Forget, ForgetError, Prune};
 use repo_restore::{Restore, SnapshotList};
 use repo_session::{Who, WhoError};
@@ -116,7 +116,7 @@ impl World {
         for word in words.split_whitespace() {
             names.push(self.snapshot(word)?)?;
         }
-        Ok(Choice::Names(names))
+        Ok(Choice::Names(Names::of(names)))
     }
 
     /// Starts a client: `backup HOST TIME`, `list`, `restore K`, `forget K..` (in place of a number K of a client that

@@ -2,7 +2,7 @@
 
 use crate::fixtures::{INSTANCE, all_numbered, kept, shelf, who};
 use repo_backup::Backup;
-use repo_name::{Kind, Name, Thing, name_of};
+use repo_name::{Kind, Name, Names, Thing, name_of};
 use repo_prune::{Choice, Forget, ForgetError, Policy};
 use repo_session::{Client, End, Outcome, Who, lockstep};
 use repo_store::{MemShelf, Shelf};
@@ -128,7 +128,7 @@ impl Trial {
     /// A forget by the names at places.
     fn forgets_named(&mut self, given: &[usize], wanted: &[usize]) {
         match self.named(given) {
-            Ok(names) => self.forgets(Choice::Names(names), wanted),
+            Ok(names) => self.forgets(Choice::Names(Names::of(names)), wanted),
             Err(_) => self.count(false),
         }
     }

@@ -5,7 +5,7 @@ use crate::runs::{CALLER, Run, run_or_none};
 use crate::sockets::taken_port;
 use crate::yards::{Yard, text_or_none};
 use repo_name::name_of;
-use repo_prog::{Dial, backup_command, restore_command, restore_over};
+use repo_prog::{Once, backup_command, restore_command};
 use std::alloc::{AllocError, AllocGlobal, Global};
 use std::fs::Files;
 use std::io;
@@ -18,16 +18,9 @@ fn backed_up(rt: HostRuntime, folder: &str) -> Result<Run, AllocError> {
     let alloc = rt.alloc();
     let replies = granted(alloc, 4)?;
     let mut run = Run::new(alloc);
-    run.status = backup_command(
-        &rt,
-        &CALLER,
-        "a",
-        folder,
-        &mut replies.as_slice(),
-        &mut run.sent,
-        &mut run.output,
-        &mut run.faults,
-    );
+    let mut dial = Once::new(replies.as_slice(), &mut run.sent);
+    let (o, f) = (&mut run.output, &mut run.faults);
+    run.status = backup_command(&rt, &CALLER, "a", folder, &mut dial, 0, o, f);
     Ok(run)
 }
 
@@ -40,16 +33,9 @@ pub(crate) fn restored<T: Files + AllocGlobal + Clone + Drop, R: Read>(
 ) -> Result<Run, AllocError> {
     let name = name_of(snapshot(rt.alloc(), tree)?.as_bytes());
     let mut run = Run::new(rt.alloc());
-    run.status = restore_command(
-        rt,
-        &CALLER,
-        name,
-        folder,
-        replies,
-        &mut run.sent,
-        &mut run.output,
-        &mut run.faults,
-    );
+    let mut dial = Once::new(replies, &mut run.sent);
+    let (o, f) = (&mut run.output, &mut run.faults);
+    run.status = restore_command(rt, &CALLER, name, folder, &mut dial, 0, o, f);
     Ok(run)
 }
 
@@ -73,46 +59,6 @@ pub(crate) fn file_restored<T: Files + AllocGlobal + Clone + Drop>(
 ) -> Result<Run, AllocError> {
     let replies = one_file(rt.alloc())?;
     restored(rt, FILE_TREE, target, &mut replies.as_slice())
-}
-
-/// A connection that brings these replies, and that is had once.
-#[derive(Drop)]
-struct Once<'a> {
-    replies: Option<&'a [u8]>,
-    alloc: Global,
-}
-
-impl<'a> Dial for Once<'a> {
-    ghost use Rattle.std.specs.Prelude.{None};
-
-    type Reader = &'a [u8];
-
-    type Writer = Vec<u8>;
-
-    ghost coming = { λ _. None };
-
-    fn dial(&mut self) -> Option<(&'a [u8], Vec<u8>)> {
-        let replies = self.replies.take()?;
-        Some((replies, Vec::new(self.alloc)))
-    }
-}
-
-/// The same over a connection that is made for it.
-pub(crate) fn file_restored_over<T: Files + AllocGlobal + Clone + Drop>(
-    rt: &T,
-    target: &str,
-) -> Result<Run, AllocError> {
-    let alloc = rt.alloc();
-    let replies = one_file(alloc)?;
-    let mut once = Once {
-        replies: Some(replies.as_slice()),
-        alloc,
-    };
-    let name = name_of(snapshot(alloc, FILE_TREE)?.as_bytes());
-    let mut run = Run::new(alloc);
-    let (o, f) = (&mut run.output, &mut run.faults);
-    run.status = restore_over(rt, &CALLER, name, target, &mut once, 0, o, f);
-    Ok(run)
 }
 
 /// Whether the next connection of a listener ends without a byte.

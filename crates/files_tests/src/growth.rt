@@ -5,7 +5,7 @@ use crate::replies::{FILE_TREE, Replies, TREE, granted, name_text, one_file, sna
 use crate::runs::{CALLER, Run};
 use repo_name::{Token, name_of};
 use repo_prog::{
-    FramesError, backup_entries, frames as answer_frames, locks_command, refresh_command,
+    FramesError, Once, backup_entries, frames as answer_frames, locks_command, refresh_command,
     restore_into,
 };
 use repo_session::Emission;
@@ -81,9 +81,10 @@ fn backed_up(alloc: Global) -> Result<String, AllocError> {
         left: replies.as_slice(),
     };
     let mut run = Run::new(alloc);
-    let (w, o, f) = (&mut run.sent, &mut run.output, &mut run.faults);
+    let mut dial = Once::new(&mut reader, &mut run.sent);
+    let (o, f) = (&mut run.output, &mut run.faults);
     let nothing = Vec::new(alloc);
-    run.status = backup_entries(alloc, &CALLER, "a", nothing, &mut reader, w, o, f);
+    run.status = backup_entries(alloc, &CALLER, "a", nothing, &mut dial, 0, o, f);
     run.told(alloc)
 }
 
@@ -98,11 +99,11 @@ fn is_stored(alloc: Global) -> Result<bool, AllocError> {
 fn given_out(alloc: Global) -> Result<String, AllocError> {
     let replies = one_file(alloc)?;
     let name = name_of(snapshot(alloc, FILE_TREE)?.as_bytes());
-    let mut reader = replies.as_slice();
     let mut run = Run::new(alloc);
-    let (w, o, f) = (&mut run.sent, &mut run.output, &mut run.faults);
+    let mut dial = Once::new(replies.as_slice(), &mut run.sent);
+    let (o, f) = (&mut run.output, &mut run.faults);
     let takes = |_: &Emission| true;
-    run.status = restore_into(alloc, &CALLER, name, takes, &mut reader, w, o, f);
+    run.status = restore_into(alloc, &CALLER, name, takes, &mut dial, 0, o, f);
     run.told(alloc)
 }
 

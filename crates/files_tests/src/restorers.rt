@@ -1,7 +1,7 @@
 //! Steps of a restorer into a real folder.
 
 use crate::cutting::Cut;
-use crate::folder_commands::{file_restored, file_restored_over};
+use crate::folder_commands::file_restored;
 use crate::fuses::{Fuse, Step, What};
 use crate::lasting::{is_synced, parent_of};
 use crate::runs::Run;
@@ -79,10 +79,8 @@ fn written_by(files: Cut<'_>, root: &str) -> u64 {
 pub enum Way {
     /// A restorer, which is given the parts.
     Parts,
-    /// The command, over a connection that is there, of a tree with one file.
+    /// The command, of a tree with one file.
     Command,
-    /// The same, over a connection that is made for it.
-    Dialed,
 }
 
 /// Whether a restore over a file system tells that it is complete.
@@ -90,7 +88,6 @@ fn is_ended_by(way: Way, files: Cut<'_>, root: &str) -> bool {
     match way {
         Way::Parts => are_ended_by(files, root),
         Way::Command => is_complete(file_restored(&files, root)),
-        Way::Dialed => is_complete(file_restored_over(&files, root)),
     }
 }
 

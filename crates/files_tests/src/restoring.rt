@@ -111,11 +111,9 @@ fn what_a_restore_tells_is_on_the_disk(rt: HostRuntime) {
 #[test]
 fn what_a_command_tells_as_complete_is_on_the_disk(rt: HostRuntime) {
     let mut yard = Yard::empty(rt, "completed").expect(&rt, "no folder");
-    for way in [Way::Command, Way::Dialed] {
-        yard.stops_restoring(way);
-        yard.has("above/target/x", "abc");
-        yard.holds("above/target", 1);
-    }
+    yard.stops_restoring(Way::Command);
+    yard.has("above/target/x", "abc");
+    yard.holds("above/target", 1);
     yard.end(&rt);
 }
 

@@ -2,9 +2,10 @@
 
 use crate::runs::{CALLER, Run, kept, run_or_none, small_config};
 use crate::yards::{Yard, text_or_none};
-use repo_name::{Instance, Name};
+use repo_name::{Instance, Name, Names};
 use repo_prog::{
-    Dial, backup_over, check_over, forget_over, prune_over, restore_over, snapshots_over,
+    Dial, backup_command, check_command, forget_command, prune_command, restore_command,
+    snapshots_command,
 };
 use repo_prune::Choice;
 use repo_store::{MemShelf, Plain, Service, init};
@@ -164,15 +165,23 @@ impl Site<'_> {
         };
         let (d, o, f) = (&mut line, &mut run.output, &mut run.faults);
         run.status = match job {
-            Job::Backup => backup_over(&self.rt, &CALLER, "a", self.from, d, retry, o, f),
-            Job::Snapshots => snapshots_over(alloc, &CALLER, d, retry, o, f),
-            Job::Restore => restore_over(&self.rt, &CALLER, self.name, self.to, d, retry, o, f),
+            Job::Backup => backup_command(&self.rt, &CALLER, "a", self.from, d, retry, o, f),
+            Job::Snapshots => snapshots_command(alloc, &CALLER, d, retry, o, f),
+            Job::Restore => restore_command(&self.rt, &CALLER, self.name, self.to, d, retry, o, f),
             Job::Forget => {
                 let names = [self.name].to_vec(alloc)?;
-                forget_over(alloc, &CALLER, Choice::Names(names), d, retry, o, f)
+                forget_command(
+                    alloc,
+                    &CALLER,
+                    Choice::Names(Names::of(names)),
+                    d,
+                    retry,
+                    o,
+                    f,
+                )
             }
-            Job::Prune => prune_over(alloc, &CALLER, d, retry, o, f),
-            Job::Check => check_over(alloc, &CALLER, d, retry, o, f),
+            Job::Prune => prune_command(alloc, &CALLER, d, retry, o, f),
+            Job::Check => check_command(alloc, &CALLER, d, retry, o, f),
         };
         Ok(run)
     }
@@ -381,7 +390,7 @@ fn listed(alloc: Global, brings: &[u64], retry: u64) -> Result<(String, usize), 
         dialed: 0,
     };
     let (o, f) = (&mut run.output, &mut run.faults);
-    run.status = snapshots_over(alloc, &CALLER, &mut script, retry, o, f);
+    run.status = snapshots_command(alloc, &CALLER, &mut script, retry, o, f);
     Ok((run.told(alloc)?, script.dialed))
 }
 

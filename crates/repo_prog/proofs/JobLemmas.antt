@@ -1,19 +1,20 @@
--- A job that was brought to its end.
-use Rattle.std.proofs.Common.{◌≡◌, [], ℕ, List, Option, Some, None, Ok, ap, subst}
-use Rattle.std.proofs.lemmas.List.{append-nil}
-use Rattle.std.specs.Io.KnownBytes.{Consumes}
+-- A job that was brought to its end over one connection after another.
+use Rattle.std.proofs.Common.{◌≡◌, ◌≤◌, ◌++◌, ◌∷◌, [], ℕ, List, Option, Some, None, Result, Ok, Err, length, sym, ap, subst, append_assoc, ◌∙◌}
 use Rattle.repo_wire.specs.declared.messages.Ask.{Ask}
 use Rattle.repo_wire.specs.declared.messages.Request.{Request}
+use Rattle.repo_session.specs.declared.driving.DriveError.{DriveError}
 use Rattle.repo_session.specs.declared.outcomes.Outcome.{Outcome}
 use Rattle.repo_session.specs.Clients.{IsObedient}
 use Rattle.repo_session.specs.Order.{Task}
-use Rattle.repo_session.specs.Sessions.{Given, who_in, next_in, ended_in}
-use Rattle.repo_session.specs.Talks.{Said, Drives, trace_of}
+use Rattle.repo_session.specs.Talks.{Talk, Said, Drives, WritesPart, first_carried, trace_of, sent_in}
 use Rattle.repo_session.specs.Traces.{Exchange, Trace}
-use Rattle.repo_session.specs.Askers.{Asker, asker}
+use Rattle.repo_session.proofs.Joining.{driven_said}
+use Rattle.repo_session.proofs.Talking.{whole_part}
 use Rattle.repo_name.specs.declared.names.Name.{Name}
 use Rattle.repo_tree.specs.declared.entries.Entry.{Entry}
 use Rattle.repo_tree.specs.declared.snapshots.Snapshot.{Snapshot}
+use Rattle.repo_session.specs.Askers.{Asker, asker}
+use Rattle.repo_session.specs.Sessions.{Given, who_in, next_in, ended_in}
 use Rattle.repo_backup.specs.BackupObedience.{backup_obeys}
 use Rattle.repo_backup.specs.BackupStates as backing
 use Rattle.repo_backup.specs.Backups.{Handing, FitsBackup, handed_to}
@@ -40,40 +41,91 @@ use Rattle.repo_restore.specs.RestoreStates.{FitsRestore}
 use Rattle.repo_restore.specs.Restoring.{Wish, restore_task, RestoreAllows, RestoreGives, RestoreConcludes}
 use Rattle.repo_restore.specs.declared.listings.SnapshotList.{SnapshotList}
 use Rattle.repo_restore.specs.declared.restores.Restore.{Restore}
-use Rattle.repo_prog.specs.Asking.{streams}
-use Rattle.repo_prog.specs.Jobs.{Checks, Ended, Forgets, Lists, Prunes, Restores, Stores, vault_asker, vault_wish}
 use Rattle.repo_prog.specs.declared.callers.Caller.{Caller}
+use Rattle.repo_prog.specs.Dialing.{Call, Coming, Try, talk_in, talk_over, AreDialed, DrivenOver, TryGives, AreCut, as_try, DrivesAgain}
+use Rattle.repo_prog.specs.Jobs.{vault_asker, vault_wish, BroughtOn, IsBroughtOn, Ended, ListsSnapshots, RestoresSnapshot, Forgets, Prunes, Checks, Stores}
+use Rattle.repo_prog.specs.declared.again.TryError.{TryError}
+use Rattle.repo_prog.proofs.DialLemmas.{trace_of_both, went_driven, went_try, same_try}
 
-ended : {C : Type 0} (Fits : C → Trace → Type 0) (next : C → Option Request) (old new : C) (n : ℕ) (said : Said) (a b start contents shown now : Option (List ℕ))
-    (task : Task) (Allows : Trace → Ask → Type 0) (Gives : Trace → Exchange → Type 0) (Own : Trace → Outcome → Type 0) (reached : Option Outcome) (outcome : Outcome)
-    → Fits old [] → Consumes a b said.bytes → Drives Fits next old (Ok n) new said start contents
-    → ((es : Trace) → Fits new es → IsObedient task Allows Gives Own (next new) reached es) → reached ≡ Some outcome
-    → Ended task Allows Gives Own outcome (streams a start shown) (streams b contents now)
-ended Fits next old new n said a b start contents shown now task Allows Gives Own reached outcome fits read d obeys is =
-    let es : Trace = trace_of said.talk in
-    let here : Fits new es = subst (λ x. Fits new x) (append-nil es) (d.0.fits [] fits) in
-    let P : Option Request → Type 0 = λ x. IsObedient task Allows Gives Own x reached es in
-    let Q : Option Outcome → Type 0 = λ x. IsObedient task Allows Gives Own None x es in
-    record { said = said; read = read; heard = d.3; turns = d.0.turns; sent = d.5; obeyed = subst Q is (subst P d.2 (obeys es here)) }
+-- what was written over a connection
+written : {C : Type 0} (Fits : C → Trace → Type 0) (next : C → Option Request) (old : C) (result : Result ℕ DriveError) (new : C) (said : Said) (start contents : Option (List ℕ))
+    → Drives Fits next old result new said start contents → WritesPart start (sent_in said.talk) (next new) contents
+written Fits next old (Ok n) new said start contents d = whole_part start contents (sent_in said.talk) (next new) d.5
+written Fits next old (Err error) new said start contents d = d.2
 
--- a list of snapshots
-pub listed : (caller : Caller) (old new : SnapshotList) (n : ℕ) (said : Said) (a b start contents shown now : Option (List ℕ)) (rows : List (Name × Snapshot))
-    → FitsList old [] → who_of new ≡ vault_asker caller → Consumes a b said.bytes → Drives FitsList (λ (l : SnapshotList). next_in l.session) old (Ok n) new said start contents
-    → ended_in new.session ≡ Some (Outcome.Listed rows) → Lists caller rows (streams a start shown) (streams b contents now)
-listed caller old new n said a b start contents shown now rows fits who read d is =
-    let P : Trace → Asker → Type 0 = λ es w. IsObedient (list_task w) (ListAllows w) (ListGives w) (ListConcludes w) (next_in new.session) (ended_in new.session) es in
-    let w : Asker = vault_asker caller in
-    ended FitsList (λ (l : SnapshotList). next_in l.session) old new n said a b start contents shown now (list_task w) (ListAllows w) (ListGives w) (ListConcludes w)
-    (ended_in new.session) (Outcome.Listed rows) fits read d (λ es f. subst (P es) who (list_obeys new es f)) is
+-- what was pending went first
+first : {C : Type 0} (Fits : C → Trace → Type 0) (next : C → Option Request) (old : C) (result : Result ℕ DriveError) (new : C) (said : Said) (start contents : Option (List ℕ))
+    → Drives Fits next old result new said start contents → first_carried (sent_in said.talk) (next new) ≡ next old
+first Fits next old (Ok n) new said start contents d = d.6
+first Fits next old (Err error) new said start contents d = d.3
 
--- a restore
-pub restored : (caller : Caller) (name : Name) (old new : Restore) (n : ℕ) (said : Said) (a b start contents shown now : Option (List ℕ)) (entries : ℕ)
-    → FitsRestore old [] → wish_of new ≡ vault_wish caller name → Consumes a b said.bytes → Drives FitsRestore (λ (r : Restore). next_in r.session) old (Ok n) new said start contents
-    → ended_in new.session ≡ Some (Outcome.Complete entries) → Restores caller name entries (streams a start shown) (streams b contents now)
-restored caller name old new n said a b start contents shown now entries fits wish read d is =
-    let P : Trace → Wish → Type 0 = λ es w. IsObedient (restore_task w) (RestoreAllows w.snapshot) (RestoreGives w.snapshot) (RestoreConcludes w.snapshot) (next_in new.session) (ended_in new.session) es in
-    ended FitsRestore (λ (r : Restore). next_in r.session) old new n said a b start contents shown now (restore_task (vault_wish caller name)) (RestoreAllows name) (RestoreGives name) (RestoreConcludes name)
-    (ended_in new.session) (Outcome.Complete entries) fits read d (λ es f. subst (P es) wish (restore_obeys new es f)) is
+module _ {C J : Type 0} (job : C → J) (Fits : C → Trace → Type 0) (next : C → Option Request) (reached : C → Option Outcome)
+    (task : Task) (Allows : Trace → Ask → Type 0) (Gives : Trace → Exchange → Type 0) (Own : Trace → Outcome → Type 0) where
+  -- over one connection
+  brought : (old new : C) (earlier : Talk) (call : Call) (result : Result ℕ DriveError) → DrivenOver job Fits next old call result new → Fits old (trace_of earlier)
+      → ((es : Trace) → Fits new es → IsObedient task Allows Gives Own (next new) (reached new) es) → BroughtOn task Allows Gives Own earlier (next old) call (next new) (reached new)
+  brought old new earlier call result d fits obeys =
+      let said : Said = call.said in
+      let is = driven_said Fits next old result new said call.came.sent call.left.sent d.drives in
+      let went = went_driven Fits next old result new said call.came.sent call.left.sent d.drives in
+      let here : Fits new (trace_of (said.talk ++ earlier)) = subst (λ x. Fits new x) (sym (trace_of_both said.talk earlier)) (went.fits (trace_of earlier) fits) in
+      record {
+        read = d.read;
+        heard = is.1;
+        turns = is.0;
+        sent = written Fits next old result new said call.came.sent call.left.sent d.drives;
+        first = first Fits next old result new said call.came.sent call.left.sent d.drives;
+        obeyed = obeys (trace_of (said.talk ++ earlier)) here;
+      }
+
+  -- after tries that were cut off the client stands where they lead
+  fits_cut : (old : C) (tries : List Try) (new : C) → AreCut job Fits next old tries new → Fits old [] → Fits new (trace_of (talk_over tries))
+  fits_cut old [] new h fits = subst (λ c. Fits c []) (sym h) fits
+  fits_cut old (try ∷ tries) new h fits =
+      let went = went_try job Fits next h.0 try (Err h.2.0) new h.2.1 in
+      subst (λ x. Fits new x) (sym (trace_of_both (talk_in try) (talk_over tries))) (went.fits (trace_of (talk_over tries)) (fits_cut old tries h.0 h.1 fits))
+
+  same_cut : (old : C) (tries : List Try) (new : C) → AreCut job Fits next old tries new → job new ≡ job old
+  same_cut old [] new h = ap job h
+  same_cut old (try ∷ tries) new h = same_try job Fits next h.0 try (Err h.2.0) new h.2.1 ∙ same_cut old tries h.0 h.1
+
+  module _ (old : C) (obeys : (c : C) → job c ≡ job old → (es : Trace) → Fits c es → IsObedient task Allows Gives Own (next c) (reached c) es) (fits : Fits old []) where
+    brought_cut : (tries : List Try) (new : C) → AreCut job Fits next old tries new → IsBroughtOn task Allows Gives Own (next old) tries (next new)
+    brought_cut [] new h = ap next h
+    brought_cut (None ∷ tries) new h = subst (λ c. IsBroughtOn task Allows Gives Own (next old) tries (next c)) (sym h.2.1.1) (brought_cut tries h.0 h.1)
+    brought_cut (Some call ∷ tries) new h =
+        let mid = h.0 in
+        let same = same_try job Fits next mid (Some call) (Err h.2.0) new h.2.1 ∙ same_cut old tries mid h.1 in (
+          next mid,
+          (reached new, brought mid new (talk_over tries) call h.2.1.0 h.2.1.1 (fits_cut old tries mid h.1 fits) (obeys new same)),
+          brought_cut tries mid h.1,
+        )
+
+    -- the last try brought it to its end
+    ended_by : (retry n : ℕ) (mid new : C) (coming after : Coming) (outcome : Outcome) (cut : List Try) (last : Try) → AreCut job Fits next old cut mid
+        → TryGives job Fits next mid last (Ok n) new → AreDialed coming (last ∷ cut) after → length cut ≤ retry → reached new ≡ Some outcome → Ended task Allows Gives Own outcome retry coming after
+    ended_by retry n mid new coming after outcome cut None before gives dialed few is = let e = gives.0 in absurd (cc)
+    ended_by retry n mid new coming after outcome cut (Some call) before (Err error, driven, told) dialed few is = absurd (cc)
+    ended_by retry n mid new coming after outcome cut (Some call) before (Ok m, driven, told) dialed few is =
+        let same = driven.same ∙ same_cut old cut mid before in
+        let b = brought mid new (talk_over cut) call (Ok m) driven (fits_cut old cut mid before fits) (obeys new same) in
+        let P : Option Request → Option Outcome → Type 0 = λ x y. BroughtOn task Allows Gives Own (talk_over cut) (next mid) call x y in
+        record {
+          cut = cut;
+          last = call;
+          few = few;
+          dialed = dialed;
+          begun = next old;
+          waiting = next mid;
+          before = brought_cut cut mid before;
+          ended = subst (λ x. P x (Some outcome)) driven.drives.2 (subst (λ y. P (next new) y) is b);
+        }
+
+    pub ended_over : (retry n : ℕ) (new : C) (coming after : Coming) (outcome : Outcome) → DrivesAgain job Fits next retry old (Ok n) new coming after → reached new ≡ Some outcome
+        → Ended task Allows Gives Own outcome retry coming after
+    ended_over retry n new coming after outcome d is = ended_by retry n d.mid new coming after outcome d.cut d.last d.before d.gives d.dialed d.few is
+
+-- ---- what a job was made for
 
 -- what a restore was made for
 pub same_wish : (r : Restore) (caller : Caller) (name : Name) → (wish_of r).who ≡ vault_asker caller → (wish_of r).snapshot ≡ name → wish_of r ≡ vault_wish caller name
@@ -90,15 +142,6 @@ pub same_handing : (b : Backup) (caller : Caller) (host : List ℕ) (entries : L
     → handing_of b ≡ handing caller host entries
 same_handing b caller host entries who handed = λ i. record { who = who i; entries = handed i }
 
--- a backup
-pub stored : (caller : Caller) (host : List ℕ) (entries : List Entry) (old new : Backup) (n : ℕ) (said : Said) (a b start contents shown now : Option (List ℕ)) (name : Name) (blobs bytes : ℕ)
-    → FitsBackup old [] → handing_of new ≡ handing caller host entries → Consumes a b said.bytes → Drives FitsBackup (λ (c : Backup). next_in c.session) old (Ok n) new said start contents
-    → ended_in new.session ≡ Some (Outcome.Stored name blobs bytes) → Stores caller host entries name blobs bytes (streams a start shown) (streams b contents now)
-stored caller host entries old new n said a b start contents shown now name blobs bytes fits job read d is =
-    let P : Trace → Handing → Type 0 = λ es j. IsObedient (backing.backup_task j.who) (backup.Allows j.entries) (backup.GivesNothing j.entries) (backup.Ends j.entries) (next_in new.session) (ended_in new.session) es in
-    ended FitsBackup (λ (c : Backup). next_in c.session) old new n said a b start contents shown now (backing.backup_task (asker caller.instance host caller.time)) (backup.Allows entries) (backup.GivesNothing entries) (backup.Ends entries)
-    (ended_in new.session) (Outcome.Stored name blobs bytes) fits read d (λ es f. subst (P es) job (backup_obeys new es f)) is
-
 -- what a forget was made for
 abbrev pub choosing_of : Forget → Given Choice
 choosing_of f = record { who = forgetting.who_of f; handed = forgetting.choice_of f }
@@ -109,29 +152,59 @@ choosing caller choice = record { who = vault_asker caller; handed = choice }
 pub same_choosing : (f : Forget) (caller : Caller) (choice : Choice) → forgetting.who_of f ≡ vault_asker caller → forgetting.choice_of f ≡ choice → choosing_of f ≡ choosing caller choice
 same_choosing f caller choice who handed = λ i. record { who = who i; handed = handed i }
 
+-- ---- the jobs
+
+-- a list of snapshots
+pub listed : (caller : Caller) (retry n : ℕ) (old new : SnapshotList) (coming after : Coming) (rows : List (Name × Snapshot))
+    → FitsList old [] → who_of old ≡ vault_asker caller → DrivesAgain who_of FitsList (λ (l : SnapshotList). next_in l.session) retry old (Ok n) new coming after
+    → ended_in new.session ≡ Some (Outcome.Listed rows) → ListsSnapshots caller rows retry coming after
+listed caller retry n old new coming after rows fits who d is =
+    let P : SnapshotList → Trace → Asker → Type 0 = λ l es w. IsObedient (list_task w) (ListAllows w) (ListGives w) (ListConcludes w) (next_in l.session) (ended_in l.session) es in
+    let w : Asker = vault_asker caller in
+    ended_over who_of FitsList (λ (l : SnapshotList). next_in l.session) (λ (l : SnapshotList). ended_in l.session) (list_task w) (ListAllows w) (ListGives w) (ListConcludes w)
+    old (λ l same es f. subst (P l es) (same ∙ who) (list_obeys l es f)) fits retry n new coming after (Outcome.Listed rows) d is
+
+-- a restore
+pub restored : (caller : Caller) (name : Name) (retry n : ℕ) (old new : Restore) (coming after : Coming) (entries : ℕ)
+    → FitsRestore old [] → wish_of old ≡ vault_wish caller name → DrivesAgain wish_of FitsRestore (λ (r : Restore). next_in r.session) retry old (Ok n) new coming after
+    → ended_in new.session ≡ Some (Outcome.Complete entries) → RestoresSnapshot caller name entries retry coming after
+restored caller name retry n old new coming after entries fits wish d is =
+    let P : Restore → Trace → Wish → Type 0 = λ r es w. IsObedient (restore_task w) (RestoreAllows w.snapshot) (RestoreGives w.snapshot) (RestoreConcludes w.snapshot) (next_in r.session) (ended_in r.session) es in
+    ended_over wish_of FitsRestore (λ (r : Restore). next_in r.session) (λ (r : Restore). ended_in r.session) (restore_task (vault_wish caller name)) (RestoreAllows name) (RestoreGives name) (RestoreConcludes name)
+    old (λ r same es f. subst (P r es) (same ∙ wish) (restore_obeys r es f)) fits retry n new coming after (Outcome.Complete entries) d is
+
+-- a backup
+pub stored : (caller : Caller) (host : List ℕ) (entries : List Entry) (retry n : ℕ) (old new : Backup) (coming after : Coming) (name : Name) (blobs bytes : ℕ)
+    → FitsBackup old [] → handing_of old ≡ handing caller host entries → DrivesAgain handing_of FitsBackup (λ (b : Backup). next_in b.session) retry old (Ok n) new coming after
+    → ended_in new.session ≡ Some (Outcome.Stored name blobs bytes) → Stores caller host entries name blobs bytes retry coming after
+stored caller host entries retry n old new coming after name blobs bytes fits job d is =
+    let P : Backup → Trace → Handing → Type 0 = λ b es j. IsObedient (backing.backup_task j.who) (backup.BackupAllows j.entries) (backup.BackupGives j.entries) (backup.BackupConcludes j.entries) (next_in b.session) (ended_in b.session) es in
+    ended_over handing_of FitsBackup (λ (b : Backup). next_in b.session) (λ (b : Backup). ended_in b.session) (backing.backup_task (asker caller.instance host caller.time)) (backup.BackupAllows entries) (backup.BackupGives entries) (backup.BackupConcludes entries)
+    old (λ b same es f. subst (P b es) (same ∙ job) (backup_obeys b es f)) fits retry n new coming after (Outcome.Stored name blobs bytes) d is
+
 -- a forget
-pub forgotten : (caller : Caller) (choice : Choice) (old new : Forget) (n : ℕ) (said : Said) (a b start contents shown now : Option (List ℕ)) (names : List Name)
-    → forgetting.FitsForget old [] → choosing_of new ≡ choosing caller choice → Consumes a b said.bytes → Drives forgetting.FitsForget (λ (f : Forget). next_in f.session) old (Ok n) new said start contents
-    → ended_in new.session ≡ Some (Outcome.Forgotten names) → Forgets caller choice names (streams a start shown) (streams b contents now)
-forgotten caller choice old new n said a b start contents shown now names fits job read d is =
-    let P : Trace → Given Choice → Type 0 = λ es j. IsObedient (forget_task j.who) (ForgetAllows j.handed) (ForgetGives j.handed) (ForgetConcludes j.handed) (next_in new.session) (ended_in new.session) es in
-    ended forgetting.FitsForget (λ (f : Forget). next_in f.session) old new n said a b start contents shown now (forget_task (vault_asker caller)) (ForgetAllows choice) (ForgetGives choice) (ForgetConcludes choice)
-    (ended_in new.session) (Outcome.Forgotten names) fits read d (λ es f. subst (P es) job (forget_obeys new es f)) is
+pub forgotten : (caller : Caller) (choice : Choice) (retry n : ℕ) (old new : Forget) (coming after : Coming) (names : List Name)
+    → forgetting.FitsForget old [] → choosing_of old ≡ choosing caller choice → DrivesAgain choosing_of forgetting.FitsForget (λ (f : Forget). next_in f.session) retry old (Ok n) new coming after
+    → ended_in new.session ≡ Some (Outcome.Forgotten names) → Forgets caller choice names retry coming after
+forgotten caller choice retry n old new coming after names fits job d is =
+    let P : Forget → Trace → Given Choice → Type 0 = λ f es j. IsObedient (forget_task j.who) (ForgetAllows j.handed) (ForgetGives j.handed) (ForgetConcludes j.handed) (next_in f.session) (ended_in f.session) es in
+    ended_over choosing_of forgetting.FitsForget (λ (f : Forget). next_in f.session) (λ (f : Forget). ended_in f.session) (forget_task (vault_asker caller)) (ForgetAllows choice) (ForgetGives choice) (ForgetConcludes choice)
+    old (λ f same es h. subst (P f es) (same ∙ job) (forget_obeys f es h)) fits retry n new coming after (Outcome.Forgotten names) d is
 
 -- a prune
-pub pruned : (caller : Caller) (old new : Prune) (n : ℕ) (said : Said) (a b start contents shown now : Option (List ℕ)) (packs bytes : ℕ)
-    → pruning.FitsPrune old [] → pruning.pruner_of new ≡ vault_asker caller → Consumes a b said.bytes → Drives pruning.FitsPrune (λ (p : Prune). next_in p.session) old (Ok n) new said start contents
-    → ended_in new.session ≡ Some (Outcome.Pruned packs bytes) → Prunes caller packs bytes (streams a start shown) (streams b contents now)
-pruned caller old new n said a b start contents shown now packs bytes fits who read d is =
-    let P : Trace → Asker → Type 0 = λ es w. IsObedient (prune_task w) PruneAllows PruneGives PruneConcludes (next_in new.session) (ended_in new.session) es in
-    ended pruning.FitsPrune (λ (p : Prune). next_in p.session) old new n said a b start contents shown now (prune_task (vault_asker caller)) PruneAllows PruneGives PruneConcludes
-    (ended_in new.session) (Outcome.Pruned packs bytes) fits read d (λ es f. subst (P es) who (prune_obeys new es f)) is
+pub pruned : (caller : Caller) (retry n : ℕ) (old new : Prune) (coming after : Coming) (packs bytes : ℕ)
+    → pruning.FitsPrune old [] → pruning.pruner_of old ≡ vault_asker caller → DrivesAgain pruning.pruner_of pruning.FitsPrune (λ (p : Prune). next_in p.session) retry old (Ok n) new coming after
+    → ended_in new.session ≡ Some (Outcome.Pruned packs bytes) → Prunes caller packs bytes retry coming after
+pruned caller retry n old new coming after packs bytes fits who d is =
+    let P : Prune → Trace → Asker → Type 0 = λ p es w. IsObedient (prune_task w) PruneAllows PruneGives PruneConcludes (next_in p.session) (ended_in p.session) es in
+    ended_over pruning.pruner_of pruning.FitsPrune (λ (p : Prune). next_in p.session) (λ (p : Prune). ended_in p.session) (prune_task (vault_asker caller)) PruneAllows PruneGives PruneConcludes
+    old (λ p same es f. subst (P p es) (same ∙ who) (prune_obeys p es f)) fits retry n new coming after (Outcome.Pruned packs bytes) d is
 
 -- a check
-pub checked : (caller : Caller) (old new : Check) (n : ℕ) (said : Said) (a b start contents shown now : Option (List ℕ)) (outcome : Outcome)
-    → checking.FitsCheck old [] → checking.checker_of new ≡ vault_asker caller → Consumes a b said.bytes → Drives checking.FitsCheck (λ (c : Check). next_in c.session) old (Ok n) new said start contents
-    → ended_in new.session ≡ Some outcome → Checks caller outcome (streams a start shown) (streams b contents now)
-checked caller old new n said a b start contents shown now outcome fits who read d is =
-    let P : Trace → Asker → Type 0 = λ es w. IsObedient (check_task w) CheckAllows CheckGives CheckConcludes (next_in new.session) (ended_in new.session) es in
-    ended checking.FitsCheck (λ (c : Check). next_in c.session) old new n said a b start contents shown now (check_task (vault_asker caller)) CheckAllows CheckGives CheckConcludes
-    (ended_in new.session) outcome fits read d (λ es f. subst (P es) who (check_obeys new es f)) is
+pub checked : (caller : Caller) (retry n : ℕ) (old new : Check) (coming after : Coming) (outcome : Outcome)
+    → checking.FitsCheck old [] → checking.checker_of old ≡ vault_asker caller → DrivesAgain checking.checker_of checking.FitsCheck (λ (c : Check). next_in c.session) retry old (Ok n) new coming after
+    → ended_in new.session ≡ Some outcome → Checks caller outcome retry coming after
+checked caller retry n old new coming after outcome fits who d is =
+    let P : Check → Trace → Asker → Type 0 = λ c es w. IsObedient (check_task w) CheckAllows CheckGives CheckConcludes (next_in c.session) (ended_in c.session) es in
+    ended_over checking.checker_of checking.FitsCheck (λ (c : Check). next_in c.session) (λ (c : Check). ended_in c.session) (check_task (vault_asker caller)) CheckAllows CheckGives CheckConcludes
+    old (λ c same es f. subst (P c es) (same ∙ who) (check_obeys c es f)) fits retry n new coming after outcome d is

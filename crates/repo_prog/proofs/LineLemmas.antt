@@ -1,7 +1,7 @@
 use Rattle.std.proofs.Common.{◌≡◌, ◌≢◌, ◌+◌, ◌++◌, ◌∷◌, [], ℕ, List, Ok, refl, sym, ap, inl, inr, ◌∙◌, append_assoc}
 use Rattle.std.proofs.lemmas.List.{append-nil}
 use Rattle.hex.specs.Hex.{decode_of}
-use Rattle.repo_prog.specs.HexLines.{line_feed, IsLine, AreLines, Spell}
+use Rattle.repo_prog.specs.HexLines.{line_feed, IsHexLine, AreLines, Spell}
 
 not_empty : (lines : List (List ℕ)) (line : List ℕ) → lines ++ line ∷ [] ≡ [] → ⊥
 not_empty [] line h = absurd (cc)
@@ -20,13 +20,13 @@ cons_not_empty [] b after h = absurd (cc)
 cons_not_empty (x ∷ line) b after h = absurd (cc)
 
 -- one more line that ends at a line feed
-pub line_ended : (input : List ℕ) (lines : List (List ℕ)) (line after : List ℕ) → IsLine line → AreLines input lines (line ++ line_feed ∷ after) → AreLines input (lines ++ line ∷ []) after
+pub line_ended : (input : List ℕ) (lines : List (List ℕ)) (line after : List ℕ) → IsHexLine line → AreLines input lines (line ++ line_feed ∷ after) → AreLines input (lines ++ line ∷ []) after
 line_ended input [] line after is h = (is, inl (after, sym h, refl))
 line_ended input (l ∷ lines) line after is (was, inl more) = (was, inl (more.0, more.1, line_ended more.0 lines line after is more.2))
 line_ended input (l ∷ lines) line after is (was, inr last) = absurd (cons_not_empty line line_feed after last.3)
 
 -- the last line, which ends at the input's end
-pub last_line : (input : List ℕ) (lines : List (List ℕ)) (line : List ℕ) → IsLine line → line ≢ [] → AreLines input lines line → AreLines input (lines ++ line ∷ []) []
+pub last_line : (input : List ℕ) (lines : List (List ℕ)) (line : List ℕ) → IsHexLine line → line ≢ [] → AreLines input lines line → AreLines input (lines ++ line ∷ []) []
 last_line input [] line is some h = (is, inr (some, sym h, refl, refl))
 last_line input (l ∷ lines) line is some (was, inl more) = (was, inl (more.0, more.1, last_line more.0 lines line is some more.2))
 last_line input (l ∷ lines) line is some (was, inr last) = absurd (some last.3)
@@ -37,6 +37,6 @@ spell_more [] bytes line more h d = (more, [], d, refl, ap (λ x. x ++ more) h �
 spell_more (l ∷ lines) bytes line more h d = (h.0, h.1 ++ more, h.2, spell_more lines h.1 line more h.3 d, ap (λ x. x ++ more) h.4 ∙ append_assoc h.0 h.1 more)
 
 -- one more byte of a line
-pub line_more : (line : List ℕ) (b : ℕ) → IsLine line → b ≢ line_feed → IsLine (line ++ b ∷ [])
+pub line_more : (line : List ℕ) (b : ℕ) → IsHexLine line → b ≢ line_feed → IsHexLine (line ++ b ∷ [])
 line_more [] b h other = (other, tt)
 line_more (x ∷ line) b h other = (h.0, line_more line b h.1 other)

@@ -5,15 +5,15 @@ use Rattle.repo_store.specs.declared.forms.ServiceError.{ServiceError}
 use Rattle.repo_store.specs.declared.memory.MemShelf.{MemShelf}
 use Rattle.repo_store.specs.declared.services.Service.{Service}
 use Rattle.repo_store.specs.Memory.{store_of}
-use Rattle.repo_store.specs.Services.{nothing, Rests, Ends, EndsBy, AnswersAll, Finishes}
+use Rattle.repo_store.specs.Services.{nothing, Rests, ServiceEnds, EndsBy, AnswersAll, Finishes}
 use Rattle.repo_store.specs.Serving.{Past, seen}
 use Rattle.repo_store.specs.Stores.{Store, empty}
 use Rattle.repo_store.proofs.ServiceLemmas.{whole_served, all_served}
 use Rattle.repo_prog.specs.declared.errors.FramesError.{FramesError}
 use Rattle.repo_prog.specs.declared.output.HexLine.{HexLine}
 use Rattle.repo_prog.specs.declared.talks.Talk.{Talk}
-use Rattle.repo_prog.specs.FramesRun.{AllTold, SomeTold, Gives}
-use Rattle.repo_prog.specs.HexLines.{AreLines, IsLine, Spell, hex_line, line_feed}
+use Rattle.repo_prog.specs.FramesRun.{AllTold, SomeTold, FramesGive}
+use Rattle.repo_prog.specs.HexLines.{AreLines, IsHexLine, Spell, hex_line, line_feed}
 use Rattle.repo_prog.specs.Talks.{Talks, TalksInside, LineGives, BytesGive, EndGives, frames_error}
 use Rattle.repo_prog.proofs.LineLemmas.{line_more}
 
@@ -36,19 +36,19 @@ whole_told start talk lines past contents talks = record {
 
 -- no memory, after all lines were written
 pub memory_told : (input rest : List ℕ) (start : Option (List ℕ)) (talk : Talk) (lines : List (List ℕ)) (past : Past) (contents : Option (List ℕ)) → AreLines input lines rest
-    → Talks start talk lines past contents → Gives input start (Err FramesError.Memory) contents
+    → Talks start talk lines past contents → FramesGive input start (Err FramesError.Memory) contents
 memory_told input rest start talk lines past contents are talks = (lines, past, rest, are, whole_told start talk lines past contents talks)
 
 -- why the service ended is why the talk does
 ended_past : (error : ServiceError) (input rest : List ℕ) (start : Option (List ℕ)) (lines : List (List ℕ)) (past : Past) (last : Store) (contents : Option (List ℕ))
-    → AreLines input lines rest → Spell lines past.bytes → EndsBy hex_line error (seen empty 0 start) past (seen last 0 contents) → Gives input start (Err (frames_error error)) contents
+    → AreLines input lines rest → Spell lines past.bytes → EndsBy hex_line error (seen empty 0 start) past (seen last 0 contents) → FramesGive input start (Err (frames_error error)) contents
 ended_past (ServiceError.Wire fault) input rest start lines past last contents are spelled ends = (lines, past, rest, are, record { spelled = spelled; last = last; served = ends })
 ended_past ServiceError.Write input rest start lines past last contents are spelled ends = (lines, past, rest, are, record { spelled = spelled; last = last; served = ends })
 ended_past ServiceError.Limit input rest start lines past last contents are spelled ends = (lines, past, rest, are, record { spelled = spelled; last = last; served = ends.0 }, inl ends.1)
 ended_past ServiceError.Memory input rest start lines past last contents are spelled ends = (lines, past, rest, are, record { spelled = spelled; last = last; served = ends })
 
 pub ended_told : (error : ServiceError) (input rest : List ℕ) (start : Option (List ℕ)) (lines : List (List ℕ)) (bytes : List ℕ) (last : Store) (contents : Option (List ℕ))
-    → AreLines input lines rest → Spell lines bytes → Ends hex_line error (seen empty 0 start) bytes (seen last 0 contents) → Gives input start (Err (frames_error error)) contents
+    → AreLines input lines rest → Spell lines bytes → ServiceEnds hex_line error (seen empty 0 start) bytes (seen last 0 contents) → FramesGive input start (Err (frames_error error)) contents
 ended_told error input rest start lines bytes last contents are spelled ends =
     let P : List ℕ → Type 0 = λ x. Spell lines x in
     ended_past error input rest start lines ends.0 last contents are (subst P (sym ends.1) spelled) ends.2
@@ -64,7 +64,7 @@ line_answered start talk lines bytes contents spelled number a =
 pub ended_goes : (input ahead : List ℕ) (start : Option (List ℕ)) (new : Talk) (lines : List (List ℕ)) (result : Result (Unit {0}) FramesError) (contents : Option (List ℕ))
     → AreLines input lines ahead → OnOk result (new.line.items ≡ []) → LineGives input start lines result new contents → BytesGive input start result new ahead contents
 ended_goes input ahead start new lines (Ok done) contents ended none h =
-    let P : List ℕ → Type 0 = λ line. IsLine line in
+    let P : List ℕ → Type 0 = λ line. IsHexLine line in
     let Q : List ℕ → Type 0 = λ line. AreLines input lines (line ++ ahead) in
     (lines, h.0, record { talks = h.1; line = subst P (sym none) tt; are = subst Q (sym none) ended })
 ended_goes input ahead start new lines (Err error) contents ended none h = h
@@ -80,7 +80,7 @@ pub byte_taken : (input ahead : List ℕ) (start : Option (List ℕ)) (old new :
     → new.line.items ≡ old.line.items ++ byte ∷ [] → new.service ≡ old.service → new.shelf ≡ old.shelf → new.number ≡ old.number
     → TalksInside input start old lines past (byte ∷ ahead) contents → TalksInside input start new lines past ahead contents
 byte_taken input ahead start old new lines past contents byte other line service shelf number r =
-    let P : List ℕ → Type 0 = λ x. IsLine x in
+    let P : List ℕ → Type 0 = λ x. IsHexLine x in
     let Q : List ℕ → Type 0 = λ x. AreLines input lines x in
     let R : Service HexLine → Type 0 = λ s. Rests hex_line (seen empty 0 start) s past (seen (store_of new.shelf) 0 contents) in
     let S : MemShelf → Type 0 = λ s. Rests hex_line (seen empty 0 start) old.service past (seen (store_of s) 0 contents) in
@@ -93,12 +93,12 @@ byte_taken input ahead start old new lines past contents byte other line service
 -- a new talk is before the input
 pub begun : (input : List ℕ) (start : Option (List ℕ)) (talk : Talk) → Talks start talk [] nothing start → talk.line.items ≡ [] → TalksInside input start talk [] nothing input start
 begun input start talk talks none =
-    let P : List ℕ → Type 0 = λ line. IsLine line in
+    let P : List ℕ → Type 0 = λ line. IsHexLine line in
     let Q : List ℕ → Type 0 = λ line. AreLines input [] (line ++ input) in
     record { talks = talks; line = subst P (sym none) tt; are = subst Q (sym none) refl }
 
 -- what the end of the service's stream gives is what the talk gives
 pub finish_told : (input : List ℕ) (start : Option (List ℕ)) (lines : List (List ℕ)) (past : Past) (last : Store) (contents : Option (List ℕ)) (found : Option ℕ) → AreLines input lines []
-    → Spell lines past.bytes → Finishes hex_line (seen empty 0 start) past found (seen last 0 contents) → Gives input start (ok_or found FramesError.Inside) contents
+    → Spell lines past.bytes → Finishes hex_line (seen empty 0 start) past found (seen last 0 contents) → FramesGive input start (ok_or found FramesError.Inside) contents
 finish_told input start lines past last contents (Some n) are spelled h = (lines, past, are, record { spelled = spelled; last = last; served = h.1 }, h.0)
 finish_told input start lines past last contents None are spelled h = (lines, past, h.0, are, h.1, record { spelled = spelled; last = last; served = h.2 })

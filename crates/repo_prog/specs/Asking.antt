@@ -89,5 +89,5 @@ abbrev pub RemovesNone : Caller → Streams → Status → Streams → Type 0
 RemovesNone caller old status new = (status ≡ Status.Failed) × ((answer : Result Reply DriveError) × HeardOf (request_of caller 1 Ask.Locks) old answer new)
 
 -- what unlocking gives: the locks chosen of those listed were removed, or some first ones; or it failed before that
-abbrev pub Unlocks : Caller → Bool → Streams → Status → Streams → Type 0
-Unlocks caller all old status new = RemovesChosen caller all old status new ⊎ RemovesNone caller old status new
+abbrev pub RemovesLocks : Caller → Bool → Streams → Status → Streams → Type 0
+RemovesLocks caller all old status new = RemovesChosen caller all old status new ⊎ RemovesNone caller old status new

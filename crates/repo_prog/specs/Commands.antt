@@ -15,7 +15,7 @@ use Rattle.repo_prog.specs.declared.errands.Errand.{Errand}
 use Rattle.repo_prog.specs.declared.errors.FramesError.{FramesError}
 use Rattle.repo_prog.specs.declared.status.Status.{Status}
 use Rattle.repo_prog.specs.declared.words.Order.{Order}
-use Rattle.repo_prog.specs.FramesRun.{Gives}
+use Rattle.repo_prog.specs.FramesRun.{FramesGive}
 use Rattle.repo_prog.specs.HexLines.{line_feed}
 
 -- the exit status of each end
@@ -33,11 +33,11 @@ IsEnd Status.Usage = ⊥
 IsEnd Status.Flawed = ⊥
 
 -- a command did what was asked: it is done, or done and something isn't as it should be
-abbrev pub IsKept : Status → Type 0
-IsKept Status.Done = ⊤
-IsKept Status.Flawed = ⊤
-IsKept Status.Failed = ⊥
-IsKept Status.Usage = ⊥
+abbrev pub IsStoredStatus : Status → Type 0
+IsStoredStatus Status.Done = ⊤
+IsStoredStatus Status.Flawed = ⊤
+IsStoredStatus Status.Failed = ⊥
+IsStoredStatus Status.Usage = ⊥
 
 -- an errand within its limits
 abbrev pub IsErrand : Errand → Type 0
@@ -61,10 +61,17 @@ IsOrder (Order.Init folder making) = IsTarget making.target
 IsOrder (Order.Serve folder address serving) = (1 ≤ serving.connections) × IsIdle serving.idle
 IsOrder (Order.Client address errand retry) = IsErrand errand
 
+-- an order that reads the input
+abbrev pub IsReading : Order → Type 0
+IsReading Order.Frames = ⊤
+IsReading (Order.Init folder making) = ⊥
+IsReading (Order.Serve folder address serving) = ⊥
+IsReading (Order.Client address errand retry) = ⊥
+
 -- what the command gives for this input: all that was asked, or what one of the errors leaves
 abbrev pub FramesGives : List ℕ → Option (List ℕ) → Status → Option (List ℕ) → Type 0
-FramesGives input start Status.Done contents = (n : ℕ) × Gives input start (Ok n) contents
-FramesGives input start Status.Failed contents = (error : FramesError) × Gives input start (Err error) contents
+FramesGives input start Status.Done contents = (n : ℕ) × FramesGive input start (Ok n) contents
+FramesGives input start Status.Failed contents = (error : FramesError) × FramesGive input start (Err error) contents
 FramesGives input start Status.Usage contents = ⊥
 FramesGives input start Status.Flawed contents = ⊥
 

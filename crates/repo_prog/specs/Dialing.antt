@@ -8,34 +8,39 @@ use Rattle.repo_session.specs.Traces.{Trace}
 use Rattle.repo_prog.specs.declared.again.TryError.{TryError}
 
 -- the ends of a connection: what its reader will still give, and what was written to its writer, where that is known
-pub record Ends : Type 0 where
+pub record ConnectionEnds : Type 0 where
   pub ahead : Option (List ℕ)
   pub sent : Option (List ℕ)
 
-abbrev pub ends : Option (List ℕ) → Option (List ℕ) → Ends
+abbrev pub ends : Option (List ℕ) → Option (List ℕ) → ConnectionEnds
 ends ahead sent = record { ahead = ahead; sent = sent }
 
 -- the connections that will be had, one for each time that one is asked for, or none, where that is known
 abbrev pub Coming : Type 0
-Coming = Option (List (Option Ends))
+Coming = Option (List (Option ConnectionEnds))
+
+-- those of a connection that is there already: it, and none once it was had
+abbrev pub coming_once : {R W : Type 0} → (R → Option (List ℕ)) → (W → Option (List ℕ)) → Option (R × W) → Coming
+coming_once ahead sent None = Some []
+coming_once ahead sent (Some pair) = Some (Some (ends (ahead pair.0) (sent pair.1)) ∷ [])
 
 -- one that was asked for is the next of those that were coming
-abbrev pub Dials : Coming → Option Ends → Coming → Type 0
+abbrev pub Dials : Coming → Option ConnectionEnds → Coming → Type 0
 Dials None dialed after = ⊤
 Dials (Some []) dialed after = (dialed ≡ None) × (after ≡ Some [])
 Dials (Some (next ∷ coming)) dialed after = (dialed ≡ next) × (after ≡ Some coming)
 
 -- a connection that was had: its ends as they came, what was said over it, and its ends as they were left
 pub record Call : Type 0 where
-  pub came : Ends
+  pub came : ConnectionEnds
   pub said : Said
-  pub left : Ends
+  pub left : ConnectionEnds
 
 -- a try: a connection that was had, or none
 abbrev pub Try : Type 0
 Try = Option Call
 
-abbrev pub dialed_in : Try → Option Ends
+abbrev pub dialed_in : Try → Option ConnectionEnds
 dialed_in None = None
 dialed_in (Some call) = Some call.came
 

@@ -18,23 +18,23 @@ pub record SomeTold (start : Option (List ℕ)) (lines : List (List ℕ)) (past 
   pub served : SomeServed hex_line (seen empty 0 start) past (seen last 0 contents)
 
 -- what is given for this input, by what is returned
-abbrev pub Gives : List ℕ → Option (List ℕ) → Result ℕ FramesError → Option (List ℕ) → Type 0
+abbrev pub FramesGive : List ℕ → Option (List ℕ) → Result ℕ FramesError → Option (List ℕ) → Type 0
 -- all lines, all requests, and the input ends between frames
-Gives input start (Ok n) contents = (lines : List (List ℕ)) × (past : Past) × AreLines input lines [] × AllTold start lines past (Waits []) contents × (n ≡ length past.asked)
+FramesGive input start (Ok n) contents = (lines : List (List ℕ)) × (past : Past) × AreLines input lines [] × AllTold start lines past (Waits []) contents × (n ≡ length past.asked)
 -- the lines before this one, and it isn't hexadecimal
-Gives input start (Err (FramesError.Hex n)) contents =
+FramesGive input start (Err (FramesError.Hex n)) contents =
     (lines : List (List ℕ)) × (past : Past) × (line rest unread : List ℕ) × AreLines input (lines ++ line ∷ []) rest × IsNotHex line × (n ≡ length lines + 1) × AllTold start lines past (Waits unread) contents
 -- the lines up to some, and the stream has this fault
-Gives input start (Err (FramesError.Wire fault)) contents =
+FramesGive input start (Err (FramesError.Wire fault)) contents =
     (lines : List (List ℕ)) × (past : Past) × (rest : List ℕ) × AreLines input lines rest × AllTold start lines past (Fails fault) contents
 -- all lines, and the input ends inside a frame
-Gives input start (Err FramesError.Inside) contents =
+FramesGive input start (Err FramesError.Inside) contents =
     (lines : List (List ℕ)) × (past : Past) × (unread : List ℕ) × AreLines input lines [] × (unread ≢ []) × AllTold start lines past (Waits unread) contents
 -- the lines up to some
-Gives input start (Err FramesError.Read) contents =
+FramesGive input start (Err FramesError.Read) contents =
     (lines : List (List ℕ)) × (past : Past) × (rest unread : List ℕ) × AreLines input lines rest × AllTold start lines past (Waits unread) contents
-Gives input start (Err FramesError.Write) contents = (lines : List (List ℕ)) × (past : Past) × (rest : List ℕ) × AreLines input lines rest × SomeTold start lines past contents
+FramesGive input start (Err FramesError.Write) contents = (lines : List (List ℕ)) × (past : Past) × (rest : List ℕ) × AreLines input lines rest × SomeTold start lines past contents
 -- 2^32 requests were answered, or as many bytes read as there may be reads
-Gives input start (Err FramesError.Limit) contents =
+FramesGive input start (Err FramesError.Limit) contents =
     (lines : List (List ℕ)) × (past : Past) × (rest : List ℕ) × AreLines input lines rest × SomeTold start lines past contents × ((2 ^ 32 ≤ length past.asked) ⊎ (2 ^ 48 ≤ length input))
-Gives input start (Err FramesError.Memory) contents = (lines : List (List ℕ)) × (past : Past) × (rest : List ℕ) × AreLines input lines rest × SomeTold start lines past contents
+FramesGive input start (Err FramesError.Memory) contents = (lines : List (List ℕ)) × (past : Past) × (rest : List ℕ) × AreLines input lines rest × SomeTold start lines past contents

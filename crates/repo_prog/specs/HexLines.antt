@@ -6,14 +6,14 @@ abbrev pub line_feed : ℕ
 line_feed = 10
 
 -- no line ends within these bytes
-abbrev pub IsLine : List ℕ → Type 0
-IsLine [] = ⊤
-IsLine (b ∷ bytes) = (b ≢ line_feed) × IsLine bytes
+abbrev pub IsHexLine : List ℕ → Type 0
+IsHexLine [] = ⊤
+IsHexLine (b ∷ bytes) = (b ≢ line_feed) × IsHexLine bytes
 
 -- the input's first lines are these, and this follows: a line ends at a line feed or, if it isn't empty, at the input's end
 abbrev pub AreLines : List ℕ → List (List ℕ) → List ℕ → Type 0
 AreLines input [] rest = rest ≡ input
-AreLines input (line ∷ lines) rest = IsLine line × (
+AreLines input (line ∷ lines) rest = IsHexLine line × (
     ((after : List ℕ) × (input ≡ line ++ line_feed ∷ after) × AreLines after lines rest)
     ⊎ ((line ≢ []) × (input ≡ line) × (lines ≡ []) × (rest ≡ [])))
 

@@ -1,15 +1,16 @@
--- What the commands do that bring a job to its end.
-use Rattle.std.specs.Prelude.{ℕ, List, codes, Some, None}
-use Rattle.std.specs.Io.KnownBytes.{Appends, Consumes}
+-- What the commands do that bring a job to its end, over connections that are made one after another.
+use Rattle.std.specs.Prelude.{◌≡◌, ◌≤◌, ◌++◌, ◌∷◌, [], ℕ, List, length, Option, Some, None, codes}
+use Rattle.std.specs.Io.KnownBytes.{Consumes}
 use Rattle.repo_name.specs.declared.names.Name.{Name}
 use Rattle.repo_wire.specs.declared.messages.Ask.{Ask}
+use Rattle.repo_wire.specs.declared.messages.Request.{Request}
 use Rattle.repo_tree.specs.declared.entries.Entry.{Entry}
 use Rattle.repo_tree.specs.declared.snapshots.Snapshot.{Snapshot}
 use Rattle.repo_session.specs.declared.outcomes.Outcome.{Outcome}
 use Rattle.repo_session.specs.Askers.{Asker, asker}
 use Rattle.repo_session.specs.Clients.{IsObedient}
 use Rattle.repo_session.specs.Order.{Task}
-use Rattle.repo_session.specs.Talks.{Said, IsTurn, IsHeard, frames_of, sent_in, trace_of}
+use Rattle.repo_session.specs.Talks.{Talk, IsTurn, IsHeard, WritesPart, first_carried, sent_in, trace_of}
 use Rattle.repo_session.specs.Traces.{Each, Exchange, Trace}
 use Rattle.repo_backup.specs.BackupStates.{backup_task}
 use Rattle.repo_backup.specs.Rules as backup
@@ -19,18 +20,41 @@ use Rattle.repo_prune.specs.Forgetting.{forget_task, ForgetAllows, ForgetGives, 
 use Rattle.repo_prune.specs.Pruning.{prune_task, PruneAllows, PruneGives, PruneConcludes}
 use Rattle.repo_restore.specs.Listing.{list_task, ListAllows, ListGives, ListConcludes}
 use Rattle.repo_restore.specs.Restoring.{Wish, restore_task, RestoreAllows, RestoreGives, RestoreConcludes}
-use Rattle.repo_prog.specs.Asking.{Streams}
+use Rattle.repo_prog.specs.Dialing.{Call, Coming, Try, talk_over, AreDialed}
 use Rattle.repo_prog.specs.declared.callers.Caller.{Caller}
 
--- a job was brought to its end: what was said over the connection was read from it and written to it, and the job, which stands at the trace
--- of what was said, is at its end with this outcome by its own rules
-pub record Ended (task : Task) (Allows : Trace → Ask → Type 0) (Gives : Trace → Exchange → Type 0) (Own : Trace → Outcome → Type 0) (outcome : Outcome) (old new : Streams) : Type 0 where
-  pub said : Said
-  pub read : Consumes old.ahead new.ahead said.bytes
-  pub heard : IsHeard said
-  pub turns : Each IsTurn said.talk
-  pub sent : Appends old.sent new.sent (frames_of (sent_in said.talk))
-  pub obeyed : IsObedient task Allows Gives Own None (Some outcome) (trace_of said.talk)
+-- a job was brought on over a connection: what was said over it was read from it and written to it, with some first part of the request that was
+-- pending at its end; what was pending before went first; and the job, which stands at the trace of that and of all that was said before, stood there by its
+-- own rules
+pub record BroughtOn (task : Task) (Allows : Trace → Ask → Type 0) (Gives : Trace → Exchange → Type 0) (Own : Trace → Outcome → Type 0)
+    (earlier : Talk) (before : Option Request) (call : Call) (next : Option Request) (outcome : Option Outcome) : Type 0 where
+  pub read : Consumes call.came.ahead call.left.ahead call.said.bytes
+  pub heard : IsHeard call.said
+  pub turns : Each IsTurn call.said.talk
+  pub sent : WritesPart call.came.sent (sent_in call.said.talk) next call.left.sent
+  pub first : first_carried (sent_in call.said.talk) next ≡ before
+  pub obeyed : IsObedient task Allows Gives Own next outcome (trace_of (call.said.talk ++ earlier))
+
+-- it was brought on so over each connection of these tries, the newest first, from one pending request to another: each connection begins with the
+-- request at which the one before it ended
+abbrev pub IsBroughtOn : Task → (Trace → Ask → Type 0) → (Trace → Exchange → Type 0) → (Trace → Outcome → Type 0) → Option Request → List Try → Option Request → Type 0
+IsBroughtOn task Allows Gives Own begun [] next = next ≡ begun
+IsBroughtOn task Allows Gives Own begun (None ∷ tries) next = IsBroughtOn task Allows Gives Own begun tries next
+IsBroughtOn task Allows Gives Own begun (Some call ∷ tries) next =
+    (before : Option Request) × ((outcome : Option Outcome) × BroughtOn task Allows Gives Own (talk_over tries) before call next outcome) × IsBroughtOn task Allows Gives Own begun tries before
+
+-- a job was brought to its end over connections that were made one after another, so many at most after the first: over each it was brought on, and over
+-- the last to its end, with this outcome by its own rules. They hold of all that was said as over one connection.
+pub record Ended (task : Task) (Allows : Trace → Ask → Type 0) (Gives : Trace → Exchange → Type 0) (Own : Trace → Outcome → Type 0)
+    (outcome : Outcome) (retry : ℕ) (coming after : Coming) : Type 0 where
+  pub cut : List Try
+  pub last : Call
+  pub few : length cut ≤ retry
+  pub dialed : AreDialed coming (Some last ∷ cut) after
+  pub begun : Option Request
+  pub waiting : Option Request
+  pub before : IsBroughtOn task Allows Gives Own begun cut waiting
+  pub ended : BroughtOn task Allows Gives Own (talk_over cut) waiting last None (Some outcome)
 
 -- the name of the machine where a command isn't told another
 abbrev pub vault_host : List ℕ
@@ -40,31 +64,34 @@ vault_host = codes "vault"
 abbrev pub vault_asker : Caller → Asker
 vault_asker caller = asker caller.instance vault_host caller.time
 
--- the snapshots were listed
-abbrev pub Lists : Caller → List (Name × Snapshot) → Streams → Streams → Type 0
-Lists caller rows old new = let who = vault_asker caller in Ended (list_task who) (ListAllows who) (ListGives who) (ListConcludes who) (Outcome.Listed rows) old new
-
 -- who restores what
 abbrev pub vault_wish : Caller → Name → Wish
 vault_wish caller name = record { who = vault_asker caller; snapshot = name }
 
+-- the snapshots were listed
+abbrev pub ListsSnapshots : Caller → List (Name × Snapshot) → ℕ → Coming → Coming → Type 0
+ListsSnapshots caller rows retry coming after =
+    let who = vault_asker caller in Ended (list_task who) (ListAllows who) (ListGives who) (ListConcludes who) (Outcome.Listed rows) retry coming after
+
 -- the snapshot was restored
-abbrev pub Restores : Caller → Name → ℕ → Streams → Streams → Type 0
-Restores caller name entries old new = Ended (restore_task (vault_wish caller name)) (RestoreAllows name) (RestoreGives name) (RestoreConcludes name) (Outcome.Complete entries) old new
+abbrev pub RestoresSnapshot : Caller → Name → ℕ → ℕ → Coming → Coming → Type 0
+RestoresSnapshot caller name entries retry coming after =
+    Ended (restore_task (vault_wish caller name)) (RestoreAllows name) (RestoreGives name) (RestoreConcludes name) (Outcome.Complete entries) retry coming after
 
 -- the chosen snapshots were forgotten: those of these names
-abbrev pub Forgets : Caller → Choice → List Name → Streams → Streams → Type 0
-Forgets caller choice names old new = Ended (forget_task (vault_asker caller)) (ForgetAllows choice) (ForgetGives choice) (ForgetConcludes choice) (Outcome.Forgotten names) old new
+abbrev pub Forgets : Caller → Choice → List Name → ℕ → Coming → Coming → Type 0
+Forgets caller choice names retry coming after =
+    Ended (forget_task (vault_asker caller)) (ForgetAllows choice) (ForgetGives choice) (ForgetConcludes choice) (Outcome.Forgotten names) retry coming after
 
 -- what no snapshot needs was removed: so many packs were deleted, and so many bytes of blobs put
-abbrev pub Prunes : Caller → ℕ → ℕ → Streams → Streams → Type 0
-Prunes caller packs bytes old new = Ended (prune_task (vault_asker caller)) PruneAllows PruneGives PruneConcludes (Outcome.Pruned packs bytes) old new
+abbrev pub Prunes : Caller → ℕ → ℕ → ℕ → Coming → Coming → Type 0
+Prunes caller packs bytes retry coming after = Ended (prune_task (vault_asker caller)) PruneAllows PruneGives PruneConcludes (Outcome.Pruned packs bytes) retry coming after
 
 -- the store was checked, with this outcome: it is clean, or things are at fault
-abbrev pub Checks : Caller → Outcome → Streams → Streams → Type 0
-Checks caller outcome old new = Ended (check_task (vault_asker caller)) CheckAllows CheckGives CheckConcludes outcome old new
+abbrev pub Checks : Caller → Outcome → ℕ → Coming → Coming → Type 0
+Checks caller outcome retry coming after = Ended (check_task (vault_asker caller)) CheckAllows CheckGives CheckConcludes outcome retry coming after
 
 -- the entries were stored under this name
-abbrev pub Stores : Caller → List ℕ → List Entry → Name → ℕ → ℕ → Streams → Streams → Type 0
-Stores caller host entries name blobs bytes old new =
-    Ended (backup_task (asker caller.instance host caller.time)) (backup.Allows entries) (backup.GivesNothing entries) (backup.Ends entries) (Outcome.Stored name blobs bytes) old new
+abbrev pub Stores : Caller → List ℕ → List Entry → Name → ℕ → ℕ → ℕ → Coming → Coming → Type 0
+Stores caller host entries name blobs bytes retry coming after =
+    Ended (backup_task (asker caller.instance host caller.time)) (backup.BackupAllows entries) (backup.BackupGives entries) (backup.BackupConcludes entries) (Outcome.Stored name blobs bytes) retry coming after

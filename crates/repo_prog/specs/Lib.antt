@@ -4,6 +4,5 @@ pub mod HexLines
 pub mod Talks
 pub mod Asking
 pub mod Tellings
-pub mod Jobs
 pub mod Dialing
-pub mod Retrying
+pub mod Jobs

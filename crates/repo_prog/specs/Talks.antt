@@ -6,8 +6,8 @@ use Rattle.repo_store.specs.Serving.{Past, seen}
 use Rattle.repo_store.specs.Stores.{empty}
 use Rattle.repo_prog.specs.declared.errors.FramesError.{FramesError}
 use Rattle.repo_prog.specs.declared.talks.Talk.{Talk}
-use Rattle.repo_prog.specs.FramesRun.{Gives}
-use Rattle.repo_prog.specs.HexLines.{AreLines, IsLine, Spell, hex_line}
+use Rattle.repo_prog.specs.FramesRun.{FramesGive}
+use Rattle.repo_prog.specs.HexLines.{AreLines, IsHexLine, Spell, hex_line}
 
 -- the error of a service's error
 abbrev pub frames_error : ServiceError → FramesError
@@ -25,27 +25,27 @@ pub record Talks (start : Option (List ℕ)) (talk : Talk) (lines : List (List �
 -- it is inside a line of the input, and these bytes are ahead
 pub record TalksInside (input : List ℕ) (start : Option (List ℕ)) (talk : Talk) (lines : List (List ℕ)) (past : Past) (ahead : List ℕ) (contents : Option (List ℕ)) : Type 0 where
   pub talks : Talks start talk lines past contents
-  pub line : IsLine talk.line.items
+  pub line : IsHexLine talk.line.items
   pub are : AreLines input lines (talk.line.items ++ ahead)
 
 -- what the end of a line gives: it goes on after these lines, or it ends with an error
 abbrev pub LineGives : List ℕ → Option (List ℕ) → List (List ℕ) → Result (Unit {0}) FramesError → Talk → Option (List ℕ) → Type 0
 LineGives input start lines (Ok done) talk contents = (past : Past) × Talks start talk lines past contents
-LineGives input start lines (Err error) talk contents = Gives input start (Err error) contents
+LineGives input start lines (Err error) talk contents = FramesGive input start (Err error) contents
 
 -- what some bytes give: it goes on where these are ahead, or it ends with an error
 abbrev pub BytesGive : List ℕ → Option (List ℕ) → Result (Unit {0}) FramesError → Talk → List ℕ → Option (List ℕ) → Type 0
 BytesGive input start (Ok done) talk ahead contents = (lines : List (List ℕ)) × (past : Past) × TalksInside input start talk lines past ahead contents
-BytesGive input start (Err error) talk ahead contents = Gives input start (Err error) contents
+BytesGive input start (Err error) talk ahead contents = FramesGive input start (Err error) contents
 
 -- what the end of the input gives: all its lines were read, or it ends with an error
 abbrev pub EndGives : List ℕ → Option (List ℕ) → Result (Unit {0}) FramesError → Talk → Option (List ℕ) → Type 0
 EndGives input start (Ok done) talk contents = (lines : List (List ℕ)) × (past : Past) × AreLines input lines [] × Talks start talk lines past contents
-EndGives input start (Err error) talk contents = Gives input start (Err error) contents
+EndGives input start (Err error) talk contents = FramesGive input start (Err error) contents
 
 -- what reading a piece gives: some bytes of those ahead are taken, or none is ahead, or an error's answer
 abbrev pub PieceGives : List ℕ → Option (List ℕ) → List ℕ → Option (List ℕ) → Result Bool FramesError → Talk → Option (List ℕ) → Type 0
 PieceGives input start ahead left (Ok true) talk contents =
     (after : List ℕ) × (left ≡ Some after) × (length after < length ahead) × (lines : List (List ℕ)) × (past : Past) × TalksInside input start talk lines past after contents
 PieceGives input start ahead left (Ok false) talk contents = (lines : List (List ℕ)) × (past : Past) × TalksInside input start talk lines past [] contents
-PieceGives input start ahead left (Err error) talk contents = Gives input start (Err error) contents
+PieceGives input start ahead left (Err error) talk contents = FramesGive input start (Err error) contents

@@ -6,22 +6,23 @@ ghost use Rattle.repo_name.specs.Rows.{IsHost};
 ghost use Rattle.repo_name.specs.declared.names.Name.{Name};
 ghost use Rattle.repo_session.specs.declared.outcomes.Outcome.{Outcome};
 ghost use Rattle.repo_tree.specs.declared.entries.Entry.{Entry};
-ghost use Rattle.repo_prog.specs.Asking.{streams};
-ghost use Rattle.repo_prog.specs.Commands.{IsEnd, IsKept};
+ghost use Rattle.repo_prog.specs.Commands.{IsEnd, IsStoredStatus};
 ghost use Rattle.repo_prog.specs.Jobs.{Stores};
 ghost use Rattle.repo_prog.specs.Tellings.{stored_line};
 ghost use Rattle.repo_prog.specs.declared.status.Status.{Status};
 
+use crate::again::drive_again;
 use crate::callers::Caller;
+use crate::dialing::Dial;
 use crate::status::{Status, failed, flawed, tell};
 use crate::telling::{show, stored_line, unfinished};
 use repo_backup::{Backup, BackupError};
 use repo_files::{Scan, ScanError, Skipped, scan};
-use repo_session::{Client, DriveError, Outcome, drive};
+use repo_session::{Client, DriveError, Outcome};
 use repo_tree::Entry;
 use std::alloc::{AllocGlobal, Global};
 use std::fs::Files;
-use std::io::{Read, Write};
+use std::io::Write;
 
 /// Tells what a scan left out, a line each.
 pub fn tell_skipped<F: Write>(skipped: &[Skipped], faults: &mut F) {
@@ -69,18 +70,18 @@ pub fn show_stored<O: Write, F: Write>(
 }
 
 /// Backs up entries under the name of a machine.
-pub fn backup_entries<R: Read, W: Write, O: Write, F: Write>(
+pub fn backup_entries<D: Dial, O: Write, F: Write>(
     alloc: Global,
     caller: &Caller,
     host: &str,
     entries: Vec<Entry>,
-    reader: &mut R,
-    writer: &mut W,
+    dial: &mut D,
+    retry: u64,
     output: &mut O,
     faults: &mut F,
 ) -> Status
     requires { IsHost host.now }
-    ensures stored { result ≡ Status.Done → (name : Name) × (blobs : ℕ) × (bytes : ℕ) × Stores caller.now host.now entries.items name blobs bytes (streams (R.remaining reader.old) (W.contents writer.old) (O.contents output.old)) (streams (R.remaining reader.new) (W.contents writer.new) (O.contents output.new)) × Appends (O.contents output.old) (O.contents output.new) (stored_line name blobs bytes) }
+    ensures stored { result ≡ Status.Done → (name : Name) × (blobs : ℕ) × (bytes : ℕ) × Stores caller.now host.now entries.items name blobs bytes retry (D.coming dial.old) (D.coming dial.new) × Appends (O.contents output.old) (O.contents output.new) (stored_line name blobs bytes) }
     ensures silent { result ≡ Status.Done → faults.new ≡ faults.old }
     ensures status { IsEnd result }
 {
@@ -91,7 +92,7 @@ pub fn backup_entries<R: Read, W: Write, O: Write, F: Write>(
         Ok(backup) => backup,
         Err(error) => return cannot_begin(error, faults),
     };
-    match drive(alloc, &mut backup, reader, writer, |_| true) {
+    match drive_again(alloc, &mut backup, dial, retry, |_| true) {
         Ok(_) => show_stored(alloc, backup.outcome(), output, faults),
         Err(error) => failed(faults, &error),
     }
@@ -99,18 +100,18 @@ pub fn backup_entries<R: Read, W: Write, O: Write, F: Write>(
 
 /// Backs up what a scan found. Where the scan left something out that is told first, and the status of a backup that
 /// is done is `Flawed`.
-pub fn backup_found<R: Read, W: Write, O: Write, F: Write>(
+pub fn backup_found<D: Dial, O: Write, F: Write>(
     alloc: Global,
     caller: &Caller,
     host: &str,
     found: Scan,
-    reader: &mut R,
-    writer: &mut W,
+    dial: &mut D,
+    retry: u64,
     output: &mut O,
     faults: &mut F,
 ) -> Status
     requires { IsHost host.now }
-    ensures stored { IsKept result → (name : Name) × (blobs : ℕ) × (bytes : ℕ) × Stores caller.now host.now found.entries.items name blobs bytes (streams (R.remaining reader.old) (W.contents writer.old) (O.contents output.old)) (streams (R.remaining reader.new) (W.contents writer.new) (O.contents output.new)) × Appends (O.contents output.old) (O.contents output.new) (stored_line name blobs bytes) }
+    ensures stored { IsStoredStatus result → (name : Name) × (blobs : ℕ) × (bytes : ℕ) × Stores caller.now host.now found.entries.items name blobs bytes retry (D.coming dial.old) (D.coming dial.new) × Appends (O.contents output.old) (O.contents output.new) (stored_line name blobs bytes) }
     ensures whole { result ≡ Status.Done → found.skipped.items ≡ [] }
     ensures flawed { result ≡ Status.Flawed → found.skipped.items ≢ [] }
     ensures silent { result ≡ Status.Done → faults.new ≡ faults.old }
@@ -118,43 +119,34 @@ pub fn backup_found<R: Read, W: Write, O: Write, F: Write>(
 {
     let Scan { entries, skipped } = found;
     if skipped.is_empty() {
-        return backup_entries(alloc, caller, host, entries, reader, writer, output, faults);
+        return backup_entries(alloc, caller, host, entries, dial, retry, output, faults);
     }
     tell_skipped(skipped.as_slice(), faults);
-    let status = backup_entries(alloc, caller, host, entries, reader, writer, output, faults);
+    let status = backup_entries(alloc, caller, host, entries, dial, retry, output, faults);
     flawed(status)
 }
 
 /// `vault backup`: scans a folder whole, and then stores what it found. A folder that can't be read whole is told as
-/// `unreadable` with the path, and nothing is sent.
+/// `unreadable` with the path, and no connection is asked for.
 ///
 /// That the entries are what the folder holds is no clause, since no contract sees a file.
-pub fn backup_command<T: Files + AllocGlobal + Clone + Drop, R: Read, W: Write, O: Write, F: Write>(
+pub fn backup_command<T: Files + AllocGlobal + Clone + Drop, D: Dial, O: Write, F: Write>(
     rt: &T,
     caller: &Caller,
     host: &str,
     folder: &str,
-    reader: &mut R,
-    writer: &mut W,
+    dial: &mut D,
+    retry: u64,
     output: &mut O,
     faults: &mut F,
 ) -> Status
     requires { IsHost host.now }
-    ensures stored { IsKept result → (entries : List Entry) × (name : Name) × (blobs : ℕ) × (bytes : ℕ) × Stores caller.now host.now entries name blobs bytes (streams (R.remaining reader.old) (W.contents writer.old) (O.contents output.old)) (streams (R.remaining reader.new) (W.contents writer.new) (O.contents output.new)) × Appends (O.contents output.old) (O.contents output.new) (stored_line name blobs bytes) }
+    ensures stored { IsStoredStatus result → (entries : List Entry) × (name : Name) × (blobs : ℕ) × (bytes : ℕ) × Stores caller.now host.now entries name blobs bytes retry (D.coming dial.old) (D.coming dial.new) × Appends (O.contents output.old) (O.contents output.new) (stored_line name blobs bytes) }
     ensures silent { result ≡ Status.Done → faults.new ≡ faults.old }
     ensures status { result ≢ Status.Usage }
 {
     match scan(rt, folder) {
-        Ok(found) => backup_found(
-            rt.alloc(),
-            caller,
-            host,
-            found,
-            reader,
-            writer,
-            output,
-            faults,
-        ),
+        Ok(found) => backup_found(rt.alloc(), caller, host, found, dial, retry, output, faults),
         Err(ScanError::Unreadable(path)) => failed(faults, &format_args!("unreadable {path}")),
         Err(ScanError::Memory) => failed(faults, &DriveError::Memory),
     }

@@ -4,19 +4,20 @@ ghost use Rattle.std.specs.Prelude.{◌≡◌, ◌≢◌, ℕ, List, Some, optio
 ghost use Rattle.std.specs.Io.KnownBytes.{Appends};
 ghost use Rattle.repo_session.specs.declared.outcomes.CheckFault.{CheckFault};
 ghost use Rattle.repo_session.specs.declared.outcomes.Outcome.{Outcome};
-ghost use Rattle.repo_prog.specs.Asking.{streams};
-ghost use Rattle.repo_prog.specs.Commands.{IsEnd, IsKept};
+ghost use Rattle.repo_prog.specs.Commands.{IsEnd, IsStoredStatus};
 ghost use Rattle.repo_prog.specs.Jobs.{Checks};
 ghost use Rattle.repo_prog.specs.Tellings.{clean_line, fault_lines};
 ghost use Rattle.repo_prog.specs.declared.status.Status.{Status};
 
+use crate::again::drive_again;
 use crate::callers::{Caller, HOST};
+use crate::dialing::Dial;
 use crate::status::{Status, failed, flawed};
 use crate::telling::{clean_line, fault_lines, show, unfinished};
 use repo_check::Check;
-use repo_session::{CheckFault, Client, DriveError, Outcome, drive};
+use repo_session::{CheckFault, Client, DriveError, Outcome};
 use std::alloc::Global;
-use std::io::{Read, Write};
+use std::io::Write;
 
 /// Writes the line of a check that found nothing at fault, by its counts.
 fn show_clean<O: Write, F: Write>(
@@ -64,7 +65,7 @@ pub fn show_checked<O: Write, F: Write>(
 ) -> Status
     ensures clean { result ≡ Status.Done → (snapshots : ℕ) × (indexes : ℕ) × (packs : ℕ) × (blobs : ℕ) × (option_map (λ o. o.now) outcome.entry ≡ Some (Outcome.Clean snapshots indexes packs blobs)) × Appends (O.contents output.old) (O.contents output.new) (clean_line snapshots indexes packs blobs) }
     ensures flawed { result ≡ Status.Flawed → (found : List CheckFault) × (option_map (λ o. o.now) outcome.entry ≡ Some (Outcome.Faults found)) × Appends (O.contents output.old) (O.contents output.new) (fault_lines found) }
-    ensures silent { IsKept result → faults.new ≡ faults.old }
+    ensures silent { IsStoredStatus result → faults.new ≡ faults.old }
     ensures status { result ≢ Status.Usage }
 {
     match outcome {
@@ -86,24 +87,24 @@ pub fn show_checked<O: Write, F: Write>(
 /// `vault check`: reads all of a store, and tells that it is well: how many snapshots, indexes and packs it has, and how
 /// many blobs the snapshots need. Where things are at fault it tells them in place of that, a line each on the output, and
 /// the status is `Flawed`. It changes nothing.
-pub fn check_command<R: Read, W: Write, O: Write, F: Write>(
+pub fn check_command<D: Dial, O: Write, F: Write>(
     alloc: Global,
     caller: &Caller,
-    reader: &mut R,
-    writer: &mut W,
+    dial: &mut D,
+    retry: u64,
     output: &mut O,
     faults: &mut F,
 ) -> Status
-    ensures clean { result ≡ Status.Done → (snapshots : ℕ) × (indexes : ℕ) × (packs : ℕ) × (blobs : ℕ) × Checks caller.now (Outcome.Clean snapshots indexes packs blobs) (streams (R.remaining reader.old) (W.contents writer.old) (O.contents output.old)) (streams (R.remaining reader.new) (W.contents writer.new) (O.contents output.new)) × Appends (O.contents output.old) (O.contents output.new) (clean_line snapshots indexes packs blobs) }
-    ensures flawed { result ≡ Status.Flawed → (found : List CheckFault) × Checks caller.now (Outcome.Faults found) (streams (R.remaining reader.old) (W.contents writer.old) (O.contents output.old)) (streams (R.remaining reader.new) (W.contents writer.new) (O.contents output.new)) × Appends (O.contents output.old) (O.contents output.new) (fault_lines found) }
-    ensures silent { IsKept result → faults.new ≡ faults.old }
+    ensures clean { result ≡ Status.Done → (snapshots : ℕ) × (indexes : ℕ) × (packs : ℕ) × (blobs : ℕ) × Checks caller.now (Outcome.Clean snapshots indexes packs blobs) retry (D.coming dial.old) (D.coming dial.new) × Appends (O.contents output.old) (O.contents output.new) (clean_line snapshots indexes packs blobs) }
+    ensures flawed { result ≡ Status.Flawed → (found : List CheckFault) × Checks caller.now (Outcome.Faults found) retry (D.coming dial.old) (D.coming dial.new) × Appends (O.contents output.old) (O.contents output.new) (fault_lines found) }
+    ensures silent { IsStoredStatus result → faults.new ≡ faults.old }
     ensures status { result ≢ Status.Usage }
 {
     let Ok(who) = caller.who(alloc, HOST) else {
         return failed(faults, &DriveError::Memory);
     };
     let mut check = Check::new(alloc, who);
-    match drive(alloc, &mut check, reader, writer, |_| true) {
+    match drive_again(alloc, &mut check, dial, retry, |_| true) {
         Ok(_) => show_checked(alloc, check.outcome(), output, faults),
         Err(error) => failed(faults, &error),
     }

@@ -5,7 +5,7 @@ ghost use Rattle.repo_prune.specs.declared.choices.Choice.{Choice};
 
 use crate::words::{WordsError, number};
 use clap::{Arg, ArgMatches, Command};
-use repo_name::Name;
+use repo_name::{Name, Names};
 use repo_prune::{Choice, Policy};
 use std::alloc::{AllocError, Global};
 
@@ -41,7 +41,7 @@ fn named(alloc: Global, words: &[&str]) -> Result<Vec<Name>, WordsError> {
 /// together are refused.
 fn choice_by(last: u32, daily: u32, names: Vec<Name>) -> Result<Choice, WordsError>
     ensures refused { IsErr result ↔ ((names.items ≢ []) × ((last ≢ 0) ⊎ (daily ≢ 0))) }
-    ensures names { IfOk result (λ choice. names.items ≢ [] → choice ≡ Choice.Names names) }
+    ensures names { IfOk result (λ choice. names.items ≢ [] → choice ≡ Choice.Names names.items) }
     ensures policy { IfOk result (λ choice. names.items ≡ [] → choice ≡ Choice.Keep (record { last = last; daily = daily })) }
 {
     if names.is_empty() {
@@ -50,7 +50,7 @@ fn choice_by(last: u32, daily: u32, names: Vec<Name>) -> Result<Choice, WordsErr
     if last != 0 || daily != 0 {
         return Err(WordsError::NamesAndPolicy);
     }
-    Ok(Choice::Names(names))
+    Ok(Choice::Names(Names::of(names)))
 }
 
 /// What the words choose.

@@ -1,7 +1,7 @@
 //! What the command line's words ask for, done over readers, writers and a machine.
 
 ghost use Rattle.std.specs.Prelude.{◌≡◌, ◌≢◌, ℕ, List, Some};
-ghost use Rattle.repo_prog.specs.Commands.{FramesGives, IsOrder};
+ghost use Rattle.repo_prog.specs.Commands.{FramesGives, IsOrder, IsReading};
 ghost use Rattle.repo_prog.specs.declared.status.Status.{Status};
 ghost use Rattle.repo_prog.specs.declared.words.Order.{Order};
 
@@ -65,7 +65,7 @@ where
     requires { IsOrder order }
     ensures silent { result ≡ Status.Done → faults.new ≡ faults.old }
     ensures status { result ≢ Status.Usage }
-    ensures unread { order ≢ Order.Frames → input.new ≡ input.old }
+    ensures unread { ¬ IsReading order → input.new ≡ input.old }
     ensures frames { order ≡ Order.Frames → (text : List ℕ) → R.remaining input.old ≡ Some text → FramesGives text (W.contents output.old) result (W.contents output.new) }
 {
     match order {

@@ -4,13 +4,15 @@ ghost use Rattle.std.specs.Prelude.{◌≡◌, ◌≢◌};
 ghost use Rattle.repo_prog.specs.Commands.{IsErrand};
 ghost use Rattle.repo_prog.specs.declared.status.Status.{Status};
 
+use crate::backing::backup_command;
 use crate::callers::{Caller, caller_now};
+use crate::checking::check_command;
 use crate::dialing::{Address, Dial};
 use crate::errands::{Errand, LockErrand};
+use crate::forgetting::forget_command;
 use crate::locking::{locks_command, refresh_command, unlock_command};
-use crate::retrying::{
-    backup_over, check_over, forget_over, prune_over, restore_over, snapshots_over,
-};
+use crate::pruning::prune_command;
+use crate::restoring::{restore_command, snapshots_command};
 use crate::status::{Status, failed};
 use std::alloc::{AllocGlobal, Global};
 use std::fs::Files;
@@ -61,16 +63,18 @@ pub fn do_errand<T: Files + AllocGlobal + Clone + Drop, D: Dial, O: Write, F: Wr
     match errand {
         Errand::Backup { host, folder } => {
             let (host, folder) = (host.as_str(), folder.as_str());
-            backup_over(rt, caller, host, folder, dial, retry, output, faults)
+            backup_command(rt, caller, host, folder, dial, retry, output, faults)
         }
-        Errand::Snapshots => snapshots_over(alloc, caller, dial, retry, output, faults),
+        Errand::Snapshots => snapshots_command(alloc, caller, dial, retry, output, faults),
         Errand::Restore { name, folder } => {
             let folder = folder.as_str();
-            restore_over(rt, caller, name, folder, dial, retry, output, faults)
+            restore_command(rt, caller, name, folder, dial, retry, output, faults)
         }
-        Errand::Forget(choice) => forget_over(alloc, caller, choice, dial, retry, output, faults),
-        Errand::Prune => prune_over(alloc, caller, dial, retry, output, faults),
-        Errand::Check => check_over(alloc, caller, dial, retry, output, faults),
+        Errand::Forget(choice) => forget_command(
+            alloc, caller, choice, dial, retry, output, faults,
+        ),
+        Errand::Prune => prune_command(alloc, caller, dial, retry, output, faults),
+        Errand::Check => check_command(alloc, caller, dial, retry, output, faults),
         Errand::Locks(errand) => ask_locks(alloc, caller, errand, dial, output, faults),
     }
 }

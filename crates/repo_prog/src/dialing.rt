@@ -1,7 +1,7 @@
 //! Connections to a server, made one after another.
 
-ghost use Rattle.std.specs.Prelude.{◌≤◌, IfSome, option_map};
-ghost use Rattle.repo_prog.specs.Dialing.{Coming, ends, Dials};
+ghost use Rattle.std.specs.Prelude.{◌≡◌, ◌≤◌, ◌∷◌, [], Some, IfSome, option_map};
+ghost use Rattle.repo_prog.specs.Dialing.{Coming, coming_once, ends, Dials};
 
 use std::io::{Read, Write};
 use std::net::{Net, OpenStream, TcpStream};
@@ -79,5 +79,36 @@ impl<T: Net> Dial for Address<'_, T> {
             Some(ends) => Some(ends),
             None => connect(self.rt, self.address),
         }
+    }
+}
+
+/// A connection that is there already; there is no other.
+#[derive(Drop)]
+pub struct Once<R: Drop, W: Drop> {
+    ends: Option<(R, W)>,
+}
+
+impl<R: Read + Drop, W: Write + Drop> Once<R, W> {
+    /// The connection of this reader and this writer.
+    pub fn new(reader: R, writer: W) -> Once<R, W>
+        ensures { coming_once R.remaining W.contents result.ends ≡ Some (Some (ends (R.remaining reader) (W.contents writer)) ∷ []) }
+    {
+        Once {
+            ends: Some((reader, writer)),
+        }
+    }
+}
+
+impl<R: Read + Drop, W: Write + Drop> Dial for Once<R, W> {
+    ghost use Rattle.repo_prog.specs.Dialing.{coming_once};
+
+    type Reader = R;
+
+    type Writer = W;
+
+    ghost coming = { λ once. coming_once R.remaining W.contents once.ends };
+
+    fn dial(&mut self) -> Option<(R, W)> {
+        self.ends.take()
     }
 }

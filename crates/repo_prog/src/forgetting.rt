@@ -5,19 +5,20 @@ ghost use Rattle.std.specs.Io.KnownBytes.{Appends};
 ghost use Rattle.repo_name.specs.declared.names.Name.{Name};
 ghost use Rattle.repo_session.specs.declared.outcomes.Outcome.{Outcome};
 ghost use Rattle.repo_prune.specs.Forgetting.{IsNoPolicy};
-ghost use Rattle.repo_prog.specs.Asking.{streams};
 ghost use Rattle.repo_prog.specs.Commands.{IsEnd};
 ghost use Rattle.repo_prog.specs.Jobs.{Forgets};
 ghost use Rattle.repo_prog.specs.Tellings.{forgotten_lines};
 ghost use Rattle.repo_prog.specs.declared.status.Status.{Status};
 
+use crate::again::drive_again;
 use crate::callers::{Caller, HOST};
+use crate::dialing::Dial;
 use crate::status::{Status, failed};
 use crate::telling::{forgotten_lines, show, unfinished};
 use repo_prune::{Choice, Forget, ForgetError};
-use repo_session::{Client, DriveError, Outcome, drive};
+use repo_session::{Client, DriveError, Outcome};
 use std::alloc::Global;
-use std::io::{Read, Write};
+use std::io::Write;
 
 /// Writes the lines of the snapshots that were forgotten, or tells how the job ended else.
 pub fn show_forgotten<O: Write, F: Write>(
@@ -40,18 +41,19 @@ pub fn show_forgotten<O: Write, F: Write>(
 }
 
 /// `vault forget`: forgets the chosen snapshots, and tells their names, a line each, ascending. A policy that keeps
-/// nothing is told as `no policy`, and nothing is sent. Where it ends before all of them are forgotten, some may be.
-pub fn forget_command<R: Read, W: Write, O: Write, F: Write>(
+/// nothing is told as `no policy`, and no connection is asked for. Where it ends before all of them are forgotten, some
+/// may be.
+pub fn forget_command<D: Dial, O: Write, F: Write>(
     alloc: Global,
     caller: &Caller,
     choice: Choice,
-    reader: &mut R,
-    writer: &mut W,
+    dial: &mut D,
+    retry: u64,
     output: &mut O,
     faults: &mut F,
 ) -> Status
-    ensures forgotten { result ≡ Status.Done → (names : List Name) × Forgets caller.now choice names (streams (R.remaining reader.old) (W.contents writer.old) (O.contents output.old)) (streams (R.remaining reader.new) (W.contents writer.new) (O.contents output.new)) × Appends (O.contents output.old) (O.contents output.new) (forgotten_lines names) }
-    ensures none { IsNoPolicy choice → (result ≡ Status.Failed) × (reader.new ≡ reader.old) × (writer.new ≡ writer.old) × (output.new ≡ output.old) }
+    ensures forgotten { result ≡ Status.Done → (names : List Name) × Forgets caller.now choice names retry (D.coming dial.old) (D.coming dial.new) × Appends (O.contents output.old) (O.contents output.new) (forgotten_lines names) }
+    ensures none { IsNoPolicy choice → (result ≡ Status.Failed) × (dial.new ≡ dial.old) × (output.new ≡ output.old) }
     ensures silent { result ≡ Status.Done → faults.new ≡ faults.old }
     ensures status { IsEnd result }
 {
@@ -62,7 +64,7 @@ pub fn forget_command<R: Read, W: Write, O: Write, F: Write>(
         Ok(forget) => forget,
         Err(ForgetError::NoPolicy) => return failed(faults, &"no policy"),
     };
-    match drive(alloc, &mut forget, reader, writer, |_| true) {
+    match drive_again(alloc, &mut forget, dial, retry, |_| true) {
         Ok(_) => show_forgotten(alloc, forget.outcome(), output, faults),
         Err(error) => failed(faults, &error),
     }

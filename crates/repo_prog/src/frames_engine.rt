@@ -2,7 +2,7 @@
 
 ghost use Rattle.std.specs.Prelude.{◌≡◌, ◌<◌, ◌≤◌, ◌+◌, ◌^◌, ℕ, List, Option, Some, length, OnOk};
 ghost use Rattle.repo_store.specs.Serving.{Past};
-ghost use Rattle.repo_prog.specs.FramesRun.{Gives};
+ghost use Rattle.repo_prog.specs.FramesRun.{FramesGive};
 ghost use Rattle.repo_prog.specs.Talks.{TalksInside, PieceGives};
 
 use crate::errors::FramesError;
@@ -51,7 +51,7 @@ pub fn frames<R: Read, W: Write>(
     reader: &mut R,
     writer: &mut W,
 ) -> Result<u64, FramesError>
-    ensures { (input : List ℕ) → R.remaining reader.old ≡ Some input → Gives input (W.contents writer.old) result (W.contents writer.new) }
+    ensures { (input : List ℕ) → R.remaining reader.old ≡ Some input → FramesGive input (W.contents writer.old) result (W.contents writer.new) }
 {
     let mut talk = Talk::new(alloc);
     let mut piece = vec![in alloc; 0u8; PIECE]?;

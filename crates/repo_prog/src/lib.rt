@@ -1,11 +1,10 @@
 //! The program's engines and commands, as functions over readers, writers and values.
 //!
 //! [`frames`] answers request frames in hexadecimal from an empty store in memory. [`init_command`] makes
-//! a store, and [`serve_connections`] serves one. The others are a client's, over a connection: [`backup_command`],
-//! [`snapshots_command`], [`restore_command`], [`forget_command`], [`prune_command`] and [`check_command`] bring a job to its
-//! end, [`locks_command`], [`refresh_command`] and [`unlock_command`] ask themselves. [`backup_over`], [`snapshots_over`],
-//! [`restore_over`], [`forget_over`], [`prune_over`] and [`check_over`] do as much over connections that are made one after another
-//! ([`Dial`]), by [`drive_again`]. [`run_errand`] connects, and [`run`] goes by the words.
+//! a store, and [`serve_connections`] serves one. The others are a client's: [`backup_command`], [`snapshots_command`],
+//! [`restore_command`], [`forget_command`], [`prune_command`] and [`check_command`] bring a job to its end, over connections that
+//! are made one after another ([`Dial`]), by [`drive_again`]; [`locks_command`], [`refresh_command`] and [`unlock_command`] ask
+//! themselves, over one. [`run_errand`] connects, and [`run`] goes by the words.
 //!
 //! Promised: what `frames` writes is the lines of the replies of a run of the store machine, from the
 //! empty store, over the requests of the stream that the input's lines spell; each of its errors comes
@@ -16,8 +15,8 @@
 //!
 //! The definitions stand in `specs/`: `HexLines` (lines, and the bytes that they spell), `FramesRun`
 //! (what `frames` gives), `Talks` (what holds while it runs), `Commands` (what the commands give), `Tellings` (the lines
-//! of the clients' commands), `Asking` (what those do that ask), `Jobs` (what those do that bring a job to its end), `Dialing` and
-//! `Retrying` (the same over one connection after another).
+//! of the clients' commands), `Asking` (what those do that ask), `Dialing` (what is said over one connection after another), `Jobs`
+//! (what those do that bring a job to its end).
 #![tactic(auto)]
 
 mod again;
@@ -39,7 +38,6 @@ mod making;
 mod output;
 mod pruning;
 mod restoring;
-mod retrying;
 mod status;
 mod talks;
 mod telling;
@@ -51,7 +49,7 @@ pub use callers::{Caller, caller_now};
 pub use checking::check_command;
 pub use commands::{frames_command, perform, run};
 pub use connecting::{do_errand, run_errand};
-pub use dialing::{Address, Dial};
+pub use dialing::{Address, Dial, Once};
 pub use errands::{Errand, LockErrand};
 pub use errors::FramesError;
 pub use forgetting::forget_command;
@@ -61,9 +59,6 @@ pub use locking::{locks_command, refresh_command, unlock_command};
 pub use making::{init_command, init_folder, random_instance};
 pub use pruning::prune_command;
 pub use restoring::{restore_command, restore_into, snapshots_command};
-pub use retrying::{
-    backup_over, check_over, forget_over, prune_over, restore_over, snapshots_over,
-};
 pub use status::{Status, refuse_words};
 pub use telling::fault_word;
 pub use words::{Making, Order, WordsError, order_of};

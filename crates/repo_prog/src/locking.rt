@@ -4,7 +4,7 @@ ghost use Rattle.std.specs.Prelude.{◌≡◌, ◌<◌, ◌+◌, ◌^◌, ℕ, L
 ghost use Rattle.repo_wire.specs.declared.messages.Ask.{Ask};
 ghost use Rattle.repo_wire.specs.Messages.{IsAsk, IsShortAsk};
 ghost use Rattle.repo_locks.specs.TokenMachine.{tokens_of};
-ghost use Rattle.repo_prog.specs.Asking.{streams, request_of, chosen, Asked, AreRemoved, Removes, Unlocks};
+ghost use Rattle.repo_prog.specs.Asking.{streams, request_of, chosen, Asked, AreRemoved, Removes, RemovesLocks};
 ghost use Rattle.repo_prog.specs.Commands.{IsEnd};
 ghost use Rattle.repo_prog.specs.Tellings.{locks_told, refresh_told, removal_told, Tells};
 ghost use Rattle.repo_prog.specs.declared.status.Status.{Status};
@@ -199,7 +199,7 @@ pub fn unlock_command<R: Read, W: Write, O: Write, F: Write>(
     output: &mut O,
     faults: &mut F,
 ) -> Status
-    ensures unlocks { Unlocks caller.now all (streams (R.remaining reader.old) (W.contents writer.old) (O.contents output.old)) result (streams (R.remaining reader.new) (W.contents writer.new) (O.contents output.new)) }
+    ensures unlocks { RemovesLocks caller.now all (streams (R.remaining reader.old) (W.contents writer.old) (O.contents output.old)) result (streams (R.remaining reader.new) (W.contents writer.new) (O.contents output.new)) }
     ensures silent { result ≡ Status.Done → faults.new ≡ faults.old }
     ensures status { IsEnd result }
 {

@@ -3,19 +3,20 @@
 ghost use Rattle.std.specs.Prelude.{◌≡◌, ℕ, Some, option_map};
 ghost use Rattle.std.specs.Io.KnownBytes.{Appends};
 ghost use Rattle.repo_session.specs.declared.outcomes.Outcome.{Outcome};
-ghost use Rattle.repo_prog.specs.Asking.{streams};
 ghost use Rattle.repo_prog.specs.Commands.{IsEnd};
 ghost use Rattle.repo_prog.specs.Jobs.{Prunes};
 ghost use Rattle.repo_prog.specs.Tellings.{pruned_line};
 ghost use Rattle.repo_prog.specs.declared.status.Status.{Status};
 
+use crate::again::drive_again;
 use crate::callers::{Caller, HOST};
+use crate::dialing::Dial;
 use crate::status::{Status, failed};
 use crate::telling::{pruned_line, show, unfinished};
 use repo_prune::Prune;
-use repo_session::{Client, DriveError, Outcome, drive};
+use repo_session::{Client, DriveError, Outcome};
 use std::alloc::Global;
-use std::io::{Read, Write};
+use std::io::Write;
 
 /// Writes the line of a prune that is done, or tells how the job ended else.
 pub fn show_pruned<O: Write, F: Write>(
@@ -39,15 +40,15 @@ pub fn show_pruned<O: Write, F: Write>(
 
 /// `vault prune`: removes what no snapshot needs, and tells how many packs it deleted, and how many bytes of blobs it
 /// put into new ones. Where it ends before, each snapshot still has all that it needs.
-pub fn prune_command<R: Read, W: Write, O: Write, F: Write>(
+pub fn prune_command<D: Dial, O: Write, F: Write>(
     alloc: Global,
     caller: &Caller,
-    reader: &mut R,
-    writer: &mut W,
+    dial: &mut D,
+    retry: u64,
     output: &mut O,
     faults: &mut F,
 ) -> Status
-    ensures pruned { result ≡ Status.Done → (packs : ℕ) × (bytes : ℕ) × Prunes caller.now packs bytes (streams (R.remaining reader.old) (W.contents writer.old) (O.contents output.old)) (streams (R.remaining reader.new) (W.contents writer.new) (O.contents output.new)) × Appends (O.contents output.old) (O.contents output.new) (pruned_line packs bytes) }
+    ensures pruned { result ≡ Status.Done → (packs : ℕ) × (bytes : ℕ) × Prunes caller.now packs bytes retry (D.coming dial.old) (D.coming dial.new) × Appends (O.contents output.old) (O.contents output.new) (pruned_line packs bytes) }
     ensures silent { result ≡ Status.Done → faults.new ≡ faults.old }
     ensures status { IsEnd result }
 {
@@ -55,7 +56,7 @@ pub fn prune_command<R: Read, W: Write, O: Write, F: Write>(
         return failed(faults, &DriveError::Memory);
     };
     let mut prune = Prune::new(alloc, who);
-    match drive(alloc, &mut prune, reader, writer, |_| true) {
+    match drive_again(alloc, &mut prune, dial, retry, |_| true) {
         Ok(_) => show_pruned(alloc, prune.outcome(), output, faults),
         Err(error) => failed(faults, &error),
     }

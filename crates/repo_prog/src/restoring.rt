@@ -6,22 +6,23 @@ ghost use Rattle.repo_name.specs.declared.names.Name.{Name};
 ghost use Rattle.repo_tree.specs.declared.snapshots.Snapshot.{Snapshot};
 ghost use Rattle.repo_session.specs.Sessions.{ended_in};
 ghost use Rattle.repo_session.specs.declared.outcomes.Outcome.{Outcome};
-ghost use Rattle.repo_prog.specs.Asking.{streams};
 ghost use Rattle.repo_prog.specs.Commands.{IsEnd};
-ghost use Rattle.repo_prog.specs.Jobs.{Lists, Restores};
+ghost use Rattle.repo_prog.specs.Jobs.{ListsSnapshots, RestoresSnapshot};
 ghost use Rattle.repo_prog.specs.Tellings.{snapshot_lines, complete_line};
 ghost use Rattle.repo_prog.specs.declared.status.Status.{Status};
 
+use crate::again::{TryError, drive_again};
 use crate::callers::{Caller, HOST};
+use crate::dialing::Dial;
 use crate::status::{Status, failed};
 use crate::telling::{complete_line, show, snapshot_lines, unfinished};
 use repo_files::{Restorer, RestorerError};
 use repo_name::Name;
 use repo_restore::{Restore, SnapshotList};
-use repo_session::{Client, DriveError, Emission, Outcome, drive};
+use repo_session::{Client, DriveError, Emission, Outcome};
 use std::alloc::{AllocGlobal, Global};
 use std::fs::Files;
-use std::io::{Read, Write};
+use std::io::Write;
 
 /// Writes the lines of a list of snapshots, or tells how the job ended else.
 pub fn show_list<O: Write, F: Write>(
@@ -43,16 +44,17 @@ pub fn show_list<O: Write, F: Write>(
     }
 }
 
-/// `vault snapshots`: lists the snapshots, a line each, ascending by name.
-pub fn snapshots_command<R: Read, W: Write, O: Write, F: Write>(
+/// `vault snapshots`: lists the snapshots, a line each, ascending by name. After the first connection so many more are
+/// made at most.
+pub fn snapshots_command<D: Dial, O: Write, F: Write>(
     alloc: Global,
     caller: &Caller,
-    reader: &mut R,
-    writer: &mut W,
+    dial: &mut D,
+    retry: u64,
     output: &mut O,
     faults: &mut F,
 ) -> Status
-    ensures listed { result ≡ Status.Done → (rows : List (Name × Snapshot)) × Lists caller.now rows (streams (R.remaining reader.old) (W.contents writer.old) (O.contents output.old)) (streams (R.remaining reader.new) (W.contents writer.new) (O.contents output.new)) × Appends (O.contents output.old) (O.contents output.new) (snapshot_lines rows) }
+    ensures listed { result ≡ Status.Done → (rows : List (Name × Snapshot)) × ListsSnapshots caller.now rows retry (D.coming dial.old) (D.coming dial.new) × Appends (O.contents output.old) (O.contents output.new) (snapshot_lines rows) }
     ensures silent { result ≡ Status.Done → faults.new ≡ faults.old }
     ensures status { IsEnd result }
 {
@@ -60,7 +62,7 @@ pub fn snapshots_command<R: Read, W: Write, O: Write, F: Write>(
         return failed(faults, &DriveError::Memory);
     };
     let mut list = SnapshotList::new(alloc, who);
-    match drive(alloc, &mut list, reader, writer, |_| true) {
+    match drive_again(alloc, &mut list, dial, retry, |_| true) {
         Ok(_) => show_list(alloc, list.outcome(), output, faults),
         Err(error) => failed(faults, &error),
     }
@@ -93,40 +95,40 @@ pub fn show_restored<E: FnOnce() -> bool, O: Write, F: Write>(
 }
 
 /// A restore that was driven to its end, and that handed what it gave out to a sink.
-fn driven<R: Read, W: Write, S: FnMut(&Emission) -> bool>(
+fn restored<D: Dial, S: FnMut(&Emission) -> bool>(
     alloc: Global,
     caller: &Caller,
     name: Name,
     sink: S,
-    reader: &mut R,
-    writer: &mut W,
-) -> Result<Restore, DriveError>
-    requires { S.IsAlwaysCallable sink }
-    ensures { IfOk result (λ restore. (entries : ℕ) → ended_in restore.session ≡ Some (Outcome.Complete entries) → (shown then : Option (List ℕ)) → Restores caller.now name entries (streams (R.remaining reader.old) (W.contents writer.old) shown) (streams (R.remaining reader.new) (W.contents writer.new) then)) }
+    dial: &mut D,
+    retry: u64,
+) -> Result<Restore, TryError>
+    requires callable { (state : S) (x : _) → S.pre state x }
+    ensures { IfOk result (λ restore. (entries : ℕ) → ended_in restore.session ≡ Some (Outcome.Complete entries) → RestoresSnapshot caller.now name entries retry (D.coming dial.old) (D.coming dial.new)) }
 {
     let who = caller.who(alloc, HOST)?;
     let mut restore = Restore::new(alloc, who, name);
-    drive(alloc, &mut restore, reader, writer, sink)?;
+    drive_again(alloc, &mut restore, dial, retry, sink)?;
     Ok(restore)
 }
 
 /// Restores a snapshot, and hands what is given out to a sink.
-pub fn restore_into<R: Read, W: Write, S: FnMut(&Emission) -> bool, O: Write, F: Write>(
+pub fn restore_into<D: Dial, S: FnMut(&Emission) -> bool, O: Write, F: Write>(
     alloc: Global,
     caller: &Caller,
     name: Name,
     sink: S,
-    reader: &mut R,
-    writer: &mut W,
+    dial: &mut D,
+    retry: u64,
     output: &mut O,
     faults: &mut F,
 ) -> Status
-    requires { S.IsAlwaysCallable sink }
-    ensures restored { result ≡ Status.Done → (entries : ℕ) × Restores caller.now name entries (streams (R.remaining reader.old) (W.contents writer.old) (O.contents output.old)) (streams (R.remaining reader.new) (W.contents writer.new) (O.contents output.new)) × Appends (O.contents output.old) (O.contents output.new) (complete_line entries) }
+    requires callable { (state : S) (x : _) → S.pre state x }
+    ensures restored { result ≡ Status.Done → (entries : ℕ) × RestoresSnapshot caller.now name entries retry (D.coming dial.old) (D.coming dial.new) × Appends (O.contents output.old) (O.contents output.new) (complete_line entries) }
     ensures silent { result ≡ Status.Done → faults.new ≡ faults.old }
     ensures status { IsEnd result }
 {
-    match driven(alloc, caller, name, sink, reader, writer) {
+    match restored(alloc, caller, name, sink, dial, retry) {
         Ok(restore) => show_restored(alloc, restore.outcome(), || true, output, faults),
         Err(error) => failed(faults, &error),
     }
@@ -146,24 +148,19 @@ pub fn not_begun<F: Write>(error: RestorerError, faults: &mut F) -> Status
 /// `vault restore`: restores a snapshot into a folder, which is made where it isn't there and has to be empty. What
 /// was written before an end stays. All of it is synced before it is told as complete.
 ///
-/// That the folder then holds what was given out is no clause, since no contract sees a file.
-pub fn restore_command<
-    T: Files + AllocGlobal + Clone + Drop,
-    R: Read,
-    W: Write,
-    O: Write,
-    F: Write,
->(
+/// The folder is begun once, and each part is written once, whatever connections it takes. That the folder then
+/// holds what was given out is no clause, since no contract sees a file.
+pub fn restore_command<T: Files + AllocGlobal + Clone + Drop, D: Dial, O: Write, F: Write>(
     rt: &T,
     caller: &Caller,
     name: Name,
     folder: &str,
-    reader: &mut R,
-    writer: &mut W,
+    dial: &mut D,
+    retry: u64,
     output: &mut O,
     faults: &mut F,
 ) -> Status
-    ensures restored { result ≡ Status.Done → (entries : ℕ) × Restores caller.now name entries (streams (R.remaining reader.old) (W.contents writer.old) (O.contents output.old)) (streams (R.remaining reader.new) (W.contents writer.new) (O.contents output.new)) × Appends (O.contents output.old) (O.contents output.new) (complete_line entries) }
+    ensures restored { result ≡ Status.Done → (entries : ℕ) × RestoresSnapshot caller.now name entries retry (D.coming dial.old) (D.coming dial.new) × Appends (O.contents output.old) (O.contents output.new) (complete_line entries) }
     ensures silent { result ≡ Status.Done → faults.new ≡ faults.old }
     ensures status { IsEnd result }
 {
@@ -172,7 +169,7 @@ pub fn restore_command<
         Err(error) => return not_begun(error, faults),
     };
     let sink = |emission: &Emission| restorer.write(emission);
-    let restore = match driven(rt.alloc(), caller, name, sink, reader, writer) {
+    let restore = match restored(rt.alloc(), caller, name, sink, dial, retry) {
         Ok(restore) => restore,
         Err(error) => return failed(faults, &error),
     };

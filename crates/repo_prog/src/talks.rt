@@ -3,7 +3,7 @@
 ghost use Rattle.std.specs.Prelude.{◌≡◌, ◌<◌, ◌≤◌, ◌+◌, ◌^◌, ◌++◌, ◌∷◌, [], ℕ, List, Option, length, OnOk};
 ghost use Rattle.repo_store.specs.Services.{nothing};
 ghost use Rattle.repo_store.specs.Serving.{Past};
-ghost use Rattle.repo_prog.specs.FramesRun.{Gives};
+ghost use Rattle.repo_prog.specs.FramesRun.{FramesGive};
 ghost use Rattle.repo_prog.specs.HexLines.{AreLines};
 ghost use Rattle.repo_prog.specs.Talks.{Talks, TalksInside, LineGives, BytesGive, EndGives};
 
@@ -107,7 +107,7 @@ impl Talk {
     pub fn finish<W: Write>(mut self, writer: &mut W) -> Result<u64, FramesError>
         requires { self.number < 2 ^ 63 }
         ensures { (input : List ℕ) (start : Option (List ℕ)) (lines : List (List ℕ)) (past : Past) → TalksInside input start self lines past [] (W.contents writer.old)
-            → Gives input start result (W.contents writer.new) }
+            → FramesGive input start result (W.contents writer.new) }
     {
         self.end_last_line(writer)?;
         self.service.finish().ok_or(FramesError::Inside)

@@ -119,7 +119,7 @@ fn surely_events(alloc: Global, first: usize) -> Result<Vec<Event>, AllocError> 
 /// Whether a run of the events from a number on goes to its end.
 fn goes(alloc: Global, world: &mut World<MemShelf>, first: usize) -> bool {
     match surely_events(alloc, first) {
-        Ok(events) => world.run(events).is_ok(),
+        Ok(events) => world.run(events.as_slice()).is_ok(),
         Err(_) => false,
     }
 }
@@ -129,7 +129,7 @@ fn runs(alloc: Global, world: &mut World<MemShelf>) -> bool {
     let Ok(events) = surely_events(alloc, 0) else {
         return false;
     };
-    match world.run(events) {
+    match world.run(events.as_slice()) {
         Ok(()) => true,
         Err(error) => goes(alloc, world, error.applied),
     }

@@ -4,4 +4,4 @@ use Rattle.repo_prog.proofs.restoring.restore_command.Goals as goal
 pub returns-clause-restored : goal.returns-clause-restored
 returns-clause-restored g c done =
     let shown = c.show_restored.ensures.restored done in
-    (shown.0, c.in-Ok-driven.ensures shown.0 (sym c.outcome.ensures ∙ shown.1) (g.O.Write.contents c.args.output.now) (g.O.Write.contents c.show_restored.new.output), shown.2)
+    (shown.0, c.in-Ok-restored.ensures shown.0 (sym c.outcome.ensures ∙ shown.1), shown.2)
