@@ -30,8 +30,8 @@ READING = {
     "packs, indexes, chunks, names, JSON, frames": ["repo_pack", "repo_index", "repo_chunk", "repo_name", "repo_json", "repo_wire"],
 }
 BEGINS = re.compile(r"^(?:(?:abbrev|unfoldable|opaque|pub)\s+)*(?:(?:record|data)\s+)?([A-Za-z_][\w'-]*)\b")
-NAMED = re.compile(r"^(?:pub )?use Rattle\.(\w+)\.specs\.(\w+)\.\{(.*)\}$")
-WHOLE = re.compile(r"^(?:pub )?use Rattle\.(\w+)\.specs\.(\w+) as (\w+)$")
+NAMED = re.compile(r"^(?:pub )?use Rattle\.(\w+)\.specs\.(?:inner\.)?(\w+)\.\{(.*)\}$")
+WHOLE = re.compile(r"^(?:pub )?use Rattle\.(\w+)\.specs\.(?:inner\.)?(\w+) as (\w+)$")
 WORD = re.compile(r"[A-Za-z_][\w'-]*(?:\.[A-Za-z_][\w'-]*)?")
 
 
@@ -76,8 +76,11 @@ class Module:
 
 
 def modules():
-    return {(path.parents[1].name, path.stem): Module(path.parents[1].name, path)
-            for path in sorted(ROOT.glob("crates/*/specs/*.antt"))}
+    found = {}
+    for path in sorted(ROOT.glob("crates/*/specs/**/*.antt")):
+        crate = path.relative_to(ROOT / "crates").parts[0]
+        found[crate, path.stem] = Module(crate, path)
+    return found
 
 
 def closure(all_modules, start):

@@ -4,10 +4,10 @@
 set -euo pipefail
 cd "$(dirname "$0")/.."
 status=0
-for file in crates/*/specs/*.antt; do
-    crate=$(basename "$(dirname "$(dirname "$file")")")
+for file in crates/*/specs/*.antt crates/*/specs/inner/*.antt; do
+    crate=$(cut -d/ -f2 <<<"$file")
     module=$(basename "$file" .antt)
-    if [[ $module != Lib ]] && ! grep -oE "\`$crate: [^|]*" docs/DEFINITIONS.md | grep -qE "[\` ]$module[\`.]"; then
+    if [[ $module != Lib && $module != inner ]] && ! grep -oE "\`$crate: [^|]*" docs/DEFINITIONS.md | grep -qE "[\` ]$module[\`.]"; then
         echo "$crate: $module has no line"
         status=1
     fi

@@ -4,14 +4,12 @@ pub mod Handed
 pub mod Plans
 pub mod Rules
 pub mod Packings
-pub mod Chunks
 pub mod Works
-pub mod Advancing
 pub mod Backing
 pub mod Readying
-pub mod Walking
 pub mod Stages
 pub mod BackupStates
 pub mod Backups
 pub mod BackupObedience
 pub mod Laws
+pub mod inner

@@ -94,6 +94,13 @@ pub record WorkStands (w : Work) (known : List Fact) (folder : Folder) (sent sea
   pub walking : IsWalking w.walk folder taken
   pub covered : Each (λ item. IsCovered known (all_items sent sealed w.packing) item) taken
 
+-- wherever one work stands, another does, by the same known facts: with as much sealed; or with more or less
+abbrev pub KeepsWork : List Fact → Work → Work → Type 0
+KeepsWork known old new = (folder : Folder) (sent sealed : List Item) → WorkStands old known folder sent sealed → WorkStands new known folder sent sealed
+
+abbrev pub StaysWork : List Fact → Work → Work → Type 0
+StaysWork known old new = (folder : Folder) (sent sealed : List Item) → WorkStands old known folder sent sealed → (more : List Item) × WorkStands new known folder sent more
+
 -- what going on to the next pack gives: a pack is sealed; or all blobs of the folder are known or were sent, and this is its tree; or a directory's tree text is too large
 abbrev pub WalkGoesOn : List Fact → Folder → List Item → Progress → Work → Type 0
 WalkGoesOn known folder sent Progress.Pack new = (sealed : List Item) × WorkStands new known folder sent sealed × (new.packing.packer.sealed ≢ None)

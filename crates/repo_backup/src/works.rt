@@ -12,12 +12,12 @@ ghost use Rattle.repo_pack.specs.PackWriting.{IsOpen};
 ghost use Rattle.repo_tree.specs.TreeText.{IsTreeText};
 ghost use Rattle.repo_tree.specs.TreeWriting.{tree_text};
 ghost use Rattle.repo_backup.specs.declared.steps.WalkStep.{WalkStep};
-ghost use Rattle.repo_backup.specs.Chunks.{IsNextChunk, AreFirstChunks, AreDigests};
+ghost use Rattle.repo_backup.specs.inner.Chunks.{IsNextChunk, AreFirstChunks, AreDigests};
 ghost use Rattle.repo_backup.specs.Folders.{Folder, IsCutBy, blobs_of};
 ghost use Rattle.repo_backup.specs.Packings.{IsCovered, all_items};
 ghost use Rattle.repo_backup.specs.Plans.{IsLawful, steps_of};
-ghost use Rattle.repo_backup.specs.Works.{WorkStands, WalkGoesOn};
-ghost use Rattle.repo_backup.specs.Advancing.{next_step, bytes_left, work_left, IsSameWay, IsMadeByWalk, Tells};
+ghost use Rattle.repo_backup.specs.Works.{KeepsWork, StaysWork, WorkStands, WalkGoesOn};
+ghost use Rattle.repo_backup.specs.inner.Advancing.{next_step, bytes_left, work_left, IsSameWay, IsMadeByWalk, Tells};
 ghost use Rattle.repo_name.specs.Limits.{blob_limit};
 
 use crate::chunks::first_chunks;
@@ -86,7 +86,7 @@ impl Work {
     /// be done.
     pub fn next_pack(&mut self, lookup: &Lookup) -> Result<Progress, AllocError>
         ensures ok { IfOk result (λ progress. (folder : Folder) (sent sealed : List Item) → WorkStands self.old lookup.now folder sent sealed → WalkGoesOn lookup.now folder sent progress self.new) }
-        ensures err { OnErr result ((folder : Folder) (sent sealed : List Item) → WorkStands self.old lookup.now folder sent sealed → (more : List Item) × WorkStands self.new lookup.now folder sent more) }
+        ensures err { OnErr result (StaysWork lookup.now self.old self.new) }
         ensures steps { self.new.walk.steps ≡ self.old.walk.steps }
     {
         if self.packing.packer.sealed.is_some() {
@@ -121,7 +121,7 @@ impl Work {
     /// One step of the work. It fails for memory alone, and then some of it may be done.
     fn step(&mut self, lookup: &Lookup) -> Result<Stepped, AllocError>
         requires { IsOpen self.old.packing.packer.writer }
-        ensures work { (folder : Folder) (sent sealed : List Item) → WorkStands self.old lookup.now folder sent sealed → WorkStands self.new lookup.now folder sent sealed }
+        ensures work { KeepsWork lookup.now self.old self.new }
         ensures told { IfOk result (λ stepped. (folder : Folder) (sent sealed : List Item) → WorkStands self.old lookup.now folder sent sealed
             → Tells lookup.now folder (all_items sent sealed self.new.packing) stepped) }
         ensures less { IfOk result (λ stepped. stepped ≡ Stepped.On → work_left self.new.walk < work_left self.old.walk) }
@@ -155,7 +155,7 @@ impl Work {
         requires room { IsOpen self.old.packing.packer.writer }
         requires chunk { IsNextChunk self.old.walk.params (bytes_left self.old.walk) size }
         requires named { name ≡ naming.name (take size (bytes_left self.old.walk)) }
-        ensures work { (folder : Folder) (sent sealed : List Item) → WorkStands self.old lookup.now folder sent sealed → WorkStands self.new lookup.now folder sent sealed }
+        ensures work { KeepsWork lookup.now self.old self.new }
         ensures left { OnOk result (bytes_left self.new.walk ≡ drop size (bytes_left self.old.walk)) }
         ensures less { OnOk result (work_left self.new.walk < work_left self.old.walk) }
         ensures sealed { self.new.packing.packer.sealed ≡ self.old.packing.packer.sealed }
@@ -178,7 +178,7 @@ impl Work {
         requires chunks { AreFirstChunks self.old.walk.params (bytes_left self.old.walk) sizes.now }
         requires some { 1 ≤ length sizes.now }
         requires named { AreDigests names.now (pieces (bytes_left self.old.walk) sizes.now) }
-        ensures work { (folder : Folder) (sent sealed : List Item) → WorkStands self.old lookup.now folder sent sealed → WorkStands self.new lookup.now folder sent sealed }
+        ensures work { KeepsWork lookup.now self.old self.new }
         ensures less { OnOk result (work_left self.new.walk < work_left self.old.walk) }
         ensures sealed { self.new.packing.packer.sealed ≡ self.old.packing.packer.sealed }
         ensures same { IsSameWay self.old.walk self.new.walk }
@@ -198,7 +198,7 @@ impl Work {
         requires room { IsOpen self.old.packing.packer.writer }
         requires node { self.old.walk.node ≡ None }
         requires file { IsSome self.old.walk.file }
-        ensures work { (folder : Folder) (sent sealed : List Item) → WorkStands self.old lookup.now folder sent sealed → WorkStands self.new lookup.now folder sent sealed }
+        ensures work { KeepsWork lookup.now self.old self.new }
         ensures less { OnOk result (work_left self.new.walk < work_left self.old.walk) }
         ensures sealed { self.new.packing.packer.sealed ≡ self.old.packing.packer.sealed }
         ensures steps { self.new.walk.steps ≡ self.old.walk.steps }
@@ -243,7 +243,7 @@ impl Work {
         requires node { self.old.walk.node ≡ None }
         requires file { self.old.walk.file ≡ None }
         requires step { next_step self.old.walk ≡ Some WalkStep.Leave }
-        ensures work { (folder : Folder) (sent sealed : List Item) → WorkStands self.old lookup.now folder sent sealed → WorkStands self.new lookup.now folder sent sealed }
+        ensures work { KeepsWork lookup.now self.old self.new }
         ensures told { IfOk result (λ stepped. (folder : Folder) (sent sealed : List Item) → WorkStands self.old lookup.now folder sent sealed
             → Tells lookup.now folder (all_items sent sealed self.new.packing) stepped) }
         ensures less { IfOk result (λ stepped. stepped ≡ Stepped.On → work_left self.new.walk < work_left self.old.walk) }
@@ -263,7 +263,7 @@ impl Work {
         requires node { self.old.walk.node ≡ None }
         requires file { self.old.walk.file ≡ None }
         requires step { next_step self.old.walk ≡ None }
-        ensures work { (folder : Folder) (sent sealed : List Item) → WorkStands self.old lookup.now folder sent sealed → WorkStands self.new lookup.now folder sent sealed }
+        ensures work { KeepsWork lookup.now self.old self.new }
         ensures told { IfOk result (λ stepped. (folder : Folder) (sent sealed : List Item) → WorkStands self.old lookup.now folder sent sealed
             → Tells lookup.now folder (all_items sent sealed self.new.packing) stepped) }
         ensures over { IfOk result (λ stepped. stepped ≢ Stepped.On) }

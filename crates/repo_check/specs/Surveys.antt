@@ -26,7 +26,7 @@ use Rattle.repo_check.specs.Findings.{BlobIs}
 use Rattle.repo_check.specs.Gathering.{AreOnce, facts_noted, fault_noted, root_noted}
 use Rattle.repo_check.specs.Rounds.{AreNoted, HasOneMore, IsFreshRound, IsUntouched, IsWholeRound, KnowsRound, RoundView, round_of}
 use Rattle.repo_check.specs.Telling.{told}
-use Rattle.repo_check.specs.Walks.{ContentFault, Awaits, HasNoted, IsFreshKnown, IsOver, IsWalkMark, WalkReads, WalkView, Walks, WalksOn, tree_fault}
+use Rattle.repo_check.specs.Walks.{ContentFault, Awaits, HasNoted, IsFreshKnown, IsOver, IsWalkMark, WalkReads, WalkView, Walks, WalksOn, tree_fault, walk_of}
 use Rattle.repo_check.specs.declared.knowing.TreeNote.{TreeNote}
 use Rattle.repo_check.specs.declared.rounds.Turn.{Turn}
 use Rattle.repo_check.specs.declared.surveys.Next.{Next}
@@ -180,6 +180,17 @@ HasTaken rounds walk (Ask.List k after) rounds' walk' = (es : Trace) → Surveys
 HasTaken rounds walk (Ask.Get k n) rounds' walk' = (rounds'.snapshots ≡ rounds.snapshots) × (rounds'.indexes ≡ rounds.indexes) × HasOneMore rounds.packs rounds'.packs
 HasTaken rounds walk (Ask.Range pack offset len) rounds' walk' = (rounds' ≡ rounds) × ((es : Trace) → Surveys rounds walk (Ask.Range pack offset len) es → (roots : List Name) × (fact : Fact) × (note : TreeNote) × Awaits roots walk fact × HasNoted walk fact.name note walk')
 HasTaken rounds walk _ rounds' walk' = ⊥
+
+-- ---- all this between surveys as they stand
+
+abbrev pub SurveyKnows : Survey → Ask → Trace → Type 0
+SurveyKnows s ask es = Surveys (rounds_of s) (walk_of s.walk) ask es
+
+abbrev pub SurveyTakes : Survey → Ask → Say → Next → Survey → Type 0
+SurveyTakes old ask say next new = TakesSurvey (rounds_of old) (walk_of old.walk) ask say next (rounds_of new) (walk_of new.walk)
+
+abbrev pub SurveyHasTaken : Survey → Ask → Survey → Type 0
+SurveyHasTaken old ask new = HasTaken (rounds_of old) (walk_of old.walk) ask (rounds_of new) (walk_of new.walk)
 
 -- ---- the beginning
 

@@ -11,7 +11,7 @@ ghost use Rattle.repo_index.specs.declared.facts.Fact.{Fact};
 ghost use Rattle.repo_check.specs.Walks.{walk_of};
 ghost use Rattle.repo_check.specs.declared.rounds.Turn.{Turn};
 ghost use Rattle.repo_check.specs.declared.surveys.Next.{Next};
-ghost use Rattle.repo_check.specs.Surveys.{WalkBegins, HasTaken, Surveys, GoesAfter, GoesToTrees, HasBegun, IsShortNext, TakesSurvey, first_page, next_of, rounds_of};
+ghost use Rattle.repo_check.specs.Surveys.{WalkBegins, GoesAfter, GoesToTrees, HasBegun, IsShortNext, SurveyHasTaken, SurveyKnows, SurveyTakes, first_page, next_of, rounds_of};
 
 use crate::gathering::{lookup_of, roots_of};
 use crate::knowing::note_of;
@@ -71,7 +71,7 @@ impl Survey {
 
     /// Takes the reply to the request for a page of snapshots. It fails for memory alone, and then nothing changed.
     fn take_snapshot_page(&mut self, say: &Say) -> Result<Next, AllocError>
-        ensures takes { IfOk result (λ next. (after : Option Name) → TakesSurvey (rounds_of self.old) (walk_of self.old.walk) (Ask.List Kind.Snapshot after) say.now next (rounds_of self.new) (walk_of self.new.walk)) }
+        ensures takes { IfOk result (λ next. (after : Option Name) → SurveyTakes self.old (Ask.List Kind.Snapshot after) say.now next self.new) }
         ensures more { IfOk result (λ next. next ≢ Next.Over) }
         ensures short { IfOk result IsShortNext }
         ensures same { OnErr result (rounds_of self.new ≡ rounds_of self.old) }
@@ -83,7 +83,7 @@ impl Survey {
 
     /// Takes the reply to the request for a snapshot. It fails for memory alone, and then nothing changed.
     fn take_snapshot(&mut self, name: Name, say: &Say) -> Result<Next, AllocError>
-        ensures takes { IfOk result (λ next. TakesSurvey (rounds_of self.old) (walk_of self.old.walk) (Ask.Get Kind.Snapshot name) say.now next (rounds_of self.new) (walk_of self.new.walk)) }
+        ensures takes { IfOk result (λ next. SurveyTakes self.old (Ask.Get Kind.Snapshot name) say.now next self.new) }
         ensures more { IfOk result (λ next. next ≢ Next.Over) }
         ensures short { IfOk result IsShortNext }
         ensures same { OnErr result (rounds_of self.new ≡ rounds_of self.old) }
@@ -95,7 +95,7 @@ impl Survey {
 
     /// Takes the reply to the request for a page of indexes. It fails for memory alone, and then nothing changed.
     fn take_index_page(&mut self, say: &Say) -> Result<Next, AllocError>
-        ensures takes { IfOk result (λ next. (after : Option Name) → TakesSurvey (rounds_of self.old) (walk_of self.old.walk) (Ask.List Kind.Index after) say.now next (rounds_of self.new) (walk_of self.new.walk)) }
+        ensures takes { IfOk result (λ next. (after : Option Name) → SurveyTakes self.old (Ask.List Kind.Index after) say.now next self.new) }
         ensures more { IfOk result (λ next. next ≢ Next.Over) }
         ensures short { IfOk result IsShortNext }
         ensures same { OnErr result (rounds_of self.new ≡ rounds_of self.old) }
@@ -107,7 +107,7 @@ impl Survey {
 
     /// Takes the reply to the request for an index. It fails for memory alone, and then nothing changed.
     fn take_index(&mut self, name: Name, say: &Say) -> Result<Next, AllocError>
-        ensures takes { IfOk result (λ next. TakesSurvey (rounds_of self.old) (walk_of self.old.walk) (Ask.Get Kind.Index name) say.now next (rounds_of self.new) (walk_of self.new.walk)) }
+        ensures takes { IfOk result (λ next. SurveyTakes self.old (Ask.Get Kind.Index name) say.now next self.new) }
         ensures more { IfOk result (λ next. next ≢ Next.Over) }
         ensures short { IfOk result IsShortNext }
         ensures same { OnErr result (rounds_of self.new ≡ rounds_of self.old) }
@@ -158,10 +158,10 @@ impl Survey {
 
     /// Takes the reply to the request for a page of packs. It fails for memory alone, and then nothing changed.
     fn take_pack_page(&mut self, say: &Say) -> Result<Next, AllocError>
-        ensures takes { IfOk result (λ next. (after : Option Name) → TakesSurvey (rounds_of self.old) (walk_of self.old.walk) (Ask.List Kind.Pack after) say.now next (rounds_of self.new) (walk_of self.new.walk)) }
-        ensures over { IfOk result (λ next. next ≡ Next.Over → (after : Option Name) → HasTaken (rounds_of self.old) (walk_of self.old.walk) (Ask.List Kind.Pack after) (rounds_of self.new) (walk_of self.new.walk)) }
+        ensures takes { IfOk result (λ next. (after : Option Name) → SurveyTakes self.old (Ask.List Kind.Pack after) say.now next self.new) }
+        ensures over { IfOk result (λ next. next ≡ Next.Over → (after : Option Name) → SurveyHasTaken self.old (Ask.List Kind.Pack after) self.new) }
         ensures short { IfOk result IsShortNext }
-        ensures same { OnErr result ((after : Option Name) (es : Trace) → Surveys (rounds_of self.old) (walk_of self.old.walk) (Ask.List Kind.Pack after) es → rounds_of self.new ≡ rounds_of self.old) }
+        ensures same { OnErr result ((after : Option Name) (es : Trace) → SurveyKnows self.old (Ask.List Kind.Pack after) es → rounds_of self.new ≡ rounds_of self.old) }
     {
         let turn = self.packs.take_page(say)?;
         self.after_packs(turn)
@@ -169,8 +169,8 @@ impl Survey {
 
     /// Takes the reply to the request for a pack. It fails for memory alone, and then nothing changed.
     fn take_pack(&mut self, name: Name, say: &Say) -> Result<Next, AllocError>
-        ensures takes { IfOk result (λ next. TakesSurvey (rounds_of self.old) (walk_of self.old.walk) (Ask.Get Kind.Pack name) say.now next (rounds_of self.new) (walk_of self.new.walk)) }
-        ensures over { IfOk result (λ next. next ≡ Next.Over → HasTaken (rounds_of self.old) (walk_of self.old.walk) (Ask.Get Kind.Pack name) (rounds_of self.new) (walk_of self.new.walk)) }
+        ensures takes { IfOk result (λ next. SurveyTakes self.old (Ask.Get Kind.Pack name) say.now next self.new) }
+        ensures over { IfOk result (λ next. next ≡ Next.Over → SurveyHasTaken self.old (Ask.Get Kind.Pack name) self.new) }
         ensures short { IfOk result IsShortNext }
         ensures same { OnErr result (rounds_of self.new ≡ rounds_of self.old) }
     {
@@ -186,10 +186,10 @@ impl Survey {
 
     /// Takes the reply to the request for a tree. It fails for memory alone, and then nothing changed.
     fn take_tree(&mut self, say: &Say) -> Result<Next, AllocError>
-        ensures takes { IfOk result (λ next. (pack : Name) (offset len : ℕ) → TakesSurvey (rounds_of self.old) (walk_of self.old.walk) (Ask.Range pack offset len) say.now next (rounds_of self.new) (walk_of self.new.walk)) }
-        ensures over { IfOk result (λ next. next ≡ Next.Over → (pack : Name) (offset len : ℕ) → HasTaken (rounds_of self.old) (walk_of self.old.walk) (Ask.Range pack offset len) (rounds_of self.new) (walk_of self.new.walk)) }
+        ensures takes { IfOk result (λ next. (pack : Name) (offset len : ℕ) → SurveyTakes self.old (Ask.Range pack offset len) say.now next self.new) }
+        ensures over { IfOk result (λ next. next ≡ Next.Over → (pack : Name) (offset len : ℕ) → SurveyHasTaken self.old (Ask.Range pack offset len) self.new) }
         ensures short { IfOk result IsShortNext }
-        ensures same { OnErr result ((pack : Name) (offset len : ℕ) (es : Trace) → Surveys (rounds_of self.old) (walk_of self.old.walk) (Ask.Range pack offset len) es → walk_of self.new.walk ≡ walk_of self.old.walk) }
+        ensures same { OnErr result ((pack : Name) (offset len : ℕ) (es : Trace) → SurveyKnows self.old (Ask.Range pack offset len) es → walk_of self.new.walk ≡ walk_of self.old.walk) }
         ensures rounds { rounds_of self.new ≡ rounds_of self.old }
     {
         let Some(fact) = self.walk.asked() else {
@@ -204,10 +204,10 @@ impl Survey {
 
     /// Takes the reply to the request for a page of a kind. It fails for memory alone, and then what was known is known.
     fn take_page(&mut self, kind: Kind, say: &Say) -> Result<Next, AllocError>
-        ensures takes { IfOk result (λ next. (after : Option Name) → TakesSurvey (rounds_of self.old) (walk_of self.old.walk) (Ask.List kind after) say.now next (rounds_of self.new) (walk_of self.new.walk)) }
-        ensures over { IfOk result (λ next. next ≡ Next.Over → (after : Option Name) → HasTaken (rounds_of self.old) (walk_of self.old.walk) (Ask.List kind after) (rounds_of self.new) (walk_of self.new.walk)) }
+        ensures takes { IfOk result (λ next. (after : Option Name) → SurveyTakes self.old (Ask.List kind after) say.now next self.new) }
+        ensures over { IfOk result (λ next. next ≡ Next.Over → (after : Option Name) → SurveyHasTaken self.old (Ask.List kind after) self.new) }
         ensures short { IfOk result IsShortNext }
-        ensures same { OnErr result ((after : Option Name) (es : Trace) → Surveys (rounds_of self.old) (walk_of self.old.walk) (Ask.List kind after) es → rounds_of self.new ≡ rounds_of self.old) }
+        ensures same { OnErr result ((after : Option Name) (es : Trace) → SurveyKnows self.old (Ask.List kind after) es → rounds_of self.new ≡ rounds_of self.old) }
     {
         match kind {
             Kind::Pack => self.take_pack_page(say),
@@ -218,8 +218,8 @@ impl Survey {
 
     /// Takes the reply to the request for an object. It fails for memory alone, and then what was known is known.
     fn take_object(&mut self, kind: Kind, name: Name, say: &Say) -> Result<Next, AllocError>
-        ensures takes { IfOk result (λ next. TakesSurvey (rounds_of self.old) (walk_of self.old.walk) (Ask.Get kind name) say.now next (rounds_of self.new) (walk_of self.new.walk)) }
-        ensures over { IfOk result (λ next. next ≡ Next.Over → HasTaken (rounds_of self.old) (walk_of self.old.walk) (Ask.Get kind name) (rounds_of self.new) (walk_of self.new.walk)) }
+        ensures takes { IfOk result (λ next. SurveyTakes self.old (Ask.Get kind name) say.now next self.new) }
+        ensures over { IfOk result (λ next. next ≡ Next.Over → SurveyHasTaken self.old (Ask.Get kind name) self.new) }
         ensures short { IfOk result IsShortNext }
         ensures same { OnErr result (rounds_of self.new ≡ rounds_of self.old) }
     {
@@ -232,10 +232,10 @@ impl Survey {
 
     /// Takes the reply to a request of the survey. It fails for memory alone, and then what was known is known.
     pub fn take(&mut self, ask: &Ask, say: &Say) -> Result<Next, AllocError>
-        ensures takes { IfOk result (λ next. TakesSurvey (rounds_of self.old) (walk_of self.old.walk) ask.now say.now next (rounds_of self.new) (walk_of self.new.walk)) }
-        ensures over { IfOk result (λ next. next ≡ Next.Over → HasTaken (rounds_of self.old) (walk_of self.old.walk) ask.now (rounds_of self.new) (walk_of self.new.walk)) }
+        ensures takes { IfOk result (λ next. SurveyTakes self.old ask.now say.now next self.new) }
+        ensures over { IfOk result (λ next. next ≡ Next.Over → SurveyHasTaken self.old ask.now self.new) }
         ensures short { IfOk result IsShortNext }
-        ensures knows { OnErr result ((es : Trace) → Surveys (rounds_of self.old) (walk_of self.old.walk) ask.now es → Surveys (rounds_of self.new) (walk_of self.new.walk) ask.now es) }
+        ensures knows { OnErr result ((es : Trace) → SurveyKnows self.old ask.now es → SurveyKnows self.new ask.now es) }
     {
         match ask {
             Ask::List { kind, .. } => self.take_page(*kind, say),

@@ -5,7 +5,7 @@ use Rattle.std.proofs.lemmas.List.{length-append, append_assoc, length-drop, dro
 use Rattle.std.proofs.lemmas.Bool.{cases_lt}
 use Rattle.repo_chunk.specs.Parameters.{Parameters, AreLawful}
 use Rattle.repo_chunk.specs.Rabin.{remainder}
-use Rattle.repo_chunk.specs.Rolling.{window_at, IsMarkedAt, HasNoMarkBefore}
+use Rattle.repo_chunk.specs.inner.Rolling.{window_at, IsMarkedAt, HasNoMarkBefore}
 use Rattle.repo_chunk.specs.Cuts.{last, IsMarked, EndsAt, IsCut, HasNoCut}
 
 -- ---- the last 64 bytes, behind 64 bytes of filling

@@ -9,7 +9,7 @@ use Rattle.std.proofs.lemmas.List.Sums.{fold-append}
 use Rattle.std.proofs.lemmas.Nat.{xor_block, xor_comm}
 use Rattle.std.proofs.lemmas.Nat.Bits.{bit_at_xor, bit_at-zero, bit_at-lt, bit_at_above, same_from_bits}
 use Rattle.repo_chunk.specs.Rabin.{polynomial, bits_of, reduce, step, remainder}
-use Rattle.repo_chunk.specs.Tables.{with_byte, high_part, leaving_part}
+use Rattle.repo_chunk.specs.inner.Tables.{with_byte, high_part, leaving_part}
 use Rattle.repo_chunk.proofs.Bits.{xor_polynomial-lt}
 
 -- ---- exclusive or

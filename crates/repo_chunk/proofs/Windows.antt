@@ -5,7 +5,7 @@ use Rattle.std.proofs.lemmas.Bool.{cases_lt}
 use Rattle.std.proofs.lemmas.List.{length-drop, length-take, drop-drop, drop_at, drop_more, take_at, take_all, take_more, take-append-le, get_or-take, get_or-drop}
 use Rattle.std.proofs.lemmas.Nat.{and_mask, one_shl}
 use Rattle.repo_chunk.specs.Rabin.{remainder}
-use Rattle.repo_chunk.specs.Rolling.{window_at, IsMarkedAt, HasNoMarkBefore, IsRoll, IsFirstMark}
+use Rattle.repo_chunk.specs.inner.Rolling.{window_at, IsMarkedAt, HasNoMarkBefore, IsRoll, IsFirstMark}
 use Rattle.repo_chunk.specs.declared.rolling.Found.TheVariants.{Mark, NoMark}
 use Rattle.repo_chunk.proofs.Linear.{remainder-lt}
 

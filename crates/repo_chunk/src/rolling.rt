@@ -2,8 +2,8 @@
 
 ghost use Rattle.std.specs.Prelude.{◌≡◌, ℕ, ◌+◌, ◌%◌, ◌^◌, ◌<◌, ◌≤◌, ◌↔◌, IsTrue, List, [], ◌∷◌, ◌++◌, length};
 ghost use Rattle.repo_chunk.specs.Rabin.{remainder};
-ghost use Rattle.repo_chunk.specs.Tables.{with_byte, high_part, leaving_part};
-ghost use Rattle.repo_chunk.specs.Rolling.{IsRoll, IsFirstMark};
+ghost use Rattle.repo_chunk.specs.inner.Tables.{with_byte, high_part, leaving_part};
+ghost use Rattle.repo_chunk.specs.inner.Rolling.{IsRoll, IsFirstMark};
 
 use crate::tables::{high_part, leaving_part};
 

@@ -2,7 +2,7 @@
 //! or: the entry of a byte is the exclusive or of the entries of its bits.
 
 ghost use Rattle.std.specs.Prelude.{◌≡◌, ◌<◌};
-ghost use Rattle.repo_chunk.specs.Tables.{high_part, leaving_part};
+ghost use Rattle.repo_chunk.specs.inner.Tables.{high_part, leaving_part};
 
 // The entries of all bytes, from 0 and the entries of the bits, the lowest first: each bit doubles the list.
 macro_rules! entries {

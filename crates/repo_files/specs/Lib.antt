@@ -1,4 +1,3 @@
-pub mod Parts
-pub mod Places
 pub mod Restoring
 pub mod Scanned
+pub mod inner

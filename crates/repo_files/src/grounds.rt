@@ -1,7 +1,7 @@
 //! The folder that is restored into.
 
 ghost use Rattle.std.specs.Prelude.{◌≡◌, IfOk, OnOk, string_bytes};
-ghost use Rattle.repo_files.specs.Places.{place_of};
+ghost use Rattle.repo_files.specs.inner.Places.{place_of};
 ghost use Rattle.repo_tree.specs.Paths.{IsPath};
 
 use crate::drafts::Draft;

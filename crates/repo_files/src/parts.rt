@@ -1,7 +1,7 @@
 //! Names of files that are being written.
 
 ghost use Rattle.std.specs.Prelude.{◌≡◌, ◌↔◌, IfOk, IsTrue, string_bytes};
-ghost use Rattle.repo_files.specs.Parts.{IsPart, part_of};
+ghost use Rattle.repo_files.specs.inner.Parts.{IsPart, part_of};
 
 use std::alloc::{AllocError, Global};
 

@@ -1,7 +1,7 @@
 //! Where the entries of a folder lie in the file system.
 
 ghost use Rattle.std.specs.Prelude.{◌≡◌, IfOk, string_bytes};
-ghost use Rattle.repo_files.specs.Places.{place_of};
+ghost use Rattle.repo_files.specs.inner.Places.{place_of};
 
 use repo_name::Text;
 use std::alloc::{AllocError, Global};

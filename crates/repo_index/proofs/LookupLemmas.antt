@@ -19,7 +19,7 @@ use Rattle.repo_name.specs.declared.kinds.BlobKind.{BlobKind}
 use Rattle.repo_pack.specs.declared.places.Place.{Place}
 use Rattle.repo_index.specs.IndexText.{fact_of, IsFact, facts_in}
 use Rattle.repo_index.specs.Order.{place_cmp, kind_cmp, place_first, name_first, IsAtMost, names_total, kinds_total, place_first_total, name_first_total}
-use Rattle.repo_index.specs.Bounds.{IsBeforePair, IsAfterPair}
+use Rattle.repo_index.specs.inner.Bounds.{IsBeforePair, IsAfterPair}
 use Rattle.repo_index.specs.Lookups.{IsLeast, Joins, Grew, HasSame, AreHeld}
 use Rattle.repo_index.specs.declared.facts.Fact.{Fact}
 use Rattle.repo_index.specs.declared.facts.PackFacts.{PackFacts}

@@ -14,7 +14,7 @@ use Rattle.repo_name.specs.declared.kinds.BlobKind.{BlobKind}
 use Rattle.repo_name.specs.declared.kinds.BlobKind.TheVariants.{Content, Tree}
 use Rattle.repo_pack.specs.declared.places.Place.{Place}
 use Rattle.repo_index.specs.Order.{place_cmp, kind_cmp, place_first, name_first, IsAtMost, names_total}
-use Rattle.repo_index.specs.Bounds.{IsBeforePack, IsAfterPack}
+use Rattle.repo_index.specs.inner.Bounds.{IsBeforePack, IsAfterPack}
 
 -- ---- one order, then another
 

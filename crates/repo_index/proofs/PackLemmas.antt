@@ -18,7 +18,7 @@ use Rattle.repo_name.specs.Naming.{name_cmp}
 use Rattle.repo_name.specs.declared.names.Name.{Name}
 use Rattle.repo_index.specs.IndexText.{IsFact}
 use Rattle.repo_index.specs.Order.{kind_cmp, place_first, names_total, place_first_total}
-use Rattle.repo_index.specs.Bounds.{IsBeforePack, IsAfterPack}
+use Rattle.repo_index.specs.inner.Bounds.{IsBeforePack, IsAfterPack}
 use Rattle.repo_index.specs.Lookups.{AreHeld, EndsWith, AreFactsOf, ArePacksOf}
 use Rattle.repo_index.specs.declared.facts.Fact.{Fact}
 use Rattle.repo_index.proofs.OrderLemmas.{then_assoc, between, names_exact}

@@ -3,7 +3,7 @@ pub mod IndexText
 pub mod IndexFaults
 pub mod IndexWriting
 pub mod Order
-pub mod Bounds
 pub mod Lookups
 pub mod Laws
 pub mod Exactness
+pub mod inner

@@ -7,7 +7,7 @@ ghost use Rattle.repo_name.specs.declared.names.Name.{Name};
 ghost use Rattle.repo_pack.specs.declared.places.Place.{Place};
 ghost use Rattle.repo_index.specs.IndexText.{IsPlace};
 ghost use Rattle.repo_index.specs.Order.{IsAtMost};
-ghost use Rattle.repo_index.specs.Bounds.{IsBeforePair, IsAfterPair, IsBeforePack, IsAfterPack};
+ghost use Rattle.repo_index.specs.inner.Bounds.{IsBeforePair, IsAfterPair, IsBeforePack, IsAfterPack};
 
 use crate::facts::Fact;
 use crate::keys::{ByName, ByPlace};

@@ -30,7 +30,7 @@ use Rattle.repo_prune.specs.declared.forgets.ForgetJob.{ForgetJob}
 use Rattle.repo_prune.specs.Forgetting.{IsDecided, AreChosen, ForgetAllows, forget_rule, forget_task}
 use Rattle.repo_prune.specs.ForgetStates.{Deletes, KnowsForget, KnowsReading}
 use Rattle.repo_prune.specs.Keeping.{Row}
-use Rattle.repo_prune.specs.Picking.{AreChosenOf}
+use Rattle.repo_prune.specs.inner.Picking.{AreChosenOf}
 
 -- ---- reading
 

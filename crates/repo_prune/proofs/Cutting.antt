@@ -10,7 +10,7 @@ use Rattle.repo_index.specs.declared.facts.PackFacts.{PackFacts}
 use Rattle.repo_reach.proofs.Using.{one_more}
 use Rattle.repo_prune.proofs.Planning.{at_contained}
 use Rattle.repo_index.specs.Order.{names_total}
-use Rattle.repo_prune.specs.Indexing.{AreSmall, is_before}
+use Rattle.repo_prune.specs.inner.Indexing.{AreSmall, is_before}
 
 -- the facts of one pack more
 facts_more : (packs : List PackFacts) (i : ℕ) (d : PackFacts) → i < length packs → length (facts_in (take (i + 1) packs)) ≡ length (facts_in (take i packs)) + length (get_or packs i d).facts

@@ -14,7 +14,7 @@ use Rattle.repo_reach.specs.declared.trees.Seen.{Seen}
 use Rattle.repo_reach.specs.declared.used.Used.{Used}
 use Rattle.repo_writing.specs.Blobs.{HasFact}
 use Rattle.repo_prune.specs.Reading.{AreFound}
-use Rattle.repo_prune.specs.Unfound.{AreGiven, IsContentOf, content_in}
+use Rattle.repo_prune.specs.inner.Unfound.{AreGiven, IsContentOf, content_in}
 
 pub none_found : {A P : Type 0} (found : Option A) → is_some found ≡ false → IfNone found P → P
 none_found (Some x) h p = absurd (cc)

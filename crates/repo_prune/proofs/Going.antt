@@ -28,7 +28,7 @@ use Rattle.repo_index.specs.Order.{names_total}
 use Rattle.repo_prune.specs.declared.keeping.Policy.{Policy}
 use Rattle.repo_prune.specs.declared.standings.Standing.{Standing}
 use Rattle.repo_prune.specs.Keeping.{Row, day, IsLater, HasLater, IsLastOfDay, AreLaterDays, IsKept, AreKept}
-use Rattle.repo_prune.specs.Walks.{row_cmp, is_before, same_host, is_later, Descends, Counts, GoesDown, StandsAt, IsKeptAt}
+use Rattle.repo_prune.specs.inner.Walks.{row_cmp, is_before, same_host, is_later, Descends, Counts, GoesDown, StandsAt, IsKeptAt}
 
 pub rows_total : IsTotalOrder row_cmp
 rows_total = then_total (on_total (λ (r : Row). r.1.host) nat_list_cmp_total) (then_total (on_total (λ (r : Row). r.1.time) nat_cmp_total) (on_total (λ (r : Row). r.0) names_total))

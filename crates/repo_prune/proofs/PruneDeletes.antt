@@ -31,7 +31,7 @@ use Rattle.repo_writing.proofs.PutLemmas.{each_contained, asked_put, objects_put
 use Rattle.repo_writing.proofs.Writings.{lists_stay, all_done, counted, each_alone}
 use Rattle.repo_writing.specs.Putting.{AreCounted, AreDone}
 use Rattle.repo_writing.specs.Writing.{Put, IsPut, AreListed}
-use Rattle.repo_prune.specs.Deleting.{BeginsDeleting, DeletesNext, IsGone}
+use Rattle.repo_prune.specs.inner.Deleting.{BeginsDeleting, DeletesNext, IsGone}
 use Rattle.repo_prune.specs.PruneStates.{Known, HasListed, IsClearing, KnowsDeleting, KnowsStage, MayClear, IsNextStep}
 use Rattle.repo_prune.specs.Pruning.{prune_rule, prune_task, AreCovered, AreReplaced, IsPruned, IsSettled, ListsPack}
 use Rattle.repo_prune.specs.declared.deleting.Deleting.{Deleting}

@@ -42,7 +42,7 @@ use Rattle.repo_reach.specs.declared.trees.Seen.{Seen}
 use Rattle.repo_reach.specs.declared.trees.Trees.{Trees}
 use Rattle.repo_writing.proofs.PutLemmas.{each_contained}
 use Rattle.repo_writing.specs.Putting.{IsKeptPack}
-use Rattle.repo_prune.specs.Deciding.{IsPlanned}
+use Rattle.repo_prune.specs.inner.Deciding.{IsPlanned}
 use Rattle.repo_prune.specs.Keeping.{Row}
 use Rattle.repo_prune.specs.PruneStates.{Known, HaveRead, IsWalkOver, HasWalked, ArePlanned, KnowsStage}
 use Rattle.repo_prune.specs.Pruning.{IsUntouched, prune_rule, prune_task, IsNeededBy, AreWalked, IsBadTree, PruneConcludes}

@@ -6,7 +6,7 @@ use Rattle.repo_index.specs.IndexWriting.{AreLawful, AreFew}
 use Rattle.repo_index.specs.declared.facts.PackFacts.{PackFacts}
 use Rattle.repo_writing.proofs.Writings.{all_of}
 use Rattle.repo_writing.specs.Writing.{FewWait}
-use Rattle.repo_prune.specs.Indexing.{AreSmall}
+use Rattle.repo_prune.specs.inner.Indexing.{AreSmall}
 use Rattle.repo_prune.specs.Relisting.{IsListable, AreListable}
 
 module _ {X : Type 0} where

@@ -1,20 +1,15 @@
 -- The definitions that the contracts of this crate cite.
 pub mod Keeping
 pub mod Forgetting
-pub mod Walks
-pub mod Picking
 pub mod ForgetStates
 pub mod ForgetObedience
 pub mod Pruning
 pub mod PruneLaws
 pub mod Plans
 pub mod Reading
-pub mod Unfound
 pub mod Moving
-pub mod Indexing
-pub mod Deciding
 pub mod Relisting
-pub mod Deleting
 pub mod PruneStates
 pub mod PruneObedience
 pub mod Laws
+pub mod inner

@@ -2,7 +2,7 @@
 
 ghost use Rattle.std.specs.Prelude.{◌≡◌, ℕ, List, IfOk};
 ghost use Rattle.repo_reach.specs.declared.trees.Trees.{Trees};
-ghost use Rattle.repo_prune.specs.Deciding.{Decides};
+ghost use Rattle.repo_prune.specs.inner.Deciding.{Decides};
 
 use crate::plans::Plan;
 use crate::unfound::unfound;

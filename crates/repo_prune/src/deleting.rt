@@ -5,7 +5,7 @@ ghost use Rattle.repo_index.specs.declared.facts.PackFacts.{PackFacts};
 ghost use Rattle.repo_wire.specs.declared.messages.Ask.{Ask};
 ghost use Rattle.repo_session.specs.Jobs.{IsShortStep};
 ghost use Rattle.repo_session.specs.declared.jobs.Step.{Step};
-ghost use Rattle.repo_prune.specs.Deleting.{BeginsDeleting, DeletesNext, IsGone};
+ghost use Rattle.repo_prune.specs.inner.Deleting.{BeginsDeleting, DeletesNext, IsGone};
 
 use crate::picking::pick;
 use crate::relisting::Relisting;
@@ -38,6 +38,7 @@ fn delete(token: Token, kind: Kind, name: Name) -> Step
     ensures deletes { result ≡ Step.Ask (Ask.Delete token kind name) }
     ensures short { IsShortStep result }
 {
+    // Its contract tells the proof what the type of names says.
     name.to_bytes();
     Step::Ask(Ask::Delete { token, kind, name })
 }

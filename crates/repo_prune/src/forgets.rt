@@ -9,7 +9,7 @@ ghost use Rattle.repo_session.specs.Listings.{KnowsAsMuch};
 ghost use Rattle.repo_session.specs.Traces.{silent};
 ghost use Rattle.repo_prune.specs.declared.choices.Choice.{Choice};
 ghost use Rattle.repo_prune.specs.Forgetting.{IsNoPolicy, forget_rule};
-ghost use Rattle.repo_prune.specs.Picking.{AreChosenOf};
+ghost use Rattle.repo_prune.specs.inner.Picking.{AreChosenOf};
 ghost use Rattle.repo_prune.specs.ForgetStates.{FitsForget, IsFreshForget, KnowsDelete, KnowsForget, ForgetBegins, ForgetGoesOn, ReadsOn, who_of, choice_of};
 
 use crate::choices::{Choice, ForgetError};
@@ -60,6 +60,7 @@ impl ForgetJob {
         match self.chosen.as_slice().get(self.deleted) {
             Some(name) => {
                 let name = *name;
+                // Its contract tells the proof what the type of names says.
                 name.to_bytes();
                 Step::Ask(Ask::Delete {
                     token: holder.token(),

@@ -4,7 +4,7 @@ ghost use Rattle.std.specs.Prelude.{◌≡◌, take, IfOk};
 ghost use Rattle.std.specs.List.Sorted.{IsSortedBy, IsPermutation};
 ghost use Rattle.repo_name.specs.Naming.{name_cmp};
 ghost use Rattle.repo_writing.specs.Writing.{FewWait};
-ghost use Rattle.repo_prune.specs.Indexing.{IsCut, AreSmall, is_before};
+ghost use Rattle.repo_prune.specs.inner.Indexing.{IsCut, AreSmall, is_before};
 
 use repo_index::{Facts, IndexText, PackFacts};
 use repo_name::FACTS_LIMIT;

@@ -4,7 +4,7 @@ ghost use Rattle.std.specs.Prelude.{◌≡◌, IfOk, List, map};
 ghost use Rattle.std.specs.Borrow.{Bor};
 ghost use Rattle.std.specs.List.Sorted.{IsSortedBy, IsPermutation};
 ghost use Rattle.repo_prune.specs.Keeping.{Row, AreKept};
-ghost use Rattle.repo_prune.specs.Walks.{is_before};
+ghost use Rattle.repo_prune.specs.inner.Walks.{is_before};
 
 use crate::standings::{Standing, newest_first};
 use repo_name::Name;

@@ -6,7 +6,7 @@ ghost use Rattle.std.proofs.Math.Bool.{beq};
 ghost use Rattle.std.specs.BTreeSet.{contains};
 ghost use Rattle.repo_name.specs.Naming.{name_cmp};
 ghost use Rattle.repo_name.specs.declared.names.Name.{Name};
-ghost use Rattle.repo_prune.specs.Picking.{ArePicked, AreChosenOf};
+ghost use Rattle.repo_prune.specs.inner.Picking.{ArePicked, AreChosenOf};
 
 use crate::choices::Choice;
 use crate::keeping::keep;

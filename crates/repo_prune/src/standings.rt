@@ -2,7 +2,7 @@
 
 ghost use Rattle.std.specs.Prelude.{◌≡◌, ◌↔◌, ℕ, true, List, IsTrue, Some, slice_get};
 ghost use Rattle.repo_prune.specs.Keeping.{Row};
-ghost use Rattle.repo_prune.specs.Walks.{row_cmp, Descends, GoesDown, IsKeptAt, StandsAt, RowsBefore};
+ghost use Rattle.repo_prune.specs.inner.Walks.{row_cmp, Descends, GoesDown, IsKeptAt, StandsAt, RowsBefore};
 
 use crate::keeping::Policy;
 use repo_name::Name;

@@ -9,7 +9,7 @@ ghost use Rattle.repo_reach.specs.Used.{HasPair};
 ghost use Rattle.repo_session.specs.Catalogs.{IsNowhere};
 ghost use Rattle.repo_writing.specs.Blobs.{HasFact};
 ghost use Rattle.repo_prune.specs.Reading.{AreFound};
-ghost use Rattle.repo_prune.specs.Unfound.{IsContentOf};
+ghost use Rattle.repo_prune.specs.inner.Unfound.{IsContentOf};
 
 use repo_index::Lookup;
 use repo_name::{BlobKind, Name};

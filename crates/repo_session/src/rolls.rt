@@ -75,6 +75,7 @@ impl Roll {
     {
         let last = self.names.as_slice().last().copied();
         if let Some(name) = last {
+            // Its contract tells the proof what the type of names says.
             name.to_bytes();
         }
         last
@@ -87,6 +88,7 @@ impl Roll {
     {
         let next = self.names.as_slice().get(self.read).copied();
         if let Some(name) = next {
+            // Its contract tells the proof what the type of names says.
             name.to_bytes();
         }
         next

@@ -3,9 +3,9 @@ use Rattle.std.proofs.Common.{◌≡◌, ℕ, zero, suc, ◌+◌, ◌<◌, List,
 use Rattle.sha2.specs.Sha256.{compress, hash_after, initial_hash_256, padded_message}
 use Rattle.sha2.proofs.Absorbing256.{hash_after_next}
 use Rattle.repo_sha.specs.declared.pieces.Piece.{Piece}
-use Rattle.repo_sha.specs.Batches.{HasLeft}
-use Rattle.repo_sha.specs.Lanes.{lane, lane_word}
-use Rattle.repo_sha.specs.Messages.{block_at, hash_to}
+use Rattle.repo_sha.specs.inner.Batches.{HasLeft}
+use Rattle.repo_sha.specs.inner.Lanes.{lane, lane_word}
+use Rattle.repo_sha.specs.inner.Messages.{block_at, hash_to}
 use Rattle.repo_sha.proofs.LaneLemmas.{eight_items}
 
 -- an item that is there is the same whatever stands for one that isn't

@@ -6,8 +6,8 @@ use Rattle.std.proofs.lemmas.List.{get_or-map, map-set, length-map}
 use Rattle.std.specs.Borrow.{Bor}
 use Rattle.sha2.specs.Sha256.{word_at}
 use Rattle.sha2.proofs.Schedule256.{IsWindow_first}
-use Rattle.repo_sha.specs.Lanes.{lane_word, words_in}
-use Rattle.repo_sha.specs.Schedules.{Begins, blocks_of}
+use Rattle.repo_sha.specs.inner.Lanes.{lane_word, words_in}
+use Rattle.repo_sha.specs.inner.Schedules.{Begins, blocks_of}
 
 -- what holds of each of the eight lanes
 pub below_eight : (P : ℕ → Type 0) → P 0 → P 1 → P 2 → P 3 → P 4 → P 5 → P 6 → P 7 → (j : ℕ) → j < 8 → P j

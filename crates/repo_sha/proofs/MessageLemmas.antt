@@ -6,7 +6,7 @@ use Rattle.std.proofs.lemmas.List.{append_assoc, drop-append-le, drop-drop, drop
 use Rattle.std.proofs.Math.Seq.{take-add}
 use Rattle.std.proofs.lemmas.Slice.{take-put_mid}
 use Rattle.sha2.specs.Sha256.{padded_message, padding}
-use Rattle.repo_sha.specs.Messages.{HasEnding, block_at, block_count, ending}
+use Rattle.repo_sha.specs.inner.Messages.{HasEnding, block_at, block_count, ending}
 use borrow.Rule.Slice.PartMut.{put_mid}
 
 -- a chunk is the bytes at its place

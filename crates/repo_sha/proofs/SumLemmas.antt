@@ -4,8 +4,8 @@ use Rattle.std.proofs.lemmas.List.{get_or-set_same, get_or-set_other, length-set
 use Rattle.std.proofs.lemmas.Bool.{cases_lt}
 use Rattle.sha2.specs.Sha256.{IsWindow, add32, rounds, round, round_constants, window_word}
 use Rattle.sha2.proofs.Schedule256.{IsWindow_next, rounds_next, window_word_at, window_word_place}
-use Rattle.repo_sha.specs.Lanes.{words_in}
-use Rattle.repo_sha.specs.Schedules.{HasSums, IsScheduledTo, schedule_of}
+use Rattle.repo_sha.specs.inner.Lanes.{words_in}
+use Rattle.repo_sha.specs.inner.Schedules.{HasSums, IsScheduledTo, schedule_of}
 use Rattle.repo_sha.proofs.LaneLemmas.{words_set}
 
 -- one more sum

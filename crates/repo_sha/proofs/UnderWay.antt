@@ -5,7 +5,7 @@ use Rattle.std.proofs.lemmas.Bool.{cases_eq}
 use Rattle.sha2.specs.Sha256.{sha256}
 use Rattle.repo_sha.specs.declared.pieces.Piece.{Piece}
 use Rattle.repo_sha.proofs.BatchLemmas.{at_any}
-use Rattle.repo_sha.specs.Batches.{AreAmong, GoesOn, Has, IsUnderWay, at, with_digest}
+use Rattle.repo_sha.specs.inner.Batches.{AreAmong, GoesOn, Has, IsUnderWay, at, with_digest}
 
 -- a lane that was left empty
 pub at_emptied : (lanes : List (Option Piece)) (lane : ℕ) → at (slice_set lanes lane None) lane ≡ None

@@ -1,6 +1,3 @@
 -- The definitions that the contracts of this crate cite.
 pub mod Pieces
-pub mod Messages
-pub mod Lanes
-pub mod Schedules
-pub mod Batches
+pub mod inner

@@ -2,7 +2,7 @@
 
 ghost use Rattle.std.specs.Prelude.{◌≡◌, ℕ, ◌<◌, List, None, IfOk, IfSome, length, map, slice_set};
 ghost use Rattle.sha2.specs.Sha256.{sha256};
-ghost use Rattle.repo_sha.specs.Batches.{AreAmong, GoesOn, IsUnderWay, at, with_digest};
+ghost use Rattle.repo_sha.specs.inner.Batches.{AreAmong, GoesOn, IsUnderWay, at, with_digest};
 ghost use Rattle.repo_sha.specs.Pieces.{pieces};
 
 use crate::pieces::Piece;

@@ -2,8 +2,8 @@
 
 ghost use Rattle.std.specs.Prelude.{◌≡◌, ℕ, ◌+◌, ◌*◌, ◌<◌, ◌≤◌, List, [], slice_index, slice_index_or};
 ghost use Rattle.sha2.specs.Sha256.{IsRoundsAt, compress, round, rounds};
-ghost use Rattle.repo_sha.specs.Lanes.{lane, lane_word, words_in};
-ghost use Rattle.repo_sha.specs.Schedules.{Begins, schedule_of};
+ghost use Rattle.repo_sha.specs.inner.Lanes.{lane, lane_word, words_in};
+ghost use Rattle.repo_sha.specs.inner.Schedules.{Begins, schedule_of};
 
 use crate::constants::ROUND_CONSTANTS;
 use crate::lanes::{add, big_sigma0, big_sigma1, ch, maj};

@@ -1,7 +1,7 @@
 //! A message, padded to whole blocks (5.1.1 and 5.2.1).
 
 ghost use Rattle.std.specs.Prelude.{◌≡◌, ◌*◌, ◌%◌, ◌^◌, ◌<◌, ◌≤◌, length};
-ghost use Rattle.repo_sha.specs.Messages.{HasEnding, block_at, block_count};
+ghost use Rattle.repo_sha.specs.inner.Messages.{HasEnding, block_at, block_count};
 
 /// How many bytes a block has.
 const BLOCK: usize = 64;

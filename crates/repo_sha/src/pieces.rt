@@ -2,7 +2,7 @@
 
 ghost use Rattle.std.specs.Prelude.{◌≡◌, ◌+◌, ◌-◌, ◌≤◌};
 ghost use Rattle.sha2.specs.Sha256.{sha256};
-ghost use Rattle.repo_sha.specs.Messages.{hash_to};
+ghost use Rattle.repo_sha.specs.inner.Messages.{hash_to};
 
 use crate::constants::INITIAL_HASH;
 use crate::messages::Message;
@@ -25,7 +25,7 @@ pub struct Piece<'a> {
 }
 
 impl<'a> Piece<'a> {
-    ghost use Rattle.repo_sha.specs.Batches.{IsOnBy};
+    ghost use Rattle.repo_sha.specs.inner.Batches.{IsOnBy};
 
     /// A piece of which no block was taken in.
     #[tactic(auto, unfolding(sha2::specs::Sha256::hash_after))]

@@ -2,7 +2,7 @@
 
 ghost use Rattle.std.specs.Prelude.{◌≡◌, ℕ, ◌+◌, ◌<◌, ◌≤◌, List};
 ghost use Rattle.sha2.specs.Sha256.{add32, compress, round, rounds};
-ghost use Rattle.repo_sha.specs.Schedules.{HasSums, schedule_of};
+ghost use Rattle.repo_sha.specs.inner.Schedules.{HasSums, schedule_of};
 
 use crate::schedules::Sums;
 

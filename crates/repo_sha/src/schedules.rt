@@ -2,8 +2,8 @@
 
 ghost use Rattle.std.specs.Prelude.{◌≡◌, ℕ, ◌+◌, ◌*◌, ◌<◌, ◌≤◌, List, [], map, slice_index, slice_index_or, slice_set};
 ghost use Rattle.sha2.specs.Sha256.{window_word, word_at};
-ghost use Rattle.repo_sha.specs.Lanes.{words_in};
-ghost use Rattle.repo_sha.specs.Schedules.{Begins, HasSums, IsScheduledTo, blocks_of};
+ghost use Rattle.repo_sha.specs.inner.Lanes.{words_in};
+ghost use Rattle.repo_sha.specs.inner.Schedules.{Begins, HasSums, IsScheduledTo, blocks_of};
 
 use crate::constants::ROUND_CONSTANTS;
 use crate::lanes::{add, small_sigma0, small_sigma1};

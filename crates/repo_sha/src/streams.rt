@@ -2,8 +2,8 @@
 
 ghost use Rattle.std.specs.Prelude.{◌≡◌, ℕ, ◌+◌, ◌<◌, ◌≤◌, min};
 ghost use Rattle.sha2.specs.Sha256.{digest_bytes, sha256};
-ghost use Rattle.repo_sha.specs.Messages.{block_at, hash_to};
-ghost use Rattle.repo_sha.specs.Schedules.{HasSums};
+ghost use Rattle.repo_sha.specs.inner.Messages.{block_at, hash_to};
+ghost use Rattle.repo_sha.specs.inner.Schedules.{HasSums};
 
 use crate::constants::INITIAL_HASH;
 use crate::messages::Message;

@@ -2,9 +2,9 @@
 
 ghost use Rattle.std.specs.Prelude.{◌≡◌, ℕ, ◌+◌, ◌^◌, ◌<◌, ◌≤◌, [], None, IfNone, IfSome, IsSomeAnd, slice_index_or};
 ghost use Rattle.sha2.specs.Sha256.{compress};
-ghost use Rattle.repo_sha.specs.Batches.{GoesOn, HasLeft, at};
-ghost use Rattle.repo_sha.specs.Lanes.{lane};
-ghost use Rattle.repo_sha.specs.Messages.{block_at, hash_to};
+ghost use Rattle.repo_sha.specs.inner.Batches.{GoesOn, HasLeft, at};
+ghost use Rattle.repo_sha.specs.inner.Lanes.{lane};
+ghost use Rattle.repo_sha.specs.inner.Messages.{block_at, hash_to};
 
 use crate::lane_rounds::{Hashes, compress_each, one_by_one, side_by_side};
 use crate::pieces::Piece;

@@ -60,3 +60,7 @@ IsLeft Own armed say left = ((armed ≢ Armed.Nothing) × (left ≡ Armed.Nothin
 abbrev pub IsAsArmed : Armed → ℕ → Store → Ask → Say → Armed → ℕ → Store → Type 0
 IsAsArmed armed own old ask say left owned new =
     IsLeft (HasFailed own owned) armed say left × ((fail : Fail) → armed ≡ Armed.Next fail → Failing (HasFailed own owned) fail old ask say new)
+
+-- a step from one device to another, if the first is honest
+abbrev pub AnswersAsArmed : {S : Type 0} → (S → Type 0) → (S → Armed) → (S → ℕ) → (S → Store) → S → Ask → Say → S → Type 0
+AnswersAsArmed honest armed own store old ask say new = honest old → IsAsArmed (armed old) (own old) (store old) ask say (armed new) (own new) (store new)

@@ -5,7 +5,7 @@ ghost use Rattle.repo_wire.specs.Messages.{replies, IsReply, IsSay, IsShortSay};
 ghost use Rattle.repo_wire.specs.Stream.{FitsFrame};
 ghost use Rattle.repo_store.specs.Runs.{Replies};
 ghost use Rattle.repo_store.specs.AppendOnly.{OnlyAppends};
-ghost use Rattle.repo_store.specs.Failing.{IsAsArmed};
+ghost use Rattle.repo_store.specs.Failing.{AnswersAsArmed};
 ghost use Rattle.repo_store.specs.StoreMachine.{refusal, IsAnswerable, IsQuiet, IsRuledOut, Step, SaysFault};
 
 use crate::lock_answers::{
@@ -34,7 +34,7 @@ fn say_to<S: Shelf>(alloc: Global, shelf: &mut S, ask: &Ask) -> Say
     requires { IsAnswerable ask.now }
     ensures step { S.honest shelf.old → Step (S.store shelf.old) ask.now result (S.store shelf.new) }
     ensures cause { S.honest shelf.old → SaysFault (S.failed shelf.old) result (S.failed shelf.new) }
-    ensures armed { S.honest shelf.old → IsAsArmed (S.armed shelf.old) (S.own shelf.old) (S.store shelf.old) ask.now result (S.armed shelf.new) (S.own shelf.new) (S.store shelf.new) }
+    ensures armed { AnswersAsArmed S.honest S.armed S.own S.store shelf.old ask.now result shelf.new }
     ensures honest { S.honest shelf.old → S.honest shelf.new }
     ensures once { S.writes shelf.new ≤ S.writes shelf.old + 1 }
     ensures quiet { S.honest shelf.old → IsQuiet (S.store shelf.old).tokens ask.now → S.writes shelf.new ≡ S.writes shelf.old }
@@ -92,7 +92,7 @@ pub fn answer<S: Shelf>(alloc: Global, shelf: &mut S, request: &Request) -> Repl
     ensures replies { S.honest shelf.old → Replies (S.store shelf.old) request.now result (S.store shelf.new) }
     ensures kept { S.honest shelf.old → OnlyAppends (S.store shelf.old) (S.store shelf.new) }
     ensures cause { S.honest shelf.old → SaysFault (S.failed shelf.old) result.say (S.failed shelf.new) }
-    ensures armed { S.honest shelf.old → IsAsArmed (S.armed shelf.old) (S.own shelf.old) (S.store shelf.old) request.now.ask result.say (S.armed shelf.new) (S.own shelf.new) (S.store shelf.new) }
+    ensures armed { AnswersAsArmed S.honest S.armed S.own S.store shelf.old request.now.ask result.say shelf.new }
     ensures honest { S.honest shelf.old → S.honest shelf.new }
     ensures once { S.writes shelf.new ≤ S.writes shelf.old + 1 }
     ensures quiet { S.honest shelf.old → IsQuiet (S.store shelf.old).tokens request.now.ask → S.writes shelf.new ≡ S.writes shelf.old }

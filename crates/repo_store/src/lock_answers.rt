@@ -4,7 +4,7 @@ ghost use Rattle.std.specs.Prelude.{◌≡◌, ◌≤◌, ◌+◌};
 ghost use Rattle.repo_name.specs.Rows.{IsHost};
 ghost use Rattle.repo_wire.specs.declared.messages.Ask.{Ask};
 ghost use Rattle.repo_wire.specs.Messages.{IsSay, IsShortSay};
-ghost use Rattle.repo_store.specs.Failing.{IsAsArmed};
+ghost use Rattle.repo_store.specs.Failing.{AnswersAsArmed};
 ghost use Rattle.repo_store.specs.StoreMachine.{lock_refusal, IsQuiet, IsRuledOut, Step, SaysFault};
 
 use crate::answers::refusal;
@@ -31,7 +31,7 @@ fn lock_refusal(error: LockError) -> Say
 pub fn answer_ticket<S: Shelf>(shelf: &mut S) -> Say
     ensures step { S.honest shelf.old → Step (S.store shelf.old) Ask.Ticket result (S.store shelf.new) }
     ensures cause { S.honest shelf.old → SaysFault (S.failed shelf.old) result (S.failed shelf.new) }
-    ensures armed { S.honest shelf.old → IsAsArmed (S.armed shelf.old) (S.own shelf.old) (S.store shelf.old) Ask.Ticket result (S.armed shelf.new) (S.own shelf.new) (S.store shelf.new) }
+    ensures armed { AnswersAsArmed S.honest S.armed S.own S.store shelf.old Ask.Ticket result shelf.new }
     ensures honest { S.honest shelf.old → S.honest shelf.new }
     ensures once { S.writes shelf.new ≤ S.writes shelf.old + 1 }
     ensures ruled_out { IsRuledOut result → S.writes shelf.new ≡ S.writes shelf.old }
@@ -57,7 +57,7 @@ pub fn answer_lock<S: Shelf>(shelf: &mut S, row: &LockRow) -> Say
     requires { IsHost row.now.host }
     ensures step { S.honest shelf.old → Step (S.store shelf.old) (Ask.Lock row.now) result (S.store shelf.new) }
     ensures cause { S.honest shelf.old → SaysFault (S.failed shelf.old) result (S.failed shelf.new) }
-    ensures armed { S.honest shelf.old → IsAsArmed (S.armed shelf.old) (S.own shelf.old) (S.store shelf.old) (Ask.Lock row.now) result (S.armed shelf.new) (S.own shelf.new) (S.store shelf.new) }
+    ensures armed { AnswersAsArmed S.honest S.armed S.own S.store shelf.old (Ask.Lock row.now) result shelf.new }
     ensures honest { S.honest shelf.old → S.honest shelf.new }
     ensures once { S.writes shelf.new ≤ S.writes shelf.old + 1 }
     ensures quiet { S.honest shelf.old → IsQuiet (S.store shelf.old).tokens (Ask.Lock row.now) → S.writes shelf.new ≡ S.writes shelf.old }
@@ -83,7 +83,7 @@ pub fn answer_lock<S: Shelf>(shelf: &mut S, row: &LockRow) -> Say
 pub fn answer_refresh<S: Shelf>(shelf: &mut S, token: Token, time: u64) -> Say
     ensures step { S.honest shelf.old → Step (S.store shelf.old) (Ask.Refresh token time) result (S.store shelf.new) }
     ensures cause { S.honest shelf.old → SaysFault (S.failed shelf.old) result (S.failed shelf.new) }
-    ensures armed { S.honest shelf.old → IsAsArmed (S.armed shelf.old) (S.own shelf.old) (S.store shelf.old) (Ask.Refresh token time) result (S.armed shelf.new) (S.own shelf.new) (S.store shelf.new) }
+    ensures armed { AnswersAsArmed S.honest S.armed S.own S.store shelf.old (Ask.Refresh token time) result shelf.new }
     ensures honest { S.honest shelf.old → S.honest shelf.new }
     ensures once { S.writes shelf.new ≤ S.writes shelf.old + 1 }
     ensures ruled_out { IsRuledOut result → S.writes shelf.new ≡ S.writes shelf.old }
@@ -107,7 +107,7 @@ pub fn answer_refresh<S: Shelf>(shelf: &mut S, token: Token, time: u64) -> Say
 pub fn answer_unlock<S: Shelf>(shelf: &mut S, token: Token) -> Say
     ensures step { S.honest shelf.old → Step (S.store shelf.old) (Ask.Unlock token) result (S.store shelf.new) }
     ensures cause { S.honest shelf.old → SaysFault (S.failed shelf.old) result (S.failed shelf.new) }
-    ensures armed { S.honest shelf.old → IsAsArmed (S.armed shelf.old) (S.own shelf.old) (S.store shelf.old) (Ask.Unlock token) result (S.armed shelf.new) (S.own shelf.new) (S.store shelf.new) }
+    ensures armed { AnswersAsArmed S.honest S.armed S.own S.store shelf.old (Ask.Unlock token) result shelf.new }
     ensures honest { S.honest shelf.old → S.honest shelf.new }
     ensures once { S.writes shelf.new ≤ S.writes shelf.old + 1 }
     ensures quiet { S.honest shelf.old → IsQuiet (S.store shelf.old).tokens (Ask.Unlock token) → S.writes shelf.new ≡ S.writes shelf.old }
@@ -131,7 +131,7 @@ pub fn answer_unlock<S: Shelf>(shelf: &mut S, token: Token) -> Say
 pub fn answer_locks<S: Shelf>(alloc: Global, shelf: &mut S) -> Say
     ensures step { S.honest shelf.old → Step (S.store shelf.old) Ask.Locks result (S.store shelf.new) }
     ensures cause { S.honest shelf.old → SaysFault (S.failed shelf.old) result (S.failed shelf.new) }
-    ensures armed { S.honest shelf.old → IsAsArmed (S.armed shelf.old) (S.own shelf.old) (S.store shelf.old) Ask.Locks result (S.armed shelf.new) (S.own shelf.new) (S.store shelf.new) }
+    ensures armed { AnswersAsArmed S.honest S.armed S.own S.store shelf.old Ask.Locks result shelf.new }
     ensures honest { S.honest shelf.old → S.honest shelf.new }
     ensures quiet { S.writes shelf.new ≡ S.writes shelf.old }
     ensures within { IsSay result × IsShortSay result }

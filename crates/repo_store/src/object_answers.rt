@@ -4,7 +4,7 @@ ghost use Rattle.std.specs.Prelude.{◌≡◌, ◌≤◌, ◌+◌, length, optio
 ghost use Rattle.repo_name.specs.declared.names.Name.{Name};
 ghost use Rattle.repo_wire.specs.declared.messages.Ask.{Ask};
 ghost use Rattle.repo_wire.specs.Messages.{IsSay, IsShortSay};
-ghost use Rattle.repo_store.specs.Failing.{IsAsArmed};
+ghost use Rattle.repo_store.specs.Failing.{AnswersAsArmed};
 ghost use Rattle.repo_store.specs.StoreMachine.{object_limit, config_limit, range_limit, GetSays, IsRuledOut, Step, SaysFault};
 ghost use Rattle.repo_name.specs.Limits.{fields_limit};
 
@@ -50,7 +50,7 @@ fn say_of(found: Option<Bytes>, limit: usize) -> Say
 pub fn answer_list<S: Shelf>(shelf: &mut S, kind: Kind, after: Option<&Name>) -> Say
     ensures step { S.honest shelf.old → Step (S.store shelf.old) (Ask.List kind (option_map (λ name. name.now) after.entry)) result (S.store shelf.new) }
     ensures cause { S.honest shelf.old → SaysFault (S.failed shelf.old) result (S.failed shelf.new) }
-    ensures armed { S.honest shelf.old → IsAsArmed (S.armed shelf.old) (S.own shelf.old) (S.store shelf.old) (Ask.List kind (option_map (λ name. name.now) after.entry)) result (S.armed shelf.new) (S.own shelf.new) (S.store shelf.new) }
+    ensures armed { AnswersAsArmed S.honest S.armed S.own S.store shelf.old (Ask.List kind (option_map (λ name. name.now) after.entry)) result shelf.new }
     ensures honest { S.honest shelf.old → S.honest shelf.new }
     ensures quiet { S.writes shelf.new ≡ S.writes shelf.old }
     ensures within { IsSay result × IsShortSay result }
@@ -68,7 +68,7 @@ pub fn answer_list<S: Shelf>(shelf: &mut S, kind: Kind, after: Option<&Name>) ->
 pub fn answer_get<S: Shelf>(shelf: &mut S, kind: Kind, name: &Name) -> Say
     ensures step { S.honest shelf.old → Step (S.store shelf.old) (Ask.Get kind name.now) result (S.store shelf.new) }
     ensures cause { S.honest shelf.old → SaysFault (S.failed shelf.old) result (S.failed shelf.new) }
-    ensures armed { S.honest shelf.old → IsAsArmed (S.armed shelf.old) (S.own shelf.old) (S.store shelf.old) (Ask.Get kind name.now) result (S.armed shelf.new) (S.own shelf.new) (S.store shelf.new) }
+    ensures armed { AnswersAsArmed S.honest S.armed S.own S.store shelf.old (Ask.Get kind name.now) result shelf.new }
     ensures honest { S.honest shelf.old → S.honest shelf.new }
     ensures quiet { S.writes shelf.new ≡ S.writes shelf.old }
     ensures within { IsSay result × IsShortSay result }
@@ -83,7 +83,7 @@ pub fn answer_get<S: Shelf>(shelf: &mut S, kind: Kind, name: &Name) -> Say
 pub fn answer_config<S: Shelf>(shelf: &mut S) -> Say
     ensures step { S.honest shelf.old → Step (S.store shelf.old) Ask.Config result (S.store shelf.new) }
     ensures cause { S.honest shelf.old → SaysFault (S.failed shelf.old) result (S.failed shelf.new) }
-    ensures armed { S.honest shelf.old → IsAsArmed (S.armed shelf.old) (S.own shelf.old) (S.store shelf.old) Ask.Config result (S.armed shelf.new) (S.own shelf.new) (S.store shelf.new) }
+    ensures armed { AnswersAsArmed S.honest S.armed S.own S.store shelf.old Ask.Config result shelf.new }
     ensures honest { S.honest shelf.old → S.honest shelf.new }
     ensures quiet { S.writes shelf.new ≡ S.writes shelf.old }
     ensures within { IsSay result × IsShortSay result }
@@ -98,7 +98,7 @@ pub fn answer_config<S: Shelf>(shelf: &mut S) -> Say
 pub fn answer_range<S: Shelf>(shelf: &mut S, pack: &Name, offset: u32, length: u32) -> Say
     ensures step { S.honest shelf.old → Step (S.store shelf.old) (Ask.Range pack.now offset length) result (S.store shelf.new) }
     ensures cause { S.honest shelf.old → SaysFault (S.failed shelf.old) result (S.failed shelf.new) }
-    ensures armed { S.honest shelf.old → IsAsArmed (S.armed shelf.old) (S.own shelf.old) (S.store shelf.old) (Ask.Range pack.now offset length) result (S.armed shelf.new) (S.own shelf.new) (S.store shelf.new) }
+    ensures armed { AnswersAsArmed S.honest S.armed S.own S.store shelf.old (Ask.Range pack.now offset length) result shelf.new }
     ensures honest { S.honest shelf.old → S.honest shelf.new }
     ensures quiet { S.writes shelf.new ≡ S.writes shelf.old }
     ensures within { IsSay result × IsShortSay result }
@@ -124,7 +124,7 @@ pub fn answer_put<S: Shelf>(
 ) -> Say
     ensures step { S.honest shelf.old → Step (S.store shelf.old) (Ask.Put token kind name.now bytes.now) result (S.store shelf.new) }
     ensures cause { S.honest shelf.old → SaysFault (S.failed shelf.old) result (S.failed shelf.new) }
-    ensures armed { S.honest shelf.old → IsAsArmed (S.armed shelf.old) (S.own shelf.old) (S.store shelf.old) (Ask.Put token kind name.now bytes.now) result (S.armed shelf.new) (S.own shelf.new) (S.store shelf.new) }
+    ensures armed { AnswersAsArmed S.honest S.armed S.own S.store shelf.old (Ask.Put token kind name.now bytes.now) result shelf.new }
     ensures honest { S.honest shelf.old → S.honest shelf.new }
     ensures once { S.writes shelf.new ≤ S.writes shelf.old + 1 }
     ensures ruled_out { IsRuledOut result → S.writes shelf.new ≡ S.writes shelf.old }
@@ -154,7 +154,7 @@ pub fn answer_put<S: Shelf>(
 pub fn answer_delete<S: Shelf>(shelf: &mut S, token: Token, kind: Kind, name: &Name) -> Say
     ensures step { S.honest shelf.old → Step (S.store shelf.old) (Ask.Delete token kind name.now) result (S.store shelf.new) }
     ensures cause { S.honest shelf.old → SaysFault (S.failed shelf.old) result (S.failed shelf.new) }
-    ensures armed { S.honest shelf.old → IsAsArmed (S.armed shelf.old) (S.own shelf.old) (S.store shelf.old) (Ask.Delete token kind name.now) result (S.armed shelf.new) (S.own shelf.new) (S.store shelf.new) }
+    ensures armed { AnswersAsArmed S.honest S.armed S.own S.store shelf.old (Ask.Delete token kind name.now) result shelf.new }
     ensures honest { S.honest shelf.old → S.honest shelf.new }
     ensures once { S.writes shelf.new ≤ S.writes shelf.old + 1 }
     ensures ruled_out { IsRuledOut result → S.writes shelf.new ≡ S.writes shelf.old }

@@ -12,7 +12,7 @@ use Rattle.repo_name.specs.Naming.{hex_of}
 use Rattle.repo_name.specs.declared.names.Name.{Name}
 use Rattle.repo_tree.specs.Components.{IsComponent}
 use Rattle.repo_json.specs.JsonText.{text_at}
-use Rattle.repo_tree.specs.Named.{AreNamed}
+use Rattle.repo_tree.specs.inner.Named.{AreNamed}
 use Rattle.repo_tree.specs.TreeText.{name_items, IsKind, IsNode, AreInOrder, Follows, IsTreeText}
 use Rattle.repo_json.specs.Listing.{AreAll}
 use Rattle.repo_tree.specs.TreeWriting.{kind_data, node_items, tree_data, tree_text, IsSized, AreWritable, NodeFault, NodesFault}

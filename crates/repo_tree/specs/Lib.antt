@@ -3,7 +3,6 @@ pub mod Components
 pub mod ConfigText
 pub mod Faults
 pub mod Laws
-pub mod Named
 pub mod Parts
 pub mod Paths
 pub mod ShortJson
@@ -11,3 +10,4 @@ pub mod SnapshotText
 pub mod Spelling
 pub mod TreeText
 pub mod TreeWriting
+pub mod inner

@@ -9,7 +9,7 @@
 //! of one value at most. The functions of [`laws`] are the laws of what trees spell and reach. Not promised: that a
 //! read asks for no more memory than it needs, and that a set of blobs has no clash of names.
 //!
-//! The definitions stand in `specs/`: `Components`, `JsonText`, `TreeText` (which bytes are a tree's text, and the
+//! The definitions stand in `specs/`: `Components`, `ShortJson`, `TreeText` (which bytes are a tree's text, and the
 //! first fault of others), `TreeWriting`, `SnapshotText`, `ConfigText`, `Parts` (directories in one tree and in parts, by
 //! the version of a snapshot; the code reads and writes those in one tree alone), `Spelling`, `Laws`.
 #![tactic(auto)]

@@ -7,7 +7,7 @@ ghost use Rattle.repo_name.specs.Naming.{hex_of, IsName};
 ghost use Rattle.repo_tree.specs.Components.{IsComponent};
 ghost use Rattle.repo_tree.specs.TreeText.{name_items, AreInOrder, Follows, IsTreeText};
 ghost use Rattle.repo_tree.specs.TreeWriting.{kind_data, node_items, tree_data, tree_text, IsSized, AreWritable, NodeFault, NodesFault, TreeIsUnwritable};
-ghost use Rattle.repo_tree.specs.Named.{AreNamed};
+ghost use Rattle.repo_tree.specs.inner.Named.{AreNamed};
 ghost use Rattle.repo_tree.specs.declared.nodes.NodeKind.TheVariants.{File, Dir};
 ghost use Rattle.repo_tree.specs.declared.faults.TreeError.{TreeError};
 

@@ -16,7 +16,7 @@ use Rattle.repo_world.specs.AnyClients.{FitsAny, any_next, client_of, given_to}
 use Rattle.repo_world.specs.Clients.{Accepts, Client}
 use Rattle.repo_world.specs.Events.{Arrives, Crashes, Serves, Starts, Takes}
 use Rattle.repo_world.specs.Flows.{AreThere, Flow, IsThere, messages_in, seat_at, spoken, world_of}
-use Rattle.repo_world.specs.Seating.{Answered, Crashed, StepsAsArmed, TookReply}
+use Rattle.repo_world.specs.inner.Seating.{Answered, Crashed, StepsAsArmed, TookReply}
 use Rattle.repo_world.specs.Seats.{Seated, empty_seat, listed, nothing, silence}
 use Rattle.repo_world.specs.World as world
 use Rattle.repo_world.specs.World.{World, client_at, crashed_one, first_of, instance_of, sends, started}

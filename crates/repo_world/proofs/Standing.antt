@@ -2,7 +2,7 @@
 use Rattle.std.proofs.Common.{◌≡◌, ◌≢◌, ◌⊎◌, inl, inr, ◌∙◌, ◌<◌, ◌≤◌, ◌+◌, ◌++◌, ◌∷◌, [], ℕ, zero, suc, Bool, true, false, List, length, map, take, get_or, Option, Some, None, refl, sym, ap, subst, slice_get}
 use Rattle.std.specs.Prelude.{⊤, Result, Ok, Err, IfOk, OnErr}
 use Rattle.std.specs.Result.{OnOk, is_err}
-use Rattle.std.proofs.lemmas.List.{take_all, take_more}
+use Rattle.std.proofs.lemmas.List.{take_more}
 use Rattle.std.proofs.lemmas.Option.{get_or_from_slice_get}
 use Rattle.repo_name.specs.declared.tokens.Token.{Token}
 use Rattle.repo_locks.specs.TokenMachine.{Tokens, UnlockStep, unlocked}
@@ -18,7 +18,7 @@ use Rattle.repo_store.specs.declared.faults.Fail.{Fail}
 use Rattle.repo_world.specs.Events.{Delivers, Happens, Run, Unlocks}
 use Rattle.repo_world.specs.Flows.{Flow, seat_at, world_of}
 use Rattle.repo_world.specs.Laws.{IsEmpty}
-use Rattle.repo_world.specs.Seating.{StepsAsArmed}
+use Rattle.repo_world.specs.inner.Seating.{StepsAsArmed}
 use Rattle.repo_world.specs.Seats.{Seated, empty_seat}
 use Rattle.repo_world.specs.Stages.{IsReachable, IsSafely, Leads, Shelf, Stage, seen}
 use Rattle.repo_world.specs.World.{Asked, Message, Said, World, beginning, client_at}
@@ -127,9 +127,6 @@ safely w r clash = every_run_is_safe r.store r.empty r.events [] w w r.run refl 
 
 pub ran_more : (w : World) (es : List Event) (n : ℕ) (d : Event) (u : World) (a : Applied) (v : World) → n < length es → Run w (take n es) u → Happens ⊤ u (get_or es n d) a v → Run w (take (n + 1) es) v
 ran_more w es n d u a v less r h = subst (λ (l : List Event). Run w l v) (sym (take_more es n d less)) (run_more w (take n es) u (get_or es n d) a v r h)
-
-pub ran_all : (w : World) (es : List Event) (n : ℕ) (u : World) → length es ≤ n → Run w (take n es) u → Run w es u
-ran_all w es n u most r = subst (λ (l : List Event). Run w l u) (take_all n es most) r
 
 -- ---- a client's seat, as it is looked up
 

@@ -8,7 +8,6 @@ pub mod Calmness
 pub mod Starting
 pub mod AnyClients
 pub mod Seats
-pub mod Seating
 pub mod Flows
 pub mod Stages
 pub mod Reports
@@ -23,3 +22,4 @@ pub mod WrongPacksFirst
 pub mod WrongListedPacks
 pub mod WrongSnapshots
 pub mod WrongReplies
+pub mod inner

@@ -9,7 +9,7 @@ ghost use Rattle.repo_session.specs.declared.outcomes.Outcome.{Outcome};
 ghost use Rattle.repo_world.specs.AnyClients.{FitsAny, any_next, client_of};
 ghost use Rattle.repo_world.specs.Reports.{line_of};
 ghost use Rattle.repo_world.specs.Seats.{Seated, listed};
-ghost use Rattle.repo_world.specs.Seating.{Answered, Crashed, Replied, SeatTook};
+ghost use Rattle.repo_world.specs.inner.Seating.{Answered, Crashed, Replied, SeatTook};
 
 use crate::any_clients::AnyClient;
 use crate::pasts::Past;

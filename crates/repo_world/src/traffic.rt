@@ -10,7 +10,7 @@ ghost use Rattle.repo_session.specs.Askers.{asker};
 ghost use Rattle.repo_world.specs.Events.{Arrives, Begins, Delivers, Serves, Stops};
 ghost use Rattle.repo_world.specs.Flows.{clients_in, messages_in, seat_at, world_of};
 ghost use Rattle.repo_world.specs.Reports.{client_lines};
-ghost use Rattle.repo_world.specs.Seating.{StepsAsArmed};
+ghost use Rattle.repo_world.specs.inner.Seating.{StepsAsArmed};
 ghost use Rattle.repo_world.specs.Seats.{nothing, silence};
 ghost use Rattle.repo_world.specs.World.{instance_of, client};
 ghost use Rattle.repo_world.specs.Calmness.{IsIgnored};

@@ -26,6 +26,7 @@ fn put_ask(token: Token, kind: Kind, name: Name, bytes: Bytes) -> Ask
     ensures ask { result ≡ Ask.Put token kind name bytes }
     ensures short { IsShort result }
 {
+    // Its contract tells the proof what the type of names says.
     name.to_bytes();
     Ask::Put {
         token,

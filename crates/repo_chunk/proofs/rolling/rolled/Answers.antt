@@ -1,7 +1,7 @@
 use Rattle.std.proofs.Common.{ap, ◌∙◌, arith}
 use Rattle.std.specs.Prelude.{bit_xor}
 use Rattle.std.proofs.lemmas.Nat.{xor_lt}
-use Rattle.repo_chunk.specs.Tables.{with_byte}
+use Rattle.repo_chunk.specs.inner.Tables.{with_byte}
 use Rattle.repo_chunk.proofs.Linear.{window_moves, leaving_part-lt}
 use Rattle.repo_chunk.proofs.rolling.rolled.Goals as goal
 

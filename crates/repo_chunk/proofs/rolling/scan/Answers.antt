@@ -1,7 +1,7 @@
 use Rattle.std.proofs.Common.{◌≡◌, ◌+◌, ◌%◌, ◌^◌, ℕ, List, sym, ap, ◌∙◌, arith}
 use Rattle.std.proofs.lemmas.Bool.{iff_false}
 use Rattle.repo_chunk.specs.Rabin.{remainder}
-use Rattle.repo_chunk.specs.Rolling.{IsRoll, window_at}
+use Rattle.repo_chunk.specs.inner.Rolling.{IsRoll, window_at}
 use Rattle.repo_chunk.proofs.Windows.{rolls_on, no_mark_more}
 use Rattle.repo_chunk.proofs.rolling.scan.Goals as goal
 

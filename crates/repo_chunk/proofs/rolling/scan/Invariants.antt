@@ -1,6 +1,6 @@
 use Rattle.std.proofs.Common.{◌≡◌, ◌+◌, ◌^◌, ◌<◌, ℕ, List}
 use Rattle.repo_chunk.specs.Rabin.{remainder}
-use Rattle.repo_chunk.specs.Rolling.{IsRoll, window_at, HasNoMarkBefore}
+use Rattle.repo_chunk.specs.inner.Rolling.{IsRoll, window_at, HasNoMarkBefore}
 use Rattle.repo_chunk.proofs.rolling.scan.Given as goal
 
 abbrev pub invariant-loop-i : goal.invariant-loop-i

@@ -1,7 +1,7 @@
 use Rattle.std.proofs.Common.{◌≡◌, ◌*◌, ◌+◌, ◌-◌, ◌/◌, ◌%◌, ◌^◌, ◌<◌, ℕ, ap, sym, ◌∙◌, subst, arith}
 use Rattle.std.specs.Prelude.{bit_xor, bit_and}
 use Rattle.std.proofs.lemmas.Nat.{and_mask}
-use Rattle.repo_chunk.specs.Tables.{with_byte, high_part}
+use Rattle.repo_chunk.specs.inner.Tables.{with_byte, high_part}
 use Rattle.repo_chunk.proofs.Linear.{with_byte_parts, with_byte-lt}
 use Rattle.repo_chunk.proofs.rolling.with_byte.Goals as goal
 

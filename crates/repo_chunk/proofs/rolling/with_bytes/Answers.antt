@@ -1,6 +1,6 @@
 use Rattle.std.proofs.Common.{◌≡◌, ℕ, List, take, sym, ap, ◌∙◌, take_all, arith}
 use Rattle.std.specs.Prelude.{fold}
-use Rattle.repo_chunk.specs.Tables.{with_byte}
+use Rattle.repo_chunk.specs.inner.Tables.{with_byte}
 use Rattle.repo_chunk.proofs.Linear.{remainder-append}
 use Rattle.repo_chunk.proofs.rolling.with_bytes.Goals as goal
 

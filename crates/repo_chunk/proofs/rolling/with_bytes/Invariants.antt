@@ -1,6 +1,6 @@
 use Rattle.std.proofs.Common.{◌≡◌, ◌^◌, ◌<◌, take}
 use Rattle.std.specs.Prelude.{fold}
-use Rattle.repo_chunk.specs.Tables.{with_byte}
+use Rattle.repo_chunk.specs.inner.Tables.{with_byte}
 use Rattle.repo_chunk.proofs.rolling.with_bytes.Given as goal
 
 abbrev pub invariant-loop-byte : goal.invariant-loop-byte

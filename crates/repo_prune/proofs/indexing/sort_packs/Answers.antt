@@ -2,7 +2,7 @@ use Rattle.std.proofs.Common.{rules, ◌≡◌, ap}
 use Rattle.std.specs.Ordering.{is_lt}
 use Rattle.std.proofs.lemmas.Fn.{always_returns_same}
 use Rattle.repo_name.specs.Naming.{name_cmp}
-use Rattle.repo_prune.specs.Indexing.{is_before}
+use Rattle.repo_prune.specs.inner.Indexing.{is_before}
 use Rattle.repo_prune.proofs.Cutting.{packs_strict}
 use Rattle.repo_prune.proofs.indexing.sort_packs.Goals as goal
 

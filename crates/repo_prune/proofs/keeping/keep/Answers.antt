@@ -4,7 +4,7 @@ use Rattle.std.specs.List.Sorted.{IsSortedBy}
 use Rattle.std.proofs.lemmas.Option.{slice_get-map, slice_get_read}
 use Rattle.repo_name.specs.declared.names.Name.{Name}
 use Rattle.repo_prune.specs.Keeping.{Row}
-use Rattle.repo_prune.specs.Walks.{is_before, IsKeptAt, StandsAt}
+use Rattle.repo_prune.specs.inner.Walks.{is_before, IsKeptAt, StandsAt}
 use Rattle.std.specs.List.Sorted.{IsPermutation, IsStrictlySortedBy}
 use Rattle.std.proofs.lemmas.List.{length-map}
 use Rattle.std.proofs.lemmas.List.Sorted.{Contains-permutation, IsPermutation-sym, IsPermutation-map}

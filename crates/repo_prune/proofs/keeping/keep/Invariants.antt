@@ -2,7 +2,7 @@ use Rattle.std.proofs.Common.{◌≡◌, ◌<◌, ◌↔◌, ℕ, Some, map, sli
 use Rattle.std.specs.Borrow.{Bor}
 use Rattle.repo_name.specs.declared.names.Name.{Name}
 use Rattle.repo_prune.specs.Keeping.{Row}
-use Rattle.repo_prune.specs.Walks.{IsKeptAt, RowsBefore}
+use Rattle.repo_prune.specs.inner.Walks.{IsKeptAt, RowsBefore}
 use Rattle.repo_prune.proofs.keeping.keep.Given as goal
 
 abbrev pub invariant-loop-row : goal.invariant-loop-row

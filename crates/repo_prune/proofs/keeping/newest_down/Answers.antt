@@ -3,7 +3,7 @@ use Rattle.std.specs.Ordering.{is_lt}
 use Rattle.std.proofs.lemmas.Fn.{always_returns_same}
 use Rattle.std.specs.Borrow.{Bor}
 use Rattle.repo_prune.specs.Keeping.{Row}
-use Rattle.repo_prune.specs.Walks.{is_before, row_cmp}
+use Rattle.repo_prune.specs.inner.Walks.{is_before, row_cmp}
 use Rattle.repo_prune.proofs.Going.{newest_strict}
 use Rattle.repo_prune.proofs.keeping.newest_down.Goals as goal
 

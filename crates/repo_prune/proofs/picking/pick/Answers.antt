@@ -3,7 +3,7 @@ use Rattle.std.specs.BTreeSet.{contains}
 use Rattle.std.proofs.lemmas.Result.{IfOk-weaker}
 use Rattle.repo_name.specs.Naming.{name_cmp}
 use Rattle.repo_name.specs.declared.names.Name.{Name}
-use Rattle.repo_prune.specs.Picking.{ArePicked}
+use Rattle.repo_prune.specs.inner.Picking.{ArePicked}
 use Rattle.repo_prune.proofs.Picks.{picked_by_set}
 use Rattle.repo_prune.proofs.picking.pick.Goals as goal
 

@@ -1,5 +1,5 @@
 use Rattle.std.proofs.Common.{take}
-use Rattle.repo_prune.specs.Unfound.{AreGiven}
+use Rattle.repo_prune.specs.inner.Unfound.{AreGiven}
 use Rattle.repo_prune.proofs.unfound.unfound.Given as goal
 
 abbrev pub invariant-loop-seen : goal.invariant-loop-seen

@@ -1,5 +1,5 @@
 use Rattle.std.proofs.Common.{◌≡◌, ◌<◌, ◌∙◌, min, length, slice_index, refl, sym, arith}
-use Rattle.repo_sha.specs.Batches.{IsUnderWay}
+use Rattle.repo_sha.specs.inner.Batches.{IsUnderWay}
 use Rattle.repo_sha.specs.Pieces.{pieces}
 use Rattle.repo_sha.proofs.PieceLemmas.{length-pieces, next_piece}
 use Rattle.repo_sha.proofs.UnderWay.{at_emptied, front_of, way_begun, way_ended, way_first, way_gone_on}

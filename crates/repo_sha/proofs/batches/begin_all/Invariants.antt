@@ -1,5 +1,5 @@
 use Rattle.std.proofs.Common.{◌≡◌, drop}
-use Rattle.repo_sha.specs.Batches.{IsUnderWay}
+use Rattle.repo_sha.specs.inner.Batches.{IsUnderWay}
 use Rattle.repo_sha.specs.Pieces.{pieces}
 use Rattle.repo_sha.proofs.batches.begin_all.Given as goal
 

@@ -1,7 +1,7 @@
 use Rattle.std.proofs.Common.{◌≡◌, None, length, ◌∙◌, arith, inl, inr}
 use Rattle.std.proofs.lemmas.Bool.{cases_eq}
 use Rattle.std.proofs.lemmas.List.{get_or-set_other}
-use Rattle.repo_sha.specs.Batches.{at, with_digest}
+use Rattle.repo_sha.specs.inner.Batches.{at, with_digest}
 use Rattle.repo_sha.proofs.UnderWay.{among_emptied, at_emptied, length-with_digest, way_ended, way_last}
 use Rattle.repo_sha.proofs.batches.end_all.Goals as goal
 

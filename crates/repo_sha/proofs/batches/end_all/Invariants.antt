@@ -1,5 +1,5 @@
 use Rattle.std.proofs.Common.{◌≡◌, ℕ, ◌<◌, List, None, length}
-use Rattle.repo_sha.specs.Batches.{AreAmong, IsUnderWay, at}
+use Rattle.repo_sha.specs.inner.Batches.{AreAmong, IsUnderWay, at}
 use Rattle.repo_sha.proofs.batches.end_all.Given as goal
 
 abbrev pub invariant-lanes : goal.invariant-lanes

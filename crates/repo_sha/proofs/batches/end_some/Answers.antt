@@ -1,5 +1,5 @@
 use Rattle.std.proofs.Common.{◌≡◌, length}
-use Rattle.repo_sha.specs.Batches.{at, with_digest}
+use Rattle.repo_sha.specs.inner.Batches.{at, with_digest}
 use Rattle.repo_sha.proofs.UnderWay.{among_emptied, among_gone_on, length-with_digest, way_ended, way_gone_on}
 use Rattle.repo_sha.proofs.batches.end_some.Goals as goal
 

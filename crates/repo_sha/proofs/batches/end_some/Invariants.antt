@@ -1,5 +1,5 @@
 use Rattle.std.proofs.Common.{ℕ, List, length}
-use Rattle.repo_sha.specs.Batches.{AreAmong, IsUnderWay}
+use Rattle.repo_sha.specs.inner.Batches.{AreAmong, IsUnderWay}
 use Rattle.repo_sha.proofs.batches.end_some.Given as goal
 
 abbrev pub invariant-turns : goal.invariant-turns

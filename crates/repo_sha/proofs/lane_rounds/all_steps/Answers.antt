@@ -1,7 +1,7 @@
 use Rattle.std.proofs.Common.{◌≡◌, refl, ◌*◌, arith}
 use Rattle.sha2.specs.Sha256.{rounds}
 use Rattle.sha2.proofs.Schedule256.{IsRoundsAt_at}
-use Rattle.repo_sha.specs.Lanes.{lane}
+use Rattle.repo_sha.specs.inner.Lanes.{lane}
 use Rattle.repo_sha.proofs.lane_rounds.all_steps.Goals as goal
 
 pub turns-init : goal.turns-init

@@ -1,7 +1,7 @@
 use Rattle.std.proofs.Common.{ℕ, List, ◌<◌, ◌*◌}
 use Rattle.sha2.specs.Sha256.{IsRoundsAt}
-use Rattle.repo_sha.specs.Lanes.{lane, words_in}
-use Rattle.repo_sha.specs.Schedules.{Begins}
+use Rattle.repo_sha.specs.inner.Lanes.{lane, words_in}
+use Rattle.repo_sha.specs.inner.Schedules.{Begins}
 use Rattle.repo_sha.proofs.lane_rounds.all_steps.Given as goal
 
 abbrev pub invariant-turns : goal.invariant-turns

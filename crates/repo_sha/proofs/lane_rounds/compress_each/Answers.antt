@@ -1,6 +1,6 @@
 use Rattle.std.proofs.Common.{ap}
 use Rattle.sha2.specs.Sha256.{add_state, compress}
-use Rattle.repo_sha.specs.Lanes.{lane}
+use Rattle.repo_sha.specs.inner.Lanes.{lane}
 use Rattle.repo_sha.proofs.lane_rounds.compress_each.Goals as goal
 
 pub returns : goal.returns

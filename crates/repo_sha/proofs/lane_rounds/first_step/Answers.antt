@@ -1,6 +1,6 @@
 use Rattle.std.proofs.Common.{refl, sym, arith}
 use Rattle.sha2.proofs.Schedule256.{rounds_first}
-use Rattle.repo_sha.specs.Lanes.{lane, words_in}
+use Rattle.repo_sha.specs.inner.Lanes.{lane, words_in}
 use Rattle.repo_sha.proofs.LaneLemmas.{word_in}
 use Rattle.repo_sha.proofs.lane_rounds.first_step.Goals as goal
 

@@ -1,5 +1,5 @@
 use Rattle.std.proofs.Common.{◌≡◌, ℕ, ◌<◌, [], length, slice_index_or}
-use Rattle.repo_sha.specs.Lanes.{lane}
+use Rattle.repo_sha.specs.inner.Lanes.{lane}
 use Rattle.repo_sha.proofs.lane_rounds.one_by_one.Given as goal
 
 abbrev pub invariant-lanes : goal.invariant-lanes

@@ -1,6 +1,6 @@
 use Rattle.std.proofs.Common.{◌≡◌, ℕ, ◌*◌, List}
 use Rattle.sha2.specs.Sha256.{rounds}
-use Rattle.repo_sha.specs.Schedules.{HasSums, schedule_of}
+use Rattle.repo_sha.specs.inner.Schedules.{HasSums, schedule_of}
 use Rattle.repo_sha.proofs.rounds.all_steps.Given as goal
 
 abbrev pub invariant-turns : goal.invariant-turns

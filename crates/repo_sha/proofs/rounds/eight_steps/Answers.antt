@@ -1,6 +1,6 @@
 use Rattle.std.proofs.Common.{ap, ◌∙◌, arith}
 use Rattle.sha2.specs.Sha256.{rounds}
-use Rattle.repo_sha.specs.Schedules.{schedule_of}
+use Rattle.repo_sha.specs.inner.Schedules.{schedule_of}
 use Rattle.repo_sha.proofs.rounds.eight_steps.Goals as goal
 
 pub returns : goal.returns

@@ -1,8 +1,8 @@
 use Rattle.std.proofs.Common.{◌≡◌, ◌+◌, ◌-◌, ◌%◌, slice_index, ap, sym, ◌∙◌, arith}
 use Rattle.std.proofs.lemmas.Simd.{get_or-replicate}
 use Rattle.sha2.specs.Sha256.{add32, round_constants}
-use Rattle.repo_sha.specs.Lanes.{lane_word, words_in}
-use Rattle.repo_sha.specs.Schedules.{schedule_of}
+use Rattle.repo_sha.specs.inner.Lanes.{lane_word, words_in}
+use Rattle.repo_sha.specs.inner.Schedules.{schedule_of}
 use Rattle.repo_sha.proofs.LaneLemmas.{word_in}
 use Rattle.repo_sha.proofs.SumLemmas.{sums_next}
 use Rattle.repo_sha.proofs.schedules.put_first.Goals as goal

@@ -1,5 +1,5 @@
 use Rattle.std.proofs.Common.{◌≡◌, ℕ, ◌<◌, List, length}
-use Rattle.repo_sha.specs.Schedules.{Begins, HasSums}
+use Rattle.repo_sha.specs.inner.Schedules.{Begins, HasSums}
 use Rattle.repo_sha.proofs.schedules.put_firsts.Given as goal
 
 abbrev pub invariant-firsts : goal.invariant-firsts

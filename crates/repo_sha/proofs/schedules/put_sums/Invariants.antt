@@ -1,5 +1,5 @@
 use Rattle.std.proofs.Common.{ℕ, ◌<◌, ◌*◌, [], slice_index_or}
-use Rattle.repo_sha.specs.Schedules.{IsScheduledTo, blocks_of}
+use Rattle.repo_sha.specs.inner.Schedules.{IsScheduledTo, blocks_of}
 use Rattle.repo_sha.proofs.schedules.put_sums.Given as goal
 
 abbrev pub invariant-turns : goal.invariant-turns

@@ -1,6 +1,6 @@
 use Rattle.std.proofs.Common.{ap, ◌∙◌}
 use Rattle.sha2.specs.Sha256.{digest_bytes, sha256}
-use Rattle.repo_sha.specs.Messages.{hash_to}
+use Rattle.repo_sha.specs.inner.Messages.{hash_to}
 use Rattle.repo_sha.proofs.streams.finish.Goals as goal
 
 pub returns : goal.returns

@@ -1,6 +1,6 @@
 use Rattle.std.proofs.Common.{◌≡◌, ◌+◌, ◌<◌, arith}
-use Rattle.repo_sha.specs.Messages.{block_at}
-use Rattle.repo_sha.specs.Schedules.{HasSums}
+use Rattle.repo_sha.specs.inner.Messages.{block_at}
+use Rattle.repo_sha.specs.inner.Schedules.{HasSums}
 use Rattle.repo_sha.proofs.LaneLemmas.{below_eight}
 use Rattle.repo_sha.proofs.streams.put_sums_at.Goals as goal
 

@@ -1,7 +1,7 @@
 use Rattle.std.proofs.Common.{◌≡◌, ◌+◌, ◌<◌, rules, ap, sym, ◌∙◌, arith}
 use Rattle.sha2.specs.Sha256.{compress, initial_hash_256, padded_message}
 use Rattle.sha2.proofs.Absorbing256.{hash_after_next}
-use Rattle.repo_sha.specs.Messages.{block_at, hash_to}
+use Rattle.repo_sha.specs.inner.Messages.{block_at, hash_to}
 use Rattle.repo_sha.proofs.streams.take_eight.Goals as goal
 
 pub lanes-preserved : goal.lanes-preserved

@@ -1,5 +1,5 @@
 use Rattle.std.proofs.Common.{◌≡◌, ◌+◌, ◌*◌, min}
-use Rattle.repo_sha.specs.Messages.{hash_to}
+use Rattle.repo_sha.specs.inner.Messages.{hash_to}
 use Rattle.repo_sha.proofs.streams.take_rest.Given as goal
 
 abbrev pub invariant-groups : goal.invariant-groups

@@ -1,5 +1,5 @@
 use Rattle.std.proofs.Common.{◌≡◌, ℕ, ◌<◌, ◌≤◌, length}
-use Rattle.repo_sha.specs.Batches.{GoesOn, at}
+use Rattle.repo_sha.specs.inner.Batches.{GoesOn, at}
 use Rattle.repo_sha.proofs.turns.advance.Given as goal
 
 abbrev pub invariant-lanes : goal.invariant-lanes

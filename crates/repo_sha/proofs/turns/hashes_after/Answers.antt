@@ -1,6 +1,6 @@
 use Rattle.std.proofs.Common.{arith}
-use Rattle.repo_sha.specs.Batches.{at}
-use Rattle.repo_sha.specs.Lanes.{lane}
+use Rattle.repo_sha.specs.inner.Batches.{at}
+use Rattle.repo_sha.specs.inner.Lanes.{lane}
 use Rattle.repo_sha.proofs.BatchLemmas.{went_on}
 use Rattle.repo_sha.proofs.turns.hashes_after.Goals as goal
 

@@ -1,7 +1,7 @@
 use Rattle.std.proofs.Common.{◌≡◌, ℕ, ◌+◌, ◌<◌, IfSome}
-use Rattle.repo_sha.specs.Batches.{at}
-use Rattle.repo_sha.specs.Lanes.{lane}
-use Rattle.repo_sha.specs.Messages.{hash_to}
+use Rattle.repo_sha.specs.inner.Batches.{at}
+use Rattle.repo_sha.specs.inner.Lanes.{lane}
+use Rattle.repo_sha.specs.inner.Messages.{hash_to}
 use Rattle.repo_sha.proofs.turns.hashes_after.Given as goal
 
 abbrev pub invariant-steps : goal.invariant-steps

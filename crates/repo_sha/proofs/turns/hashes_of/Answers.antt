@@ -1,7 +1,7 @@
 use Rattle.std.proofs.Common.{◌≡◌, ℕ, Option, None, IfSome, slice_index_or, arith}
 use Rattle.repo_sha.specs.declared.pieces.Piece.{Piece}
-use Rattle.repo_sha.specs.Batches.{at}
-use Rattle.repo_sha.specs.Lanes.{lane}
+use Rattle.repo_sha.specs.inner.Batches.{at}
+use Rattle.repo_sha.specs.inner.Lanes.{lane}
 use Rattle.repo_sha.proofs.BatchLemmas.{at_any, read}
 use Rattle.repo_sha.proofs.LaneLemmas.{below_eight}
 use Rattle.repo_sha.proofs.turns.hashes_of.Goals as goal

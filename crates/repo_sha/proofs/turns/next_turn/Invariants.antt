@@ -1,5 +1,5 @@
 use Rattle.std.proofs.Common.{◌≡◌, ℕ, ◌+◌, ◌<◌, ◌≤◌, ◌^◌, None, IfNone, IfSome, IsSomeAnd}
-use Rattle.repo_sha.specs.Batches.{HasLeft, at}
+use Rattle.repo_sha.specs.inner.Batches.{HasLeft, at}
 use Rattle.repo_sha.proofs.turns.next_turn.Given as goal
 
 abbrev pub invariant-lanes : goal.invariant-lanes

@@ -1,9 +1,9 @@
 use Rattle.std.proofs.Common.{◌≡◌, ℕ, ◌+◌, ◌<◌, Option, None, IfSome, slice_index_or, arith}
 use Rattle.sha2.specs.Sha256.{compress}
 use Rattle.repo_sha.specs.declared.pieces.Piece.{Piece}
-use Rattle.repo_sha.specs.Batches.{at}
-use Rattle.repo_sha.specs.Lanes.{lane}
-use Rattle.repo_sha.specs.Messages.{block_at}
+use Rattle.repo_sha.specs.inner.Batches.{at}
+use Rattle.repo_sha.specs.inner.Lanes.{lane}
+use Rattle.repo_sha.specs.inner.Messages.{block_at}
 use Rattle.repo_sha.proofs.BatchLemmas.{at_any, stepped}
 use Rattle.repo_sha.proofs.LaneLemmas.{below_eight}
 use Rattle.repo_sha.proofs.turns.step_each.Goals as goal

@@ -1,5 +1,5 @@
 use Rattle.std.proofs.Common.{◌∙◌, refl, sym, subst}
-use Rattle.repo_backup.specs.Advancing.{Tells}
+use Rattle.repo_backup.specs.inner.Advancing.{Tells}
 use Rattle.repo_backup.specs.Packings.{all_items}
 use Rattle.repo_backup.specs.Works.{WorkStands}
 use Rattle.repo_backup.specs.declared.works.Work.{Work}

@@ -1,7 +1,7 @@
 use Rattle.std.proofs.Common.{◌≡◌, ℕ, ◌+◌, ◌-◌, inl, inr, List, ◌++◌, length, refl, sym, ◌∙◌, subst, arith, take_all}
 use Rattle.std.specs.Prelude.{replicate}
 use Rattle.std.proofs.lemmas.List.{length-append}
-use Rattle.repo_chunk.specs.Rolling.{IsFirstMark}
+use Rattle.repo_chunk.specs.inner.Rolling.{IsFirstMark}
 use Rattle.repo_chunk.specs.Cuts.{IsCut, HasNoCut}
 use Rattle.repo_chunk.specs.Chunkers.{Holds, params_of}
 use Rattle.repo_chunk.specs.declared.rolling.Found.TheVariants.{Mark, NoMark}

@@ -1,6 +1,6 @@
 use Rattle.std.proofs.Common.{arith, rules, ◌≡◌, Some, Option, slice_get, refl, subst}
 use Rattle.repo_prune.specs.declared.standings.Standing.{Standing}
-use Rattle.repo_prune.specs.Walks.{RowsBefore}
+use Rattle.repo_prune.specs.inner.Walks.{RowsBefore}
 use Rattle.repo_prune.proofs.Going.{apart, first_stands, next_stands}
 use Rattle.repo_prune.proofs.standings.Standing.after.Goals as goal
 

@@ -3,7 +3,7 @@ use Rattle.std.proofs.lemmas.Option.{get_or_from_slice_get}
 use Rattle.repo_wire.specs.declared.messages.Reply.{Reply}
 use Rattle.repo_wire.specs.declared.messages.Request.{Request}
 use Rattle.repo_session.specs.Clients.{IsReplyTo}
-use Rattle.repo_world.specs.Seating.{Answered, Replied, StepsAsArmed}
+use Rattle.repo_world.specs.inner.Seating.{Answered, Replied, StepsAsArmed}
 use Rattle.repo_world.specs.Seats.{IsSeated, Seated, nothing, requests_of, seated}
 use Rattle.repo_world.proofs.SeatParts.{replied_is, replied_seated}
 use Rattle.repo_world.proofs.seats.Seat.serve.Goals as goal

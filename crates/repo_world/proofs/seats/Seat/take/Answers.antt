@@ -4,7 +4,7 @@ use Rattle.repo_wire.specs.declared.messages.Reply.{Reply}
 use Rattle.repo_session.specs.Clients.{IsReplyTo, exchange}
 use Rattle.repo_session.specs.Traces.{Trace}
 use Rattle.repo_world.specs.AnyClients.{FitsAny, any_given, any_next}
-use Rattle.repo_world.specs.Seating.{TookReply}
+use Rattle.repo_world.specs.inner.Seating.{TookReply}
 use Rattle.repo_world.specs.Seats.{IsSeated, Seated, seated, silence}
 use Rattle.repo_world.specs.declared.pasts.Past.{Past}
 use Rattle.repo_world.proofs.SeatParts.{taken_reply, taken_seated}

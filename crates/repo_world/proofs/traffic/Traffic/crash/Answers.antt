@@ -2,7 +2,7 @@ use Rattle.std.proofs.Common.{rules, ◌≡◌, ◌∙◌, ◌<◌, inl, inr, tr
 use Rattle.std.proofs.lemmas.List.{get_or_default}
 use Rattle.repo_world.specs.Events.{Stops}
 use Rattle.repo_world.specs.Flows.{Flow, seat_at, world_of}
-use Rattle.repo_world.specs.Seating.{Crashed}
+use Rattle.repo_world.specs.inner.Seating.{Crashed}
 use Rattle.repo_world.specs.Seats.{Seated, empty_seat}
 use Rattle.repo_world.specs.Clients.{Client}
 use Rattle.repo_world.specs.declared.events.Applied.{Applied}

@@ -4,7 +4,7 @@ use Rattle.repo_world.specs.Calmness.{IsIgnored}
 use Rattle.repo_world.specs.Clients.{Client}
 use Rattle.repo_world.specs.Events.{Delivers}
 use Rattle.repo_world.specs.Flows.{Flow, world_of}
-use Rattle.repo_world.specs.Seating.{StepsAsArmed}
+use Rattle.repo_world.specs.inner.Seating.{StepsAsArmed}
 use Rattle.repo_world.specs.World as world
 use Rattle.repo_world.specs.declared.messages.Message.{Message}
 use Rattle.repo_world.proofs.FlowParts.{got_copied, said_there_as}

@@ -2,7 +2,7 @@ use Rattle.std.proofs.Common.{rules, ◌≡◌, ◌∙◌, ◌<◌, ◌++◌, �
 use Rattle.std.proofs.lemmas.List.{get_or_default}
 use Rattle.repo_world.specs.Events.{Serves}
 use Rattle.repo_world.specs.Flows.{AreThere, Flow, seat_at, world_of}
-use Rattle.repo_world.specs.Seating.{Answered, Replied, StepsAsArmed}
+use Rattle.repo_world.specs.inner.Seating.{Answered, Replied, StepsAsArmed}
 use Rattle.repo_world.specs.Seats.{Seated, empty_seat, nothing}
 use Rattle.repo_world.specs.declared.messages.Message.{Message}
 use Rattle.repo_world.proofs.FlowParts.{kept_there, served, served_there}

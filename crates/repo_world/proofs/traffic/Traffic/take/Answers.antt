@@ -3,7 +3,7 @@ use Rattle.std.proofs.lemmas.List.{get_or_default}
 use Rattle.repo_session.specs.Clients.{AnswersNext}
 use Rattle.repo_world.specs.Events.{Arrives}
 use Rattle.repo_world.specs.Flows.{AreThere, Flow, seat_at, world_of}
-use Rattle.repo_world.specs.Seating.{SeatTook, TookReply}
+use Rattle.repo_world.specs.inner.Seating.{SeatTook, TookReply}
 use Rattle.repo_world.specs.Seats.{Seated, empty_seat, silence}
 use Rattle.repo_world.specs.declared.events.Applied.{Applied}
 use Rattle.repo_world.specs.declared.messages.Message.{Message}

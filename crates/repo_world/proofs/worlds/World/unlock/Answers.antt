@@ -6,7 +6,7 @@ use Rattle.repo_store.specs.Failing.{HasFailed, IsLeft}
 use Rattle.repo_store.specs.Kept.{Agrees}
 use Rattle.repo_store.specs.declared.faults.Armed.{Armed}
 use Rattle.repo_world.specs.Flows.{world_of}
-use Rattle.repo_world.specs.Seating.{StepsAsArmed}
+use Rattle.repo_world.specs.inner.Seating.{StepsAsArmed}
 use Rattle.repo_world.specs.Stages.{Leads, Stage}
 use Rattle.repo_world.specs.declared.events.Applied.{Applied}
 use Rattle.repo_world.specs.declared.events.Event.{Event}

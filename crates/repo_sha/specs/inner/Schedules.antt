@@ -2,7 +2,7 @@
 use Rattle.std.specs.Prelude.{◌≡◌, ℕ, ◌<◌, List, length, map, slice_index}
 use Rattle.std.specs.Borrow.{Bor}
 use Rattle.sha2.specs.Sha256.{IsWindow, add32, round_constants, schedule}
-use Rattle.repo_sha.specs.Lanes.{lane_word, words_in}
+use Rattle.repo_sha.specs.inner.Lanes.{lane_word, words_in}
 
 -- what the references to blocks refer to
 abbrev pub blocks_of : List (Bor (List ℕ)) → List (List ℕ)

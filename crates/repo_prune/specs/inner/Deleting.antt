@@ -7,7 +7,7 @@ use Rattle.repo_index.specs.declared.facts.PackFacts.{PackFacts}
 use Rattle.repo_wire.specs.declared.messages.Ask.{Ask}
 use Rattle.repo_session.specs.declared.jobs.Step.{Step}
 use Rattle.repo_session.specs.declared.outcomes.Outcome.{Outcome}
-use Rattle.repo_prune.specs.Picking.{ArePicked}
+use Rattle.repo_prune.specs.inner.Picking.{ArePicked}
 use Rattle.repo_prune.specs.declared.deleting.Deleting.{Deleting}
 use Rattle.repo_prune.specs.declared.relisting.Relisting.{Relisting}
 

@@ -1,0 +1,4 @@
+-- The definitions that private calls alone cite: no public contract and no law needs them.
+pub mod Chunks
+pub mod Advancing
+pub mod Walking
