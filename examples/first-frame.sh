@@ -13,7 +13,7 @@ request=0000001901010101010101010101010101010101010000000000000001
 reply=00000021810101010101010101010101010101010100000000000000010000000000000001
 
 if [ "${1:-}" = proved ]; then
-    echo "proving and building vault: some 40 minutes in a fresh clone, once"
+    echo "proving and building vault: about an hour in a fresh clone, once"
     how=run
 else
     echo "running vault unproved: a minute and a half in a fresh clone"

@@ -54,6 +54,6 @@ says() {
 if [ -n "${VAULT:-}" ]; then
     vault=$(realpath "$VAULT")
 else
-    echo "== build (the first time this proves all of it: some 40 minutes)"
+    echo "== build (the first time this proves all of it: about an hour)"
     vault=$("$(dirname "${BASH_SOURCE[0]}")/../scripts/vault.sh")
 fi

@@ -1,4 +1,4 @@
-use Rattle.std.specs.Prelude.{◌<◌, ◌≤◌, ◌++◌, ◌∷◌, [], ⊤, ℕ, List, Option, Some, None, Result, Ok, Err, codes}
+use Rattle.std.specs.Prelude.{◌≡◌, ◌⊎◌, ◌<◌, ◌≤◌, ◌++◌, ◌∷◌, [], ⊤, ℕ, List, Option, Some, None, Result, Ok, Err, codes}
 use Rattle.std.specs.Duration.{as_nanos}
 use Rattle.std.specs.declared.time.Duration.{Duration}
 use Rattle.std.specs.Io.KnownBytes.{Appends}
@@ -11,6 +11,10 @@ use Rattle.repo_store.specs.Stores.{Store}
 use Rattle.repo_tree.specs.declared.configs.Config.{Config}
 use Rattle.repo_tree.specs.ConfigText.{IsTarget, config_text}
 use Rattle.repo_name.specs.Rows.{IsHost}
+use Rattle.repo_play.specs.Plays.{Plays, uncarried}
+use Rattle.repo_play.specs.declared.faults.LoopError.{LoopError}
+use Rattle.repo_play.specs.declared.faults.PlayError.{PlayError}
+use Rattle.repo_play.specs.declared.grammars.Grammar.{Grammar}
 use Rattle.repo_prog.specs.declared.errands.Errand.{Errand}
 use Rattle.repo_prog.specs.declared.errors.FramesError.{FramesError}
 use Rattle.repo_prog.specs.declared.status.Status.{Status}
@@ -57,6 +61,8 @@ IsIdle (Some time) = 0 < as_nanos time
 -- an order within its limits
 abbrev pub IsOrder : Order → Type 0
 IsOrder Order.Frames = ⊤
+IsOrder Order.Play = ⊤
+IsOrder Order.Loop = ⊤
 IsOrder (Order.Init folder making) = IsTarget making.target
 IsOrder (Order.Serve folder address serving) = (1 ≤ serving.connections) × IsIdle serving.idle
 IsOrder (Order.Client address errand retry) = IsErrand errand
@@ -64,6 +70,8 @@ IsOrder (Order.Client address errand retry) = IsErrand errand
 -- an order that reads the input
 abbrev pub IsReading : Order → Type 0
 IsReading Order.Frames = ⊤
+IsReading Order.Play = ⊤
+IsReading Order.Loop = ⊤
 IsReading (Order.Init folder making) = ⊥
 IsReading (Order.Serve folder address serving) = ⊥
 IsReading (Order.Client address errand retry) = ⊥
@@ -74,6 +82,20 @@ FramesGives input start Status.Done contents = (n : ℕ) × FramesGive input sta
 FramesGives input start Status.Failed contents = (error : FramesError) × FramesGive input start (Err error) contents
 FramesGives input start Status.Usage contents = ⊥
 FramesGives input start Status.Flawed contents = ⊥
+
+-- the same of a script: it was played to its end, or as far as one of the errors lets it
+abbrev pub PlayGives : List ℕ → Option (List ℕ) → Status → Option (List ℕ) → Type 0
+PlayGives input start Status.Done contents = Plays Grammar.Whole input start (Ok tt) contents
+PlayGives input start Status.Failed contents = (error : PlayError) × Plays Grammar.Whole input start (uncarried (Err error)) contents
+PlayGives input start Status.Usage contents = ⊥
+PlayGives input start Status.Flawed contents = ⊥
+
+-- and of one whose messages are carried; or no connection could be made, and nothing was written
+abbrev pub LoopGives : List ℕ → Option (List ℕ) → Status → Option (List ℕ) → Type 0
+LoopGives input start Status.Done contents = Plays Grammar.Carried input start (Ok tt) contents
+LoopGives input start Status.Failed contents = (contents ≡ start) ⊎ ((error : LoopError) × Plays Grammar.Carried input start (Err error) contents)
+LoopGives input start Status.Usage contents = ⊥
+LoopGives input start Status.Flawed contents = ⊥
 
 -- the line that tells a new store's instance
 abbrev pub created_line : Instance → List ℕ

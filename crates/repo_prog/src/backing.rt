@@ -127,7 +127,7 @@ pub fn backup_found<D: Dial, O: Write, F: Write>(
 }
 
 /// `vault backup`: scans a folder whole, and then stores what it found. A folder that can't be read whole is told as
-/// `unreadable` with the path, and no connection is asked for.
+/// `unreadable` with the path, and no connection is asked for. After the first connection `retry` more are made at most.
 ///
 /// That the entries are what the folder holds is no clause, since no contract sees a file.
 pub fn backup_command<T: Files + AllocGlobal + Clone + Drop, D: Dial, O: Write, F: Write>(

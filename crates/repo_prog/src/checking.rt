@@ -86,7 +86,7 @@ pub fn show_checked<O: Write, F: Write>(
 
 /// `vault check`: reads all of a store, and tells that it is well: how many snapshots, indexes and packs it has, and how
 /// many blobs the snapshots need. Where things are at fault it tells them in place of that, a line each on the output, and
-/// the status is `Flawed`. It changes nothing.
+/// the status is `Flawed`. It changes nothing. After the first connection `retry` more are made at most.
 pub fn check_command<D: Dial, O: Write, F: Write>(
     alloc: Global,
     caller: &Caller,

@@ -1,7 +1,7 @@
 //! What the command line's words ask for, done over readers, writers and a machine.
 
 ghost use Rattle.std.specs.Prelude.{◌≡◌, ◌≢◌, ℕ, List, Some};
-ghost use Rattle.repo_prog.specs.Commands.{FramesGives, IsOrder, IsReading};
+ghost use Rattle.repo_prog.specs.Commands.{FramesGives, IsOrder, IsReading, LoopGives, PlayGives};
 ghost use Rattle.repo_prog.specs.declared.status.Status.{Status};
 ghost use Rattle.repo_prog.specs.declared.words.Order.{Order};
 
@@ -9,6 +9,7 @@ use crate::connecting::run_errand;
 use crate::frames_engine::frames;
 use crate::listening::serve_folder;
 use crate::making::init_folder;
+use crate::playing::{loop_command, play_command};
 use crate::status::{Status, failed, refuse_both, refuse_words};
 use crate::words::{Order, WordsError, order_of};
 use repo_files::HoldFile;
@@ -52,7 +53,7 @@ fn show<W: Write, F: Write>(error: &clap::Error, output: &mut W, faults: &mut F)
     }
 }
 
-/// Does what is asked for. Of `vault frames` all is said that `frames` says; of the others, nothing that
+/// Does what is asked for. Of `vault frames`, `play` and `loop` all is said that their engines say; of the others, nothing that
 /// a folder or a socket would have to keep. Where it is done, no fault was told.
 pub fn perform<
     T: Files + Net + AllocGlobal + RandomSource + Clock + Clone + Drop,
@@ -67,9 +68,13 @@ where
     ensures status { result ≢ Status.Usage }
     ensures unread { ¬ IsReading order → input.new ≡ input.old }
     ensures frames { order ≡ Order.Frames → (text : List ℕ) → R.remaining input.old ≡ Some text → FramesGives text (W.contents output.old) result (W.contents output.new) }
+    ensures plays { order ≡ Order.Play → (text : List ℕ) → R.remaining input.old ≡ Some text → PlayGives text (W.contents output.old) result (W.contents output.new) }
+    ensures loops { order ≡ Order.Loop → (text : List ℕ) → R.remaining input.old ≡ Some text → LoopGives text (W.contents output.old) result (W.contents output.new) }
 {
     match order {
         Order::Frames => frames_command(rt.alloc(), input, output, faults),
+        Order::Play => play_command(rt.alloc(), input, output, faults),
+        Order::Loop => loop_command(rt, input, output, faults),
         Order::Init { folder, making } => init_folder(rt, folder.as_str(), &making, output, faults),
         Order::Serve {
             folder,

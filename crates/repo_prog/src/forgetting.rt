@@ -41,8 +41,8 @@ pub fn show_forgotten<O: Write, F: Write>(
 }
 
 /// `vault forget`: forgets the chosen snapshots, and tells their names, a line each, ascending. A policy that keeps
-/// nothing is told as `no policy`, and no connection is asked for. Where it ends before all of them are forgotten, some
-/// may be.
+/// nothing is told as `no policy`, and no connection is asked for. After the first connection `retry` more are made at most.
+/// Where it ends before all of them are forgotten, some may be.
 pub fn forget_command<D: Dial, O: Write, F: Write>(
     alloc: Global,
     caller: &Caller,

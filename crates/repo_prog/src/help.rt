@@ -10,6 +10,47 @@ Exit status:
   1  it ended with a fault, whose text is on standard error
   2  the words make no command";
 
+/// Below the help of `vault play`.
+pub const PLAY: &str = "\
+Each line of the input is one of:
+  dir PATH, file PATH HEX       one more entry for the next backup; - stands for no bytes
+  start backup HOST TIME        a client starts; clients are numbered from 0
+  start restore K               of the snapshot that client K stored
+  start list, start prune, start check
+  start forget K..              of the snapshots that these clients stored
+  start keep LAST DAILY         a forget by a policy
+  step K, finish K              client K's pending request is answered, and the reply taken: once, or to its end
+  until K WORD                  so it goes on until that request is a WORD: ticket, lock, config, list, get, range,
+                                put-pack, put-index, put-snapshot, delete-pack, delete-index, delete-snapshot, unlock
+  late K, replay                the last request of K, or each one so far, comes once more
+  deliver I                     message I comes, counted from 0
+  fault K applied               a step in which the device fails, after a change or, with unapplied, before it, or,
+                                with read, where it reads
+  unlock T, crash K, restart    token T's lock is removed; client K stops; the store is closed and opened
+  append-only                   as the first line: the store deletes nothing
+  report                        how all clients stand, and what the store has
+
+Example:
+  printf 'file a 00\\nstart backup laptop 5\\nfinish 0\\nreport\\n' | vault play
+
+Exit status:
+  0  every line was run
+  1  it ended with a fault, whose text is on standard error; what earlier lines print stands
+  2  the words make no command";
+
+/// Below the help of `vault loop`.
+pub const LOOP: &str = "\
+Lines are dir, file, start, finish and report, as for vault play. Each client has a connection on 127.0.0.1; a frame of
+more than 65,536 bytes ends it. What is printed is what vault play prints.
+
+Example:
+  printf 'file a 00\\nstart backup laptop 5\\nfinish 0\\nreport\\n' | vault loop
+
+Exit status:
+  0  every line was run
+  1  it ended with a fault, whose text is on standard error; what earlier lines print stands
+  2  the words make no command";
+
 /// Below the help of `vault init`.
 pub const INIT: &str = "\
 Example:

@@ -1,6 +1,7 @@
 //! The program's engines and commands, as functions over readers, writers and values.
 //!
-//! [`frames`] answers request frames in hexadecimal from an empty store in memory. [`init_command`] makes
+//! [`frames`] answers request frames in hexadecimal from an empty store in memory. [`play_command`] and [`loop_command`] play
+//! scripts of clients over a store in memory, the second over connections of the machine to itself. [`init_command`] makes
 //! a store, and [`serve_connections`] serves one. The others are a client's: [`backup_command`], [`snapshots_command`],
 //! [`restore_command`], [`forget_command`], [`prune_command`] and [`check_command`] bring a job to its end, over connections that
 //! are made one after another ([`Dial`]), by [`drive_again`]; [`locks_command`], [`refresh_command`] and [`unlock_command`] ask
@@ -36,6 +37,7 @@ mod listening;
 mod locking;
 mod making;
 mod output;
+mod playing;
 mod pruning;
 mod restoring;
 mod status;
@@ -57,6 +59,7 @@ pub use frames_engine::frames;
 pub use listening::{Serving, serve_connections, serve_folder};
 pub use locking::{locks_command, refresh_command, unlock_command};
 pub use making::{init_command, init_folder, random_instance};
+pub use playing::{Loopback, loop_command, play_command};
 pub use pruning::prune_command;
 pub use restoring::{restore_command, restore_into, snapshots_command};
 pub use status::{Status, refuse_words};

@@ -39,7 +39,8 @@ pub fn show_pruned<O: Write, F: Write>(
 }
 
 /// `vault prune`: removes what no snapshot needs, and tells how many packs it deleted, and how many bytes of blobs it
-/// put into new ones. Where it ends before, each snapshot still has all that it needs.
+/// put into new ones. After the first connection `retry` more are made at most. Where it ends before, each snapshot still has
+/// all that it needs.
 pub fn prune_command<D: Dial, O: Write, F: Write>(
     alloc: Global,
     caller: &Caller,

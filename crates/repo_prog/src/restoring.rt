@@ -44,8 +44,8 @@ pub fn show_list<O: Write, F: Write>(
     }
 }
 
-/// `vault snapshots`: lists the snapshots, a line each, ascending by name. After the first connection so many more are
-/// made at most.
+/// `vault snapshots`: lists the snapshots, a line each, ascending by name. After the first connection `retry` more are made at
+/// most.
 pub fn snapshots_command<D: Dial, O: Write, F: Write>(
     alloc: Global,
     caller: &Caller,
@@ -148,7 +148,8 @@ pub fn not_begun<F: Write>(error: RestorerError, faults: &mut F) -> Status
 /// `vault restore`: restores a snapshot into a folder, which is made where it isn't there and has to be empty. What
 /// was written before an end stays. All of it is synced before it is told as complete.
 ///
-/// The folder is begun once, and each part is written once, whatever connections it takes. That the folder then
+/// After the first connection `retry` more are made at most; the folder is begun once, and each part is written once, whatever
+/// connections it takes. That the folder then
 /// holds what was given out is no clause, since no contract sees a file.
 pub fn restore_command<T: Files + AllocGlobal + Clone + Drop, D: Dial, O: Write, F: Write>(
     rt: &T,

@@ -7,7 +7,7 @@ ghost use Rattle.repo_tree.specs.ConfigText.{IsTarget};
 ghost use Rattle.repo_prog.specs.Commands.{IsOrder};
 
 use crate::errands::{Errand, errand_of, retry_of, with_errands};
-use crate::help::{FRAMES, INIT, SERVE};
+use crate::help::{FRAMES, INIT, LOOP, PLAY, SERVE};
 use crate::listening::Serving;
 use clap::{Arg, ArgAction, ArgMatches, Command};
 use repo_chunk::Params;
@@ -29,6 +29,10 @@ pub struct Making {
 pub enum Order {
     /// Answer request frames in hexadecimal.
     Frames,
+    /// Play a script.
+    Play,
+    /// Play a script, whose messages go over connections.
+    Loop,
     /// Make a store in a folder.
     Init {
         folder: String,
@@ -126,6 +130,16 @@ fn frames_words<'a>(alloc: Global) -> Command<'a> {
         .after_help(FRAMES)
 }
 
+fn play_words<'a>(alloc: Global) -> Command<'a> {
+    let about = "Plays a script of clients and what befalls them, over a store in memory";
+    Command::new(alloc, "play").about(about).after_help(PLAY)
+}
+
+fn loop_words<'a>(alloc: Global) -> Command<'a> {
+    let about = "Plays a script, and sends each request and each reply over a connection to itself";
+    Command::new(alloc, "loop").about(about).after_help(LOOP)
+}
+
 /// The commands and their words.
 fn commands<'a>(alloc: Global) -> Result<Command<'a>, AllocError> {
     let program = Command::new(alloc, "vault")
@@ -133,6 +147,8 @@ fn commands<'a>(alloc: Global) -> Result<Command<'a>, AllocError> {
         .version(VERSION)
         .subcommand_required(true)
         .subcommand(frames_words(alloc))?
+        .subcommand(play_words(alloc))?
+        .subcommand(loop_words(alloc))?
         .subcommand(init_words(alloc)?)?
         .subcommand(serve_words(alloc)?)?;
     with_errands(alloc, program)
@@ -245,6 +261,8 @@ pub fn order_of(alloc: Global, words: &[String]) -> Result<Order, WordsError>
     let matches = commands.try_get_matches_from(words)?;
     match matches.subcommand() {
         Some(("frames", _)) => Ok(Order::Frames),
+        Some(("play", _)) => Ok(Order::Play),
+        Some(("loop", _)) => Ok(Order::Loop),
         Some(("init", words)) => init_order(alloc, words),
         Some(("serve", words)) => serve_order(alloc, words),
         Some((command, words)) => client_order(alloc, command, words),

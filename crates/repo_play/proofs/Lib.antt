@@ -1,0 +1,11 @@
+pub mod Sound
+pub mod Growing
+pub mod Stepping
+pub mod Saying
+pub mod Standing
+pub mod Running
+pub mod Places
+pub mod Replaying
+pub mod Telling
+pub mod Reported
+pub mod Hearing

@@ -1,0 +1,9 @@
+-- Frames that are carried.
+use Rattle.std.specs.Prelude.{◌≤◌, ℕ, List, length, Option}
+use Rattle.std.specs.Io.KnownBytes.{Appends, Consumes}
+
+-- these bytes were written to a writer, from this to that, and read from a reader, from this to that; they aren't more than 65,536
+pub record IsCarried (bytes : List ℕ) (ahead left start contents : Option (List ℕ)) : Type 0 where
+  pub few : length bytes ≤ 65536
+  pub wrote : Appends start contents bytes
+  pub read : Consumes ahead left bytes

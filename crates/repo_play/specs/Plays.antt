@@ -1,0 +1,86 @@
+-- What is written of a script.
+use Rattle.std.specs.Prelude.{◌≡◌, ◌≢◌, ◌⊎◌, ◌≤◌, ◌+◌, ◌^◌, ◌++◌, ◌∷◌, [], ℕ, true, false, List, length, Option, Result, Ok, Err}
+use Rattle.std.specs.Io.KnownBytes.{Appends}
+use Rattle.repo_store.specs.Output.{AppendsPart}
+use Rattle.repo_script.specs.Cuts.{cut, line_feed}
+use Rattle.repo_script.specs.Lines.{IsLine}
+use Rattle.repo_script.specs.declared.lines.Line.{Line}
+use Rattle.repo_play.specs.Lines.{State, IsFreshScript, MayStand, Does, IsNonsense, GoesFar}
+use Rattle.repo_play.specs.declared.faults.LoopError.{LoopError}
+use Rattle.repo_play.specs.declared.faults.PlayError.{PlayError}
+use Rattle.repo_play.specs.declared.grammars.Grammar.{Grammar}
+
+-- ---- the bytes of a line, behind so many other lines
+
+-- they are this line, and it is understood
+abbrev pub IsUnderstood : Grammar → List ℕ → Line → Type 0
+IsUnderstood grammar bytes line = IsLine bytes line × MayStand grammar line
+
+-- a first line says that the store only appends
+abbrev pub IsFirstLine : Grammar → ℕ → List ℕ → Type 0
+IsFirstLine grammar before bytes = (before ≡ 0) × IsUnderstood grammar bytes Line.AppendOnly
+
+-- from s they lead to t, and this is printed: there are none; or they are a line, which does so; or the script begins so, with a store that only appends
+abbrev pub LineSays : Grammar → ℕ → List ℕ → State → List ℕ → State → Type 0
+LineSays grammar before bytes s text t =
+    ((bytes ≡ []) × (text ≡ []) × (t ≡ s))
+    ⊎ (((line : Line) × IsUnderstood grammar bytes line × Does line s text t)
+    ⊎ (IsFirstLine grammar before bytes × (text ≡ []) × IsFreshScript true t))
+
+-- they aren't understood: they are no line that is, or one that makes no sense here
+pub record IsNotUnderstood (grammar : Grammar) (before : ℕ) (bytes : List ℕ) (s : State) : Type 0 where
+  pub some : bytes ≢ []
+  pub nonsense : (line : Line) → IsUnderstood grammar bytes line → IsNonsense line s
+  pub later : ¬ IsFirstLine grammar before bytes
+
+-- ---- all lines
+
+-- from s these lines, behind so many, lead to t, and this is printed
+abbrev pub SayAll : Grammar → ℕ → List (List ℕ) → State → List ℕ → State → Type 0
+SayAll grammar before [] s text t = (text ≡ []) × (t ≡ s)
+SayAll grammar before (bytes ∷ lines) s text t =
+    (u : State) × (first rest : List ℕ) × LineSays grammar before bytes s first u × SayAll grammar (before + 1) lines u rest t × (text ≡ first ++ rest)
+
+-- the first lines of a script lead to s, from the beginning, and this is printed; these lines are left
+pub record Played (grammar : Grammar) (input : List ℕ) (done left : List (List ℕ)) (text : List ℕ) (s : State) : Type 0 where
+  pub lines : cut line_feed input ≡ done ++ left
+  pub begun : State
+  pub fresh : IsFreshScript false begun
+  pub say : SayAll grammar 0 done begun text s
+
+-- the next line takes too many steps
+abbrev pub IsFar : List (List ℕ) → State → Type 0
+IsFar left s = (bytes : List ℕ) × (more : List (List ℕ)) × (line : Line) × (left ≡ bytes ∷ more) × IsLine bytes line × GoesFar line s.world
+
+-- the first lines were played, and what they print was written
+pub record PlayedSome (grammar : Grammar) (input : List ℕ) (start contents : Option (List ℕ)) (lines left : List (List ℕ)) (s : State) : Type 0 where
+  pub text : List ℕ
+  pub played : Played grammar input lines left text s
+  pub wrote : Appends start contents text
+
+-- some first lines were
+abbrev pub PlaysSome : Grammar → List ℕ → Option (List ℕ) → Option (List ℕ) → Type 0
+PlaysSome grammar input start contents = (lines left : List (List ℕ)) × (s : State) × PlayedSome grammar input start contents lines left s
+
+-- What is written for this input, by what is returned. In each case it is what the first lines print, each of which is done.
+abbrev pub Plays : Grammar → List ℕ → Option (List ℕ) → Result (Unit {0}) LoopError → Option (List ℕ) → Type 0
+-- all lines
+Plays grammar input start (Ok done) contents = (lines : List (List ℕ)) × (s : State) × PlayedSome grammar input start contents lines [] s
+-- all before this one, which isn't understood
+Plays grammar input start (Err (LoopError.Play (PlayError.Line n))) contents = (lines left : List (List ℕ)) × (bytes : List ℕ) × (s : State)
+    × PlayedSome grammar input start contents lines (bytes ∷ left) s × IsNotUnderstood grammar (length lines) bytes s × (n ≡ length lines + 1)
+-- all before one that takes 2^32 steps; or 2^32 lines; or some, where as many bytes were read as there may be reads
+Plays grammar input start (Err (LoopError.Play PlayError.Limit)) contents = (lines left : List (List ℕ)) × (s : State)
+    × PlayedSome grammar input start contents lines left s × (IsFar left s ⊎ ((2 ^ 32 ≤ length lines) ⊎ (2 ^ 48 ≤ length input)))
+-- some
+Plays grammar input start (Err (LoopError.Play PlayError.Read)) contents = PlaysSome grammar input start contents
+Plays grammar input start (Err (LoopError.Play PlayError.Memory)) contents = PlaysSome grammar input start contents
+Plays grammar input start (Err (LoopError.Carry error)) contents = PlaysSome grammar input start contents
+-- some, and of what they print a first part alone is written
+Plays grammar input start (Err (LoopError.Play PlayError.Write)) contents =
+    (lines left : List (List ℕ)) × (text : List ℕ) × (s : State) × Played grammar input lines left text s × AppendsPart start contents text
+
+-- what is returned where nothing is carried
+abbrev pub uncarried : Result (Unit {0}) PlayError → Result (Unit {0}) LoopError
+uncarried (Ok done) = Ok done
+uncarried (Err error) = Err (LoopError.Play error)

@@ -1,0 +1,86 @@
+//! The stage of a script: a player over a store that only appends, or over one that doesn't.
+
+ghost use Rattle.std.specs.Prelude.{◌≡◌, true, false, IfOk, IfErr, IsErrOf, string_bytes};
+ghost use Rattle.repo_play.specs.Lines.{Does, GoesFar, IsFreshScript, IsNonsense};
+ghost use Rattle.repo_play.specs.inner.Players.{state_on};
+ghost use Rattle.repo_play.specs.Plays.{LineSays, IsNotUnderstood};
+ghost use Rattle.repo_play.specs.inner.Scripts.{HaltsBy};
+ghost use Rattle.repo_play.specs.declared.faults.Halt.{Halt};
+ghost use Rattle.repo_script.specs.Lines.{IsLine};
+ghost use Rattle.repo_script.specs.declared.lines.Line.{Line};
+
+use crate::beginnings::beginning;
+use crate::carriers::Carrier;
+use crate::faults::Halt;
+use crate::grammars::Grammar;
+use crate::players::Player;
+use repo_script::{Line, LineError, read_line};
+use repo_store::{AppendOnly, MemShelf};
+use std::alloc::{AllocError, Global};
+
+/// A player over a store that only appends, or over one that doesn't.
+#[derive(Drop)]
+pub enum Stage {
+    Keeping(Player<MemShelf>),
+    Appending(Player<AppendOnly<MemShelf>>),
+}
+
+impl Stage {
+    /// The stage before the first line.
+    pub fn keeping(alloc: Global) -> Result<Stage, AllocError>
+        ensures { IfOk result (λ stage. IsFreshScript false (state_on stage)) }
+    {
+        Ok(Stage::Keeping(beginning(alloc, MemShelf::new(alloc))?))
+    }
+
+    /// The stage behind the first line, where that says that the store only appends.
+    fn appending(alloc: Global) -> Result<Stage, AllocError>
+        ensures { IfOk result (λ stage. IsFreshScript true (state_on stage)) }
+    {
+        let device = AppendOnly::new(MemShelf::new(alloc));
+        Ok(Stage::Appending(beginning(alloc, device)?))
+    }
+
+    /// A line is run. What it prints is given.
+    fn run<C: Carrier>(&mut self, carrier: &mut C, line: Line) -> Result<String, Halt>
+        ensures does { IfOk result (λ text. Does line (state_on self.old) (string_bytes text) (state_on self.new)) }
+        ensures nonsense { IsErrOf result Halt.Nonsense → IsNonsense line (state_on self.old) }
+        ensures far { IsErrOf result Halt.Limit → GoesFar line (state_on self.old).world }
+        ensures carried { IfErr result (HaltsBy C.fails) }
+    {
+        match self {
+            Stage::Keeping(player) => player.run(carrier, line),
+            Stage::Appending(player) => player.run(carrier, line),
+        }
+    }
+
+    /// The bytes of a line are run, before which so many lines stand. What is printed is given.
+    pub fn say<C: Carrier>(
+        &mut self,
+        alloc: Global,
+        carrier: &mut C,
+        grammar: Grammar,
+        before: u64,
+        bytes: &[u8],
+    ) -> Result<String, Halt>
+        ensures says { IfOk result (λ text. LineSays grammar before bytes.now (state_on self.old) (string_bytes text) (state_on self.new)) }
+        ensures nonsense { IsErrOf result Halt.Nonsense → IsNotUnderstood grammar before bytes.now (state_on self.old) }
+        ensures far { IsErrOf result Halt.Limit → (line : Line) × IsLine bytes.now line × GoesFar line (state_on self.old).world }
+        ensures carried { IfErr result (HaltsBy C.fails) }
+    {
+        let line = match read_line(alloc, bytes) {
+            Ok(Some(line)) => line,
+            Ok(None) => return Ok(String::new(alloc)),
+            Err(LineError::NotUnderstood) => return Err(Halt::Nonsense),
+            Err(LineError::Memory) => return Err(Halt::Memory),
+        };
+        if !grammar.has(&line) {
+            return Err(Halt::Nonsense);
+        }
+        if before == 0 && matches!(&line, Line::AppendOnly) {
+            *self = Stage::appending(alloc)?;
+            return Ok(String::new(alloc));
+        }
+        self.run(carrier, line)
+    }
+}
