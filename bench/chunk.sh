@@ -4,7 +4,7 @@
 # the digest of the lengths has to be the same. The library is the Debian package golang-github-restic-chunker-dev,
 # to be built with golang-go. Usage: bench/chunk.sh
 set -euo pipefail
-. "$(dirname "$0")/least.sh"
+. "$(dirname "$0")/kernels.sh"
 here=$PWD/../../bench
 size=268435456
 

@@ -1,7 +1,4 @@
-# What the scripts beside it share that time the kernels: it builds bench, for this machine's processor or for the sort that
-# PROCESSOR has, goes to its folder, and gives them `least`. To be sourced.
-cd "$(dirname "${BASH_SOURCE[0]}")/../crates/bench"
-rt run --cpu "${PROCESSOR:-$(../../scripts/processor.sh)}" >/dev/null 2>&1
+# The time of a command, for the scripts beside it. To be sourced.
 
 # Milliseconds of the fastest of five runs of a command.
 least() {

@@ -2,7 +2,7 @@
 # Times a backup of 64 MiB of random bytes from memory into a shelf in memory, and a restore of it, from outside, and the
 # parts that it is made of: making the bytes, cutting them, and naming them once. The least of five runs counts. Usage: bench/lockstep.sh
 set -euo pipefail
-. "$(dirname "$0")/least.sh"
+. "$(dirname "$0")/kernels.sh"
 size=67108864
 
 random=$(least out/bench random "$size")

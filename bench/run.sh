@@ -2,7 +2,7 @@
 # Times the kernels of the crate bench at 16 MiB, from outside, and openssl's SHA-256 of as many bytes
 # beside them. The least of five runs counts. Usage: bench/run.sh
 set -euo pipefail
-. "$(dirname "$0")/least.sh"
+. "$(dirname "$0")/kernels.sh"
 size=16777216
 
 bytes=$(mktemp)

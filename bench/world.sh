@@ -6,16 +6,14 @@ set -euo pipefail
 vault=$(realpath "$1")
 events=${2:-100000}
 here=$(cd "$(dirname "$0")" && pwd)
+. "$here/least.sh"
 work=$(mktemp -d)
 trap 'rm -rf "$work"' EXIT
 
+play() {
+    "$vault" play <"$work/script"
+}
+
 "$here/world.py" "$events" "$work/script" "$work/wanted"
-best=0
-for _ in 1 2 3 4 5; do
-    start=$(date +%s%N)
-    "$vault" play <"$work/script" >"$work/told"
-    took=$((($(date +%s%N) - start) / 1000000))
-    if [ "$best" -eq 0 ] || [ "$took" -lt "$best" ]; then best=$took; fi
-done
-diff "$work/wanted" "$work/told"
-echo "$events events of 100 clients: $best ms"
+diff "$work/wanted" <(play)
+echo "$events events of 100 clients: $(least play) ms"

@@ -1,5 +1,5 @@
 #!/usr/bin/env bash
-# Proves and builds vault, and prints the program's path. The first time all of it is proved: some 40 minutes.
+# Proves and builds vault, and prints the program's path. The first time all of it is proved: about an hour.
 #
 # Usage: scripts/vault.sh [PROCESSOR]. PROCESSOR is the oldest sort that the program is to run on: x86-64-v2, which is any
 # of the last fifteen years, or x86-64-v3. Without the word it is the newer of the two that this machine has.
