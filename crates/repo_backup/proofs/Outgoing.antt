@@ -20,7 +20,7 @@ use Rattle.repo_writing.specs.declared.counts.Counts.{Counts}
 use Rattle.repo_writing.proofs.BlobLemmas.{once_left, each_left, each_right}
 use Rattle.repo_writing.proofs.Writings.{items_push, put_of, is_put}
 use Rattle.repo_backup.specs.Backing.{Backs}
-use Rattle.repo_backup.specs.BackupStates.{PutsPack, IsPackNext, IsNextAfter, MayGoOn}
+use Rattle.repo_backup.specs.BackupStates.{BackupPutsPack, IsPackNext, IsNextAfter, MayGoOn}
 use Rattle.repo_backup.specs.Folders.{Folder}
 use Rattle.repo_backup.specs.Packings.{IsCovered, Notes, all_items}
 use Rattle.repo_backup.specs.Readying.{IsPackReady, Readies}
@@ -51,7 +51,7 @@ module _ (entries : List Entry) (facts : List Fact) where
 
 module _ (entries : List Entry) (facts : List Fact) where
   -- the pack is being put
-  pub pack_out : (b c : Backing) (es : Trace) (h : IsPackNext entries facts b es) → TakesPack h.sealed b c → PutsPack entries facts c h.sealed.name h.sealed.bytes es
+  pub pack_out : (b c : Backing) (es : Trace) (h : IsPackNext entries facts b es) → TakesPack h.sealed b c → BackupPutsPack entries facts c h.sealed.name h.sealed.bytes es
   pack_out b c es h t =
       let p : Put = put_of h.sealed h.items h.listed in
       let is : IsPut p = is_put b.work.packing.packer.sealed h.items h.sealed h.listed h.ready.lists in

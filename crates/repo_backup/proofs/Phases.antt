@@ -14,7 +14,7 @@ use Rattle.repo_tree.specs.declared.entries.Entry.{Entry}
 use Rattle.repo_session.specs.Catalogs.{AreIndexed}
 use Rattle.repo_session.specs.Order.{Task, opened}
 use Rattle.repo_session.specs.Traces.{Exchange, Trace, Exchanged, object_put, objects_put, ReadFact}
-use Rattle.repo_backup.specs.BackupStates.{HasBegun, MayGoOn, PutsPack, PutsIndex}
+use Rattle.repo_backup.specs.BackupStates.{WorkHasBegun, MayGoOn, BackupPutsPack, BackupPutsIndex}
 use Rattle.repo_writing.specs.Writing.{items_of}
 use Rattle.repo_backup.specs.Backing.{Backs}
 use Rattle.repo_backup.specs.Folders.{Folder, entries_of}
@@ -44,7 +44,7 @@ nothing_put task token text k = refl
 
 -- the work begins
 pub opens : (task : Task) (token : Token) (text : List ℕ) (config : Config) (stage : Stage) (folder : Folder) (b : Backing) (es : Trace) → es ≡ opened task token text → IsConfigText text config → IsLawful folder
-    → IsPlanned stage (steps_of folder) → IsBegun config.params (steps_of folder) b → HasBegun (handed_in stage) b es
+    → IsPlanned stage (steps_of folder) → IsBegun config.params (steps_of folder) b → WorkHasBegun (handed_in stage) b es
 opens task token text config stage folder b es whole reads lawful planned begun =
     let cut = recut config.params folder reads.allowed.0 lawful in
     record {
@@ -66,7 +66,7 @@ opens task token text config stage folder b es whole reads lawful planned begun 
 -- ---- with nothing put
 
 -- a request that puts nothing
-pub begun_later : (entries : List Entry) (b : Backing) (e : Exchange) (es : Trace) → ((k : Kind) → object_put k e.ask ≡ []) → HasBegun entries b es → HasBegun entries b (e ∷ es)
+pub begun_later : (entries : List Entry) (b : Backing) (e : Exchange) (es : Trace) → ((k : Kind) → object_put k e.ask ≡ []) → WorkHasBegun entries b es → WorkHasBegun entries b (e ∷ es)
 begun_later entries b e es none h = record {
   folder = h.folder;
   made = is_made_later entries e es h.folder h.made;
@@ -81,7 +81,7 @@ none_waiting : (waiting : List PackFacts) → waiting ≡ [] → length (facts_i
 none_waiting waiting h = let n : length (facts_in waiting) ≡ 0 = ap (λ ws. length (facts_in ws)) h in omega (arith, n)
 
 -- where every index was read, the work may go on
-pub begun_goes : (entries : List Entry) (facts : List Fact) (b : Backing) (es : Trace) → HasBegun entries b es → AreIndexed es → ((fact : Fact) → Contains facts fact ↔ ReadFact es fact) → MayGoOn entries facts false b es
+pub begun_goes : (entries : List Entry) (facts : List Fact) (b : Backing) (es : Trace) → WorkHasBegun entries b es → AreIndexed es → ((fact : Fact) → Contains facts fact ↔ ReadFact es fact) → MayGoOn entries facts false b es
 begun_goes entries facts b es h indexed gives = record {
   folder = h.folder;
   puts = [];
@@ -92,7 +92,7 @@ begun_goes entries facts b es h indexed gives = record {
 }
 
 -- the work is begun anew
-pub begun_again : (entries : List Entry) (known : List Fact) (b d : Backing) (es : Trace) → BeginsAgain known b d → HasBegun entries b es → HasBegun entries d es
+pub begun_again : (entries : List Entry) (known : List Fact) (b d : Backing) (es : Trace) → BeginsAgain known b d → WorkHasBegun entries b es → WorkHasBegun entries d es
 begun_again entries known b d es a h =
     let work = h.begun.work known h.folder h.lawful h.cut refl in
     let m = a.stays.stays h.folder [] [] work in
@@ -110,7 +110,7 @@ begun_again entries known b d es a h =
 -- ---- puts
 
 -- the put of a pack is done
-pub pack_goes : (entries : List Entry) (facts : List Fact) (b : Backing) (token : Token) (n : Name) (x : List ℕ) (e : Exchange) (es : Trace) (h : PutsPack entries facts b n x es) → e.ask ≡ Ask.Put token Kind.Pack n x → e.say ≡ Say.Done
+pub pack_goes : (entries : List Entry) (facts : List Fact) (b : Backing) (token : Token) (n : Name) (x : List ℕ) (e : Exchange) (es : Trace) (h : BackupPutsPack entries facts b n x es) → e.ask ≡ Ask.Put token Kind.Pack n x → e.say ≡ Say.Done
     → Backs entries facts b.waiting b.counts h.folder (h.puts ++ h.put ∷ []) [] (e ∷ es)
 pack_goes entries facts b token n x e es h q s =
     let same = sym h.pack_is in
@@ -123,12 +123,12 @@ few_left b n is not_full =
     omega (arith, under)
 
 -- and the work may go on where fewer than 20,000 facts wait
-pub pack_room : (entries : List Entry) (facts : List Fact) (b : Backing) (token : Token) (n : Name) (x : List ℕ) (e : Exchange) (es : Trace) → PutsPack entries facts b n x es → e.ask ≡ Ask.Put token Kind.Pack n x → e.say ≡ Say.Done
+pub pack_room : (entries : List Entry) (facts : List Fact) (b : Backing) (token : Token) (n : Name) (x : List ℕ) (e : Exchange) (es : Trace) → BackupPutsPack entries facts b n x es → e.ask ≡ Ask.Put token Kind.Pack n x → e.say ≡ Say.Done
     → length (facts_in b.waiting) < facts_limit → MayGoOn entries facts false b (e ∷ es)
 pack_room entries facts b token n x e es h q s room = record { folder = h.folder; puts = h.puts ++ h.put ∷ []; backs = pack_goes entries facts b token n x e es h q s; work = h.work; room = room }
 
 -- the put of an index is done
-pub index_room : (entries : List Entry) (facts : List Fact) (b : Backing) (token : Token) (n : Name) (x : List ℕ) (e : Exchange) (es : Trace) → PutsIndex entries facts b x es → e.ask ≡ Ask.Put token Kind.Index n x → e.say ≡ Say.Done
+pub index_room : (entries : List Entry) (facts : List Fact) (b : Backing) (token : Token) (n : Name) (x : List ℕ) (e : Exchange) (es : Trace) → BackupPutsIndex entries facts b x es → e.ask ≡ Ask.Put token Kind.Index n x → e.say ≡ Say.Done
     → MayGoOn entries facts true b (e ∷ es)
 index_room entries facts b token n x e es h q s = record {
   folder = h.folder;
@@ -139,7 +139,7 @@ index_room entries facts b token n x e es h q s = record {
 }
 
 -- some of the work was done, and nothing was sent
-pub pack_stays : (entries : List Entry) (facts : List Fact) (b c : Backing) (n : Name) (x : List ℕ) (es : Trace) → StaysReady facts b c → PutsPack entries facts b n x es → PutsPack entries facts c n x es
+pub pack_stays : (entries : List Entry) (facts : List Fact) (b c : Backing) (n : Name) (x : List ℕ) (es : Trace) → StaysReady facts b c → BackupPutsPack entries facts b n x es → BackupPutsPack entries facts c n x es
 pack_stays entries facts b c n x es s h =
     let m = s.stays h.folder (items_of (h.puts ++ h.put ∷ [])) h.work.0 h.work.1 in
     record {
@@ -153,7 +153,7 @@ pack_stays entries facts b c n x es s h =
       few = subst (λ ws. length (facts_in ws) ≤ 24095) (sym m.1) h.few;
     }
 
-pub index_stays : (entries : List Entry) (facts : List Fact) (b c : Backing) (x : List ℕ) (es : Trace) → StaysReady facts b c → PutsIndex entries facts b x es → PutsIndex entries facts c x es
+pub index_stays : (entries : List Entry) (facts : List Fact) (b c : Backing) (x : List ℕ) (es : Trace) → StaysReady facts b c → BackupPutsIndex entries facts b x es → BackupPutsIndex entries facts c x es
 index_stays entries facts b c x es s h =
     let m = s.stays h.folder (items_of h.puts) h.work.0 h.work.1 in
     let R : List PackFacts → Type 0 = λ ws. Backs entries facts ws c.counts h.folder h.puts [] es in

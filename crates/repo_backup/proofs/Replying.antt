@@ -8,13 +8,13 @@ use Rattle.repo_tree.specs.declared.entries.Entry.{Entry}
 use Rattle.repo_session.specs.Askers.{Asker}
 use Rattle.repo_session.specs.Catalogs.{Catalogs, IsAll}
 use Rattle.repo_session.specs.Jobs.{MayStep}
-use Rattle.repo_session.specs.Readings.{IsDue, KnowsIndexes}
+use Rattle.repo_session.specs.Readings.{IsAskDue, KnowsIndexes}
 use Rattle.repo_session.specs.Traces.{Exchange, Trace, object_put}
 use Rattle.repo_session.specs.declared.catalogs.Catalog.{Catalog}
 use Rattle.repo_session.specs.declared.emissions.Emission.{Emission}
 use Rattle.repo_session.specs.declared.jobs.Step.{Step}
 use Rattle.repo_session.proofs.Cataloguing.{are_indexed}
-use Rattle.repo_backup.specs.BackupStates.{backup_task, backup_rule, AtWork, HasBegun, KnowsPut, KnowsBackup, IsNextStep, MayGoOn}
+use Rattle.repo_backup.specs.BackupStates.{backup_task, backup_rule, AtWork, WorkHasBegun, KnowsPut, KnowsBackup, IsNextStep, MayGoOn}
 use Rattle.repo_backup.specs.Backups.{handed_to, Knows}
 use Rattle.repo_backup.specs.Rules.{may_read}
 use Rattle.repo_backup.specs.Stages.{StaysReady}
@@ -80,12 +80,12 @@ reading_puts c (Ask.Range pack offset len) es h j = refl
 reading_puts c (Ask.Put t k n x) es h j = absurd h
 reading_puts c (Ask.Delete t k n) es h j = refl
 
-module _ (entries : List Entry) (c : Catalog) (stage : Stage) (e : Exchange) (es : Trace) (known : KnowsIndexes c e.ask es) (work : AtWork stage (λ b. HasBegun entries b es)) where
-  begun_still : AtWork stage (λ b. HasBegun entries b (e ∷ es))
+module _ (entries : List Entry) (c : Catalog) (stage : Stage) (e : Exchange) (es : Trace) (known : KnowsIndexes c e.ask es) (work : AtWork stage (λ b. WorkHasBegun entries b es)) where
+  begun_still : AtWork stage (λ b. WorkHasBegun entries b (e ∷ es))
   begun_still = (work.0, work.1, begun_later entries work.0 e es (reading_puts c e.ask es known) work.2)
 
   -- the next page or index
-  pub reads_next : (who : Asker) (d : Catalog) (ask : Ask) → IsDue (backup_task who) (KnowsIndexes d) (e ∷ es) ask → IsNextStep entries who (KnowsBackup entries d stage) (Step.Ask ask) (e ∷ es)
+  pub reads_next : (who : Asker) (d : Catalog) (ask : Ask) → IsAskDue (backup_task who) (KnowsIndexes d) (e ∷ es) ask → IsNextStep entries who (KnowsBackup entries d stage) (Step.Ask ask) (e ∷ es)
   reads_next who d ask due = record { work = due.work; may = due.may; allowed = may_read entries (e ∷ es) ask due.reads; knows = inl (due.knows, begun_still) }
 
   -- where every index was read, the work may go on

@@ -40,7 +40,7 @@ abbrev pub backup_rule : List Entry → Rule
 backup_rule entries = record { exclusive = false; snapshot = None; calm = ⊤; allows = BackupAllows entries; gives = BackupGives entries; concludes = BackupConcludes entries }
 
 -- nothing was listed, and the steps of a folder are planned
-pub record IsNew (c : Catalog) (stage : Stage) : Type 0 where
+pub record IsNewBackup (c : Catalog) (stage : Stage) : Type 0 where
   pub of_indexes : c.roll.kind ≡ Kind.Index
   pub no_names : c.roll.names.items ≡ []
   pub none_read : c.roll.read ≡ 0
@@ -50,7 +50,7 @@ pub record IsNew (c : Catalog) (stage : Stage) : Type 0 where
   pub planned : IsPlanned stage (steps_of folder)
 
 -- the work is begun over the folder that the config makes of the entries, and nothing was put
-pub record HasBegun (entries : List Entry) (b : Backing) (es : Trace) : Type 0 where
+pub record WorkHasBegun (entries : List Entry) (b : Backing) (es : Trace) : Type 0 where
   pub folder : Folder
   pub made : IsMade entries es folder
   pub lawful : IsLawful folder
@@ -64,7 +64,7 @@ abbrev pub IsAtWork : List Fact → Folder → List Item → Backing → Type 0
 IsAtWork facts folder sent b = (sealed : List Item) × WorkStands b.work facts folder sent sealed
 
 -- a pack is being put
-pub record PutsPack (entries : List Entry) (facts : List Fact) (b : Backing) (n : Name) (x : List ℕ) (es : Trace) : Type 0 where
+pub record BackupPutsPack (entries : List Entry) (facts : List Fact) (b : Backing) (n : Name) (x : List ℕ) (es : Trace) : Type 0 where
   pub folder : Folder
   pub puts : List Put
   pub put : Put
@@ -74,7 +74,7 @@ pub record PutsPack (entries : List Entry) (facts : List Fact) (b : Backing) (n 
   pub few : FewWait b.waiting
 
 -- an index of the packs that wait is being put
-pub record PutsIndex (entries : List Entry) (facts : List Fact) (b : Backing) (x : List ℕ) (es : Trace) : Type 0 where
+pub record BackupPutsIndex (entries : List Entry) (facts : List Fact) (b : Backing) (x : List ℕ) (es : Trace) : Type 0 where
   pub folder : Folder
   pub puts : List Put
   pub backs : Backs entries facts b.waiting b.counts folder puts [] es
@@ -93,12 +93,12 @@ AtWork stage P = (b : Backing) × (stage ≡ Stage.Working b) × P b
 
 -- what is known while the indexes are read: what the catalog knows, and that the work is begun
 abbrev pub KnowsReading : List Entry → Catalog → Stage → Ask → Trace → Type 0
-KnowsReading entries c stage ask es = KnowsIndexes c ask es × AtWork stage (λ b. HasBegun entries b es)
+KnowsReading entries c stage ask es = KnowsIndexes c ask es × AtWork stage (λ b. WorkHasBegun entries b es)
 
 -- what is known while this is put
 abbrev pub KnowsPut : List Entry → List Fact → Stage → Ask → Trace → Type 0
-KnowsPut entries facts stage (Ask.Put token Kind.Pack n x) es = AtWork stage (λ b. PutsPack entries facts b n x es)
-KnowsPut entries facts stage (Ask.Put token Kind.Index n x) es = AtWork stage (λ b. PutsIndex entries facts b x es)
+KnowsPut entries facts stage (Ask.Put token Kind.Pack n x) es = AtWork stage (λ b. BackupPutsPack entries facts b n x es)
+KnowsPut entries facts stage (Ask.Put token Kind.Index n x) es = AtWork stage (λ b. BackupPutsIndex entries facts b x es)
 KnowsPut entries facts stage (Ask.Put token Kind.Snapshot n x) es = AtWork stage (λ b. PutsSnapshot entries facts b es)
 KnowsPut entries facts stage _ es = ⊥
 

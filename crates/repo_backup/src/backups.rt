@@ -3,7 +3,7 @@
 ghost use Rattle.std.specs.Prelude.{◌≡◌, [], IfOk, IfErr};
 ghost use Rattle.repo_session.specs.Sessions.{who_in};
 ghost use Rattle.repo_backup.specs.Backups.{handed_to, FitsBackup};
-ghost use Rattle.repo_backup.specs.Handed.{IsRefusal, AreHanded};
+ghost use Rattle.repo_backup.specs.Handed.{IsRefusalOf, AreHanded};
 
 use crate::checks::check;
 use crate::faults::BackupError;
@@ -29,7 +29,7 @@ impl Backup {
         ensures fits { IfOk result (λ backup. FitsBackup backup []) }
         ensures handed { IfOk result (λ backup. handed_to backup.session.job ≡ entries.items) }
         ensures who { IfOk result (λ backup. who_in backup.session ≡ who) }
-        ensures refused { IfErr result (IsRefusal entries.items) }
+        ensures refused { IfErr result (IsRefusalOf entries.items) }
         ensures lawful { IfOk result (λ _. AreHanded entries.items) }
     {
         check(entries.as_slice())?;

@@ -1,19 +1,17 @@
 //! The job of a backup: what it makes of each reply.
 
-ghost use Rattle.std.specs.Prelude.{◌≡◌, false, ℕ, List, IfOk, OnErr};
+ghost use Rattle.std.specs.Prelude.{◌≡◌, false, List, IfOk, OnErr};
 ghost use Rattle.repo_name.specs.declared.kinds.Kind.{Kind};
-ghost use Rattle.repo_name.specs.declared.tokens.Token.{Token};
 ghost use Rattle.repo_wire.specs.declared.messages.Ask.{Ask};
 ghost use Rattle.repo_wire.specs.declared.messages.Say.{Say};
-ghost use Rattle.repo_session.specs.Askers.{Holding};
 ghost use Rattle.repo_session.specs.Jobs.{IsShortStep};
-ghost use Rattle.repo_session.specs.Readings.{HasNoted, KnowsStill};
+ghost use Rattle.repo_session.specs.Readings.{HasNotedFacts, KnowsStill};
 ghost use Rattle.repo_session.specs.Traces.{Trace};
 ghost use Rattle.repo_session.specs.declared.catalogs.Catalog.{Catalog};
 ghost use Rattle.repo_backup.specs.Backups.{handed_to, Knows, BackupReads, BackupGoesOn, BackupReplies};
 ghost use Rattle.repo_backup.specs.Stages.{StaysReady, BeginsAgain};
-ghost use Rattle.repo_backup.specs.declared.backing.Backing.{Backing};
 ghost use Rattle.repo_backup.specs.declared.stages.Stage.{Stage};
+ghost use Rattle.repo_backup.specs.inner.Putting.{StageGoes, PackPut, SnapshotPut, ObjectPut, KnowsPackPut, KnowsObjectPut};
 
 use crate::backing::Next;
 use crate::stages::Stage;
@@ -39,7 +37,7 @@ impl BackupJob {
     fn go_on(&mut self, holder: &Holder, anew: bool) -> Result<Step, AllocError>
         ensures ok { IfOk result (λ step. BackupGoesOn self.old holder.now anew step self.new) }
         ensures short { IfOk result IsShortStep }
-        ensures err { OnErr result ((b : Backing) → self.old.stage ≡ Stage.Working b → (c : Backing) × (self.new.stage ≡ Stage.Working c) × StaysReady self.old.catalog.lookup b c) }
+        ensures err { OnErr result (StageGoes (StaysReady self.old.catalog.lookup) self.old.stage self.new.stage) }
         ensures catalog { self.new.catalog ≡ self.old.catalog }
         ensures handed { handed_to self.new ≡ handed_to self.old }
     {
@@ -52,8 +50,8 @@ impl BackupJob {
     fn go_first(&mut self, holder: &Holder, noted: &Facts) -> Result<Step, AllocError>
         ensures ok { IfOk result (λ step. BackupGoesOn self.old holder.now false step self.new) }
         ensures short { IfOk result IsShortStep }
-        ensures err { OnErr result ((b : Backing) → self.old.stage ≡ Stage.Working b → (d : Backing) × (self.new.stage ≡ Stage.Working d) × BeginsAgain self.old.catalog.lookup b d) }
-        ensures back { OnErr result ((old : Catalog) → HasNoted old noted.now self.old.catalog → KnowsStill old self.new.catalog) }
+        ensures err { OnErr result (StageGoes (BeginsAgain self.old.catalog.lookup) self.old.stage self.new.stage) }
+        ensures back { OnErr result ((old : Catalog) → HasNotedFacts old noted.now self.old.catalog → KnowsStill old self.new.catalog) }
         ensures handed { handed_to self.new ≡ handed_to self.old }
     {
         match self.go_on(holder, false) {
@@ -88,9 +86,9 @@ impl BackupJob {
 
     /// Goes on where the put of a pack is done. It fails for memory alone, and then what was known is known.
     fn pack_done(&mut self, holder: &Holder) -> Result<Step, AllocError>
-        ensures ok { IfOk result (λ step. (token : Token) (name : Name) (bytes : List ℕ) → BackupReplies self.old Knows holder.now (Ask.Put token Kind.Pack name bytes) Say.Done step self.new) }
+        ensures ok { IfOk result (λ step. PackPut self.old holder.now step self.new) }
         ensures short { IfOk result IsShortStep }
-        ensures err { OnErr result ((token : Token) (name : Name) (bytes : List ℕ) (es : Trace) → Knows self.old (Ask.Put token Kind.Pack name bytes) es → Knows self.new (Ask.Put token Kind.Pack name bytes) es) }
+        ensures err { OnErr result (KnowsPackPut self.old self.new) }
         ensures handed { handed_to self.new ≡ handed_to self.old }
     {
         if self.stage.is_full() {
@@ -101,7 +99,7 @@ impl BackupJob {
 
     /// Ends where the snapshot is stored under this name.
     fn conclude(&self, name: Name) -> Step
-        ensures ends { (new : BackupJob) (token : Token) (holding : Holding) (bytes : List ℕ) → BackupReplies self.now Knows holding (Ask.Put token Kind.Snapshot name bytes) Say.Done result new }
+        ensures ends { SnapshotPut self.now name result }
         ensures short { IsShortStep result }
     {
         let Counts { blobs, bytes } = self.stage.counts();
@@ -110,9 +108,9 @@ impl BackupJob {
 
     /// Goes on where a put is done. It fails for memory alone, and then what was known is known.
     fn put_done(&mut self, holder: &Holder, kind: Kind, name: Name) -> Result<Step, AllocError>
-        ensures ok { IfOk result (λ step. (token : Token) (bytes : List ℕ) → BackupReplies self.old Knows holder.now (Ask.Put token kind name bytes) Say.Done step self.new) }
+        ensures ok { IfOk result (λ step. ObjectPut kind name self.old holder.now step self.new) }
         ensures short { IfOk result IsShortStep }
-        ensures err { OnErr result ((token : Token) (bytes : List ℕ) (es : Trace) → Knows self.old (Ask.Put token kind name bytes) es → Knows self.new (Ask.Put token kind name bytes) es) }
+        ensures err { OnErr result (KnowsObjectPut kind name self.old self.new) }
         ensures handed { handed_to self.new ≡ handed_to self.old }
     {
         match kind {

@@ -16,7 +16,7 @@ use Rattle.repo_check.specs.Answers.{Gathered, IsReachedBlob}
 use Rattle.repo_check.specs.Checking.{OfBlob}
 use Rattle.repo_check.specs.Findings.{BlobIs}
 use Rattle.repo_check.specs.Rounds.{Match}
-use Rattle.repo_check.specs.Surveys.{IsSurveyed, RoundsView, StandsIn, answers_in}
+use Rattle.repo_check.specs.Surveys.{IsSurveyed, RoundsView, IsInLevel, answers_in}
 use Rattle.repo_check.specs.Telling.{told}
 use Rattle.repo_check.specs.Verdicts.{AreBlobsTold, AreReached, IsTreeFound, ReachedView}
 use Rattle.repo_check.specs.Walks.{ContentFault, WalkView}
@@ -72,7 +72,7 @@ module _ (rounds : RoundsView) (walk : WalkView) (es : Trace) (s : IsSurveyed ro
   }
 
   -- a set that has the trees of the last level tells which are the deepest
-  deepest_is : (old : List CheckFault) (new : List CheckFault) (t : AreBlobsTold walk reached old new) (n : Name) → IsTrue (contains name_cmp t.deepest n) ↔ StandsIn walk.levels greatest_depth n
+  deepest_is : (old : List CheckFault) (new : List CheckFault) (t : AreBlobsTold walk reached old new) (n : Name) → IsTrue (contains name_cmp t.deepest n) ↔ IsInLevel walk.levels greatest_depth n
   deepest_is old new t n =
       let last = last_is rounds walk es s in
       let has = t.deepest_are last.0 last.1 n in

@@ -21,7 +21,7 @@ use Rattle.repo_session.specs.declared.outcomes.Outcome.{Outcome}
 use Rattle.repo_check.specs.Answers.{Gathered, IsReachedBlob}
 use Rattle.repo_check.specs.Arrivals.{IsIndexOf, IsPackOf, IsRootOf}
 use Rattle.repo_check.specs.Checking.{AreCounts, ArePairs, CheckConcludes, IsAtFault, IsCount, Pair, pair_cmp}
-use Rattle.repo_check.specs.Rounds.{IsNoted}
+use Rattle.repo_check.specs.Rounds.{IsNoteOf}
 use Rattle.repo_check.specs.Surveys.{IsSurveyed, RoundsView, answers_in}
 use Rattle.repo_check.specs.Verdicts.{AreReached, AreTold, Counts, ReachedView}
 use Rattle.repo_check.specs.Walks.{WalkView}
@@ -100,9 +100,9 @@ module _ (rounds : RoundsView) (walk : WalkView) (es : Trace) (s : IsSurveyed ro
   counted : (snapshots indexes packs blobs : ℕ) → IsCount snapshots (length rounds.snapshots.notes) → IsCount indexes (length rounds.indexes.notes) → IsCount packs (length rounds.packs.notes)
       → IsCount blobs (length reached.content + length reached.trees) → AreCounts A snapshots indexes packs blobs
   counted snapshots indexes packs blobs a b c d = record {
-    snapshots_are = subst (λ n. IsCount snapshots n) (sym (match_length (IsNoted Kind.Snapshot IsRootOf) s.notes.snapshots.answers rounds.snapshots.notes s.notes.snapshots.noted)) a;
-    indexes_are = subst (λ n. IsCount indexes n) (sym (match_length (IsNoted Kind.Index IsIndexOf) s.notes.indexes.answers rounds.indexes.notes s.notes.indexes.noted)) b;
-    packs_are = subst (λ n. IsCount packs n) (sym (match_length (IsNoted Kind.Pack IsPackOf) s.notes.packs.answers rounds.packs.notes s.notes.packs.noted)) c;
+    snapshots_are = subst (λ n. IsCount snapshots n) (sym (match_length (IsNoteOf Kind.Snapshot IsRootOf) s.notes.snapshots.answers rounds.snapshots.notes s.notes.snapshots.noted)) a;
+    indexes_are = subst (λ n. IsCount indexes n) (sym (match_length (IsNoteOf Kind.Index IsIndexOf) s.notes.indexes.answers rounds.indexes.notes s.notes.indexes.noted)) b;
+    packs_are = subst (λ n. IsCount packs n) (sym (match_length (IsNoteOf Kind.Pack IsPackOf) s.notes.packs.answers rounds.packs.notes s.notes.packs.noted)) c;
     pairs = content ++ trees;
     pairs_are = are_pairs;
     blobs_are = subst (λ n. IsCount blobs n) (sym pair_count) d;

@@ -8,20 +8,20 @@ use Rattle.repo_name.specs.declared.kinds.Kind.{Kind}
 use Rattle.repo_name.specs.declared.kinds.Thing.{Thing}
 use Rattle.repo_name.specs.declared.names.Name.{Name}
 use Rattle.repo_name.proofs.Containing.{none_contained}
-use Rattle.repo_store.specs.Pages.{Ascends}
+use Rattle.repo_store.specs.Pages.{NamesAscend}
 use Rattle.repo_session.specs.Traces.{Trace}
 use Rattle.repo_session.specs.declared.outcomes.CheckFault.{CheckFault}
 use Rattle.repo_session.specs.declared.outcomes.FaultKind.{FaultKind}
 use Rattle.repo_check.specs.Answers.{Answer, Gathered, IsReachedBlob}
 use Rattle.repo_check.specs.Arrivals.{IsPackOf, IsRootOf}
-use Rattle.repo_check.specs.Checking.{AreFaults, AreJudged, AreWell, IsFault, IsFound, OfBlob, OfObject, fault_cmp, rank}
+use Rattle.repo_check.specs.Checking.{AreFaults, AreJudged, AreWell, IsFaultOf, IsFound, OfBlob, OfObject, fault_cmp, rank}
 use Rattle.repo_check.specs.Findings.{BlobIs, ObjectIs}
 use Rattle.repo_check.specs.Fitting.{facts_by}
 use Rattle.repo_check.specs.Gathering.{fault_noted}
 use Rattle.repo_check.specs.Rounds.{IsWholeRound, Match, RoundView}
 use Rattle.repo_check.specs.Surveys.{IsSurveyed, RoundsView, answers_in}
 use Rattle.repo_check.specs.Telling.{AreOfRank, told}
-use Rattle.repo_check.specs.Verdicts.{AreReached, AreTold, IsPlaced, ReachedView, told_of}
+use Rattle.repo_check.specs.Verdicts.{AreReached, AreTold, IsFoundOfIndex, ReachedView, told_of}
 use Rattle.repo_check.specs.Walks.{WalkView}
 use Rattle.repo_check.proofs.BlobFaults.{blob_found, blobs_told, content_finds, once_found, tree_finds}
 use Rattle.repo_check.proofs.Gathered.{matched}
@@ -78,8 +78,8 @@ module _ (rounds : RoundsView) (walk : WalkView) (es : Trace) (s : IsSurveyed ro
   abbrev A : Gathered
   A = answers_in s
 
-  round_ascends : {T : Type 0} (k : Kind) (round : RoundView T) → IsWholeRound k round es → Ascends None round.names
-  round_ascends k round whole = subst (λ (ns : List Name). Ascends None ns) whole.paged.listed whole.paged.rise.ascend
+  round_ascends : {T : Type 0} (k : Kind) (round : RoundView T) → IsWholeRound k round es → NamesAscend None round.names
+  round_ascends k round whole = subst (λ (ns : List Name). NamesAscend None ns) whole.paged.listed whole.paged.rise.ascend
 
   -- ---- objects
 
@@ -93,7 +93,7 @@ module _ (rounds : RoundsView) (walk : WalkView) (es : Trace) (s : IsSurveyed ro
   blob_fault Tree n what h = (Thing.Tree, h)
 
   module _ (reached : ReachedView) (are : AreReached walk reached) (faults : List CheckFault) (h : AreTold rounds walk reached faults) where
-    placed : Match (IsPlaced (facts_by rounds.packs)) rounds.indexes.notes h.objects.places
+    placed : Match (IsFoundOfIndex (facts_by rounds.packs)) rounds.indexes.notes h.objects.places
     placed = h.objects.placed (round_ascends Kind.Pack rounds.packs s.objects.packs)
 
     abbrev of_snapshots : List CheckFault
@@ -125,7 +125,7 @@ module _ (rounds : RoundsView) (walk : WalkView) (es : Trace) (s : IsSurveyed ro
     trees_told : (fault : CheckFault) → Contains of_trees fault ↔ ((fault.thing ≡ Thing.Tree) × OfBlob A Tree fault.name (Some fault.what))
     trees_told fault = blobs_told A Tree reached.trees h.blobs.trees (tree_finds rounds walk es s reached are h.of_objects faults h.blobs) (once_found rounds walk es s reached are Tree) Thing.Tree fault
 
-    told_fault : (fault : CheckFault) → Contains faults fault → IsFault A fault
+    told_fault : (fault : CheckFault) → Contains faults fault → IsFaultOf A fault
     told_fault fault c = elim (Contains-append_cases ((((of_snapshots ++ of_indexes) ++ of_packs) ++ of_places) ++ of_content) of_trees fault (subst (λ fs. Contains fs fault) whole c)) [
       | inl c5 ↦ elim (Contains-append_cases (((of_snapshots ++ of_indexes) ++ of_packs) ++ of_places) of_content fault c5) [
         | inl c4 ↦ elim (Contains-append_cases ((of_snapshots ++ of_indexes) ++ of_packs) of_places fault c4) [
@@ -183,7 +183,7 @@ module _ (rounds : RoundsView) (walk : WalkView) (es : Trace) (s : IsSurveyed ro
 
     -- ---- in order
 
-    told_sorted : (thing : Thing) (names : List Name) (found : List (Option FaultKind)) (r : ℕ) → Ascends None names → ((fault : CheckFault) → Contains (told thing names found) fault → rank thing fault.what ≡ r)
+    told_sorted : (thing : Thing) (names : List Name) (found : List (Option FaultKind)) (r : ℕ) → NamesAscend None names → ((fault : CheckFault) → Contains (told thing names found) fault → rank thing fault.what ≡ r)
         → IsStrictlySortedBy fault_cmp (told thing names found) × AreOfRank (told thing names found) r
     told_sorted thing names found r ascends of =
         let ranks : AreOfRank (told thing names found) r = λ fault c. rank_of fault thing ((told_are_found thing names found fault).0 c).0 ∙ of fault c in

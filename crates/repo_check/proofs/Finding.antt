@@ -18,7 +18,7 @@ use Rattle.repo_index.specs.declared.facts.Fact.{Fact}
 use Rattle.repo_index.specs.declared.facts.PackFacts.{PackFacts}
 use Rattle.repo_index.proofs.OneLemmas.{index_texts_one}
 use Rattle.repo_index.proofs.OrderLemmas.{place_first_exact}
-use Rattle.repo_store.specs.Pages.{Has, Ascends}
+use Rattle.repo_store.specs.Pages.{Has, NamesAscend}
 use Rattle.repo_tree.specs.SnapshotText.{HasSnapshot, IsSnapshotText, SnapshotFault}
 use Rattle.repo_tree.specs.declared.faults.TextError.{TextError}
 use Rattle.repo_tree.specs.declared.snapshots.Snapshot.{Snapshot}
@@ -30,7 +30,7 @@ use Rattle.repo_session.specs.declared.outcomes.FaultKind.{FaultKind}
 use Rattle.repo_session.specs.Traces.{Trace}
 use Rattle.repo_check.specs.Answers.{Answer, Gathered, LiesAt, LiesNowhere}
 use Rattle.repo_check.specs.Checking.{IsFound, OfBlob, OfObject, AreAnswers, AreGot, AreWell}
-use Rattle.repo_check.specs.Findings.{Reads, IsIllegible, IsExactOf, IsFitting, IsMisplaced, ObjectIs, Measure, IsMeasured, IsMismeasured, IsWellTree, IsIllTree, IsTreeAt, TreeIs, ContentIs, BlobIs}
+use Rattle.repo_check.specs.Findings.{ReadsAs, IsIllegible, IsExactOf, IsFitting, IsMisplaced, ObjectIs, Measure, IsMeasured, IsMismeasured, IsWellTree, IsIllTree, IsTreeAt, TreeIs, ContentIs, BlobIs}
 use Rattle.repo_check.specs.Laws.{FoundOnce, WellHasNoFault}
 
 -- ---- places
@@ -67,7 +67,7 @@ unreadable_not x TextError.Version s fault v m is = v refl
 unreadable_not x TextError.Params s fault v m is = fault
 unreadable_not x TextError.Memory s fault v m is = m refl
 
-pub illegible_not : (k : Kind) (x : List ℕ) → IsIllegible k x → Reads k x → ⊥
+pub illegible_not : (k : Kind) (x : List ℕ) → IsIllegible k x → ReadsAs k x → ⊥
 illegible_not Kind.Pack x none is = none is
 illegible_not Kind.Index x none is = none is
 illegible_not Kind.Snapshot x none is = unreadable_not x none.0 is.0 none.1 none.2 none.3 is.1
@@ -108,12 +108,12 @@ module _ (answers : Gathered) where
   came_none : (o : Option (List ℕ)) (x : List ℕ) → o ≡ Some x → o ≡ None → ⊥
   came_none o x h g = absurd (cc (h, g))
 
-  fitting_reads : (k : Kind) (x : List ℕ) → IsFitting answers k x → Reads k x
+  fitting_reads : (k : Kind) (x : List ℕ) → IsFitting answers k x → ReadsAs k x
   fitting_reads Kind.Pack x h = h
   fitting_reads Kind.Index x h = (h.0, h.1)
   fitting_reads Kind.Snapshot x h = h
 
-  misplaced_reads : (k : Kind) (x : List ℕ) → IsMisplaced answers k x → Reads k x
+  misplaced_reads : (k : Kind) (x : List ℕ) → IsMisplaced answers k x → ReadsAs k x
   misplaced_reads Kind.Pack x h = absurd h
   misplaced_reads Kind.Index x h = (h.0, h.1)
   misplaced_reads Kind.Snapshot x h = absurd h
@@ -260,7 +260,7 @@ module _ (answers : Gathered) where
 not_before : (n : Name) → Before n n → ⊥
 not_before n h = let self = tied_itself names_total n in cc (self, h)
 
-pub beyond : (n : Name) (names : List Name) → Ascends (Some n) names → (m : Name) → Has names m → Before n m
+pub beyond : (n : Name) (names : List Name) → NamesAscend (Some n) names → (m : Name) → Has names m → Before n m
 beyond n [] h m has = absurd has
 beyond n (first ∷ names) h m (inl is) = subst (λ o. Before n o) (sym is) h.0
 beyond n (first ∷ names) h m (inr more) = names_total.trans n first m h.0 (beyond first names h.1 m more)
@@ -269,7 +269,7 @@ has_name : (answers : List Answer) (a : Answer) → Contains answers a → Has (
 has_name [] a h = absurd (none_contained a h)
 has_name (b ∷ answers) a h = elim (contained_or b answers a h) [ inl is ↦ inl (ap (λ (c : Answer). c.name) (sym is)) | inr more ↦ inr (has_name answers a more) ]
 
-pub named_once : (after : Option Name) (answers : List Answer) → Ascends after (map (λ (a : Answer). a.name) answers) → (a b : Answer) → Contains answers a → Contains answers b → a.name ≡ b.name → a ≡ b
+pub named_once : (after : Option Name) (answers : List Answer) → NamesAscend after (map (λ (a : Answer). a.name) answers) → (a b : Answer) → Contains answers a → Contains answers b → a.name ≡ b.name → a ≡ b
 named_once after [] h a b ha hb same = absurd (none_contained a ha)
 named_once after (c ∷ answers) h a b ha hb same = elim (contained_or c answers a ha) [
   | inl is ↦ elim (contained_or c answers b hb) [
@@ -283,7 +283,7 @@ named_once after (c ∷ answers) h a b ha hb same = elim (contained_or c answers
 ]
 
 pub got_once : (es : Trace) (k : Kind) (answers : List Answer) → AreGot es k answers → (a b : Answer) → Contains answers a → Contains answers b → a.name ≡ b.name → a ≡ b
-got_once es k answers h = named_once None answers (subst (λ ns. Ascends None ns) (sym h.names) h.listed.rise.ascend)
+got_once es k answers h = named_once None answers (subst (λ ns. NamesAscend None ns) (sym h.names) h.listed.rise.ascend)
 
 of_object_once : (es : Trace) (answers : Gathered) → AreAnswers es answers → (k : Kind) (n : Name) (f g : Option FaultKind) → OfObject answers k n f → OfObject answers k n g → f ≡ g
 of_object_once es answers are k n f g h i =

@@ -18,11 +18,11 @@ use Rattle.repo_session.specs.declared.outcomes.FaultKind.{FaultKind}
 use Rattle.repo_name.proofs.Containing.{contained_or, first_contained, later_contained, none_contained}
 use Rattle.repo_tree.proofs.SnapshotLemmas.{snapshot_texts_one}
 use Rattle.repo_tree.specs.SnapshotText.{IsSnapshotText}
-use Rattle.repo_check.specs.Answers.{Answer, Gathered, Came, GivesFact, HasRoot, LiesAt}
-use Rattle.repo_check.specs.Arrivals.{HasBytes, IsFaulty, IsIndexOf, IsRootOf}
-use Rattle.repo_check.specs.Findings.{IsIllegible, Reads}
+use Rattle.repo_check.specs.Answers.{Answer, Gathered, Came, GivesFact, GivesRoot, LiesAt}
+use Rattle.repo_check.specs.Arrivals.{AnswersBytes, IsFaulty, IsIndexOf, IsRootOf}
+use Rattle.repo_check.specs.Findings.{IsIllegible, ReadsAs}
 use Rattle.repo_check.specs.Gathering.{facts_noted, root_noted}
-use Rattle.repo_check.specs.Rounds.{IsNoted, Match}
+use Rattle.repo_check.specs.Rounds.{IsNoteOf, Match}
 use Rattle.repo_check.specs.Surveys.{IsSurveyed, RoundsView, answers_in}
 use Rattle.repo_check.specs.Walks.{WalkView}
 use Rattle.repo_check.specs.declared.rounds.Note.{Note}
@@ -47,7 +47,7 @@ matched_back {A} {B} R (a ∷ xs) (b ∷ ys) m y c = elim (contained_or b ys y c
 ]
 
 -- an answer whose bytes read isn't at fault by itself
-pub faulty_not : (answers : Gathered) (k : Kind) (a : Answer) (x : List ℕ) (what : FaultKind) → HasBytes a x → Reads k x → IsFaulty k a what → ⊥
+pub faulty_not : (answers : Gathered) (k : Kind) (a : Answer) (x : List ℕ) (what : FaultKind) → AnswersBytes a x → ReadsAs k x → IsFaulty k a what → ⊥
 faulty_not answers k a x FaultKind.Missing has reads h = (let none = h answers in let some = has.0 in cc (none, some))
 faulty_not answers k a x FaultKind.Name has reads h =
     let f = h answers in
@@ -59,7 +59,7 @@ faulty_not answers k a x FaultKind.Place has reads h = h
 faulty_not answers k a x FaultKind.Unindexed has reads h = h answers
 
 -- an answer under the name for which it came
-pub came_as : (answers : List Answer) (a : Answer) (x : List ℕ) → Contains answers a → HasBytes a x → Came answers a.name x
+pub came_as : (answers : List Answer) (a : Answer) (x : List ℕ) → Contains answers a → AnswersBytes a x → Came answers a.name x
 came_as answers a x c has = record { among = subst (λ (b : Option (List ℕ)). Contains answers (record { name = a.name; bytes = b })) has.0 c; named = has.1 }
 
 module _ (rounds : RoundsView) (walk : WalkView) (es : Trace) (s : IsSurveyed rounds walk es) where
@@ -79,7 +79,7 @@ module _ (rounds : RoundsView) (walk : WalkView) (es : Trace) (s : IsSurveyed ro
     where
       of_note : (note : Note (List PackFacts)) → Contains rounds.indexes.notes note → Contains (facts_noted note) fact → GivesFact A fact
       of_note (Note.Well packs) among inside =
-          let a = matched_back (IsNoted Kind.Index IsIndexOf) s.notes.indexes.answers rounds.indexes.notes s.notes.indexes.noted (Note.Well packs) among in
+          let a = matched_back (IsNoteOf Kind.Index IsIndexOf) s.notes.indexes.answers rounds.indexes.notes s.notes.indexes.noted (Note.Well packs) among in
           let is : IsIndexOf a.0 packs = a.2 in
           record { index = a.0.name; text = is.0; came = came_as s.notes.indexes.answers a.0 is.0 a.1 is.1; says = record { packs = packs; text = is.2; among = inside } }
       of_note (Note.Fault what) among inside = absurd (none_contained fact inside)
@@ -87,10 +87,10 @@ module _ (rounds : RoundsView) (walk : WalkView) (es : Trace) (s : IsSurveyed ro
   pub contains_of : (fact : Fact) → GivesFact A fact → Contains facts fact
   contains_of fact g =
       let a : Answer = record { name = g.index; bytes = Some g.text } in
-      let note = matched (IsNoted Kind.Index IsIndexOf) s.notes.indexes.answers rounds.indexes.notes s.notes.indexes.noted a g.came.among in
+      let note = matched (IsNoteOf Kind.Index IsIndexOf) s.notes.indexes.answers rounds.indexes.notes s.notes.indexes.noted a g.came.among in
       (s.objects.facts fact).1 (inr (contains_flat facts_noted rounds.indexes.notes note.0 fact note.1 (in_note note.0 note.2)))
     where
-      in_note : (note : Note (List PackFacts)) → IsNoted Kind.Index IsIndexOf (record { name = g.index; bytes = Some g.text }) note → Contains (facts_noted note) fact
+      in_note : (note : Note (List PackFacts)) → IsNoteOf Kind.Index IsIndexOf (record { name = g.index; bytes = Some g.text }) note → Contains (facts_noted note) fact
       in_note (Note.Well packs) is =
           let x : g.text ≡ is.0 = same_Some g.text is.0 is.1.0 in
           let same : g.says.packs ≡ packs = index_texts_one g.text g.says.packs packs g.says.text (subst (λ y. IsIndexText y packs) (sym x) is.2) in
@@ -105,26 +105,26 @@ module _ (rounds : RoundsView) (walk : WalkView) (es : Trace) (s : IsSurveyed ro
 
   -- ---- roots
 
-  pub root_of : (n : Name) → Contains s.roots n → HasRoot A 1 n
+  pub root_of : (n : Name) → Contains s.roots n → GivesRoot A 1 n
   root_of n c =
       let from = flat_contains root_noted rounds.snapshots.notes n ((s.objects.roots_are.each n).0 c) in
       of_note from.0 from.1 from.2
     where
-      of_note : (note : Note Name) → Contains rounds.snapshots.notes note → Contains (root_noted note) n → HasRoot A 1 n
+      of_note : (note : Note Name) → Contains rounds.snapshots.notes note → Contains (root_noted note) n → GivesRoot A 1 n
       of_note (Note.Well root) among inside =
           let same : root ≡ n = elim (contained_or root [] n inside) [ inl is ↦ is | inr none ↦ absurd (none_contained n none) ] in
-          let a = matched_back (IsNoted Kind.Snapshot IsRootOf) s.notes.snapshots.answers rounds.snapshots.notes s.notes.snapshots.noted (Note.Well root) among in
+          let a = matched_back (IsNoteOf Kind.Snapshot IsRootOf) s.notes.snapshots.answers rounds.snapshots.notes s.notes.snapshots.noted (Note.Well root) among in
           let is : IsRootOf a.0 root = a.2 in
           record { name = a.0.name; text = is.0; snapshot = is.1; came = came_as s.notes.snapshots.answers a.0 is.0 a.1 is.2; reads = is.3; version_is = is.3.known; root_is = is.4 ∙ same }
       of_note (Note.Fault what) among inside = absurd (none_contained n inside)
 
-  pub of_root : (version : ℕ) (n : Name) → HasRoot A version n → (version ≡ 1) × Contains s.roots n
+  pub of_root : (version : ℕ) (n : Name) → GivesRoot A version n → (version ≡ 1) × Contains s.roots n
   of_root version n h =
       let a : Answer = record { name = h.name; bytes = Some h.text } in
-      let note = matched (IsNoted Kind.Snapshot IsRootOf) s.notes.snapshots.answers rounds.snapshots.notes s.notes.snapshots.noted a h.came.among in
+      let note = matched (IsNoteOf Kind.Snapshot IsRootOf) s.notes.snapshots.answers rounds.snapshots.notes s.notes.snapshots.noted a h.came.among in
       (sym h.version_is ∙ h.reads.known, (s.objects.roots_are.each n).1 (contains_flat root_noted rounds.snapshots.notes note.0 n note.1 (in_note note.0 note.2)))
     where
-      in_note : (note : Note Name) → IsNoted Kind.Snapshot IsRootOf (record { name = h.name; bytes = Some h.text }) note → Contains (root_noted note) n
+      in_note : (note : Note Name) → IsNoteOf Kind.Snapshot IsRootOf (record { name = h.name; bytes = Some h.text }) note → Contains (root_noted note) n
       in_note (Note.Well root) is =
           let x : is.0 ≡ h.text = same_Some is.0 h.text (sym is.2.0) in
           let same : is.1 ≡ h.snapshot = snapshot_texts_one h.text is.1 h.snapshot (subst (λ y. IsSnapshotText y is.1) x is.3) h.reads in

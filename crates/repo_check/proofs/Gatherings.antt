@@ -9,7 +9,7 @@ use Rattle.repo_name.specs.declared.names.Name.{Name}
 use Rattle.repo_index.specs.Order.{names_total}
 use Rattle.repo_index.proofs.OrderLemmas.{names_exact}
 use Rattle.repo_name.proofs.Containing.{none_contained}
-use Rattle.repo_check.specs.Gathering.{AreOnce, HasNames}
+use Rattle.repo_check.specs.Gathering.{AreNamesOnce, HasNames}
 use Rattle.repo_check.specs.Levels.{AddsNames}
 use Rattle.repo_check.proofs.Measuring.{left_at, left_none}
 
@@ -42,7 +42,7 @@ gathers_all f whole i few Has h y = (
 )
 
 -- the names of a set that has just these
-pub are_once : (names : List Name) (set : BTreeSet Name) (once : List Name) → HasNames set names → once ≡ set.keys → IsStrictlySortedBy name_cmp once → AreOnce names once
+pub are_once : (names : List Name) (set : BTreeSet Name) (once : List Name) → HasNames set names → once ≡ set.keys → IsStrictlySortedBy name_cmp once → AreNamesOnce names once
 are_once names set once has same sorted = record {
   each = λ n. (
     λ c. (has n).0 ((btree_set_contains_iff names_total names_exact set n).1 (subst (λ ns. Contains ns n) same c)),

@@ -12,7 +12,7 @@ use Rattle.repo_name.proofs.Containing.{contains_got, stands_at}
 use Rattle.repo_name.proofs.NameMaps.{same_name}
 use Rattle.repo_index.specs.declared.facts.Fact.{Fact}
 use Rattle.repo_index.specs.declared.facts.PackFacts.{PackFacts}
-use Rattle.repo_store.specs.Pages.{Ascends}
+use Rattle.repo_store.specs.Pages.{NamesAscend}
 use Rattle.repo_session.specs.Traces.{Trace}
 use Rattle.repo_session.specs.declared.outcomes.FaultKind.{FaultKind}
 use Rattle.repo_check.specs.Answers.{Answer, Gathered}
@@ -21,9 +21,9 @@ use Rattle.repo_check.specs.Checking.{IsFound}
 use Rattle.repo_check.specs.Findings.{ObjectIs}
 use Rattle.repo_check.specs.Fitting.{AreKnown, IsKnownAs, facts_at, facts_by}
 use Rattle.repo_check.specs.Gathering.{fault_noted, well_noted}
-use Rattle.repo_check.specs.Rounds.{IsNoted, Match}
+use Rattle.repo_check.specs.Rounds.{IsNoteOf, Match}
 use Rattle.repo_check.specs.Surveys.{IsSurveyed, RoundsView, answers_in}
-use Rattle.repo_check.specs.Verdicts.{IndexesAreTold, IsPlaced, PlacesAreTold}
+use Rattle.repo_check.specs.Verdicts.{IndexesAreTold, IsFoundOfIndex, PlacesAreTold}
 use Rattle.repo_check.specs.Walks.{WalkView}
 use Rattle.repo_check.specs.declared.rounds.Note.{Note}
 use Rattle.repo_check.proofs.Finding.{got_once}
@@ -86,25 +86,25 @@ module _ (rounds : RoundsView) (walk : WalkView) (es : Trace) (s : IsSurveyed ro
   known_some : (pack : Name) (facts : List Fact) → facts_by rounds.packs pack ≡ Some facts → IsKnownAs A pack (Some facts)
   known_some pack facts is =
       let at = noted_at rounds.packs.names rounds.packs.notes pack facts is in
-      let f = facing (IsNoted Kind.Pack IsPackOf) packs rounds.packs.notes at.0 (Note.Well facts) s.notes.packs.noted at.2 in
+      let f = facing (IsNoteOf Kind.Pack IsPackOf) packs rounds.packs.notes at.0 (Note.Well facts) s.notes.packs.noted at.2 in
       let of : IsPackOf f.other facts = f.belongs in
       let same : f.other.name ≡ pack = same_Some f.other.name pack (sym (name_at packs at.0 f.other f.there) ∙ ap (λ (ns : List Name). slice_get ns at.0) pack_names ∙ at.1) in
       let came = came_as packs f.other of.0 (contains_got packs at.0 f.other f.there) of.2 in
       subst (λ (n : Name). IsKnownAs A n (Some facts)) same (of.0, of.1, came, of.3, of.4)
 
-  ascend : Ascends None rounds.packs.names
-  ascend = subst (λ (ns : List Name). Ascends None ns) s.objects.packs.paged.listed s.objects.packs.paged.rise.ascend
+  ascend : NamesAscend None rounds.packs.names
+  ascend = subst (λ (ns : List Name). NamesAscend None ns) s.objects.packs.paged.listed s.objects.packs.paged.rise.ascend
 
   known_none : (pack : Name) → facts_by rounds.packs pack ≡ None → IsKnownAs A pack None
   known_none pack none x items came true_pack =
       let a : Answer = record { name = pack; bytes = Some x } in
       let at = stands_at packs a came.among in
-      let o = opposite (IsNoted Kind.Pack IsPackOf) packs rounds.packs.notes at.0 a s.notes.packs.noted at.1 in
+      let o = opposite (IsNoteOf Kind.Pack IsPackOf) packs rounds.packs.notes at.0 a s.notes.packs.noted at.1 in
       let named : slice_get rounds.packs.names at.0 ≡ Some pack = ap (λ (ns : List Name). slice_get ns at.0) (sym pack_names) ∙ name_at packs at.0 a at.1 in
       let known : well_noted o.other ≡ None = ap (λ (n : Option (Note (List Fact))). option_and_then well_noted n) (sym o.there) ∙ sym (known_there None rounds.packs.names rounds.packs.notes ascend at.0 pack named) ∙ none in
       ill o.other known o.belongs
     where
-      ill : (note : Note (List Fact)) → well_noted note ≡ None → IsNoted Kind.Pack IsPackOf (record { name = pack; bytes = Some x }) note → ⊥
+      ill : (note : Note (List Fact)) → well_noted note ≡ None → IsNoteOf Kind.Pack IsPackOf (record { name = pack; bytes = Some x }) note → ⊥
       ill (Note.Well facts) is noted = absurd (cc is)
       ill (Note.Fault what) is noted = faulty_not A Kind.Pack (record { name = pack; bytes = Some x }) x what (refl, came.named) (items, true_pack) noted
 
@@ -121,9 +121,9 @@ module _ (rounds : RoundsView) (walk : WalkView) (es : Trace) (s : IsSurveyed ro
   -- ---- what is found of an index
 
   abbrev Placed : Note (List PackFacts) → Option FaultKind → Type 0
-  Placed note place = IsPlaced (facts_by rounds.packs) note place
+  Placed note place = IsFoundOfIndex (facts_by rounds.packs) note place
 
-  index_is : (a : Answer) (note : Note (List PackFacts)) (place : Option FaultKind) → IsNoted Kind.Index IsIndexOf a note → Placed note place → ObjectIs A Kind.Index a (of_both (fault_noted note) place)
+  index_is : (a : Answer) (note : Note (List PackFacts)) (place : Option FaultKind) → IsNoteOf Kind.Index IsIndexOf a note → Placed note place → ObjectIs A Kind.Index a (of_both (fault_noted note) place)
   index_is a (Note.Well text) None noted placed = (noted.0, noted.1.0, noted.1.1, (fits_as_found A (facts_by rounds.packs) noted.0 text are_known once noted.2).0 placed)
   index_is a (Note.Well text) (Some what) noted placed =
       let is : ObjectIs A Kind.Index a (Some FaultKind.Place) = (noted.0, noted.1.0, noted.1.1, (fits_as_found A (facts_by rounds.packs) noted.0 text are_known once noted.2).1 placed.1) in
@@ -131,7 +131,7 @@ module _ (rounds : RoundsView) (walk : WalkView) (es : Trace) (s : IsSurveyed ro
   index_is a (Note.Fault what) None noted placed = faulty_is A Kind.Index a what noted
   index_is a (Note.Fault what) (Some other) noted placed = absurd placed
 
-  pub each_index : (xs : List Answer) (notes : List (Note (List PackFacts))) (places : List (Option FaultKind)) → Match (IsNoted Kind.Index IsIndexOf) xs notes → Match Placed notes places → Match (λ (a : Answer). ObjectIs A Kind.Index a) xs (both notes places)
+  pub each_index : (xs : List Answer) (notes : List (Note (List PackFacts))) (places : List (Option FaultKind)) → Match (IsNoteOf Kind.Index IsIndexOf) xs notes → Match Placed notes places → Match (λ (a : Answer). ObjectIs A Kind.Index a) xs (both notes places)
   each_index [] [] places noted placed = tt
   each_index [] (note ∷ notes) places noted placed = absurd noted
   each_index (a ∷ xs) [] places noted placed = absurd noted
@@ -172,7 +172,7 @@ module _ (rounds : RoundsView) (walk : WalkView) (es : Trace) (s : IsSurveyed ro
   faulty_own k a FaultKind.Unreadable h = λ is. absurd (cc is)
   faulty_own k a FaultKind.Unindexed h = λ is. absurd (cc is)
 
-  own_not_place : (xs : List Answer) (notes : List (Note (List PackFacts))) (i : ℕ) (what : FaultKind) → Match (IsNoted Kind.Index IsIndexOf) xs notes → slice_get (map fault_noted notes) i ≡ Some (Some what) → what ≢ FaultKind.Place
+  own_not_place : (xs : List Answer) (notes : List (Note (List PackFacts))) (i : ℕ) (what : FaultKind) → Match (IsNoteOf Kind.Index IsIndexOf) xs notes → slice_get (map fault_noted notes) i ≡ Some (Some what) → what ≢ FaultKind.Place
   own_not_place xs [] i what noted is = absurd (cc is)
   own_not_place [] (note ∷ notes) i what noted is = absurd noted
   own_not_place (a ∷ xs) (Note.Well text ∷ notes) zero what noted is = absurd (cc is)

@@ -38,7 +38,7 @@ use Rattle.repo_session.proofs.Spoken.{held_agree}
 use Rattle.repo_session.proofs.Unchanging.{OnlyReads, sound_throughout, same_run, same_after, puts_nothing, shares_run}
 use Rattle.repo_check.specs.Answers as answers_of
 use Rattle.repo_check.specs.Answers.{Answer, GivesFact, LiesAt}
-use Rattle.repo_check.specs.Checking.{check_task, CheckAllows, CheckGives, CheckConcludes, AreAnswers, IsAtFault, IsGot, IsRanged, IsClean}
+use Rattle.repo_check.specs.Checking.{check_task, CheckAllows, CheckGives, CheckConcludes, AreAnswers, IsAtFault, CameFor, IsRanged, IsClean}
 use Rattle.repo_check.specs.Laws as laws
 use Rattle.repo_check.specs.Laws.{AreObjects, HasNoClash}
 use Rattle.repo_check.specs.Laws.IsSpoken.{of_object, of_tree, of_pack}
@@ -144,11 +144,11 @@ module _ (who : Asker) (from : Store) where
 
     module _ (answers : answers_of.Gathered) (received : AreAnswers (trace_of talk) answers) where
       -- the object that came is the one that is there
-      come : (k : Kind) (n : Name) (x : List ℕ) (a : Answer) → Contains (answers.objects k) a → a.name ≡ n → from.objects k n ≡ Some x → (bytes : Option (List ℕ)) → a.bytes ≡ bytes → IsGot (trace_of talk) k a.name bytes
+      come : (k : Kind) (n : Name) (x : List ℕ) (a : Answer) → Contains (answers.objects k) a → a.name ≡ n → from.objects k n ≡ Some x → (bytes : Option (List ℕ)) → a.bytes ≡ bytes → CameFor (trace_of talk) k a.name bytes
           → Contains (answers.objects k) (record { name = n; bytes = Some x })
-      come k n x a among name there None is got = absurd (none-some x (sym (missing_was talk to k n o h (subst (λ m. IsGot (trace_of talk) k m None) name got)) ∙ there))
+      come k n x a among name there None is got = absurd (none-some x (sym (missing_was talk to k n o h (subst (λ m. CameFor (trace_of talk) k m None) name got)) ∙ there))
       come k n x a among name there (Some y) is got =
-          let here : from.objects k n ≡ Some y = first k n y (shares.got k n y (subst (λ m. IsGot (trace_of talk) k m (Some y)) name got)) in
+          let here : from.objects k n ≡ Some y = first k n y (shares.got k n y (subst (λ m. CameFor (trace_of talk) k m (Some y)) name got)) in
           let one : y ≡ x = same_Some y x (sym here ∙ there) in
           let answer : a ≡ record { name = n; bytes = Some x } = λ i. record { name = name i; bytes = (is ∙ ap Some one) i } in
           subst (λ (b : Answer). Contains (answers.objects k) b) answer among
@@ -159,9 +159,9 @@ module _ (who : Asker) (from : Store) where
             let got = received.objects k in
             let lists : Lists (trace_of talk) k n = ⊎_elim (λ l. l) (λ put. absurd (puts_nothing (check_task who) CheckAllows CheckGives check_never (trace_of talk) k n o put))
             (listed_or_put (AskedToPut (trace_of talk)) (check_task who) CheckAllows CheckGives k n (trace_of talk) to.objects x o (seen_run from talk to h) got.listed (now k n x there)) in
-            let found = answer_of (λ (a : Answer). IsGot (trace_of talk) k a.name a.bytes) (answers.objects k) n got.each (subst (λ ns. Has ns n) (sym got.names) lists) in
+            let found = answer_of (λ (a : Answer). CameFor (trace_of talk) k a.name a.bytes) (answers.objects k) n got.each (subst (λ ns. Has ns n) (sym got.names) lists) in
             come k n x found.0 found.1 found.2 there found.0.bytes refl found.3,
-        λ among. first k n x (shares.got k n x (each_of (λ (a : Answer). IsGot (trace_of talk) k a.name a.bytes) (answers.objects k) (record { name = n; bytes = Some x }) (received.objects k).each among)),
+        λ among. first k n x (shares.got k n x (each_of (λ (a : Answer). CameFor (trace_of talk) k a.name a.bytes) (answers.objects k) (record { name = n; bytes = Some x }) (received.objects k).each among)),
       )
 
       -- each object that was listed came
@@ -178,8 +178,8 @@ module _ (who : Asker) (from : Store) where
           by : (bytes : Option (List ℕ)) → a.bytes ≡ bytes → (x : List ℕ) × (a.bytes ≡ Some x)
           by (Some x) is = (x, is)
           by None is =
-              let got = each_of (λ (b : Answer). IsGot (trace_of talk) k b.name b.bytes) (answers.objects k) a (received.objects k).each c in
-              absurd (none-some there.0 (sym (missing_was talk to k a.name o h (subst (λ b. IsGot (trace_of talk) k a.name b) is got)) ∙ there.1))
+              let got = each_of (λ (b : Answer). CameFor (trace_of talk) k b.name b.bytes) (answers.objects k) a (received.objects k).each c in
+              absurd (none-some there.0 (sym (missing_was talk to k a.name o h (subst (λ b. CameFor (trace_of talk) k a.name b) is got)) ∙ there.1))
 
       -- and each tree came as it stands
       ranged : (a : Answer) → Contains answers.trees a → (place : Place) → LiesAt answers Tree a.name place → (pack x : List ℕ) → from.objects Kind.Pack place.pack ≡ Some pack → range pack place.offset place.length ≡ Some x → a.bytes ≡ Some x

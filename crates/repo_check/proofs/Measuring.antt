@@ -14,7 +14,7 @@ use Rattle.repo_tree.specs.declared.nodes.NodeKind.{NodeKind}
 use Rattle.repo_name.proofs.Containing.{contained_or}
 use Rattle.repo_check.specs.Answers.{Gathered, LiesAt}
 use Rattle.repo_check.specs.Findings.{Measure, IsMeasured, IsMismeasured}
-use Rattle.repo_check.specs.Measures.{IsLost, Measures, Suits, IsUnsuited, AreGiven, Judges}
+use Rattle.repo_check.specs.Measures.{IsLost, Measures, SuitsSize, IsUnsuited, AreGivenFacts, Judges}
 use Rattle.repo_check.proofs.Finding.{place_one}
 
 -- ---- what is left of a list
@@ -76,7 +76,7 @@ measures_next facts content i d left rest place less least sum =
 
 -- ---- and by what was given
 
-module _ (answers : Gathered) (facts : List Fact) (given : AreGiven answers facts) where
+module _ (answers : Gathered) (facts : List Fact) (given : AreGivenFacts answers facts) where
   pub lies_least : (k : BlobKind) (n : Name) (place : Place) → IsLeast facts k n place → LiesAt answers k n place
   lies_least k n place h = record { given = (given (fact_of k n place)).0 h.among; least = λ other g. h.least other ((given (fact_of k n other)).1 g) }
 
@@ -87,7 +87,7 @@ module _ (answers : Gathered) (facts : List Fact) (given : AreGiven answers fact
   measure [] size m = m
   measure (n ∷ names) size m = (m.0, m.1, lies_least Content n m.0 m.2, measure names m.1 m.3, m.4)
 
-  suited : (what : NodeKind) → Suits facts what → IsMeasured answers what
+  suited : (what : NodeKind) → SuitsSize facts what → IsMeasured answers what
   suited (NodeKind.File size content) (inl m) = inl (measure content size m)
   suited (NodeKind.File size content) (inr lost) = inr (lost.0, lost.1, λ place g. lost.2 place ((given (fact_of Content lost.0 place)).1 g))
   suited (NodeKind.Dir subtree) h = tt
@@ -97,8 +97,8 @@ module _ (answers : Gathered) (facts : List Fact) (given : AreGiven answers fact
   unsuited (NodeKind.Dir subtree) h = h
 
 -- what is judged by facts holds of all that was given as they say
-pub judged : (facts : List Fact) (nodes : List Node) (right : Bool) → (IsTrue right → (node : Node) → Contains nodes node → Suits facts node.what) → (IsFalse right → (node : Node) × Contains nodes node × IsUnsuited facts node.what)
-    → (answers : Gathered) → AreGiven answers facts → Judges answers nodes right
+pub judged : (facts : List Fact) (nodes : List Node) (right : Bool) → (IsTrue right → (node : Node) → Contains nodes node → SuitsSize facts node.what) → (IsFalse right → (node : Node) × Contains nodes node × IsUnsuited facts node.what)
+    → (answers : Gathered) → AreGivenFacts answers facts → Judges answers nodes right
 judged facts nodes right all some answers given = record {
   well = λ is node c. suited answers facts given node.what (all is node c);
   ill = λ is. (let s = some is in (s.0, s.1, unsuited answers facts given s.0.what s.2));

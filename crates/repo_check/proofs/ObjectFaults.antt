@@ -14,7 +14,7 @@ use Rattle.repo_check.specs.Arrivals.{IsFaulty, IsPackOf, IsRootOf}
 use Rattle.repo_check.specs.Checking.{IsFound}
 use Rattle.repo_check.specs.Findings.{ObjectIs}
 use Rattle.repo_check.specs.Gathering.{fault_noted}
-use Rattle.repo_check.specs.Rounds.{AreNoted, IsNoted, IsWholeRound, Match, RoundView}
+use Rattle.repo_check.specs.Rounds.{AreNoted, IsNoteOf, IsWholeRound, Match, RoundView}
 use Rattle.repo_check.specs.Surveys.{PacksAreTold, SnapshotsAreTold, answers_in}
 use Rattle.repo_check.specs.Telling.{IsFoundAmong}
 use Rattle.repo_check.specs.declared.rounds.Note.{Note}
@@ -48,11 +48,11 @@ module _ (answers : Gathered) (k : Kind) where
   ]
 
   module _ {T : Type 0} (Gives : Answer → T → Type 0) (well : (a : Answer) (x : T) → Gives a x → ObjectIs answers k a None) where
-    noted_is : (a : Answer) (note : Note T) → IsNoted k Gives a note → ObjectIs answers k a (fault_noted note)
+    noted_is : (a : Answer) (note : Note T) → IsNoteOf k Gives a note → ObjectIs answers k a (fault_noted note)
     noted_is a (Note.Well x) h = well a x h
     noted_is a (Note.Fault what) h = faulty_is answers k a what h
 
-    pub each_is : (xs : List Answer) (notes : List (Note T)) → Match (IsNoted k Gives) xs notes → Match (λ (a : Answer). ObjectIs answers k a) xs (map fault_noted notes)
+    pub each_is : (xs : List Answer) (notes : List (Note T)) → Match (IsNoteOf k Gives) xs notes → Match (λ (a : Answer). ObjectIs answers k a) xs (map fault_noted notes)
     each_is [] [] m = tt
     each_is (a ∷ xs) (note ∷ notes) m = (noted_is a note m.0, each_is xs notes m.1)
     each_is [] (note ∷ notes) m = absurd m

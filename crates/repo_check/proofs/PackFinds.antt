@@ -11,7 +11,7 @@ use Rattle.repo_name.specs.declared.names.Name.{Name}
 use Rattle.repo_name.proofs.NameMaps.{same_name}
 use Rattle.repo_index.specs.Order.{names_total}
 use Rattle.repo_index.specs.declared.facts.Fact.{Fact}
-use Rattle.repo_store.specs.Pages.{Has, Ascends}
+use Rattle.repo_store.specs.Pages.{Has, NamesAscend}
 use Rattle.repo_check.specs.Fitting.{facts_at}
 use Rattle.repo_check.specs.Gathering.{well_noted}
 use Rattle.repo_check.specs.declared.rounds.Note.{Note}
@@ -39,7 +39,7 @@ has_or [] k d less = absurd (omega (arith, less))
 has_or (n ∷ names) zero d less = inl refl
 has_or (n ∷ names) (suc k) d less = inr (has_or names k d (omega (arith, less)))
 
-pub rises : (pack : Name) (after : Option Name) (names : List Name) → Ascends after names → IsNonDecreasingBy (λ y. ordering_index (name_cmp y pack)) names
+pub rises : (pack : Name) (after : Option Name) (names : List Name) → NamesAscend after names → IsNonDecreasingBy (λ y. ordering_index (name_cmp y pack)) names
 rises pack after [] h i j d le less = absurd (omega (arith, less))
 rises pack after (n ∷ names) h zero zero d le less = omega arith
 rises pack after (n ∷ names) h (suc i) zero d le less = absurd (omega (arith, le))
@@ -48,7 +48,7 @@ rises pack after (n ∷ names) h (suc i) (suc j) d le less = rises pack (Some n)
 
 -- ---- what is known at a place
 
-pub known_there : (after : Option Name) (names : List Name) (notes : List (Note (List Fact))) → Ascends after names → (k : ℕ) (pack : Name) → slice_get names k ≡ Some pack → facts_at names notes pack ≡ option_and_then well_noted (slice_get notes k)
+pub known_there : (after : Option Name) (names : List Name) (notes : List (Note (List Fact))) → NamesAscend after names → (k : ℕ) (pack : Name) → slice_get names k ≡ Some pack → facts_at names notes pack ≡ option_and_then well_noted (slice_get notes k)
 known_there after [] notes h k pack is = absurd (cc is)
 known_there after (n ∷ names) [] h k pack is = refl
 known_there after (n ∷ names) (note ∷ notes) h zero pack is =
@@ -64,7 +64,7 @@ unknown (n ∷ names) [] pack h = refl
 unknown (n ∷ names) (note ∷ notes) pack h =
     ap (λ b. cond b (well_noted note) (facts_at names notes pack)) (h 0 n (omega arith)) ∙ unknown names notes pack (λ k d less. h (suc k) d (omega (arith, less)))
 
-pub found_none : (names : List Name) (notes : List (Note (List Fact))) (pack : Name) (i : ℕ) → IsSearchInRange (Err i) (length names) → Ascends None names → IsBinarySearchResult (λ y. name_cmp y pack) names (Err i) → facts_at names notes pack ≡ None
+pub found_none : (names : List Name) (notes : List (Note (List Fact))) (pack : Name) (i : ℕ) → IsSearchInRange (Err i) (length names) → NamesAscend None names → IsBinarySearchResult (λ y. name_cmp y pack) names (Err i) → facts_at names notes pack ≡ None
 found_none names notes pack i within h parted =
     unknown names notes pack (λ k d less. by k d less (nat_split k i))
   where
@@ -82,7 +82,7 @@ at_or [] k d less = absurd (omega (arith, less))
 at_or (n ∷ names) zero d less = refl
 at_or (n ∷ names) (suc k) d less = at_or names k d (omega (arith, less))
 
-pub found_at : (names : List Name) (notes : List (Note (List Fact))) (pack : Name) (k : ℕ) → k < length names → Ascends None names → ((d : Name) → name_cmp (get_or names k d) pack ≡ Equal)
+pub found_at : (names : List Name) (notes : List (Note (List Fact))) (pack : Name) (k : ℕ) → k < length names → NamesAscend None names → ((d : Name) → name_cmp (get_or names k d) pack ≡ Equal)
     → facts_at names notes pack ≡ option_and_then well_noted (slice_get notes k)
 found_at names notes pack k within h equal =
     let none : Name = record { 0 = [] } in
@@ -95,9 +95,9 @@ past (x ∷ xs) zero beyond_all = absurd (omega (arith, beyond_all))
 past (x ∷ xs) (suc k) beyond_all = past xs k (omega (arith, beyond_all))
 
 module _ (names listed : List Name) (notes noted : List (Note (List Fact))) (pack : Name) (k : ℕ) (same_names : listed ≡ names) (same_notes : noted ≡ notes) (within : k < length listed)
-    (equal : (d : Name) → name_cmp (get_or listed k d) pack ≡ Equal) (ascend : Ascends None names) where
+    (equal : (d : Name) → name_cmp (get_or listed k d) pack ≡ Equal) (ascend : NamesAscend None names) where
   found_here : facts_at names notes pack ≡ option_and_then well_noted (slice_get noted k)
-  found_here = ap (λ ns. facts_at ns notes pack) (sym same_names) ∙ ap (λ (xs : List (Note (List Fact))). facts_at listed xs pack) (sym same_notes) ∙ found_at listed noted pack k within (subst (λ ns. Ascends None ns) (sym same_names) ascend) equal
+  found_here = ap (λ ns. facts_at ns notes pack) (sym same_names) ∙ ap (λ (xs : List (Note (List Fact))). facts_at listed xs pack) (sym same_notes) ∙ found_at listed noted pack k within (subst (λ ns. NamesAscend None ns) (sym same_names) ascend) equal
 
   pub none_here : length noted ≤ k → facts_at names notes pack ≡ None
   none_here few = found_here ∙ ap (λ (o : Option (Note (List Fact))). option_and_then well_noted o) (past noted k few)

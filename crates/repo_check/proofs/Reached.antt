@@ -26,7 +26,7 @@ use Rattle.repo_check.specs.Answers.{Answer, Gathered, IsReachedBlob, IsDeepest,
 use Rattle.repo_check.specs.Checking.{AreGot, AreRanged}
 use Rattle.repo_check.specs.Arrivals.{IsIndexOf, IsPackOf, IsRootOf}
 use Rattle.repo_check.specs.Measures.{IsReadAs}
-use Rattle.repo_check.specs.Surveys.{ContentIsReached, HoldsContent, IsSurveyed, LevelsAreReached, RoundsView, StandsIn, SurveyedIsReceived, answers_in, objects_in}
+use Rattle.repo_check.specs.Surveys.{ContentIsReached, HoldsContent, IsSurveyed, LevelsAreReached, RoundsView, IsInLevel, SurveyedIsReceived, answers_in, objects_in}
 use Rattle.repo_check.specs.Walks.{IsSettled, IsTold, WalkView}
 use Rattle.repo_check.proofs.Gathered.{came_as, contains_of, least_of, lies_of, of_root, root_of}
 use Rattle.repo_check.proofs.Measuring.{least_one}
@@ -112,18 +112,18 @@ module _ (rounds : RoundsView) (walk : WalkView) (es : Trace) (s : IsSurveyed ro
   there : (d : ℕ) → d ≤ greatest_depth → slice_get levels d ≡ Some (get_or levels d [])
   there d few = let all = s.over.all in slice_get-get_or levels d [] (omega (arith, few, all, depth_is))
 
-  stands_first : (n : Name) → Contains s.roots n → StandsIn levels 0 n
+  stands_first : (n : Name) → Contains s.roots n → IsInLevel levels 0 n
   stands_first n c = let at = there 0 (omega arith) in (get_or levels 0 [], at, (s.over.levels.first (get_or levels 0 []) at n).1 c)
 
-  first_stands : (n : Name) → StandsIn levels 0 n → Contains s.roots n
+  first_stands : (n : Name) → IsInLevel levels 0 n → Contains s.roots n
   first_stands n h = (s.over.levels.first h.0 h.1 n).0 h.2
 
-  stands_next : (d : ℕ) (t n : Name) (links : Links) → d < greatest_depth → StandsIn levels d t → walk.known.links t ≡ Some links → Contains links.trees.items n → StandsIn levels (suc d) n
+  stands_next : (d : ℕ) (t n : Name) (links : Links) → d < greatest_depth → IsInLevel levels d t → walk.known.links t ≡ Some links → Contains links.trees.items n → IsInLevel levels (suc d) n
   stands_next d t n links less h is c =
       let at = there (suc d) (omega (arith, less)) in
       (get_or levels (suc d) [], at, ((s.over.levels.next d h.0 (get_or levels (suc d) []) h.1 at).each n).1 (t, links, h.2, is, c))
 
-  next_stands : (d : ℕ) (n : Name) → StandsIn levels (suc d) n → (t : Name) × (links : Links) × StandsIn levels d t × (walk.known.links t ≡ Some links) × Contains links.trees.items n
+  next_stands : (d : ℕ) (n : Name) → IsInLevel levels (suc d) n → (t : Name) × (links : Links) × IsInLevel levels d t × (walk.known.links t ≡ Some links) × Contains links.trees.items n
   next_stands d n h =
       let inside = slice_get_within levels (suc d) h.0 h.1 in
       let all = s.over.all in
@@ -140,7 +140,7 @@ module _ (rounds : RoundsView) (walk : WalkView) (es : Trace) (s : IsSurveyed ro
   reach_self zero t = (refl, refl)
   reach_self (suc e) t = inl (refl, refl)
 
-  up : (depth : ℕ) (t : Name) → StandsIn levels depth t → (e : ℕ) (k : BlobKind) (n : Name) → ReachTo 1 e T t k n → (total : ℕ) → depth + e ≡ total → (root : Name) × Contains s.roots root × ReachTo 1 total T root k n
+  up : (depth : ℕ) (t : Name) → IsInLevel levels depth t → (e : ℕ) (k : BlobKind) (n : Name) → ReachTo 1 e T t k n → (total : ℕ) → depth + e ≡ total → (root : Name) × Contains s.roots root × ReachTo 1 total T root k n
   up zero t stands e k n reach total sum = (t, first_stands t stands, subst (λ d. ReachTo 1 d T t k n) (omega (arith, sum)) reach)
   up (suc depth) t stands e k n reach total sum =
       let above = next_stands depth t stands in
@@ -148,13 +148,13 @@ module _ (rounds : RoundsView) (walk : WalkView) (es : Trace) (s : IsSurveyed ro
       let from = flat_contains (λ (node : Node). trees_in node.what) tree.0 t (subst (λ ns. Contains ns t) tree.2.trees above.4) in
       up depth above.0 above.2 (suc e) k n (inr (from.0, listed above.0 tree.0 from.0 tree.1 from.1, dir_reaches (ReachTo 1 e T) from.0.what t k n from.2 reach)) total (omega (arith, sum))
 
-  within : (d : ℕ) (n : Name) → StandsIn levels d n → d ≤ greatest_depth
+  within : (d : ℕ) (n : Name) → IsInLevel levels d n → d ≤ greatest_depth
   within d n h = let few = slice_get_within levels d h.0 h.1 in let all = s.over.all in omega (arith, few, all, depth_is)
 
   reached_of : (k : BlobKind) (n : Name) → (root : Name) × Contains s.roots root × Reach 1 T root k n → IsReachedBlob A k n
   reached_of k n h = (1, h.0, root_of rounds walk es s h.0 h.1, h.2)
 
-  tree_reached : (n : Name) → (d : ℕ) × StandsIn levels d n → IsReachedBlob A Tree n
+  tree_reached : (n : Name) → (d : ℕ) × IsInLevel levels d n → IsReachedBlob A Tree n
   tree_reached n h = let few = within h.0 n h.1 in reached_of Tree n (up h.0 n h.1 (greatest_depth - h.0) Tree n (reach_self (greatest_depth - h.0) n) greatest_depth (omega (arith, few)))
 
   content_reached : (n : Name) → HoldsContent walk n → IsReachedBlob A Content n
@@ -169,16 +169,16 @@ module _ (rounds : RoundsView) (walk : WalkView) (es : Trace) (s : IsSurveyed ro
   -- ---- what is reached stands in a level
 
   abbrev Found : BlobKind → Name → Type 0
-  Found Tree n = (d : ℕ) × StandsIn levels d n
+  Found Tree n = (d : ℕ) × IsInLevel levels d n
   Found Content n = HoldsContent walk n
 
   abbrev Down : ℕ → Type 0
-  Down d = (depth : ℕ) → depth + d ≡ greatest_depth → (t : Name) → StandsIn levels depth t → (k : BlobKind) (n : Name) → ReachTo 1 d T t k n → Found k n
+  Down d = (depth : ℕ) → depth + d ≡ greatest_depth → (t : Name) → IsInLevel levels depth t → (k : BlobKind) (n : Name) → ReachTo 1 d T t k n → Found k n
 
-  here : (t : Name) (depth : ℕ) (k : BlobKind) (n : Name) → StandsIn levels depth t → k ≡ Tree → n ≡ t → Found k n
-  here t depth k n h is same = subst (λ j. Found j n) (sym is) (depth, subst (λ m. StandsIn levels depth m) (sym same) h)
+  here : (t : Name) (depth : ℕ) (k : BlobKind) (n : Name) → IsInLevel levels depth t → k ≡ Tree → n ≡ t → Found k n
+  here t depth k n h is same = subst (λ j. Found j n) (sym is) (depth, subst (λ m. IsInLevel levels depth m) (sym same) h)
 
-  through : (d : ℕ) → Down d → (depth : ℕ) → depth + suc d ≡ greatest_depth → (t : Name) (nodes : List Node) → StandsIn levels depth t → IsTree T t nodes → (node : Node) (what : NodeKind) → Contains nodes node → node.what ≡ what
+  through : (d : ℕ) → Down d → (depth : ℕ) → depth + suc d ≡ greatest_depth → (t : Name) (nodes : List Node) → IsInLevel levels depth t → IsTree T t nodes → (node : Node) (what : NodeKind) → Contains nodes node → node.what ≡ what
       → (k : BlobKind) (n : Name) → NodeReaches (ReachTo 1 d T) what k n → Found k n
   through d deeper depth sum t nodes stands tree node (NodeKind.File size content) among is k n h =
       let links = tree_links t nodes tree in
@@ -203,10 +203,10 @@ module _ (rounds : RoundsView) (walk : WalkView) (es : Trace) (s : IsSurveyed ro
 
   -- ---- the deepest
 
-  under_stands : (path : List (List ℕ)) (d : ℕ) (t n : Name) → d + length path ≤ greatest_depth → StandsIn levels d t → Under 1 T t path n → StandsIn levels (d + length path) n
+  under_stands : (path : List (List ℕ)) (d : ℕ) (t n : Name) → d + length path ≤ greatest_depth → IsInLevel levels d t → Under 1 T t path n → IsInLevel levels (d + length path) n
   under_stands [] d t n few stands under =
       let same : d ≡ d + 0 = omega arith in
-      subst (λ i. StandsIn levels i n) same (subst (λ m. StandsIn levels d m) (sym under) stands)
+      subst (λ i. IsInLevel levels i n) same (subst (λ m. IsInLevel levels d m) (sym under) stands)
   under_stands (name ∷ path) d t n few stands under =
       let has = under.1 in
       let links = tree_links t has.own (subst (λ p. IsTree T p has.own) has.belongs has.lists) in
@@ -214,7 +214,7 @@ module _ (rounds : RoundsView) (walk : WalkView) (es : Trace) (s : IsSurveyed ro
       (contains_flat (λ (z : Node). trees_in z.what) has.own (record { name = name; what = NodeKind.Dir under.0 }) under.0 has.among (first_contained under.0 [])) in
       let next = stands_next d t under.0 links.0 (omega (arith, few)) stands links.1 in_it in
       let same : suc d + length path ≡ d + suc (length path) = omega arith in
-      subst (λ i. StandsIn levels i n) same (under_stands path (suc d) under.0 n (omega (arith, few)) next under.2)
+      subst (λ i. IsInLevel levels i n) same (under_stands path (suc d) under.0 n (omega (arith, few)) next under.2)
 
   record Path (d : ℕ) (n : Name) : Type 0 where
     pub root : Name
@@ -230,7 +230,7 @@ module _ (rounds : RoundsView) (walk : WalkView) (es : Trace) (s : IsSurveyed ro
       listed t nodes (record { name = node.name; what = NodeKind.Dir n }) tree (subst (λ (z : Node). Contains nodes z) whole among)
   dir_node t nodes node (NodeKind.File size content) n is tree among inside = absurd (none_contained n inside)
 
-  path_to : (d : ℕ) (n : Name) → StandsIn levels d n → Path d n
+  path_to : (d : ℕ) (n : Name) → IsInLevel levels d n → Path d n
   path_to zero n h = record { root = n; rooted = first_stands n h; path = []; under = refl; len = refl }
   path_to (suc d) n h =
       let above = next_stands d n h in
@@ -246,19 +246,19 @@ module _ (rounds : RoundsView) (walk : WalkView) (es : Trace) (s : IsSurveyed ro
         len = omega (arith, len, length-append before.path (from.0.name ∷ []));
       }
 
-  pub deepest_of : (n : Name) → StandsIn levels greatest_depth n → IsDeepest A n
+  pub deepest_of : (n : Name) → IsInLevel levels greatest_depth n → IsDeepest A n
   deepest_of n h = let p = path_to greatest_depth n h in (1, p.root, root_of rounds walk es s p.root p.rooted, (p.path, p.under, p.len))
 
-  pub of_deepest : (n : Name) → IsDeepest A n → StandsIn levels greatest_depth n
+  pub of_deepest : (n : Name) → IsDeepest A n → IsInLevel levels greatest_depth n
   of_deepest n h =
       let root = of_root rounds walk es s h.0 h.1 h.2 in
       let len = h.3.2 in
       let sum : 0 + length h.3.0 ≡ greatest_depth = omega (arith, len) in
-      subst (λ i. StandsIn levels i n) sum (under_stands h.3.0 0 h.1 n (omega (arith, len)) (stands_first h.1 root.1) (subst (λ v. Under v T h.1 h.3.0 n) root.0 h.3.1))
+      subst (λ i. IsInLevel levels i n) sum (under_stands h.3.0 0 h.1 n (omega (arith, len)) (stands_first h.1 root.1) (subst (λ v. Under v T h.1 h.3.0 n) root.0 h.3.1))
 
   -- ---- what was received
 
-  pub settled : (n : Name) → (d : ℕ) × StandsIn levels d n → IsSettled walk.known n
+  pub settled : (n : Name) → (d : ℕ) × IsInLevel levels d n → IsSettled walk.known n
   settled n h =
       let level = h.1.0 in
       let c = h.1.2 in

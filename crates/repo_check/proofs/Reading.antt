@@ -17,17 +17,17 @@ use Rattle.repo_name.proofs.Containing.{contained_or, first_contained, none_cont
 use Rattle.repo_check.specs.Answers.{Answer}
 use Rattle.repo_check.specs.Checking.{IsRanged}
 use Rattle.repo_check.specs.Levels.{AreBelow}
-use Rattle.repo_check.specs.Walks.{IsSettled, IsDue, AreSettled, Adds, AddsNote, AreLevels, AreDone, Walks, IsTold, IsSeen, AreSeen, IsSomething, Knowledge, WalkView}
+use Rattle.repo_check.specs.Walks.{IsSettled, IsTreeDue, AreSettled, AddsUnder, AddsNote, AreLevels, LevelsAreDone, Walks, IsTold, IsKnownTree, AreKnownTrees, IsSomething, Knowledge, WalkView}
 use Rattle.repo_check.specs.declared.knowing.TreeNote.{TreeNote}
 use Rattle.repo_check.proofs.Walking.{due_not_settled}
 
 -- ---- maps
 
-others : {X : Type 0} (old new : Name → Option X) (n : Name) (o : Option X) → Adds old n o new → (m : Name) → (m ≡ n) ⊎ (new m ≡ old m)
+others : {X : Type 0} (old new : Name → Option X) (n : Name) (o : Option X) → AddsUnder old n o new → (m : Name) → (m ≡ n) ⊎ (new m ≡ old m)
 others old new n (Some x) a m = a.others m
 others old new n None a m = inr (ap (λ f. f m) a)
 
-here : {X : Type 0} (old new : Name → Option X) (n : Name) (o : Option X) → old n ≡ None → Adds old n o new → new n ≡ o
+here : {X : Type 0} (old new : Name → Option X) (n : Name) (o : Option X) → old n ≡ None → AddsUnder old n o new → new n ≡ o
 here old new n (Some x) none a = a.here
 here old new n None none a = ap (λ f. f n) a ∙ none
 
@@ -36,7 +36,7 @@ some_none o x some none = absurd (cc (some, none))
 
 -- ---- after a note
 
-module _ (old new : Knowledge) (fact : Fact) (note : TreeNote) (due : IsDue old fact.name fact) (adds : AddsNote old fact.name note new) where
+module _ (old new : Knowledge) (fact : Fact) (note : TreeNote) (due : IsTreeDue old fact.name fact) (adds : AddsNote old fact.name note new) where
   abbrev n : Name
   n = fact.name
 
@@ -72,7 +72,7 @@ module _ (old new : Knowledge) (fact : Fact) (note : TreeNote) (due : IsDue old 
 
   pub noted_walks : (roots : List Name) (walk : WalkView) → walk.known ≡ old → Walks roots walk → Walks roots (record { known = new; levels = walk.levels; place = walk.place })
   noted_walks roots walk is h =
-      let done = subst (λ k. AreDone k walk.levels walk.place) is h.done in
+      let done = subst (λ k. LevelsAreDone k walk.levels walk.place) is h.done in
       let levels = subst (λ (k : Knowledge). AreLevels k.links roots walk.levels) is h.levels in
       record {
         some = h.some;
@@ -94,7 +94,7 @@ module _ (old new : Knowledge) (fact : Fact) (note : TreeNote) (due : IsDue old 
   told_settled facts place a None (Some what) told l f = inr (inl (what, f))
   told_settled facts place a None None told l f = absurd told
 
-  seen_settled : (es : Trace) (a : Answer) → IsSeen old es a → IsSettled old a.name
+  seen_settled : (es : Trace) (a : Answer) → IsKnownTree old es a → IsSettled old a.name
   seen_settled es a s = told_settled old.facts s.place a (old.links a.name) (old.faults a.name) s.told refl refl
 
   ranged_grows : (e : Exchange) (es : Trace) (place : Place) (bytes : Option (List ℕ)) → IsRanged es place bytes → IsRanged (e ∷ es) place bytes
@@ -102,7 +102,7 @@ module _ (old new : Knowledge) (fact : Fact) (note : TreeNote) (due : IsDue old 
   ranged_grows e es place None (inl h) = inl (inr h)
   ranged_grows e es place None (inr h) = inr (inr h)
 
-  seen_stays : (e : Exchange) (es : Trace) (a : Answer) → IsSeen old es a → IsSeen new (e ∷ es) a
+  seen_stays : (e : Exchange) (es : Trace) (a : Answer) → IsKnownTree old es a → IsKnownTree new (e ∷ es) a
   seen_stays e es a s =
       let is = other a.name (seen_settled es a s) in
       record {
@@ -113,14 +113,14 @@ module _ (old new : Knowledge) (fact : Fact) (note : TreeNote) (due : IsDue old 
             (subst (λ l. IsTold old.facts s.place a l (new.faults a.name)) (sym is.0) (subst (λ f. IsTold old.facts s.place a (old.links a.name) f) (sym is.1) s.told));
       }
 
-  apart_from : (es : Trace) (a : Answer) → IsSeen old es a → a.name ≡ n → ⊥
+  apart_from : (es : Trace) (a : Answer) → IsKnownTree old es a → a.name ≡ n → ⊥
   apart_from es a s same = due_not_settled old n fact due (subst (λ m. IsSettled old m) same (seen_settled es a s))
 
   module _ (es : Trace) (say : Say) (a : Answer) (named : a.name ≡ n) (ranged : IsRanged (silent (range_of fact) say ∷ es) fact.place a.bytes) (told : IsTold old.facts fact.place a note.links note.fault) where
     abbrev e : Exchange
     e = silent (range_of fact) say
 
-    now_seen : IsSeen new (e ∷ es) a
+    now_seen : IsKnownTree new (e ∷ es) a
     now_seen =
         let l : new.links a.name ≡ note.links = ap new.links named ∙ here old.links new.links n note.links due.unread adds.links in
         let f : new.faults a.name ≡ note.fault = ap new.faults named ∙ here old.faults new.faults n note.fault due.faultless adds.faults in
@@ -135,11 +135,11 @@ module _ (old new : Knowledge) (fact : Fact) (note : TreeNote) (due : IsDue old 
     among : (answers : List Answer) → Contains (answers ++ a ∷ []) a
     among answers = Contains-append_right answers (a ∷ []) a (first_contained a [])
 
-    pub seen_more : (answers : List Answer) → AreSeen old answers es → AreSeen new (answers ++ a ∷ []) (e ∷ es)
+    pub seen_more : (answers : List Answer) → AreKnownTrees old answers es → AreKnownTrees new (answers ++ a ∷ []) (e ∷ es)
     seen_more answers h = record {
       each = λ b c. elim (Contains-append_cases answers (a ∷ []) b c) [
         | inl there ↦ seen_stays e es b (h.each b there)
-        | inr now ↦ subst (λ x. IsSeen new (e ∷ es) x) (only b now) now_seen
+        | inr now ↦ subst (λ x. IsKnownTree new (e ∷ es) x) (only b now) now_seen
       ];
       once = λ b d cb cd same. elim (Contains-append_cases answers (a ∷ []) b cb) [
         | inl there ↦ elim (Contains-append_cases answers (a ∷ []) d cd) [

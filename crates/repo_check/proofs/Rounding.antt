@@ -13,13 +13,13 @@ use Rattle.repo_wire.specs.declared.messages.Say.{Say}
 use Rattle.repo_store.specs.Pages.{Has}
 use Rattle.repo_session.specs.Order.{Task, IsWorking, May}
 use Rattle.repo_session.specs.Readings.{KnowsRoll}
-use Rattle.repo_session.specs.Rolls.{IsNamed, IsPaged, IsRolled}
+use Rattle.repo_session.specs.Rolls.{IsNamedObject, IsPaged, IsRolled}
 use Rattle.repo_session.specs.Traces.{Each, Exchange, Trace, Object, same_kind, page_names, is_last_page, object_got, objects_in, silent}
 use Rattle.repo_session.proofs.Rolling.{has_got, paged_on}
 use Rattle.repo_check.specs.Answers.{Answer}
 use Rattle.repo_check.specs.Arrivals.{IsAnswer}
-use Rattle.repo_check.specs.Checking.{IsGot, AreGot}
-use Rattle.repo_check.specs.Rounds.{IsUntouched, IsListing, IsWholeRound, AsksNext, KnowsRound, TurnsOn, TakesObject, Match, IsNoted, AreNoted, RoundView, round_of}
+use Rattle.repo_check.specs.Checking.{CameFor, AreGot}
+use Rattle.repo_check.specs.Rounds.{IsUntouched, RoundIsListing, IsWholeRound, AsksNext, KnowsRound, TurnsOn, TakesObject, Match, IsNoteOf, AreNoted, RoundView, round_of}
 use Rattle.repo_check.specs.declared.rounds.Note.{Note}
 use Rattle.repo_check.specs.declared.rounds.Round.{Round}
 use Rattle.repo_check.specs.declared.rounds.Turn.{Turn}
@@ -44,7 +44,7 @@ module _ {T : Type 0} where
   next_on task token k round Turn.Away e es w kind paged asks = absurd asks
 
   -- what the roll knows while its pages come
-  pub listing_rolls : (k : Kind) (own : Round T) (after : Option Name) (es : Trace) → IsListing k (round_of own) es → KnowsRoll own.roll (Ask.List k after) es
+  pub listing_rolls : (k : Kind) (own : Round T) (after : Option Name) (es : Trace) → RoundIsListing k (round_of own) es → KnowsRoll own.roll (Ask.List k after) es
   listing_rolls k own after es h =
       let round = round_of own in
       let R : Kind → ℕ → Type 0 = λ j read. IsRolled j round.names read false es in
@@ -171,27 +171,27 @@ module _ (k : Kind) where
         paged = paged_aside [] false e es aside h.paged;
         within = h.within;
         received = ap (λ os. map (λ (o : Object). o.name) os) same ∙ h.received;
-        named = subst (λ os. Each IsNamed os) (sym same) h.named;
+        named = subst (λ os. Each IsNamedObject os) (sym same) h.named;
       }
 
 -- ---- notes
 
-got_grows : (e : Exchange) (es : Trace) (k : Kind) (n : Name) (bytes : Option (List ℕ)) → IsGot es k n bytes → IsGot (e ∷ es) k n bytes
+got_grows : (e : Exchange) (es : Trace) (k : Kind) (n : Name) (bytes : Option (List ℕ)) → CameFor es k n bytes → CameFor (e ∷ es) k n bytes
 got_grows e es k n (Some x) h = inr h
 got_grows e es k n None h = inr h
 
-all_grow : (e : Exchange) (es : Trace) (k : Kind) (answers : List Answer) → Each (λ (a : Answer). IsGot es k a.name a.bytes) answers → Each (λ (a : Answer). IsGot (e ∷ es) k a.name a.bytes) answers
+all_grow : (e : Exchange) (es : Trace) (k : Kind) (answers : List Answer) → Each (λ (a : Answer). CameFor es k a.name a.bytes) answers → Each (λ (a : Answer). CameFor (e ∷ es) k a.name a.bytes) answers
 all_grow e es k [] h = tt
 all_grow e es k (a ∷ answers) h = (got_grows e es k a.name a.bytes h.0, all_grow e es k answers h.1)
 
 -- what came just now
-got_now : (k : Kind) (n : Name) (say : Say) (a : Answer) (es : Trace) → IsAnswer n say a → (a.name ≡ n) × IsGot (silent (Ask.Get k n) say ∷ es) k a.name a.bytes
+got_now : (k : Kind) (n : Name) (say : Say) (a : Answer) (es : Trace) → IsAnswer n say a → (a.name ≡ n) × CameFor (silent (Ask.Get k n) say ∷ es) k a.name a.bytes
 got_now k n (Say.Bytes x) a es h =
     let fs : Trace = silent (Ask.Get k n) (Say.Bytes x) ∷ es in
-    (h.0, subst (λ m. IsGot fs k m a.bytes) (sym h.0) (subst (λ (b : Option (List ℕ)). IsGot fs k n b) (sym h.1) (inl (refl, refl))))
+    (h.0, subst (λ m. CameFor fs k m a.bytes) (sym h.0) (subst (λ (b : Option (List ℕ)). CameFor fs k n b) (sym h.1) (inl (refl, refl))))
 got_now k n (Say.Refused Code.Missing) a es h =
     let fs : Trace = silent (Ask.Get k n) (Say.Refused Code.Missing) ∷ es in
-    (h.0, subst (λ m. IsGot fs k m a.bytes) (sym h.0) (subst (λ (b : Option (List ℕ)). IsGot fs k n b) (sym h.1) (inl (refl, refl))))
+    (h.0, subst (λ m. CameFor fs k m a.bytes) (sym h.0) (subst (λ (b : Option (List ℕ)). CameFor fs k n b) (sym h.1) (inl (refl, refl))))
 got_now k n (Say.Refused Code.Malformed) a es h = absurd h
 got_now k n (Say.Refused Code.Dead) a es h = absurd h
 got_now k n (Say.Refused Code.Busy) a es h = absurd h
@@ -239,7 +239,7 @@ module _ {T : Type 0} (k : Kind) (Gives : Answer → T → Type 0) where
 
   -- one more note
   pub noted_more : (names : List Name) (notes more : List (Note T)) (note : Note T) (n : Name) (say : Say) (a : Answer) (es : Trace) → AreNoted k Gives names notes es → slice_get names (length notes) ≡ Some n → IsAnswer n say a
-      → IsNoted k Gives a note → more ≡ notes ++ note ∷ [] → AreNoted k Gives names more (silent (Ask.Get k n) say ∷ es)
+      → IsNoteOf k Gives a note → more ≡ notes ++ note ∷ [] → AreNoted k Gives names more (silent (Ask.Get k n) say ∷ es)
   noted_more names notes more note n say a es h next answer noted is =
       let e = silent (Ask.Get k n) say in
       let now = got_now k n say a es answer in
@@ -248,12 +248,12 @@ module _ {T : Type 0} (k : Kind) (Gives : Answer → T → Type 0) where
       subst (λ ns. AreNoted k Gives names ns (e ∷ es)) (sym is) (record {
         answers = h.answers ++ a ∷ [];
         named = map_end f h.answers a ∙ ap (λ l. l ++ a.name ∷ []) h.named ∙ ap (λ m. take (length notes) names ++ m ∷ []) now.0 ∙ sym (one_more names (length notes) n next) ∙ ap (λ i. take i names) (sym long);
-        got = each_end (λ (b : Answer). IsGot (e ∷ es) k b.name b.bytes) h.answers a (all_grow e es k h.answers h.got) now.1;
-        noted = match_end (IsNoted k Gives) h.answers notes a note h.noted noted;
+        got = each_end (λ (b : Answer). CameFor (e ∷ es) k b.name b.bytes) h.answers a (all_grow e es k h.answers h.got) now.1;
+        noted = match_end (IsNoteOf k Gives) h.answers notes a note h.noted noted;
       })
 
   -- what is known after an object was noted
-  pub taken : (old new : RoundView T) (note : Note T) (n : Name) (say : Say) (turn : Turn) → ((a : Answer) × IsAnswer n say a × IsNoted k Gives a note) → new.kind ≡ old.kind → new.names ≡ old.names → new.notes ≡ old.notes ++ note ∷ [] → AsksNext new turn → TakesObject k Gives old n say turn new
+  pub taken : (old new : RoundView T) (note : Note T) (n : Name) (say : Say) (turn : Turn) → ((a : Answer) × IsAnswer n say a × IsNoteOf k Gives a note) → new.kind ≡ old.kind → new.names ≡ old.names → new.notes ≡ old.notes ++ note ∷ [] → AsksNext new turn → TakesObject k Gives old n say turn new
   taken old new note n say turn look kind names notes asks = λ task token es w getting noted.
       let e = silent (Ask.Get k n) say in
       let paged = paged_on k e old.names true es refl refl (λ after same. absurd (cc same)) getting.paged in

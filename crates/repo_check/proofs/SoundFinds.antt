@@ -29,9 +29,9 @@ use Rattle.repo_session.specs.declared.outcomes.CheckFault.{CheckFault}
 use Rattle.repo_session.specs.declared.outcomes.FaultKind.{FaultKind}
 use Rattle.repo_session.proofs.Descending.{file_spelled, needed_grows, needed_there, root_spells_at, unbroken, under_grows}
 use Rattle.repo_session.proofs.Reaching.{reached_needed}
-use Rattle.repo_check.specs.Answers.{Answer, Gathered, Came, GivesFact, HasRoot, IsReachedBlob, LiesAt, LiesNowhere, TreesOf}
-use Rattle.repo_check.specs.Checking.{IsFault, IsFound}
-use Rattle.repo_check.specs.Findings.{BlobIs, IsExactOf, IsIllTree, IsMismeasured, Measure, ObjectIs, Reads, TreeIs}
+use Rattle.repo_check.specs.Answers.{Answer, Gathered, Came, GivesFact, GivesRoot, IsReachedBlob, LiesAt, LiesNowhere, TreesOf}
+use Rattle.repo_check.specs.Checking.{IsFaultOf, IsFound}
+use Rattle.repo_check.specs.Findings.{BlobIs, IsExactOf, IsIllTree, IsMismeasured, Measure, ObjectIs, ReadsAs, TreeIs}
 use Rattle.repo_check.specs.Laws.{AreObjects}
 use Rattle.repo_check.proofs.Finding.{illegible_not}
 use Rattle.repo_check.proofs.Sounding.{BlobAt, blob_at}
@@ -53,7 +53,7 @@ module _ (answers : Gathered) (objects : Objects) (sound : IsSound objects) (apa
 
   -- ---- objects
 
-  reads : (k : Kind) (n : Name) (x : List ℕ) → objects k n ≡ Some x → Reads k x
+  reads : (k : Kind) (n : Name) (x : List ℕ) → objects k n ≡ Some x → ReadsAs k x
   reads Kind.Pack n x here = sound.packs n x here
   reads Kind.Index n x here = (let s = sound.indexes n x here in (s.packs, s.reads))
   reads Kind.Snapshot n x here = (let s = sound.snapshots n x here in (s.snapshot, s.reads))
@@ -121,7 +121,7 @@ module _ (answers : Gathered) (objects : Objects) (sound : IsSound objects) (apa
     pub entries : List Entry
     pub spells : Spells 1 H root [] entries
 
-  rooted : (version : ℕ) (root : Name) → HasRoot answers version root → (version ≡ 1) × Rooted root
+  rooted : (version : ℕ) (root : Name) → GivesRoot answers version root → (version ≡ 1) × Rooted root
   rooted version root r =
       let s = sound.snapshots r.name r.text ((are Kind.Snapshot r.name r.text).1 r.came.among) in
       let one : s.snapshot ≡ r.snapshot = snapshot_texts_one r.text s.snapshot r.snapshot s.reads r.reads in
@@ -216,5 +216,5 @@ module _ (answers : Gathered) (objects : Objects) (sound : IsSound objects) (apa
   found_well Thing.Content n what h = blob_well Content n what h.0 h.1
   found_well Thing.Tree n what h = blob_well Tree n what h.0 h.1
 
-  pub no_fault : (fault : CheckFault) → IsFault answers fault → ⊥
+  pub no_fault : (fault : CheckFault) → IsFaultOf answers fault → ⊥
   no_fault fault h = found_well fault.thing fault.name fault.what h

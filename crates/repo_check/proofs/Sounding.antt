@@ -26,7 +26,7 @@ use Rattle.repo_session.specs.Changes.{AreHeldApart}
 use Rattle.repo_session.specs.Soundness.{IsHeld, IsExactPack, IsSoundIndex, IsSoundSnapshot, IsSound}
 use Rattle.repo_session.specs.Trees.{Under}
 use Rattle.repo_session.proofs.Wholeness.{spelled_sound}
-use Rattle.repo_check.specs.Answers.{Gathered, Came, GivesFact, TreesOf, HasRoot, IsReachedBlob, IsDeepest}
+use Rattle.repo_check.specs.Answers.{Gathered, Came, GivesFact, TreesOf, GivesRoot, IsReachedBlob, IsDeepest}
 use Rattle.repo_check.specs.Checking.{AreWell}
 use Rattle.repo_check.specs.Findings.{IsFitting, IsExactOf, Measure, IsMeasured, IsWellTree}
 use Rattle.repo_check.specs.Laws.{AreObjects, HasNoClash, IsSpoken, WellIsSound}
@@ -179,7 +179,7 @@ module _ (answers : Gathered) (objects : Objects) (well : AreWell answers) (are 
       let sum : length (h.bytes ++ rest.0) ≡ size = length-append h.bytes rest.0 ∙ ap (λ l. l + length rest.0) h.len ∙ ap (λ l. m.0.length + l) rest.2 ∙ sym m.4 in
       (h.bytes ++ rest.0, (h.bytes, rest.0, h.held, h.named, rest.1, refl), sum)
 
-  module _ (root : Name) (rooted : HasRoot answers 1 root) where
+  module _ (root : Name) (rooted : GivesRoot answers 1 root) where
     reached : (k : BlobKind) (n : Name) → Reach 1 T root k n → IsReachedBlob answers k n
     reached k n r = (1, root, rooted, r)
 
@@ -243,7 +243,7 @@ module _ (answers : Gathered) (objects : Objects) (well : AreWell answers) (are 
       let read = (object_well Kind.Snapshot n x here).1 in
       let snapshot = read.0 in
       let known : snapshot.version ≡ 1 = read.1.known in
-      let rooted : HasRoot answers 1 snapshot.tree = record { name = n; text = x; snapshot = snapshot; came = came Kind.Snapshot n x here; reads = read.1; version_is = known; root_is = refl } in
+      let rooted : GivesRoot answers 1 snapshot.tree = record { name = n; text = x; snapshot = snapshot; came = came Kind.Snapshot n x here; reads = read.1; version_is = known; root_is = refl } in
       let e = root_spelled snapshot.tree rooted in
       spelled_sound objects held_apart x snapshot e.0 read.1 (subst (λ v. Spells v H snapshot.tree [] e.0) (sym known) e.1)
 

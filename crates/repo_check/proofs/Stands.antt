@@ -8,19 +8,19 @@ use Rattle.repo_name.specs.Naming.{name_cmp}
 use Rattle.repo_name.specs.declared.kinds.BlobKind.TheVariants.{Content, Tree}
 use Rattle.repo_name.specs.declared.names.Name.{Name}
 use Rattle.repo_name.proofs.Containing.{contains_flat, contains_got, flat_contains, stands_at}
-use Rattle.repo_store.specs.Pages.{Ascends}
+use Rattle.repo_store.specs.Pages.{NamesAscend}
 use Rattle.repo_tree.specs.Spelling.{greatest_depth}
 use Rattle.repo_session.specs.Traces.{Trace}
 use Rattle.repo_check.specs.Answers.{IsReachedBlob}
 use Rattle.repo_check.specs.Levels.{IsLed}
-use Rattle.repo_check.specs.Surveys.{HoldsContent, IsSurveyed, RoundsView, StandsIn, answers_in}
+use Rattle.repo_check.specs.Surveys.{HoldsContent, IsSurveyed, RoundsView, IsInLevel, answers_in}
 use Rattle.repo_check.specs.Verdicts.{AreReached, ReachedView, names_in}
 use Rattle.repo_check.specs.Walks.{WalkView}
 use Rattle.repo_check.proofs.Reached.{content_is_reached, levels_are_reached}
 
 -- ---- names in levels
 
-in_levels : (levels : List (List Name)) (n : Name) → Contains (names_in levels) n ↔ ((d : ℕ) × StandsIn levels d n)
+in_levels : (levels : List (List Name)) (n : Name) → Contains (names_in levels) n ↔ ((d : ℕ) × IsInLevel levels d n)
 in_levels levels n = (
   λ c. (let from = flat_contains (λ (level : List Name). level) levels n c in let at = stands_at levels from.0 from.1 in (at.0, (from.0, at.1, from.2))),
   λ h. contains_flat (λ (level : List Name). level) levels h.1.0 n (contains_got levels h.0 h.1.0 h.1.1) h.1.2,
@@ -38,7 +38,7 @@ got_taken [] (suc k) d x less h = absurd (cc h)
 got_taken (y ∷ xs) (suc k) zero x less h = h
 got_taken (y ∷ xs) (suc k) (suc d) x less h = got_taken xs k d x (omega (arith, less)) h
 
-in_upper : (levels : List (List Name)) (k : ℕ) (n : Name) → Contains (names_in (take k levels)) n ↔ ((d : ℕ) × (d < k) × StandsIn levels d n)
+in_upper : (levels : List (List Name)) (k : ℕ) (n : Name) → Contains (names_in (take k levels)) n ↔ ((d : ℕ) × (d < k) × IsInLevel levels d n)
 in_upper levels k n = (
   λ c. (let h = (in_levels (take k levels) n).0 c in let got = taken_got levels k h.0 h.1.0 h.1.1 in (h.0, got.0, (h.1.0, got.1, h.1.2))),
   λ h. (in_levels (take k levels) n).1 (h.0, (h.2.0, got_taken levels k h.0 h.2.0 h.1 h.2.1, h.2.2)),
@@ -46,12 +46,12 @@ in_upper levels k n = (
 
 -- ---- names that ascend
 
-after_first : (n : Name) (names : List Name) → AllByRecursion (λ m. name_cmp n m ≡ Less) names → IsStrictlySortedBy name_cmp names → Ascends (Some n) names
+after_first : (n : Name) (names : List Name) → AllByRecursion (λ m. name_cmp n m ≡ Less) names → IsStrictlySortedBy name_cmp names → NamesAscend (Some n) names
 unfolding IsStrictlySortedBy
 after_first n [] all h = tt
 after_first n (m ∷ names) all h = (all.0, after_first m names h.0 h.1)
 
-pub sorted_ascends : (names : List Name) → IsStrictlySortedBy name_cmp names → Ascends None names
+pub sorted_ascends : (names : List Name) → IsStrictlySortedBy name_cmp names → NamesAscend None names
 unfolding IsStrictlySortedBy
 sorted_ascends [] h = tt
 sorted_ascends (n ∷ names) h = (tt, after_first n names h.0 h.1)

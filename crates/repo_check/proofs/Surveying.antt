@@ -15,9 +15,9 @@ use Rattle.repo_session.proofs.Rolling.{may_page, opened_rolled}
 use Rattle.repo_tree.specs.ConfigText.{IsConfigText}
 use Rattle.repo_tree.specs.declared.configs.Config.{Config}
 use Rattle.repo_check.specs.Arrivals.{IsIndexOf, IsPackOf, IsRootOf}
-use Rattle.repo_check.specs.Rounds.{AreNoted, IsFreshRound, IsListing, IsUntouched, IsWholeRound, KnowsRound, Pages, RoundView, TakesObject, TurnsOn}
+use Rattle.repo_check.specs.Rounds.{AreNoted, IsFreshRound, RoundIsListing, IsUntouched, IsWholeRound, KnowsRound, PagesRound, RoundView, TakesObject, TurnsOn}
 use Rattle.repo_check.specs.Surveys.{AtIndexes, AtPacks, AtSnapshots, AtTrees, GoesAfter, HasTaken, IsFirst, IsFreshSurvey, KnowsNotes, RoundsView, Surveys, SurveysOn, first_page}
-use Rattle.repo_check.specs.Walks.{Awaits, HasNoted, WalkView}
+use Rattle.repo_check.specs.Walks.{Awaits, TreeIsNoted, WalkView}
 use Rattle.repo_check.specs.declared.knowing.TreeNote.{TreeNote}
 use Rattle.repo_check.specs.declared.rounds.Note.{Note}
 use Rattle.repo_check.specs.declared.rounds.Turn.{Turn}
@@ -27,7 +27,7 @@ use Rattle.repo_check.proofs.Rounding.{IsAside, none_noted, noted_grow, paged_as
 -- ---- a round that begins
 
 module _ {T : Type 0} (k : Kind) (round : RoundView T) where
-  fresh_listing : (es : Trace) → IsFreshRound k round → IsUntouched k es → IsListing k round es
+  fresh_listing : (es : Trace) → IsFreshRound k round → IsUntouched k es → RoundIsListing k round es
   fresh_listing es fresh none = record { of_kind = fresh.of_kind; none_read = fresh.none_read; rolled = subst (λ ns. IsRolled k ns 0 false es) (sym fresh.no_names) none; none = fresh.no_notes }
 
   -- its first page may be asked for
@@ -123,7 +123,7 @@ module _ (rounds : RoundsView) (walk : WalkView) (es : Trace) where
 
 -- where nothing is noted of a kind whose names came, this is known of the notes
 module _ (old new : RoundsView) (walk : WalkView) (say : Say) (turn : Turn) (next : Next) where
-  pub snapshots_page : (pages : Pages old.snapshots say turn new.snapshots) → new.snapshots.notes ≡ old.snapshots.notes → new.indexes ≡ old.indexes → new.packs ≡ old.packs → GoesAfter turn (first_page new.indexes) next
+  pub snapshots_page : (pages : PagesRound old.snapshots say turn new.snapshots) → new.snapshots.notes ≡ old.snapshots.notes → new.indexes ≡ old.indexes → new.packs ≡ old.packs → GoesAfter turn (first_page new.indexes) next
       → (task : Task) (token : Token) (after : Option Name) (es : Trace) → IsWorking task token (silent (Ask.List Kind.Snapshot after) say ∷ es) → May task es (Ask.List Kind.Snapshot after)
       → Surveys old walk (Ask.List Kind.Snapshot after) es → SurveysOn task new walk next (silent (Ask.List Kind.Snapshot after) say) es
   snapshots_page pages notes indexes packs goes task token after es w may h =
@@ -152,7 +152,7 @@ module _ (old new : RoundsView) (walk : WalkView) (say : Say) (turn : Turn) (nex
       snapshots_go task token new walk e es w known turn next took.0 (subst (λ r. IsFreshRound Kind.Index r) (sym indexes) at.indexes) (untouched_aside Kind.Index e es refl at.no_indexes)
       (subst (λ r. IsFreshRound Kind.Pack r) (sym packs) at.packs) (untouched_aside Kind.Pack e es refl at.no_packs) goes
 
-  pub indexes_page : (pages : Pages old.indexes say turn new.indexes) → new.indexes.notes ≡ old.indexes.notes → new.snapshots ≡ old.snapshots → new.packs ≡ old.packs → GoesAfter turn (first_page new.packs) next
+  pub indexes_page : (pages : PagesRound old.indexes say turn new.indexes) → new.indexes.notes ≡ old.indexes.notes → new.snapshots ≡ old.snapshots → new.packs ≡ old.packs → GoesAfter turn (first_page new.packs) next
       → (task : Task) (token : Token) (after : Option Name) (es : Trace) → IsWorking task token (silent (Ask.List Kind.Index after) say ∷ es) → May task es (Ask.List Kind.Index after)
       → Surveys old walk (Ask.List Kind.Index after) es → SurveysOn task new walk next (silent (Ask.List Kind.Index after) say) es
   indexes_page pages notes snapshots packs goes task token after es w may h =
@@ -277,7 +277,7 @@ object_back rounds rounds' walk walk' packs k n es taken kind names read notes h
 
 -- so does that of a tree
 pub tree_back : (rounds rounds' : RoundsView) (walk walk' new : WalkView) (pack : Name) (offset len : ℕ) (es : Trace) → HasTaken rounds walk (Ask.Range pack offset len) rounds' walk'
-    → ((roots : List Name) (fact : Fact) (note : TreeNote) → Awaits roots walk fact → HasNoted walk fact.name note walk' → new ≡ walk) → Surveys rounds walk (Ask.Range pack offset len) es → Surveys rounds' new (Ask.Range pack offset len) es
+    → ((roots : List Name) (fact : Fact) (note : TreeNote) → Awaits roots walk fact → TreeIsNoted walk fact.name note walk' → new ≡ walk) → Surveys rounds walk (Ask.Range pack offset len) es → Surveys rounds' new (Ask.Range pack offset len) es
 tree_back rounds rounds' walk walk' new pack offset len es taken back h =
     let t = taken.1 es h in
     subst (λ w. Surveys rounds' w (Ask.Range pack offset len) es) (sym (back t.0 t.1 t.2 t.3 t.4)) (subst (λ r. Surveys r walk (Ask.Range pack offset len) es) (sym taken.0) h)

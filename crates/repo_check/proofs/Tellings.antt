@@ -10,7 +10,7 @@ use Rattle.std.proofs.lemmas.List.Elements.{Contains-append_cases}
 use Rattle.repo_name.specs.Naming.{name_cmp, Before}
 use Rattle.repo_name.specs.declared.kinds.Thing.{Thing}
 use Rattle.repo_name.specs.declared.names.Name.{Name}
-use Rattle.repo_store.specs.Pages.{Has, Ascends}
+use Rattle.repo_store.specs.Pages.{Has, NamesAscend}
 use Rattle.repo_name.proofs.Containing.{none_contained, first_contained, later_contained, contained_or}
 use Rattle.repo_session.specs.declared.outcomes.CheckFault.{CheckFault}
 use Rattle.repo_session.specs.declared.outcomes.FaultKind.{FaultKind}
@@ -76,7 +76,7 @@ lesser_rank a b less =
     let before : nat_cmp (rank a.thing a.what) (rank b.thing b.what) ≡ Less = sym (nat_cmp_is (rank a.thing a.what) (rank b.thing b.what) Less less) in
     ap (λ o. ordering_then o (name_cmp a.name b.name)) before
 
-told_sorted : (thing : Thing) (after : Option Name) (names : List Name) (found : List (Option FaultKind)) (r : ℕ) → Ascends after names → AreOfRank (told thing names found) r → IsStrictlySortedBy fault_cmp (told thing names found)
+told_sorted : (thing : Thing) (after : Option Name) (names : List Name) (found : List (Option FaultKind)) (r : ℕ) → NamesAscend after names → AreOfRank (told thing names found) r → IsStrictlySortedBy fault_cmp (told thing names found)
 unfolding IsStrictlySortedBy
 told_sorted thing after [] found r h ranks = tt
 told_sorted thing after (n ∷ names) [] r h ranks = tt

@@ -22,12 +22,12 @@ use Rattle.repo_reach.proofs.Rewinding.{got_left}
 use Rattle.repo_name.proofs.Containing.{contained_or, none_contained}
 use Rattle.repo_check.specs.Answers.{Answer}
 use Rattle.repo_check.specs.Arrivals.{IsIndexOf, IsPackOf, IsRootOf}
-use Rattle.repo_check.specs.Checking.{IsGot, IsRanged}
+use Rattle.repo_check.specs.Checking.{CameFor, IsRanged}
 use Rattle.repo_check.specs.Gathering.{facts_noted}
 use Rattle.repo_check.specs.Measures.{IsTreeAnswer}
-use Rattle.repo_check.specs.Rounds.{AreNoted, IsNoted, IsWholeRound, Match, Pages, RoundView, TakesObject, TurnsOn}
+use Rattle.repo_check.specs.Rounds.{AreNoted, IsNoteOf, IsWholeRound, Match, PagesRound, RoundView, TakesObject, TurnsOn}
 use Rattle.repo_check.specs.Surveys.{AtTrees, GoesToTrees, HasObjects, KnowsNotes, RoundsView, Surveys, SurveysOn, next_of}
-use Rattle.repo_check.specs.Walks.{Awaits, IsDue, IsSomething, IsTold, Knowledge, WalkReads, TakesNote, WalkView, WalksOn, AreSeen}
+use Rattle.repo_check.specs.Walks.{Awaits, IsTreeDue, IsSomething, IsTold, Knowledge, WalkReads, TakesNote, WalkView, WalksOn, AreKnownTrees}
 use Rattle.repo_check.specs.declared.knowing.TreeNote.{TreeNote}
 use Rattle.repo_check.specs.declared.rounds.Note.{Note}
 use Rattle.repo_check.specs.declared.rounds.Turn.{Turn}
@@ -38,15 +38,15 @@ use Rattle.repo_check.proofs.Surveying.{getting_packs, listing_packs, ranging, w
 
 -- ---- what was read of an index
 
-of_index : (es : Trace) (a : Answer) (packs : List PackFacts) → IsIndexOf a packs → IsGot es Kind.Index a.name a.bytes → (fact : Fact) → Contains (facts_in packs) fact → ReadFact es fact
+of_index : (es : Trace) (a : Answer) (packs : List PackFacts) → IsIndexOf a packs → CameFor es Kind.Index a.name a.bytes → (fact : Fact) → Contains (facts_in packs) fact → ReadFact es fact
 of_index es a packs is got fact among = record {
   index = a.name;
   text = is.0;
-  read = (subst (λ (b : Option (List ℕ)). IsGot es Kind.Index a.name b) is.1.0 got, is.1.1);
+  read = (subst (λ (b : Option (List ℕ)). CameFor es Kind.Index a.name b) is.1.0 got, is.1.1);
   says = record { packs = packs; text = is.2; among = among };
 }
 
-one_read : (es : Trace) (answers : List Answer) (notes : List (Note (List PackFacts))) → Match (IsNoted Kind.Index IsIndexOf) answers notes → Each (λ (a : Answer). IsGot es Kind.Index a.name a.bytes) answers → (fact : Fact)
+one_read : (es : Trace) (answers : List Answer) (notes : List (Note (List PackFacts))) → Match (IsNoteOf Kind.Index IsIndexOf) answers notes → Each (λ (a : Answer). CameFor es Kind.Index a.name a.bytes) answers → (fact : Fact)
     → Contains (flat_map facts_noted notes) fact → ReadFact es fact
 one_read es [] [] m g fact c = absurd (none_contained fact c)
 one_read es (a ∷ answers) (Note.Well packs ∷ notes) m g fact c = elim (Contains-append_cases (facts_in packs) (flat_map facts_noted notes) fact c) [
@@ -59,7 +59,7 @@ one_read es (a ∷ answers) [] m g fact c = absurd m
 
 -- the place of a tree that is due may be asked for
 may_range : (task : Task) (token : Token) (rounds : RoundsView) (known : Knowledge) (n : Name) (fact : Fact) (es : Trace) → IsWorking task token es → KnowsNotes rounds es → Joins [] (flat_map facts_noted rounds.indexes.notes) known.facts
-    → IsDue known n fact → May task es (range_of fact)
+    → IsTreeDue known n fact → May task es (range_of fact)
 may_range task token rounds known n fact es w notes joins due =
     let given : Contains (flat_map facts_noted rounds.indexes.notes) (fact_of Tree n fact.place) = elim ((joins (fact_of Tree n fact.place)).0 due.least.among) [ inl none ↦ absurd (none_contained _ none) | inr c ↦ c ] in
     ((token, w), (fact_of Tree n fact.place, one_read es notes.indexes.answers rounds.indexes.notes notes.indexes.noted notes.indexes.got (fact_of Tree n fact.place) given, refl, refl, refl))
@@ -78,7 +78,7 @@ module _ (task : Task) (token : Token) (rounds : RoundsView) (walk : WalkView) (
       subst (λ n. SurveysOn task rounds walk n e es) (sym is) (record { notes = notes; roots = roots; objects = objects; over = on; answers = answers; reads = reads })
 
   -- nothing came of trees yet
-  none_seen : (known : Knowledge) → ((n : Name) → known.links n ≡ None) → ((n : Name) → known.faults n ≡ None) → AreSeen known [] (e ∷ es)
+  none_seen : (known : Knowledge) → ((n : Name) → known.links n ≡ None) → ((n : Name) → known.faults n ≡ None) → AreKnownTrees known [] (e ∷ es)
   none_seen known links faults = record {
     each = λ a c. absurd (none_contained a c);
     once = λ a b c d same. absurd (none_contained a c);
@@ -210,7 +210,7 @@ module _ (old new : RoundsView) (walk walk' : WalkView) (say : Say) (turn : Turn
     packs = packs;
   }
 
-  pub packs_page : (pages : Pages old.packs say turn new.packs) → new.packs.notes ≡ old.packs.notes → (task : Task) (token : Token) (after : Option Name) (es : Trace) → IsWorking task token (silent (Ask.List Kind.Pack after) say ∷ es)
+  pub packs_page : (pages : PagesRound old.packs say turn new.packs) → new.packs.notes ≡ old.packs.notes → (task : Task) (token : Token) (after : Option Name) (es : Trace) → IsWorking task token (silent (Ask.List Kind.Pack after) say ∷ es)
       → May task es (Ask.List Kind.Pack after) → Surveys old walk (Ask.List Kind.Pack after) es → SurveysOn task new walk' next (silent (Ask.List Kind.Pack after) say) es
   packs_page pages notes task token after es w may h =
       let e = silent (Ask.List Kind.Pack after) say in

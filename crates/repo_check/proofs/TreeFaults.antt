@@ -10,7 +10,7 @@ use Rattle.repo_session.specs.Traces.{Trace}
 use Rattle.repo_session.specs.declared.outcomes.FaultKind.{FaultKind}
 use Rattle.repo_check.specs.Answers.{Answer, Gathered, IsDeepest, LiesAt}
 use Rattle.repo_check.specs.Findings.{BlobIs, TreeIs}
-use Rattle.repo_check.specs.Measures.{AreGiven, IsFaultyTree, IsReadAs}
+use Rattle.repo_check.specs.Measures.{AreGivenFacts, IsFaultyTree, IsReadAs}
 use Rattle.repo_check.specs.Surveys.{ContentIsTold, IsSurveyed, RoundsView, TreesAreTold, answers_in}
 use Rattle.repo_check.specs.Walks.{IsSettled, IsTold, WalkView, tree_fault}
 use Rattle.repo_check.proofs.Gathered.{contains_of, given_of, lies_of}
@@ -28,11 +28,11 @@ faulty_is answers place a FaultKind.Place h = h
 faulty_is answers place a FaultKind.Unindexed h = h
 
 -- sizes that are wrong
-wrong_is : (answers : Gathered) (facts : List Fact) (place : Place) (a : Answer) (links : Links) → AreGiven answers facts → IsReadAs facts place a links false → TreeIs answers place a (Some FaultKind.Unreadable)
+wrong_is : (answers : Gathered) (facts : List Fact) (place : Place) (a : Answer) (links : Links) → AreGivenFacts answers facts → IsReadAs facts place a links false → TreeIs answers place a (Some FaultKind.Unreadable)
 wrong_is answers facts place a links given r = (r.bytes, r.has.0, r.has.1, inr (r.nodes, r.tree, inr ((r.judged answers given).ill refl)))
 
 -- a tree that reads, with right sizes: it is well but where it has nodes among the deepest
-right_is : (answers : Gathered) (facts : List Fact) (place : Place) (a : Answer) (links : Links) → AreGiven answers facts → IsReadAs facts place a links true → (bare : Bool) → links.is_bare ≡ bare → (deepest : Bool) → (IsTrue deepest ↔ IsDeepest answers a.name)
+right_is : (answers : Gathered) (facts : List Fact) (place : Place) (a : Answer) (links : Links) → AreGivenFacts answers facts → IsReadAs facts place a links true → (bare : Bool) → links.is_bare ≡ bare → (deepest : Bool) → (IsTrue deepest ↔ IsDeepest answers a.name)
     → TreeIs answers place a (tree_fault None (Some links) deepest)
 right_is answers facts place a links given r bare is false deep =
     (r.bytes, r.nodes, r.has.0, r.has.1, r.tree, record { bare = λ d. absurd (let no = deep.1 d in cc no); measured = (r.judged answers given).well refl })
@@ -47,7 +47,7 @@ module _ (rounds : RoundsView) (walk : WalkView) (es : Trace) (s : IsSurveyed ro
   abbrev A : Gathered
   A = answers_in s
 
-  given : AreGiven A walk.known.facts
+  given : AreGivenFacts A walk.known.facts
   given fact = (given_of rounds walk es s fact, contains_of rounds walk es s fact)
 
   -- what is told of an answer is what is found of it

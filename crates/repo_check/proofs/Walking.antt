@@ -10,17 +10,17 @@ use Rattle.repo_index.specs.declared.facts.Fact.{Fact}
 use Rattle.repo_reach.proofs.Rewinding.{got_or}
 use Rattle.repo_check.proofs.Finding.{place_one}
 use Rattle.repo_check.specs.Levels.{LinksOfTrees, AreBelow}
-use Rattle.repo_check.specs.Walks.{IsSettled, IsDue, AreSettled, Adds, AreLevels, AreDone, Walks, Awaits, IsOver, WalksOn, AsksIn, DescendsTo, last_level, Knowledge, WalkView}
+use Rattle.repo_check.specs.Walks.{IsSettled, IsTreeDue, AreSettled, AddsUnder, AreLevels, LevelsAreDone, Walks, Awaits, IsOver, WalksOn, AsksIn, DescendsTo, last_level, Knowledge, WalkView}
 
 -- ---- maps
 
-pub dropped_back : {X : Type 0} {old mid new : Name → Option X} {n : Name} (o : Option X) → old n ≡ None → Adds old n o mid → Dropped mid n new → new ≡ old
+pub dropped_back : {X : Type 0} {old mid new : Name → Option X} {n : Name} (o : Option X) → old n ≡ None → AddsUnder old n o mid → Dropped mid n new → new ≡ old
 dropped_back {X} {old} {mid} {new} {n} o none adds dropped = λ i m. at m i
   where
     here : (m : Name) → m ≡ n → new m ≡ old m
     here m same = subst (λ k. new k ≡ old k) (sym same) (dropped.gone ∙ sym none)
 
-    before : (m : Name) (p : Option X) → Adds old n p mid → (m ≡ n) ⊎ (mid m ≡ old m)
+    before : (m : Name) (p : Option X) → AddsUnder old n p mid → (m ≡ n) ⊎ (mid m ≡ old m)
     before m (Some x) a = a.others m
     before m None a = inr (ap (λ f. f m) a)
 
@@ -32,12 +32,12 @@ dropped_back {X} {old} {mid} {new} {n} o none adds dropped = λ i m. at m i
 no_links : {X : Type 0} (o : Option X) (x : X) → o ≡ None → o ≡ Some x → ⊥
 no_links o x none some = absurd (cc (none, some))
 
-pub due_not_settled : (known : Knowledge) (n : Name) (fact : Fact) → IsDue known n fact → IsSettled known n → ⊥
+pub due_not_settled : (known : Knowledge) (n : Name) (fact : Fact) → IsTreeDue known n fact → IsSettled known n → ⊥
 due_not_settled known n fact due (inl read) = no_links (known.links n) read.0 due.unread read.1
 due_not_settled known n fact due (inr (inl faulty)) = no_links (known.faults n) faulty.0 due.faultless faulty.1
 due_not_settled known n fact due (inr (inr nowhere)) = nowhere fact.place due.least.among
 
-pub due_is : (known : Knowledge) (n : Name) (fact : Fact) (o : Option Fact) → IsDue known n fact → IfSome o (IsDue known n) → (o ≡ None → IsSettled known n) → o ≡ Some fact
+pub due_is : (known : Knowledge) (n : Name) (fact : Fact) (o : Option Fact) → IsTreeDue known n fact → IfSome o (IsTreeDue known n) → (o ≡ None → IsSettled known n) → o ≡ Some fact
 due_is known n fact None due some none = absurd (due_not_settled known n fact due (none refl))
 due_is known n fact (Some f) due some none =
     let place : f.place ≡ fact.place = place_one f.place fact.place (some.least.least fact.place due.least.among) (due.least.least f.place some.least.among) in
@@ -95,19 +95,19 @@ module _ (roots : List Name) where
   pub walks_on : (old new : WalkView) (level : List Name) (fact : Option Fact) → last_level old.levels ≡ Some level → new.known ≡ old.known → new.levels ≡ old.levels → AsksIn old level fact new → Walks roots old → Walks roots new
   walks_on old new level fact last known levels asks h =
       let K : Knowledge → Type 0 = λ k. AreLevels (k.links) roots old.levels in
-      let moved : AreDone old.known old.levels new.place = done in
+      let moved : LevelsAreDone old.known old.levels new.place = done in
       record {
         some = subst (λ v. 1 ≤ length v) (sym levels) h.some;
         few = subst (λ v. length v ≤ 101) (sym levels) h.few;
         levels = subst (λ v. AreLevels (new.known.links) roots v) (sym levels) (subst K (sym known) h.levels);
-        done = subst (λ v. AreDone new.known v new.place) (sym levels) (subst (λ k. AreDone k old.levels new.place) (sym known) moved);
+        done = subst (λ v. LevelsAreDone new.known v new.place) (sym levels) (subst (λ k. LevelsAreDone k old.levels new.place) (sym known) moved);
       }
     where
       past : (o : Option Fact) → AsksIn old level o new → AreSettled old.known level old.place new.place
       past (Some f) a = a.2
       past None a = subst (λ p. AreSettled old.known level old.place p) (sym a.0) a.1
 
-      done : AreDone old.known old.levels new.place
+      done : LevelsAreDone old.known old.levels new.place
       done d l at = (
         (h.done d l at).0,
         λ end.
@@ -122,7 +122,7 @@ module _ (roots : List Name) where
     level = level;
     last = subst (λ v. last_level v ≡ Some level) (sym levels) last;
     here = asks.1;
-    due = subst (λ k. IsDue k fact.name fact) (sym known) asks.0;
+    due = subst (λ k. IsTreeDue k fact.name fact) (sym known) asks.0;
   }
 
   -- the walk goes on to the level below
@@ -136,7 +136,7 @@ module _ (roots : List Name) where
         some = omega (arith, size, some);
         few = omega (arith, size, few);
         levels = subst (λ (k : Knowledge). AreLevels (k.links) roots new.levels) (sym known) (subst (λ ls. AreLevels (old.known.links) roots ls) (sym to.levels) are);
-        done = subst (λ (k : Knowledge). AreDone k new.levels new.place) (sym known) (subst (λ p. AreDone old.known new.levels p) (sym to.begin) done);
+        done = subst (λ (k : Knowledge). LevelsAreDone k new.levels new.place) (sym known) (subst (λ p. LevelsAreDone old.known new.levels p) (sym to.begin) done);
       }
     where
       all_past : (d : ℕ) (l : List Name) → slice_get old.levels d ≡ Some l → AreSettled old.known l 0 (length l)
@@ -156,7 +156,7 @@ module _ (roots : List Name) where
       size_of : length new.levels ≡ length old.levels + 1
       size_of = ap length to.levels ∙ length-append old.levels (to.more ∷ [])
 
-      done : AreDone old.known new.levels 0
+      done : LevelsAreDone old.known new.levels 0
       done d l at = (
         λ less. elim (got_or old.levels to.more d l (subst (λ ls. slice_get ls d ≡ Some l) to.levels at)) [ inl there ↦ all_past d l there | inr new_one ↦ absurd (let e = new_one.0 in let s = size_of in omega (arith, less, e, s)) ],
         λ last_one. none l,

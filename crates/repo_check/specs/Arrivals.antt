@@ -38,8 +38,8 @@ ArrivesAs k n say Arrival.Absent = say ≡ Say.Refused Code.Missing
 ArrivesAs k n say Arrival.Unwelcome = IsUnwelcome (Ask.Get k n) say × (say ≢ Say.Refused Code.Missing)
 
 -- the answer's bytes have its name
-abbrev pub HasBytes : Answer → List ℕ → Type 0
-HasBytes a x = (a.bytes ≡ Some x) × (naming.name x ≡ a.name)
+abbrev pub AnswersBytes : Answer → List ℕ → Type 0
+AnswersBytes a x = (a.bytes ≡ Some x) × (naming.name x ≡ a.name)
 
 -- the answer is at fault by itself, whatever else came
 abbrev pub IsFaulty : Kind → Answer → FaultKind → Type 0
@@ -48,11 +48,11 @@ IsFaulty k a what = (answers : Gathered) → ObjectIs answers k a (Some what)
 
 -- it is a snapshot with this tree
 abbrev pub IsRootOf : Answer → Name → Type 0
-IsRootOf a root = (x : List ℕ) × (snapshot : Snapshot) × HasBytes a x × IsSnapshotText x snapshot × (snapshot.tree ≡ root)
+IsRootOf a root = (x : List ℕ) × (snapshot : Snapshot) × AnswersBytes a x × IsSnapshotText x snapshot × (snapshot.tree ≡ root)
 
 -- it is the index of these packs
 abbrev pub IsIndexOf : Answer → List PackFacts → Type 0
-IsIndexOf a packs = (x : List ℕ) × HasBytes a x × IsIndexText x packs
+IsIndexOf a packs = (x : List ℕ) × AnswersBytes a x × IsIndexText x packs
 
 -- the facts of a pack of these items; none where the blobs end beyond all places that an index can list
 abbrev pub AreToldOf : Name → List Item → List Fact → Type 0
@@ -60,7 +60,7 @@ AreToldOf pack items facts = AreFactsAt pack items facts ⊎ ((facts ≡ []) × 
 
 -- it is a pack with these facts
 abbrev pub IsPackOf : Answer → List Fact → Type 0
-IsPackOf a facts = (x : List ℕ) × (items : List Item) × HasBytes a x × IsTruePack x items × AreToldOf a.name items facts
+IsPackOf a facts = (x : List ℕ) × (items : List Item) × AnswersBytes a x × IsTruePack x items × AreToldOf a.name items facts
 
 -- what a reply tells of a snapshot
 abbrev pub LooksAtSnapshot : Name → Say → SnapshotLook → Type 0

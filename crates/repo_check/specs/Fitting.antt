@@ -46,6 +46,13 @@ ListsAsKnown facts packs pack = (own : List Fact) × (packs pack ≡ Some own) �
 abbrev pub ListsOtherwise : List Fact → FactsOfPacks → Name → Type 0
 ListsOtherwise facts packs pack = (packs pack ≡ None) ⊎ ((own : List Fact) × (known : List Fact) × (packs pack ≡ Some known) × AreFactsOf facts pack own × (own ≢ known))
 
+-- each of some packs is; and one of them isn't
+abbrev pub AllListedAsKnown : List Fact → FactsOfPacks → List Name → Type 0
+AllListedAsKnown own facts packs = (pack : Name) → Contains packs pack → ListsAsKnown own facts pack
+
+abbrev pub OneIsListedOtherwise : List Fact → FactsOfPacks → List Name → Type 0
+OneIsListedOtherwise own facts packs = (pack : Name) × Contains packs pack × ListsOtherwise own facts pack
+
 -- an index lists each pack that it names so
 pub record Fits (text : List PackFacts) (packs : FactsOfPacks) : Type 0 where
   pub facts : List Fact

@@ -25,7 +25,7 @@ abbrev pub HasNames : BTreeSet Name → List Name → Type 0
 HasNames set names = (n : Name) → IsTrue (contains name_cmp set n) ↔ Contains names n
 
 -- just these names, each once and ascending
-pub record AreOnce (names once : List Name) : Type 0 where
+pub record AreNamesOnce (names once : List Name) : Type 0 where
   pub each : (n : Name) → Contains once n ↔ Contains names n
   pub ascend : IsStrictlySortedBy name_cmp once
 

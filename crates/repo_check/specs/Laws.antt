@@ -16,7 +16,7 @@ use Rattle.repo_check.specs.Fitting.{FactsOfPacks, AreKnown, Fits, Misfits}
 use Rattle.repo_index.specs.IndexText.{IsIndexText}
 use Rattle.repo_index.specs.declared.facts.PackFacts.{PackFacts}
 use Rattle.repo_check.specs.Answers.{Answer, Gathered, GivesFact}
-use Rattle.repo_check.specs.Checking.{IsFault, IsFound, AreWell, IsClean, AreAnswers}
+use Rattle.repo_check.specs.Checking.{IsFaultOf, IsFound, AreWell, IsClean, AreAnswers}
 
 -- the objects that came, under the names for which they came
 abbrev pub AreObjects : Gathered → Objects → Type 0
@@ -55,4 +55,4 @@ FitsAsFound = (answers : Gathered) (packs : FactsOfPacks) (x : List ℕ) (text :
 
 -- where all things are well, none is at fault
 abbrev pub WellHasNoFault : Type 0
-WellHasNoFault = (es : Trace) (answers : Gathered) → AreAnswers es answers → AreWell answers → (fault : CheckFault) → ¬ IsFault answers fault
+WellHasNoFault = (es : Trace) (answers : Gathered) → AreAnswers es answers → AreWell answers → (fault : CheckFault) → ¬ IsFaultOf answers fault

@@ -27,8 +27,8 @@ pub record AreLed (k : BlobKind) (trees : LinksOfTrees) (level names : List Name
   pub ascend : IsStrictlySortedBy name_cmp names
 
 -- the trees below some
-abbrev pub IsBelow : LinksOfTrees → List Name → Name → Type 0
-IsBelow trees level n = IsLed Tree trees level n
+abbrev pub IsTreeBelow : LinksOfTrees → List Name → Name → Type 0
+IsTreeBelow trees level n = IsLed Tree trees level n
 
 abbrev pub AreBelow : LinksOfTrees → List Name → List Name → Type 0
 AreBelow trees level names = AreLed Tree trees level names

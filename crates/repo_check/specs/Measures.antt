@@ -17,7 +17,7 @@ use Rattle.repo_session.specs.Blobs.{range_of}
 use Rattle.repo_session.specs.Ends.{IsUnwelcome}
 use Rattle.repo_session.specs.declared.outcomes.FaultKind.{FaultKind}
 use Rattle.repo_check.specs.Answers.{Answer, Gathered, GivesFact}
-use Rattle.repo_check.specs.Arrivals.{HasBytes}
+use Rattle.repo_check.specs.Arrivals.{AnswersBytes}
 use Rattle.repo_check.specs.Findings.{IsMeasured, IsMismeasured, IsTreeAt}
 use Rattle.repo_check.specs.declared.trees.TreeLook.{TreeLook}
 
@@ -35,9 +35,9 @@ abbrev pub HasLost : List Fact → List Name → Type 0
 HasLost facts names = (n : Name) × Contains names n × IsLost facts n
 
 -- a file's blobs have its size, or one of them is lost
-abbrev pub Suits : List Fact → NodeKind → Type 0
-Suits facts (NodeKind.File size content) = Measures facts content size ⊎ HasLost facts content
-Suits facts (NodeKind.Dir subtree) = ⊤
+abbrev pub SuitsSize : List Fact → NodeKind → Type 0
+SuitsSize facts (NodeKind.File size content) = Measures facts content size ⊎ HasLost facts content
+SuitsSize facts (NodeKind.Dir subtree) = ⊤
 
 -- they have another size
 abbrev pub IsUnsuited : List Fact → NodeKind → Type 0
@@ -45,8 +45,8 @@ IsUnsuited facts (NodeKind.File size content) = (sum : ℕ) × Measures facts co
 IsUnsuited facts (NodeKind.Dir subtree) = ⊥
 
 -- the facts are those that were given
-abbrev pub AreGiven : Gathered → List Fact → Type 0
-AreGiven answers facts = (fact : Fact) → Contains facts fact ↔ GivesFact answers fact
+abbrev pub AreGivenFacts : Gathered → List Fact → Type 0
+AreGivenFacts answers facts = (fact : Fact) → Contains facts fact ↔ GivesFact answers fact
 
 -- whether the sizes of the files among some nodes are right
 pub record Judges (answers : Gathered) (nodes : List Node) (right : Bool) : Type 0 where
@@ -64,16 +64,16 @@ IsTreeAnswer n _ a = ⊥
 pub record IsReadAs (facts : List Fact) (place : Place) (a : Answer) (links : Links) (right : Bool) : Type 0 where
   pub bytes : List ℕ
   pub nodes : List Node
-  pub has : HasBytes a bytes
+  pub has : AnswersBytes a bytes
   pub tree : IsTreeAt place bytes nodes
   pub lead : LeadTo nodes links
-  pub judged : (answers : Gathered) → AreGiven answers facts → Judges answers nodes right
+  pub judged : (answers : Gathered) → AreGivenFacts answers facts → Judges answers nodes right
 
 -- it is at fault by itself, whatever else came: one whose bytes are a tree's text isn't
 abbrev pub IsFaultyTree : Place → Answer → FaultKind → Type 0
 IsFaultyTree place a FaultKind.Missing = a.bytes ≡ None
 IsFaultyTree place a FaultKind.Name = (x : List ℕ) × (a.bytes ≡ Some x) × (naming.name x ≢ a.name)
-IsFaultyTree place a FaultKind.Unreadable = (x : List ℕ) × HasBytes a x × ((nodes : List Node) → ¬ IsTreeAt place x nodes)
+IsFaultyTree place a FaultKind.Unreadable = (x : List ℕ) × AnswersBytes a x × ((nodes : List Node) → ¬ IsTreeAt place x nodes)
 IsFaultyTree place a FaultKind.Place = ⊥
 IsFaultyTree place a FaultKind.Unindexed = ⊥
 

@@ -12,7 +12,7 @@ use Rattle.repo_session.specs.Rolls.{IsPaged, IsRolled}
 use Rattle.repo_session.specs.Traces.{Each, Exchange, Trace, silent}
 use Rattle.repo_check.specs.Answers.{Answer}
 use Rattle.repo_check.specs.Arrivals.{IsFaulty}
-use Rattle.repo_check.specs.Checking.{IsGot}
+use Rattle.repo_check.specs.Checking.{CameFor}
 use Rattle.repo_check.specs.declared.rounds.Note.{Note}
 use Rattle.repo_check.specs.declared.rounds.Round.{Round}
 use Rattle.repo_check.specs.declared.rounds.Turn.{Turn}
@@ -35,7 +35,7 @@ abbrev pub IsUntouched : Kind → Trace → Type 0
 IsUntouched k es = IsRolled k [] 0 false es
 
 -- its names come page by page, and nothing was noted
-pub record IsListing {T : Type 0} (k : Kind) (round : RoundView T) (es : Trace) : Type 0 where
+pub record RoundIsListing {T : Type 0} (k : Kind) (round : RoundView T) (es : Trace) : Type 0 where
   pub of_kind : round.kind ≡ k
   pub none_read : round.read ≡ 0
   pub rolled : IsRolled k round.names 0 false es
@@ -70,7 +70,7 @@ AsksNext round _ = ⊥
 
 -- what is known where this is pending
 abbrev pub KnowsRound : {T : Type 0} → Kind → RoundView T → Ask → Trace → Type 0
-KnowsRound k round (Ask.List j after) es = (j ≡ k) × IsListing k round es
+KnowsRound k round (Ask.List j after) es = (j ≡ k) × RoundIsListing k round es
 KnowsRound k round (Ask.Get j n) es = (j ≡ k) × IsGetting k round n es
 KnowsRound k round _ es = ⊥
 
@@ -83,8 +83,8 @@ TurnsOn task k round Turn.Version e es = IsOfOtherVersion e.ask e.say
 TurnsOn task k round Turn.Away e es = IsUnwelcome e.ask e.say
 
 -- what a page comes to, after each trace at whose end it was asked for
-abbrev pub Pages : {T : Type 0} → RoundView T → Say → Turn → RoundView T → Type 0
-Pages old say turn new = (task : Task) (token : Token) (k : Kind) (after : Option Name) (es : Trace) → IsWorking task token (silent (Ask.List k after) say ∷ es) → May task es (Ask.List k after) → IsListing k old es
+abbrev pub PagesRound : {T : Type 0} → RoundView T → Say → Turn → RoundView T → Type 0
+PagesRound old say turn new = (task : Task) (token : Token) (k : Kind) (after : Option Name) (es : Trace) → IsWorking task token (silent (Ask.List k after) say ∷ es) → May task es (Ask.List k after) → RoundIsListing k old es
     → TurnsOn task k new turn (silent (Ask.List k after) say) es
 
 -- what is asked next fits a frame
@@ -101,16 +101,16 @@ Match R (x ∷ xs) (y ∷ ys) = R x y × Match R xs ys
 Match R _ _ = ⊥
 
 -- the note says what the answer is
-abbrev pub IsNoted : {T : Type 0} → Kind → (Answer → T → Type 0) → Answer → Note T → Type 0
-IsNoted k Gives a (Note.Well x) = Gives a x
-IsNoted k Gives a (Note.Fault what) = IsFaulty k a what
+abbrev pub IsNoteOf : {T : Type 0} → Kind → (Answer → T → Type 0) → Answer → Note T → Type 0
+IsNoteOf k Gives a (Note.Well x) = Gives a x
+IsNoteOf k Gives a (Note.Fault what) = IsFaulty k a what
 
 -- the objects of the first names came so, and these are the notes of them
 pub record AreNoted {T : Type 0} (k : Kind) (Gives : Answer → T → Type 0) (names : List Name) (notes : List (Note T)) (es : Trace) : Type 0 where
   pub answers : List Answer
   pub named : map (λ (a : Answer). a.name) answers ≡ take (length notes) names
-  pub got : Each (λ (a : Answer). IsGot es k a.name a.bytes) answers
-  pub noted : Match (IsNoted k Gives) answers notes
+  pub got : Each (λ (a : Answer). CameFor es k a.name a.bytes) answers
+  pub noted : Match (IsNoteOf k Gives) answers notes
 
 -- what a reply to the request for the next object comes to, after each trace at whose end it was pending
 abbrev pub TakesObject : {T : Type 0} → Kind → (Answer → T → Type 0) → RoundView T → Name → Say → Turn → RoundView T → Type 0

@@ -15,23 +15,25 @@ use Rattle.repo_session.specs.declared.outcomes.FaultKind.{FaultKind}
 use Rattle.repo_session.specs.Blobs.{range_of}
 use Rattle.repo_session.specs.Ends.{IsOfOtherVersion, IsSenseless, IsUnwelcome}
 use Rattle.repo_session.specs.Jobs.{IsShort}
-use Rattle.repo_session.specs.Order.{Task, IsWorking, May, last_of}
+use Rattle.repo_session.specs.Order.{Task, IsWorking, May, last_of, opened}
 use Rattle.repo_session.specs.Traces.{Exchange, Trace, silent}
 use Rattle.repo_reach.specs.declared.links.Links.{Links}
 use Rattle.repo_tree.specs.Spelling.{greatest_depth}
 use Rattle.repo_check.specs.Answers.{Answer, Gathered, IsDeepest, IsReachedBlob}
 use Rattle.repo_check.specs.Arrivals.{IsIndexOf, IsPackOf, IsRootOf}
-use Rattle.repo_check.specs.Checking.{AreAnswers, IsFault}
+use Rattle.repo_check.specs.Checking.{AreAnswers, IsFaultOf}
 use Rattle.repo_check.specs.Findings.{BlobIs}
-use Rattle.repo_check.specs.Gathering.{AreOnce, facts_noted, fault_noted, root_noted}
+use Rattle.repo_check.specs.Gathering.{AreNamesOnce, facts_noted, fault_noted, root_noted}
 use Rattle.repo_check.specs.Rounds.{AreNoted, HasOneMore, IsFreshRound, IsUntouched, IsWholeRound, KnowsRound, RoundView, round_of}
 use Rattle.repo_check.specs.Telling.{told}
-use Rattle.repo_check.specs.Walks.{ContentFault, Awaits, HasNoted, IsFreshKnown, IsOver, IsWalkMark, WalkReads, WalkView, Walks, WalksOn, tree_fault, walk_of}
+use Rattle.repo_check.specs.Walks.{ContentFault, Awaits, TreeIsNoted, IsFreshKnown, IsOver, IsWalkMark, WalkReads, WalkView, Walks, WalksOn, tree_fault, walk_of}
 use Rattle.repo_check.specs.declared.knowing.TreeNote.{TreeNote}
 use Rattle.repo_check.specs.declared.rounds.Turn.{Turn}
 use Rattle.repo_check.specs.declared.surveys.Next.{Next}
 use Rattle.repo_check.specs.declared.surveys.Survey.{Survey}
 use Rattle.repo_check.specs.declared.surveys.SurveyMark.{SurveyMark}
+use Rattle.repo_tree.specs.declared.configs.Config.{Config}
+use Rattle.repo_tree.specs.ConfigText.{IsConfigText}
 
 -- the rounds over the three kinds
 pub record RoundsView : Type 0 where
@@ -78,7 +80,7 @@ pub record HasObjects (rounds : RoundsView) (walk : WalkView) (roots : List Name
   pub indexes : IsWholeRound Kind.Index rounds.indexes es
   pub packs : IsWholeRound Kind.Pack rounds.packs es
   pub facts : Joins [] (flat_map facts_noted rounds.indexes.notes) walk.known.facts
-  pub roots_are : AreOnce (flat_map root_noted rounds.snapshots.notes) roots
+  pub roots_are : AreNamesOnce (flat_map root_noted rounds.snapshots.notes) roots
 
 -- a tree
 pub record AtTrees (rounds : RoundsView) (walk : WalkView) (ask : Ask) (es : Trace) : Type 0 where
@@ -138,9 +140,9 @@ TakesSurvey rounds walk ask say next rounds' walk' = (task : Task) (token : Toke
 -- ---- the walk
 
 -- a walk goes by the facts of the indexes that read, and begins at the trees of the snapshots that read; nothing is known of trees
-pub record HasBegun (rounds : RoundsView) (walk : WalkView) : Type 0 where
+pub record WalkHasBegun (rounds : RoundsView) (walk : WalkView) : Type 0 where
   pub roots : List Name
-  pub roots_are : AreOnce (flat_map root_noted rounds.snapshots.notes) roots
+  pub roots_are : AreNamesOnce (flat_map root_noted rounds.snapshots.notes) roots
   pub facts : Joins [] (flat_map facts_noted rounds.indexes.notes) walk.known.facts
   pub fresh : IsFreshKnown walk.known.facts walk.known
   pub walks : Walks roots walk
@@ -153,7 +155,7 @@ next_of None = Next.Over
 -- it went on to the first tree that is to be asked for
 pub record WalkBegins (rounds : RoundsView) (walk : WalkView) (next : Next) : Type 0 where
   pub roots : List Name
-  pub roots_are : AreOnce (flat_map root_noted rounds.snapshots.notes) roots
+  pub roots_are : AreNamesOnce (flat_map root_noted rounds.snapshots.notes) roots
   pub facts : Joins [] (flat_map facts_noted rounds.indexes.notes) walk.known.facts
   pub fresh : IsFreshKnown walk.known.facts walk.known
   pub fact : Option Fact
@@ -178,7 +180,7 @@ IsSurveyMark walk mark = IsWalkMark walk mark.walk × ((roots : List Name) (fact
 abbrev pub HasTaken : RoundsView → WalkView → Ask → RoundsView → WalkView → Type 0
 HasTaken rounds walk (Ask.List k after) rounds' walk' = (es : Trace) → Surveys rounds walk (Ask.List k after) es → rounds' ≡ rounds
 HasTaken rounds walk (Ask.Get k n) rounds' walk' = (rounds'.snapshots ≡ rounds.snapshots) × (rounds'.indexes ≡ rounds.indexes) × HasOneMore rounds.packs rounds'.packs
-HasTaken rounds walk (Ask.Range pack offset len) rounds' walk' = (rounds' ≡ rounds) × ((es : Trace) → Surveys rounds walk (Ask.Range pack offset len) es → (roots : List Name) × (fact : Fact) × (note : TreeNote) × Awaits roots walk fact × HasNoted walk fact.name note walk')
+HasTaken rounds walk (Ask.Range pack offset len) rounds' walk' = (rounds' ≡ rounds) × ((es : Trace) → Surveys rounds walk (Ask.Range pack offset len) es → (roots : List Name) × (fact : Fact) × (note : TreeNote) × Awaits roots walk fact × TreeIsNoted walk fact.name note walk')
 HasTaken rounds walk _ rounds' walk' = ⊥
 
 -- ---- all this between surveys as they stand
@@ -204,6 +206,10 @@ pub record IsFreshSurvey (rounds : RoundsView) : Type 0 where
 abbrev pub IsFirst : Task → RoundsView → WalkView → Trace → Ask → Type 0
 IsFirst task rounds walk es ask = May task es ask × Surveys rounds walk ask es
 
+-- the first request after whatever config was read
+abbrev pub OpensWith : RoundsView → WalkView → Ask → Type 0
+OpensWith rounds walk ask = (task : Task) (token : Token) (text : List ℕ) (config : Config) → IsConfigText text config → IsFirst task rounds walk (opened task token text) ask
+
 -- ---- what a survey received
 
 -- the answers that came for the objects of a kind
@@ -221,17 +227,17 @@ abbrev pub SurveyedIsReceived : Type 0
 SurveyedIsReceived = (rounds : RoundsView) (walk : WalkView) (es : Trace) (s : IsSurveyed rounds walk es) → AreAnswers es (answers_in s)
 
 -- a tree stands in the level of a depth
-abbrev pub StandsIn : List (List Name) → ℕ → Name → Type 0
-StandsIn levels d n = (level : List Name) × (slice_get levels d ≡ Some level) × Contains level n
+abbrev pub IsInLevel : List (List Name) → ℕ → Name → Type 0
+IsInLevel levels d n = (level : List Name) × (slice_get levels d ≡ Some level) × Contains level n
 
 -- and the trees that are reached are those of the levels; those of the last level are the deepest
 abbrev pub LevelsAreReached : Type 0
 LevelsAreReached = (rounds : RoundsView) (walk : WalkView) (es : Trace) (s : IsSurveyed rounds walk es) (n : Name)
-    → (IsReachedBlob (answers_in s) Tree n ↔ ((d : ℕ) × StandsIn walk.levels d n)) × (IsDeepest (answers_in s) n ↔ StandsIn walk.levels greatest_depth n)
+    → (IsReachedBlob (answers_in s) Tree n ↔ ((d : ℕ) × IsInLevel walk.levels d n)) × (IsDeepest (answers_in s) n ↔ IsInLevel walk.levels greatest_depth n)
 
 -- a tree that reads, in a level above the last, leads to the content
 abbrev pub HoldsContent : WalkView → Name → Type 0
-HoldsContent walk n = (d : ℕ) × (t : Name) × (links : Links) × (d < greatest_depth) × StandsIn walk.levels d t × (walk.known.links t ≡ Some links) × Contains links.content.items n
+HoldsContent walk n = (d : ℕ) × (t : Name) × (links : Links) × (d < greatest_depth) × IsInLevel walk.levels d t × (walk.known.links t ≡ Some links) × Contains links.content.items n
 
 -- so is the content that is reached
 abbrev pub ContentIsReached : Type 0
@@ -240,18 +246,35 @@ ContentIsReached = (rounds : RoundsView) (walk : WalkView) (es : Trace) (s : IsS
 -- what is told of the snapshots by their notes is what is at fault of snapshots
 abbrev pub SnapshotsAreTold : Type 0
 SnapshotsAreTold = (rounds : RoundsView) (walk : WalkView) (es : Trace) (s : IsSurveyed rounds walk es) (fault : CheckFault)
-    → Contains (told Thing.Snapshot rounds.snapshots.names (map fault_noted rounds.snapshots.notes)) fault ↔ ((fault.thing ≡ Thing.Snapshot) × IsFault (answers_in s) fault)
+    → Contains (told Thing.Snapshot rounds.snapshots.names (map fault_noted rounds.snapshots.notes)) fault ↔ ((fault.thing ≡ Thing.Snapshot) × IsFaultOf (answers_in s) fault)
 
 -- so are the packs
 abbrev pub PacksAreTold : Type 0
 PacksAreTold = (rounds : RoundsView) (walk : WalkView) (es : Trace) (s : IsSurveyed rounds walk es) (fault : CheckFault)
-    → Contains (told Thing.Pack rounds.packs.names (map fault_noted rounds.packs.notes)) fault ↔ ((fault.thing ≡ Thing.Pack) × IsFault (answers_in s) fault)
+    → Contains (told Thing.Pack rounds.packs.names (map fault_noted rounds.packs.notes)) fault ↔ ((fault.thing ≡ Thing.Pack) × IsFaultOf (answers_in s) fault)
 
 -- what is told of a tree that is reached is what is found of it
 abbrev pub TreesAreTold : Type 0
-TreesAreTold = (rounds : RoundsView) (walk : WalkView) (es : Trace) (s : IsSurveyed rounds walk es) (n : Name) (deepest : Bool) → IsReachedBlob (answers_in s) Tree n → (IsTrue deepest ↔ StandsIn walk.levels greatest_depth n)
+TreesAreTold = (rounds : RoundsView) (walk : WalkView) (es : Trace) (s : IsSurveyed rounds walk es) (n : Name) (deepest : Bool) → IsReachedBlob (answers_in s) Tree n → (IsTrue deepest ↔ IsInLevel walk.levels greatest_depth n)
     → BlobIs (answers_in s) Tree n (tree_fault (walk.known.faults n) (walk.known.links n) deepest)
 
 -- so is what is told of content
 abbrev pub ContentIsTold : Type 0
 ContentIsTold = (rounds : RoundsView) (walk : WalkView) (es : Trace) (s : IsSurveyed rounds walk es) (n : Name) (found : Option FaultKind) → ContentFault walk.known.facts n found → BlobIs (answers_in s) Content n found
+
+-- where a tree that a walk awaited was noted, this is that walk again, by its mark
+abbrev pub TakesTreeBack : SurveyMark → WalkView → WalkView → Type 0
+TakesTreeBack mark old new = (roots : List Name) (fact : Fact) (note : TreeNote) (walk : WalkView) → IsSurveyMark walk mark → Awaits roots walk fact
+    → TreeIsNoted walk fact.name note old → new ≡ walk
+
+-- where what was said to a request was taken, the survey is again where that request was pending
+abbrev pub SurveyTakesBack : SurveyMark → Ask → Survey → Survey → Type 0
+SurveyTakesBack mark ask old new = (rounds : RoundsView) (walk : WalkView) (es : Trace) → IsSurveyMark walk mark → HasTaken rounds walk ask (rounds_of old) (walk_of old.walk)
+    → Surveys rounds walk ask es → Surveys (rounds_of new) (walk_of new.walk) ask es
+
+-- where a page of a kind is pending, the rounds stay; where a tree is, the walk does
+abbrev pub StaysAtPage : Kind → Survey → Survey → Type 0
+StaysAtPage kind old new = (after : Option Name) (es : Trace) → SurveyKnows old (Ask.List kind after) es → rounds_of new ≡ rounds_of old
+
+abbrev pub StaysAtTree : Survey → Survey → Type 0
+StaysAtTree old new = (pack : Name) (offset len : ℕ) (es : Trace) → SurveyKnows old (Ask.Range pack offset len) es → walk_of new.walk ≡ walk_of old.walk

@@ -3,7 +3,7 @@ use Rattle.std.specs.Prelude.{◌≡◌, ◌<◌, ◌↔◌, ◌++◌, ◌∷◌
 use Rattle.std.specs.List.Sorted.{IsStrictlySortedBy}
 use Rattle.repo_name.specs.declared.kinds.Thing.{Thing}
 use Rattle.repo_name.specs.declared.names.Name.{Name}
-use Rattle.repo_store.specs.Pages.{Ascends}
+use Rattle.repo_store.specs.Pages.{NamesAscend}
 use Rattle.repo_session.specs.declared.outcomes.CheckFault.{CheckFault}
 use Rattle.repo_session.specs.declared.outcomes.FaultKind.{FaultKind}
 use Rattle.repo_check.specs.Checking.{rank, fault_cmp}
@@ -30,7 +30,7 @@ AreOfRank faults r = (fault : CheckFault) → Contains faults fault → rank fau
 
 -- told of names that ascend, and all of one rank, they are in order
 abbrev pub ToldAscend : Type 0
-ToldAscend = (thing : Thing) (names : List Name) (found : List (Option FaultKind)) (r : ℕ) → Ascends None names → AreOfRank (told thing names found) r → IsStrictlySortedBy fault_cmp (told thing names found)
+ToldAscend = (thing : Thing) (names : List Name) (found : List (Option FaultKind)) (r : ℕ) → NamesAscend None names → AreOfRank (told thing names found) r → IsStrictlySortedBy fault_cmp (told thing names found)
 
 -- faults in order, and behind them others in order whose ranks are above theirs, are in order
 abbrev pub RanksAscend : Type 0

@@ -6,14 +6,14 @@ use Rattle.repo_name.specs.declared.kinds.BlobKind.TheVariants.{Content}
 use Rattle.repo_name.specs.declared.kinds.Thing.{Thing}
 use Rattle.repo_name.specs.declared.names.Name.{Name}
 use Rattle.repo_index.specs.declared.facts.PackFacts.{PackFacts}
-use Rattle.repo_store.specs.Pages.{Ascends}
+use Rattle.repo_store.specs.Pages.{NamesAscend}
 use Rattle.repo_session.specs.Traces.{Trace}
 use Rattle.repo_session.specs.declared.outcomes.CheckFault.{CheckFault}
 use Rattle.repo_session.specs.declared.outcomes.FaultKind.{FaultKind}
 use Rattle.repo_session.specs.declared.outcomes.Outcome.{Outcome}
-use Rattle.repo_check.specs.Checking.{IsCount, IsFault}
+use Rattle.repo_check.specs.Checking.{IsCount, IsFaultOf}
 use Rattle.repo_check.specs.Fitting.{FactsOfPacks, Fits, Misfits, facts_by}
-use Rattle.repo_check.specs.Gathering.{AreOnce, HasNames, fault_noted}
+use Rattle.repo_check.specs.Gathering.{AreNamesOnce, HasNames, fault_noted}
 use Rattle.repo_check.specs.Levels.{AreLed}
 use Rattle.repo_check.specs.Rounds.{Match, RoundView}
 use Rattle.repo_check.specs.Surveys.{IsSurveyed, RoundsView, answers_in}
@@ -39,19 +39,19 @@ names_in levels = flat_map (λ (level : List Name). level) levels
 
 -- the trees of all levels, and the content to which those above the last level lead
 pub record AreReached (walk : WalkView) (reached : ReachedView) : Type 0 where
-  pub trees : AreOnce (names_in walk.levels) reached.trees
+  pub trees : AreNamesOnce (names_in walk.levels) reached.trees
   pub upper : List Name
-  pub upper_are : AreOnce (names_in (take (length walk.levels - 1) walk.levels)) upper
+  pub upper_are : AreNamesOnce (names_in (take (length walk.levels - 1) walk.levels)) upper
   pub content : AreLed Content walk.known.links upper reached.content
 
 -- ---- what is found
 
 -- what is found of an index by what is known of packs: that it reads and doesn't fit them, or nothing
-abbrev pub IsPlaced : FactsOfPacks → Note (List PackFacts) → Option FaultKind → Type 0
-IsPlaced packs (Note.Well text) None = Fits text packs
-IsPlaced packs (Note.Well text) (Some what) = (what ≡ FaultKind.Place) × Misfits text packs
-IsPlaced packs (Note.Fault fault) None = ⊤
-IsPlaced packs (Note.Fault fault) (Some what) = ⊥
+abbrev pub IsFoundOfIndex : FactsOfPacks → Note (List PackFacts) → Option FaultKind → Type 0
+IsFoundOfIndex packs (Note.Well text) None = Fits text packs
+IsFoundOfIndex packs (Note.Well text) (Some what) = (what ≡ FaultKind.Place) × Misfits text packs
+IsFoundOfIndex packs (Note.Fault fault) None = ⊤
+IsFoundOfIndex packs (Note.Fault fault) (Some what) = ⊥
 
 -- what is found of a tree, where a set has the deepest
 abbrev pub IsTreeFound : Knowledge → BTreeSet Name → Name → Option FaultKind → Type 0
@@ -66,7 +66,7 @@ told_of thing round = told thing round.names (map fault_noted round.notes)
 -- those of objects came behind others
 pub record AreObjectsTold (rounds : RoundsView) (old new : List CheckFault) : Type 0 where
   pub places : List (Option FaultKind)
-  pub placed : Ascends None rounds.packs.names → Match (IsPlaced (facts_by rounds.packs)) rounds.indexes.notes places
+  pub placed : NamesAscend None rounds.packs.names → Match (IsFoundOfIndex (facts_by rounds.packs)) rounds.indexes.notes places
   pub are : new ≡ (((old ++ told_of Thing.Snapshot rounds.snapshots) ++ told_of Thing.Index rounds.indexes) ++ told_of Thing.Pack rounds.packs) ++ told Thing.Index rounds.indexes.names places
 
 -- and those of blobs
@@ -94,10 +94,10 @@ Counts rounds reached outcome = (snapshots : ℕ) × (indexes : ℕ) × (packs :
 
 -- what is told of the indexes by themselves is what is at fault of them, but for those that don't fit the packs
 abbrev pub IndexesAreTold : Type 0
-IndexesAreTold = (rounds : RoundsView) (walk : WalkView) (es : Trace) (s : IsSurveyed rounds walk es) (places : List (Option FaultKind)) (fault : CheckFault) → Match (IsPlaced (facts_by rounds.packs)) rounds.indexes.notes places
-    → Contains (told_of Thing.Index rounds.indexes) fault ↔ ((fault.thing ≡ Thing.Index) × (fault.what ≢ FaultKind.Place) × IsFault (answers_in s) fault)
+IndexesAreTold = (rounds : RoundsView) (walk : WalkView) (es : Trace) (s : IsSurveyed rounds walk es) (places : List (Option FaultKind)) (fault : CheckFault) → Match (IsFoundOfIndex (facts_by rounds.packs)) rounds.indexes.notes places
+    → Contains (told_of Thing.Index rounds.indexes) fault ↔ ((fault.thing ≡ Thing.Index) × (fault.what ≢ FaultKind.Place) × IsFaultOf (answers_in s) fault)
 
 -- and what is told of them by the packs is that those don't
 abbrev pub PlacesAreTold : Type 0
-PlacesAreTold = (rounds : RoundsView) (walk : WalkView) (es : Trace) (s : IsSurveyed rounds walk es) (places : List (Option FaultKind)) (fault : CheckFault) → Match (IsPlaced (facts_by rounds.packs)) rounds.indexes.notes places
-    → Contains (told Thing.Index rounds.indexes.names places) fault ↔ ((fault.thing ≡ Thing.Index) × (fault.what ≡ FaultKind.Place) × IsFault (answers_in s) fault)
+PlacesAreTold = (rounds : RoundsView) (walk : WalkView) (es : Trace) (s : IsSurveyed rounds walk es) (places : List (Option FaultKind)) (fault : CheckFault) → Match (IsFoundOfIndex (facts_by rounds.packs)) rounds.indexes.notes places
+    → Contains (told Thing.Index rounds.indexes.names places) fault ↔ ((fault.thing ≡ Thing.Index) × (fault.what ≡ FaultKind.Place) × IsFaultOf (answers_in s) fault)

@@ -10,7 +10,7 @@ use Rattle.repo_index.specs.Lookups.{IsLeast}
 use Rattle.repo_index.specs.declared.facts.Fact.{Fact}
 use Rattle.repo_reach.specs.declared.links.Links.{Links}
 use Rattle.repo_session.specs.Blobs.{range_of}
-use Rattle.repo_session.specs.Catalogs.{IsNowhere}
+use Rattle.repo_session.specs.Catalogs.{IsBlobNowhere}
 use Rattle.repo_session.specs.Ends.{IsUnwelcome}
 use Rattle.repo_session.specs.Traces.{Trace}
 use Rattle.repo_session.specs.declared.outcomes.FaultKind.{FaultKind}
@@ -51,10 +51,10 @@ walk_of walk = record { known = known_of walk.known; levels = walk.levels.items;
 
 -- nothing is to be asked of a tree: it reads, or is at fault, or no fact gives it
 abbrev pub IsSettled : Knowledge → Name → Type 0
-IsSettled known n = ((links : Links) × (known.links n ≡ Some links)) ⊎ (((what : FaultKind) × (known.faults n ≡ Some what)) ⊎ IsNowhere known.facts Tree n)
+IsSettled known n = ((links : Links) × (known.links n ≡ Some links)) ⊎ (((what : FaultKind) × (known.faults n ≡ Some what)) ⊎ IsBlobNowhere known.facts Tree n)
 
 -- a tree is to be asked for by this fact, which gives its least place
-pub record IsDue (known : Knowledge) (n : Name) (fact : Fact) : Type 0 where
+pub record IsTreeDue (known : Knowledge) (n : Name) (fact : Fact) : Type 0 where
   pub is : fact ≡ fact_of Tree n fact.place
   pub least : IsLeast known.facts Tree n fact.place
   pub unread : known.links n ≡ None
@@ -69,15 +69,19 @@ abbrev pub IsFreshKnown : List Fact → Knowledge → Type 0
 IsFreshKnown facts known = (known.facts ≡ facts) × ((n : Name) → known.links n ≡ None) × ((n : Name) → known.faults n ≡ None)
 
 -- this stands under the name now, if it is something
-abbrev pub Adds : {X : Type 0} → (Name → Option X) → Name → Option X → (Name → Option X) → Type 0
-Adds old n (Some x) new = Inserted old n x new
-Adds old n None new = new ≡ old
+abbrev pub AddsUnder : {X : Type 0} → (Name → Option X) → Name → Option X → (Name → Option X) → Type 0
+AddsUnder old n (Some x) new = Inserted old n x new
+AddsUnder old n None new = new ≡ old
 
 -- what was noted of a tree is known now
 pub record AddsNote (old : Knowledge) (n : Name) (note : TreeNote) (new : Knowledge) : Type 0 where
   pub facts : new.facts ≡ old.facts
-  pub links : Adds old.links n note.links new.links
-  pub faults : Adds old.faults n note.fault new.faults
+  pub links : AddsUnder old.links n note.links new.links
+  pub faults : AddsUnder old.faults n note.fault new.faults
+
+-- where a note of a tree came to some knowledge that had none, this is that knowledge again
+abbrev pub TakesNoteBack : Name → Knowledge → Knowledge → Type 0
+TakesNoteBack n now new = (old : Knowledge) (note : TreeNote) → old.links n ≡ None → old.faults n ≡ None → AddsNote old n note now → new ≡ old
 
 -- what is told of the answer that came for a tree from its place
 abbrev pub IsTold : List Fact → Place → Answer → Option Links → Option FaultKind → Type 0
@@ -87,15 +91,15 @@ IsTold facts place a None (Some what) = IsFaultyTree place a what
 IsTold facts place a None None = ⊥
 
 -- what came for a tree, and what is told of it
-pub record IsSeen (known : Knowledge) (es : Trace) (a : Answer) : Type 0 where
+pub record IsKnownTree (known : Knowledge) (es : Trace) (a : Answer) : Type 0 where
   pub place : Place
   pub least : IsLeast known.facts Tree a.name place
   pub ranged : IsRanged es place a.bytes
   pub told : IsTold known.facts place a (known.links a.name) (known.faults a.name)
 
 -- these are the answers that came for trees, one of each tree, and nothing is known but by them
-pub record AreSeen (known : Knowledge) (answers : List Answer) (es : Trace) : Type 0 where
-  pub each : (a : Answer) → Contains answers a → IsSeen known es a
+pub record AreKnownTrees (known : Knowledge) (answers : List Answer) (es : Trace) : Type 0 where
+  pub each : (a : Answer) → Contains answers a → IsKnownTree known es a
   pub once : (a b : Answer) → Contains answers a → Contains answers b → a.name ≡ b.name → a ≡ b
   pub links : (n : Name) (links : Links) → known.links n ≡ Some links → (a : Answer) × Contains answers a × (a.name ≡ n)
   pub faults : (n : Name) (what : FaultKind) → known.faults n ≡ Some what → (a : Answer) × Contains answers a × (a.name ≡ n)
@@ -112,15 +116,15 @@ abbrev pub last_level : List (List Name) → Option (List Name)
 last_level levels = slice_get levels (length levels - 1)
 
 -- nothing is to be asked of the trees of a level, or of those before a place in the last one
-abbrev pub AreDone : Knowledge → List (List Name) → ℕ → Type 0
-AreDone known levels place = (d : ℕ) (level : List Name) → slice_get levels d ≡ Some level → (suc d < length levels → AreSettled known level 0 (length level)) × (suc d ≡ length levels → AreSettled known level 0 place)
+abbrev pub LevelsAreDone : Knowledge → List (List Name) → ℕ → Type 0
+LevelsAreDone known levels place = (d : ℕ) (level : List Name) → slice_get levels d ≡ Some level → (suc d < length levels → AreSettled known level 0 (length level)) × (suc d ≡ length levels → AreSettled known level 0 place)
 
 -- where a walk stands: there are levels, no more than paths may have, and nothing is to be asked before its place
 pub record Walks (roots : List Name) (walk : WalkView) : Type 0 where
   pub some : 1 ≤ length walk.levels
   pub few : length walk.levels ≤ 101
   pub levels : AreLevels (walk.known.links) roots walk.levels
-  pub done : AreDone walk.known walk.levels walk.place
+  pub done : LevelsAreDone walk.known walk.levels walk.place
 
 -- the tree of this fact, at its place, is to be asked for
 pub record Awaits (roots : List Name) (walk : WalkView) (fact : Fact) : Type 0 where
@@ -128,7 +132,7 @@ pub record Awaits (roots : List Name) (walk : WalkView) (fact : Fact) : Type 0 w
   pub level : List Name
   pub last : last_level walk.levels ≡ Some level
   pub here : slice_get level walk.place ≡ Some fact.name
-  pub due : IsDue walk.known fact.name fact
+  pub due : IsTreeDue walk.known fact.name fact
 
 -- nothing is to be asked of any level, down to that of the greatest depth
 pub record IsOver (roots : List Name) (walk : WalkView) : Type 0 where
@@ -149,7 +153,7 @@ pub record HasDescended (old new : WalkView) : Type 0 where
 
 -- the next tree of the level is this fact's; or nothing is to be asked of it, and the walk stands at its end
 abbrev pub AsksIn : WalkView → List Name → Option Fact → WalkView → Type 0
-AsksIn old level (Some fact) new = IsDue old.known fact.name fact × (slice_get level new.place ≡ Some fact.name) × AreSettled old.known level old.place new.place
+AsksIn old level (Some fact) new = IsTreeDue old.known fact.name fact × (slice_get level new.place ≡ Some fact.name) × AreSettled old.known level old.place new.place
 AsksIn old level None new = (new.place ≡ length level) × AreSettled old.known level old.place (length level)
 
 -- the level below came behind the others
@@ -163,7 +167,7 @@ pub record DescendsTo (old new : WalkView) : Type 0 where
 
 -- these are the answers that came for trees, and what is known of trees; each of them stands in a level
 pub record WalkReads (walk : WalkView) (answers : List Answer) (es : Trace) : Type 0 where
-  pub seen : AreSeen walk.known answers es
+  pub seen : AreKnownTrees walk.known answers es
   pub reached : (a : Answer) → Contains answers a → (d : ℕ) × (level : List Name) × (slice_get walk.levels d ≡ Some level) × Contains level a.name
 
 -- what is told of a reply to the request for the tree of a fact; or it tells nothing
@@ -176,7 +180,7 @@ abbrev pub IsSomething : TreeNote → Type 0
 IsSomething note = ((links : Links) × (note.links ≡ Some links)) ⊎ ((what : FaultKind) × (note.fault ≡ Some what))
 
 -- what was noted of a tree is known now, and levels came behind those that were there
-pub record HasNoted (old : WalkView) (n : Name) (note : TreeNote) (new : WalkView) : Type 0 where
+pub record TreeIsNoted (old : WalkView) (n : Name) (note : TreeNote) (new : WalkView) : Type 0 where
   pub adds : AddsNote old.known n note new.known
   pub more : List (List Name)
   pub levels : new.levels ≡ old.levels ++ more
@@ -187,7 +191,7 @@ IsWalkMark walk mark = (mark.levels ≡ length walk.levels) × (mark.place ≡ w
 
 -- and the walk went on from there
 pub record TakesNote (old : WalkView) (n : Name) (note : TreeNote) (next : Option Fact) (new : WalkView) : Type 0 where
-  pub noted : HasNoted old n note new
+  pub noted : TreeIsNoted old n note new
   pub goes : (roots : List Name) → Walks roots (record { known = new.known; levels = old.levels; place = old.place }) → WalksOn roots new next
 
 -- what is at fault of a tree that is reached, by what is known of it and whether it is one of the deepest: what it is by itself; that it has nodes where none
@@ -201,4 +205,8 @@ tree_fault None None deepest = Some FaultKind.Unindexed
 -- what is at fault of a content blob, by these facts: nothing, as one gives it; or that none does
 abbrev pub ContentFault : List Fact → Name → Option FaultKind → Type 0
 ContentFault facts n None = (place : Place) × IsLeast facts Content n place
-ContentFault facts n (Some what) = (what ≡ FaultKind.Unindexed) × IsNowhere facts Content n
+ContentFault facts n (Some what) = (what ≡ FaultKind.Unindexed) × IsBlobNowhere facts Content n
+
+-- where a tree was noted of which a walk knew nothing, this is that walk again, by its mark
+abbrev pub WalkTakesBack : WalkMark → Name → WalkView → WalkView → Type 0
+WalkTakesBack mark n now new = (old : WalkView) (note : TreeNote) → IsWalkMark old mark → old.known.links n ≡ None → old.known.faults n ≡ None → TreeIsNoted old n note now → new ≡ old

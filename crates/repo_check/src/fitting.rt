@@ -1,9 +1,9 @@
 //! Whether an index fits the packs that it names.
 
-ghost use Rattle.std.specs.Prelude.{◌≡◌, ◌↔◌, None, option_map, IfOk, IsTrue, IsFalse, Contains};
+ghost use Rattle.std.specs.Prelude.{◌≡◌, ◌↔◌, None, option_map, IfOk, IsTrue, IsFalse};
 ghost use Rattle.repo_name.specs.declared.names.Name.{Name};
-ghost use Rattle.repo_store.specs.Pages.{Ascends};
-ghost use Rattle.repo_check.specs.Fitting.{ListsAsKnown, ListsOtherwise, Fits, Misfits, facts_by};
+ghost use Rattle.repo_store.specs.Pages.{NamesAscend};
+ghost use Rattle.repo_check.specs.Fitting.{ListsAsKnown, ListsOtherwise, Fits, Misfits, facts_by, AllListedAsKnown, OneIsListedOtherwise};
 ghost use Rattle.repo_check.specs.Gathering.{well_noted};
 ghost use Rattle.repo_check.specs.Rounds.{round_of};
 
@@ -47,7 +47,7 @@ fn well_of(note: &Note<Facts>) -> Option<&Facts>
 /// The facts of a pack, if it was noted and reads. The names that were listed ascend, so they are searched by halves. It
 /// takes no memory.
 fn facts_of<'a>(packs: &'a Round<Facts>, pack: &Name) -> Option<&'a Facts>
-    ensures { Ascends None packs.now.roll.names.items → option_map (λ facts. facts.now) result ≡ facts_by (round_of packs.now) pack.now }
+    ensures { NamesAscend None packs.now.roll.names.items → option_map (λ facts. facts.now) result ≡ facts_by (round_of packs.now) pack.now }
 {
     let Ok(place) = packs.roll.names.as_slice().binary_search(pack) else {
         return None;
@@ -58,8 +58,8 @@ fn facts_of<'a>(packs: &'a Round<Facts>, pack: &Name) -> Option<&'a Facts>
 
 /// Whether an index lists a pack just as it is known. It fails for memory alone.
 fn lists_as_known(own: &Lookup, packs: &Round<Facts>, pack: &Name) -> Result<bool, AllocError>
-    ensures yes { Ascends None packs.now.roll.names.items → IfOk result (λ is. IsTrue is → ListsAsKnown own.now (facts_by (round_of packs.now)) pack.now) }
-    ensures no { Ascends None packs.now.roll.names.items → IfOk result (λ is. IsFalse is → ListsOtherwise own.now (facts_by (round_of packs.now)) pack.now) }
+    ensures yes { NamesAscend None packs.now.roll.names.items → IfOk result (λ is. IsTrue is → ListsAsKnown own.now (facts_by (round_of packs.now)) pack.now) }
+    ensures no { NamesAscend None packs.now.roll.names.items → IfOk result (λ is. IsFalse is → ListsOtherwise own.now (facts_by (round_of packs.now)) pack.now) }
 {
     let Some(known) = facts_of(packs, pack) else {
         return Ok(false);
@@ -70,8 +70,10 @@ fn lists_as_known(own: &Lookup, packs: &Round<Facts>, pack: &Name) -> Result<boo
 
 /// Whether it lists all of these packs so. It fails for memory alone.
 fn all_as_known(own: &Lookup, packs: &Round<Facts>, names: &[Name]) -> Result<bool, AllocError>
-    ensures yes { Ascends None packs.now.roll.names.items → IfOk result (λ are. IsTrue are → (pack : Name) → Contains names.now pack → ListsAsKnown own.now (facts_by (round_of packs.now)) pack) }
-    ensures no { Ascends None packs.now.roll.names.items → IfOk result (λ are. IsFalse are → (pack : Name) × Contains names.now pack × ListsOtherwise own.now (facts_by (round_of packs.now)) pack) }
+    ensures yes { NamesAscend None packs.now.roll.names.items → IfOk result (λ are. IsTrue are
+        → AllListedAsKnown own.now (facts_by (round_of packs.now)) names.now) }
+    ensures no { NamesAscend None packs.now.roll.names.items → IfOk result (λ are. IsFalse are
+        → OneIsListedOtherwise own.now (facts_by (round_of packs.now)) names.now) }
 {
     for pack in names {
         if !lists_as_known(own, packs, pack)? {
@@ -84,8 +86,8 @@ fn all_as_known(own: &Lookup, packs: &Round<Facts>, names: &[Name]) -> Result<bo
 /// Whether an index lists each pack that it names just as it is known, by what was noted of the packs, whose names
 /// ascend. No walk over a pack's blobs is made for each fact: both lists are in one order. It fails for memory alone.
 pub fn fits(alloc: Global, text: &IndexText, packs: &Round<Facts>) -> Result<bool, AllocError>
-    ensures yes { Ascends None packs.now.roll.names.items → IfOk result (λ is. IsTrue is → Fits text.now (facts_by (round_of packs.now))) }
-    ensures no { Ascends None packs.now.roll.names.items → IfOk result (λ is. IsFalse is → Misfits text.now (facts_by (round_of packs.now))) }
+    ensures yes { NamesAscend None packs.now.roll.names.items → IfOk result (λ is. IsTrue is → Fits text.now (facts_by (round_of packs.now))) }
+    ensures no { NamesAscend None packs.now.roll.names.items → IfOk result (λ is. IsFalse is → Misfits text.now (facts_by (round_of packs.now))) }
 {
     let mut own = Lookup::new(alloc);
     own.add(text)?;

@@ -2,7 +2,7 @@
 
 ghost use Rattle.std.specs.Prelude.{◌≡◌, map, IfOk, OnOk, [], flat_map};
 ghost use Rattle.repo_index.specs.Lookups.{Joins};
-ghost use Rattle.repo_check.specs.Gathering.{facts_noted, fault_noted, root_noted, AreOnce, HasNames};
+ghost use Rattle.repo_check.specs.Gathering.{facts_noted, fault_noted, root_noted, AreNamesOnce, HasNames};
 ghost use Rattle.repo_check.specs.Levels.{AddsNames};
 
 use crate::levels::{add_names, names_of};
@@ -57,7 +57,7 @@ fn set_of_roots(alloc: Global, notes: &[Note<Name>]) -> Result<BTreeSet<Name>, A
 
 /// The trees of all snapshots that read, each once and ascending. It fails for memory alone.
 pub fn roots_of(alloc: Global, notes: &[Note<Name>]) -> Result<Vec<Name>, AllocError>
-    ensures { IfOk result (λ roots. AreOnce (flat_map root_noted notes.now) roots.items) }
+    ensures { IfOk result (λ roots. AreNamesOnce (flat_map root_noted notes.now) roots.items) }
 {
     let set = set_of_roots(alloc, notes)?;
     names_of(alloc, &set)

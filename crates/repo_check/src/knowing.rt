@@ -6,7 +6,7 @@ ghost use Rattle.repo_reach.specs.declared.links.Links.{Links};
 ghost use Rattle.repo_session.specs.declared.outcomes.FaultKind.{FaultKind};
 ghost use Rattle.repo_check.specs.declared.knowing.TreeNote.{TreeNote};
 ghost use Rattle.repo_name.specs.declared.names.Name.{Name};
-ghost use Rattle.repo_check.specs.Walks.{Knowledge, IsDue, IsSettled, AreSettled, AddsNote, IsFreshKnown, NotesTree, IsSomething, ContentFault, known_of, tree_fault};
+ghost use Rattle.repo_check.specs.Walks.{IsTreeDue, IsSettled, AreSettled, AddsNote, IsFreshKnown, NotesTree, IsSomething, ContentFault, known_of, tree_fault, TakesNoteBack};
 
 use crate::trees::{TreeLook, look_at_tree};
 use repo_index::{Fact, Lookup};
@@ -78,7 +78,7 @@ impl Known {
 
     /// The fact by which a tree is to be asked for: `None` where it was, or no index gives it. It takes no memory.
     pub fn due(&self, tree: &Name) -> Option<Fact>
-        ensures due { IfSome result (IsDue (known_of self.now) tree.now) }
+        ensures due { IfSome result (IsTreeDue (known_of self.now) tree.now) }
         ensures settled { result ≡ None → IsSettled (known_of self.now) tree.now }
     {
         if self.is_read(tree) || self.is_faulty(tree) {
@@ -94,7 +94,7 @@ impl Known {
 
     /// The first tree of a level, from a place on, that is to be asked for. It takes no memory.
     pub fn first_due(&self, level: &[Name], from: usize) -> Option<Due>
-        ensures due { IfSome result (λ due. IsDue (known_of self.now) due.fact.name due.fact) }
+        ensures due { IfSome result (λ due. IsTreeDue (known_of self.now) due.fact.name due.fact) }
         ensures there { IfSome result (λ due. slice_get level.now due.place ≡ Some due.fact.name) }
         ensures before { IfSome result (λ due. AreSettled (known_of self.now) level.now from due.place) }
         ensures none { result ≡ None → AreSettled (known_of self.now) level.now from (length level.now) }
@@ -150,7 +150,7 @@ impl Known {
 
     /// What was noted of a tree goes. It takes no memory.
     pub fn take_back(&mut self, tree: &Name)
-        ensures back { (old : Knowledge) (note : TreeNote) → old.links tree.now ≡ None → old.faults tree.now ≡ None → AddsNote old tree.now note (known_of self.old) → known_of self.new ≡ old }
+        ensures back { TakesNoteBack tree.now (known_of self.old) (known_of self.new) }
     {
         remove_named(&mut self.links, tree);
         remove_named(&mut self.faults, tree);

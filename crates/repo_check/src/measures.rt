@@ -2,7 +2,7 @@
 
 ghost use Rattle.std.specs.Prelude.{◌≡◌, ◌↔◌, IsTrue, IsFalse, Contains, ℕ};
 ghost use Rattle.repo_tree.specs.declared.nodes.Node.{Node};
-ghost use Rattle.repo_check.specs.Measures.{Measures, HasLost, Suits, IsUnsuited};
+ghost use Rattle.repo_check.specs.Measures.{Measures, HasLost, SuitsSize, IsUnsuited};
 
 use repo_index::Lookup;
 use repo_name::{BlobKind, Name};
@@ -40,7 +40,7 @@ fn has_lost(lookup: &Lookup, content: &[Name]) -> bool
 
 /// Whether a node is no file, or one whose size is right, or one of whose blobs lies nowhere. It takes no memory.
 fn suits(lookup: &Lookup, node: &Node) -> bool
-    ensures yes { IsTrue result → Suits lookup.now node.now.what }
+    ensures yes { IsTrue result → SuitsSize lookup.now node.now.what }
     ensures no { IsFalse result → IsUnsuited lookup.now node.now.what }
 {
     match &node.what {
@@ -54,7 +54,7 @@ fn suits(lookup: &Lookup, node: &Node) -> bool
 
 /// Whether all nodes are so. It takes no memory.
 pub fn all_suit(lookup: &Lookup, nodes: &[Node]) -> bool
-    ensures all { IsTrue result → (node : Node) → Contains nodes.now node → Suits lookup.now node.what }
+    ensures all { IsTrue result → (node : Node) → Contains nodes.now node → SuitsSize lookup.now node.what }
     ensures some { IsFalse result → (node : Node) × Contains nodes.now node × IsUnsuited lookup.now node.what }
 {
     for node in nodes {

@@ -3,7 +3,7 @@
 ghost use Rattle.std.specs.Prelude.{◌≡◌, IfOk, IfSome, None};
 ghost use Rattle.repo_pack.specs.PackLayout.{IsPack, IsTruePack};
 ghost use Rattle.repo_name.specs.declared.kinds.Kind.{Kind};
-ghost use Rattle.repo_check.specs.Findings.{Reads};
+ghost use Rattle.repo_check.specs.Findings.{ReadsAs};
 ghost use Rattle.repo_check.specs.Arrivals.{LooksAtSnapshot, LooksAtIndex, LooksAtPack, AreToldOf, MisreadAs};
 
 use crate::arrivals::{Arrival, arrival_of};
@@ -113,7 +113,7 @@ fn facts_of(alloc: Global, name: Name, bytes: &[u8], view: &PackView) -> Result<
 /// The pack in these bytes, if they are one, and each blob has its name. It fails for memory alone.
 fn true_pack<'a>(alloc: Global, bytes: &'a [u8]) -> Result<Option<PackView<'a>>, AllocError>
     ensures some { IfOk result (λ found. IfSome found (IsTruePack bytes.now)) }
-    ensures none { IfOk result (λ found. found ≡ None → ¬ Reads Kind.Pack bytes.now) }
+    ensures none { IfOk result (λ found. found ≡ None → ¬ ReadsAs Kind.Pack bytes.now) }
 {
     let Ok(view) = PackView::read(bytes) else {
         return Ok(None);

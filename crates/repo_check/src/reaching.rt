@@ -1,7 +1,7 @@
 //! The blobs that snapshots reach, by the levels of a walk that is over.
 
 ghost use Rattle.std.specs.Prelude.{IfOk, OnOk};
-ghost use Rattle.repo_check.specs.Gathering.{AreOnce, HasNames};
+ghost use Rattle.repo_check.specs.Gathering.{AreNamesOnce, HasNames};
 ghost use Rattle.repo_check.specs.Levels.{AddsNames};
 ghost use Rattle.repo_check.specs.Verdicts.{AreReached, names_in, reached_of};
 ghost use Rattle.repo_check.specs.Walks.{walk_of};
@@ -39,7 +39,7 @@ fn set_in(alloc: Global, levels: &[Names]) -> Result<BTreeSet<Name>, AllocError>
 
 /// The names in some levels, each once and ascending. It fails for memory alone.
 fn names_in(alloc: Global, levels: &[Names]) -> Result<Vec<Name>, AllocError>
-    ensures { IfOk result (λ names. AreOnce (names_in levels.now) names.items) }
+    ensures { IfOk result (λ names. AreNamesOnce (names_in levels.now) names.items) }
 {
     let set = set_in(alloc, levels)?;
     names_of(alloc, &set)

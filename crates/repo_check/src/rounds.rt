@@ -4,7 +4,7 @@ ghost use Rattle.std.specs.Prelude.{◌≡◌, ◌≤◌, ◌++◌, ◌∷◌, [
 ghost use Rattle.repo_name.specs.declared.names.Name.{Name};
 ghost use Rattle.repo_wire.specs.declared.messages.Ask.{Ask};
 ghost use Rattle.repo_session.specs.Jobs.{IsShort};
-ghost use Rattle.repo_check.specs.Rounds.{IsFreshRound, Pages, IsShortTurn, AsksNext, round_of};
+ghost use Rattle.repo_check.specs.Rounds.{IsFreshRound, PagesRound, IsShortTurn, AsksNext, round_of};
 ghost use Rattle.repo_check.specs.declared.rounds.Note.{Note};
 ghost use Rattle.repo_check.specs.declared.rounds.Turn.{Turn};
 
@@ -105,7 +105,7 @@ impl<T: Drop> Round<T> {
 
     /// Takes the reply to the request for a page. It fails for memory alone, and then nothing changed.
     pub fn take_page(&mut self, say: &Say) -> Result<Turn, AllocError>
-        ensures pages { IfOk result (λ turn. Pages (round_of self.old) say.now turn (round_of self.new)) }
+        ensures pages { IfOk result (λ turn. PagesRound (round_of self.old) say.now turn (round_of self.new)) }
         ensures short { IfOk result IsShortTurn }
         ensures same { OnErr result (round_of self.new ≡ round_of self.old) }
         ensures notes { self.new.notes ≡ self.old.notes }

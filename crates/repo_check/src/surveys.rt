@@ -1,20 +1,13 @@
 //! The survey of a store: its objects kind by kind, and then the trees that its snapshots reach.
 
-ghost use Rattle.std.specs.Prelude.{◌≡◌, ℕ, List, Option};
+ghost use Rattle.std.specs.Prelude.{◌≡◌, Option};
 ghost use Rattle.repo_name.specs.declared.kinds.Kind.{Kind};
 ghost use Rattle.repo_name.specs.declared.names.Name.{Name};
-ghost use Rattle.repo_name.specs.declared.tokens.Token.{Token};
 ghost use Rattle.repo_wire.specs.declared.messages.Ask.{Ask};
-ghost use Rattle.repo_session.specs.Order.{Task, opened};
 ghost use Rattle.repo_session.specs.Jobs.{IsShort};
-ghost use Rattle.repo_tree.specs.ConfigText.{IsConfigText};
-ghost use Rattle.repo_tree.specs.declared.configs.Config.{Config};
-ghost use Rattle.repo_session.specs.Traces.{Trace};
-ghost use Rattle.repo_index.specs.declared.facts.Fact.{Fact};
-ghost use Rattle.repo_check.specs.Walks.{Awaits, HasNoted, WalkView, walk_of};
-ghost use Rattle.repo_check.specs.declared.knowing.TreeNote.{TreeNote};
+ghost use Rattle.repo_check.specs.Walks.{walk_of};
 ghost use Rattle.repo_check.specs.declared.surveys.Next.{Next};
-ghost use Rattle.repo_check.specs.Surveys.{HasTaken, IsSurveyMark, RoundsView, Surveys, IsFirst, IsFreshSurvey, rounds_of};
+ghost use Rattle.repo_check.specs.Surveys.{IsSurveyMark, IsFreshSurvey, rounds_of, OpensWith, TakesTreeBack, SurveyTakesBack};
 
 use crate::rounds::Round;
 use crate::walks::{Walk, WalkMark};
@@ -71,7 +64,7 @@ impl Survey {
 
     /// The first request: that for the first page of snapshots. It takes no memory.
     pub fn first(&self) -> Ask
-        ensures first { IsFreshSurvey (rounds_of self.now) → (task : Task) (token : Token) (text : List ℕ) (config : Config) → IsConfigText text config → IsFirst task (rounds_of self.now) (walk_of self.now.walk) (opened task token text) result }
+        ensures first { IsFreshSurvey (rounds_of self.now) → OpensWith (rounds_of self.now) (walk_of self.now.walk) result }
         ensures short { IsShort result }
     {
         self.snapshots.roll.page_ask()
@@ -89,7 +82,7 @@ impl Survey {
 
     /// Undoes the noting of a tree. It takes no memory.
     fn take_back_tree(&mut self, mark: SurveyMark)
-        ensures back { (roots : List Name) (fact : Fact) (note : TreeNote) (walk : WalkView) → IsSurveyMark walk mark → Awaits roots walk fact → HasNoted walk fact.name note (walk_of self.old.walk) → walk_of self.new.walk ≡ walk }
+        ensures back { TakesTreeBack mark (walk_of self.old.walk) (walk_of self.new.walk) }
         ensures rounds { rounds_of self.new ≡ rounds_of self.old }
     {
         if let Some(tree) = mark.tree {
@@ -100,8 +93,7 @@ impl Survey {
     /// Undoes the taking of the reply to this request, after which all had come, and before which this was marked: what was
     /// known then is known. It takes no memory.
     pub fn take_back(&mut self, ask: &Ask, mark: SurveyMark)
-        ensures { (rounds : RoundsView) (walk : WalkView) (es : Trace) → IsSurveyMark walk mark → HasTaken rounds walk ask.now (rounds_of self.old) (walk_of self.old.walk) → Surveys rounds walk ask.now es
-            → Surveys (rounds_of self.new) (walk_of self.new.walk) ask.now es }
+        ensures { SurveyTakesBack mark ask.now self.old self.new }
     {
         match ask {
             Ask::Get { .. } => self.packs.unnote(),

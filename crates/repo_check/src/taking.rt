@@ -11,7 +11,7 @@ ghost use Rattle.repo_index.specs.declared.facts.Fact.{Fact};
 ghost use Rattle.repo_check.specs.Walks.{walk_of};
 ghost use Rattle.repo_check.specs.declared.rounds.Turn.{Turn};
 ghost use Rattle.repo_check.specs.declared.surveys.Next.{Next};
-ghost use Rattle.repo_check.specs.Surveys.{WalkBegins, GoesAfter, GoesToTrees, HasBegun, IsShortNext, SurveyHasTaken, SurveyKnows, SurveyTakes, first_page, next_of, rounds_of};
+ghost use Rattle.repo_check.specs.Surveys.{WalkBegins, GoesAfter, GoesToTrees, WalkHasBegun, IsShortNext, SurveyHasTaken, SurveyKnows, SurveyTakes, first_page, next_of, rounds_of, StaysAtPage, StaysAtTree};
 
 use crate::gathering::{lookup_of, roots_of};
 use crate::knowing::note_of;
@@ -119,7 +119,7 @@ impl Survey {
 
     /// A walk over the trees that hasn't gone on. It fails for memory alone.
     fn begun(&self) -> Result<Walk, AllocError>
-        ensures { IfOk result (λ walk. HasBegun (rounds_of self.now) (walk_of walk)) }
+        ensures { IfOk result (λ walk. WalkHasBegun (rounds_of self.now) (walk_of walk)) }
     {
         let lookup = lookup_of(self.alloc, self.indexes.notes.as_slice())?;
         let roots = roots_of(self.alloc, self.snapshots.notes.as_slice())?;
@@ -161,7 +161,7 @@ impl Survey {
         ensures takes { IfOk result (λ next. (after : Option Name) → SurveyTakes self.old (Ask.List Kind.Pack after) say.now next self.new) }
         ensures over { IfOk result (λ next. next ≡ Next.Over → (after : Option Name) → SurveyHasTaken self.old (Ask.List Kind.Pack after) self.new) }
         ensures short { IfOk result IsShortNext }
-        ensures same { OnErr result ((after : Option Name) (es : Trace) → SurveyKnows self.old (Ask.List Kind.Pack after) es → rounds_of self.new ≡ rounds_of self.old) }
+        ensures same { OnErr result (StaysAtPage Kind.Pack self.old self.new) }
     {
         let turn = self.packs.take_page(say)?;
         self.after_packs(turn)
@@ -189,7 +189,7 @@ impl Survey {
         ensures takes { IfOk result (λ next. (pack : Name) (offset len : ℕ) → SurveyTakes self.old (Ask.Range pack offset len) say.now next self.new) }
         ensures over { IfOk result (λ next. next ≡ Next.Over → (pack : Name) (offset len : ℕ) → SurveyHasTaken self.old (Ask.Range pack offset len) self.new) }
         ensures short { IfOk result IsShortNext }
-        ensures same { OnErr result ((pack : Name) (offset len : ℕ) (es : Trace) → SurveyKnows self.old (Ask.Range pack offset len) es → walk_of self.new.walk ≡ walk_of self.old.walk) }
+        ensures same { OnErr result (StaysAtTree self.old self.new) }
         ensures rounds { rounds_of self.new ≡ rounds_of self.old }
     {
         let Some(fact) = self.walk.asked() else {
@@ -207,7 +207,7 @@ impl Survey {
         ensures takes { IfOk result (λ next. (after : Option Name) → SurveyTakes self.old (Ask.List kind after) say.now next self.new) }
         ensures over { IfOk result (λ next. next ≡ Next.Over → (after : Option Name) → SurveyHasTaken self.old (Ask.List kind after) self.new) }
         ensures short { IfOk result IsShortNext }
-        ensures same { OnErr result ((after : Option Name) (es : Trace) → SurveyKnows self.old (Ask.List kind after) es → rounds_of self.new ≡ rounds_of self.old) }
+        ensures same { OnErr result (StaysAtPage kind self.old self.new) }
     {
         match kind {
             Kind::Pack => self.take_pack_page(say),

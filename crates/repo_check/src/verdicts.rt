@@ -1,13 +1,13 @@
 //! What is found of each thing, and the outcome of a check.
 
 ghost use Rattle.std.specs.Prelude.{◌≡◌, List, Some, None, IfOk, OnOk};
-ghost use Rattle.repo_store.specs.Pages.{Ascends};
+ghost use Rattle.repo_store.specs.Pages.{NamesAscend};
 ghost use Rattle.repo_session.specs.Traces.{Trace};
 ghost use Rattle.repo_check.specs.Checking.{CheckConcludes};
 ghost use Rattle.repo_check.specs.Fitting.{facts_by};
 ghost use Rattle.repo_check.specs.Rounds.{Match, round_of};
 ghost use Rattle.repo_check.specs.Surveys.{IsSurveyed, rounds_of};
-ghost use Rattle.repo_check.specs.Verdicts.{AreBlobsTold, AreObjectsTold, AreTold, Counts, IsPlaced, IsTreeFound, reached_of};
+ghost use Rattle.repo_check.specs.Verdicts.{AreBlobsTold, AreObjectsTold, AreTold, Counts, IsFoundOfIndex, IsTreeFound, reached_of};
 ghost use Rattle.repo_check.specs.Gathering.{HasNames};
 ghost use Rattle.repo_check.specs.Walks.{ContentFault, known_of, last_level, walk_of};
 ghost use Rattle.repo_name.specs.declared.names.Name.{Name};
@@ -33,7 +33,7 @@ fn place_of(
     note: &Note<IndexText>,
     packs: &Round<Facts>,
 ) -> Result<Option<FaultKind>, AllocError>
-    ensures { Ascends None packs.now.roll.names.items → IfOk result (IsPlaced (facts_by (round_of packs.now)) note.now) }
+    ensures { NamesAscend None packs.now.roll.names.items → IfOk result (IsFoundOfIndex (facts_by (round_of packs.now)) note.now) }
 {
     match note {
         Note::Well(text) if !fits(alloc, text, packs)? => Ok(Some(FaultKind::Place)),
@@ -47,7 +47,7 @@ fn places_of(
     notes: &[Note<IndexText>],
     packs: &Round<Facts>,
 ) -> Result<Vec<Option<FaultKind>>, AllocError>
-    ensures { Ascends None packs.now.roll.names.items → IfOk result (λ found. Match (IsPlaced (facts_by (round_of packs.now))) notes.now found.items) }
+    ensures { NamesAscend None packs.now.roll.names.items → IfOk result (λ found. Match (IsFoundOfIndex (facts_by (round_of packs.now))) notes.now found.items) }
 {
     let mut found = Vec::new(alloc);
     for note in notes {

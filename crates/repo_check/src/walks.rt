@@ -4,7 +4,7 @@ ghost use Rattle.std.specs.Prelude.{◌≡◌, List, slice_get, Option, Some, No
 ghost use Rattle.repo_name.specs.NameMaps.{found};
 ghost use Rattle.repo_name.specs.declared.names.Name.{Name};
 ghost use Rattle.repo_index.specs.declared.facts.Fact.{Fact};
-ghost use Rattle.repo_check.specs.Walks.{IsFreshKnown, Walks, Awaits, WalksOn, HasDescended, DescendsTo, AsksIn, WalkView, IsWalkMark, HasNoted, TakesNote, last_level, walk_of};
+ghost use Rattle.repo_check.specs.Walks.{IsFreshKnown, Walks, Awaits, WalksOn, HasDescended, DescendsTo, AsksIn, IsWalkMark, TakesNote, last_level, walk_of, WalkTakesBack};
 ghost use Rattle.repo_check.specs.declared.knowing.TreeNote.{TreeNote};
 
 use crate::knowing::{Known, TreeNote};
@@ -144,7 +144,7 @@ impl Walk {
 
     /// Undoes the taking of a note of this tree, before which this was marked. It takes no memory.
     pub fn take_back(&mut self, mark: WalkMark, tree: Name)
-        ensures { (old : WalkView) (note : TreeNote) → IsWalkMark old mark → old.known.links tree ≡ None → old.known.faults tree ≡ None → HasNoted old tree note (walk_of self.old) → walk_of self.new ≡ old }
+        ensures { WalkTakesBack mark tree (walk_of self.old) (walk_of self.new) }
     {
         self.known.take_back(&tree);
         self.levels.truncate(mark.levels);

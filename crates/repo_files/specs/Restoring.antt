@@ -6,7 +6,7 @@ use Rattle.repo_files.specs.declared.phases.Phase.{Phase}
 use Rattle.repo_files.specs.declared.phases.Phase.TheVariants as phase
 use Rattle.repo_session.specs.declared.emissions.Emission.{Emission}
 use Rattle.repo_session.specs.declared.emissions.Emission.TheVariants as emission
-use Rattle.repo_session.specs.Rebuilding.{MayFollow}
+use Rattle.repo_session.specs.Rebuilding.{MayBeGivenOut}
 
 -- where a restorer stands
 abbrev pub standing_of : {F : Type 0} → Phase F → Standing
@@ -28,4 +28,4 @@ IsPlaced emission.Close = ⊤
 
 -- what is taken follows in order, as what a restore gives out does, and is at a path
 abbrev pub TakesEmission : Standing → Emission → Standing → Type 0
-TakesEmission old emission new = (before : Bool) × (after : Bool) × (old ≡ standing before) × MayFollow before emission after × (new ≡ standing after) × IsPlaced emission
+TakesEmission old emission new = (before : Bool) × (after : Bool) × (old ≡ standing before) × MayBeGivenOut before emission after × (new ≡ standing after) × IsPlaced emission

@@ -1,7 +1,7 @@
 //! Names of files that are being written.
 
 ghost use Rattle.std.specs.Prelude.{◌≡◌, ◌↔◌, IfOk, IsTrue, string_bytes};
-ghost use Rattle.repo_files.specs.inner.Parts.{IsPart, part_of};
+ghost use Rattle.repo_files.specs.inner.Parts.{IsPartFile, part_of};
 
 use std::alloc::{AllocError, Global};
 
@@ -19,7 +19,7 @@ pub fn part_of(alloc: Global, name: &str) -> Result<String, AllocError>
 
 /// Whether a file of this name was being written.
 pub fn is_part(name: &str) -> bool
-    ensures { IsTrue result ↔ IsPart name.now }
+    ensures { IsTrue result ↔ IsPartFile name.now }
 {
     name.as_bytes().ends_with(ENDING.as_bytes())
 }

@@ -1,5 +1,5 @@
 -- What a job comes to that is alone with its store, from its beginning to its end.
-use Rattle.std.specs.Prelude.{◌≡◌, ◌≢◌, ◌⊎◌, ◌<◌, [], ⊤, ℕ, List, Option, Some, None}
+use Rattle.std.specs.Prelude.{◌≡◌, ◌≢◌, ◌⊎◌, ◌<◌, [], ⊤, ℕ, List, Option, Some, None, ◌++◌, length}
 use Rattle.repo_name.specs.declared.names.Name.{Name}
 use Rattle.repo_wire.specs.declared.messages.Code.{Code}
 use Rattle.repo_tree.specs.declared.entries.Entry.{Entry}
@@ -12,9 +12,10 @@ use Rattle.repo_session.specs.Alone.{IsSpoken, IsSent, NoClash}
 use Rattle.repo_session.specs.Rebuilding.{rebuilt}
 use Rattle.repo_session.specs.Soundness.{IsSound}
 use Rattle.repo_session.specs.Askers.{Asker}
-use Rattle.repo_session.specs.Talks.{Talk, trace_of, TalkRan}
+use Rattle.repo_session.specs.Talks.{Talk, trace_of, TalkRan, given_in, Went}
 use Rattle.repo_backup.specs.Laws.{AreApart}
 use Rattle.repo_restore.specs.Laws.{IsRestore, IsListedOrMemory, IsCompleteOrMemory}
+use Rattle.repo_session.specs.Traces.{Trace}
 
 -- the shelf's device failed in no call: its count of failures is what it was, and isn't at its end
 pub record NeverFailed (failed failing : ℕ) : Type 0 where
@@ -64,3 +65,7 @@ pub record IsNotRestored (who : Asker) (name : Name) (to : Store) : Type 0 where
 abbrev pub GivesNothing : Asker → Option Outcome → Store → Type 0
 GivesNothing who outcome to = ((name : Name) (blobs bytes : ℕ) → outcome ≢ Some (Outcome.Stored name blobs bytes))
     ⊎ ((name : Name) × (blobs : ℕ) × (bytes : ℕ) × (outcome ≡ Some (Outcome.Stored name blobs bytes)) × IsNotRestored who name to)
+
+-- a job went so many requests far, and what it gave out was appended
+abbrev pub WentGiving : {C : Type 0} → (C → Trace → Type 0) → C → ℕ → C → List Emission → List Emission → Type 0
+WentGiving Fits old n new out more = (talk : Talk) × Went Fits old talk new × (n ≡ length talk) × (more ≡ out ++ given_in talk)

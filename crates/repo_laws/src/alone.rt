@@ -1,17 +1,17 @@
 //! Jobs that are alone with a shelf, from their beginning to their end.
 
-ghost use Rattle.std.specs.Prelude.{◌≡◌, ◌≢◌, ◌++◌, [], ℕ, List, Some, None, IfOk, IsTrue, IsFalse, length, option_map};
+ghost use Rattle.std.specs.Prelude.{◌≡◌, ◌≢◌, [], ℕ, List, Some, None, IfOk, IsTrue, IsFalse, length, option_map};
 ghost use Rattle.repo_session.specs.Alone.{IsFit, HasAsked};
 ghost use Rattle.repo_session.specs.Sessions.{ended_in};
 ghost use Rattle.repo_session.specs.Soundness.{IsSound};
-ghost use Rattle.repo_session.specs.Talks.{Talk, Went, given_in};
+ghost use Rattle.repo_session.specs.Talks.{Talk, Went};
 ghost use Rattle.repo_session.specs.declared.emissions.Emission.{Emission};
 ghost use Rattle.repo_session.specs.declared.outcomes.Outcome.{Outcome};
 ghost use Rattle.repo_backup.specs.Backups.{FitsBackup, handed_to};
 ghost use Rattle.repo_restore.specs.ListStates.{FitsList};
 ghost use Rattle.repo_restore.specs.RestoreObedience.{wish_of};
 ghost use Rattle.repo_restore.specs.RestoreStates.{FitsRestore};
-ghost use Rattle.repo_laws.specs.Alone.{NeverFailed, BacksUp, RestoresAlone, ListsAlone, GivesBack, GivesNothing};
+ghost use Rattle.repo_laws.specs.Alone.{NeverFailed, BacksUp, RestoresAlone, ListsAlone, GivesBack, GivesNothing, WentGiving};
 
 use repo_backup::Backup;
 use repo_restore::{Restore, SnapshotList};
@@ -32,7 +32,8 @@ pub fn back_up_alone<S: Shelf>(
     requires honest { S.honest shelf.old }
     requires fresh { FitsBackup backup.old [] }
     ensures went { IfOk result (λ n. (talk : Talk) × Went FitsBackup backup.old talk backup.new × (n ≡ length talk)) }
-    ensures comes { IfOk result (λ _. IsFit (S.store shelf.old) → NeverFailed (S.failed shelf.old) (S.failed shelf.new) → BacksUp (handed_to backup.old.session.job) (S.store shelf.old) (S.store shelf.new) (ended_in backup.new.session)) }
+    ensures comes { IfOk result (λ _. IsFit (S.store shelf.old) → NeverFailed (S.failed shelf.old) (S.failed shelf.new)
+        → BacksUp (handed_to backup.old.session.job) (S.store shelf.old) (S.store shelf.new) (ended_in backup.new.session)) }
 {
     let mut nothing = Vec::new(alloc);
     lockstep(alloc, backup, shelf, &mut nothing)
@@ -52,9 +53,9 @@ pub fn restore_alone<S: Shelf>(
 ) -> Result<u64, StepError>
     requires honest { S.honest shelf.old }
     requires fresh { FitsRestore restore.old [] }
-    ensures went { IfOk result (λ n. (talk : Talk) × Went FitsRestore restore.old talk restore.new × (n ≡ length talk) × (out.new.items ≡ out.old.items ++ given_in talk)) }
-    ensures comes { IfOk result (λ _. IsFit (S.store shelf.old) → HasAsked (S.store shelf.old) (Some (wish_of restore.old).snapshot) → NeverFailed (S.failed shelf.old) (S.failed shelf.new)
-        → RestoresAlone (S.store shelf.old) (S.store shelf.new) (ended_in restore.new.session)) }
+    ensures went { IfOk result (λ n. WentGiving FitsRestore restore.old n restore.new out.old.items out.new.items) }
+    ensures comes { IfOk result (λ _. IsFit (S.store shelf.old) → HasAsked (S.store shelf.old) (Some (wish_of restore.old).snapshot)
+        → NeverFailed (S.failed shelf.old) (S.failed shelf.new) → RestoresAlone (S.store shelf.old) (S.store shelf.new) (ended_in restore.new.session)) }
 {
     lockstep(alloc, restore, shelf, out)
 }
@@ -71,7 +72,8 @@ pub fn list_alone<S: Shelf>(
     requires honest { S.honest shelf.old }
     requires fresh { FitsList list.old [] }
     ensures went { IfOk result (λ n. (talk : Talk) × Went FitsList list.old talk list.new × (n ≡ length talk)) }
-    ensures comes { IfOk result (λ _. IsFit (S.store shelf.old) → NeverFailed (S.failed shelf.old) (S.failed shelf.new) → ListsAlone (S.store shelf.old) (S.store shelf.new) (ended_in list.new.session)) }
+    ensures comes { IfOk result (λ _. IsFit (S.store shelf.old) → NeverFailed (S.failed shelf.old) (S.failed shelf.new)
+        → ListsAlone (S.store shelf.old) (S.store shelf.new) (ended_in list.new.session)) }
 {
     let mut nothing = Vec::new(alloc);
     lockstep(alloc, list, shelf, &mut nothing)
@@ -103,7 +105,8 @@ pub fn back_up_and_restore<S: Shelf>(
     requires fresh { FitsBackup backup.old [] }
     ensures went { IfOk result (λ _. (talk : Talk) × Went FitsBackup backup.old talk backup.new) }
     ensures none { IfOk result (λ given. given ≡ None → GivesNothing who (ended_in backup.new.session) (S.store shelf.new)) }
-    ensures back { IfOk result (λ given. IsSound (S.store shelf.old).objects → (emissions : List Emission) → option_map (λ v. v.items) given ≡ Some emissions → GivesBack (handed_to backup.old.session.job) (S.store shelf.old) emissions) }
+    ensures back { IfOk result (λ given. IsSound (S.store shelf.old).objects → (emissions : List Emission) → option_map (λ v. v.items) given ≡ Some emissions
+        → GivesBack (handed_to backup.old.session.job) (S.store shelf.old) emissions) }
 {
     let mut out = Vec::new(alloc);
     lockstep(alloc, backup, shelf, &mut out)?;

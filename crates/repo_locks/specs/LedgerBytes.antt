@@ -1,4 +1,4 @@
-use Rattle.std.specs.Prelude.{◌≡◌, ◌≤◌, ◌<◌, ◌^◌, ◌++◌, ℕ, List, length, All}
+use Rattle.std.specs.Prelude.{◌≡◌, ◌≤◌, ◌<◌, ◌^◌, ◌++◌, ℕ, List, length, All, ◌≢◌}
 use Rattle.std.specs.List.{flat_map}
 use Rattle.repo_name.specs.Rows.{number, count, rows_bytes, IsRow}
 use Rattle.repo_name.specs.declared.rows.RowError.{RowError}
@@ -43,3 +43,11 @@ ledger_error RowError.Memory = LedgerError.Memory
 -- one text for one state
 abbrev pub LedgersAreOne : Type 0
 LedgersAreOne = (a b : Tokens) → IsLedger a → IsLedger b → ledger_bytes a ≡ ledger_bytes b → a ≡ b
+
+-- the bytes of no so many numbers stand at the front
+abbrev pub HasNoNumbers : ℕ → List ℕ → Type 0
+HasNoNumbers n bytes = (ts : List Token) (rest : List ℕ) → length ts ≡ n → All IsNumber ts → bytes ≢ flat_map token_bytes ts ++ rest
+
+-- the bytes of no fresh numbers stand at the front
+abbrev pub HasNoFresh : List ℕ → Type 0
+HasNoFresh bytes = (ts : List Token) (rest : List ℕ) → length ts ≤ fresh_limit → All IsNumber ts → bytes ≢ fresh_bytes ts ++ rest

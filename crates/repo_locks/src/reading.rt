@@ -1,11 +1,11 @@
 //! The parts of the ledger's bytes, read from the front of some bytes.
 
-ghost use Rattle.std.specs.Prelude.{◌≡◌, ◌≢◌, ◌≤◌, ◌++◌, ℕ, List, length, All, IfOk, IsErrOf};
+ghost use Rattle.std.specs.Prelude.{◌≡◌, ◌≤◌, ◌++◌, length, All, IfOk, IsErrOf};
 ghost use Rattle.std.specs.List.{flat_map};
 ghost use Rattle.repo_name.specs.declared.tokens.Token.{Token};
 ghost use Rattle.repo_locks.specs.declared.outcomes.LedgerError.{LedgerError};
 ghost use Rattle.repo_locks.specs.TokenMachine.{Tokens, fresh_limit};
-ghost use Rattle.repo_locks.specs.LedgerBytes.{token_bytes, fresh_bytes, IsNumber, HasBytes};
+ghost use Rattle.repo_locks.specs.LedgerBytes.{token_bytes, fresh_bytes, IsNumber, HasBytes, HasNoNumbers, HasNoFresh};
 
 use crate::limits::{FRESH_LIMIT, LIVE_LIMIT};
 use crate::outcomes::LedgerError;
@@ -15,7 +15,7 @@ use std::alloc::Global;
 /// So many numbers at the front, and the bytes after them.
 fn numbers_at(alloc: Global, count: usize, bytes: &[u8]) -> Result<(Vec<Token>, &[u8]), LedgerError>
     ensures found { IfOk result (λ x. (length x.0.items ≡ count) × All IsNumber x.0.items × (bytes.now ≡ flat_map token_bytes x.0.items ++ x.1.now)) }
-    ensures shape { IsErrOf result LedgerError.Shape → (ts : List Token) (rest : List ℕ) → length ts ≡ count → All IsNumber ts → bytes.now ≢ flat_map token_bytes ts ++ rest }
+    ensures shape { IsErrOf result LedgerError.Shape → HasNoNumbers count bytes.now }
 {
     let mut numbers = Vec::with_capacity(alloc, count)?;
     let mut rest = bytes;
@@ -30,7 +30,7 @@ fn numbers_at(alloc: Global, count: usize, bytes: &[u8]) -> Result<(Vec<Token>, 
 /// The fresh numbers at the front, behind their count, and the bytes after them.
 pub fn fresh_at(alloc: Global, bytes: &[u8]) -> Result<(Vec<Token>, &[u8]), LedgerError>
     ensures found { IfOk result (λ x. (length x.0.items ≤ fresh_limit) × All IsNumber x.0.items × (bytes.now ≡ fresh_bytes x.0.items ++ x.1.now)) }
-    ensures shape { IsErrOf result LedgerError.Shape → (ts : List Token) (rest : List ℕ) → length ts ≤ fresh_limit → All IsNumber ts → bytes.now ≢ fresh_bytes ts ++ rest }
+    ensures shape { IsErrOf result LedgerError.Shape → HasNoFresh bytes.now }
 {
     let (count, rest) = count_at(bytes).ok_or(LedgerError::Shape)?;
     if count > FRESH_LIMIT {

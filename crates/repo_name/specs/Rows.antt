@@ -1,4 +1,4 @@
-use Rattle.std.specs.Prelude.{◌≡◌, ◌≤◌, ◌<◌, ◌^◌, ◌++◌, ◌∷◌, ℕ, Bool, true, false, List, length, IsUtf8}
+use Rattle.std.specs.Prelude.{◌≡◌, ◌≤◌, ◌<◌, ◌^◌, ◌++◌, ◌∷◌, ℕ, Bool, true, false, List, length, IsUtf8, ◌≢◌, All}
 use Rattle.std.specs.Int.{w16, w64, to_be_bytes}
 use Rattle.std.specs.List.{flat_map}
 use Rattle.repo_name.specs.declared.rows.LockRow.{LockRow}
@@ -49,3 +49,11 @@ HostsAreOne = (a b x y : List ℕ) → host_field a ++ x ≡ host_field b ++ y �
 -- rows in bytes read in one way, whatever follows them
 abbrev pub RowsAreOne : Type 0
 RowsAreOne = (a b : LockRow) (x y : List ℕ) → IsRow a → IsRow b → row_bytes a ++ x ≡ row_bytes b ++ y → (a ≡ b) × (x ≡ y)
+
+-- the bytes of no so many rows stand at the front
+abbrev pub HasNoRows : ℕ → List ℕ → Type 0
+HasNoRows n bytes = (rows : List LockRow) (rest : List ℕ) → length rows ≡ n → All IsRow rows → bytes ≢ flat_map row_bytes rows ++ rest
+
+-- the bytes of no rows, at most so many, stand behind their count at the front
+abbrev pub HasNoRowsWithin : ℕ → List ℕ → Type 0
+HasNoRowsWithin limit bytes = (rows : List LockRow) (rest : List ℕ) → length rows ≤ limit → All IsRow rows → bytes ≢ rows_bytes rows ++ rest

@@ -3,7 +3,7 @@
 ghost use Rattle.std.specs.Prelude.{◌≡◌, ◌≢◌, ◌≤◌, ◌<◌, ◌^◌, ◌++◌, ◌∷◌, [], ℕ, List, length, All, IfOk, IsErrOf, OnOk, OnErr};
 ghost use Rattle.std.specs.List.{flat_map};
 ghost use Rattle.std.specs.Io.{StartsWith};
-ghost use Rattle.repo_name.specs.Rows.{number, truth, IsHost, IsRow, row_bytes, rows_bytes, RowsAreOne};
+ghost use Rattle.repo_name.specs.Rows.{number, truth, IsHost, IsRow, row_bytes, rows_bytes, RowsAreOne, HasNoRows, HasNoRowsWithin};
 ghost use Rattle.repo_name.specs.declared.rows.LockRow.{LockRow};
 ghost use Rattle.repo_name.specs.declared.rows.RowError.{RowError};
 
@@ -122,7 +122,7 @@ pub fn append_rows(rows: &[LockRow], out: &mut Vec<u8>) -> Result<(), AllocError
 /// So many rows at the front, and the bytes after them.
 fn rows_at(alloc: Global, count: usize, bytes: &[u8]) -> Result<(Vec<LockRow>, &[u8]), RowError>
     ensures found { IfOk result (λ x. (length x.0.items ≡ count) × All IsRow x.0.items × (bytes.now ≡ flat_map row_bytes x.0.items ++ x.1.now)) }
-    ensures shape { IsErrOf result RowError.Shape → (rows : List LockRow) (rest : List ℕ) → length rows ≡ count → All IsRow rows → bytes.now ≢ flat_map row_bytes rows ++ rest }
+    ensures shape { IsErrOf result RowError.Shape → HasNoRows count bytes.now }
 {
     let mut rows = Vec::with_capacity(alloc, count)?;
     let mut rest = bytes;
@@ -144,7 +144,7 @@ pub fn read_rows(
 ) -> Result<(Vec<LockRow>, &[u8]), RowError>
     requires { limit < 2 ^ 16 }
     ensures found { IfOk result (λ x. (length x.0.items ≤ limit) × All IsRow x.0.items × (bytes.now ≡ rows_bytes x.0.items ++ x.1.now)) }
-    ensures shape { IsErrOf result RowError.Shape → (rows : List LockRow) (rest : List ℕ) → length rows ≤ limit → All IsRow rows → bytes.now ≢ rows_bytes rows ++ rest }
+    ensures shape { IsErrOf result RowError.Shape → HasNoRowsWithin limit bytes.now }
 {
     let (count, rest) = count_at(bytes).ok_or(RowError::Shape)?;
     if count > limit {

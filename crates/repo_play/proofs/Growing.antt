@@ -8,7 +8,7 @@ use Rattle.repo_wire.specs.declared.messages.Say.{Say}
 use Rattle.repo_store.specs.Failing.{Plainly, Failing}
 use Rattle.repo_store.specs.Stores.{Store}
 use Rattle.repo_world.specs.Events.{Happens, Delivers}
-use Rattle.repo_world.specs.World.{World, Message, Asked, Said, Has, client, sends, first_of}
+use Rattle.repo_world.specs.World.{World, Message, Asked, Said, IsOneOf, client, sends, first_of}
 use Rattle.repo_world.specs.declared.events.Applied.{Applied}
 use Rattle.repo_world.specs.declared.events.Event.{Event}
 use Rattle.repo_world.proofs.Later.{has_left}
@@ -16,12 +16,12 @@ use Rattle.repo_play.specs.Steps.{AllHappen, HasClient, IsLast, deliveries}
 
 -- ---- places
 
-pub got_has : {A : Type 0} (xs : List A) (i : ℕ) (x : A) → slice_get xs i ≡ Some x → Has xs x
+pub got_has : {A : Type 0} (xs : List A) (i : ℕ) (x : A) → slice_get xs i ≡ Some x → IsOneOf xs x
 got_has [] i x e = absurd (none-some x e)
 got_has (y ∷ xs) zero x e = inl (same_Some y x e)
 got_has (y ∷ xs) (suc i) x e = inr (got_has xs i x e)
 
-pub has_got : {A : Type 0} (xs : List A) (x : A) → Has xs x → (i : ℕ) × (slice_get xs i ≡ Some x)
+pub has_got : {A : Type 0} (xs : List A) (x : A) → IsOneOf xs x → (i : ℕ) × (slice_get xs i ≡ Some x)
 has_got [] x h = absurd h
 has_got (y ∷ xs) x (inl e) = (zero, ap Some e)
 has_got (y ∷ xs) x (inr h) = let r = has_got xs x h in (suc r.0, r.1)
@@ -35,7 +35,7 @@ pub got_end : {A : Type 0} (xs : List A) (y : A) → slice_get (xs ++ y ∷ []) 
 got_end [] y = refl
 got_end (x ∷ xs) y = got_end xs y
 
-pub last_there : (messages : List Message) (k place : ℕ) → IsLast messages k place → (request : Request) × Has messages (Asked k request)
+pub last_there : (messages : List Message) (k place : ℕ) → IsLast messages k place → (request : Request) × IsOneOf messages (Asked k request)
 last_there messages k place l = (l.request, got_has messages place (Asked k l.request) l.is)
 
 -- ---- an event
@@ -73,7 +73,7 @@ all_grow w (e ∷ es) v h = grows_on w h.0 v (happens_grows ⊥ w e h.1.0 h.0 h.
 
 -- a client that is there stays there
 pub still_there : (w v : World) (k : ℕ) → Grows w v → HasClient w k → HasClient v k
-still_there w v k g there = (there.0, subst (λ m. Has m (Asked k there.0)) (sym g.1) (has_left w.messages g.0 (Asked k there.0) there.1))
+still_there w v k g there = (there.0, subst (λ m. IsOneOf m (Asked k there.0)) (sym g.1) (has_left w.messages g.0 (Asked k there.0) there.1))
 
 -- ---- events, one after another
 

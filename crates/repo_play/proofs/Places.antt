@@ -10,7 +10,7 @@ use Rattle.repo_wire.specs.declared.messages.Request.{Request}
 use Rattle.repo_wire.specs.declared.messages.Reply.{Reply}
 use Rattle.repo_world.specs.Flows.{Flow, messages_in, seat_at, spoken}
 use Rattle.repo_world.specs.Seats.{nothing}
-use Rattle.repo_world.specs.World.{World, Message, Asked, Said, Has}
+use Rattle.repo_world.specs.World.{World, Message, Asked, Said, IsOneOf}
 use Rattle.repo_world.specs.declared.messages.Message as written
 use Rattle.repo_play.specs.Steps.{HasClient, IsLast}
 use Rattle.repo_play.proofs.Growing.{has_got, last_there}
@@ -39,7 +39,7 @@ last_found messages k after place at here h = record {
   last = λ later other e. (let before : later + after < length messages = h later other e in omega arith);
 }
 
-pub none_there : (messages : List Message) (k after : ℕ) → length messages ≤ after → NoneAfter messages k after → ¬ ((request : Request) × Has messages (Asked k request))
+pub none_there : (messages : List Message) (k after : ℕ) → length messages ≤ after → NoneAfter messages k after → ¬ ((request : Request) × IsOneOf messages (Asked k request))
 none_there messages k after all h there =
     let place = has_got messages (Asked k there.0) there.1 in
     let before : place.0 + after < length messages = h place.0 there.0 place.1 in

@@ -6,7 +6,7 @@ use Rattle.repo_wire.specs.declared.messages.Request.{Request}
 use Rattle.repo_wire.specs.declared.messages.Say.{Say}
 use Rattle.repo_world.specs.Events.{Happens}
 use Rattle.repo_store.specs.declared.faults.Fail.{Fail}
-use Rattle.repo_world.specs.World.{World, Message, Asked, Said, Has, awaited, client}
+use Rattle.repo_world.specs.World.{World, Message, Asked, Said, IsOneOf, awaited, client}
 use Rattle.repo_world.specs.declared.events.Applied.{Applied}
 use Rattle.repo_world.specs.declared.events.Event.{Event}
 use Rattle.repo_script.specs.Sorts.{sort_of}
@@ -19,7 +19,7 @@ AllHappen w (e ∷ es) v = (u : World) × ((applied : Applied) × Happens ⊥ w 
 
 -- a client of this number is there: it sent a request. (Each sends its first one as it starts.)
 abbrev pub HasClient : World → ℕ → Type 0
-HasClient w k = (request : Request) × Has w.messages (Asked k request)
+HasClient w k = (request : Request) × IsOneOf w.messages (Asked k request)
 
 -- the last request of a client stands at this place among all messages
 pub record IsLast (messages : List Message) (k place : ℕ) : Type 0 where

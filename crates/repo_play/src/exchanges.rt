@@ -75,7 +75,8 @@ pub fn exchange<S: Shelf + Drop, C: Carrier>(
     event: Event,
 ) -> Result<(), Halt>
     requires { NeverFails S.failed }
-    ensures happen { OnOk result (AllHappen (seen S.store world.old) (event ∷ Event.Deliver (length (seen S.store world.old).messages) ∷ []) (seen S.store world.new)) }
+    ensures happen { OnOk result (AllHappen (seen S.store world.old) (event ∷ Event.Deliver (length (seen S.store world.old).messages) ∷ [])
+        (seen S.store world.new)) }
     ensures sense { ¬ IsErrOf result Halt.Nonsense }
     ensures few { ¬ IsErrOf result Halt.Limit }
     ensures carried { IfErr result (HaltsBy C.fails) }

@@ -77,7 +77,8 @@ pub fn carry_request<R: Read, W: Write>(
     reader: &mut R,
     writer: &mut W,
 ) -> Result<(), CarryError>
-    ensures carried { OnOk result (IsCarried (frame (request_body request.now)) (R.remaining reader.old) (R.remaining reader.new) (W.contents writer.old) (W.contents writer.new)) }
+    ensures carried { OnOk result (IsCarried (frame (request_body request.now)) (R.remaining reader.old) (R.remaining reader.new)
+        (W.contents writer.old) (W.contents writer.new)) }
     ensures fits { OnOk result (FitsFrame requests request.now) }
 {
     if !request.fits() {
@@ -95,7 +96,8 @@ pub fn carry_reply<R: Read, W: Write>(
     reader: &mut R,
     writer: &mut W,
 ) -> Result<(), CarryError>
-    ensures carried { OnOk result (IsCarried (frame (reply_body reply.now)) (R.remaining reader.old) (R.remaining reader.new) (W.contents writer.old) (W.contents writer.new)) }
+    ensures carried { OnOk result (IsCarried (frame (reply_body reply.now)) (R.remaining reader.old) (R.remaining reader.new)
+        (W.contents writer.old) (W.contents writer.new)) }
     ensures fits { OnOk result (FitsFrame replies reply.now) }
 {
     if !reply.fits() {

@@ -36,7 +36,8 @@ fn late_line(alloc: Global, client: usize, say: &Say) -> Result<String, AllocErr
 
 /// The reply that joined the messages last, if one did.
 fn last_reply<S: Shelf + Drop>(world: &World<S>) -> Option<&Reply>
-    ensures { (messages : List worlds.Message) (client : ℕ) (reply : replies.Reply) → (seen S.store world.now).messages ≡ messages ++ Said client reply ∷ [] → MatchOption result (reply ≡ silence) (λ last. last.now ≡ reply) }
+    ensures { (messages : List worlds.Message) (client : ℕ) (reply : replies.Reply) → (seen S.store world.now).messages ≡ messages ++ Said client reply ∷ []
+        → MatchOption result (reply ≡ silence) (λ last. last.now ≡ reply) }
 {
     match world.messages().last() {
         Some(Message::Said { client, reply }) => world.reply(*client, *reply),
@@ -51,7 +52,8 @@ fn told<S: Shelf + Drop>(
     world: &World<S>,
     client: usize,
 ) -> Result<String, AllocError>
-    ensures { (messages : List worlds.Message) (reply : replies.Reply) → (seen S.store world.now).messages ≡ messages ++ Said client reply ∷ [] → IfOk result (λ text. string_bytes text ≡ late_line client reply.say) }
+    ensures { (messages : List worlds.Message) (reply : replies.Reply) → (seen S.store world.now).messages ≡ messages ++ Said client reply ∷ []
+        → IfOk result (λ text. string_bytes text ≡ late_line client reply.say) }
 {
     match last_reply(world) {
         Some(reply) => late_line(alloc, client, &reply.say),

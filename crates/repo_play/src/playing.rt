@@ -1,8 +1,8 @@
 //! Scripts from a reader.
 
-ghost use Rattle.std.specs.Prelude.{◌≡◌, ◌<◌, ℕ, List, Option, Some, IfErr, length};
+ghost use Rattle.std.specs.Prelude.{◌≡◌, ◌<◌, ℕ, List, Some, IfErr, length};
 ghost use Rattle.repo_play.specs.Plays.{Plays, uncarried};
-ghost use Rattle.repo_play.specs.inner.Scripts.{ScriptStands, ReadGives, EndsBy};
+ghost use Rattle.repo_play.specs.inner.Scripts.{EndsBy, ScriptReads};
 ghost use Rattle.repo_play.specs.declared.grammars.Grammar.{Grammar};
 
 use crate::carriers::{Carrier, Nothing};
@@ -26,8 +26,8 @@ fn read_piece<C: Carrier + Drop, R: Read, W: Write>(
     writer: &mut W,
 ) -> Result<bool, LoopError>
     requires { 0 < length piece.old }
-    ensures gives { (input ahead : List ℕ) (start : Option (List ℕ)) → R.remaining reader.old ≡ Some ahead → ScriptStands input start script.old ahead (W.contents writer.old)
-        → ReadGives input start ahead (R.remaining reader.new) result script.new (W.contents writer.new) }
+    ensures gives { ScriptReads (R.remaining reader.old) script.old (W.contents writer.old) result
+        (R.remaining reader.new) script.new (W.contents writer.new) }
     ensures piece { length piece.new ≡ length piece.old }
     ensures carried { IfErr result (EndsBy C.fails) }
     ensures grammar { script.new.grammar ≡ script.old.grammar }
@@ -72,7 +72,8 @@ pub fn play<R: Read, W: Write>(
     reader: &mut R,
     writer: &mut W,
 ) -> Result<(), PlayError>
-    ensures { (input : List ℕ) → R.remaining reader.old ≡ Some input → Plays Grammar.Whole input (W.contents writer.old) (uncarried result) (W.contents writer.new) }
+    ensures { (input : List ℕ) → R.remaining reader.old ≡ Some input
+        → Plays Grammar.Whole input (W.contents writer.old) (uncarried result) (W.contents writer.new) }
 {
     match play_carried(alloc, Grammar::Whole, Nothing, reader, writer) {
         Ok(()) => Ok(()),

@@ -1,11 +1,10 @@
 //! A script that comes in pieces.
 
-ghost use Rattle.std.specs.Prelude.{◌≡◌, ◌<◌, ◌^◌, ◌++◌, ◌∷◌, [], false, ℕ, List, Option, IfOk, IfErr, string_bytes};
-ghost use Rattle.repo_script.specs.Cuts.{cut, line_feed};
+ghost use Rattle.std.specs.Prelude.{◌≡◌, ◌<◌, ◌^◌, [], false, IfOk, IfErr, string_bytes};
 ghost use Rattle.repo_play.specs.Lines.{IsFreshScript};
 ghost use Rattle.repo_play.specs.inner.Players.{state_on};
-ghost use Rattle.repo_play.specs.Plays.{LineSays, Plays};
-ghost use Rattle.repo_play.specs.inner.Scripts.{RanLines, ScriptStands, LineRuns, PieceRuns, ScriptStops, EndsBy};
+ghost use Rattle.repo_play.specs.Plays.{LineSays};
+ghost use Rattle.repo_play.specs.inner.Scripts.{ScriptStops, EndsBy, RunsLine, RunsPiece, RunsToEnd};
 
 use crate::carriers::Carrier;
 use crate::faults::{Halt, LoopError, PlayError};
@@ -51,7 +50,8 @@ impl<C: Carrier + Drop> Script<C> {
 
     /// What the next line prints, which is run.
     fn run(&mut self, bytes: &[u8]) -> Result<String, LoopError>
-        ensures says { IfOk result (λ text. LineSays self.old.grammar self.old.number bytes.now (state_on self.old.stage) (string_bytes text) (state_on self.new.stage)) }
+        ensures says { IfOk result (λ text. LineSays self.old.grammar self.old.number bytes.now (state_on self.old.stage) (string_bytes text)
+            (state_on self.new.stage)) }
         ensures few { IfOk result (λ text. self.old.number < 2 ^ 32) }
         ensures stops { IfErr result (ScriptStops self.old bytes.now) }
         ensures carried { IfErr result (EndsBy C.fails) }
@@ -77,8 +77,7 @@ impl<C: Carrier + Drop> Script<C> {
 
     /// The next line is run, and what it prints is written.
     fn line<W: Write>(&mut self, bytes: &[u8], writer: &mut W) -> Result<(), LoopError>
-        ensures gives { (input : List ℕ) (start : Option (List ℕ)) (lines left : List (List ℕ)) (text : List ℕ) → cut line_feed input ≡ lines ++ bytes.now ∷ left
-            → RanLines start self.old lines text (W.contents writer.old) → LineRuns input start (lines ++ bytes.now ∷ []) result self.new (W.contents writer.new) }
+        ensures gives { RunsLine bytes.now self.old (W.contents writer.old) result self.new (W.contents writer.new) }
         ensures carried { IfErr result (EndsBy C.fails) }
         ensures cutter { self.new.cutter ≡ self.old.cutter }
         ensures grammar { self.new.grammar ≡ self.old.grammar }
@@ -93,8 +92,7 @@ impl<C: Carrier + Drop> Script<C> {
 
     /// The next piece comes: all lines that have ended are run, and what they print is written.
     pub fn take<W: Write>(&mut self, piece: &[u8], writer: &mut W) -> Result<(), LoopError>
-        ensures gives { (input : List ℕ) (start : Option (List ℕ)) (ahead : List ℕ) → ScriptStands input start self.old (piece.now ++ ahead) (W.contents writer.old)
-            → PieceRuns input start ahead result self.new (W.contents writer.new) }
+        ensures gives { RunsPiece piece.now self.old (W.contents writer.old) result self.new (W.contents writer.new) }
         ensures carried { IfErr result (EndsBy C.fails) }
         ensures grammar { self.new.grammar ≡ self.old.grammar }
     {
@@ -109,7 +107,7 @@ impl<C: Carrier + Drop> Script<C> {
 
     /// The script ends: its last line is run where no line feed ended it, and what it prints is written.
     pub fn finish<W: Write>(&mut self, writer: &mut W) -> Result<(), LoopError>
-        ensures gives { (input : List ℕ) (start : Option (List ℕ)) → ScriptStands input start self.old [] (W.contents writer.old) → Plays self.old.grammar input start result (W.contents writer.new) }
+        ensures gives { RunsToEnd self.old (W.contents writer.old) result (W.contents writer.new) }
         ensures carried { IfErr result (EndsBy C.fails) }
     {
         if self.cutter.rest().is_empty() {

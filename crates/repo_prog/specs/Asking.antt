@@ -13,7 +13,7 @@ use Rattle.repo_session.specs.declared.driving.DriveError.{DriveError}
 use Rattle.repo_session.specs.Talks.{Said, AskGives}
 use Rattle.repo_prog.specs.declared.callers.Caller.{Caller}
 use Rattle.repo_prog.specs.declared.status.Status.{Status}
-use Rattle.repo_prog.specs.Tellings.{Tells, removal_told}
+use Rattle.repo_prog.specs.Tellings.{TellsIfThere, removal_told}
 
 -- a command's streams: what the connection will still give, what was written to it, and what on the output
 pub record Streams : Type 0 where
@@ -39,7 +39,7 @@ pub record Asked (request : Request) (told : Say → Option (List ℕ)) (old : S
   pub answer : Result Reply DriveError
   pub read : Consumes old.ahead new.ahead said.bytes
   pub gives : AskGives request answer said old.sent new.sent
-  pub tells : Tells (told_by told answer) status old.shown new.shown
+  pub tells : TellsIfThere (told_by told answer) status old.shown new.shown
 
 -- the tokens that are to be removed: of all rows, or of the stale ones
 abbrev pub chosen : Bool → ℕ → List LockRow → List Token

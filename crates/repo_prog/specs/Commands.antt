@@ -68,13 +68,13 @@ IsOrder (Order.Serve folder address serving) = (1 ≤ serving.connections) × Is
 IsOrder (Order.Client address errand retry) = IsErrand errand
 
 -- an order that reads the input
-abbrev pub IsReading : Order → Type 0
-IsReading Order.Frames = ⊤
-IsReading Order.Play = ⊤
-IsReading Order.Loop = ⊤
-IsReading (Order.Init folder making) = ⊥
-IsReading (Order.Serve folder address serving) = ⊥
-IsReading (Order.Client address errand retry) = ⊥
+abbrev pub ReadsInput : Order → Type 0
+ReadsInput Order.Frames = ⊤
+ReadsInput Order.Play = ⊤
+ReadsInput Order.Loop = ⊤
+ReadsInput (Order.Init folder making) = ⊥
+ReadsInput (Order.Serve folder address serving) = ⊥
+ReadsInput (Order.Client address errand retry) = ⊥
 
 -- what the command gives for this input: all that was asked, or what one of the errors leaves
 abbrev pub FramesGives : List ℕ → Option (List ℕ) → Status → Option (List ℕ) → Type 0

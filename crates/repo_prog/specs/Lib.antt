@@ -6,3 +6,4 @@ pub mod Asking
 pub mod Tellings
 pub mod Dialing
 pub mod Jobs
+pub mod Shown

@@ -1,4 +1,4 @@
-use Rattle.std.specs.Prelude.{◌≡◌, ◌<◌, ◌++◌, [], ℕ, List, length, Option, Some, Result, Ok, Err, Bool, true, false}
+use Rattle.std.specs.Prelude.{◌≡◌, ◌<◌, ◌++◌, [], ℕ, List, length, Option, Some, Result, Ok, Err, Bool, true, false, ◌∷◌}
 use Rattle.repo_store.specs.declared.forms.ServiceError.{ServiceError}
 use Rattle.repo_store.specs.Memory.{store_of}
 use Rattle.repo_store.specs.Services.{Rests}
@@ -44,8 +44,30 @@ EndGives input start (Ok done) talk contents = (lines : List (List ℕ)) × (pas
 EndGives input start (Err error) talk contents = FramesGive input start (Err error) contents
 
 -- what reading a piece gives: some bytes of those ahead are taken, or none is ahead, or an error's answer
-abbrev pub PieceGives : List ℕ → Option (List ℕ) → List ℕ → Option (List ℕ) → Result Bool FramesError → Talk → Option (List ℕ) → Type 0
-PieceGives input start ahead left (Ok true) talk contents =
+abbrev pub FramesPieceGives : List ℕ → Option (List ℕ) → List ℕ → Option (List ℕ) → Result Bool FramesError → Talk → Option (List ℕ) → Type 0
+FramesPieceGives input start ahead left (Ok true) talk contents =
     (after : List ℕ) × (left ≡ Some after) × (length after < length ahead) × (lines : List (List ℕ)) × (past : Past) × TalksInside input start talk lines past after contents
-PieceGives input start ahead left (Ok false) talk contents = (lines : List (List ℕ)) × (past : Past) × TalksInside input start talk lines past [] contents
-PieceGives input start ahead left (Err error) talk contents = FramesGive input start (Err error) contents
+FramesPieceGives input start ahead left (Ok false) talk contents = (lines : List (List ℕ)) × (past : Past) × TalksInside input start talk lines past [] contents
+FramesPieceGives input start ahead left (Err error) talk contents = FramesGive input start (Err error) contents
+
+-- ---- wherever a talk stands: it ends a line, takes bytes of its input, ends the last line, ends, or reads once
+
+abbrev pub EndsLine : Talk → Option (List ℕ) → Result (Unit {0}) FramesError → Talk → Option (List ℕ) → Type 0
+EndsLine old before result new after = (input ahead : List ℕ) (start : Option (List ℕ)) (lines : List (List ℕ)) (past : Past) → Talks start old lines past before
+    → AreLines input (lines ++ old.line.items ∷ []) ahead → LineGives input start (lines ++ old.line.items ∷ []) result new after
+
+abbrev pub TakesBytes : List ℕ → Talk → Option (List ℕ) → Result (Unit {0}) FramesError → Talk → Option (List ℕ) → Type 0
+TakesBytes bytes old before result new after = (input ahead : List ℕ) (start : Option (List ℕ)) (lines : List (List ℕ)) (past : Past)
+    → TalksInside input start old lines past (bytes ++ ahead) before → BytesGive input start result new ahead after
+
+abbrev pub EndsLastLine : Talk → Option (List ℕ) → Result (Unit {0}) FramesError → Talk → Option (List ℕ) → Type 0
+EndsLastLine old before result new after = (input : List ℕ) (start : Option (List ℕ)) (lines : List (List ℕ)) (past : Past) → TalksInside input start old lines past [] before
+    → EndGives input start result new after
+
+abbrev pub EndsTalk : Talk → Option (List ℕ) → Result ℕ FramesError → Option (List ℕ) → Type 0
+EndsTalk talk before result after = (input : List ℕ) (start : Option (List ℕ)) (lines : List (List ℕ)) (past : Past) → TalksInside input start talk lines past [] before
+    → FramesGive input start result after
+
+abbrev pub TalkReads : Option (List ℕ) → Talk → Option (List ℕ) → Result Bool FramesError → Option (List ℕ) → Talk → Option (List ℕ) → Type 0
+TalkReads unread old before result left new after = (input ahead : List ℕ) (start : Option (List ℕ)) (lines : List (List ℕ)) (past : Past) → unread ≡ Some ahead
+    → TalksInside input start old lines past ahead before → FramesPieceGives input start ahead left result new after

@@ -92,9 +92,9 @@ Shows text Status.Flawed start contents = ⊥
 Shows text Status.Usage start contents = ⊥
 
 -- the same, where there may be nothing to write: then it failed, and nothing was written
-abbrev pub Tells : Option (List ℕ) → Status → Option (List ℕ) → Option (List ℕ) → Type 0
-Tells (Some text) status start contents = Shows text status start contents
-Tells None status start contents = (status ≡ Status.Failed) × (contents ≡ start)
+abbrev pub TellsIfThere : Option (List ℕ) → Status → Option (List ℕ) → Option (List ℕ) → Type 0
+TellsIfThere (Some text) status start contents = Shows text status start contents
+TellsIfThere None status start contents = (status ≡ Status.Failed) × (contents ≡ start)
 
 -- what a reply tells of the live locks
 abbrev pub locks_told : Say → Option (List ℕ)

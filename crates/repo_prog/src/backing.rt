@@ -1,15 +1,13 @@
 //! `vault backup`.
 
-ghost use Rattle.std.specs.Prelude.{◌≡◌, ◌≢◌, [], ℕ, List, Some, option_map};
-ghost use Rattle.std.specs.Io.KnownBytes.{Appends};
+ghost use Rattle.std.specs.Prelude.{◌≡◌, ◌≢◌, [], List, Some, option_map};
 ghost use Rattle.repo_name.specs.Rows.{IsHost};
-ghost use Rattle.repo_name.specs.declared.names.Name.{Name};
 ghost use Rattle.repo_session.specs.declared.outcomes.Outcome.{Outcome};
 ghost use Rattle.repo_tree.specs.declared.entries.Entry.{Entry};
 ghost use Rattle.repo_prog.specs.Commands.{IsEnd, IsStoredStatus};
-ghost use Rattle.repo_prog.specs.Jobs.{Stores};
 ghost use Rattle.repo_prog.specs.Tellings.{stored_line};
 ghost use Rattle.repo_prog.specs.declared.status.Status.{Status};
+ghost use Rattle.repo_prog.specs.Shown.{ShowsStored, TellsStored};
 
 use crate::again::drive_again;
 use crate::callers::Caller;
@@ -56,7 +54,7 @@ pub fn show_stored<O: Write, F: Write>(
     output: &mut O,
     faults: &mut F,
 ) -> Status
-    ensures stored { result ≡ Status.Done → (name : Name) × (blobs : ℕ) × (bytes : ℕ) × (option_map (λ o. o.now) outcome.entry ≡ Some (Outcome.Stored name blobs bytes)) × Appends (O.contents output.old) (O.contents output.new) (stored_line name blobs bytes) }
+    ensures stored { result ≡ Status.Done → ShowsStored (option_map (λ o. o.now) outcome.entry) (O.contents output.old) (O.contents output.new) }
     ensures silent { result ≡ Status.Done → faults.new ≡ faults.old }
     ensures status { IsEnd result }
 {
@@ -81,7 +79,8 @@ pub fn backup_entries<D: Dial, O: Write, F: Write>(
     faults: &mut F,
 ) -> Status
     requires { IsHost host.now }
-    ensures stored { result ≡ Status.Done → (name : Name) × (blobs : ℕ) × (bytes : ℕ) × Stores caller.now host.now entries.items name blobs bytes retry (D.coming dial.old) (D.coming dial.new) × Appends (O.contents output.old) (O.contents output.new) (stored_line name blobs bytes) }
+    ensures stored { result ≡ Status.Done → TellsStored caller.now host.now entries.items retry (D.coming dial.old) (D.coming dial.new)
+        (O.contents output.old) (O.contents output.new) }
     ensures silent { result ≡ Status.Done → faults.new ≡ faults.old }
     ensures status { IsEnd result }
 {
@@ -111,7 +110,8 @@ pub fn backup_found<D: Dial, O: Write, F: Write>(
     faults: &mut F,
 ) -> Status
     requires { IsHost host.now }
-    ensures stored { IsStoredStatus result → (name : Name) × (blobs : ℕ) × (bytes : ℕ) × Stores caller.now host.now found.entries.items name blobs bytes retry (D.coming dial.old) (D.coming dial.new) × Appends (O.contents output.old) (O.contents output.new) (stored_line name blobs bytes) }
+    ensures stored { IsStoredStatus result → TellsStored caller.now host.now found.entries.items retry (D.coming dial.old) (D.coming dial.new)
+        (O.contents output.old) (O.contents output.new) }
     ensures whole { result ≡ Status.Done → found.skipped.items ≡ [] }
     ensures flawed { result ≡ Status.Flawed → found.skipped.items ≢ [] }
     ensures silent { result ≡ Status.Done → faults.new ≡ faults.old }
@@ -141,7 +141,8 @@ pub fn backup_command<T: Files + AllocGlobal + Clone + Drop, D: Dial, O: Write, 
     faults: &mut F,
 ) -> Status
     requires { IsHost host.now }
-    ensures stored { IsStoredStatus result → (entries : List Entry) × (name : Name) × (blobs : ℕ) × (bytes : ℕ) × Stores caller.now host.now entries name blobs bytes retry (D.coming dial.old) (D.coming dial.new) × Appends (O.contents output.old) (O.contents output.new) (stored_line name blobs bytes) }
+    ensures stored { IsStoredStatus result → (entries : List Entry) × TellsStored caller.now host.now entries retry (D.coming dial.old) (D.coming dial.new)
+        (O.contents output.old) (O.contents output.new) }
     ensures silent { result ≡ Status.Done → faults.new ≡ faults.old }
     ensures status { result ≢ Status.Usage }
 {

@@ -1,13 +1,13 @@
 //! `vault check`.
 
-ghost use Rattle.std.specs.Prelude.{◌≡◌, ◌≢◌, ℕ, List, Some, option_map};
+ghost use Rattle.std.specs.Prelude.{◌≡◌, ◌≢◌, Some, option_map};
 ghost use Rattle.std.specs.Io.KnownBytes.{Appends};
 ghost use Rattle.repo_session.specs.declared.outcomes.CheckFault.{CheckFault};
 ghost use Rattle.repo_session.specs.declared.outcomes.Outcome.{Outcome};
 ghost use Rattle.repo_prog.specs.Commands.{IsEnd, IsStoredStatus};
-ghost use Rattle.repo_prog.specs.Jobs.{Checks};
 ghost use Rattle.repo_prog.specs.Tellings.{clean_line, fault_lines};
 ghost use Rattle.repo_prog.specs.declared.status.Status.{Status};
+ghost use Rattle.repo_prog.specs.Shown.{ShowsClean, ShowsFaults, TellsClean, TellsFaults};
 
 use crate::again::drive_again;
 use crate::callers::{Caller, HOST};
@@ -63,8 +63,8 @@ pub fn show_checked<O: Write, F: Write>(
     output: &mut O,
     faults: &mut F,
 ) -> Status
-    ensures clean { result ≡ Status.Done → (snapshots : ℕ) × (indexes : ℕ) × (packs : ℕ) × (blobs : ℕ) × (option_map (λ o. o.now) outcome.entry ≡ Some (Outcome.Clean snapshots indexes packs blobs)) × Appends (O.contents output.old) (O.contents output.new) (clean_line snapshots indexes packs blobs) }
-    ensures flawed { result ≡ Status.Flawed → (found : List CheckFault) × (option_map (λ o. o.now) outcome.entry ≡ Some (Outcome.Faults found)) × Appends (O.contents output.old) (O.contents output.new) (fault_lines found) }
+    ensures clean { result ≡ Status.Done → ShowsClean (option_map (λ o. o.now) outcome.entry) (O.contents output.old) (O.contents output.new) }
+    ensures flawed { result ≡ Status.Flawed → ShowsFaults (option_map (λ o. o.now) outcome.entry) (O.contents output.old) (O.contents output.new) }
     ensures silent { IsStoredStatus result → faults.new ≡ faults.old }
     ensures status { result ≢ Status.Usage }
 {
@@ -95,8 +95,9 @@ pub fn check_command<D: Dial, O: Write, F: Write>(
     output: &mut O,
     faults: &mut F,
 ) -> Status
-    ensures clean { result ≡ Status.Done → (snapshots : ℕ) × (indexes : ℕ) × (packs : ℕ) × (blobs : ℕ) × Checks caller.now (Outcome.Clean snapshots indexes packs blobs) retry (D.coming dial.old) (D.coming dial.new) × Appends (O.contents output.old) (O.contents output.new) (clean_line snapshots indexes packs blobs) }
-    ensures flawed { result ≡ Status.Flawed → (found : List CheckFault) × Checks caller.now (Outcome.Faults found) retry (D.coming dial.old) (D.coming dial.new) × Appends (O.contents output.old) (O.contents output.new) (fault_lines found) }
+    ensures clean { result ≡ Status.Done → TellsClean caller.now retry (D.coming dial.old) (D.coming dial.new) (O.contents output.old) (O.contents output.new) }
+    ensures flawed { result ≡ Status.Flawed → TellsFaults caller.now retry (D.coming dial.old) (D.coming dial.new)
+        (O.contents output.old) (O.contents output.new) }
     ensures silent { IsStoredStatus result → faults.new ≡ faults.old }
     ensures status { result ≢ Status.Usage }
 {

@@ -1,7 +1,7 @@
 //! What the command line's words ask for, done over readers, writers and a machine.
 
 ghost use Rattle.std.specs.Prelude.{◌≡◌, ◌≢◌, ℕ, List, Some};
-ghost use Rattle.repo_prog.specs.Commands.{FramesGives, IsOrder, IsReading, LoopGives, PlayGives};
+ghost use Rattle.repo_prog.specs.Commands.{FramesGives, IsOrder, ReadsInput, LoopGives, PlayGives};
 ghost use Rattle.repo_prog.specs.declared.status.Status.{Status};
 ghost use Rattle.repo_prog.specs.declared.words.Order.{Order};
 
@@ -66,10 +66,13 @@ where
     requires { IsOrder order }
     ensures silent { result ≡ Status.Done → faults.new ≡ faults.old }
     ensures status { result ≢ Status.Usage }
-    ensures unread { ¬ IsReading order → input.new ≡ input.old }
-    ensures frames { order ≡ Order.Frames → (text : List ℕ) → R.remaining input.old ≡ Some text → FramesGives text (W.contents output.old) result (W.contents output.new) }
-    ensures plays { order ≡ Order.Play → (text : List ℕ) → R.remaining input.old ≡ Some text → PlayGives text (W.contents output.old) result (W.contents output.new) }
-    ensures loops { order ≡ Order.Loop → (text : List ℕ) → R.remaining input.old ≡ Some text → LoopGives text (W.contents output.old) result (W.contents output.new) }
+    ensures unread { ¬ ReadsInput order → input.new ≡ input.old }
+    ensures frames { order ≡ Order.Frames → (text : List ℕ) → R.remaining input.old ≡ Some text
+        → FramesGives text (W.contents output.old) result (W.contents output.new) }
+    ensures plays { order ≡ Order.Play → (text : List ℕ) → R.remaining input.old ≡ Some text
+        → PlayGives text (W.contents output.old) result (W.contents output.new) }
+    ensures loops { order ≡ Order.Loop → (text : List ℕ) → R.remaining input.old ≡ Some text
+        → LoopGives text (W.contents output.old) result (W.contents output.new) }
 {
     match order {
         Order::Frames => frames_command(rt.alloc(), input, output, faults),

@@ -1,14 +1,12 @@
 //! `vault forget`.
 
-ghost use Rattle.std.specs.Prelude.{◌≡◌, List, Some, option_map};
-ghost use Rattle.std.specs.Io.KnownBytes.{Appends};
-ghost use Rattle.repo_name.specs.declared.names.Name.{Name};
+ghost use Rattle.std.specs.Prelude.{◌≡◌, Some, option_map};
 ghost use Rattle.repo_session.specs.declared.outcomes.Outcome.{Outcome};
 ghost use Rattle.repo_prune.specs.Forgetting.{IsNoPolicy};
 ghost use Rattle.repo_prog.specs.Commands.{IsEnd};
-ghost use Rattle.repo_prog.specs.Jobs.{Forgets};
 ghost use Rattle.repo_prog.specs.Tellings.{forgotten_lines};
 ghost use Rattle.repo_prog.specs.declared.status.Status.{Status};
+ghost use Rattle.repo_prog.specs.Shown.{ShowsForgotten, TellsForgotten};
 
 use crate::again::drive_again;
 use crate::callers::{Caller, HOST};
@@ -27,7 +25,7 @@ pub fn show_forgotten<O: Write, F: Write>(
     output: &mut O,
     faults: &mut F,
 ) -> Status
-    ensures forgotten { result ≡ Status.Done → (names : List Name) × (option_map (λ o. o.now) outcome.entry ≡ Some (Outcome.Forgotten names)) × Appends (O.contents output.old) (O.contents output.new) (forgotten_lines names) }
+    ensures forgotten { result ≡ Status.Done → ShowsForgotten (option_map (λ o. o.now) outcome.entry) (O.contents output.old) (O.contents output.new) }
     ensures silent { result ≡ Status.Done → faults.new ≡ faults.old }
     ensures status { IsEnd result }
 {
@@ -52,7 +50,8 @@ pub fn forget_command<D: Dial, O: Write, F: Write>(
     output: &mut O,
     faults: &mut F,
 ) -> Status
-    ensures forgotten { result ≡ Status.Done → (names : List Name) × Forgets caller.now choice names retry (D.coming dial.old) (D.coming dial.new) × Appends (O.contents output.old) (O.contents output.new) (forgotten_lines names) }
+    ensures forgotten { result ≡ Status.Done → TellsForgotten caller.now choice retry (D.coming dial.old) (D.coming dial.new)
+        (O.contents output.old) (O.contents output.new) }
     ensures none { IsNoPolicy choice → (result ≡ Status.Failed) × (dial.new ≡ dial.old) × (output.new ≡ output.old) }
     ensures silent { result ≡ Status.Done → faults.new ≡ faults.old }
     ensures status { IsEnd result }

@@ -1,9 +1,8 @@
 //! The engine of `vault frames`.
 
-ghost use Rattle.std.specs.Prelude.{◌≡◌, ◌<◌, ◌≤◌, ◌+◌, ◌^◌, ℕ, List, Option, Some, length, OnOk};
-ghost use Rattle.repo_store.specs.Serving.{Past};
+ghost use Rattle.std.specs.Prelude.{◌≡◌, ◌<◌, ◌≤◌, ◌+◌, ◌^◌, ℕ, List, Some, length, OnOk};
 ghost use Rattle.repo_prog.specs.FramesRun.{FramesGive};
-ghost use Rattle.repo_prog.specs.Talks.{TalksInside, PieceGives};
+ghost use Rattle.repo_prog.specs.Talks.{TalkReads};
 
 use crate::errors::FramesError;
 use crate::talks::Talk;
@@ -25,8 +24,8 @@ fn read_piece<R: Read, W: Write>(
 ) -> Result<bool, FramesError>
     requires room { 0 < length piece.old }
     requires number { talk.old.number + length piece.old < 2 ^ 63 }
-    ensures next { (input ahead : List ℕ) (start : Option (List ℕ)) (lines : List (List ℕ)) (past : Past) → R.remaining reader.old ≡ Some ahead
-        → TalksInside input start talk.old lines past ahead (W.contents writer.old) → PieceGives input start ahead (R.remaining reader.new) result talk.new (W.contents writer.new) }
+    ensures next { TalkReads (R.remaining reader.old) talk.old (W.contents writer.old) result
+        (R.remaining reader.new) talk.new (W.contents writer.new) }
     ensures number { OnOk result (talk.new.number ≤ talk.old.number + length piece.old) }
 {
     match reader.read(piece) {

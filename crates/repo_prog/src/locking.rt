@@ -6,7 +6,7 @@ ghost use Rattle.repo_wire.specs.Messages.{IsAsk, IsShortAsk};
 ghost use Rattle.repo_locks.specs.TokenMachine.{tokens_of};
 ghost use Rattle.repo_prog.specs.Asking.{streams, request_of, chosen, Asked, AreRemoved, Removes, RemovesLocks};
 ghost use Rattle.repo_prog.specs.Commands.{IsEnd};
-ghost use Rattle.repo_prog.specs.Tellings.{locks_told, refresh_told, removal_told, Tells};
+ghost use Rattle.repo_prog.specs.Tellings.{locks_told, refresh_told, removal_told, TellsIfThere};
 ghost use Rattle.repo_prog.specs.declared.status.Status.{Status};
 
 use crate::callers::Caller;
@@ -26,7 +26,7 @@ fn show_locks<O: Write, F: Write>(
     output: &mut O,
     faults: &mut F,
 ) -> Status
-    ensures tells { Tells (locks_told say.now) result (O.contents output.old) (O.contents output.new) }
+    ensures tells { TellsIfThere (locks_told say.now) result (O.contents output.old) (O.contents output.new) }
     ensures silent { result ≡ Status.Done → faults.new ≡ faults.old }
     ensures status { IsEnd result }
 {
@@ -48,7 +48,8 @@ pub fn locks_command<R: Read, W: Write, O: Write, F: Write>(
     output: &mut O,
     faults: &mut F,
 ) -> Status
-    ensures asked { Asked (request_of caller.now 1 Ask.Locks) locks_told (streams (R.remaining reader.old) (W.contents writer.old) (O.contents output.old)) result (streams (R.remaining reader.new) (W.contents writer.new) (O.contents output.new)) }
+    ensures asked { Asked (request_of caller.now 1 Ask.Locks) locks_told (streams (R.remaining reader.old) (W.contents writer.old) (O.contents output.old))
+        result (streams (R.remaining reader.new) (W.contents writer.new) (O.contents output.new)) }
     ensures silent { result ≡ Status.Done → faults.new ≡ faults.old }
     ensures status { IsEnd result }
 {
@@ -60,7 +61,7 @@ pub fn locks_command<R: Read, W: Write, O: Write, F: Write>(
 
 /// Tells that a lock has a new time, or of a reply that says something else.
 fn show_refresh<O: Write, F: Write>(say: &Say, output: &mut O, faults: &mut F) -> Status
-    ensures tells { Tells (refresh_told say.now) result (O.contents output.old) (O.contents output.new) }
+    ensures tells { TellsIfThere (refresh_told say.now) result (O.contents output.old) (O.contents output.new) }
     ensures silent { result ≡ Status.Done → faults.new ≡ faults.old }
     ensures status { IsEnd result }
 {
@@ -88,7 +89,9 @@ pub fn refresh_command<R: Read, W: Write, O: Write, F: Write>(
     output: &mut O,
     faults: &mut F,
 ) -> Status
-    ensures asked { Asked (request_of caller.now 1 (Ask.Refresh token caller.now.time)) refresh_told (streams (R.remaining reader.old) (W.contents writer.old) (O.contents output.old)) result (streams (R.remaining reader.new) (W.contents writer.new) (O.contents output.new)) }
+    ensures asked { Asked (request_of caller.now 1 (Ask.Refresh token caller.now.time)) refresh_told
+        (streams (R.remaining reader.old) (W.contents writer.old) (O.contents output.old))
+        result (streams (R.remaining reader.new) (W.contents writer.new) (O.contents output.new)) }
     ensures silent { result ≡ Status.Done → faults.new ≡ faults.old }
     ensures status { IsEnd result }
 {
@@ -107,7 +110,7 @@ fn show_removal<O: Write, F: Write>(
     output: &mut O,
     faults: &mut F,
 ) -> Status
-    ensures tells { Tells (removal_told token say.now) result (O.contents output.old) (O.contents output.new) }
+    ensures tells { TellsIfThere (removal_told token say.now) result (O.contents output.old) (O.contents output.new) }
     ensures silent { result ≡ Status.Done → faults.new ≡ faults.old }
     ensures status { IsEnd result }
 {
@@ -131,7 +134,9 @@ fn remove_lock<R: Read, W: Write, O: Write, F: Write>(
     output: &mut O,
     faults: &mut F,
 ) -> Status
-    ensures asked { Asked (request_of caller.now sequence (Ask.Unlock token)) (removal_told token) (streams (R.remaining reader.old) (W.contents writer.old) (O.contents output.old)) result (streams (R.remaining reader.new) (W.contents writer.new) (O.contents output.new)) }
+    ensures asked { Asked (request_of caller.now sequence (Ask.Unlock token)) (removal_told token)
+        (streams (R.remaining reader.old) (W.contents writer.old) (O.contents output.old))
+        result (streams (R.remaining reader.new) (W.contents writer.new) (O.contents output.new)) }
     ensures silent { result ≡ Status.Done → faults.new ≡ faults.old }
     ensures status { IsEnd result }
 {
@@ -154,7 +159,8 @@ fn remove_locks<R: Read, W: Write, O: Write, F: Write>(
     faults: &mut F,
 ) -> Status
     requires few { length tokens.now < 2 ^ 62 }
-    ensures removes { Removes caller.now tokens.now (streams (R.remaining reader.old) (W.contents writer.old) (O.contents output.old)) result (streams (R.remaining reader.new) (W.contents writer.new) (O.contents output.new)) }
+    ensures removes { Removes caller.now tokens.now (streams (R.remaining reader.old) (W.contents writer.old) (O.contents output.old))
+        result (streams (R.remaining reader.new) (W.contents writer.new) (O.contents output.new)) }
     ensures silent { result ≡ Status.Done → faults.new ≡ faults.old }
     ensures status { IsEnd result }
 {
@@ -199,7 +205,8 @@ pub fn unlock_command<R: Read, W: Write, O: Write, F: Write>(
     output: &mut O,
     faults: &mut F,
 ) -> Status
-    ensures unlocks { RemovesLocks caller.now all (streams (R.remaining reader.old) (W.contents writer.old) (O.contents output.old)) result (streams (R.remaining reader.new) (W.contents writer.new) (O.contents output.new)) }
+    ensures unlocks { RemovesLocks caller.now all (streams (R.remaining reader.old) (W.contents writer.old) (O.contents output.old))
+        result (streams (R.remaining reader.new) (W.contents writer.new) (O.contents output.new)) }
     ensures silent { result ≡ Status.Done → faults.new ≡ faults.old }
     ensures status { IsEnd result }
 {

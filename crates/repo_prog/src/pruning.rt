@@ -1,12 +1,11 @@
 //! `vault prune`.
 
-ghost use Rattle.std.specs.Prelude.{◌≡◌, ℕ, Some, option_map};
-ghost use Rattle.std.specs.Io.KnownBytes.{Appends};
+ghost use Rattle.std.specs.Prelude.{◌≡◌, Some, option_map};
 ghost use Rattle.repo_session.specs.declared.outcomes.Outcome.{Outcome};
 ghost use Rattle.repo_prog.specs.Commands.{IsEnd};
-ghost use Rattle.repo_prog.specs.Jobs.{Prunes};
 ghost use Rattle.repo_prog.specs.Tellings.{pruned_line};
 ghost use Rattle.repo_prog.specs.declared.status.Status.{Status};
+ghost use Rattle.repo_prog.specs.Shown.{ShowsPruned, TellsPruned};
 
 use crate::again::drive_again;
 use crate::callers::{Caller, HOST};
@@ -25,7 +24,7 @@ pub fn show_pruned<O: Write, F: Write>(
     output: &mut O,
     faults: &mut F,
 ) -> Status
-    ensures pruned { result ≡ Status.Done → (packs : ℕ) × (bytes : ℕ) × (option_map (λ o. o.now) outcome.entry ≡ Some (Outcome.Pruned packs bytes)) × Appends (O.contents output.old) (O.contents output.new) (pruned_line packs bytes) }
+    ensures pruned { result ≡ Status.Done → ShowsPruned (option_map (λ o. o.now) outcome.entry) (O.contents output.old) (O.contents output.new) }
     ensures silent { result ≡ Status.Done → faults.new ≡ faults.old }
     ensures status { IsEnd result }
 {
@@ -49,7 +48,8 @@ pub fn prune_command<D: Dial, O: Write, F: Write>(
     output: &mut O,
     faults: &mut F,
 ) -> Status
-    ensures pruned { result ≡ Status.Done → (packs : ℕ) × (bytes : ℕ) × Prunes caller.now packs bytes retry (D.coming dial.old) (D.coming dial.new) × Appends (O.contents output.old) (O.contents output.new) (pruned_line packs bytes) }
+    ensures pruned { result ≡ Status.Done → TellsPruned caller.now retry (D.coming dial.old) (D.coming dial.new)
+        (O.contents output.old) (O.contents output.new) }
     ensures silent { result ≡ Status.Done → faults.new ≡ faults.old }
     ensures status { IsEnd result }
 {

@@ -1,15 +1,14 @@
 //! `vault snapshots` and `vault restore`.
 
-ghost use Rattle.std.specs.Prelude.{◌≡◌, ℕ, List, Option, Some, IfOk, true, option_map};
-ghost use Rattle.std.specs.Io.KnownBytes.{Appends};
+ghost use Rattle.std.specs.Prelude.{◌≡◌, ℕ, Option, Some, IfOk, true, option_map};
 ghost use Rattle.repo_name.specs.declared.names.Name.{Name};
-ghost use Rattle.repo_tree.specs.declared.snapshots.Snapshot.{Snapshot};
 ghost use Rattle.repo_session.specs.Sessions.{ended_in};
 ghost use Rattle.repo_session.specs.declared.outcomes.Outcome.{Outcome};
 ghost use Rattle.repo_prog.specs.Commands.{IsEnd};
-ghost use Rattle.repo_prog.specs.Jobs.{ListsSnapshots, RestoresSnapshot};
+ghost use Rattle.repo_prog.specs.Jobs.{RestoresSnapshot};
 ghost use Rattle.repo_prog.specs.Tellings.{snapshot_lines, complete_line};
 ghost use Rattle.repo_prog.specs.declared.status.Status.{Status};
+ghost use Rattle.repo_prog.specs.Shown.{ShowsListed, TellsListed, ShowsRestored, TellsRestored};
 
 use crate::again::{TryError, drive_again};
 use crate::callers::{Caller, HOST};
@@ -31,7 +30,7 @@ pub fn show_list<O: Write, F: Write>(
     output: &mut O,
     faults: &mut F,
 ) -> Status
-    ensures listed { result ≡ Status.Done → (rows : List (Name × Snapshot)) × (option_map (λ o. o.now) outcome.entry ≡ Some (Outcome.Listed rows)) × Appends (O.contents output.old) (O.contents output.new) (snapshot_lines rows) }
+    ensures listed { result ≡ Status.Done → ShowsListed (option_map (λ o. o.now) outcome.entry) (O.contents output.old) (O.contents output.new) }
     ensures silent { result ≡ Status.Done → faults.new ≡ faults.old }
     ensures status { IsEnd result }
 {
@@ -54,7 +53,8 @@ pub fn snapshots_command<D: Dial, O: Write, F: Write>(
     output: &mut O,
     faults: &mut F,
 ) -> Status
-    ensures listed { result ≡ Status.Done → (rows : List (Name × Snapshot)) × ListsSnapshots caller.now rows retry (D.coming dial.old) (D.coming dial.new) × Appends (O.contents output.old) (O.contents output.new) (snapshot_lines rows) }
+    ensures listed { result ≡ Status.Done → TellsListed caller.now retry (D.coming dial.old) (D.coming dial.new)
+        (O.contents output.old) (O.contents output.new) }
     ensures silent { result ≡ Status.Done → faults.new ≡ faults.old }
     ensures status { IsEnd result }
 {
@@ -78,7 +78,7 @@ pub fn show_restored<E: FnOnce() -> bool, O: Write, F: Write>(
 ) -> Status
     requires { E.pre finish }
     ensures finished { result ≡ Status.Done → E.post finish true }
-    ensures restored { result ≡ Status.Done → (entries : ℕ) × (option_map (λ o. o.now) outcome.entry ≡ Some (Outcome.Complete entries)) × Appends (O.contents output.old) (O.contents output.new) (complete_line entries) }
+    ensures restored { result ≡ Status.Done → ShowsRestored (option_map (λ o. o.now) outcome.entry) (O.contents output.old) (O.contents output.new) }
     ensures silent { result ≡ Status.Done → faults.new ≡ faults.old }
     ensures status { IsEnd result }
 {
@@ -104,7 +104,8 @@ fn restored<D: Dial, S: FnMut(&Emission) -> bool>(
     retry: u64,
 ) -> Result<Restore, TryError>
     requires callable { (state : S) (x : _) → S.pre state x }
-    ensures { IfOk result (λ restore. (entries : ℕ) → ended_in restore.session ≡ Some (Outcome.Complete entries) → RestoresSnapshot caller.now name entries retry (D.coming dial.old) (D.coming dial.new)) }
+    ensures { IfOk result (λ restore. (entries : ℕ) → ended_in restore.session ≡ Some (Outcome.Complete entries)
+        → RestoresSnapshot caller.now name entries retry (D.coming dial.old) (D.coming dial.new)) }
 {
     let who = caller.who(alloc, HOST)?;
     let mut restore = Restore::new(alloc, who, name);
@@ -124,7 +125,8 @@ pub fn restore_into<D: Dial, S: FnMut(&Emission) -> bool, O: Write, F: Write>(
     faults: &mut F,
 ) -> Status
     requires callable { (state : S) (x : _) → S.pre state x }
-    ensures restored { result ≡ Status.Done → (entries : ℕ) × RestoresSnapshot caller.now name entries retry (D.coming dial.old) (D.coming dial.new) × Appends (O.contents output.old) (O.contents output.new) (complete_line entries) }
+    ensures restored { result ≡ Status.Done → TellsRestored caller.now name retry (D.coming dial.old) (D.coming dial.new)
+        (O.contents output.old) (O.contents output.new) }
     ensures silent { result ≡ Status.Done → faults.new ≡ faults.old }
     ensures status { IsEnd result }
 {
@@ -161,7 +163,8 @@ pub fn restore_command<T: Files + AllocGlobal + Clone + Drop, D: Dial, O: Write,
     output: &mut O,
     faults: &mut F,
 ) -> Status
-    ensures restored { result ≡ Status.Done → (entries : ℕ) × RestoresSnapshot caller.now name entries retry (D.coming dial.old) (D.coming dial.new) × Appends (O.contents output.old) (O.contents output.new) (complete_line entries) }
+    ensures restored { result ≡ Status.Done → TellsRestored caller.now name retry (D.coming dial.old) (D.coming dial.new)
+        (O.contents output.old) (O.contents output.new) }
     ensures silent { result ≡ Status.Done → faults.new ≡ faults.old }
     ensures status { IsEnd result }
 {

@@ -1,11 +1,8 @@
 //! A talk with a store in memory, line by line.
 
-ghost use Rattle.std.specs.Prelude.{◌≡◌, ◌<◌, ◌≤◌, ◌+◌, ◌^◌, ◌++◌, ◌∷◌, [], ℕ, List, Option, length, OnOk};
+ghost use Rattle.std.specs.Prelude.{◌≡◌, ◌<◌, ◌≤◌, ◌+◌, ◌^◌, ◌∷◌, [], ℕ, List, Option, length, OnOk};
 ghost use Rattle.repo_store.specs.Services.{nothing};
-ghost use Rattle.repo_store.specs.Serving.{Past};
-ghost use Rattle.repo_prog.specs.FramesRun.{FramesGive};
-ghost use Rattle.repo_prog.specs.HexLines.{AreLines};
-ghost use Rattle.repo_prog.specs.Talks.{Talks, TalksInside, LineGives, BytesGive, EndGives};
+ghost use Rattle.repo_prog.specs.Talks.{Talks, EndsLine, TakesBytes, EndsLastLine, EndsTalk};
 
 use crate::errors::FramesError;
 use crate::output::HexLine;
@@ -43,9 +40,7 @@ impl Talk {
     /// hexadecimal gives no bytes.
     fn end_line<W: Write>(&mut self, writer: &mut W) -> Result<(), FramesError>
         requires { self.old.number < 2 ^ 63 }
-        ensures next { (input ahead : List ℕ) (start : Option (List ℕ)) (lines : List (List ℕ)) (past : Past) → Talks start self.old lines past (W.contents writer.old)
-            → AreLines input (lines ++ self.old.line.items ∷ []) ahead
-            → LineGives input start (lines ++ self.old.line.items ∷ []) result self.new (W.contents writer.new) }
+        ensures next { EndsLine self.old (W.contents writer.old) result self.new (W.contents writer.new) }
         ensures line { OnOk result (self.new.line.items ≡ []) }
         ensures number { OnOk result (self.new.number ≡ self.old.number + 1) }
     {
@@ -65,8 +60,7 @@ impl Talk {
     /// Takes the next byte of the input.
     fn take_byte<W: Write>(&mut self, byte: u8, writer: &mut W) -> Result<(), FramesError>
         requires { self.old.number < 2 ^ 63 }
-        ensures next { (input ahead : List ℕ) (start : Option (List ℕ)) (lines : List (List ℕ)) (past : Past)
-            → TalksInside input start self.old lines past (byte ∷ ahead) (W.contents writer.old) → BytesGive input start result self.new ahead (W.contents writer.new) }
+        ensures next { TakesBytes (byte ∷ []) self.old (W.contents writer.old) result self.new (W.contents writer.new) }
         ensures number { OnOk result (self.new.number ≤ self.old.number + 1) }
     {
         if byte == b'\n' {
@@ -81,8 +75,7 @@ impl Talk {
     /// Takes the next piece of the input.
     pub fn take<W: Write>(&mut self, piece: &[u8], writer: &mut W) -> Result<(), FramesError>
         requires { self.old.number + length piece.now < 2 ^ 63 }
-        ensures next { (input ahead : List ℕ) (start : Option (List ℕ)) (lines : List (List ℕ)) (past : Past)
-            → TalksInside input start self.old lines past (piece.now ++ ahead) (W.contents writer.old) → BytesGive input start result self.new ahead (W.contents writer.new) }
+        ensures next { TakesBytes piece.now self.old (W.contents writer.old) result self.new (W.contents writer.new) }
         ensures number { OnOk result (self.new.number ≤ self.old.number + length piece.now) }
     {
         for byte in piece {
@@ -94,8 +87,7 @@ impl Talk {
     /// Ends the last line, if there is one, at the end of the input.
     fn end_last_line<W: Write>(&mut self, writer: &mut W) -> Result<(), FramesError>
         requires { self.old.number < 2 ^ 63 }
-        ensures { (input : List ℕ) (start : Option (List ℕ)) (lines : List (List ℕ)) (past : Past) → TalksInside input start self.old lines past [] (W.contents writer.old)
-            → EndGives input start result self.new (W.contents writer.new) }
+        ensures { EndsLastLine self.old (W.contents writer.old) result self.new (W.contents writer.new) }
     {
         if self.line.as_slice().is_empty() {
             return Ok(());
@@ -106,8 +98,7 @@ impl Talk {
     /// Ends the input, and gives the number of requests that were answered.
     pub fn finish<W: Write>(mut self, writer: &mut W) -> Result<u64, FramesError>
         requires { self.number < 2 ^ 63 }
-        ensures { (input : List ℕ) (start : Option (List ℕ)) (lines : List (List ℕ)) (past : Past) → TalksInside input start self lines past [] (W.contents writer.old)
-            → FramesGive input start result (W.contents writer.new) }
+        ensures { EndsTalk self (W.contents writer.old) result (W.contents writer.new) }
     {
         self.end_last_line(writer)?;
         self.service.finish().ok_or(FramesError::Inside)

@@ -9,15 +9,15 @@ use Rattle.repo_name.specs.declared.kinds.Kind.{Kind}
 use Rattle.repo_name.specs.declared.names.Name.{Name}
 use Rattle.repo_name.specs.declared.tokens.Token.{Token}
 use Rattle.repo_index.specs.Order.{names_total}
-use Rattle.repo_store.specs.Pages.{Has, Ascends}
+use Rattle.repo_store.specs.Pages.{Has, NamesAscend}
 use Rattle.repo_wire.specs.declared.messages.Ask.{Ask}
 use Rattle.repo_wire.specs.declared.messages.Say.{Say}
 use Rattle.repo_session.specs.Askers.{Asker}
 use Rattle.repo_session.specs.Deletions.{DeleteDone, NoneDeleted}
 use Rattle.repo_session.specs.Jobs.{MayAsk}
-use Rattle.repo_session.specs.Listings.{IsListing, KnowsSnapshots}
+use Rattle.repo_session.specs.Listings.{IsSnapshotListing, KnowsSnapshots}
 use Rattle.repo_session.specs.Order.{IsReading}
-use Rattle.repo_session.specs.Readings.{IsDue, KnowsRoll}
+use Rattle.repo_session.specs.Readings.{IsAskDue, KnowsRoll}
 use Rattle.repo_session.specs.declared.rolls.Roll.{Roll}
 use Rattle.repo_session.specs.Traces.{Each, Exchange, Trace, silent, names_in, IsListed}
 use Rattle.repo_name.proofs.Containing.{none_contained, first_contained, later_contained, contained_or}
@@ -49,7 +49,7 @@ allows_reading choice es Ask.Locks h none = absurd (h)
 allows_reading choice es Ask.Config h none = absurd (h)
 
 -- what is due of the reading may be asked for
-pub may_read : (f : ForgetJob) (who : Asker) (es : Trace) (ask : Ask) → NoneDeleted es → IsDue (forget_task who) (KnowsSnapshots f.snapshots) es ask → MayAsk (forget_rule f.choice) who (KnowsForget f) es ask
+pub may_read : (f : ForgetJob) (who : Asker) (es : Trace) (ask : Ask) → NoneDeleted es → IsAskDue (forget_task who) (KnowsSnapshots f.snapshots) es ask → MayAsk (forget_rule f.choice) who (KnowsForget f) es ask
 may_read f who es ask none due = record { work = due.work; may = due.may; allowed = allows_reading f.choice es ask due.reads none; knows = inl (none, due.knows) }
 
 -- what a roll asks for deletes nothing
@@ -85,7 +85,7 @@ all_above n m [] before h = tt
 all_above n m (x ∷ names) before h = (names_total.trans n m x before h.0, all_above n m names before h.1)
 
 -- names that ascend are sorted
-ascending_sorted : (after : Option Name) (names : List Name) → Ascends after names → IsStrictlySortedBy name_cmp names
+ascending_sorted : (after : Option Name) (names : List Name) → NamesAscend after names → IsStrictlySortedBy name_cmp names
 unfolding IsStrictlySortedBy
 ascending_sorted after [] h = tt
 ascending_sorted after (n ∷ []) h = (tt, tt)
@@ -110,12 +110,12 @@ page_chosen names rows listed read picked es h picks =
     let is : IsListed Kind.Snapshot es = is_listed Kind.Snapshot listed read es h in
     listed_chosen (Choice.Names names) rows listed picked es is is (sym h.paged.listed) picks
 
-known_by_listing : (choice : Choice) (es : Trace) (rows : List Row) → IsListing es rows → IsDecided choice es rows
+known_by_listing : (choice : Choice) (es : Trace) (rows : List Row) → IsSnapshotListing es rows → IsDecided choice es rows
 known_by_listing (Choice.Names names) es rows l = l.listed
 known_by_listing (Choice.Keep policy) es rows l = l
 
 -- what is chosen of the snapshots that were read
-pub read_chosen : (choice : Choice) (rows : List Row) (picked : List Name) (es : Trace) → IsListing es rows → AreChosenOf choice rows (map (λ (row : Row). row.0) rows) picked → AreChosen choice es picked
+pub read_chosen : (choice : Choice) (rows : List Row) (picked : List Name) (es : Trace) → IsSnapshotListing es rows → AreChosenOf choice rows (map (λ (row : Row). row.0) rows) picked → AreChosen choice es picked
 read_chosen choice rows picked es l h = listed_chosen choice rows (map (λ (row : Row). row.0) rows) picked es (known_by_listing choice es rows l) l.listed l.names h
 
 -- ---- deleting

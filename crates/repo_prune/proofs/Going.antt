@@ -28,7 +28,7 @@ use Rattle.repo_index.specs.Order.{names_total}
 use Rattle.repo_prune.specs.declared.keeping.Policy.{Policy}
 use Rattle.repo_prune.specs.declared.standings.Standing.{Standing}
 use Rattle.repo_prune.specs.Keeping.{Row, day, IsLater, HasLater, IsLastOfDay, AreLaterDays, IsKept, AreKept}
-use Rattle.repo_prune.specs.inner.Walks.{row_cmp, is_before, same_host, is_later, Descends, Counts, GoesDown, StandsAt, IsKeptAt}
+use Rattle.repo_prune.specs.inner.Walks.{row_cmp, is_before, same_host, is_later, Descends, Counts, GoesDown, RowStandsAt, IsKeptAt}
 
 pub rows_total : IsTotalOrder row_cmp
 rows_total = then_total (on_total (λ (r : Row). r.1.host) nat_list_cmp_total) (then_total (on_total (λ (r : Row). r.1.time) nat_cmp_total) (on_total (λ (r : Row). r.0) names_total))
@@ -225,7 +225,7 @@ module _ (rows : List Row) (descends : Descends rows) (place : ℕ) (m : Row) (h
     no_earlier : (j : ℕ) (r : Row) → slice_get rows j ≡ Some r → j < place → is_later m r ≡ false
     no_earlier j r q less = later_false m r (λ host. absurd (none j r q less host))
 
-    pub first_stands : (s : Standing) → s.row.now ≡ m → s.seen ≡ 1 → s.later ≡ 0 → s.days ≡ 0 → s.is_last ≡ true → StandsAt rows place m s
+    pub first_stands : (s : Standing) → s.row.now ≡ m → s.seen ≡ 1 → s.later ≡ 0 → s.days ≡ 0 → s.is_last ≡ true → RowStandsAt rows place m s
     unfolding IsStrictlySortedBy
     first_stands s same seen later days last = record {
       here = here;
@@ -241,7 +241,7 @@ module _ (rows : List Row) (descends : Descends rows) (place : ℕ) (m : Row) (h
             (λ (below : is_before m r ≡ false). let falls = day_falls m r (not_sooner m r host below) in absurd (omega (arith, falls, is, above))) (splits rows descends place m here r has)
 
   -- the next row of the host of the one before it
-  module _ (before : ℕ) (next : place ≡ before + 1) (p : Row) (s : Standing) (stood : StandsAt rows before p s) (host : p.1.host ≡ m.1.host) where
+  module _ (before : ℕ) (next : place ≡ before + 1) (p : Row) (s : Standing) (stood : RowStandsAt rows before p s) (host : p.1.host ≡ m.1.host) where
     above : is_before p m ≡ false
     above = down rows descends before place p m (omega (arith, next)) stood.here here
 
@@ -278,7 +278,7 @@ module _ (rows : List Row) (descends : Descends rows) (place : ℕ) (m : Row) (h
       later_back : (r : Row) → IsLater p r → IsLater m r
       later_back r h = (h.0 ∙ host, elim h.1 [ inl less ↦ inl (let t = keys.0 in omega (arith, less, t)) | inr even ↦ inr (keys.0 ∙ even.0, subst (λ n. name_cmp n r.0 ≡ Less) (sym keys.1) even.1) ])
 
-      pub tie_stands : (new : Standing) → new.row.now ≡ m → new.seen ≡ min (s.seen + 1) (2 ^ 64 - 1) → new.later ≡ s.later → new.days ≡ s.days → new.is_last ≡ s.is_last → StandsAt rows place m new
+      pub tie_stands : (new : Standing) → new.row.now ≡ m → new.seen ≡ min (s.seen + 1) (2 ^ 64 - 1) → new.later ≡ s.later → new.days ≡ s.days → new.is_last ≡ s.is_last → RowStandsAt rows place m new
       tie_stands new same seen later days last = record {
         here = here;
         same = same;
@@ -305,7 +305,7 @@ module _ (rows : List Row) (descends : Descends rows) (place : ℕ) (m : Row) (h
           let n = count_split (is_later m) (same_host p) rows place (λ j r q within. and_true (same_host m r) (is_before m r) (strictly j r q within) ∙ one_host r) not_after in
           is ∙ stood.seen ∙ ap (λ k. min k (2 ^ 64 - 1)) (ap (λ k. count_by (same_host p) (take k rows)) (sym next) ∙ sym n)
 
-      pub same_day_stands : (new : Standing) → new.row.now ≡ m → day m ≡ day p → new.seen ≡ min (s.seen + 1) (2 ^ 64 - 1) → new.later ≡ s.seen → new.days ≡ s.days → new.is_last ≡ false → StandsAt rows place m new
+      pub same_day_stands : (new : Standing) → new.row.now ≡ m → day m ≡ day p → new.seen ≡ min (s.seen + 1) (2 ^ 64 - 1) → new.later ≡ s.seen → new.days ≡ s.days → new.is_last ≡ false → RowStandsAt rows place m new
       same_day_stands new same one seen later days last = record {
         here = here;
         same = same;
@@ -315,7 +315,7 @@ module _ (rows : List Row) (descends : Descends rows) (place : ℕ) (m : Row) (h
         last = (λ yes. absurd (cc), λ all. absurd (all p p_there (is_later_row m p host less) (sym one)));
       }
 
-      pub other_day_stands : (new : Standing) → new.row.now ≡ m → day m ≢ day p → new.seen ≡ min (s.seen + 1) (2 ^ 64 - 1) → new.later ≡ s.seen → new.days ≡ min (s.days + 1) (2 ^ 64 - 1) → new.is_last ≡ true → StandsAt rows place m new
+      pub other_day_stands : (new : Standing) → new.row.now ≡ m → day m ≢ day p → new.seen ≡ min (s.seen + 1) (2 ^ 64 - 1) → new.later ≡ s.seen → new.days ≡ min (s.days + 1) (2 ^ 64 - 1) → new.is_last ≡ true → RowStandsAt rows place m new
       unfolding IsStrictlySortedBy
       other_day_stands new same other seen later days last = record {
         here = here;
@@ -383,17 +383,17 @@ apart rows descends before p m at here other j r q less same =
     between a b h k = exact_bytes a b (by_both (slice_cmp nat_cmp a b) (slice_cmp nat_cmp b a) (nat_list_cmp_total.antisymm a b) k h)
 
 -- where the next row of a host stands
-pub next_stands : (rows : List Row) (descends : Descends rows) (place : ℕ) (m : Row) (here : slice_get rows place ≡ Some m) (before : ℕ) (next : place ≡ before + 1) (p : Row) (s : Standing) (stood : StandsAt rows before p s) (host : p.1.host ≡ m.1.host)
-    (new : Standing) → new.row.now ≡ m → s.row.now ≡ p → GoesDown s m new → StandsAt rows place m new
+pub next_stands : (rows : List Row) (descends : Descends rows) (place : ℕ) (m : Row) (here : slice_get rows place ≡ Some m) (before : ℕ) (next : place ≡ before + 1) (p : Row) (s : Standing) (stood : RowStandsAt rows before p s) (host : p.1.host ≡ m.1.host)
+    (new : Standing) → new.row.now ≡ m → s.row.now ≡ p → GoesDown s m new → RowStandsAt rows place m new
 next_stands rows descends place m here before next p s stood host new same was goes = by (row_cmp m p) refl
   where
-    not_less : (o : Ordering) → row_cmp m p ≡ o → o ≡ Less → StandsAt rows place m new
+    not_less : (o : Ordering) → row_cmp m p ≡ o → o ≡ Less → RowStandsAt rows place m new
     not_less o q h = let less : is_before m p ≡ true = ap is_lt (q ∙ h) in
         let differs : row_cmp m s.row.now ≢ Equal = λ e. (let e2 : row_cmp m p ≡ Equal = subst (λ r. row_cmp m r ≡ Equal) was e in absurd (cc)) in
         ⊎_elim (λ (one : day m ≡ day p). let g = goes.same_day differs (one ∙ ap day (sym was)) in same_day_stands rows descends place m here before next p s stood host less new same one goes.seen g.0 g.1 g.2)
         (λ (other : day m ≢ day p). let g = goes.other_day differs (λ e. other (e ∙ ap day was)) in other_day_stands rows descends place m here before next p s stood host less new same other goes.seen g.0 g.1 g.2) (same_or_not (day m) (day p))
 
-    by : (o : Ordering) → row_cmp m p ≡ o → StandsAt rows place m new
+    by : (o : Ordering) → row_cmp m p ≡ o → RowStandsAt rows place m new
     by Less q = not_less Less q refl
     by Equal q = let g = goes.equal (subst (λ r. row_cmp m r ≡ Equal) (sym was) q) in tie_stands rows descends place m here before next p s stood host q new same goes.seen g.0 g.1 g.2
     by Greater q = let back : row_cmp p m ≡ Less = rows_total.antisymm p m ∙ ap ordering_reverse q in let not = down rows descends before place p m (omega (arith, next)) stood.here here in absurd (cc)
@@ -404,7 +404,7 @@ days_same : (rows : List Row) (row : Row) (ds es : List ℕ) → AreLaterDays ro
 days_same rows row ds es h k = sorted_same nat_cmp nat_cmp_total ds es h.ascend k.ascend (λ d has. (k.each d).1 ((h.each d).0 has)) (λ d has. (h.each d).1 ((k.each d).0 has))
 
 -- a row that isn't one of the last ones is kept by its day
-pub kept_by_day : (policy : Policy) (rows : List Row) (row : Row) (place : ℕ) (s : Standing) → StandsAt rows place row s → policy.last ≤ s.later → s.is_last ≡ true → policy.last < 2 ^ 32 → policy.daily < 2 ^ 32
+pub kept_by_day : (policy : Policy) (rows : List Row) (row : Row) (place : ℕ) (s : Standing) → RowStandsAt rows place row s → policy.last ≤ s.later → s.is_last ≡ true → policy.last < 2 ^ 32 → policy.daily < 2 ^ 32
     → (s.days < policy.daily) ↔ IsKeptAt policy rows row
 kept_by_day policy rows row place s h many is last daily = (
   λ few. let ds = h.days in let count = ds.2 in inr (h.last.0 is, (ds.0, ds.1, omega (arith, few, count, daily))),

@@ -10,9 +10,9 @@ use Rattle.repo_session.specs.declared.jobs.Step.{Step}
 use Rattle.repo_session.specs.Askers.{Asker}
 use Rattle.repo_session.specs.Catalogs.{Catalogs, IsAll}
 use Rattle.repo_session.specs.Jobs.{MayAsk, MayStep}
-use Rattle.repo_session.specs.Listings.{IsListing}
+use Rattle.repo_session.specs.Listings.{IsSnapshotListing}
 use Rattle.repo_session.specs.Order.{last_of}
-use Rattle.repo_session.specs.Readings.{IsDue, KnowsIndexes, KnowsRoll}
+use Rattle.repo_session.specs.Readings.{IsAskDue, KnowsIndexes, KnowsRoll}
 use Rattle.repo_session.specs.Rolls.{IsPaged, IsRolled}
 use Rattle.repo_session.specs.Traces.{Exchange, Trace, silent, same_kind, page_names, is_last_page, object_got}
 use Rattle.repo_session.proofs.Cataloguing.{are_indexed, catalog_on, rolled_on}
@@ -350,7 +350,7 @@ gone_on k who onward j step es step_is stage_is same h =
 -- ---- a page of packs
 
 -- it may be asked for
-pub pack_page : (j : PruneJob) (who : Asker) (es : Trace) (ask : Ask) → Ask.List j.packs.kind (last_of j.packs.names.items) ≡ ask → IsDue (prune_task who) (KnowsRoll j.packs) es ask → ListsPacks j ask es
+pub pack_page : (j : PruneJob) (who : Asker) (es : Trace) (ask : Ask) → Ask.List j.packs.kind (last_of j.packs.names.items) ≡ ask → IsAskDue (prune_task who) (KnowsRoll j.packs) es ask → ListsPacks j ask es
     → MayAsk prune_rule who (KnowsPrune j) es ask
 pack_page j who es ask is due h =
     let page : Ask = Ask.List Kind.Pack (last_of j.packs.names.items) in
@@ -363,14 +363,14 @@ pack_page j who es ask is due h =
     }
 
 -- the next one may be asked for
-pub pack_next : (j : PruneJob) (who : Asker) (es : Trace) (ask : Ask) → j.packs.kind ≡ Kind.Pack → IsDue (prune_task who) (KnowsRoll j.packs) es ask → ListsPacks j ask es → MayAsk prune_rule who (KnowsPrune j) es ask
+pub pack_next : (j : PruneJob) (who : Asker) (es : Trace) (ask : Ask) → j.packs.kind ≡ Kind.Pack → IsAskDue (prune_task who) (KnowsRoll j.packs) es ask → ListsPacks j ask es → MayAsk prune_rule who (KnowsPrune j) es ask
 pack_next j who es ask of_packs due h =
     let listing : IsListingOf Kind.Pack ask = subst (λ k. IsListingOf k ask) of_packs (roll_listing j.packs ask es due.knows) in
     record { work = due.work; may = due.may; allowed = listing_reads Kind.Pack ask listing es h.untouched.none_deleted; knows = packs_back j ask es listing h }
 
 -- ---- all packs are listed
 
-pub packs_listed : (j : PruneJob) (packs : Roll) (e : Exchange) (es : Trace) → IsListingOf Kind.Pack e.ask → IsUntouched es → IsListing es j.snapshots.rows.items → Catalogs j.catalog true es → IsAll j.catalog
+pub packs_listed : (j : PruneJob) (packs : Roll) (e : Exchange) (es : Trace) → IsListingOf Kind.Pack e.ask → IsUntouched es → IsSnapshotListing es j.snapshots.rows.items → Catalogs j.catalog true es → IsAll j.catalog
     → IsPaged Kind.Pack packs.names.items true (e ∷ es)
     → HaveRead (record { rows = j.snapshots.rows.items; indexes = j.catalog.roll.names.items; facts = j.catalog.lookup; packs = packs.names.items }) (e ∷ es) × IsUntouched (e ∷ es)
 packs_listed j packs e es listing untouched rows catalog all paged =

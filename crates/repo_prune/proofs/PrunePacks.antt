@@ -28,7 +28,7 @@ use Rattle.repo_writing.proofs.Writings.{none_listed, packs_stay, index_done, pu
 use Rattle.repo_writing.specs.Laws.{IsPutOrKept}
 use Rattle.repo_writing.specs.Writing.{Put, IsPut, items_of, AreListed, packs_of}
 use Rattle.repo_prune.specs.Moving.{pair_of_item, pair_of_fact, items_so_far}
-use Rattle.repo_prune.specs.PruneStates.{Known, HasMoved, ArePacked, MayList, PutsIndex, HasListed, KnowsStage, IsNextStep}
+use Rattle.repo_prune.specs.PruneStates.{Known, HasMoved, ArePacked, MayList, PrunePutsIndex, HasListed, KnowsStage, IsNextStep}
 use Rattle.repo_prune.specs.Pruning.{prune_rule, prune_task, AreCovered}
 use Rattle.repo_prune.specs.Relisting.{IsListable, AreListable, PutsNext, Relists}
 use Rattle.repo_prune.specs.declared.moving.Moving.{Moving}
@@ -199,7 +199,7 @@ module _ (k : Known) (r s : Relisting) (es : Trace) (h : MayList k r es) where
       }
 
 -- the put of one is done
-pub index_put : (k : Known) (r : Relisting) (token : Token) (n : Name) (x : List ℕ) (e : Exchange) (es : Trace) → e.ask ≡ Ask.Put token Kind.Index n x → e.say ≡ Say.Done → PutsIndex k r n x es → MayList k r (e ∷ es)
+pub index_put : (k : Known) (r : Relisting) (token : Token) (n : Name) (x : List ℕ) (e : Exchange) (es : Trace) → e.ask ≡ Ask.Put token Kind.Index n x → e.say ≡ Say.Done → PrunePutsIndex k r n x es → MayList k r (e ∷ es)
 index_put k r token n x e es is said h =
     let p = h.packed in
     let aside : IsAside e.ask = subst IsAside (sym is) tt in

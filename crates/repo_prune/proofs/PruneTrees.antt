@@ -23,10 +23,10 @@ use Rattle.repo_session.specs.declared.outcomes.End.{End}
 use Rattle.repo_session.specs.declared.outcomes.Outcome.{Outcome}
 use Rattle.repo_session.specs.Askers.{Asker}
 use Rattle.repo_session.specs.Blobs.{range_of}
-use Rattle.repo_session.specs.Catalogs.{IsNowhere}
+use Rattle.repo_session.specs.Catalogs.{IsBlobNowhere}
 use Rattle.repo_session.specs.Ends.{blob_thing, Concludes, IsBad}
 use Rattle.repo_session.specs.Jobs.{MayAsk}
-use Rattle.repo_session.specs.Listings.{IsListing, IsReadRow}
+use Rattle.repo_session.specs.Listings.{IsSnapshotListing, IsReadRow}
 use Rattle.repo_session.specs.Order.{IsWorking}
 use Rattle.repo_session.specs.Received.{Received}
 use Rattle.repo_session.specs.Traces.{Exchange, Trace, Lists, ReadFact}
@@ -73,7 +73,7 @@ tree_asked k who token es texts trees fact w over a = record {
 -- ---- rows and roots
 
 -- a row's snapshot is of version 1, was read, and is listed
-module _ (es : Trace) (rows : List Row) (l : IsListing es rows) (row : Row) (among : Contains rows row) where
+module _ (es : Trace) (rows : List Row) (l : IsSnapshotListing es rows) (row : Row) (among : Contains rows row) where
   row_is : IsReadRow es row
   row_is = each_contained (IsReadRow es) rows row l.each among
 
@@ -97,7 +97,7 @@ module _ (k : Known) (es : Trace) (texts : List (List ℕ)) (roots : List Name) 
   row_of root h = map_contains (λ (row : Row). row.1.tree) k.rows root (subst (λ rs. Contains rs root) roots_are h)
 
   -- a blob that a snapshot needs, and no index gives
-  pub unindexed : (kind : BlobKind) (n : Name) → IsNowhere k.facts kind n → (root : Name) → Contains roots root → IsNeeded 1 (tree_blobs texts) root kind n → (snapshot : Name) × Lists es Kind.Snapshot snapshot × IsUnindexed es snapshot (blob_thing kind) n
+  pub unindexed : (kind : BlobKind) (n : Name) → IsBlobNowhere k.facts kind n → (root : Name) → Contains roots root → IsNeeded 1 (tree_blobs texts) root kind n → (snapshot : Name) × Lists es Kind.Snapshot snapshot × IsUnindexed es snapshot (blob_thing kind) n
   unindexed kind n nowhere root among needed =
       let row = row_of root among in
       let B : Name → Type 0 = λ m. HasRoot es row.0.0 1 m in (
@@ -166,7 +166,7 @@ read_within es fact read =
 -- ---- once all trees were read
 
 module _ (k : Known) (trees : Trees) (es : Trace) (h : HasWalked k trees es) where
-  listing : IsListing es k.rows
+  listing : IsSnapshotListing es k.rows
   listing = h.over.read.snapshots
 
   reach_one : (row : Row) (kind : BlobKind) (n : Name) → Contains k.rows row → Reach row.1.version (tree_blobs h.texts) row.1.tree kind n → IsReached h.texts trees.roots.items kind n
@@ -231,7 +231,7 @@ module _ (k : Known) (trees : Trees) (es : Trace) (h : HasWalked k trees es) whe
   }
 
   -- some content that is used, and that no index gives
-  pub content_unindexed : (n : Name) → IsUsed trees.seen.items Content n → IsNowhere k.facts Content n → (snapshot : Name) × Lists es Kind.Snapshot snapshot × IsUnindexed es snapshot Thing.Content n
+  pub content_unindexed : (n : Name) → IsUsed trees.seen.items Content n → IsBlobNowhere k.facts Content n → (snapshot : Name) × Lists es Kind.Snapshot snapshot × IsUnindexed es snapshot Thing.Content n
   content_unindexed n used nowhere =
       let reached = (used_is_reached h.texts trees h.walks.walk h.whole Content n).1 used in
       unindexed k es h.texts trees.roots.items h.over.read h.over.roots h.over.received Content n nowhere reached.0 reached.1 (reached_needed 1 (tree_blobs h.texts) reached.0 Content n reached.2)

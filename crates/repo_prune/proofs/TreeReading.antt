@@ -21,7 +21,7 @@ use Rattle.repo_session.specs.declared.outcomes.End.{End}
 use Rattle.repo_reach.proofs.Rewinding.{got_or}
 use Rattle.repo_reach.specs.Collected.{tree_blobs, LeadsTo}
 use Rattle.repo_reach.specs.Links.{LeadTo, trees_in}
-use Rattle.repo_reach.specs.Walks.{IsWalk, HasText, StandsAt, IsLedTo, TurnIs, AreSameTrees, IsSameWalk, IsNew, HasRead, Adds, IsUnchanged}
+use Rattle.repo_reach.specs.Walks.{IsWalk, HasText, StandsAt, IsLedTo, TurnIs, AreSameTrees, IsSameWalk, IsNewTree, HasRead, Adds, IsUnchanged}
 use Rattle.repo_reach.specs.declared.links.Links.{Links}
 use Rattle.repo_reach.specs.declared.trees.Seen.{Seen}
 use Rattle.repo_reach.specs.declared.trees.Trees.{Trees}
@@ -128,7 +128,7 @@ unchanged_trees old new h = subst (AreSameTrees old.seen.items) (sym h.seen) (sa
 
 -- ---- a tree more
 
-pub found_more : (facts : List Fact) (texts : List (List ℕ)) (old new : Trees) (fact : Fact) (name : Name) (nodes : List Node) (seen : Seen) → Awaits facts texts old fact → fact.name ≡ name → IsNew name seen → HasRead nodes seen → Adds old seen new → AreFound facts new.seen.items
+pub found_more : (facts : List Fact) (texts : List (List ℕ)) (old new : Trees) (fact : Fact) (name : Name) (nodes : List Node) (seen : Seen) → Awaits facts texts old fact → fact.name ≡ name → IsNewTree name seen → HasRead nodes seen → Adds old seen new → AreFound facts new.seen.items
 found_more facts texts old new fact name nodes seen a is new_one read adds i s there = elim (got_or old.seen.items seen i s (subst (λ (all : List Seen). slice_get all i ≡ Some s) adds.seen there)) [
   | inl was ↦ a.walks.found i s was
   | inr last ↦ subst (λ (z : Seen). ((links : Links) × (z.links ≡ Some links)) × HasFact facts Tree z.name) last.1 ((read.0, read.1), subst (HasFact facts Tree) (is ∙ sym new_one.name) given)

@@ -1,5 +1,5 @@
 -- What is known while a forget goes on.
-use Rattle.std.specs.Prelude.{◌≡◌, ◌⊎◌, ◌∷◌, ℕ, List, slice_get, take, Some}
+use Rattle.std.specs.Prelude.{◌≡◌, ◌⊎◌, ◌∷◌, ℕ, List, slice_get, take, Some, Option}
 use Rattle.repo_name.specs.declared.kinds.Kind.{Kind}
 use Rattle.repo_name.specs.declared.names.Name.{Name}
 use Rattle.repo_name.specs.declared.tokens.Token.{Token}
@@ -40,8 +40,8 @@ abbrev pub KnowsForget : ForgetJob → Ask → Trace → Type 0
 KnowsForget f ask es = KnowsReading f ask es ⊎ KnowsDelete f ask es
 
 -- the step on an exchange at which it read
-abbrev pub ReadsOn : ForgetJob → Holding → Ask → Say → Step → ForgetJob → Type 0
-ReadsOn old holding ask say step new = StepsOn (forget_rule old.choice) holding (KnowsReading old) (KnowsForget new) (silent ask say) step
+abbrev pub ForgetReadsOn : ForgetJob → Holding → Ask → Say → Step → ForgetJob → Type 0
+ForgetReadsOn old holding ask say step new = StepsOn (forget_rule old.choice) holding (KnowsReading old) (KnowsForget new) (silent ask say) step
 
 -- the step where these were chosen on an exchange
 abbrev pub ForgetBegins : ForgetJob → Holding → List Name → Step → ForgetJob → Type 0
@@ -68,3 +68,8 @@ choice_of f = f.session.job.choice
 -- the forget stands where the trace leaves it
 abbrev pub FitsForget : Forget → Trace → Type 0
 FitsForget f es = FitsSession choice_in forget_rule IsFreshForget KnowsForget f.session es
+
+-- where it was handed names, a page was taken
+abbrev pub TakesPage : ForgetJob → Holding → Say → Step → ForgetJob → Type 0
+TakesPage old holding say step new = (kind : Kind) (after : Option Name) (names : List Name) → old.choice ≡ Choice.Names names
+    → ForgetReadsOn old holding (Ask.List kind after) say step new

@@ -1,8 +1,8 @@
 -- What is known while a prune moves blobs to new packs.
-use Rattle.std.specs.Prelude.{◌≡◌, ◌≤◌, ◌⊎◌, ◌+◌, ◌++◌, ◌∷◌, [], List, length, map, take, slice_get, Some, None}
+use Rattle.std.specs.Prelude.{◌≡◌, ◌≤◌, ◌⊎◌, ◌+◌, ◌++◌, ◌∷◌, [], List, length, map, take, slice_get, Some, None, ℕ}
 use Rattle.repo_name.specs.declared.kinds.BlobKind.{BlobKind}
 use Rattle.repo_name.specs.declared.names.Name.{Name}
-use Rattle.repo_pack.specs.PackLayout.{Item}
+use Rattle.repo_pack.specs.PackLayout.{Item, IsBlobLength}
 use Rattle.repo_pack.specs.PackWriting.{IsOpen}
 use Rattle.repo_pack.specs.declared.writers.Sealed.{Sealed}
 use Rattle.repo_index.specs.declared.facts.Fact.{Fact}
@@ -75,9 +75,21 @@ pub record AwaitsStill (old new : Moving) (fact : Fact) (sent : List Item) : Typ
   pub moves : new.moves ≡ old.moves
 
 -- a blob was added to the pack that is being written
-pub record Added (old new : Moving) (sent sealed : List Item) : Type 0 where
+pub record BlobWasAdded (old new : Moving) (sent sealed : List Item) : Type 0 where
   pub moving : IsMoving new sent sealed
   pub listed : new.listed ≡ old.listed
   pub moves : new.moves ≡ old.moves
   pub added : new.added ≡ new.asked + 1
   pub asked : new.asked ≡ old.asked
+
+-- no pack is due: none is sealed, the one that is being written is open, and holds nothing where no blob is left
+abbrev pub TakesMore : Moving → Type 0
+TakesMore m = (m.packer.sealed ≡ None) × IsOpen m.packer.writer × (length m.moves.items ≤ m.added → m.packer.writer.items ≡ [])
+
+-- a blob that is awaited comes to the pack that is being written
+abbrev pub AddsBlob : Fact → Moving → Moving → Type 0
+AddsBlob fact old new = (sent sealed : List Item) → AwaitsBlob old fact sent sealed → old.added ≡ old.asked → BlobWasAdded old new sent sealed
+
+-- and it goes on
+abbrev pub MovesBlob : Fact → List ℕ → Moving → Moved → Moving → Type 0
+MovesBlob fact bytes old moved new = (sent sealed : List Item) → AwaitsBlob old fact sent sealed → IsBlobLength (length bytes) → MovesOn sent old.listed.items moved new

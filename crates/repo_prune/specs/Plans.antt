@@ -10,7 +10,7 @@ use Rattle.repo_index.specs.Lookups.{IsLeast, AreFactsOf}
 use Rattle.repo_index.specs.Order.{place_first}
 use Rattle.repo_index.specs.declared.facts.Fact.{Fact}
 use Rattle.repo_index.specs.declared.facts.PackFacts.{PackFacts}
-use Rattle.repo_reach.specs.Used.{HasPair}
+use Rattle.repo_reach.specs.Used.{UsedHasPair}
 use Rattle.repo_reach.specs.declared.used.Used.{Used}
 use Rattle.repo_writing.specs.Blobs.{HasFact}
 use Rattle.repo_prune.specs.Pruning.{AreFactsOnce}
@@ -18,7 +18,7 @@ use Rattle.repo_prune.specs.declared.plans.Plan.{Plan}
 
 -- the copy of a used pair that is used: the one at the least place
 pub record IsUsedCopy (used : Used) (facts : List Fact) (fact : Fact) : Type 0 where
-  pub is_used : HasPair used fact.kind fact.name
+  pub is_used : UsedHasPair used fact.kind fact.name
   pub least : IsLeast facts fact.kind fact.name fact.place
 
 -- a pack stays: these are its facts, 1 to 4,096, and all are used copies
@@ -46,8 +46,8 @@ planned_facts plan = facts_in plan.kept.items ++ plan.moves.items
 
 -- they cover what is used: each used pair that has a fact is one of them, each of them is of a used pair, and no two are of one pair
 pub record Covers (used : Used) (facts : List Fact) (plan : Plan) : Type 0 where
-  pub given : (k : BlobKind) (n : Name) → HasPair used k n → HasFact facts k n → HasFact (planned_facts plan) k n
-  pub just : (fact : Fact) → Contains (planned_facts plan) fact → HasPair used fact.kind fact.name
+  pub given : (k : BlobKind) (n : Name) → UsedHasPair used k n → HasFact facts k n → HasFact (planned_facts plan) k n
+  pub just : (fact : Fact) → Contains (planned_facts plan) fact → UsedHasPair used fact.kind fact.name
   pub once : AreFactsOnce (planned_facts plan)
 
 -- ---- on the way
@@ -58,6 +58,10 @@ pub record AreCopiesOf (used : Used) (facts own copies : List Fact) : Type 0 whe
   pub ascend : IsStrictlySortedBy place_first own → IsStrictlySortedBy place_first copies
   pub fewer : length copies ≤ length own
   pub whole : (length copies ≡ length own) ↔ ((fact : Fact) → Contains own fact → IsUsedCopy used facts fact)
+
+-- where a pack's own facts are among all
+abbrev pub AreOwnCopies : Used → List Fact → List Fact → List Fact → Type 0
+AreOwnCopies used facts own copies = ((fact : Fact) → Contains own fact → Contains facts fact) → AreCopiesOf used facts own copies
 
 -- a plan for the packs of these names alone
 pub record IsPlanFor (used : Used) (facts : List Fact) (packs : List Name) (plan : Plan) : Type 0 where

@@ -19,7 +19,7 @@ use Rattle.repo_session.specs.Catalogs.{AreIndexed, Catalogs, IsAll}
 use Rattle.repo_session.specs.Deletions.{DeleteDone, NoneDeleted, names_deleted}
 use Rattle.repo_session.specs.Ends.{Concludes}
 use Rattle.repo_session.specs.Jobs.{MayAsk, StepsOn}
-use Rattle.repo_session.specs.Listings.{IsListing, IsFreshRoll, KnowsSnapshots}
+use Rattle.repo_session.specs.Listings.{IsSnapshotListing, IsFreshRoll, KnowsSnapshots}
 use Rattle.repo_session.specs.Order.{IsWorking}
 use Rattle.repo_session.specs.Readings.{KnowsIndexes, KnowsRoll}
 use Rattle.repo_session.specs.Received.{Received}
@@ -60,7 +60,7 @@ pub record Known : Type 0 where
 
 -- all three are listed to their end; each snapshot and each index was read, and reads; and just these facts the indexes give
 pub record HaveRead (k : Known) (es : Trace) : Type 0 where
-  pub snapshots : IsListing es k.rows
+  pub snapshots : IsSnapshotListing es k.rows
   pub indexes : AreIndexed es
   pub listed : names_in Kind.Index es ≡ k.indexes
   pub gives : (fact : Fact) → Contains k.facts fact ↔ ReadFact es fact
@@ -133,7 +133,7 @@ pub record KnowsMove (k : Known) (m : Moving) (ask : Ask) (es : Trace) : Type 0 
   pub asks : ask ≡ range_of fact
 
 -- a pack is being put
-pub record PutsPack (k : Known) (m : Moving) (n : Name) (x : List ℕ) (es : Trace) : Type 0 where
+pub record PrunePutsPack (k : Known) (m : Moving) (n : Name) (x : List ℕ) (es : Trace) : Type 0 where
   pub puts : List Put
   pub put : Put
   pub sealed : List Item
@@ -174,7 +174,7 @@ pub record MayList (k : Known) (r : Relisting) (es : Trace) : Type 0 where
   pub named : r.indexes.items ≡ indexes_put es
 
 -- an index of some more of them is being put
-pub record PutsIndex (k : Known) (r : Relisting) (n : Name) (x : List ℕ) (es : Trace) : Type 0 where
+pub record PrunePutsIndex (k : Known) (r : Relisting) (n : Name) (x : List ℕ) (es : Trace) : Type 0 where
   pub packed : ArePacked k r.packs.items r.counts es
   pub waiting : List PackFacts
   pub lists : AreListed (take r.listed r.packs.items) waiting es
@@ -236,14 +236,14 @@ pub record ReadsSnapshots (j : PruneJob) (ask : Ask) (es : Trace) : Type 0 where
 -- snapshots were read, and indexes are being read
 pub record ReadsIndexes (j : PruneJob) (ask : Ask) (es : Trace) : Type 0 where
   pub untouched : IsUntouched es
-  pub snapshots : IsListing es j.snapshots.rows.items
+  pub snapshots : IsSnapshotListing es j.snapshots.rows.items
   pub indexes : KnowsIndexes j.catalog ask es
   pub packs : AreUnlisted j.packs es
 
 -- indexes were read too, and packs are being listed
 pub record ListsPacks (j : PruneJob) (ask : Ask) (es : Trace) : Type 0 where
   pub untouched : IsUntouched es
-  pub snapshots : IsListing es j.snapshots.rows.items
+  pub snapshots : IsSnapshotListing es j.snapshots.rows.items
   pub indexes : Catalogs j.catalog true es
   pub all : IsAll j.catalog
   pub of_packs : j.packs.kind ≡ Kind.Pack
@@ -264,11 +264,11 @@ pub record IsFreshPrune (j : PruneJob) : Type 0 where
 
 abbrev pub KnowsMoving : Known → Moving → Ask → Trace → Type 0
 KnowsMoving k m (Ask.Range pack offset len) es = KnowsMove k m (Ask.Range pack offset len) es
-KnowsMoving k m (Ask.Put token Kind.Pack n x) es = PutsPack k m n x es
+KnowsMoving k m (Ask.Put token Kind.Pack n x) es = PrunePutsPack k m n x es
 KnowsMoving k m _ es = ⊥
 
 abbrev pub KnowsRelisting : Known → Relisting → Ask → Trace → Type 0
-KnowsRelisting k r (Ask.Put token Kind.Index n x) es = PutsIndex k r n x es
+KnowsRelisting k r (Ask.Put token Kind.Index n x) es = PrunePutsIndex k r n x es
 KnowsRelisting k r _ es = ⊥
 
 abbrev pub KnowsDeleting : Deleting → Ask → Trace → Type 0

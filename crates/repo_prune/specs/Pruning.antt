@@ -20,7 +20,7 @@ use Rattle.repo_session.specs.Askers.{Asker}
 use Rattle.repo_session.specs.Catalogs.{AreIndexed}
 use Rattle.repo_session.specs.Deletions.{DeleteDone, NoneDeleted, names_deleted}
 use Rattle.repo_session.specs.Jobs.{Rule}
-use Rattle.repo_session.specs.Listings.{IsListing}
+use Rattle.repo_session.specs.Listings.{IsSnapshotListing}
 use Rattle.repo_session.specs.Order.{Task, IsReading}
 use Rattle.repo_session.specs.Received.{Received}
 use Rattle.repo_session.specs.Told.{AskedToPut}
@@ -77,7 +77,7 @@ ListsPack packs n = (listed : PackFacts) × Contains packs listed × (listed.pac
 -- put list, each with a blob, each pack put among them, and they give what the snapshots need.
 pub record IsSettled (es : Trace) (packs : List PackFacts) : Type 0 where
   pub rows : List Row
-  pub snapshots : IsListing es rows
+  pub snapshots : IsSnapshotListing es rows
   pub indexes : AreIndexed es
   pub done : AreDone es
   pub listed : AreListed packs [] es

@@ -9,7 +9,7 @@ use Rattle.repo_wire.specs.declared.messages.Say.{Say}
 use Rattle.repo_index.specs.declared.facts.Fact.{Fact}
 use Rattle.repo_tree.specs.Parts.{Blobs}
 use Rattle.repo_session.specs.Blobs.{range_of}
-use Rattle.repo_session.specs.Catalogs.{IsNowhere}
+use Rattle.repo_session.specs.Catalogs.{IsBlobNowhere}
 use Rattle.repo_session.specs.Ends.{blob_thing, IsBadBlob, IsUnwelcome}
 use Rattle.repo_session.specs.Trees.{Under, IsNeeded, IsBroken}
 use Rattle.repo_session.specs.declared.outcomes.End.{End}
@@ -19,9 +19,12 @@ use Rattle.repo_reach.specs.Walks.{IsWalk, TurnIs, Adds, IsSameWalk}
 use Rattle.repo_reach.specs.declared.links.Links.{Links}
 use Rattle.repo_reach.specs.declared.trees.Seen.{Seen}
 use Rattle.repo_reach.specs.declared.trees.Trees.{Trees}
+use Rattle.repo_reach.specs.declared.trees.Turn.{Turn}
 use Rattle.repo_reach.specs.declared.trees.Turn.TheVariants as turn
 use Rattle.repo_writing.specs.Blobs.{HasFact}
 use Rattle.repo_prune.specs.declared.reading.Walked.{Walked}
+use Rattle.repo_tree.specs.declared.nodes.Node.{Node}
+use Rattle.repo_tree.specs.TreeText.{IsTreeText}
 
 -- each tree that was seen was read, and a fact gives it
 abbrev pub AreFound : List Fact → List Seen → Type 0
@@ -39,7 +42,7 @@ pub record Awaits (facts : List Fact) (texts : List (List ℕ)) (trees : Trees) 
 
 -- why it can't go on: no fact gives a tree that a root needs, or such a tree is broken
 abbrev pub CannotGoOn : List Fact → Blobs → List Name → End → Type 0
-CannotGoOn facts B roots (End.Missing thing name) = (kind : BlobKind) × (thing ≡ blob_thing kind) × IsNowhere facts kind name × ((root : Name) × Contains roots root × IsNeeded 1 B root kind name)
+CannotGoOn facts B roots (End.Missing thing name) = (kind : BlobKind) × (thing ≡ blob_thing kind) × IsBlobNowhere facts kind name × ((root : Name) × Contains roots root × IsNeeded 1 B root kind name)
 CannotGoOn facts B roots (End.BadObject thing tree) = (thing ≡ Thing.Tree) × ((root : Name) × Contains roots root × ((path : List (List ℕ)) × Under 1 B root path tree × IsBroken 1 B root path tree))
 CannotGoOn facts B roots _ = ⊥
 
@@ -49,6 +52,23 @@ WalksOn facts texts trees (Walked.Ask fact) = Awaits facts texts trees fact
 WalksOn facts texts trees Walked.Done = Walks facts texts trees × IsWholeWalk trees
 WalksOn facts texts trees (Walked.Ended end) = CannotGoOn facts (tree_blobs texts) trees.roots.items end
 WalksOn facts texts trees Walked.Away = ⊥
+
+-- wherever a walk takes this turn, it goes on so
+abbrev pub WalksBy : Turn → Walked → Type 0
+WalksBy next walked = (facts : List Fact) (texts : List (List ℕ)) (trees : Trees) → Walks facts texts trees → TurnIs facts texts trees next → WalksOn facts texts trees walked
+
+-- the tree that is awaited was read, and has these nodes; or has these bytes
+abbrev pub AddsTree : List Fact → Name → List Node → Trees → Walked → Trees → Type 0
+AddsTree facts name nodes old walked new = (texts : List (List ℕ)) (fact : Fact) (text : List ℕ) → Awaits facts texts old fact → fact.name ≡ name → naming.name text ≡ name
+    → IsTreeText text nodes → WalksOn facts (texts ++ text ∷ []) new walked
+
+abbrev pub AddsText : List Fact → Name → List ℕ → Trees → Walked → Trees → Type 0
+AddsText facts name bytes old walked new = (texts : List (List ℕ)) (fact : Fact) → Awaits facts texts old fact → fact.name ≡ name → naming.name bytes ≡ name
+    → WalksOn facts (texts ++ bytes ∷ []) new walked
+
+-- it is awaited as before
+abbrev pub AwaitsTreeStill : List Fact → Name → Trees → Trees → Type 0
+AwaitsTreeStill facts name old new = (texts : List (List ℕ)) (fact : Fact) → fact.name ≡ name → Awaits facts texts old fact → Awaits facts texts new fact
 
 -- the reply is the blob that a fact promises
 pub record IsPromised (fact : Fact) (say : Say) (x : List ℕ) : Type 0 where
@@ -73,3 +93,12 @@ pub record HasTaken (before : Trees) (name : Name) (after : Trees) : Type 0 wher
   pub named : seen.name ≡ name
   pub adds : Adds before seen added
   pub same : IsSameWalk added after
+
+-- what was said of the tree that is awaited
+abbrev pub TakesAwaited : List Fact → Fact → Say → Trees → Walked → Trees → Type 0
+TakesAwaited facts fact say old walked new = (texts : List (List ℕ)) → Awaits facts texts old fact → TakesTree facts texts fact say new walked
+
+-- what was taken is taken back: the tree is awaited as before
+abbrev pub UntakesTree : Trees → Trees → Type 0
+UntakesTree old new = (facts : List Fact) (texts : List (List ℕ)) (before : Trees) (fact : Fact) → HasTaken before fact.name old → Awaits facts texts before fact
+    → Awaits facts texts new fact

@@ -5,3 +5,4 @@ pub mod Unfound
 pub mod Indexing
 pub mod Deciding
 pub mod Deleting
+pub mod Replies

@@ -1,6 +1,6 @@
 //! The forgetting of a store's snapshots.
 
-ghost use Rattle.std.specs.Prelude.{◌≡◌, ◌↔◌, [], map, List, Option, IfOk, OnErr, IsErr};
+ghost use Rattle.std.specs.Prelude.{◌≡◌, ◌↔◌, [], List, Option, IfOk, OnErr, IsErr};
 ghost use Rattle.repo_name.specs.declared.kinds.Kind.{Kind};
 ghost use Rattle.repo_name.specs.declared.names.Name.{Name};
 ghost use Rattle.repo_wire.specs.declared.messages.Ask.{Ask};
@@ -9,8 +9,8 @@ ghost use Rattle.repo_session.specs.Listings.{KnowsAsMuch};
 ghost use Rattle.repo_session.specs.Traces.{silent};
 ghost use Rattle.repo_prune.specs.declared.choices.Choice.{Choice};
 ghost use Rattle.repo_prune.specs.Forgetting.{IsNoPolicy, forget_rule};
-ghost use Rattle.repo_prune.specs.inner.Picking.{AreChosenOf};
-ghost use Rattle.repo_prune.specs.ForgetStates.{FitsForget, IsFreshForget, KnowsDelete, KnowsForget, ForgetBegins, ForgetGoesOn, ReadsOn, who_of, choice_of};
+ghost use Rattle.repo_prune.specs.inner.Picking.{AreChosenOf, AreChosen};
+ghost use Rattle.repo_prune.specs.ForgetStates.{FitsForget, IsFreshForget, KnowsDelete, KnowsForget, ForgetBegins, ForgetGoesOn, ForgetReadsOn, who_of, choice_of, TakesPage};
 
 use crate::choices::{Choice, ForgetError};
 use crate::keeping::Policy;
@@ -105,7 +105,7 @@ impl ForgetJob {
 
     /// Those of the snapshots read that are chosen. It fails for memory alone.
     fn choose_read(&self) -> Result<Vec<Name>, AllocError>
-        ensures chosen { IfOk result (λ picked. AreChosenOf self.now.choice self.now.snapshots.rows.items (map (λ row. row.0) self.now.snapshots.rows.items) picked.items) }
+        ensures chosen { IfOk result (λ picked. AreChosen self.now.choice self.now.snapshots.rows.items picked.items) }
     {
         let rows = self.snapshots.rows.as_slice();
         let listed = names_of(self.alloc, rows)?;
@@ -126,7 +126,7 @@ impl ForgetJob {
     /// Takes the reply to the request for a page, where names were given. It fails for memory alone, and then what was
     /// known is known.
     fn take_page(&mut self, holder: &Holder, say: &Say) -> Result<Step, AllocError>
-        ensures steps { IfOk result (λ step. (kind : Kind) (after : Option Name) (names : List Name) → self.old.choice ≡ Choice.Names names → ReadsOn self.old holder.now (Ask.List kind after) say.now step self.new) }
+        ensures steps { IfOk result (λ step. TakesPage self.old holder.now say.now step self.new) }
         ensures short { IfOk result IsShortStep }
         ensures knows { OnErr result (KnowsAsMuch self.old.snapshots self.new.snapshots) }
         ensures choice { self.new.choice ≡ self.old.choice }
@@ -149,7 +149,7 @@ impl ForgetJob {
 
     /// Takes the reply to a request of the reading. It fails for memory alone, and then what was known is known.
     fn take_reading(&mut self, holder: &Holder, ask: &Ask, say: &Say) -> Result<Step, AllocError>
-        ensures steps { IfOk result (λ step. ReadsOn self.old holder.now ask.now say.now step self.new) }
+        ensures steps { IfOk result (λ step. ForgetReadsOn self.old holder.now ask.now say.now step self.new) }
         ensures short { IfOk result IsShortStep }
         ensures knows { OnErr result (KnowsAsMuch self.old.snapshots self.new.snapshots) }
         ensures choice { self.new.choice ≡ self.old.choice }

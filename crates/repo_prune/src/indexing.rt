@@ -4,7 +4,7 @@ ghost use Rattle.std.specs.Prelude.{◌≡◌, take, IfOk};
 ghost use Rattle.std.specs.List.Sorted.{IsSortedBy, IsPermutation};
 ghost use Rattle.repo_name.specs.Naming.{name_cmp};
 ghost use Rattle.repo_writing.specs.Writing.{FewWait};
-ghost use Rattle.repo_prune.specs.inner.Indexing.{IsCut, AreSmall, is_before};
+ghost use Rattle.repo_prune.specs.inner.Indexing.{IsIndexCut, AreSmall, is_before};
 
 use repo_index::{Facts, IndexText, PackFacts};
 use repo_name::FACTS_LIMIT;
@@ -29,7 +29,7 @@ pub fn sort_packs(packs: &mut Vec<PackFacts>)
 /// How many of the first of some packs go into one index: as many as it takes to have 20,000 blobs, or all. So it has at
 /// most 24,095 blobs, where each pack has at most 4,096.
 pub fn cut(packs: &[PackFacts]) -> usize
-    ensures cut { IsCut packs.now result }
+    ensures cut { IsIndexCut packs.now result }
     ensures few { AreSmall packs.now → FewWait (take result packs.now) }
 {
     let mut count: usize = 0;

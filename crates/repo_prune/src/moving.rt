@@ -5,7 +5,7 @@ ghost use Rattle.repo_name.specs.Naming as naming;
 ghost use Rattle.repo_index.specs.declared.facts.Fact.{Fact};
 ghost use Rattle.repo_pack.specs.PackLayout.{Item, IsBlobLength};
 ghost use Rattle.repo_pack.specs.PackWriting.{IsOpen};
-ghost use Rattle.repo_prune.specs.Moving.{IsMoving, AwaitsBlob, MovesOn, StaysMoving, AwaitsStill, Added};
+ghost use Rattle.repo_prune.specs.Moving.{IsMoving, AwaitsBlob, MovesOn, StaysMoving, AwaitsStill, TakesMore, AddsBlob, MovesBlob};
 
 use repo_index::{Fact, PackFacts};
 use repo_name::BLOB_LIMIT;
@@ -72,7 +72,7 @@ impl Moving {
     /// Whether a pack is to be sent: one is sealed; or the one that is being written is due, or has the last blobs.
     fn is_due(&self) -> bool
         ensures due { IsTrue result → (self.now.packer.sealed ≢ None) ⊎ (1 ≤ length self.now.packer.writer.items) }
-        ensures open { IsFalse result → (self.now.packer.sealed ≡ None) × IsOpen self.now.packer.writer × (length self.now.moves.items ≤ self.now.added → self.now.packer.writer.items ≡ []) }
+        ensures open { IsFalse result → TakesMore self.now }
     {
         self.packer.sealed.is_some()
             || self.packer.writer.is_due()
@@ -143,7 +143,7 @@ impl Moving {
     fn add(&mut self, fact: Fact, bytes: &[u8]) -> Result<(), AllocError>
         requires room { IsOpen self.old.packer.writer × IsBlobLength (length bytes.now) }
         requires named { fact.name ≡ naming.name bytes.now }
-        ensures ok { OnOk result ((sent sealed : List Item) → AwaitsBlob self.old fact sent sealed → self.old.added ≡ self.old.asked → Added self.old self.new sent sealed) }
+        ensures ok { OnOk result (AddsBlob fact self.old self.new) }
         ensures err { OnErr result ((sent sealed : List Item) → AwaitsBlob self.old fact sent sealed → AwaitsStill self.old self.new fact sent) }
         ensures moves { self.new.moves ≡ self.old.moves }
     {
@@ -156,7 +156,7 @@ impl Moving {
     /// then they may be taken again.
     pub fn take_blob(&mut self, fact: Fact, bytes: &[u8]) -> Result<Moved, AllocError>
         requires { fact.name ≡ naming.name bytes.now }
-        ensures on { IfOk result (λ moved. (sent sealed : List Item) → AwaitsBlob self.old fact sent sealed → IsBlobLength (length bytes.now) → MovesOn sent self.old.listed.items moved self.new) }
+        ensures on { IfOk result (λ moved. MovesBlob fact bytes.now self.old moved self.new) }
         ensures err { OnErr result ((sent sealed : List Item) → AwaitsBlob self.old fact sent sealed → AwaitsStill self.old self.new fact sent) }
         ensures moves { self.new.moves ≡ self.old.moves }
     {

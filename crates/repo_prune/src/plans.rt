@@ -4,7 +4,7 @@ ghost use Rattle.std.specs.Prelude.{◌≡◌, ◌≤◌, ◌↔◌, length, IfO
 ghost use Rattle.repo_name.specs.Limits.{blobs_limit};
 ghost use Rattle.repo_pack.specs.declared.places.Place.{Place};
 ghost use Rattle.repo_index.specs.Lookups.{IsLeast};
-ghost use Rattle.repo_prune.specs.Plans.{IsUsedCopy, IsPlanOf, Covers, AreCopiesOf, Plans};
+ghost use Rattle.repo_prune.specs.Plans.{IsUsedCopy, IsPlanOf, Covers, Plans, AreOwnCopies};
 
 use repo_index::{Fact, Lookup, PackFacts};
 use repo_name::{BLOBS_LIMIT, Name};
@@ -52,7 +52,7 @@ fn used_copies(
     used: &Used,
     own: &[Fact],
 ) -> Result<Vec<Fact>, AllocError>
-    ensures { IfOk result (λ copies. ((fact : Fact) → Contains own.now fact → Contains lookup.now fact) → AreCopiesOf used.now lookup.now own.now copies.items) }
+    ensures { IfOk result (λ copies. AreOwnCopies used.now lookup.now own.now copies.items) }
 {
     let mut copies = Vec::new(alloc);
     for fact in own {

@@ -1,12 +1,11 @@
 //! The reading of the trees that snapshots reach, as a prune does it.
 
-ghost use Rattle.std.specs.Prelude.{◌≡◌, ◌++◌, ◌∷◌, [], ℕ, List, length, IfOk, OnErr};
+ghost use Rattle.std.specs.Prelude.{◌≡◌, ℕ, List, length, IfOk, OnErr};
 ghost use Rattle.repo_name.specs.Naming as naming;
 ghost use Rattle.repo_name.specs.declared.names.Name.{Name};
 ghost use Rattle.repo_index.specs.declared.facts.Fact.{Fact};
-ghost use Rattle.repo_tree.specs.TreeText.{IsTreeText};
-ghost use Rattle.repo_reach.specs.Walks.{TurnIs, IsSameWalk};
-ghost use Rattle.repo_prune.specs.Reading.{Walks, Awaits, WalksOn, TakesTree, HasTaken};
+ghost use Rattle.repo_reach.specs.Walks.{IsSameWalk};
+ghost use Rattle.repo_prune.specs.Reading.{Walks, Awaits, WalksOn, HasTaken, WalksBy, AddsTree, AddsText, AwaitsTreeStill, TakesAwaited, UntakesTree};
 ghost use Rattle.repo_prune.specs.declared.reading.Walked.{Walked};
 ghost use Rattle.repo_reach.specs.declared.trees.Trees.{Trees};
 ghost use Rattle.repo_session.specs.declared.outcomes.End.{End};
@@ -42,7 +41,7 @@ fn bad_tree(name: Name) -> Walked
 
 /// Goes on as the walk does.
 fn go_on(turn: Turn) -> Walked
-    ensures { (facts : List Fact) (texts : List (List ℕ)) (trees : Trees) → Walks facts texts trees → TurnIs facts texts trees turn → WalksOn facts texts trees result }
+    ensures { WalksBy turn result }
 {
     match turn {
         Turn::Ask(fact) => Walked::Ask(fact),
@@ -69,9 +68,8 @@ fn add_tree(
     name: Name,
     nodes: &[Node],
 ) -> Result<Walked, AllocError>
-    ensures on { IfOk result (λ walked. (texts : List (List ℕ)) (fact : Fact) (text : List ℕ) → Awaits lookup.now texts trees.old fact → fact.name ≡ name → naming.name text ≡ name → IsTreeText text nodes.now
-        → WalksOn lookup.now (texts ++ text ∷ []) trees.new walked) }
-    ensures still { OnErr result ((texts : List (List ℕ)) (fact : Fact) → fact.name ≡ name → Awaits lookup.now texts trees.old fact → Awaits lookup.now texts trees.new fact) }
+    ensures on { IfOk result (λ walked. AddsTree lookup.now name nodes.now trees.old walked trees.new) }
+    ensures still { OnErr result (AwaitsTreeStill lookup.now name trees.old trees.new) }
     ensures taken { IfOk result (λ walked. HasTaken trees.old name trees.new) }
     ensures roots { trees.new.roots ≡ trees.old.roots }
 {
@@ -93,8 +91,8 @@ fn take_bytes(
     name: Name,
     bytes: &[u8],
 ) -> Result<Walked, AllocError>
-    ensures on { IfOk result (λ walked. (texts : List (List ℕ)) (fact : Fact) → Awaits lookup.now texts trees.old fact → fact.name ≡ name → naming.name bytes.now ≡ name → WalksOn lookup.now (texts ++ bytes.now ∷ []) trees.new walked) }
-    ensures still { OnErr result ((texts : List (List ℕ)) (fact : Fact) → fact.name ≡ name → Awaits lookup.now texts trees.old fact → Awaits lookup.now texts trees.new fact) }
+    ensures on { IfOk result (λ walked. AddsText lookup.now name bytes.now trees.old walked trees.new) }
+    ensures still { OnErr result (AwaitsTreeStill lookup.now name trees.old trees.new) }
     ensures taken { IfOk result (λ walked. walked ≡ Walked.Done → HasTaken trees.old name trees.new) }
     ensures roots { trees.new.roots ≡ trees.old.roots }
 {
@@ -115,7 +113,7 @@ pub fn take_tree(
     fact: Fact,
     say: &Say,
 ) -> Result<Walked, AllocError>
-    ensures takes { IfOk result (λ walked. (texts : List (List ℕ)) → Awaits lookup.now texts trees.old fact → TakesTree lookup.now texts fact say.now trees.new walked) }
+    ensures takes { IfOk result (λ walked. TakesAwaited lookup.now fact say.now trees.old walked trees.new) }
     ensures still { OnErr result ((texts : List (List ℕ)) → Awaits lookup.now texts trees.old fact → Awaits lookup.now texts trees.new fact) }
     ensures taken { IfOk result (λ walked. walked ≡ Walked.Done → HasTaken trees.old fact.name trees.new) }
     ensures roots { trees.new.roots ≡ trees.old.roots }
@@ -130,7 +128,7 @@ pub fn take_tree(
 
 /// Takes back the tree of this fact, which was taken last: it is awaited as before. It takes no memory.
 pub fn untake(trees: &mut Trees)
-    ensures still { (facts : List Fact) (texts : List (List ℕ)) (before : Trees) (fact : Fact) → HasTaken before fact.name trees.old → Awaits facts texts before fact → Awaits facts texts trees.new fact }
+    ensures still { UntakesTree trees.old trees.new }
     ensures roots { trees.new.roots ≡ trees.old.roots }
 {
     trees.take_back();

@@ -1,6 +1,6 @@
 //! The new indexes of a prune, one after the other.
 
-ghost use Rattle.std.specs.Prelude.{◌≡◌, ◌++◌, ◌∷◌, [], ℕ, List, length, take, Some, IfOk, OnOk, OnErr};
+ghost use Rattle.std.specs.Prelude.{◌≡◌, [], ℕ, List, length, take, Some, IfOk, OnOk, OnErr};
 ghost use Rattle.std.specs.List.Sorted.{IsPermutation};
 ghost use Rattle.repo_name.specs.declared.kinds.Kind.{Kind};
 ghost use Rattle.repo_name.specs.declared.names.Name.{Name};
@@ -9,6 +9,7 @@ ghost use Rattle.repo_session.specs.Jobs.{IsShortStep};
 ghost use Rattle.repo_session.specs.declared.jobs.Step.{Step};
 ghost use Rattle.repo_wire.specs.declared.messages.Ask.{Ask};
 ghost use Rattle.repo_prune.specs.Relisting.{IsSameRelisting, Relists, IsShortRelisting};
+ghost use Rattle.repo_prune.specs.inner.Indexing.{NotesIndex};
 
 use crate::indexing::{copies_of, cut, index_of, sort_packs};
 use repo_index::PackFacts;
@@ -60,7 +61,7 @@ impl Relisting {
 
     /// Notes the name of the index that a step puts. It fails for memory alone, and then nothing changed.
     fn note(&mut self, step: &Step) -> Result<(), AllocError>
-        ensures ok { OnOk result ((token : Token) (kind : Kind) (name : Name) (bytes : List ℕ) → step.now ≡ Step.Ask (Ask.Put token kind name bytes) → self.new.indexes.items ≡ self.old.indexes.items ++ name ∷ []) }
+        ensures ok { OnOk result (NotesIndex step.now self.old.indexes.items self.new.indexes.items) }
         ensures err { OnErr result (IsSameRelisting self.old self.new) }
         ensures packs { self.new.packs ≡ self.old.packs }
         ensures listed { self.new.listed ≡ self.old.listed }

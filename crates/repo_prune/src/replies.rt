@@ -16,7 +16,8 @@ ghost use Rattle.repo_session.specs.declared.outcomes.Outcome.{Outcome};
 ghost use Rattle.repo_prune.specs.declared.moving.Moving.{Moving};
 ghost use Rattle.repo_prune.specs.declared.prunes.Stage.{Stage};
 ghost use Rattle.repo_prune.specs.declared.relisting.Relisting.{Relisting};
-ghost use Rattle.repo_prune.specs.PruneStates.{HasWalked, HasMoved, HasListed, known_in, GoesTo, AwaitsAgain, StepsFrom, KnowsAsMuch};
+ghost use Rattle.repo_prune.specs.PruneStates.{known_in, AwaitsAgain, StepsFrom, KnowsAsMuch};
+ghost use Rattle.repo_prune.specs.inner.Replies.{StepsInWalk, KnowsInWalk, EndsWalk, StepsInMoves, KnowsInMoves, EndsMoves, EndsIndexes, StepsFromPut};
 
 use crate::advancing::{end, move_on};
 use crate::moving::Moved;
@@ -39,9 +40,9 @@ fn bad_blob(fact: Fact) -> Step
 impl PruneJob {
     /// Takes the reply to the request for a tree. It fails for memory alone, and then what was known is known.
     fn take_tree(&mut self, token: Token, say: &Say) -> Result<Step, AllocError>
-        ensures steps { IfOk result (λ step. (trees : Trees) (fact : Fact) (pack : Name) (offset len : ℕ) → self.old.stage ≡ Stage.Walking trees fact → StepsFrom self.old token (Ask.Range pack offset len) say.now step self.new) }
+        ensures steps { IfOk result (λ step. StepsInWalk self.old token say.now step self.new) }
         ensures short { IfOk result IsShortStep }
-        ensures knows { OnErr result ((trees : Trees) (fact : Fact) (pack : Name) (offset len : ℕ) → self.old.stage ≡ Stage.Walking trees fact → KnowsAsMuch self.old (Ask.Range pack offset len) self.new) }
+        ensures knows { OnErr result (KnowsInWalk self.old self.new) }
     {
         let Stage::Walking(trees, fact) = &mut self.stage else {
             return Ok(Step::Away);
@@ -59,7 +60,7 @@ impl PruneJob {
 
     /// Goes on where all trees were read. It fails for memory alone, and then the last one is awaited again.
     fn finish_trees(&mut self, token: Token) -> Result<Step, AllocError>
-        ensures steps { IfOk result (λ step. (trees : Trees) (fact : Fact) → self.old.stage ≡ Stage.Walking trees fact → GoesTo (known_in self.old) token (HasWalked (known_in self.old) trees) step self.new) }
+        ensures steps { IfOk result (λ step. EndsWalk self.old token step self.new) }
         ensures short { IfOk result IsShortStep }
         ensures again { OnErr result ((trees : Trees) (fact : Fact) → self.old.stage ≡ Stage.Walking trees fact → AwaitsAgain trees fact self.new.stage) }
         ensures known { known_in self.new ≡ known_in self.old }
@@ -89,9 +90,9 @@ impl PruneJob {
     /// Takes the reply to the request for a blob that moves. It fails for memory alone, and then what was known is
     /// known.
     fn take_blob(&mut self, token: Token, say: &Say) -> Result<Step, AllocError>
-        ensures steps { IfOk result (λ step. (moving : Moving) (pack : Name) (offset len : ℕ) → self.old.stage ≡ Stage.Moving moving → StepsFrom self.old token (Ask.Range pack offset len) say.now step self.new) }
+        ensures steps { IfOk result (λ step. StepsInMoves self.old token say.now step self.new) }
         ensures short { IfOk result IsShortStep }
-        ensures knows { OnErr result ((moving : Moving) (pack : Name) (offset len : ℕ) → self.old.stage ≡ Stage.Moving moving → KnowsAsMuch self.old (Ask.Range pack offset len) self.new) }
+        ensures knows { OnErr result (KnowsInMoves self.old self.new) }
     {
         let Stage::Moving(moving) = &mut self.stage else {
             return Ok(Step::Away);
@@ -122,7 +123,7 @@ impl PruneJob {
 
     /// Goes on where the put of a pack is done. It fails for memory alone, and then what was known is known.
     fn pack_done(&mut self, token: Token) -> Result<Step, AllocError>
-        ensures steps { IfOk result (λ step. (own : Token) (name : Name) (bytes : List ℕ) → StepsFrom self.old token (Ask.Put own Kind.Pack name bytes) Say.Done step self.new) }
+        ensures steps { IfOk result (λ step. StepsFromPut Kind.Pack Say.Done self.old token step self.new) }
         ensures short { IfOk result IsShortStep }
         ensures knows { OnErr result ((own : Token) (name : Name) (bytes : List ℕ) → KnowsAsMuch self.old (Ask.Put own Kind.Pack name bytes) self.new) }
     {
@@ -137,7 +138,7 @@ impl PruneJob {
 
     /// Goes on where all packs were put. It fails for memory alone, and then nothing changed.
     fn finish_moves(&mut self, token: Token) -> Result<Step, AllocError>
-        ensures steps { IfOk result (λ step. (moving : Moving) → self.old.stage ≡ Stage.Moving moving → GoesTo (known_in self.old) token (HasMoved (known_in self.old) moving) step self.new) }
+        ensures steps { IfOk result (λ step. EndsMoves self.old token step self.new) }
         ensures short { IfOk result IsShortStep }
         ensures err { OnErr result (self.new ≡ self.old) }
     {
@@ -150,7 +151,7 @@ impl PruneJob {
 
     /// Goes on where the put of an index is done. It fails for memory alone, and then what was known is known.
     fn index_done(&mut self, token: Token) -> Result<Step, AllocError>
-        ensures steps { IfOk result (λ step. (own : Token) (name : Name) (bytes : List ℕ) → StepsFrom self.old token (Ask.Put own Kind.Index name bytes) Say.Done step self.new) }
+        ensures steps { IfOk result (λ step. StepsFromPut Kind.Index Say.Done self.old token step self.new) }
         ensures short { IfOk result IsShortStep }
         ensures knows { OnErr result ((own : Token) (name : Name) (bytes : List ℕ) → KnowsAsMuch self.old (Ask.Put own Kind.Index name bytes) self.new) }
     {
@@ -165,7 +166,7 @@ impl PruneJob {
 
     /// Goes on where all indexes were put. It fails for memory alone, and then nothing changed.
     fn finish_indexes(&mut self, token: Token) -> Result<Step, AllocError>
-        ensures steps { IfOk result (λ step. (relisting : Relisting) → self.old.stage ≡ Stage.Relisting relisting → GoesTo (known_in self.old) token (HasListed (known_in self.old) relisting) step self.new) }
+        ensures steps { IfOk result (λ step. EndsIndexes self.old token step self.new) }
         ensures short { IfOk result IsShortStep }
         ensures err { OnErr result (self.new ≡ self.old) }
     {
@@ -178,7 +179,7 @@ impl PruneJob {
 
     /// Takes the reply to a put. It fails for memory alone, and then what was known is known.
     pub fn take_put(&mut self, token: Token, kind: Kind, say: &Say) -> Result<Step, AllocError>
-        ensures steps { IfOk result (λ step. (own : Token) (name : Name) (bytes : List ℕ) → StepsFrom self.old token (Ask.Put own kind name bytes) say.now step self.new) }
+        ensures steps { IfOk result (λ step. StepsFromPut kind say.now self.old token step self.new) }
         ensures short { IfOk result IsShortStep }
         ensures knows { OnErr result ((own : Token) (name : Name) (bytes : List ℕ) → KnowsAsMuch self.old (Ask.Put own kind name bytes) self.new) }
     {

@@ -1,8 +1,8 @@
 //! Where a row stands among those of its host.
 
-ghost use Rattle.std.specs.Prelude.{◌≡◌, ◌↔◌, ℕ, true, List, IsTrue, Some, slice_get};
+ghost use Rattle.std.specs.Prelude.{◌≡◌, ◌↔◌, ℕ, true, List, IsTrue, Some};
 ghost use Rattle.repo_prune.specs.Keeping.{Row};
-ghost use Rattle.repo_prune.specs.inner.Walks.{row_cmp, Descends, GoesDown, IsKeptAt, StandsAt, RowsBefore};
+ghost use Rattle.repo_prune.specs.inner.Walks.{row_cmp, GoesDown, IsKeptAt, RowStandsAt, RowStandsAfter};
 
 use crate::keeping::Policy;
 use repo_name::Name;
@@ -76,7 +76,7 @@ impl<'a> Standing<'a> {
 
     /// Where a row stands, after the one before it.
     pub fn after(before: Option<Standing<'a>>, row: &'a (Name, Snapshot)) -> Standing<'a>
-        ensures { (rows : List Row) (place : ℕ) → Descends rows → slice_get rows place ≡ Some row.now → RowsBefore rows place before.entry → StandsAt rows place row.now result }
+        ensures { RowStandsAfter before.entry row.now result }
     {
         match before {
             Some(before) => {
@@ -92,7 +92,7 @@ impl<'a> Standing<'a> {
 
     /// Whether the policy keeps it.
     pub fn is_kept(&self, policy: &Policy) -> bool
-        ensures { (rows : List Row) (place : ℕ) → StandsAt rows place self.now.row.now self.now → IsTrue result ↔ IsKeptAt policy.now rows self.now.row.now }
+        ensures { (rows : List Row) (place : ℕ) → RowStandsAt rows place self.now.row.now self.now → IsTrue result ↔ IsKeptAt policy.now rows self.now.row.now }
     {
         self.later < policy.last as usize || self.is_last && self.days < policy.daily as usize
     }

@@ -9,7 +9,7 @@ use Rattle.repo_name.proofs.Containing.{contained_or, first_contained, none_cont
 use Rattle.repo_tree.specs.TreeText.{IsTreeText}
 use Rattle.repo_tree.specs.declared.nodes.Node.{Node}
 use Rattle.repo_reach.specs.Collected.{LeadsTo}
-use Rattle.repo_reach.specs.Walks.{WasAt, IsLooked, IsMet, IsWalk, HasText, IsSeen, StandsAt, AreSeen, HaveMet, IsNew, HasRead, Adds, IsUnchanged}
+use Rattle.repo_reach.specs.Walks.{WasAt, IsLooked, IsMet, IsWalk, HasText, IsSeen, StandsAt, AreSeen, HaveMet, IsNewTree, HasRead, Adds, IsUnchanged}
 use Rattle.repo_reach.specs.declared.links.Links.{Links}
 use Rattle.repo_reach.specs.declared.trees.Trees.{Trees}
 use Rattle.repo_reach.specs.declared.trees.Seen.{Seen}
@@ -77,7 +77,7 @@ seen_more texts more has all tree is came one h = record {
   one = one;
 }
 
-pub added : (texts more : List (List ℕ)) → Has texts more → (c d : Trees) (tree : Seen) (n : Name) → IsWalk texts c → StandsAt c.seen.items n None → IsNew n tree → HasText more tree.name tree.links → ((x : List ℕ) → Contains more x → Contains texts x ⊎ (tree.name ≡ naming.name x))
+pub added : (texts more : List (List ℕ)) → Has texts more → (c d : Trees) (tree : Seen) (n : Name) → IsWalk texts c → StandsAt c.seen.items n None → IsNewTree n tree → HasText more tree.name tree.links → ((x : List ℕ) → Contains more x → Contains texts x ⊎ (tree.name ≡ naming.name x))
     → ((x y : List ℕ) → Contains more x → Contains more y → naming.name x ≡ naming.name y → x ≡ y) → Adds c tree d → IsWalk more d
 added texts more has c d tree n w none new text came one adds =
     let absent : StandsAt c.seen.items tree.name None = subst (λ m. StandsAt c.seen.items m None) (sym new.name) none in
@@ -91,10 +91,10 @@ added texts more has c d tree n w none new text came one adds =
           (subst (λ r. HaveMet more d.roots.items r d.seen.items c.waiting.items) (sym adds.stand.root) (subst (λ (v : Vec Name Global). HaveMet more v.items c.root d.seen.items c.waiting.items) (sym adds.stand.roots) met'));
     }
 
-pub added_none : (texts : List (List ℕ)) (c d : Trees) (tree : Seen) (n : Name) → IsWalk texts c → StandsAt c.seen.items n None → IsNew n tree → tree.links ≡ None → Adds c tree d → IsWalk texts d
+pub added_none : (texts : List (List ℕ)) (c d : Trees) (tree : Seen) (n : Name) → IsWalk texts c → StandsAt c.seen.items n None → IsNewTree n tree → tree.links ≡ None → Adds c tree d → IsWalk texts d
 added_none texts c d tree n w none new unread adds = added texts texts (λ x h. h) c d tree n w none new (subst (λ ls. HasText texts tree.name ls) (sym unread) tt) (λ x h. inl h) w.seen.one adds
 
-pub added_text : (texts : List (List ℕ)) (text : List ℕ) (nodes : List Node) (c d : Trees) (tree : Seen) (n : Name) → IsWalk texts c → StandsAt c.seen.items n None → naming.name text ≡ n → IsTreeText text nodes → IsNew n tree → HasRead nodes tree → Adds c tree d
+pub added_text : (texts : List (List ℕ)) (text : List ℕ) (nodes : List Node) (c d : Trees) (tree : Seen) (n : Name) → IsWalk texts c → StandsAt c.seen.items n None → naming.name text ≡ n → IsTreeText text nodes → IsNewTree n tree → HasRead nodes tree → Adds c tree d
     → IsWalk (texts ++ text ∷ []) d
 added_text texts text nodes c d tree n w none named reads new read adds =
     let more = texts ++ text ∷ [] in

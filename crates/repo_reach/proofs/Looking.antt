@@ -8,7 +8,7 @@ use Rattle.repo_name.specs.declared.names.Name.{Name}
 use Rattle.repo_name.proofs.Containing.{contained_or, contains_got, first_contained, none_contained}
 use Rattle.repo_tree.specs.Spelling.{greatest_depth}
 use Rattle.repo_reach.specs.Collected.{LeadsTo}
-use Rattle.repo_reach.specs.Walks.{WasAt, IsLooked, IsMet, StandsAt, AreSeen, HaveMet, IsWalk, IsDue, IsSameSeen}
+use Rattle.repo_reach.specs.Walks.{WasAt, IsLooked, IsMet, StandsAt, AreSeen, HaveMet, IsWalk, IsVisitDue, IsSameSeen}
 use Rattle.repo_reach.specs.declared.trees.Trees.{Trees}
 use Rattle.repo_reach.specs.declared.trees.Seen.{Seen}
 use Rattle.repo_reach.specs.declared.trees.Visit.{Visit}
@@ -55,14 +55,14 @@ counted texts roots root all waiting n there looked h = record {
 -- ---- over the code's own type
 
 -- what is next of a walk
-pub root_due : (texts : List (List ℕ)) (c : Trees) (visit : Visit) → visit.depth ≡ 0 → slice_get c.roots.items c.root ≡ Some visit.tree → ¬ IsLooked c.seen.items visit.tree visit.depth → IsDue texts c visit
+pub root_due : (texts : List (List ℕ)) (c : Trees) (visit : Visit) → visit.depth ≡ 0 → slice_get c.roots.items c.root ≡ Some visit.tree → ¬ IsLooked c.seen.items visit.tree visit.depth → IsVisitDue texts c visit
 root_due texts c visit top there fresh = record {
   leads = subst (λ d. LeadsTo texts c.roots.items d visit.tree) (sym top) (contains_got c.roots.items c.root visit.tree there);
   within = omega (arith, top);
   fresh = fresh;
 }
 
-pub waiting_due : (texts : List (List ℕ)) (c : Trees) (rest : List Visit) (visit : Visit) → IsWalk texts c → c.waiting.items ≡ rest ++ visit ∷ [] → ¬ IsLooked c.seen.items visit.tree visit.depth → IsDue texts c visit
+pub waiting_due : (texts : List (List ℕ)) (c : Trees) (rest : List Visit) (visit : Visit) → IsWalk texts c → c.waiting.items ≡ rest ++ visit ∷ [] → ¬ IsLooked c.seen.items visit.tree visit.depth → IsVisitDue texts c visit
 waiting_due texts c rest visit w last fresh =
     let among : Contains c.waiting.items visit = subst (λ vs. Contains vs visit) (sym last) (Contains-append_right rest (visit ∷ []) visit (first_contained visit [])) in
     let due = w.met.to_look visit among in

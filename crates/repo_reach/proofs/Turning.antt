@@ -5,7 +5,7 @@ use Rattle.repo_name.specs.declared.names.Name.{Name}
 use Rattle.repo_index.specs.declared.facts.Fact.{Fact}
 use Rattle.repo_tree.specs.Spelling.{greatest_depth}
 use Rattle.repo_reach.specs.Collected.{LeadsTo}
-use Rattle.repo_reach.specs.Walks.{StandsAt, IsWalk, IsDue, IsLedTo, IsSameWalk, IsTooDeep, TurnIs}
+use Rattle.repo_reach.specs.Walks.{StandsAt, IsWalk, IsVisitDue, IsLedTo, IsSameWalk, IsTooDeep, TurnIs}
 use Rattle.repo_reach.specs.declared.trees.Trees.{Trees}
 use Rattle.repo_reach.specs.declared.trees.Turn.TheVariants as turn
 use Rattle.repo_reach.specs.declared.trees.Seen.{Seen}
@@ -18,10 +18,10 @@ there texts c n at w is = let stands : StandsAt c.seen.items n (Some at) = subst
 pub absent : (texts : List (List ℕ)) (c : Trees) (n : Name) → IsWalk texts c → found c.places n ≡ None → StandsAt c.seen.items n None
 absent texts c n w is = subst (λ o. StandsAt c.seen.items n o) is (w.places n)
 
-pub led : (texts : List (List ℕ)) (c : Trees) (visit : Visit) → IsDue texts c visit → IsLedTo texts c.roots.items visit.tree
+pub led : (texts : List (List ℕ)) (c : Trees) (visit : Visit) → IsVisitDue texts c visit → IsLedTo texts c.roots.items visit.tree
 led texts c visit due = (visit.depth, due.within, due.leads)
 
-pub too_deep : (facts : List Fact) (texts : List (List ℕ)) (c d : Trees) (visit : Visit) (at : ℕ) → IsWalk texts c → IsDue texts c visit → found c.places visit.tree ≡ Some at → IsSameWalk c d
+pub too_deep : (facts : List Fact) (texts : List (List ℕ)) (c d : Trees) (visit : Visit) (at : ℕ) → IsWalk texts c → IsVisitDue texts c visit → found c.places visit.tree ≡ Some at → IsSameWalk c d
     → ((seen : Seen) → slice_get d.seen.items at ≡ Some seen → IsTooDeep seen visit.depth) → TurnIs facts texts d (turn.TooDeep visit.tree)
 too_deep facts texts c d visit at w due is same deep =
     let here = there texts c visit.tree at w is in

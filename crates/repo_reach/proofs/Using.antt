@@ -20,7 +20,7 @@ use Rattle.repo_name.proofs.Containing.{contained_or, first_contained, none_cont
 use Rattle.repo_tree.specs.Spelling.{greatest_depth}
 use Rattle.repo_reach.proofs.Rewinding.{got_left, got_last, got_or}
 use Rattle.repo_reach.specs.Laws.{IsUsed}
-use Rattle.repo_reach.specs.Used.{IsIn, HasPair, GivesPair, GivenBy, HaveJoined}
+use Rattle.repo_reach.specs.Used.{IsIn, UsedHasPair, GivesPair, GivenBy, HaveJoined}
 use Rattle.repo_reach.specs.Walks.{WasAt}
 use Rattle.repo_reach.specs.declared.links.Links.{Links}
 use Rattle.repo_reach.specs.declared.trees.Seen.{Seen}
@@ -83,18 +83,18 @@ content_given seen links read depth above was n = (
 
 -- ---- so of a list of them
 
-pub none_given : (used : Used) → IsEmpty used.trees → IsEmpty used.content → (all : List Seen) → (k : BlobKind) (n : Name) → HasPair used k n ↔ GivenBy (take 0 all) k n
+pub none_given : (used : Used) → IsEmpty used.trees → IsEmpty used.content → (all : List Seen) → (k : BlobKind) (n : Name) → UsedHasPair used k n ↔ GivenBy (take 0 all) k n
 none_given used trees content all k n = (λ h. absurd (none k n h), λ h. absurd (none-some h.1 h.2))
   where
     none_in : (set : BTreeSet Name) → IsEmpty set → (n : Name) → IsIn set n → ⊥
     none_in set empty n h = let never : contains name_cmp set n ≡ false = ap (λ keys. list_any (is_at (name_cmp n)) keys) empty in absurd (cc)
 
-    none : (k : BlobKind) (n : Name) → HasPair used k n → ⊥
+    none : (k : BlobKind) (n : Name) → UsedHasPair used k n → ⊥
     none Tree n h = none_in used.trees trees n h
     none Content n h = none_in used.content content n h
 
-pub then_joined : (all : List Seen) (i : ℕ) (d : Seen) → i < length all → (old new : Used) → HaveJoined old (get_or all i d) new → ((k : BlobKind) (n : Name) → HasPair old k n ↔ GivenBy (take i all) k n)
-    → (k : BlobKind) (n : Name) → HasPair new k n ↔ GivenBy (take (i + 1) all) k n
+pub then_joined : (all : List Seen) (i : ℕ) (d : Seen) → i < length all → (old new : Used) → HaveJoined old (get_or all i d) new → ((k : BlobKind) (n : Name) → UsedHasPair old k n ↔ GivenBy (take i all) k n)
+    → (k : BlobKind) (n : Name) → UsedHasPair new k n ↔ GivenBy (take (i + 1) all) k n
 then_joined all i d within old new joined before k n = (
   λ h. subst (λ l. GivenBy l k n) (sym (one_more all i d within)) (⊎_elim (λ was. (let g = (before k n).0 was in (g.0, g.1, got_left (take i all) (get_or all i d ∷ []) g.0 g.1 g.2, g.3)))
       (λ now. (length (take i all), get_or all i d, got_last (take i all) (get_or all i d), now)) ((joined k n).0 h)),
@@ -108,9 +108,9 @@ given_is_used all Tree n = (λ h. (h.3.1, (h.0, h.1, h.2, h.3.0, h.3.2)), λ h. 
 given_is_used all Content n = (λ h. (h.0, h.1, h.3.0, h.2, h.3.1), λ h. (h.0, h.1, h.3, (h.2, h.4)))
 
 -- so at the end of the list
-pub all_used : (all : List Seen) (i : ℕ) → length all ≤ i → (used : Used) → ((k : BlobKind) (n : Name) → HasPair used k n ↔ GivenBy (take i all) k n) → (k : BlobKind) (n : Name) → HasPair used k n ↔ IsUsed all k n
+pub all_used : (all : List Seen) (i : ℕ) → length all ≤ i → (used : Used) → ((k : BlobKind) (n : Name) → UsedHasPair used k n ↔ GivenBy (take i all) k n) → (k : BlobKind) (n : Name) → UsedHasPair used k n ↔ IsUsed all k n
 all_used all i end used given k n =
     let whole = take_all i all end in
-    let g = subst (λ l. HasPair used k n ↔ GivenBy l k n) whole (given k n) in
+    let g = subst (λ l. UsedHasPair used k n ↔ GivenBy l k n) whole (given k n) in
     let u = given_is_used all k n in
     (λ h. u.0 (g.0 h), λ h. g.1 (u.1 h))

@@ -4,3 +4,4 @@ pub mod Collected
 pub mod Walks
 pub mod Laws
 pub mod Used
+pub mod inner

@@ -15,9 +15,9 @@ abbrev pub IsIn : BTreeSet Name → Name → Type 0
 IsIn set n = IsTrue (contains name_cmp set n)
 
 -- a pair is one of these
-abbrev pub HasPair : Used → BlobKind → Name → Type 0
-HasPair used Tree n = IsIn used.trees n
-HasPair used Content n = IsIn used.content n
+abbrev pub UsedHasPair : Used → BlobKind → Name → Type 0
+UsedHasPair used Tree n = IsIn used.trees n
+UsedHasPair used Content n = IsIn used.content n
 
 -- a tree that was seen gives a pair: itself, if it was looked at, and its content, if it was above the greatest depth
 abbrev pub GivesPair : Seen → BlobKind → Name → Type 0
@@ -28,6 +28,10 @@ GivesPair seen Content n = (depth : ℕ) × HoldsAt seen depth n
 abbrev pub GivenBy : List Seen → BlobKind → Name → Type 0
 GivenBy all k n = (i : ℕ) × (seen : Seen) × (slice_get all i ≡ Some seen) × GivesPair seen k n
 
+-- the pairs of a kind that a tree gives came to those that were there
+abbrev pub PairsHaveJoined : BlobKind → Used → Seen → Used → Type 0
+PairsHaveJoined kind old seen new = (n : Name) → UsedHasPair new kind n ↔ (UsedHasPair old kind n ⊎ GivesPair seen kind n)
+
 -- the pairs that a tree gives came to those that were there
 abbrev pub HaveJoined : Used → Seen → Used → Type 0
-HaveJoined old seen new = (k : BlobKind) (n : Name) → HasPair new k n ↔ (HasPair old k n ⊎ GivesPair seen k n)
+HaveJoined old seen new = (k : BlobKind) (n : Name) → UsedHasPair new k n ↔ (UsedHasPair old k n ⊎ GivesPair seen k n)

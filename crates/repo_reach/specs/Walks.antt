@@ -70,18 +70,18 @@ pub record IsWalk (texts : List (List ℕ)) (c : Trees) : Type 0 where
   pub met : HaveMet texts c.roots.items c.root c.seen.items c.waiting.items
 
 -- a tree that is to be looked at and wasn't: the roots lead to it
-pub record IsDue (texts : List (List ℕ)) (c : Trees) (visit : Visit) : Type 0 where
+pub record IsVisitDue (texts : List (List ℕ)) (c : Trees) (visit : Visit) : Type 0 where
   pub leads : LeadsTo texts c.roots.items visit.depth visit.tree
   pub within : visit.depth ≤ greatest_depth
   pub fresh : ¬ IsLooked c.seen.items visit.tree visit.depth
 
 -- where it stands, if it was seen, its flag isn't set
-abbrev pub IsLeft : Trees → Visit → Type 0
-IsLeft c visit = (at : ℕ) → found c.places visit.tree ≡ Some at → (seen : Seen) × (slice_get c.seen.items at ≡ Some seen) × (slice_get seen.depths.items visit.depth ≡ Some false)
+abbrev pub IsLeftToVisit : Trees → Visit → Type 0
+IsLeftToVisit c visit = (at : ℕ) → found c.places visit.tree ≡ Some at → (seen : Seen) × (slice_get c.seen.items at ≡ Some seen) × (slice_get seen.depths.items visit.depth ≡ Some false)
 
 -- what is to be looked at next: nothing where nothing waits and all roots were looked at
 abbrev pub IsNextVisit : List (List ℕ) → Trees → Option Visit → Type 0
-IsNextVisit texts c (Some visit) = IsDue texts c visit
+IsNextVisit texts c (Some visit) = IsVisitDue texts c visit
 IsNextVisit texts c None = (c.waiting.items ≡ []) × (length c.roots.items ≤ c.root)
 
 -- what was seen stays, and so do the roots
@@ -144,8 +144,8 @@ pub record IsSameWalk (old new : Trees) : Type 0 where
 -- ---- what comes next
 
 -- no fact gives a tree of this name
-abbrev pub IsNowhere : List Fact → Name → Type 0
-IsNowhere facts n = (place : Place) → ¬ Contains facts (fact_of Tree n place)
+abbrev pub IsTreeNowhere : List Fact → Name → Type 0
+IsTreeNowhere facts n = (place : Place) → ¬ Contains facts (fact_of Tree n place)
 
 -- the roots lead to this tree at a depth that a path may have
 abbrev pub IsLedTo : List (List ℕ) → List Name → Name → Type 0
@@ -158,14 +158,14 @@ HasTooDeep all n = (i : ℕ) × (seen : Seen) × (slice_get all i ≡ Some seen)
 -- what comes next of a walk, where blobs are to be found by these facts
 abbrev pub TurnIs : List Fact → List (List ℕ) → Trees → Turn → Type 0
 TurnIs facts texts c (turn.Ask fact) = (fact.kind ≡ Tree) × IsLeast facts Tree fact.name fact.place × StandsAt c.seen.items fact.name None × IsLedTo texts c.roots.items fact.name
-TurnIs facts texts c (turn.Missing n) = IsNowhere facts n × StandsAt c.seen.items n None × IsLedTo texts c.roots.items n
+TurnIs facts texts c (turn.Missing n) = IsTreeNowhere facts n × StandsAt c.seen.items n None × IsLedTo texts c.roots.items n
 TurnIs facts texts c (turn.TooDeep n) = HasTooDeep c.seen.items n × LeadsTo texts c.roots.items greatest_depth n
 TurnIs facts texts c turn.Done = (c.waiting.items ≡ []) × (length c.roots.items ≤ c.root)
 
 -- ---- one tree more, and one less
 
 -- a tree of this name that was looked at at no depth
-pub record IsNew (n : Name) (seen : Seen) : Type 0 where
+pub record IsNewTree (n : Name) (seen : Seen) : Type 0 where
   pub name : seen.name ≡ n
   pub flags : length seen.depths.items ≡ greatest_depth + 1
   pub never : (depth : ℕ) → ¬ WasAt seen depth
@@ -205,3 +205,21 @@ pub record Rewinds (old new : Trees) : Type 0 where
 pub record Drops (old new : Trees) : Type 0 where
   pub last : (all : List Seen) (seen : Seen) → old.seen.items ≡ all ++ seen ∷ [] → (new.seen.items ≡ all) × Dropped (found old.places) seen.name (found new.places)
   pub roots : new.roots ≡ old.roots
+
+-- a walk stays one
+abbrev pub KeepsWalk : Trees → Trees → Type 0
+KeepsWalk old new = (texts : List (List ℕ)) → IsWalk texts old → IsWalk texts new
+
+-- a tree that wasn't seen joins a walk, by its text
+abbrev pub JoinsWalk : Name → List Node → Trees → Trees → Type 0
+JoinsWalk name nodes old new = (texts : List (List ℕ)) (text : List ℕ) → IsWalk texts old → StandsAt old.seen.items name None → naming.name text ≡ name
+    → IsTreeText text nodes → IsWalk (texts ++ text ∷ []) new
+
+-- where a tree was added to a walk that is one without it, and only looked on since, this is a walk without it again
+abbrev pub ComesBack : Trees → Trees → Type 0
+ComesBack old new = (texts : List (List ℕ)) (before added : Trees) (seen : Seen) → IsWalk texts before → StandsAt before.seen.items seen.name None
+    → Adds before seen added → IsSameWalk added old → IsWalk texts new
+
+-- then these are the trees from before
+abbrev pub HasTreesBack : Trees → Trees → Type 0
+HasTreesBack old new = (before added : Trees) (seen : Seen) → Adds before seen added → IsSameWalk added old → AreSameTrees before.seen.items new.seen.items

@@ -4,14 +4,13 @@ ghost use Rattle.std.specs.Prelude.{◌≡◌, ◌≢◌, ◌<◌, ◌+◌, ◌+
 ghost use Rattle.repo_name.specs.NameMaps.{found};
 ghost use Rattle.repo_name.specs.Naming as naming;
 ghost use Rattle.repo_name.specs.declared.names.Name.{Name};
-ghost use Rattle.repo_tree.specs.TreeText.{IsTreeText};
 ghost use Rattle.repo_reach.specs.declared.links.Links.{Links};
 ghost use Rattle.repo_reach.specs.declared.trees.Seen.{Seen};
 ghost use Rattle.repo_reach.specs.declared.trees.Visit.{Visit};
 ghost use Rattle.repo_reach.specs.declared.trees.Trees.{Trees};
 ghost use Rattle.repo_tree.specs.Spelling.{greatest_depth};
-ghost use Rattle.repo_reach.specs.Collected.{LeadsTo};
-ghost use Rattle.repo_reach.specs.Walks.{StandsAt, WasAt, IsLooked, IsWalk, IsDue, IsLeft, IsNextVisit, IsSameSeen, IsSameWalk, IsTooDeep, Flags, Spreads, AreSameTrees, trees_below, unlooked, IsLedTo, TurnIs, IsNew, HasRead, Adds, IsUnchanged, Rewinds, Drops};
+ghost use Rattle.repo_reach.specs.Walks.{StandsAt, WasAt, IsWalk, IsVisitDue, IsLeftToVisit, IsNextVisit, IsSameSeen, IsSameWalk, IsTooDeep, Flags, AreSameTrees, trees_below, TurnIs, IsNewTree, HasRead, Adds, IsUnchanged, Rewinds, Drops, KeepsWalk, JoinsWalk, ComesBack, HasTreesBack};
+ghost use Rattle.repo_reach.specs.inner.Looking.{SaysItFits, TurnsTo, SaysLooked, IsRootVisit, SpreadsFrom, LooksOn, LeavesFewer};
 
 use crate::links::Links;
 use repo_index::{Fact, Lookup};
@@ -156,7 +155,7 @@ fn has_nodes(seen: &Seen) -> bool
 #[tactic(auto, unfolding(repo_tree::specs::Spelling::greatest_depth))]
 fn is_too_deep(all: &[Seen], at: usize, depth: usize) -> bool
     ensures yes { (seen : Seen) → slice_get all.now at ≡ Some seen → IsTrue result → IsTooDeep seen depth }
-    ensures no { (seen : Seen) (links : Links) → slice_get all.now at ≡ Some seen → IsFalse result → seen.links ≡ Some links → greatest_depth ≤ depth → links.is_bare ≡ true }
+    ensures no { SaysItFits all.now at depth result }
 {
     match seen_at(all, at) {
         None => false,
@@ -166,7 +165,7 @@ fn is_too_deep(all: &[Seen], at: usize, depth: usize) -> bool
 
 /// What comes next where a tree wasn't seen: its blob is asked for, at the least place of those that are known.
 fn unseen(lookup: &Lookup, tree: Name) -> Turn
-    ensures { (texts : List (List ℕ)) (c : Trees) → StandsAt c.seen.items tree None → IsLedTo texts c.roots.items tree → TurnIs lookup.now texts c result }
+    ensures { TurnsTo lookup.now tree result }
 {
     match lookup.find(BlobKind::Tree, &tree) {
         Some(place) => Turn::Ask(Fact {
@@ -224,8 +223,8 @@ impl Trees {
 
     /// Whether a tree was looked at at its depth.
     fn is_looked(&self, visit: Visit) -> bool
-        ensures looked { (texts : List (List ℕ)) → IsWalk texts self.now → visit.depth ≤ greatest_depth → IsTrue result ↔ IsLooked self.now.seen.items visit.tree visit.depth }
-        ensures left { IsFalse result → IsLeft self.now visit }
+        ensures looked { SaysLooked self.now visit result }
+        ensures left { IsFalse result → IsLeftToVisit self.now visit }
     {
         match self.place_of(visit.tree) {
             None => false,
@@ -252,7 +251,7 @@ impl Trees {
 
     /// The next root.
     fn root(&self) -> Option<Visit>
-        ensures some { IfSome result (λ visit. (visit.depth ≡ 0) × (slice_get self.now.roots.items self.now.root ≡ Some visit.tree) × (self.now.root < length self.now.roots.items)) }
+        ensures some { IfSome result (IsRootVisit self.now) }
         ensures none { result ≡ None → length self.now.roots.items ≤ self.now.root }
     {
         match self.roots.get(self.root) {
@@ -266,9 +265,9 @@ impl Trees {
 
     /// The next one of those that wait which wasn't looked at; those before it go.
     fn next_waiting(&mut self) -> Option<Visit>
-        ensures walk { (texts : List (List ℕ)) → IsWalk texts self.old → IsWalk texts self.new }
-        ensures due { (texts : List (List ℕ)) → IsWalk texts self.old → IfSome result (IsDue texts self.new) }
-        ensures left { IfSome result (IsLeft self.new) }
+        ensures walk { KeepsWalk self.old self.new }
+        ensures due { (texts : List (List ℕ)) → IsWalk texts self.old → IfSome result (IsVisitDue texts self.new) }
+        ensures left { IfSome result (IsLeftToVisit self.new) }
         ensures none { result ≡ None → self.new.waiting.items ≡ [] }
         ensures kept { IsSameSeen self.old self.new }
     {
@@ -283,9 +282,9 @@ impl Trees {
 
     /// The next root that wasn't looked at; those before it are counted.
     fn next_root(&mut self) -> Option<Visit>
-        ensures walk { (texts : List (List ℕ)) → IsWalk texts self.old → IsWalk texts self.new }
-        ensures due { (texts : List (List ℕ)) → IsWalk texts self.old → IfSome result (IsDue texts self.new) }
-        ensures left { IfSome result (IsLeft self.new) }
+        ensures walk { KeepsWalk self.old self.new }
+        ensures due { (texts : List (List ℕ)) → IsWalk texts self.old → IfSome result (IsVisitDue texts self.new) }
+        ensures left { IfSome result (IsLeftToVisit self.new) }
         ensures none { result ≡ None → length self.new.roots.items ≤ self.new.root }
         ensures kept { IsSameSeen self.old self.new }
         ensures waiting { self.new.waiting ≡ self.old.waiting }
@@ -301,9 +300,9 @@ impl Trees {
 
     /// What is to be looked at next, if there is anything.
     fn next_visit(&mut self) -> Option<Visit>
-        ensures walk { (texts : List (List ℕ)) → IsWalk texts self.old → IsWalk texts self.new }
+        ensures walk { KeepsWalk self.old self.new }
         ensures next { (texts : List (List ℕ)) → IsWalk texts self.old → IsNextVisit texts self.new result }
-        ensures left { IfSome result (IsLeft self.new) }
+        ensures left { IfSome result (IsLeftToVisit self.new) }
         ensures kept { IsSameSeen self.old self.new }
     {
         match self.next_waiting() {
@@ -316,7 +315,7 @@ impl Trees {
     /// more is.
     #[tactic(auto, unfolding(repo_tree::specs::Spelling::greatest_depth))]
     fn spread(&mut self, at: usize, depth: usize) -> Result<(), AllocError>
-        ensures more { OnOk result ((seen : Seen) → slice_get self.old.seen.items at ≡ Some seen → Spreads seen depth self.old.waiting.items self.new.waiting.items) }
+        ensures more { OnOk result (SpreadsFrom self.old at depth self.new) }
         ensures err { OnErr result (self.new.waiting.items ≡ self.old.waiting.items) }
         ensures kept { IsSameSeen self.old self.new }
         ensures root { self.new.root ≡ self.old.root }
@@ -332,10 +331,9 @@ impl Trees {
     /// Looks at a tree that was seen: what is below it is to be looked at. It fails for memory alone, and then nothing
     /// more is.
     fn look(&mut self, at: usize, depth: usize) -> Result<(), AllocError>
-        ensures walk { OnOk result ((texts : List (List ℕ)) (seen : Seen) → IsWalk texts self.old → slice_get self.old.seen.items at ≡ Some seen → LeadsTo texts self.old.roots.items depth seen.name → depth ≤ greatest_depth
-            → IsWalk texts self.new) }
-        ensures fewer { OnOk result ((seen : Seen) → slice_get self.old.seen.items at ≡ Some seen → slice_get seen.depths.items depth ≡ Some false → unlooked self.new.seen.items < unlooked self.old.seen.items) }
-        ensures err { OnErr result ((texts : List (List ℕ)) → IsWalk texts self.old → IsWalk texts self.new) }
+        ensures walk { OnOk result (LooksOn self.old at depth self.new) }
+        ensures fewer { OnOk result (LeavesFewer self.old at depth self.new) }
+        ensures err { OnErr result (KeepsWalk self.old self.new) }
         ensures kept { IsSameWalk self.old self.new }
     {
         self.spread(at, depth)?;
@@ -348,7 +346,7 @@ impl Trees {
     /// that is missing by `pass_over`; else the same comes again. After one that is too deep the walk can go on. It fails
     /// for memory alone, and then it can be called again.
     pub fn next(&mut self, lookup: &Lookup) -> Result<Turn, AllocError>
-        ensures walk { (texts : List (List ℕ)) → IsWalk texts self.old → IsWalk texts self.new }
+        ensures walk { KeepsWalk self.old self.new }
         ensures turn { IfOk result (λ turn. (texts : List (List ℕ)) → IsWalk texts self.old → TurnIs lookup.now texts self.new turn) }
         ensures kept { IsSameWalk self.old self.new }
     {
@@ -366,7 +364,7 @@ impl Trees {
 
     /// A tree was seen. It fails for memory alone, and then nothing changed.
     fn push(&mut self, name: Name, links: Option<Links>) -> Result<(), AllocError>
-        ensures added { OnOk result ((seen : Seen) × IsNew name seen × (seen.links ≡ links) × Adds self.old seen self.new) }
+        ensures added { OnOk result ((seen : Seen) × IsNewTree name seen × (seen.links ≡ links) × Adds self.old seen self.new) }
         ensures same { OnErr result (IsUnchanged self.old self.new) }
     {
         let depths = no_depths(self.alloc)?;
@@ -382,10 +380,9 @@ impl Trees {
 
     /// The tree of this name was read, and these are its nodes. It fails for memory alone, and then nothing changed.
     pub fn add(&mut self, name: Name, nodes: &[Node]) -> Result<(), AllocError>
-        ensures walk { OnOk result ((texts : List (List ℕ)) (text : List ℕ) → IsWalk texts self.old → StandsAt self.old.seen.items name None → naming.name text ≡ name → IsTreeText text nodes.now
-            → IsWalk (texts ++ text ∷ []) self.new) }
-        ensures added { OnOk result ((seen : Seen) × IsNew name seen × HasRead nodes.now seen × Adds self.old seen self.new) }
-        ensures err { OnErr result ((texts : List (List ℕ)) → IsWalk texts self.old → IsWalk texts self.new) }
+        ensures walk { OnOk result (JoinsWalk name nodes.now self.old self.new) }
+        ensures added { OnOk result ((seen : Seen) × IsNewTree name seen × HasRead nodes.now seen × Adds self.old seen self.new) }
+        ensures err { OnErr result (KeepsWalk self.old self.new) }
         ensures same { OnErr result (IsUnchanged self.old self.new) }
     {
         let links = Links::of(self.alloc, nodes)?;
@@ -396,8 +393,8 @@ impl Trees {
     /// then nothing changed.
     pub fn pass_over(&mut self, name: Name) -> Result<(), AllocError>
         ensures walk { OnOk result ((texts : List (List ℕ)) → IsWalk texts self.old → StandsAt self.old.seen.items name None → IsWalk texts self.new) }
-        ensures added { OnOk result ((seen : Seen) × IsNew name seen × (seen.links ≡ None) × Adds self.old seen self.new) }
-        ensures err { OnErr result ((texts : List (List ℕ)) → IsWalk texts self.old → IsWalk texts self.new) }
+        ensures added { OnOk result ((seen : Seen) × IsNewTree name seen × (seen.links ≡ None) × Adds self.old seen self.new) }
+        ensures err { OnErr result (KeepsWalk self.old self.new) }
         ensures same { OnErr result (IsUnchanged self.old self.new) }
     {
         self.push(name, None)
@@ -405,7 +402,7 @@ impl Trees {
 
     /// The walk begins anew over the trees that were seen. It takes no memory.
     pub fn rewind(&mut self)
-        ensures walk { (texts : List (List ℕ)) → IsWalk texts self.old → IsWalk texts self.new }
+        ensures walk { KeepsWalk self.old self.new }
         ensures rewound { Rewinds self.old self.new }
     {
         forget_depths(&mut self.seen);
@@ -425,9 +422,8 @@ impl Trees {
     /// Takes the tree back that was given last, by `add` or `pass_over`, and begins the walk anew over the others. It
     /// takes no memory.
     pub fn take_back(&mut self)
-        ensures walk { (texts : List (List ℕ)) (before added : Trees) (seen : Seen) → IsWalk texts before → StandsAt before.seen.items seen.name None → Adds before seen added → IsSameWalk added self.old
-            → IsWalk texts self.new }
-        ensures trees { (before added : Trees) (seen : Seen) → Adds before seen added → IsSameWalk added self.old → AreSameTrees before.seen.items self.new.seen.items }
+        ensures walk { ComesBack self.old self.new }
+        ensures trees { HasTreesBack self.old self.new }
         ensures roots { self.new.roots ≡ self.old.roots }
     {
         self.drop_last();

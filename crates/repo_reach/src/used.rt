@@ -7,7 +7,7 @@ ghost use Rattle.repo_name.specs.declared.kinds.BlobKind.TheVariants as kind;
 ghost use Rattle.repo_name.specs.declared.names.Name.{Name};
 ghost use Rattle.repo_tree.specs.Spelling.{greatest_depth};
 ghost use Rattle.repo_reach.specs.Laws.{IsUsed};
-ghost use Rattle.repo_reach.specs.Used.{IsIn, HasPair, GivesPair, GivenBy, HaveJoined};
+ghost use Rattle.repo_reach.specs.Used.{IsIn, UsedHasPair, GivenBy, HaveJoined, PairsHaveJoined};
 ghost use Rattle.repo_reach.specs.Walks.{WasAt};
 
 use crate::trees::{DEPTH, Seen, Trees};
@@ -72,7 +72,7 @@ fn add_names(set: &mut BTreeSet<Name>, names: &[Name]) -> Result<(), AllocError>
 impl Used {
     /// A tree that was looked at comes to them. It fails for memory alone.
     fn add_tree(&mut self, seen: &Seen) -> Result<(), AllocError>
-        ensures tree { OnOk result ((n : Name) → HasPair self.new kind.Tree n ↔ (HasPair self.old kind.Tree n ⊎ GivesPair seen.now kind.Tree n)) }
+        ensures tree { OnOk result (PairsHaveJoined kind.Tree self.old seen.now self.new) }
         ensures content { self.new.content ≡ self.old.content }
     {
         if is_looked(seen) {
@@ -83,7 +83,7 @@ impl Used {
 
     /// The content of a tree comes to them, if it was looked at where it may have any. It fails for memory alone.
     fn add_content(&mut self, seen: &Seen) -> Result<(), AllocError>
-        ensures content { OnOk result ((n : Name) → HasPair self.new kind.Content n ↔ (HasPair self.old kind.Content n ⊎ GivesPair seen.now kind.Content n)) }
+        ensures content { OnOk result (PairsHaveJoined kind.Content self.old seen.now self.new) }
         ensures trees { self.new.trees ≡ self.old.trees }
     {
         let Some(links) = &seen.links else {
@@ -105,7 +105,7 @@ impl Used {
 
     /// Whether the blob of this kind and name is one of them.
     pub fn has(&self, kind: BlobKind, name: &Name) -> bool
-        ensures { IsTrue result ↔ HasPair self.now kind name.now }
+        ensures { IsTrue result ↔ UsedHasPair self.now kind name.now }
     {
         match kind {
             BlobKind::Tree => self.trees.contains(name),
@@ -117,7 +117,7 @@ impl Used {
 impl Trees {
     /// The blobs that this walk came upon. It fails for memory alone.
     pub fn used(&self, alloc: Global) -> Result<Used, AllocError>
-        ensures { IfOk result (λ used. (k : BlobKind) (n : Name) → HasPair used k n ↔ IsUsed self.now.seen.items k n) }
+        ensures { IfOk result (λ used. (k : BlobKind) (n : Name) → UsedHasPair used k n ↔ IsUsed self.now.seen.items k n) }
     {
         let mut used = Used {
             trees: BTreeSet::new(alloc),

@@ -38,8 +38,8 @@ use Rattle.repo_restore.specs.Flowing.{is_open, TurnFlows}
 use Rattle.repo_session.specs.Received.{Received}
 use Rattle.repo_session.specs.Trees.{HasRoot, Under}
 use Rattle.repo_restore.specs.Restoring.{HaveLength, IsUneven, IsBadTree, MayGive, counted, restore_rule, RestoreConcludes}
-use Rattle.repo_restore.specs.RestoreStates.{IsRangeOf, IsBefore, IsNew, IsWalking, KnowsAt, KnowsRestore, TurnIs}
-use Rattle.repo_restore.specs.Walking.{WalkEnds, Waits, Turns, TurnGives, IsUnevenIn, IsUnfitIn}
+use Rattle.repo_restore.specs.RestoreStates.{IsRangeOf, IsBefore, IsNewRestore, IsWalking, KnowsAtStage, KnowsRestore, RestoreTurnIs}
+use Rattle.repo_restore.specs.Walking.{WalkEnds, WaitsForBlob, Turns, TurnGives, IsUnevenIn, IsUnfitIn}
 use Rattle.repo_restore.specs.Walks.{Sums}
 use Rattle.repo_restore.proofs.Flows.{follow_both}
 use Rattle.repo_restore.proofs.Growing.{walk_grows}
@@ -92,7 +92,7 @@ range_on c e pack offset len whole es q h =
     catalog_on e c.roll.kind c.roll.names.items c.roll.read c.lookup whole es (ap (λ a. page_names Kind.Index a e.say) q) (ap (λ a. is_last_page Kind.Index a e.say) q) (ap (λ a. object_got Kind.Index a e.say) q) page none h
 
 -- the snapshot is asked for first
-pub first_ask : (j : RestoreJob) (who : Asker) (token : Token) (text : List ℕ) (config : Config) → IsNew j → IsConfigText text config
+pub first_ask : (j : RestoreJob) (who : Asker) (token : Token) (text : List ℕ) (config : Config) → IsNewRestore j → IsConfigText text config
     → MayAsk (restore_rule j.snapshot) who (KnowsRestore j) (opened (task_under (restore_rule j.snapshot) who) token text) (Ask.Get Kind.Snapshot j.snapshot)
 first_ask j who token text config new reads =
     let task = task_under (restore_rule j.snapshot) who in
@@ -100,13 +100,13 @@ first_ask j who token text config new reads =
     let es : Trace = opened task token text in
     let indexes = catalog_fresh task token text j.catalog.roll.kind j.catalog.roll.names.items j.catalog.roll.read j.catalog.lookup es new.of_indexes new.no_names new.none_read new.no_facts refl in
     let before : IsBefore j.walk j.given.items es = record { no_levels = new.no_levels; no_entries = new.no_entries; none_given = new.none_given; nothing = refl } in
-    let S : Stage → Type 0 = λ stage. KnowsAt j stage ask es in
+    let S : Stage → Type 0 = λ stage. KnowsAtStage j stage ask es in
     record { work = tt; may = ((token, opened_working task token text config reads), inr (refl, refl)); allowed = tt; knows = subst S (sym new.at_start) (refl, new.none_read, indexes, before) }
 
 -- what comes next of a walk, over the trace
 pub turn_is : (facts : List Fact) (walk : Walk) (root : Name) (es : Trace) (old out : List Emission) (turn : Turn) (begun : Bool) → emitted_in es ≡ old ++ out → Turns facts (Received es) root walk old out turn
-    → Follow false old begun → TurnFlows begun out turn → TurnIs facts walk root es turn
-turn_is facts walk root es old out (Turn.Ask fact) begun e h f g = (subst (λ x. Waits facts (Received es) root walk fact x) (sym e) h.0, subst (λ x. Follow false x (is_open fact.kind)) (sym e) (follow_both false begun (is_open fact.kind) old out f g))
+    → Follow false old begun → TurnFlows begun out turn → RestoreTurnIs facts walk root es turn
+turn_is facts walk root es old out (Turn.Ask fact) begun e h f g = (subst (λ x. WaitsForBlob facts (Received es) root walk fact x) (sym e) h.0, subst (λ x. Follow false x (is_open fact.kind)) (sym e) (follow_both false begun (is_open fact.kind) old out f g))
 turn_is facts walk root es old out (Turn.Complete count) begun e h f g =
     (subst (λ x. Spells 1 (Received es) root [] (rebuilt x)) (sym e) h.0, subst (λ x. count ≡ counted (length (rebuilt x))) (sym e) h.1, subst (λ x. Follow false x false) (sym e) (follow_both false begun false old out f g))
 turn_is facts walk root es old out (Turn.Ended end) begun e h f g = h.0
@@ -127,7 +127,7 @@ pub record RangeTaken (j : RestoreJob) (fact : Fact) (root : Name) (e : Exchange
   pub still : HasRoot (e ∷ es) j.snapshot 1 root
   pub indexes : Catalogs j.catalog true (e ∷ es)
   pub given : ReadFact (e ∷ es) fact
-  pub waits : Waits j.catalog.lookup (Received (e ∷ es)) root j.walk fact (emitted_in es)
+  pub waits : WaitsForBlob j.catalog.lookup (Received (e ∷ es)) root j.walk fact (emitted_in es)
   pub got : naming.name bytes ≡ fact.name → Received (e ∷ es) fact.kind bytes
 
 pub range_taken : (j : RestoreJob) (fact : Fact) (e : Exchange) (bytes : List ℕ) (es : Trace) → IsRangeOf fact e.ask → e.say ≡ Say.Bytes bytes → (k : IsWalking j fact es) → RangeTaken j fact k.root e bytes es

@@ -20,8 +20,8 @@ use Rattle.repo_restore.specs.declared.nodes.Begun.{Begun}
 use Rattle.repo_restore.specs.declared.nodes.Level.{Level}
 use Rattle.repo_session.specs.Trees.{Under, IsNodeAt}
 use Rattle.repo_restore.specs.Restoring.{MayGive}
-use Rattle.repo_restore.specs.Walking.{NodeBegins, StandsIn, WaitsAs, WaitsIn, WalkEnds}
-use Rattle.repo_session.specs.Catalogs.{IsNowhere}
+use Rattle.repo_restore.specs.Walking.{NodeBegins, LevelStands, WaitsAs, WaitsIn, WalkEnds}
+use Rattle.repo_session.specs.Catalogs.{IsBlobNowhere}
 use Rattle.repo_restore.specs.Walks.{IsWriting, Sums, AtLevel, AtOpen}
 use Rattle.repo_restore.proofs.Rebuilds.{rebuilt_both, writing_new}
 use Rattle.repo_name.proofs.Containing.{contains_got}
@@ -66,12 +66,12 @@ step_ends facts B root tree path name (NodeKind.Dir subtree) nodes mid new end a
     )
 step_ends facts B root tree path name (NodeKind.File size content) nodes mid new end above under is at read among h given = (why h.1, subst (λ e. Each (MayGive 1 B root) e) (sym h.0) given)
   where
-    why : ((n : Name) × (end ≡ End.Missing Thing.Content n) × Contains content n × IsNowhere facts BlobKind.Content n) ⊎ ((end ≡ End.BadObject Thing.Tree tree) × ((total : ℕ) × Sums facts content total × (total ≢ size))) → WalkEnds facts B root end
+    why : ((n : Name) × (end ≡ End.Missing Thing.Content n) × Contains content n × IsBlobNowhere facts BlobKind.Content n) ⊎ ((end ≡ End.BadObject Thing.Tree tree) × ((total : ℕ) × Sums facts content total × (total ≢ size))) → WalkEnds facts B root end
     why (inl m) = subst (λ x. WalkEnds facts B root x) (sym m.1) (BlobKind.Content, refl, m.3, (path, size, content, at, m.2))
     why (inr u) = subst (λ x. WalkEnds facts B root x) (sym u.0) (refl, (above, under, inr (nodes, read, (name, size, content, u.1.0, among, u.1.1, u.1.2))))
 
 module _ (facts : List Fact) (B : Blobs) (root : Name) (level : Level) (at : ℕ) (before : List Entry) (old mid new : List Emission) (node : Node) where
-  pub begun_done : StandsIn B root level at before old mid → slice_get level.nodes.items at ≡ Some node → NodeBegins facts level.tree (level.path ++ node.name ∷ []) node.what mid new Begun.Done → StandsIn B root level (at + 1) before old new
+  pub begun_done : LevelStands B root level at before old mid → slice_get level.nodes.items at ≡ Some node → NodeBegins facts level.tree (level.path ++ node.name ∷ []) node.what mid new Begun.Done → LevelStands B root level (at + 1) before old new
   begun_done h p b =
       let r = step_done facts B root level.tree (level.path ++ node.name ∷ []) node.what old mid new (node_at B root level.tree level.path level.nodes.items at at h.inside node h.opened p) b h.given in
       record {
@@ -81,21 +81,21 @@ module _ (facts : List Fact) (B : Blobs) (root : Name) (level : Level) (at : ℕ
         given = r.3;
       }
 
-  pub begun_waits : (fact : Fact) → StandsIn B root level at before old mid → slice_get level.nodes.items at ≡ Some node → NodeBegins facts level.tree (level.path ++ node.name ∷ []) node.what mid new (Begun.Waits fact)
+  pub begun_waits : (fact : Fact) → LevelStands B root level at before old mid → slice_get level.nodes.items at ≡ Some node → NodeBegins facts level.tree (level.path ++ node.name ∷ []) node.what mid new (Begun.Waits fact)
       → WaitsIn facts B root level (at + 1) before old new fact
   begun_waits fact h p b =
       let r = step_waits facts B root level.tree (level.path ++ node.name ∷ []) node.what old mid new fact (before ++ h.inside) (node_at B root level.tree level.path level.nodes.items at at h.inside node h.opened p) b h.given h.whole in
       record { at = at; counts = refl; node = node; node_is = p; inside = h.inside; opened = h.opened; waits = r.0; given = r.1 }
 
-  pub begun_ends : (end : End) → StandsIn B root level at before old mid → slice_get level.nodes.items at ≡ Some node → NodeBegins facts level.tree (level.path ++ node.name ∷ []) node.what mid new (Begun.Ended end)
+  pub begun_ends : (end : End) → LevelStands B root level at before old mid → slice_get level.nodes.items at ≡ Some node → NodeBegins facts level.tree (level.path ++ node.name ∷ []) node.what mid new (Begun.Ended end)
       → WalkEnds facts B root end × Each (MayGive 1 B root) new
   begun_ends end h p b =
       step_ends facts B root level.tree (level.path ++ node.name ∷ []) node.name node.what level.nodes.items mid new end level.path h.opened.under refl (node_at B root level.tree level.path level.nodes.items at at h.inside node h.opened p)
       h.opened.read (contains_got level.nodes.items at node p) b h.given
 
 -- past the last node of a level
-pub stands_all : (B : Blobs) (root : Name) (level : Level) (at : ℕ) (before : List Entry) (old out : List Emission) → length level.nodes.items ≤ at → StandsIn B root level at before old out
-    → StandsIn B root level (length level.nodes.items) before old out
+pub stands_all : (B : Blobs) (root : Name) (level : Level) (at : ℕ) (before : List Entry) (old out : List Emission) → length level.nodes.items ≤ at → LevelStands B root level at before old out
+    → LevelStands B root level (length level.nodes.items) before old out
 stands_all B root level at before old out w h = record { inside = h.inside; opened = open_all B root level.tree level.path level.nodes.items at h.inside w h.opened; whole = h.whole; given = h.given }
 
 -- the level of which nodes are begun
@@ -103,10 +103,10 @@ pub at_level : (B : Blobs) (root : Name) (levels : List Level) (depth begun : �
 at_level B root levels depth begun level all p h = subst (λ l. AtLevel B root levels depth begun l all) (same_Some h.0 level (sym h.1.level_is ∙ p)) h.1
 
 pub level_stands : (B : Blobs) (root : Name) (levels : List Level) (depth begun : ℕ) (level : Level) (old out : List Emission) (h : AtLevel B root levels depth begun level (rebuilt (old ++ out))) → Each (MayGive 1 B root) out
-    → StandsIn B root level begun h.before old out
+    → LevelStands B root level begun h.before old out
 level_stands B root levels depth begun level old out h given = record { inside = h.inside; opened = h.opened; whole = h.whole; given = given }
 
 pub level_done : (B : Blobs) (root : Name) (levels : List Level) (depth begun above : ℕ) (level : Level) (old out new : List Emission) (h : AtLevel B root levels depth begun level (rebuilt (old ++ out)))
-    → StandsIn B root level (length level.nodes.items) h.before old new → ((i : ℕ) (l : Level) → depth ≡ i + 1 → slice_get levels i ≡ Some l → above ≡ l.begun) → AtOpen B root levels depth above (rebuilt (old ++ new))
+    → LevelStands B root level (length level.nodes.items) h.before old new → ((i : ℕ) (l : Level) → depth ≡ i + 1 → slice_get levels i ≡ Some l → above ≡ l.begun) → AtOpen B root levels depth above (rebuilt (old ++ new))
 level_done B root levels depth begun above level old out new h s up =
     close_level B root levels depth above level (rebuilt (old ++ new)) (record { before = h.before; inside = s.inside; level_is = h.level_is; leads = h.leads; opened = s.opened; whole = s.whole }) up

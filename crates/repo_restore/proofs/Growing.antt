@@ -12,7 +12,7 @@ use Rattle.repo_session.specs.declared.emissions.Emission.{Emission}
 use Rattle.repo_session.proofs.Descending.{under_grows}
 use Rattle.repo_restore.specs.declared.nodes.Level.{Level}
 use Rattle.repo_restore.specs.Walking.{FileWaits, WaitsByKind, WalkWaits}
-use Rattle.repo_restore.specs.Walks.{IsOpenLevel, IsBegun, LeadsOn}
+use Rattle.repo_restore.specs.Walks.{IsOpenLevel, DirectoryIsBegun, LeadsOn}
 
 tree_grows : (B C : Blobs) → Grows B C → (t : Name) (nodes : List Node) → IsTree B t nodes → IsTree C t nodes
 tree_grows B C grows t nodes h = record { text = h.text; among = grows BlobKind.Tree h.text h.among; named = h.named; reads = h.reads }
@@ -25,7 +25,7 @@ open_grows B C grows root tree path nodes begun inside h = record {
   spelled = nodes_grown 1 B C grows path (take begun nodes) inside h.spelled;
 }
 
-begun_grows : (B C : Blobs) → Grows B C → (root : Name) (level : Level) (inside : List Entry) (node : Node) → IsBegun B root level inside node → IsBegun C root level inside node
+begun_grows : (B C : Blobs) → Grows B C → (root : Name) (level : Level) (inside : List Entry) (node : Node) → DirectoryIsBegun B root level inside node → DirectoryIsBegun C root level inside node
 begun_grows B C grows root level inside node h = record { at = h.at; counts = h.counts; node_is = h.node_is; opened = open_grows B C grows root level.tree level.path level.nodes.items h.at inside h.opened }
 
 leads_grow : (B C : Blobs) → Grows B C → (root from : Name) (path : List (List ℕ)) (outer : List Entry) (levels : List Level) (tree : Name) (last : List (List ℕ)) (all : List Entry) → LeadsOn B root from path outer levels tree last all

@@ -22,7 +22,7 @@ use Rattle.repo_restore.specs.Nodes.{WaitsFor, BlobFollows}
 use Rattle.repo_session.specs.Trees.{Under, IsNodeAt, IsNeeded}
 use Rattle.repo_restore.specs.Restoring.{MayGive, counted}
 use Rattle.repo_restore.specs.Walking.{WaitsIn, WaitsAs, with_begun, IsNextPath, FileWaits, TreeWaits, WaitsByKind, WalkWaits, WalkEnds}
-use Rattle.repo_restore.specs.Walks.{IsOpenLevel, IsBegun, IsFile, IsWriting, LeadsOn, AtLevel, AtOpen, Sums}
+use Rattle.repo_restore.specs.Walks.{IsOpenLevel, DirectoryIsBegun, IsFile, IsWriting, LeadsOn, AtLevel, AtOpen, Sums}
 use Rattle.repo_session.proofs.Descending.{under_more}
 use Rattle.repo_restore.proofs.Rebuilds.{rebuilt_length, writing_more, writing_done}
 use Rattle.repo_restore.proofs.Summing.{one_more, sums_drop}
@@ -176,7 +176,7 @@ part_all facts B size sent content bytes h p =
 
 -- a file that is closed: the level goes on behind it
 pub closed : (facts : List Fact) (B : Blobs) (root : Name) (levels above : List Level) (level : Level) (before inside : List Entry) (node : Node) (size sent : ℕ) (content : List Name) (bytes : List ℕ) (emitted : List Emission)
-    → levels ≡ above ++ level ∷ [] → LeadsOn B root root [] [] above level.tree level.path before → IsBegun B root level inside node → node.what ≡ NodeKind.File size content → IsFile facts B size content sent bytes
+    → levels ≡ above ++ level ∷ [] → LeadsOn B root root [] [] above level.tree level.path before → DirectoryIsBegun B root level inside node → node.what ≡ NodeKind.File size content → IsFile facts B size content sent bytes
     → slice_get content sent ≡ None → IsWriting emitted (before ++ inside) (level.path ++ node.name ∷ []) bytes → AtOpen B root levels (length levels) level.begun (rebuilt (emitted ++ Emission.Close ∷ []))
 closed facts B root levels above level before inside node size sent content bytes emitted are leads begun file part none writing =
     let path : List (List ℕ) = level.path ++ node.name ∷ [] in

@@ -15,7 +15,7 @@ use Rattle.repo_name.specs.declared.names.Name.{Name}
 use Rattle.repo_pack.specs.declared.places.Place.{Place}
 use Rattle.repo_index.specs.declared.facts.Fact.{Fact}
 use Rattle.repo_index.specs.Lookups.{IsLeast}
-use Rattle.repo_session.specs.Catalogs.{IsNowhere}
+use Rattle.repo_session.specs.Catalogs.{IsBlobNowhere}
 use Rattle.repo_restore.specs.Walks.{Sums}
 
 -- one more behind some
@@ -30,7 +30,7 @@ sums_push facts (n ∷ ns) total name place h least =
     (h.0, h.1 + place.length, h.2, sums_push facts ns h.1 name place h.3 least, (let e : total ≡ h.0.length + h.1 = h.4 in omega arith))
 
 -- what is summed has places
-pub summed_place : (facts : List Fact) (names : List Name) (total : ℕ) (i : ℕ) (name : Name) → Sums facts names total → slice_get names i ≡ Some name → ¬ IsNowhere facts BlobKind.Content name
+pub summed_place : (facts : List Fact) (names : List Name) (total : ℕ) (i : ℕ) (name : Name) → Sums facts names total → slice_get names i ≡ Some name → ¬ IsBlobNowhere facts BlobKind.Content name
 summed_place facts [] total i name h p none = absurd (cc)
 summed_place facts (n ∷ ns) total zero name h p none = let e : n ≡ name = cc in none h.0 (let P : Name → Type 0 = λ m. IsLeast facts BlobKind.Content m h.0 in (subst P e h.2).among)
 summed_place facts (n ∷ ns) total (suc i) name h p none = summed_place facts ns h.1 i name h.3 p none

@@ -12,7 +12,7 @@ use Rattle.repo_tree.specs.Spelling.{NodeSpells, NodesSpell, Spells, greatest_de
 use Rattle.repo_tree.proofs.SpellingLemmas.{made_spelled, empty_spelled, nodes_push}
 use Rattle.repo_restore.specs.declared.nodes.Level.{Level}
 use Rattle.repo_session.specs.Trees.{IsNodeAt}
-use Rattle.repo_restore.specs.Walks.{IsOpenLevel, IsBegun, LeadsOn, AtLevel, AtOpen}
+use Rattle.repo_restore.specs.Walks.{IsOpenLevel, DirectoryIsBegun, LeadsOn, AtLevel, AtOpen}
 use Rattle.repo_restore.proofs.Summing.{one_more}
 
 -- one more node
@@ -65,7 +65,7 @@ pub record LastOpen (B : Blobs) (root from : Name) (path : List (List ℕ)) (out
   pub inside : List Entry
   pub node : Node
   pub leads : LeadsOn B root from path outer levels level.tree level.path before
-  pub begun : IsBegun B root level inside node
+  pub begun : DirectoryIsBegun B root level inside node
   pub dir : node.what ≡ NodeKind.Dir tree
   pub below : last ≡ level.path ++ node.name ∷ []
   pub whole : all ≡ before ++ inside ++ dir_entry (level.path ++ node.name ∷ []) ∷ []

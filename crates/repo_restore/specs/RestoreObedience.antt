@@ -6,7 +6,7 @@ use Rattle.repo_session.specs.Traces.{Trace}
 use Rattle.repo_restore.specs.declared.restores.Restore.{Restore}
 use Rattle.repo_restore.specs.declared.restores.RestoreJob.{RestoreJob}
 use Rattle.repo_restore.specs.Restoring.{Wish, restore_task, restore_rule, RestoreAllows, RestoreGives, RestoreConcludes}
-use Rattle.repo_restore.specs.RestoreStates.{FitsRestore, IsNew, KnowsRestore}
+use Rattle.repo_restore.specs.RestoreStates.{FitsRestore, IsNewRestore, KnowsRestore}
 
 -- what a restore was made for
 abbrev pub wish_of : Restore → Wish
@@ -14,4 +14,4 @@ wish_of c = record { who = who_in c.session; snapshot = c.session.job.snapshot }
 
 pub restore_obeys : (c : Restore) (es : Trace) → FitsRestore c es
     → IsObedient (restore_task (wish_of c)) (RestoreAllows (wish_of c).snapshot) (RestoreGives (wish_of c).snapshot) (RestoreConcludes (wish_of c).snapshot) (next_in c.session) (ended_in c.session) es
-restore_obeys c es f = session_obeys (λ (j : RestoreJob). j.snapshot) restore_rule IsNew KnowsRestore c.session es f
+restore_obeys c es f = session_obeys (λ (j : RestoreJob). j.snapshot) restore_rule IsNewRestore KnowsRestore c.session es f

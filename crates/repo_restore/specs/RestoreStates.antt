@@ -1,5 +1,5 @@
 -- What is known while a snapshot is restored.
-use Rattle.std.specs.Prelude.{◌≡◌, [], true, false, List, length}
+use Rattle.std.specs.Prelude.{◌≡◌, [], true, false, List, length, ◌∷◌, ℕ}
 use Rattle.repo_name.specs.declared.kinds.Kind.{Kind}
 use Rattle.repo_name.specs.declared.names.Name.{Name}
 use Rattle.repo_wire.specs.declared.messages.Ask.{Ask}
@@ -8,13 +8,13 @@ use Rattle.repo_index.specs.declared.facts.Fact.{Fact}
 use Rattle.repo_tree.specs.Spelling.{Spells}
 use Rattle.repo_session.specs.declared.emissions.Emission.{Emission}
 use Rattle.repo_session.specs.declared.jobs.Step.{Step}
-use Rattle.repo_session.specs.Askers.{Holding}
+use Rattle.repo_session.specs.Askers.{Holding, Asker}
 use Rattle.repo_session.specs.Catalogs.{Catalogs, IsAll}
-use Rattle.repo_session.specs.Jobs.{StepsOn}
+use Rattle.repo_session.specs.Jobs.{StepsOn, MayStep, task_under, GivesBy}
 use Rattle.repo_session.specs.Readings.{KnowsIndexes}
 use Rattle.repo_session.specs.Rebuilding.{rebuilt, Follow, AreWhole}
 use Rattle.repo_session.specs.Sessions.{FitsSession}
-use Rattle.repo_session.specs.Traces.{Trace, emitted_in, giving}
+use Rattle.repo_session.specs.Traces.{Trace, emitted_in, giving, Exchange}
 use Rattle.repo_restore.specs.declared.restores.Restore.{Restore}
 use Rattle.repo_restore.specs.declared.restores.RestoreJob.{RestoreJob}
 use Rattle.repo_restore.specs.declared.restores.Stage.{Stage}
@@ -24,7 +24,10 @@ use Rattle.repo_restore.specs.Flowing.{is_open}
 use Rattle.repo_session.specs.Received.{Received}
 use Rattle.repo_session.specs.Trees.{HasRoot}
 use Rattle.repo_restore.specs.Restoring.{counted, restore_rule}
-use Rattle.repo_restore.specs.Walking.{Waits, WalkEnds}
+use Rattle.repo_restore.specs.Walking.{WaitsForBlob, WalkEnds}
+use Rattle.repo_name.specs.Naming as naming
+use Rattle.repo_name.specs.declared.tokens.Token.{Token}
+use Rattle.repo_session.specs.Order.{IsWorking}
 
 -- the request for the place of a fact
 abbrev pub IsRangeOf : Fact → Ask → Type 0
@@ -40,7 +43,7 @@ pub record IsBefore (walk : Walk) (given : List Emission) (es : Trace) : Type 0 
   pub nothing : emitted_in es ≡ []
 
 -- nothing was asked for yet
-pub record IsNew (j : RestoreJob) : Type 0 where
+pub record IsNewRestore (j : RestoreJob) : Type 0 where
   pub at_start : j.stage ≡ Stage.Snapshot
   pub of_indexes : j.catalog.roll.kind ≡ Kind.Index
   pub no_names : j.catalog.roll.names.items ≡ []
@@ -56,17 +59,17 @@ pub record IsWalking (j : RestoreJob) (fact : Fact) (es : Trace) : Type 0 where
   pub found : HasRoot es j.snapshot 1 root
   pub indexes : Catalogs j.catalog true es
   pub all : IsAll j.catalog
-  pub waits : Waits j.catalog.lookup (Received es) root j.walk fact (emitted_in es)
+  pub waits : WaitsForBlob j.catalog.lookup (Received es) root j.walk fact (emitted_in es)
   pub flows : Follow false (emitted_in es) (is_open fact.kind)
 
 -- what is known at each stage where this is pending
-abbrev pub KnowsAt : RestoreJob → Stage → Ask → Trace → Type 0
-KnowsAt j Stage.Snapshot ask es = (ask ≡ Ask.Get Kind.Snapshot j.snapshot) × (j.catalog.roll.read ≡ 0) × Catalogs j.catalog false es × IsBefore j.walk j.given.items es
-KnowsAt j (Stage.Indexes root) ask es = KnowsIndexes j.catalog ask es × HasRoot es j.snapshot 1 root × IsBefore j.walk j.given.items es
-KnowsAt j (Stage.Walk fact) ask es = IsRangeOf fact ask × IsWalking j fact es
+abbrev pub KnowsAtStage : RestoreJob → Stage → Ask → Trace → Type 0
+KnowsAtStage j Stage.Snapshot ask es = (ask ≡ Ask.Get Kind.Snapshot j.snapshot) × (j.catalog.roll.read ≡ 0) × Catalogs j.catalog false es × IsBefore j.walk j.given.items es
+KnowsAtStage j (Stage.Indexes root) ask es = KnowsIndexes j.catalog ask es × HasRoot es j.snapshot 1 root × IsBefore j.walk j.given.items es
+KnowsAtStage j (Stage.Walk fact) ask es = IsRangeOf fact ask × IsWalking j fact es
 
 abbrev pub KnowsRestore : RestoreJob → Ask → Trace → Type 0
-KnowsRestore j ask es = KnowsAt j j.stage ask es
+KnowsRestore j ask es = KnowsAtStage j j.stage ask es
 
 -- the step on the reply to what was pending, with what was given out on it
 abbrev pub RestoreReplied : RestoreJob → Ask → Say → Step → RestoreJob → Type 0
@@ -77,10 +80,10 @@ abbrev pub RestoreStays : RestoreJob → RestoreJob → Type 0
 RestoreStays old new = (new.given ≡ old.given) × ((ask : Ask) (es : Trace) → KnowsRestore old ask es → KnowsRestore new ask es)
 
 -- what is known by what comes next of the walk
-abbrev pub TurnIs : List Fact → Walk → Name → Trace → Turn → Type 0
-TurnIs facts walk root es (Turn.Ask fact) = Waits facts (Received es) root walk fact (emitted_in es) × Follow false (emitted_in es) (is_open fact.kind)
-TurnIs facts walk root es (Turn.Complete count) = Spells 1 (Received es) root [] (rebuilt (emitted_in es)) × (count ≡ counted (length (rebuilt (emitted_in es)))) × AreWhole (emitted_in es)
-TurnIs facts walk root es (Turn.Ended end) = WalkEnds facts (Received es) root end
+abbrev pub RestoreTurnIs : List Fact → Walk → Name → Trace → Turn → Type 0
+RestoreTurnIs facts walk root es (Turn.Ask fact) = WaitsForBlob facts (Received es) root walk fact (emitted_in es) × Follow false (emitted_in es) (is_open fact.kind)
+RestoreTurnIs facts walk root es (Turn.Complete count) = Spells 1 (Received es) root [] (rebuilt (emitted_in es)) × (count ≡ counted (length (rebuilt (emitted_in es)))) × AreWhole (emitted_in es)
+RestoreTurnIs facts walk root es (Turn.Ended end) = WalkEnds facts (Received es) root end
 
 -- all indexes were read, and the walk goes on so
 pub record IsTurnNext (j : RestoreJob) (es : Trace) (turn : Turn) : Type 0 where
@@ -88,8 +91,17 @@ pub record IsTurnNext (j : RestoreJob) (es : Trace) (turn : Turn) : Type 0 where
   pub found : HasRoot es j.snapshot 1 root
   pub indexes : Catalogs j.catalog true es
   pub all : IsAll j.catalog
-  pub turns : TurnIs j.catalog.lookup j.walk root es turn
+  pub turns : RestoreTurnIs j.catalog.lookup j.walk root es turn
 
 -- the restore stands where the trace leaves it
 abbrev pub FitsRestore : Restore → Trace → Type 0
-FitsRestore c es = FitsSession (λ (j : RestoreJob). j.snapshot) restore_rule IsNew KnowsRestore c.session es
+FitsRestore c es = FitsSession (λ (j : RestoreJob). j.snapshot) restore_rule IsNewRestore KnowsRestore c.session es
+
+-- wherever this turn is next, a step that a client may make
+abbrev pub RestoreGoesOn : RestoreJob → Turn → Step → RestoreJob → Type 0
+RestoreGoesOn old turn step new = (who : Asker) (token : Token) (e : Exchange) (es : Trace) → IsWorking (task_under (restore_rule old.snapshot) who) token (e ∷ es)
+    → GivesBy (restore_rule old.snapshot) es e → IsTurnNext old (e ∷ es) turn → MayStep (restore_rule old.snapshot) who (KnowsRestore new) es e step
+
+-- the bytes of the blob that a fact gives were replied
+abbrev pub RestoreTakesBlob : RestoreJob → Fact → List ℕ → Step → RestoreJob → Type 0
+RestoreTakesBlob old fact bytes step new = (ask : Ask) → naming.name bytes ≡ fact.name → length bytes ≡ fact.place.length → RestoreReplied old ask (Say.Bytes bytes) step new

@@ -13,7 +13,7 @@ use Rattle.repo_session.specs.declared.emissions.Emission.{Emission}
 use Rattle.repo_session.specs.declared.outcomes.End.{End}
 use Rattle.repo_session.specs.Ends.{blob_thing}
 use Rattle.repo_session.specs.Rebuilding.{rebuilt}
-use Rattle.repo_session.specs.Traces.{Each}
+use Rattle.repo_session.specs.Traces.{Each, Trace}
 use Rattle.repo_restore.specs.declared.nodes.Begun.{Begun}
 use Rattle.repo_restore.specs.declared.nodes.Level.{Level}
 use Rattle.repo_restore.specs.declared.walks.Turn.{Turn}
@@ -22,8 +22,10 @@ use Rattle.repo_index.specs.Lookups.{IsLeast}
 use Rattle.repo_restore.specs.Nodes.{WaitsFor, DirBegins, FileBegins}
 use Rattle.repo_session.specs.Trees.{Under, IsNeeded, IsBroken}
 use Rattle.repo_restore.specs.Restoring.{MayGive, counted}
-use Rattle.repo_session.specs.Catalogs.{IsNowhere}
-use Rattle.repo_restore.specs.Walks.{Sums, IsOpenLevel, IsBegun, IsFile, LeadsOn, IsWriting}
+use Rattle.repo_session.specs.Catalogs.{IsBlobNowhere}
+use Rattle.repo_restore.specs.Walks.{Sums, IsOpenLevel, DirectoryIsBegun, IsFile, LeadsOn, IsWriting, AtOpen}
+use Rattle.repo_session.specs.Received.{Received}
+use Rattle.repo_name.specs.Naming as naming
 
 -- what beginning a node gives
 abbrev pub NodeBegins : List Fact → Name → List (List ℕ) → NodeKind → List Emission → List Emission → Begun → Type 0
@@ -31,7 +33,7 @@ NodeBegins facts tree path (NodeKind.File size content) old new begun = FileBegi
 NodeBegins facts tree path (NodeKind.Dir subtree) old new begun = DirBegins facts path subtree old new begun
 
 -- a level whose first nodes were given out, after what was given out before
-pub record StandsIn (B : Blobs) (root : Name) (level : Level) (begun : ℕ) (before : List Entry) (old out : List Emission) : Type 0 where
+pub record LevelStands (B : Blobs) (root : Name) (level : Level) (begun : ℕ) (before : List Entry) (old out : List Emission) : Type 0 where
   pub inside : List Entry
   pub opened : IsOpenLevel B root level.tree level.path level.nodes.items begun inside
   pub whole : rebuilt (old ++ out) ≡ before ++ inside
@@ -63,13 +65,13 @@ IsUnfitIn facts B root path tree = IsBroken 1 B root path tree ⊎ ((nodes : Lis
 
 -- why a walk ends
 abbrev pub WalkEnds : List Fact → Blobs → Name → End → Type 0
-WalkEnds facts B root (End.Missing thing name) = (kind : BlobKind) × (thing ≡ blob_thing kind) × IsNowhere facts kind name × IsNeeded 1 B root kind name
+WalkEnds facts B root (End.Missing thing name) = (kind : BlobKind) × (thing ≡ blob_thing kind) × IsBlobNowhere facts kind name × IsNeeded 1 B root kind name
 WalkEnds facts B root (End.BadObject thing tree) = (thing ≡ Thing.Tree) × ((path : List (List ℕ)) × Under 1 B root path tree × IsUnfitIn facts B root path tree)
 WalkEnds facts B root _ = ⊥
 
 -- what beginning a level's next nodes gives
 abbrev pub NextBegins : List Fact → Blobs → Name → Level → List Entry → List Emission → List Emission → ℕ → Begun → Type 0
-NextBegins facts B root level before old out now Begun.Done = StandsIn B root level (length level.nodes.items) before old out
+NextBegins facts B root level before old out now Begun.Done = LevelStands B root level (length level.nodes.items) before old out
 NextBegins facts B root level before old out now (Begun.Waits fact) = WaitsIn facts B root level now before old out fact
 NextBegins facts B root level before old out now (Begun.Ended end) = WalkEnds facts B root end × Each (MayGive 1 B root) out
 
@@ -96,7 +98,7 @@ pub record FileWaits (facts : List Fact) (B : Blobs) (root : Name) (levels : Lis
   pub bytes : List ℕ
   pub levels_are : levels ≡ above ++ level ∷ []
   pub leads : LeadsOn B root root [] [] above level.tree level.path before
-  pub begun : IsBegun B root level inside node
+  pub begun : DirectoryIsBegun B root level inside node
   pub file : node.what ≡ NodeKind.File size content
   pub asked : slice_get content sent ≡ Some fact.name
   pub part : IsFile facts B size content sent bytes
@@ -126,18 +128,58 @@ TurnGives facts B root levels sent entries old out (Turn.Ended end) = WalkEnds f
 -- ---- over the code's own type
 
 -- a walk of the code waits for a blob
-abbrev pub Waits : List Fact → Blobs → Name → Walk → Fact → List Emission → Type 0
-Waits facts B root w fact emitted = WalkWaits facts B root w.levels.items w.sent w.entries fact emitted
+abbrev pub WaitsForBlob : List Fact → Blobs → Name → Walk → Fact → List Emission → Type 0
+WaitsForBlob facts B root w fact emitted = WalkWaits facts B root w.levels.items w.sent w.entries fact emitted
 
 -- what comes of a step of it
 abbrev pub Turns : List Fact → Blobs → Name → Walk → List Emission → List Emission → Turn → Type 0
 Turns facts B root w old out turn = TurnGives facts B root w.levels.items w.sent w.entries old out turn
 
 -- the node that is begun of a level
-abbrev pub HasBegun : Level → Node → Type 0
-HasBegun level node = (at : ℕ) × (level.begun ≡ at + 1) × (slice_get level.nodes.items at ≡ Some node)
+abbrev pub NodeHasBegun : Level → Node → Type 0
+NodeHasBegun level node = (at : ℕ) × (level.begun ≡ at + 1) × (slice_get level.nodes.items at ≡ Some node)
 
 -- where the tree that a walk waits for stands
 abbrev pub IsNextPath : List Level → List (List ℕ) → Type 0
 IsNextPath levels path = (levels ≡ [] → path ≡ [])
-    × ((above : List Level) (level : Level) (node : Node) → levels ≡ above ++ level ∷ [] → HasBegun level node → path ≡ level.path ++ node.name ∷ [])
+    × ((above : List Level) (level : Level) (node : Node) → levels ≡ above ++ level ∷ [] → NodeHasBegun level node → path ≡ level.path ++ node.name ∷ [])
+
+-- wherever it stands in a directory, its next node begins
+abbrev pub BeginsNext : List Fact → Level → ℕ → List Emission → List Emission → ℕ → Begun → Type 0
+BeginsNext facts level begun out more now what = (gs : Trace) (root : Name) (before : List Entry) (old : List Emission) → LevelStands (Received gs) root level begun before old out
+    → NextBegins facts (Received gs) root level before old more now what
+
+-- wherever the levels are open, it goes on to the next stop
+abbrev pub GoesToStop : List Fact → List Level → ℕ → List Emission → List Emission → ℕ → ℕ → Begun → Type 0
+GoesToStop facts levels begun out more depth now what = (gs : Trace) (root : Name) (old : List Emission)
+    → AtOpen (Received gs) root levels (length levels) begun (rebuilt (old ++ out)) → Each (MayGive 1 (Received gs) root) out
+    → StopsAt facts (Received gs) root levels old more depth now what
+
+-- the content of the file that the last level has begun
+abbrev pub IsOpenContent : List Level → List Name → Type 0
+IsOpenContent levels names = (above : List Level) (level : Level) (node : Node) (size : ℕ) (content : List Name) → levels ≡ above ++ level ∷ [] → NodeHasBegun level node
+    → node.what ≡ NodeKind.File size content → names ≡ content
+
+-- ---- what a walk does, whatever was received and given before
+
+-- at a stop
+abbrev pub TurnsAtStop : Stop → List Emission → Walk → Turn → Walk → Type 0
+TurnsAtStop stop out walk turn new = (facts : List Fact) (gs : Trace) (root : Name) (old : List Emission)
+    → StopsAt facts (Received gs) root walk.levels.items old out stop.depth stop.begun stop.what → walk.entries ≡ counted (length (rebuilt old))
+    → Turns facts (Received gs) root new old out turn
+
+-- on the nodes of the tree that it waited for
+abbrev pub EntersTree : List Fact → Name → List Node → Walk → List Emission → List Emission → Turn → Walk → Type 0
+EntersTree facts tree nodes walk before out turn new = (gs : Trace) (root : Name) (fact : Fact) (old : List Emission) → WaitsForBlob facts (Received gs) root walk fact old
+    → fact.kind ≡ BlobKind.Tree → fact.name ≡ tree → IsTree (Received gs) tree nodes → before ≡ [] → Turns facts (Received gs) root new old out turn
+
+-- on the content that it waited for
+abbrev pub TakesContent : List Fact → List ℕ → Walk → List Emission → List Emission → Turn → Walk → Type 0
+TakesContent facts bytes walk before out turn new = (gs : Trace) (root : Name) (fact : Fact) (old : List Emission) → WaitsForBlob facts (Received gs) root walk fact old
+    → fact.kind ≡ BlobKind.Content → Received gs BlobKind.Content bytes → naming.name bytes ≡ fact.name → length bytes ≡ fact.place.length → before ≡ []
+    → Turns facts (Received gs) root new old out turn
+
+-- on the blob that it waited for
+abbrev pub TakesBlob : List Fact → Fact → List ℕ → Walk → List Emission → List Emission → Turn → Walk → Type 0
+TakesBlob facts fact bytes walk before out turn new = (gs : Trace) (root : Name) (old : List Emission) → WaitsForBlob facts (Received gs) root walk fact old
+    → Received gs fact.kind bytes → naming.name bytes ≡ fact.name → length bytes ≡ fact.place.length → before ≡ [] → Turns facts (Received gs) root new old out turn

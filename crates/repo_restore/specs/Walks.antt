@@ -11,7 +11,7 @@ use Rattle.repo_tree.specs.declared.nodes.NodeKind.{NodeKind}
 use Rattle.repo_tree.specs.Parts.{Blobs, IsTree}
 use Rattle.repo_tree.specs.Spelling.{Joined, NodesSpell, Spells, greatest_depth, dir_entry}
 use Rattle.repo_session.specs.declared.emissions.Emission.{Emission}
-use Rattle.repo_session.specs.Catalogs.{IsNowhere}
+use Rattle.repo_session.specs.Catalogs.{IsBlobNowhere}
 use Rattle.repo_session.specs.Rebuilding.{rebuilt}
 use Rattle.repo_session.specs.Trees.{Under}
 use Rattle.repo_restore.specs.declared.nodes.Filed.{Filed}
@@ -30,7 +30,7 @@ LeftOf (Some left) size total = left + total ≡ size
 -- what looking up a file's blobs gives
 abbrev pub Files : List Fact → ℕ → List Name → Filed → Type 0
 Files facts size content Filed.Even = Sums facts content size
-Files facts size content (Filed.Missing name) = Contains content name × IsNowhere facts BlobKind.Content name
+Files facts size content (Filed.Missing name) = Contains content name × IsBlobNowhere facts BlobKind.Content name
 Files facts size content Filed.Uneven = (total : ℕ) × Sums facts content total × (total ≢ size)
 
 -- a directory's tree was received, and what its first nodes spell is known
@@ -41,7 +41,7 @@ pub record IsOpenLevel (B : Blobs) (root tree : Name) (path : List (List ℕ)) (
   pub spelled : NodesSpell B (Spells 1 B) path (take begun nodes) inside
 
 -- a directory of which one node is begun
-pub record IsBegun (B : Blobs) (root : Name) (level : Level) (inside : List Entry) (node : Node) : Type 0 where
+pub record DirectoryIsBegun (B : Blobs) (root : Name) (level : Level) (inside : List Entry) (node : Node) : Type 0 where
   pub at : ℕ
   pub counts : level.begun ≡ at + 1
   pub node_is : slice_get level.nodes.items at ≡ Some node
@@ -51,7 +51,7 @@ pub record IsBegun (B : Blobs) (root : Name) (level : Level) (inside : List Entr
 abbrev pub LeadsOn : Blobs → Name → Name → List (List ℕ) → List Entry → List Level → Name → List (List ℕ) → List Entry → Type 0
 LeadsOn B root from path outer [] tree last all = (tree ≡ from) × (last ≡ path) × (all ≡ outer)
 LeadsOn B root from path outer (level ∷ levels) tree last all = (inside : List Entry) × (node : Node) × (subtree : Name)
-    × (level.tree ≡ from) × (level.path ≡ path) × IsBegun B root level inside node × (node.what ≡ NodeKind.Dir subtree)
+    × (level.tree ≡ from) × (level.path ≡ path) × DirectoryIsBegun B root level inside node × (node.what ≡ NodeKind.Dir subtree)
     × LeadsOn B root subtree (path ++ node.name ∷ []) (outer ++ inside ++ dir_entry (path ++ node.name ∷ []) ∷ []) levels tree last all
 
 -- a level of the open ones, whose first nodes were given out

@@ -1,21 +1,17 @@
 //! The restore of a snapshot.
 
-ghost use Rattle.std.specs.Prelude.{◌≡◌, ◌∷◌, [], ℕ, List, length, ◌↔◌, IfOk, OnErr, IsOk, IsTrue};
+ghost use Rattle.std.specs.Prelude.{◌≡◌, [], ℕ, List, ◌↔◌, IfOk, OnErr, IsOk, IsTrue};
 ghost use Rattle.repo_name.specs.Naming as naming;
 ghost use Rattle.repo_name.specs.declared.names.Name.{Name};
-ghost use Rattle.repo_name.specs.declared.tokens.Token.{Token};
 ghost use Rattle.repo_wire.specs.declared.messages.Ask.{Ask};
 ghost use Rattle.repo_wire.specs.declared.messages.Code.{Code};
 ghost use Rattle.repo_wire.specs.declared.messages.Say.{Say};
 ghost use Rattle.repo_session.specs.declared.emissions.Emission.{Emission};
-ghost use Rattle.repo_session.specs.Askers.{Asker};
 ghost use Rattle.repo_session.specs.Ends.{IsBadBlob};
-ghost use Rattle.repo_session.specs.Jobs.{task_under, GivesBy, IsShort, IsShortStep, MayStep};
-ghost use Rattle.repo_session.specs.Order.{IsWorking};
-ghost use Rattle.repo_session.specs.Traces.{Exchange, Trace};
+ghost use Rattle.repo_session.specs.Jobs.{IsShort, IsShortStep};
 ghost use Rattle.repo_restore.specs.Restoring.{restore_rule};
 ghost use Rattle.repo_restore.specs.RestoreObedience.{wish_of};
-ghost use Rattle.repo_restore.specs.RestoreStates.{FitsRestore, IsNew, IsTurnNext, KnowsRestore, RestoreReplied, RestoreStays};
+ghost use Rattle.repo_restore.specs.RestoreStates.{FitsRestore, IsNewRestore, KnowsRestore, RestoreReplied, RestoreStays, RestoreGoesOn, RestoreTakesBlob};
 
 use crate::walks::{Turn, Walk};
 use repo_index::Fact;
@@ -60,7 +56,7 @@ fn is_named(bytes: &[u8], name: Name) -> bool
 impl RestoreJob {
     /// A restore that has asked for nothing. It takes no memory.
     fn new(alloc: Global, snapshot: Name) -> RestoreJob
-        ensures new { IsNew result }
+        ensures new { IsNewRestore result }
         ensures snapshot { result.snapshot ≡ snapshot }
     {
         RestoreJob {
@@ -75,8 +71,7 @@ impl RestoreJob {
 
     /// Goes on as the walk does.
     fn go_on(&mut self, turn: Turn) -> Step
-        ensures steps { (who : Asker) (token : Token) (e : Exchange) (es : Trace) → IsWorking (task_under (restore_rule self.old.snapshot) who) token (e ∷ es) → GivesBy (restore_rule self.old.snapshot) es e
-            → IsTurnNext self.old (e ∷ es) turn → MayStep (restore_rule self.old.snapshot) who (KnowsRestore self.new) es e result }
+        ensures steps { RestoreGoesOn self.old turn result self.new }
         ensures short { IsShortStep result }
         ensures given { self.new.given ≡ self.old.given }
         ensures snapshot { self.new.snapshot ≡ self.old.snapshot }
@@ -161,7 +156,7 @@ impl RestoreJob {
     /// Takes the bytes of a blob. It fails for memory alone, and then what was known is known.
     fn take_blob(&mut self, fact: Fact, bytes: &[u8]) -> Result<Step, AllocError>
         requires { self.old.stage ≡ Stage.Walk fact }
-        ensures ok { IfOk result (λ step. (ask : Ask) → naming.name bytes.now ≡ fact.name → length bytes.now ≡ fact.place.length → RestoreReplied self.old ask (Say.Bytes bytes.now) step self.new) }
+        ensures ok { IfOk result (λ step. RestoreTakesBlob self.old fact bytes.now step self.new) }
         ensures err { OnErr result (RestoreStays self.old self.new) }
         ensures short { IfOk result IsShortStep }
         ensures snapshot { self.new.snapshot ≡ self.old.snapshot }
@@ -194,7 +189,7 @@ impl RestoreJob {
 impl Job for RestoreJob {
     ghost use Rattle.repo_name.specs.declared.names.Name.{Name};
     ghost use Rattle.repo_restore.specs.Restoring.{restore_rule};
-    ghost use Rattle.repo_restore.specs.RestoreStates.{IsNew, KnowsRestore};
+    ghost use Rattle.repo_restore.specs.RestoreStates.{IsNewRestore, KnowsRestore};
 
     ghost Handed = { Name };
 
@@ -202,7 +197,7 @@ impl Job for RestoreJob {
 
     ghost rule = { restore_rule };
 
-    ghost fresh = { IsNew };
+    ghost fresh = { IsNewRestore };
 
     ghost knows = { KnowsRestore };
 

@@ -1,17 +1,12 @@
 //! The steps of a walk over open directories.
 
-ghost use Rattle.std.specs.Prelude.{◌≡◌, ◌+◌, ◌++◌, ◌∷◌, [], ℕ, List, Bool, false, length, slice_get, Some, IfOk};
-ghost use Rattle.repo_name.specs.declared.names.Name.{Name};
-ghost use Rattle.repo_tree.specs.declared.entries.Entry.{Entry};
+ghost use Rattle.std.specs.Prelude.{◌≡◌, ◌+◌, ◌++◌, ◌∷◌, [], ℕ, Bool, false, length, slice_get, Some, IfOk};
 ghost use Rattle.repo_session.specs.declared.emissions.Emission.{Emission};
 ghost use Rattle.repo_session.specs.Rebuilding.{rebuilt, Follow};
-ghost use Rattle.repo_session.specs.Traces.{Each, Trace};
 ghost use Rattle.repo_restore.specs.declared.nodes.Level.{Level};
 ghost use Rattle.repo_restore.specs.Flowing.{FlowsTo};
-ghost use Rattle.repo_session.specs.Received.{Received};
-ghost use Rattle.repo_restore.specs.Restoring.{MayGive, counted};
-ghost use Rattle.repo_restore.specs.Walking.{NodeBegins, StandsIn, NextBegins, StopsAt};
-ghost use Rattle.repo_restore.specs.Walks.{AtOpen};
+ghost use Rattle.repo_restore.specs.Restoring.{counted};
+ghost use Rattle.repo_restore.specs.Walking.{NodeBegins, BeginsNext, GoesToStop};
 
 use crate::nodes::{Begun, Level, begin_dir, begin_file, path_of};
 use repo_index::Lookup;
@@ -89,8 +84,7 @@ fn begin_next(
     begun: usize,
     out: &mut Vec<Emission>,
 ) -> Result<Next, AllocError>
-    ensures begins { IfOk result (λ next. (gs : Trace) (root : Name) (before : List Entry) (old : List Emission) → StandsIn (Received gs) root level.now begun before old out.old.items
-        → NextBegins lookup.now (Received gs) root level.now before old out.new.items next.begun next.what) }
+    ensures begins { IfOk result (λ next. BeginsNext lookup.now level.now begun out.old.items out.new.items next.begun next.what) }
     ensures flows { IfOk result (λ next. (before : Bool) → Follow before out.old.items false → FlowsTo before out.new.items next.what) }
 {
     for at in begun..level.nodes.len() {
@@ -137,8 +131,7 @@ pub fn go_on(
     begun: usize,
     out: &mut Vec<Emission>,
 ) -> Result<Stop, AllocError>
-    ensures stops { IfOk result (λ stop. (gs : Trace) (root : Name) (old : List Emission) → AtOpen (Received gs) root levels.now (length levels.now) begun (rebuilt (old ++ out.old.items)) → Each (MayGive 1 (Received gs) root) out.old.items
-        → StopsAt lookup.now (Received gs) root levels.now old out.new.items stop.depth stop.begun stop.what) }
+    ensures stops { IfOk result (λ stop. GoesToStop lookup.now levels.now begun out.old.items out.new.items stop.depth stop.begun stop.what) }
     ensures flows { IfOk result (λ stop. (before : Bool) → Follow before out.old.items false → FlowsTo before out.new.items stop.what) }
 {
     let mut begun = begun;

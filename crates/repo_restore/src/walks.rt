@@ -7,16 +7,14 @@ ghost use Rattle.repo_name.specs.declared.names.Name.{Name};
 ghost use Rattle.repo_index.specs.declared.facts.Fact.{Fact};
 ghost use Rattle.repo_tree.specs.declared.nodes.Node.{Node};
 ghost use Rattle.repo_tree.specs.declared.nodes.NodeKind.{NodeKind};
-ghost use Rattle.repo_tree.specs.Parts.{IsTree};
 ghost use Rattle.repo_tree.specs.Spelling.{greatest_depth};
 ghost use Rattle.repo_session.specs.declared.emissions.Emission.{Emission};
-ghost use Rattle.repo_session.specs.Rebuilding.{rebuilt};
 ghost use Rattle.repo_session.specs.Traces.{Each, Trace};
 ghost use Rattle.repo_restore.specs.declared.nodes.Level.{Level};
 ghost use Rattle.repo_restore.specs.Flowing.{is_open, FlowsTo, TurnFlows};
 ghost use Rattle.repo_session.specs.Received.{Received};
-ghost use Rattle.repo_restore.specs.Restoring.{MayGive, counted};
-ghost use Rattle.repo_restore.specs.Walking.{StopsAt, with_begun, Waits, Turns, HasBegun, IsNextPath};
+ghost use Rattle.repo_restore.specs.Restoring.{MayGive};
+ghost use Rattle.repo_restore.specs.Walking.{with_begun, WaitsForBlob, Turns, NodeHasBegun, IsNextPath, IsOpenContent, TurnsAtStop, EntersTree, TakesContent, TakesBlob};
 
 use crate::nodes::{Begun, Level, next_blob, path_of};
 use crate::steps::{Stop, count_entries, go_on};
@@ -78,7 +76,7 @@ fn keep_open(levels: &mut Vec<Level>, depth: usize, begun: usize)
 
 /// The node that is begun of a level.
 fn begun_node(level: &Level) -> Option<&Node>
-    ensures { (node : Node) → HasBegun level.now node → option_map (λ n. n.now) result ≡ Some node }
+    ensures { (node : Node) → NodeHasBegun level.now node → option_map (λ n. n.now) result ≡ Some node }
 {
     match level.begun.checked_sub(1) {
         Some(at) => level.nodes.get(at),
@@ -88,7 +86,7 @@ fn begun_node(level: &Level) -> Option<&Node>
 
 /// The blobs of the file that is begun of a level.
 fn begun_content(level: &Level) -> &[Name]
-    ensures { (node : Node) (size : ℕ) (content : List Name) → HasBegun level.now node → node.what ≡ NodeKind.File size content → result.now ≡ content }
+    ensures { (node : Node) (size : ℕ) (content : List Name) → NodeHasBegun level.now node → node.what ≡ NodeKind.File size content → result.now ≡ content }
 {
     match begun_node(level) {
         Some(node) => match &node.what {
@@ -101,7 +99,7 @@ fn begun_content(level: &Level) -> &[Name]
 
 /// The blobs of the file that is begun of the innermost level.
 fn open_content(levels: &[Level]) -> &[Name]
-    ensures { (above : List Level) (level : Level) (node : Node) (size : ℕ) (content : List Name) → levels.now ≡ above ++ level ∷ [] → HasBegun level node → node.what ≡ NodeKind.File size content → result.now ≡ content }
+    ensures { IsOpenContent levels.now result.now }
 {
     match levels.last() {
         Some(level) => begun_content(level),
@@ -160,8 +158,7 @@ impl Walk {
 
     /// Stops where the steps did.
     fn stop_at(&mut self, stop: Stop, out: &[Emission]) -> Turn
-        ensures turns { (facts : List Fact) (gs : Trace) (root : Name) (old : List Emission) → StopsAt facts (Received gs) root self.old.levels.items old out.now stop.depth stop.begun stop.what
-            → self.old.entries ≡ counted (length (rebuilt old)) → Turns facts (Received gs) root self.new old out.now result }
+        ensures turns { TurnsAtStop stop out.now self.old result self.new }
         ensures flows { (before : Bool) → FlowsTo before out.now stop.what → TurnFlows before out.now result }
     {
         let entries = self.entries.saturating_add(count_entries(out));
@@ -198,8 +195,7 @@ impl Walk {
         nodes: Vec<Node>,
         out: &mut Vec<Emission>,
     ) -> Result<Turn, AllocError>
-        ensures ok { IfOk result (λ turn. (gs : Trace) (root : Name) (fact : Fact) (old : List Emission) → Waits lookup.now (Received gs) root self.old fact old → fact.kind ≡ BlobKind.Tree → fact.name ≡ tree
-            → IsTree (Received gs) tree nodes.items → out.old.items ≡ [] → Turns lookup.now (Received gs) root self.new old out.new.items turn) }
+        ensures ok { IfOk result (λ turn. EntersTree lookup.now tree nodes.items self.old out.old.items out.new.items turn self.new) }
         ensures flows { IfOk result (λ turn. out.old.items ≡ [] → TurnFlows false out.new.items turn) }
         ensures levels { OnErr result (self.new.levels.items ≡ self.old.levels.items) }
         ensures sent { OnErr result (self.new.sent ≡ self.old.sent) }
@@ -231,8 +227,7 @@ impl Walk {
         bytes: &[u8],
         out: &mut Vec<Emission>,
     ) -> Result<Turn, AllocError>
-        ensures ok { IfOk result (λ turn. (gs : Trace) (root : Name) (fact : Fact) (old : List Emission) → Waits lookup.now (Received gs) root self.old fact old → fact.kind ≡ BlobKind.Content
-            → Received gs BlobKind.Content bytes.now → naming.name bytes.now ≡ fact.name → length bytes.now ≡ fact.place.length → out.old.items ≡ [] → Turns lookup.now (Received gs) root self.new old out.new.items turn) }
+        ensures ok { IfOk result (λ turn. TakesContent lookup.now bytes.now self.old out.old.items out.new.items turn self.new) }
         ensures flows { IfOk result (λ turn. out.old.items ≡ [] → TurnFlows true out.new.items turn) }
         ensures levels { OnErr result (self.new.levels.items ≡ self.old.levels.items) }
         ensures sent { OnErr result (self.new.sent ≡ self.old.sent) }
@@ -264,8 +259,7 @@ impl Walk {
         bytes: &[u8],
         out: &mut Vec<Emission>,
     ) -> Result<Turn, AllocError>
-        ensures ok { IfOk result (λ turn. (gs : Trace) (root : Name) (old : List Emission) → Waits lookup.now (Received gs) root self.old fact old → Received gs fact.kind bytes.now
-            → naming.name bytes.now ≡ fact.name → length bytes.now ≡ fact.place.length → out.old.items ≡ [] → Turns lookup.now (Received gs) root self.new old out.new.items turn) }
+        ensures ok { IfOk result (λ turn. TakesBlob lookup.now fact bytes.now self.old out.old.items out.new.items turn self.new) }
         ensures flows { IfOk result (λ turn. out.old.items ≡ [] → TurnFlows (is_open fact.kind) out.new.items turn) }
         ensures levels { OnErr result (self.new.levels.items ≡ self.old.levels.items) }
         ensures sent { OnErr result (self.new.sent ≡ self.old.sent) }

@@ -17,12 +17,12 @@ use Rattle.repo_session.specs.declared.sessions.Head.{Head}
 use Rattle.repo_session.specs.Askers.{Asker, Holding, row_of}
 use Rattle.repo_session.specs.Clients.{IsSteady}
 use Rattle.repo_session.specs.Obedience.{beside_unlock}
-use Rattle.repo_session.specs.Ends.{CausedBy, Concludes, IsCause, IsSpent, IsUnwelcome, before_unlock, without_unlock}
+use Rattle.repo_session.specs.Ends.{CausedBy, Concludes, IsCause, NumbersAreSpent, IsUnwelcome, before_unlock, without_unlock}
 use Rattle.repo_session.specs.Jobs.{Rule, task_under, MayAsk, MayStep}
 use Rattle.repo_session.specs.Lines.{IsSentOnLine, IsFinished, IsClosed, or_spent}
 use Rattle.repo_session.specs.Obedience.{still_whole, holds_whole}
 use Rattle.repo_session.specs.Order.{Task, ticketed, locked, lock_row, opened, Holds, IsWork, IsUnlock, IsWorking, May, IsPermitted, Obeys}
-use Rattle.repo_session.specs.Sessions.{KnowsAt, Waits, Stands, SessionAt, SessionEndsBy, Leaves, Follows, took}
+use Rattle.repo_session.specs.Sessions.{KnowsAt, SessionWaits, SessionStands, SessionAt, SessionEndsBy, Leaves, FollowsStep, took}
 use Rattle.repo_session.specs.Traces.{Each, Exchange, Trace, giving, silent}
 use Rattle.repo_session.proofs.Holding.{holds_of, unwelcome_ticket, unwelcome_lock, work_no_unlock, working_more}
 
@@ -75,8 +75,8 @@ is_fenced End.DirectoryTooLarge = inr (λ x. absurd (cc))
 
 module _ (rule : Rule) (holding : Holding) (lock : Option LockRow) (Fresh : Type 0) (Knows : Ask → Trace → Type 0) where
   -- what is known where a request is pending
-  pub waits_of : (line : Line) (r : Request) (es : Trace) → line.next ≡ Some r → SessionAt rule holding lock Fresh Knows line es → Waits rule holding lock Fresh Knows line r es
-  waits_of line r es p s = subst (λ n. Stands rule holding lock Fresh Knows line n es) p s.stands
+  pub waits_of : (line : Line) (r : Request) (es : Trace) → line.next ≡ Some r → SessionAt rule holding lock Fresh Knows line es → SessionWaits rule holding lock Fresh Knows line r es
+  waits_of line r es p s = subst (λ n. SessionStands rule holding lock Fresh Knows line n es) p s.stands
 
   -- ---- what is known of a request of the job
 
@@ -116,7 +116,7 @@ module _ (rule : Rule) (holding : Holding) (lock : Option LockRow) (Fresh : Type
 
   sent : (line now : Line) (ask : Ask) (es : Trace) → IsSentOnLine line ask now → line.instance ≡ holding.who.instance → line.sequence ≡ length es → Obeys (task_under rule holding.who) rule.allows rule.gives es
       → May (task_under rule holding.who) es ask → IsPermitted rule.allows es ask → KnowsAt rule holding lock Fresh Knows line.outcome ask es
-      → ((o : Outcome) → or_spent line.outcome ≡ Some o → IsSpent es → Concludes rule.concludes (before_unlock es) o) → SessionAt rule holding lock Fresh Knows now es
+      → ((o : Outcome) → or_spent line.outcome ≡ Some o → NumbersAreSpent es → Concludes rule.concludes (before_unlock es) o) → SessionAt rule holding lock Fresh Knows now es
   sent line now ask es (inl p) i counted obeys may permitted knows ends = subst (λ l. SessionAt rule holding lock Fresh Knows l es) (sym p) (record {
     instance = i;
     obeys = obeys;
@@ -124,14 +124,14 @@ module _ (rule : Rule) (holding : Holding) (lock : Option LockRow) (Fresh : Type
   })
   sent line now ask es (inr p) i counted obeys may permitted knows ends =
       let o = spent_is line.outcome in
-      let many : IsSpent es = subst (λ n. 2 ^ 64 - 1 ≤ n) counted p.0 in
+      let many : NumbersAreSpent es = subst (λ n. 2 ^ 64 - 1 ≤ n) counted p.0 in
       subst (λ l. SessionAt rule holding lock Fresh Knows l es) (sym p.1) (record {
         instance = i;
         obeys = obeys;
         stands = record { outcome = o.0; there = o.1; concluded = ends o.0 o.1 many; released = λ t h. many };
       })
 
-  spent_cause : (es : Trace) → IsSpent es → IsCause es (End.Refused Code.Exhausted)
+  spent_cause : (es : Trace) → NumbersAreSpent es → IsCause es (End.Refused Code.Exhausted)
   spent_cause [] h = absurd (omega (arith, h))
   spent_cause (e ∷ es) h = inr (refl, h)
 
@@ -155,7 +155,7 @@ module _ (rule : Rule) (holding : Holding) (lock : Option LockRow) (Fresh : Type
 
   -- the job ends without one
   pub closes : (line now : Line) (o : Outcome) (es : Trace) → IsClosed line o now → line.instance ≡ holding.who.instance → Obeys (task_under rule holding.who) rule.allows rule.gives es
-      → Concludes rule.concludes (before_unlock es) o → ((t : Token) → Holds (task_under rule holding.who) t es → IsSpent es) → SessionAt rule holding lock Fresh Knows now es
+      → Concludes rule.concludes (before_unlock es) o → ((t : Token) → Holds (task_under rule holding.who) t es → NumbersAreSpent es) → SessionAt rule holding lock Fresh Knows now es
   closes line now o es c i obeys concluded released = subst (λ l. SessionAt rule holding lock Fresh Knows l es) (sym c) (record {
     instance = i;
     obeys = obeys;
@@ -195,7 +195,7 @@ config_plain t x = absurd (cc)
 
 module _ (rule : Rule) (holding : Holding) (lock : Option LockRow) (Fresh : Type 0) (Knows : Ask → Trace → Type 0) (line : Line) (r : Request) (es : Trace) (next : line.next ≡ Some r)
     (at : SessionAt rule holding lock Fresh Knows line es) where
-  waits : Waits rule holding lock Fresh Knows line r es
+  waits : SessionWaits rule holding lock Fresh Knows line r es
   waits = waits_of rule holding lock Fresh Knows line r es next at
 
   known : (a : Ask) → r.ask ≡ a → KnowsAt rule holding lock Fresh Knows line.outcome a es
@@ -345,7 +345,7 @@ module _ (rule : Rule) (holding : Holding) (lock : Option LockRow) (Fresh : Type
 
     -- the job goes on, or ends
     pub stepped : (Fresh' : Type 0) (Knows' : Ask → Trace → Type 0) (say : Say) (emitted : List Emission) (step : Step) (end : End) (old new : Head) → old.line ≡ line → old.holder ≡ holding → say ≢ Say.Refused Code.Dead
-        → MayStep rule holding.who Knows' es (giving r.ask say emitted) step → SessionEndsBy r.ask say end → Follows old step end new
+        → MayStep rule holding.who Knows' es (giving r.ask say emitted) step → SessionEndsBy r.ask say end → FollowsStep old step end new
         → SessionAt rule holding lock Fresh' Knows' new.line (giving r.ask say (cond (took step) emitted []) ∷ es)
     stepped Fresh' Knows' say emitted (Step.Ask ask) end old new same is live m ends s =
         let f : Exchange = giving r.ask say emitted in
@@ -362,7 +362,7 @@ module _ (rule : Rule) (holding : Holding) (lock : Option LockRow) (Fresh : Type
     knows_still Fresh' Knows' still = record {
       instance = at.instance;
       obeys = at.obeys;
-      stands = subst (λ n. Stands rule holding lock Fresh' Knows' line n es) (sym next) (record {
+      stands = subst (λ n. SessionStands rule holding lock Fresh' Knows' line n es) (sym next) (record {
         next = waits.next;
         counted = waits.counted;
         knows = at_work rule holding lock Fresh' Knows' line.outcome r.ask es work (working.0, working.1, still es working.2);

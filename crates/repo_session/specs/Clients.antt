@@ -6,7 +6,7 @@ use Rattle.repo_wire.specs.declared.messages.Reply.{Reply}
 use Rattle.repo_wire.specs.declared.messages.Request.{Request}
 use Rattle.repo_session.specs.declared.emissions.Emission.{Emission}
 use Rattle.repo_session.specs.declared.outcomes.Outcome.{Outcome}
-use Rattle.repo_session.specs.Ends.{Concludes, IsSpent, before_unlock}
+use Rattle.repo_session.specs.Ends.{Concludes, NumbersAreSpent, before_unlock}
 use Rattle.repo_session.specs.Order.{Task, IsUnlock, Holds, May, IsPermitted, Obeys}
 use Rattle.repo_session.specs.Traces.{Exchange, Trace, giving}
 
@@ -24,7 +24,7 @@ abbrev pub exchange : Request → Reply → List Emission → Exchange
 exchange request reply emitted = giving request.ask reply.say emitted
 
 -- the next request: the client's own, with the number after those of the exchanges, and one that they allow
-pub record IsNext (task : Task) (Allows : Trace → Ask → Type 0) (es : Trace) (request : Request) : Type 0 where
+pub record IsNextRequest (task : Task) (Allows : Trace → Ask → Type 0) (es : Trace) (request : Request) : Type 0 where
   pub instance : request.instance ≡ task.who.instance
   pub sequence : request.sequence ≡ length es + 1
   pub may : May task es request.ask
@@ -36,10 +36,10 @@ pub record IsNext (task : Task) (Allows : Trace → Ask → Type 0) (es : Trace)
 pub record IsObedient (task : Task) (Allows : Trace → Ask → Type 0) (Gives : Trace → Exchange → Type 0) (Own : Trace → Outcome → Type 0)
     (next : Option Request) (outcome : Option Outcome) (es : Trace) : Type 0 where
   pub obeys : Obeys task Allows Gives es
-  pub pending : (request : Request) → next ≡ Some request → IsNext task Allows es request
+  pub pending : (request : Request) → next ≡ Some request → IsNextRequest task Allows es request
   pub settled : next ≡ None → outcome ≢ None
   pub concluded : (o : Outcome) → outcome ≡ Some o → Concludes Own (before_unlock es) o
-  pub released : next ≡ None → outcome ≢ None → (token : Token) → Holds task token es → IsSpent es
+  pub released : next ≡ None → outcome ≢ None → (token : Token) → Holds task token es → NumbersAreSpent es
   pub beside : (request : Request) → next ≡ Some request → outcome ≢ None → IsUnlock request.ask
   pub ending : (request : Request) → next ≡ Some request → IsUnlock request.ask → outcome ≢ None
 

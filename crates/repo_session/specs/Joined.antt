@@ -7,8 +7,9 @@ use Rattle.repo_wire.specs.Stream.{FitsFrame}
 use Rattle.repo_store.specs.declared.serving.ServeError.{ServeError}
 use Rattle.repo_store.specs.Serving.{Moment, Past, shown, plain, SomeServed, ServesConnection}
 use Rattle.repo_store.specs.Stores.{Store}
-use Rattle.repo_session.specs.Talks.{Said, IsTurn, IsHeard, sent_in, frames_of, pending_frame, TalkRan, MayBeAhead}
-use Rattle.repo_session.specs.Traces.{Each}
+use Rattle.repo_session.specs.Talks.{Said, IsTurn, IsHeard, sent_in, frames_of, pending_frame, TalkRan, MayBeAhead, Drives}
+use Rattle.repo_session.specs.Traces.{Each, Trace}
+use Rattle.repo_session.specs.declared.driving.DriveError.{DriveError}
 
 -- these are the first ones of some bytes
 abbrev pub AreFirst : List ℕ → List ℕ → Type 0
@@ -40,3 +41,8 @@ JoinedTalkIsARun = (said : Said) (next : Option Request) (before after : Moment)
 abbrev pub ServingServes : Type 0
 ServingServes = (input left : Option (List ℕ)) (before after : Moment) (result : Result ℕ ServeError) → ServesConnection input before result left after
     → (past : Past) × (unread : List ℕ) × Consumes input left (past.bytes ++ unread) × SomeServed plain before past after
+
+-- whatever driving a client gives, it is something that was said over a connection
+abbrev pub DrivingSays : {C : Type 0} → (C → Trace → Type 0) → (C → Option Request) → Type 0
+DrivingSays {C} Fits next = (old new : C) (result : Result ℕ DriveError) (said : Said) (start contents : Option (List ℕ)) → Drives Fits next old result new said start contents
+    → IsSaid said

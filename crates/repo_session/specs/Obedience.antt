@@ -9,11 +9,11 @@ use Rattle.repo_session.specs.declared.lines.Line.{Line}
 use Rattle.repo_session.specs.declared.outcomes.Outcome.{Outcome}
 use Rattle.repo_session.specs.declared.sessions.Session.{Session}
 use Rattle.repo_session.specs.Askers.{Holding}
-use Rattle.repo_session.specs.Clients.{IsNext, IsObedient}
-use Rattle.repo_session.specs.Ends.{Concludes, IsSpent, without_unlock, before_unlock}
+use Rattle.repo_session.specs.Clients.{IsNextRequest, IsObedient}
+use Rattle.repo_session.specs.Ends.{Concludes, NumbersAreSpent, without_unlock, before_unlock}
 use Rattle.repo_session.specs.Jobs.{Rule, task_under}
 use Rattle.repo_session.specs.Order.{Task, locked, IsNoUnlock, IsUnlock, Holds, May}
-use Rattle.repo_session.specs.Sessions.{KnowsAt, Stands, SessionAt, FitsSession}
+use Rattle.repo_session.specs.Sessions.{KnowsAt, SessionStands, SessionAt, FitsSession}
 use Rattle.repo_session.specs.Traces.{Each, Exchange, Trace}
 
 -- ---- traces without the end of the lock
@@ -75,15 +75,15 @@ module _ (rule : Rule) (holding : Holding) (lock : Option LockRow) (Fresh : Type
   ends_beside (Ask.Put t j m x) o es may k u = absurd u
   ends_beside (Ask.Delete t j m) o es may k u = absurd u
 
-  pending_is : (line : Line) (next : Option Request) (es : Trace) (r : Request) → Stands rule holding lock Fresh Knows line next es → next ≡ Some r → IsNext (task_under rule holding.who) rule.allows es r
+  pending_is : (line : Line) (next : Option Request) (es : Trace) (r : Request) → SessionStands rule holding lock Fresh Knows line next es → next ≡ Some r → IsNextRequest (task_under rule holding.who) rule.allows es r
   pending_is line None es r s p = absurd (cc)
-  pending_is line (Some q) es r s p = let same : q ≡ r = cc in subst (λ x. IsNext (task_under rule holding.who) rule.allows es x) same s.next
+  pending_is line (Some q) es r s p = let same : q ≡ r = cc in subst (λ x. IsNextRequest (task_under rule holding.who) rule.allows es x) same s.next
 
-  settles : (line : Line) (next : Option Request) (es : Trace) → Stands rule holding lock Fresh Knows line next es → next ≡ None → line.outcome ≢ None
+  settles : (line : Line) (next : Option Request) (es : Trace) → SessionStands rule holding lock Fresh Knows line next es → next ≡ None → line.outcome ≢ None
   settles line None es s p none = let there = s.there in absurd (cc)
   settles line (Some q) es s p none = absurd (cc)
 
-  concludes_at : (line : Line) (next : Option Request) (es : Trace) (o : Outcome) → Stands rule holding lock Fresh Knows line next es → line.outcome ≡ Some o → Concludes rule.concludes (before_unlock es) o
+  concludes_at : (line : Line) (next : Option Request) (es : Trace) (o : Outcome) → SessionStands rule holding lock Fresh Knows line next es → line.outcome ≡ Some o → Concludes rule.concludes (before_unlock es) o
   concludes_at line None es o s p = let there = s.there in let same : s.outcome ≡ o = cc in subst (λ x. Concludes rule.concludes (before_unlock es) x) same s.concluded
   concludes_at line (Some q) es o s p =
       let k = s.knows in
@@ -102,15 +102,15 @@ module _ (rule : Rule) (holding : Holding) (lock : Option LockRow) (Fresh : Type
   unlock_there (Ask.Put t j m x) outcome es k u none = u
   unlock_there (Ask.Delete t j m) outcome es k u none = u
 
-  is_released : (line : Line) (next : Option Request) (es : Trace) → Stands rule holding lock Fresh Knows line next es → next ≡ None → (token : Token) → Holds (task_under rule holding.who) token es → IsSpent es
+  is_released : (line : Line) (next : Option Request) (es : Trace) → SessionStands rule holding lock Fresh Knows line next es → next ≡ None → (token : Token) → Holds (task_under rule holding.who) token es → NumbersAreSpent es
   is_released line None es s p token h = s.released token h
   is_released line (Some q) es s p token h = absurd (cc)
 
-  stands_beside : (line : Line) (next : Option Request) (es : Trace) (r : Request) → Stands rule holding lock Fresh Knows line next es → next ≡ Some r → line.outcome ≢ None → IsUnlock r.ask
+  stands_beside : (line : Line) (next : Option Request) (es : Trace) (r : Request) → SessionStands rule holding lock Fresh Knows line next es → next ≡ Some r → line.outcome ≢ None → IsUnlock r.ask
   stands_beside line None es r s p n = absurd (cc)
   stands_beside line (Some q) es r s p n = let same : q ≡ r = cc in subst (λ x. IsUnlock x.ask) same (beside_unlock q.ask line.outcome es s.knows n)
 
-  is_ending : (line : Line) (next : Option Request) (es : Trace) (r : Request) → Stands rule holding lock Fresh Knows line next es → next ≡ Some r → IsUnlock r.ask → line.outcome ≢ None
+  is_ending : (line : Line) (next : Option Request) (es : Trace) (r : Request) → SessionStands rule holding lock Fresh Knows line next es → next ≡ Some r → IsUnlock r.ask → line.outcome ≢ None
   is_ending line None es r s p u = absurd (cc)
   is_ending line (Some q) es r s p u = let same : r ≡ q = cc in unlock_there q.ask line.outcome es s.knows (subst (λ x. IsUnlock x.ask) same u)
 

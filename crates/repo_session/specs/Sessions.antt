@@ -1,5 +1,5 @@
 -- Where a session stands, and what it does by itself.
-use Rattle.std.specs.Prelude.{◌≡◌, ◌≢◌, ◌+◌, [], Bool, true, false, cond, List, length, Option, Some, None}
+use Rattle.std.specs.Prelude.{◌≡◌, ◌≢◌, ◌+◌, [], Bool, true, false, cond, List, length, Option, Some, None, ◌∷◌}
 use Rattle.repo_name.specs.declared.rows.LockRow.{LockRow}
 use Rattle.repo_name.specs.declared.tokens.Token.{Token}
 use Rattle.repo_wire.specs.declared.messages.Ask.{Ask}
@@ -14,12 +14,13 @@ use Rattle.repo_session.specs.declared.outcomes.Outcome.{Outcome}
 use Rattle.repo_session.specs.declared.sessions.Head.{Head}
 use Rattle.repo_session.specs.declared.sessions.Session.{Session}
 use Rattle.repo_session.specs.Askers.{Asker, Holding}
-use Rattle.repo_session.specs.Clients.{IsNext}
-use Rattle.repo_session.specs.Ends.{CausedBy, Concludes, IsSpent, IsUnwelcome, before_unlock}
+use Rattle.repo_session.specs.Clients.{IsNextRequest, exchange, IsReplyTo}
+use Rattle.repo_session.specs.Ends.{CausedBy, Concludes, NumbersAreSpent, IsUnwelcome, before_unlock}
 use Rattle.repo_session.specs.Jobs.{Rule, task_under}
 use Rattle.repo_session.specs.Lines.{IsSentOnLine, IsFinished, IsClosed}
-use Rattle.repo_session.specs.Order.{ticketed, locked, lock_row, Holds, IsWorking, Obeys}
-use Rattle.repo_session.specs.Traces.{Trace}
+use Rattle.repo_session.specs.Order.{ticketed, locked, lock_row, Holds, IsWorking, Obeys, IsWork}
+use Rattle.repo_session.specs.Traces.{Trace, giving}
+use Rattle.repo_wire.specs.declared.messages.Reply.{Reply}
 
 -- what is known where this is pending: while the session opens, the job hasn't begun; while the job works, what it knows; at the end, the outcome
 abbrev pub KnowsAt : Rule → Holding → Option LockRow → Type 0 → (Ask → Trace → Type 0) → Option Outcome → Ask → Trace → Type 0
@@ -32,28 +33,28 @@ KnowsAt rule holding lock Fresh Knows outcome Ask.Locks es = ⊥
 KnowsAt rule holding lock Fresh Knows outcome ask es = IsWorking (task_under rule holding.who) holding.token es × (outcome ≡ None) × Knows ask es
 
 -- a request is pending
-pub record Waits (rule : Rule) (holding : Holding) (lock : Option LockRow) (Fresh : Type 0) (Knows : Ask → Trace → Type 0) (line : Line) (request : Request) (es : Trace) : Type 0 where
-  pub next : IsNext (task_under rule holding.who) rule.allows es request
+pub record SessionWaits (rule : Rule) (holding : Holding) (lock : Option LockRow) (Fresh : Type 0) (Knows : Ask → Trace → Type 0) (line : Line) (request : Request) (es : Trace) : Type 0 where
+  pub next : IsNextRequest (task_under rule holding.who) rule.allows es request
   pub counted : line.sequence ≡ length es + 1
   pub knows : KnowsAt rule holding lock Fresh Knows line.outcome request.ask es
 
 -- nothing is pending: there is an outcome, and no lock is held unless the numbers are spent
-pub record Rests (rule : Rule) (holding : Holding) (line : Line) (es : Trace) : Type 0 where
+pub record SessionRests (rule : Rule) (holding : Holding) (line : Line) (es : Trace) : Type 0 where
   pub outcome : Outcome
   pub there : line.outcome ≡ Some outcome
   pub concluded : Concludes rule.concludes (before_unlock es) outcome
-  pub released : (token : Token) → Holds (task_under rule holding.who) token es → IsSpent es
+  pub released : (token : Token) → Holds (task_under rule holding.who) token es → NumbersAreSpent es
 
 -- by what is pending
-abbrev pub Stands : Rule → Holding → Option LockRow → Type 0 → (Ask → Trace → Type 0) → Line → Option Request → Trace → Type 0
-Stands rule holding lock Fresh Knows line (Some request) es = Waits rule holding lock Fresh Knows line request es
-Stands rule holding lock Fresh Knows line None es = Rests rule holding line es
+abbrev pub SessionStands : Rule → Holding → Option LockRow → Type 0 → (Ask → Trace → Type 0) → Line → Option Request → Trace → Type 0
+SessionStands rule holding lock Fresh Knows line (Some request) es = SessionWaits rule holding lock Fresh Knows line request es
+SessionStands rule holding lock Fresh Knows line None es = SessionRests rule holding line es
 
 -- a session that stands where a trace leaves it
 pub record SessionAt (rule : Rule) (holding : Holding) (lock : Option LockRow) (Fresh : Type 0) (Knows : Ask → Trace → Type 0) (line : Line) (es : Trace) : Type 0 where
   pub instance : line.instance ≡ holding.who.instance
   pub obeys : Obeys (task_under rule holding.who) rule.allows rule.gives es
-  pub stands : Stands rule holding lock Fresh Knows line line.next es
+  pub stands : SessionStands rule holding lock Fresh Knows line line.next es
 
 -- where the reply is a refusal, or of the wrong sort, it is a cause of this end
 abbrev pub SessionEndsBy : Ask → Say → End → Type 0
@@ -85,10 +86,10 @@ pub record Leaves (old : Head) (end : End) (new : Head) : Type 0 where
   pub other : end ≢ End.Fenced → IsFinished old.line (Outcome.Ended end) old.holder.token new.line
 
 -- what is sent on a job's step, of whose reply this would be the end
-abbrev pub Follows : Head → Step → End → Head → Type 0
-Follows old (Step.Ask ask) end new = IsSentOnLine old.line ask new.line
-Follows old (Step.Finish outcome) end new = IsFinished old.line outcome old.holder.token new.line
-Follows old Step.Away end new = Leaves old end new
+abbrev pub FollowsStep : Head → Step → End → Head → Type 0
+FollowsStep old (Step.Ask ask) end new = IsSentOnLine old.line ask new.line
+FollowsStep old (Step.Finish outcome) end new = IsFinished old.line outcome old.holder.token new.line
+FollowsStep old Step.Away end new = Leaves old end new
 
 -- whether the job took the reply
 abbrev pub took : Step → Bool
@@ -105,3 +106,32 @@ next_in s = s.head.line.next
 
 abbrev pub ended_in : {J : Type 0} → Session J → Option Outcome
 ended_in s = s.head.line.outcome
+
+-- ---- how a session takes a reply: where it fitted a trace, it fits that with one exchange more
+
+-- what was said to the request for the config
+abbrev pub TakesConfig : {J H : Type 0} → (J → H) → (H → Rule) → (J → Type 0) → (J → Ask → Trace → Type 0) → (J → List Emission) → Session J → Say → End → Session J → Type 0
+TakesConfig handed rule fresh knows given old say end new = (request : Request) (es : Trace) → old.head.line.next ≡ Some request → request.ask ≡ Ask.Config
+    → SessionEndsBy Ask.Config say end → FitsSession handed rule fresh knows old es → FitsSession handed rule fresh knows new (giving request.ask say (given_by given new) ∷ es)
+
+-- what was said to a request of its work
+abbrev pub TakesWork : {J H : Type 0} → (J → H) → (H → Rule) → (J → Type 0) → (J → Ask → Trace → Type 0) → (J → List Emission) → Session J → Say → End → Session J → Type 0
+TakesWork handed rule fresh knows given old say end new = (request : Request) (es : Trace) → old.head.line.next ≡ Some request → IsWork request.ask
+    → SessionEndsBy request.ask say end → FitsSession handed rule fresh knows old es → FitsSession handed rule fresh knows new (giving request.ask say (given_by given new) ∷ es)
+
+-- a reply to the request that is pending
+abbrev pub TakesReply : {J H : Type 0} → (J → H) → (H → Rule) → (J → Type 0) → (J → Ask → Trace → Type 0) → (J → List Emission) → Session J → Reply → Session J → Type 0
+TakesReply handed rule fresh knows given old reply new = (request : Request) → old.head.line.next ≡ Some request → IsReplyTo request reply
+    → (es : Trace) → FitsSession handed rule fresh knows old es → FitsSession handed rule fresh knows new (exchange request reply (given_by given new) ∷ es)
+
+-- it fits each trace that it fitted
+abbrev pub StaysFitting : {J H : Type 0} → (J → H) → (H → Rule) → (J → Type 0) → (J → Ask → Trace → Type 0) → Session J → Session J → Type 0
+StaysFitting handed rule fresh knows old new = (es : Trace) → FitsSession handed rule fresh knows old es → FitsSession handed rule fresh knows new es
+
+-- it does so while a request of its work is pending
+abbrev pub StaysAtWork : {J H : Type 0} → (J → H) → (H → Rule) → (J → Type 0) → (J → Ask → Trace → Type 0) → Session J → Session J → Type 0
+StaysAtWork handed rule fresh knows old new = (request : Request) (es : Trace) → old.head.line.next ≡ Some request → IsWork request.ask → FitsSession handed rule fresh knows old es → FitsSession handed rule fresh knows new es
+
+-- an outcome stays
+abbrev pub StaysEnded : {J H : Type 0} → (J → H) → (H → Rule) → (J → Type 0) → (J → Ask → Trace → Type 0) → Session J → Session J → Type 0
+StaysEnded handed rule fresh knows old new = (es : Trace) (outcome : Outcome) → FitsSession handed rule fresh knows old es → old.head.line.outcome ≡ Some outcome → new.head.line.outcome ≡ Some outcome

@@ -57,7 +57,7 @@ pub trait Job {
     /// Takes the reply to a request of its own. It fails for memory alone, and then it knows what it knew, and the
     /// reply may be taken again.
     fn reply(&mut self, holder: &Holder, ask: &Ask, say: &Say) -> Result<Step, AllocError>
-        ensures steps { IfOk result (λ step. StepsOn (rule (handed self.old)) holder.now (knows self.old) (knows self.new) (giving ask.now say.now (given self.new)) step) }
+        ensures steps { IfOk result (StepsOn (rule (handed self.old)) holder.now (knows self.old) (knows self.new) (giving ask.now say.now (given self.new))) }
         ensures short { IfOk result IsShortStep }
         ensures calm { (code : Code) → say.now ≡ Say.Refused code → (rule (handed self.old)).calm → IsOk result }
         ensures knows { OnErr result ((es : Trace) → knows self.old ask.now es → knows self.new ask.now es) }

@@ -1,6 +1,6 @@
 //! Sessions: a job as a client.
 
-ghost use Rattle.std.specs.Prelude.{◌≡◌, ◌≢◌, ◌∷◌, ◌↔◌, [], IsTrue, Option, Some, OnOk, OnErr, IsOk};
+ghost use Rattle.std.specs.Prelude.{◌≡◌, ◌≢◌, ◌↔◌, [], IsTrue, Option, Some, OnOk, OnErr, IsOk};
 ghost use Rattle.repo_name.specs.declared.rows.LockRow.{LockRow};
 ghost use Rattle.repo_name.specs.declared.tokens.Token.{Token};
 ghost use Rattle.repo_wire.specs.declared.messages.Ask.{Ask};
@@ -10,12 +10,10 @@ ghost use Rattle.repo_wire.specs.declared.messages.Say.{Say};
 ghost use Rattle.repo_session.specs.declared.outcomes.End.{End};
 ghost use Rattle.repo_session.specs.declared.outcomes.Outcome.{Outcome};
 ghost use Rattle.repo_session.specs.Askers.{row_of};
-ghost use Rattle.repo_session.specs.Clients.{IsReplyTo, AnswersNext, exchange, IsSteady};
+ghost use Rattle.repo_session.specs.Clients.{AnswersNext, IsSteady};
 ghost use Rattle.repo_session.specs.Jobs.{IsShortStep};
 ghost use Rattle.repo_session.specs.Lines.{IsSentOnLine, IsClosed};
-ghost use Rattle.repo_session.specs.Order.{IsWork};
-ghost use Rattle.repo_session.specs.Sessions.{SessionEndsBy, FitsSession, KeepsLock, Leaves, Follows, given_by, took, who_in};
-ghost use Rattle.repo_session.specs.Traces.{Trace, giving};
+ghost use Rattle.repo_session.specs.Sessions.{FitsSession, KeepsLock, Leaves, FollowsStep, given_by, took, who_in, TakesConfig, TakesWork, TakesReply, StaysFitting, StaysAtWork, StaysEnded};
 
 use crate::clients::Client;
 use crate::connections::answers;
@@ -84,7 +82,7 @@ impl Head {
     /// Does what a job wants on a reply, of which this would be the end.
     fn follow(&mut self, step: Step, end: End)
         requires { IsShortStep step }
-        ensures follows { Follows self.old step end self.new }
+        ensures follows { FollowsStep self.old step end self.new }
         ensures kept { KeepsLock self.old self.new }
     {
         match step {
@@ -160,8 +158,7 @@ impl<J: Job + Drop> Session<J> {
 
     /// Takes the reply to the config. It fails for memory alone, and then nothing changed.
     fn take_config(&mut self, say: &Say, end: End) -> Result<(), AllocError>
-        ensures taken { OnOk result ((request : Request) (es : Trace) → self.old.head.line.next ≡ Some request → request.ask ≡ Ask.Config → SessionEndsBy Ask.Config say.now end
-            → FitsSession J.handed J.rule J.fresh J.knows self.old es → FitsSession J.handed J.rule J.fresh J.knows self.new (giving request.ask say.now (given_by J.given self.new) ∷ es)) }
+        ensures taken { OnOk result (TakesConfig J.handed J.rule J.fresh J.knows J.given self.old say.now end self.new) }
         ensures err { OnErr result (self.new ≡ self.old) }
         ensures calm { (code : Code) → say.now ≡ Say.Refused code → IsOk result }
         ensures handed { J.handed self.new.job ≡ J.handed self.old.job }
@@ -190,10 +187,9 @@ impl<J: Job + Drop> Session<J> {
 
     /// Takes the reply to a request of the job. It fails for memory alone, and then what fitted fits.
     fn take_work(&mut self, say: &Say, end: End) -> Result<(), AllocError>
-        ensures taken { OnOk result ((request : Request) (es : Trace) → self.old.head.line.next ≡ Some request → IsWork request.ask → SessionEndsBy request.ask say.now end
-            → FitsSession J.handed J.rule J.fresh J.knows self.old es → FitsSession J.handed J.rule J.fresh J.knows self.new (giving request.ask say.now (given_by J.given self.new) ∷ es)) }
+        ensures taken { OnOk result (TakesWork J.handed J.rule J.fresh J.knows J.given self.old say.now end self.new) }
         ensures calm { (code : Code) → say.now ≡ Say.Refused code → (J.rule (J.handed self.old.job)).calm → IsOk result }
-        ensures fits { OnErr result ((request : Request) (es : Trace) → self.old.head.line.next ≡ Some request → IsWork request.ask → FitsSession J.handed J.rule J.fresh J.knows self.old es → FitsSession J.handed J.rule J.fresh J.knows self.new es) }
+        ensures fits { OnErr result (StaysAtWork J.handed J.rule J.fresh J.knows self.old self.new) }
         ensures head { OnErr result (self.new.head ≡ self.old.head) }
         ensures given { OnErr result (given_by J.given self.new ≡ given_by J.given self.old) }
         ensures handed { J.handed self.new.job ≡ J.handed self.old.job }
@@ -217,16 +213,15 @@ impl<J: Job + Drop> Session<J> {
 
     /// Takes a reply. One that isn't to the pending request changes nothing. It fails for memory alone.
     fn take_reply(&mut self, reply: &Reply) -> Result<(), AllocError>
-        ensures taken { OnOk result ((request : Request) → self.old.head.line.next ≡ Some request → IsReplyTo request reply.now
-            → (es : Trace) → FitsSession J.handed J.rule J.fresh J.knows self.old es → FitsSession J.handed J.rule J.fresh J.knows self.new (exchange request reply.now (given_by J.given self.new) ∷ es)) }
+        ensures taken { OnOk result (TakesReply J.handed J.rule J.fresh J.knows J.given self.old reply.now self.new) }
         ensures other { ¬ AnswersNext self.old.head.line.next reply.now → self.new ≡ self.old }
         ensures steady { ¬ AnswersNext self.old.head.line.next reply.now → IsOk result }
         ensures sure { (request : Request) → self.old.head.line.next ≡ Some request → IsSteady request.ask → IsOk result }
         ensures calm { (code : Code) → reply.now.say ≡ Say.Refused code → (J.rule (J.handed self.old.job)).calm → IsOk result }
-        ensures fits { OnErr result ((es : Trace) → FitsSession J.handed J.rule J.fresh J.knows self.old es → FitsSession J.handed J.rule J.fresh J.knows self.new es) }
+        ensures fits { OnErr result (StaysFitting J.handed J.rule J.fresh J.knows self.old self.new) }
         ensures head { OnErr result (self.new.head ≡ self.old.head) }
         ensures given { OnErr result (given_by J.given self.new ≡ given_by J.given self.old) }
-        ensures stays { (es : Trace) (outcome : Outcome) → FitsSession J.handed J.rule J.fresh J.knows self.old es → self.old.head.line.outcome ≡ Some outcome → self.new.head.line.outcome ≡ Some outcome }
+        ensures stays { StaysEnded J.handed J.rule J.fresh J.knows self.old self.new }
         ensures handed { J.handed self.new.job ≡ J.handed self.old.job }
         ensures who { self.new.head.holder.who ≡ self.old.head.holder.who }
     {

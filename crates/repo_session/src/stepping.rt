@@ -58,7 +58,8 @@ pub fn lockstep<C: Client, S: Shelf>(
     out: &mut Vec<Emission>,
 ) -> Result<u64, StepError>
     ensures steps { S.honest shelf.old → (talk : Talk)
-        × Steps C.fits C.next client.old result client.new talk (S.store shelf.old) (S.failed shelf.old) (S.store shelf.new) (S.failed shelf.new) out.old.items out.new.items }
+        × Steps C.fits C.next client.old result client.new talk (S.store shelf.old) (S.failed shelf.old) (S.store shelf.new) (S.failed shelf.new)
+        out.old.items out.new.items }
     ensures went { (talk : Talk) × Went C.fits client.old talk client.new }
     ensures few { IfOk result (λ n. n ≤ 2 ^ 32) }
     ensures honest { S.honest shelf.old → S.honest shelf.new }

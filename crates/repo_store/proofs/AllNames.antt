@@ -4,17 +4,17 @@ use Rattle.std.proofs.lemmas.List.{take_more}
 use Rattle.repo_name.specs.declared.kinds.Kind.{Kind}
 use Rattle.repo_name.specs.declared.names.Name.{Name}
 use Rattle.repo_name.specs.NameMaps.{found, Inserted}
-use Rattle.repo_store.specs.Kept.{NameSet, is_in, Joins}
-use Rattle.repo_store.specs.Pages.{Has, Above, Ascends, Beyond, IsPage, PageRises}
+use Rattle.repo_store.specs.Kept.{NameSet, is_in, PageJoins}
+use Rattle.repo_store.specs.Pages.{Has, Above, NamesAscend, Beyond, IsPage, PageRises}
 use Rattle.repo_store.specs.Stores.{Objects}
 use Rattle.repo_store.proofs.PageLemmas.{has_left, has_right, has_either}
 
 -- ---- the names of a page join a set, one after another
 
-pub joins_none : (names : NameSet) → Joins [] names names
+pub joins_none : (names : NameSet) → PageJoins [] names names
 joins_none names = record { stay = λ n h. h; join = λ n h. elim h [ ]; only = λ n h. inl h }
 
-joined : (done : List Name) (x : Name) (old mid new : NameSet) → Joins done old mid → Inserted (found mid) x tt (found new) → Joins (done ++ x ∷ []) old new
+joined : (done : List Name) (x : Name) (old mid new : NameSet) → PageJoins done old mid → Inserted (found mid) x tt (found new) → PageJoins (done ++ x ∷ []) old new
 joined done x old mid new h i = record { stay = λ n k. grows n (h.stay n k); join = λ n k. join n (has_either done (x ∷ []) n k); only = λ n k. only n (i.others n) k }
   where
     grows : (n : Name) → is_in mid n ≡ true → is_in new n ≡ true
@@ -32,9 +32,9 @@ joined done x old mid new h i = record { stay = λ n k. grows n (h.stay n k); jo
     only n (inl e) k = inr (has_right done (x ∷ []) n (inl e))
     only n (inr s) k = ⊎_elim (λ o. inl o) (λ d. inr (has_left done (x ∷ []) n d)) (h.only n (sym (ap is_some s) ∙ k))
 
-pub joins_on : (page : List Name) (i : ℕ) (d : Name) (old mid new : NameSet) → i < length page → Joins (take i page) old mid → Inserted (found mid) (get_or page i d) tt (found new)
-    → Joins (take (i + 1) page) old new
-joins_on page i d old mid new less h inserted = subst (λ l. Joins l old new) (sym (take_more page i d less)) (joined (take i page) (get_or page i d) old mid new h inserted)
+pub joins_on : (page : List Name) (i : ℕ) (d : Name) (old mid new : NameSet) → i < length page → PageJoins (take i page) old mid → Inserted (found mid) (get_or page i d) tt (found new)
+    → PageJoins (take (i + 1) page) old new
+joins_on page i d old mid new less h inserted = subst (λ l. PageJoins l old new) (sym (take_more page i d less)) (joined (take i page) (get_or page i d) old mid new h inserted)
 
 -- ---- a set of all names up to the last one so far
 
@@ -45,7 +45,7 @@ pub record UpTo (there : Name → Option (List ℕ)) (last : Option Name) (names
 pub up_to_none : (there : Name → Option (List ℕ)) (names : NameSet) → ((n : Name) → is_in names n ≡ false) → UpTo there None names
 up_to_none there names none = record { named = λ n h. (let c : true ≡ false = sym h ∙ none n in absurd (cc)); below = λ n x h. inr tt }
 
-module _ (objects : Objects) (kind : Kind) (last : Option Name) (limit : ℕ) (page : List Name) (old new : NameSet) (up : UpTo (objects kind) last old) (joins : Joins page old new) where
+module _ (objects : Objects) (kind : Kind) (last : Option Name) (limit : ℕ) (page : List Name) (old new : NameSet) (up : UpTo (objects kind) last old) (joins : PageJoins page old new) where
   named : (more : Bool) → IsPage objects kind last limit page more → (n : Name) → is_in new n ≡ true → (x : List ℕ) × (objects kind n ≡ Some x)
   named more p n h = go (joins.only n h) where
     go : (is_in old n ≡ true) ⊎ Has page n → (x : List ℕ) × (objects kind n ≡ Some x)
@@ -84,6 +84,6 @@ page_rises objects kind last limit page more some p = (p.ascends, full)
 
 -- one page more, behind which more follow
 pub goes_on : (objects : Objects) (kind : Kind) (last next : Option Name) (limit : ℕ) (page : List Name) (more : Bool) (old new : NameSet) → UpTo (objects kind) last old → 0 < limit → more ≡ true
-    → IsPage objects kind last limit page more → Joins page old new → IfSome next (Has page) → IfNone next (page ≡ []) → UpTo (objects kind) next new
+    → IsPage objects kind last limit page more → PageJoins page old new → IfSome next (Has page) → IfNone next (page ≡ []) → UpTo (objects kind) next new
 goes_on objects kind last None limit page more old new up some follows p joins has none = absurd ((page_rises objects kind last limit page more some p).1 follows none)
 goes_on objects kind last (Some m) limit page more old new up some follows p joins has none = up_to_more objects kind last limit page old new up joins more p m has

@@ -7,7 +7,7 @@ use Rattle.repo_store.specs.declared.faults.Armed.{Armed}
 use Rattle.repo_store.specs.declared.faults.Fail.{Fail}
 use Rattle.repo_store.specs.declared.shelves.ShelfError.{ShelfError}
 use Rattle.repo_store.specs.Failing.{HasFailed, Plainly, IsWritten, FailsItself, IsAlwaysRead, Failing, IsLeft, IsAsArmed}
-use Rattle.repo_store.specs.Faults.{fails_writing, one_less, StillWaits, MayReadAsArmed, WritesAsArmed, told_after, IsSpent, IsPassed}
+use Rattle.repo_store.specs.Faults.{fails_writing, one_less, StillWaits, MayReadAsArmed, WritesAsArmed, told_after, ArmIsSpent, IsPassed}
 use Rattle.repo_store.specs.Laws.{Writes, HasCause}
 use Rattle.repo_store.specs.StoreMachine.{Answers, Step, Looks, refusal}
 use Rattle.repo_store.specs.Stores.{Store}
@@ -48,7 +48,7 @@ has_failed own between owned less (stays, inl more) = inl (omega arith)
 has_failed own between owned less (stays, inr most) = inr most
 
 module _ (W : Store → Store → Type 0) (mid left : Armed) (own between owned : ℕ) (s new : Store) (less : own ≤ between) where
-  spent : (x : Bool) (e : ShelfError) → fails_writing mid ≡ Some x → IsSpent mid (Err e) left → IsLeft (HasFailed own owned) mid (refusal e) left
+  spent : (x : Bool) (e : ShelfError) → fails_writing mid ≡ Some x → ArmIsSpent mid (Err e) left → IsLeft (HasFailed own owned) mid (refusal e) left
   spent x ShelfError.Fault h is = inl (is_armed mid x h, is)
   spent x ShelfError.Memory h (inl is) = inl (is_armed mid x h, is)
   spent x ShelfError.Memory h (inr is) = inr (subst (StillWaits mid) (sym is) (waits_itself mid), λ told. absurd (unrefused told))

@@ -14,9 +14,9 @@ use Rattle.repo_name.specs.declared.names.Name.{Name}
 use Rattle.repo_name.specs.NameMaps.{found}
 use Rattle.repo_name.specs.Naming.{name_cmp, Before}
 use Rattle.repo_name.proofs.NameMaps.{same_name}
-use Rattle.repo_store.specs.Pages.{Has, IsPage, Above, Ascends, Beyond}
+use Rattle.repo_store.specs.Pages.{Has, IsPage, Above, NamesAscend, Beyond}
 use Rattle.repo_store.specs.Stores.{Objects}
-use Rattle.repo_store.specs.Memory.{above, bound_of, IsCut}
+use Rattle.repo_store.specs.Memory.{above, bound_of, IsFirstPart}
 
 -- each name stands before those after it
 abbrev Rises : List Name → Type 0
@@ -133,7 +133,7 @@ to_bound : (a : Option Name) (n : Name) → Above a n → range_contains name_cm
 to_bound None n h = refl
 to_bound (Some a) n h = ap (λ o. is_lt o && true) h
 
-ascends : (a : Option Name) (ns : List Name) → Rises ns → ((m : Name) → Has ns m → Above a m) → Ascends a ns
+ascends : (a : Option Name) (ns : List Name) → Rises ns → ((m : Name) → Has ns m → Above a m) → NamesAscend a ns
 ascends a [] r h = tt
 ascends a (n ∷ ns) r h = (h n (inl refl), ascends (Some n) ns r.1 r.0)
 
@@ -161,7 +161,7 @@ module _ {X : Type 0} (O : Objects) (k : Kind) (a : Option Name) (limit : ℕ) (
   cut_least names r rest more up is n (inl h) = inl h
   cut_least names r rest more up is n (inr h) = inr (is, rises_across names (r ∷ rest) up n h)
 
-  pub page_of : (names : List Name) (more : Bool) → IsCut (above a m) limit names more → IsPage O k a limit names more
+  pub page_of : (names : List Name) (more : Bool) → IsFirstPart (above a m) limit names more → IsPage O k a limit names more
   page_of names more (inl (all, few, is)) =
       let listed : (n : Name) → Has names n → Has (above a m) n = λ n h. subst (λ l. Has l n) (sym all) h in
       record {

@@ -21,13 +21,13 @@ abbrev pub Plainly : Type 0 → Store → Ask → Say → Store → Type 0
 Plainly Own old ask say new = Step old ask say new × (say ≡ Say.Refused Code.Fault → Own)
 
 -- a refusal
-abbrev pub IsRefusal : Say → Type 0
-IsRefusal (Say.Refused code) = ⊤
-IsRefusal _ = ⊥
+abbrev pub IsRefused : Say → Type 0
+IsRefused (Say.Refused code) = ⊤
+IsRefused _ = ⊥
 
 -- the answer is made by a writing call of the device: it is no refusal, and the request isn't one for which nothing is written
 abbrev pub IsWritten : Store → Ask → Say → Type 0
-IsWritten old ask say = (¬ IsQuiet old.tokens ask) × (¬ IsRefusal say)
+IsWritten old ask say = (¬ IsQuiet old.tokens ask) × (¬ IsRefused say)
 
 -- in place of an answer, the device's own failure is told, or the want of memory, and nothing changed
 abbrev pub FailsItself : Type 0 → Store → Ask → Say → Store → Type 0

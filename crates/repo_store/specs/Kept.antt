@@ -1,5 +1,5 @@
 -- What is remembered of a shelf.
-use Rattle.std.specs.Prelude.{◌≡◌, ◌⊎◌, ⊤, ℕ, Bool, true, false, not, List, Option, Some, None, is_some, option_map}
+use Rattle.std.specs.Prelude.{◌≡◌, ◌⊎◌, ⊤, ℕ, Bool, true, false, not, List, Option, Some, None, is_some, option_map, Result}
 use Rattle.std.specs.BTreeMap.{BTreeMap}
 use Rattle.repo_name.specs.declared.kinds.Kind.{Kind}
 use Rattle.repo_name.specs.declared.names.Name.{Name}
@@ -8,6 +8,11 @@ use Rattle.repo_locks.specs.TokenMachine.{Tokens}
 use Rattle.repo_store.specs.Pages.{Has}
 use Rattle.repo_store.specs.Stores.{Store}
 use Rattle.repo_store.specs.declared.known.Known.{Known}
+use Rattle.repo_store.specs.declared.kept.Kept.{Kept}
+use Rattle.repo_store.specs.declared.faults.FaultShelf.{FaultShelf}
+use Rattle.repo_store.specs.declared.faults.Armed.{Armed}
+use Rattle.repo_store.specs.declared.shelves.ShelfError.{ShelfError}
+use Rattle.repo_store.specs.Laws.{Reads}
 
 -- a set of names, as it is kept: a map of them to nothing
 abbrev pub NameSet : Type 0
@@ -67,7 +72,15 @@ pub record StaysKnown (old new : Known) : Type 0 where
   pub ledger : new.ledger ≡ old.ledger
 
 -- the names of a page joined a set
-pub record Joins (page : List Name) (old new : NameSet) : Type 0 where
+pub record PageJoins (page : List Name) (old new : NameSet) : Type 0 where
   pub stay : (n : Name) → is_in old n ≡ true → is_in new n ≡ true
   pub join : (n : Name) → Has page n → is_in new n ≡ true
   pub only : (n : Name) → is_in new n ≡ true → (is_in old n ≡ true) ⊎ Has page n
+
+-- the inner shelf armed anew, and nothing else changed
+abbrev pub armed_as : {S : Type 0} → Armed → Kept (FaultShelf S) → Kept (FaultShelf S)
+armed_as armed kept = record { inner = record { inner = kept.inner.inner; armed = armed; count = kept.inner.count }; known = kept.known; alloc = kept.alloc }
+
+-- a reading call that gives all names of a kind
+abbrev pub ReadsNames : Kind → Store → Result NameSet ShelfError → Store → Type 0
+ReadsNames kind old result new = Reads (λ names. AreThere (Some (is_in names)) (old.objects kind)) old result new

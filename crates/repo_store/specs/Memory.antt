@@ -43,7 +43,7 @@ abbrev pub above : {X : Type 0} → Option Name → BTreeMap Name X → List Nam
 above after map = keys_of (entries_between name_cmp (bound_of after) Unbounded map.entries)
 
 -- the first of these names, at most so many, and whether some are left
-abbrev pub IsCut : List Name → ℕ → List Name → Bool → Type 0
-IsCut all limit names more =
+abbrev pub IsFirstPart : List Name → ℕ → List Name → Bool → Type 0
+IsFirstPart all limit names more =
     ((all ≡ names) × (length names ≤ limit) × (more ≡ false))
     ⊎ ((n : Name) × (rest : List Name) × (all ≡ names ++ n ∷ rest) × (length names ≡ limit) × (more ≡ true))

@@ -1,7 +1,7 @@
 //! A shelf that remembers.
 
 ghost use Rattle.std.specs.Prelude.{◌≡◌, ◌≤◌};
-ghost use Rattle.repo_store.specs.Kept.{nothing};
+ghost use Rattle.repo_store.specs.Kept.{nothing, armed_as};
 ghost use Rattle.repo_store.specs.declared.faults.Armed.{Armed};
 ghost use Rattle.repo_store.specs.declared.shelves.ShelfError.{ShelfError};
 
@@ -70,7 +70,7 @@ impl<S> Kept<S> {
 impl<S> Kept<FaultShelf<S>> {
     /// Arms the inner shelf's next call of a sort, in place of what was armed. It waits for its call.
     pub fn arm(&mut self, fail: Fail)
-        ensures { self.new ≡ record { inner = record { inner = self.old.inner.inner; armed = Armed.Next fail; count = self.old.inner.count }; known = self.old.known; alloc = self.old.alloc } }
+        ensures { self.new ≡ armed_as (Armed.Next fail) self.old }
     {
         self.inner.arm(fail);
     }
@@ -79,14 +79,14 @@ impl<S> Kept<FaultShelf<S>> {
     /// is a writing one its change is made where `applied`.
     pub fn arm_at(&mut self, number: u64, applied: bool)
         requires { 1 ≤ number }
-        ensures { self.new ≡ record { inner = record { inner = self.old.inner.inner; armed = Armed.Call number applied; count = self.old.inner.count }; known = self.old.known; alloc = self.old.alloc } }
+        ensures { self.new ≡ armed_as (Armed.Call number applied) self.old }
     {
         self.inner.arm_at(number, applied);
     }
 
     /// Arms nothing.
     pub fn disarm(&mut self)
-        ensures { self.new ≡ record { inner = record { inner = self.old.inner.inner; armed = Armed.Nothing; count = self.old.inner.count }; known = self.old.known; alloc = self.old.alloc } }
+        ensures { self.new ≡ armed_as Armed.Nothing self.old }
     {
         self.inner.disarm();
     }

@@ -4,7 +4,7 @@ ghost use Rattle.std.specs.Prelude.{◌≡◌, Some, option_map, All, IfOk, OnOk
 ghost use Rattle.std.specs.BTreeMap.{IsOrdered};
 ghost use Rattle.repo_name.specs.NameMaps.{found};
 ghost use Rattle.repo_name.specs.Naming.{name_cmp, IsName};
-ghost use Rattle.repo_store.specs.Memory.{objects_of, store_of, above, AddedIn, RemovedIn, IsCut};
+ghost use Rattle.repo_store.specs.Memory.{objects_of, store_of, above, AddedIn, RemovedIn, IsFirstPart};
 ghost use Rattle.repo_store.specs.Slices.{IsSlice, HasLength};
 ghost use Rattle.repo_store.specs.Stores.{empty};
 
@@ -112,7 +112,7 @@ pub fn page_after<X>(
     after: Option<&Name>,
     limit: usize,
 ) -> Result<Page, AllocError>
-    ensures cut { IfOk result (λ page. IsCut (above (option_map (λ name. name.now) after.entry) map.now) limit page.names page.more) }
+    ensures cut { IfOk result (λ page. IsFirstPart (above (option_map (λ name. name.now) after.entry) map.now) limit page.names page.more) }
     ensures ordered { IsOrdered name_cmp map.now }
     ensures names { IfOk result (λ page. All IsName page.names) }
 {

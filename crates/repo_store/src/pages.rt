@@ -2,9 +2,9 @@
 
 ghost use Rattle.std.specs.Prelude.{◌≡◌, ◌↔◌, [], Some, IfNone, IfSome, IsTrue, OnOk};
 ghost use Rattle.repo_store.specs.Faults.{MayReadAsArmed};
-ghost use Rattle.repo_store.specs.Kept.{is_in, AreThere, Joins};
-ghost use Rattle.repo_store.specs.Laws.{Reads, HasCause};
-ghost use Rattle.repo_store.specs.Pages.{Above, Ascends, Has, PageRises};
+ghost use Rattle.repo_store.specs.Kept.{PageJoins, ReadsNames};
+ghost use Rattle.repo_store.specs.Laws.{HasCause};
+ghost use Rattle.repo_store.specs.Pages.{Above, NamesAscend, Has, PageRises};
 
 use crate::known::NameSet;
 use crate::shelves::{Shelf, ShelfError};
@@ -25,7 +25,7 @@ fn is_above(after: Option<Name>, name: Name) -> bool
 
 /// Whether names ascend, all above the given one.
 fn ascend(after: Option<Name>, names: &[Name]) -> bool
-    ensures { IsTrue result ↔ Ascends after names.now }
+    ensures { IsTrue result ↔ NamesAscend after names.now }
 {
     match names {
         [] => true,
@@ -54,7 +54,7 @@ fn last_of(names: &[Name]) -> Option<Name>
 
 /// The names of a page join a set. It fails for memory alone.
 fn join(names: &mut NameSet, page: &[Name]) -> Result<(), AllocError>
-    ensures { OnOk result (Joins page.now names.old names.new) }
+    ensures { OnOk result (PageJoins page.now names.old names.new) }
 {
     for name in page {
         insert_named(names, *name, ())?;
@@ -71,7 +71,7 @@ const PAGES: u64 = 1 << 32;
 /// All names of a kind, asked for page by page. `Fault` is told, too, where a page doesn't rise, which an
 /// honest shelf never causes; and `Memory` where after 2^32 pages more follow.
 pub fn all_names<S: Shelf>(alloc: Global, shelf: &mut S, kind: Kind) -> Result<NameSet, ShelfError>
-    ensures law { S.honest shelf.old → Reads (λ names. AreThere (Some (is_in names)) ((S.store shelf.old).objects kind)) (S.store shelf.old) result (S.store shelf.new) }
+    ensures law { S.honest shelf.old → ReadsNames kind (S.store shelf.old) result (S.store shelf.new) }
     ensures cause { S.honest shelf.old → HasCause (S.failed shelf.old) result (S.failed shelf.new) }
     ensures armed { S.honest shelf.old → MayReadAsArmed (S.armed shelf.old) (S.own shelf.old) result (S.armed shelf.new) (S.own shelf.new) }
     ensures honest { S.honest shelf.old → S.honest shelf.new }

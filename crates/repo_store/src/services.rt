@@ -3,7 +3,7 @@
 ghost use Rattle.std.specs.Prelude.{◌≡◌, ◌<◌, ◌+◌, ◌^◌, ◌++◌, IfOk, IsTrue, OnOk, OnErr};
 ghost use Rattle.repo_wire.specs.Reading.{fed};
 ghost use Rattle.repo_store.specs.Serving.{Past, Moment, seen};
-ghost use Rattle.repo_store.specs.Services.{nothing, HasServed, Rests, ServiceAnswers, AnswersAll, Finishes};
+ghost use Rattle.repo_store.specs.Services.{nothing, Rests, Finishes, ServesNext, ServesEach};
 
 use crate::answers::answer;
 use crate::forms::{Form, ServiceError};
@@ -46,8 +46,8 @@ impl<F: Form + Drop> Service<F> {
         writer: &mut W,
     ) -> Result<bool, ServiceError>
         requires { self.old.answered < 2 ^ 32 }
-        ensures next { S.honest shelf.old → (before : Moment) (past : Past) → HasServed F.shown before self.old past (seen (S.store shelf.old) (S.failed shelf.old) (W.contents writer.old))
-            → ServiceAnswers F.shown result before past self.new (seen (S.store shelf.new) (S.failed shelf.new) (W.contents writer.new)) }
+        ensures next { S.honest shelf.old → ServesNext F.shown self.old (seen (S.store shelf.old) (S.failed shelf.old) (W.contents writer.old))
+            result self.new (seen (S.store shelf.new) (S.failed shelf.new) (W.contents writer.new)) }
         ensures honest { S.honest shelf.old → S.honest shelf.new }
         ensures counted { IfOk result (λ more. IsTrue more → self.new.answered ≡ self.old.answered + 1) }
     {
@@ -79,8 +79,8 @@ impl<F: Form + Drop> Service<F> {
         shelf: &mut S,
         writer: &mut W,
     ) -> Result<(), ServiceError>
-        ensures all { S.honest shelf.old → (before : Moment) (past : Past) → HasServed F.shown before self.old past (seen (S.store shelf.old) (S.failed shelf.old) (W.contents writer.old))
-            → AnswersAll F.shown result before past.bytes self.new (seen (S.store shelf.new) (S.failed shelf.new) (W.contents writer.new)) }
+        ensures all { S.honest shelf.old → ServesEach F.shown self.old (seen (S.store shelf.old) (S.failed shelf.old) (W.contents writer.old))
+            result self.new (seen (S.store shelf.new) (S.failed shelf.new) (W.contents writer.new)) }
         ensures honest { S.honest shelf.old → S.honest shelf.new }
     {
         while self.answered < REQUESTS {

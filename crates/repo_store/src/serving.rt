@@ -114,8 +114,8 @@ pub fn serve<R: Read, W: Write, S: Shelf>(
     writer: &mut W,
     shelf: &mut S,
 ) -> Result<u64, ServeError>
-    ensures serves { S.honest shelf.old → ServesConnection (R.remaining reader.old) (seen (S.store shelf.old) (S.failed shelf.old) (W.contents writer.old)) result
-        (R.remaining reader.new) (seen (S.store shelf.new) (S.failed shelf.new) (W.contents writer.new)) }
+    ensures serves { S.honest shelf.old → ServesConnection (R.remaining reader.old) (seen (S.store shelf.old) (S.failed shelf.old) (W.contents writer.old))
+        result (R.remaining reader.new) (seen (S.store shelf.new) (S.failed shelf.new) (W.contents writer.new)) }
     ensures kept { S.honest shelf.old → OnlyAppends (S.store shelf.old) (S.store shelf.new) }
     ensures honest { S.honest shelf.old → S.honest shelf.new }
 {

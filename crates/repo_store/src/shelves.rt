@@ -3,9 +3,9 @@
 ghost use Rattle.std.specs.Prelude.{◌≡◌, ◌≤◌, ◌+◌, ℕ, length, option_map, All, IfOk};
 ghost use Rattle.repo_name.specs.declared.kinds.Kind.{Kind};
 ghost use Rattle.repo_name.specs.Naming.{IsName};
-ghost use Rattle.repo_store.specs.Faults.{ReadsAsArmed, MayReadAsArmed, WritesAsArmed};
+ghost use Rattle.repo_store.specs.Faults.{ReadsAsArmed, MayReadAsArmed, MakesAsArmed};
 ghost use Rattle.repo_store.specs.Laws.{Reads, Writes, HasCause};
-ghost use Rattle.repo_store.specs.Pages.{IsPage};
+ghost use Rattle.repo_store.specs.Pages.{ReadsPage};
 ghost use Rattle.repo_store.specs.Slices.{IsSlice, HasLength};
 ghost use Rattle.repo_store.specs.declared.faults.Armed.{Armed};
 ghost use Rattle.repo_store.specs.Stores.{Store, PutsObject, RemovesObject, SavesTokens, SavesConfig};
@@ -92,7 +92,7 @@ pub trait Shelf {
     fn put(&mut self, kind: Kind, name: &Name, bytes: &[u8]) -> Result<(), ShelfError>
         ensures law { honest self.old → Writes (PutsObject kind name.now bytes.now) (store self.old) result (store self.new) }
         ensures cause { honest self.old → HasCause (failed self.old) result (failed self.new) }
-        ensures armed { honest self.old → WritesAsArmed (PutsObject kind name.now bytes.now) (armed self.old) (store self.old) (own self.old) result (armed self.new) (store self.new) (own self.new) }
+        ensures armed { MakesAsArmed honest armed own store (PutsObject kind name.now bytes.now) self.old result self.new }
         ensures honest { honest self.old → honest self.new }
         ensures once { writes self.new ≤ writes self.old + 1 };
 
@@ -100,7 +100,7 @@ pub trait Shelf {
     fn remove(&mut self, kind: Kind, name: &Name) -> Result<(), ShelfError>
         ensures law { honest self.old → Writes (RemovesObject kind name.now) (store self.old) result (store self.new) }
         ensures cause { honest self.old → HasCause (failed self.old) result (failed self.new) }
-        ensures armed { honest self.old → WritesAsArmed (RemovesObject kind name.now) (armed self.old) (store self.old) (own self.old) result (armed self.new) (store self.new) (own self.new) }
+        ensures armed { MakesAsArmed honest armed own store (RemovesObject kind name.now) self.old result self.new }
         ensures honest { honest self.old → honest self.new }
         ensures once { writes self.new ≤ writes self.old + 1 };
 
@@ -112,7 +112,7 @@ pub trait Shelf {
         after: Option<&Name>,
         limit: usize,
     ) -> Result<Page, ShelfError>
-        ensures law { honest self.old → Reads (λ page. IsPage (store self.old).objects kind (option_map (λ name. name.now) after.entry) limit page.names page.more) (store self.old) result (store self.new) }
+        ensures law { honest self.old → ReadsPage kind (option_map (λ name. name.now) after.entry) limit (store self.old) result (store self.new) }
         ensures cause { honest self.old → HasCause (failed self.old) result (failed self.new) }
         ensures armed { honest self.old → MayReadAsArmed (armed self.old) (own self.old) result (armed self.new) (own self.new) }
         ensures honest { honest self.old → honest self.new }
@@ -132,7 +132,7 @@ pub trait Shelf {
     fn save_ledger(&mut self, ledger: &Ledger) -> Result<(), ShelfError>
         ensures law { honest self.old → Writes (SavesTokens ledger.now) (store self.old) result (store self.new) }
         ensures cause { honest self.old → HasCause (failed self.old) result (failed self.new) }
-        ensures armed { honest self.old → WritesAsArmed (SavesTokens ledger.now) (armed self.old) (store self.old) (own self.old) result (armed self.new) (store self.new) (own self.new) }
+        ensures armed { MakesAsArmed honest armed own store (SavesTokens ledger.now) self.old result self.new }
         ensures honest { honest self.old → honest self.new }
         ensures once { writes self.new ≤ writes self.old + 1 };
 
@@ -148,7 +148,7 @@ pub trait Shelf {
     fn save_config(&mut self, bytes: &[u8]) -> Result<(), ShelfError>
         ensures law { honest self.old → Writes (SavesConfig bytes.now) (store self.old) result (store self.new) }
         ensures cause { honest self.old → HasCause (failed self.old) result (failed self.new) }
-        ensures armed { honest self.old → WritesAsArmed (SavesConfig bytes.now) (armed self.old) (store self.old) (own self.old) result (armed self.new) (store self.new) (own self.new) }
+        ensures armed { MakesAsArmed honest armed own store (SavesConfig bytes.now) self.old result self.new }
         ensures honest { honest self.old → honest self.new }
         ensures once { writes self.new ≤ writes self.old + 1 };
 

@@ -1,12 +1,12 @@
 //! What is asked by a body's tag and fields: one function for each request.
 
-ghost use Rattle.std.specs.Prelude.{◌≡◌, ◌≢◌, ◌<◌, ◌^◌, ◌++◌, [], ℕ, List, Option, IfSome, IfNone};
+ghost use Rattle.std.specs.Prelude.{◌≡◌, ◌≢◌, ◌<◌, ◌^◌, ◌++◌, [], List, Option, IfSome, IfNone};
 ghost use Rattle.repo_name.specs.Naming.{IsName};
 ghost use Rattle.repo_name.specs.declared.kinds.Kind.{Kind};
 ghost use Rattle.repo_name.specs.declared.names.Name.{Name};
 ghost use Rattle.repo_name.specs.declared.tokens.Token.{Token};
 ghost use Rattle.repo_wire.specs.Messages.{given_name, IsGivenName};
-ghost use Rattle.repo_wire.specs.Parsing.{object_bytes, AskFound, AskRead};
+ghost use Rattle.repo_wire.specs.Parsing.{object_bytes, AskFound, AskRead, HasNoObject};
 
 use crate::faults::{FIELDS, Fault, WireError};
 use crate::fields::{copy_of, kind_at, name_at, short_number_at};
@@ -117,7 +117,7 @@ fn range_of(fields: &[u8]) -> Option<Ask>
 /// The token, kind and name at the front, as a Put and a Delete have them, and the bytes after them.
 fn object_at(fields: &[u8]) -> Option<(Token, Kind, Name, &[u8])>
     ensures found { IfSome result (λ x. (x.0.0 < 2 ^ 64) × IsName x.2 × (fields.now ≡ object_bytes x.0 x.1 x.2 ++ x.3.now)) }
-    ensures none { IfNone result ((token : Token) (kind : Kind) (name : Name) (rest : List ℕ) → IsName name → fields.now ≢ object_bytes token kind name ++ rest) }
+    ensures none { IfNone result (HasNoObject fields.now) }
 {
     let (token, rest) = number_at(fields)?;
     let (kind, rest) = kind_at(rest)?;

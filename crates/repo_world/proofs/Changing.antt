@@ -10,7 +10,7 @@ use Rattle.repo_session.specs.Soundness.{IsSound}
 use Rattle.repo_session.proofs.Changing.{removing_snapshot_keeps_sound}
 use Rattle.repo_world.specs.Bag.{AskedAt, IsExclusive, HasBag}
 use Rattle.repo_world.specs.Safe.{HasNoClash}
-use Rattle.repo_world.specs.World.{World, client, Has, Asked}
+use Rattle.repo_world.specs.World.{World, client, IsOneOf, Asked}
 use Rattle.repo_world.proofs.Deleting.{delete_keeps_sound}
 use Rattle.repo_world.proofs.Knowing.{sent_as, held_apart, put_took, delete_took}
 use Rattle.repo_world.proofs.Moving.{ObjectsMove}
@@ -29,7 +29,7 @@ module _ (w : World) (bag : HasBag w) (clash : HasNoClash w) where
   removed_sound k q t j n Job.Check e h live new removed = absurd ((sent_as w bag k q (Ask.Delete t j n) Job.Check e h).permitted tt)
 
   -- whatever a request that is delivered does to the objects
-  pub move_keeps_sound : (k : ℕ) (request : Request) → Has w.messages (Asked k request) → (O : Objects) → ObjectsMove w.store.tokens w.store.objects request.ask O → IsSound O
+  pub move_keeps_sound : (k : ℕ) (request : Request) → IsOneOf w.messages (Asked k request) → (O : Objects) → ObjectsMove w.store.tokens w.store.objects request.ask O → IsSound O
   move_keeps_sound k request m O (ObjectsMove.stays e) = subst IsSound (sym e) bag.sound
   move_keeps_sound k request m O (ObjectsMove.adds t j n x e live added) =
       let h = subst (λ a. AskedAt (client w k) request.sequence a) e (bag.asked k request m) in

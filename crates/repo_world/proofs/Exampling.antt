@@ -14,7 +14,7 @@ use Rattle.repo_locks.specs.TokenMachine.{start, issued, granted}
 use Rattle.repo_store.specs.declared.faults.Fail.{Fail}
 use Rattle.repo_store.specs.Stores.{empty}
 use Rattle.repo_session.specs.Askers.{asker}
-use Rattle.repo_session.specs.Clients.{exchange, IsNext}
+use Rattle.repo_session.specs.Clients.{exchange, IsNextRequest}
 use Rattle.repo_session.specs.Ends as ends
 use Rattle.repo_session.specs.Order.{IsUnlock, locked}
 use Rattle.repo_session.specs.Traces.{Trace, Exchanged}
@@ -24,7 +24,7 @@ use Rattle.repo_world.specs.Clients.{task_of, JobAllows, JobConcludes, Client, I
 use Rattle.repo_world.specs.Events.{Happens, Run}
 use Rattle.repo_world.specs.Example.{host, token, given, row, second, failed, done, with_tokens, refused, last, events, ExampleIsARun}
 use Rattle.repo_world.specs.Safe.{IsSpoken, by_put, by_reply, IsKnown, known_spoken, known_part, known_made, HasNoClash}
-use Rattle.repo_world.specs.World.{World, instance_of, first_of, started, beginning, Has, Asked, Said}
+use Rattle.repo_world.specs.World.{World, instance_of, first_of, started, beginning, IsOneOf, Asked, Said}
 use Rattle.repo_world.specs.declared.jobs.Job.{Job}
 use Rattle.repo_world.specs.declared.events.Event.{Event}
 use Rattle.repo_world.specs.declared.events.Applied.{Applied}
@@ -61,13 +61,13 @@ w6 = record { store = with_tokens (granted (issued start) row); clients = refuse
 some_none : (r : Request) → Some r ≡ None → ⊥
 some_none r e = absurd (cc)
 
-next_1 : IsNext (task_of (Job.Backup []) asking.who) (JobAllows (Job.Backup [])) asking.trace second
+next_1 : IsNextRequest (task_of (Job.Backup []) asking.who) (JobAllows (Job.Backup [])) asking.trace second
 next_1 = record { instance = refl; sequence = refl; may = (token, refl, refl); permitted = λ work. absurd work }
 
 dutiful_1 : IsDutiful asking
 dutiful_1 = record {
   obeys = (refl, (λ work. absurd work), inl refl, tt);
-  pending = λ r e. subst (λ (q : Request). IsNext (task_of (Job.Backup []) asking.who) (JobAllows (Job.Backup [])) asking.trace q) (same_Some second r e) next_1;
+  pending = λ r e. subst (λ (q : Request). IsNextRequest (task_of (Job.Backup []) asking.who) (JobAllows (Job.Backup [])) asking.trace q) (same_Some second r e) next_1;
   settled = λ e. absurd (some_none second e);
   concluded = λ o e. absurd (none-some o e);
   released = λ e. absurd (some_none second e);
@@ -196,7 +196,7 @@ run = (w1, (Applied.Done, step_1), (w2, (Applied.Done, step_2), (w3, (Applied.Do
 
 -- ---- no byte lists are known
 
-no_put : (k : ℕ) (r : Request) → Has last.messages (Asked k r) → (r ≡ first_of 0) ⊎ (r ≡ second)
+no_put : (k : ℕ) (r : Request) → IsOneOf last.messages (Asked k r) → (r ≡ first_of 0) ⊎ (r ≡ second)
 no_put k r (inl e) = let q : first_of 0 ≡ r = cc in inl (sym q)
 no_put k r (inr (inl e)) = absurd (cc)
 no_put k r (inr (inr (inl e))) = let q : second ≡ r = cc in inr (sym q)
@@ -204,7 +204,7 @@ no_put k r (inr (inr (inr (inl e)))) = absurd (cc)
 no_put k r (inr (inr (inr (inr (inl e))))) = absurd (cc)
 no_put k r (inr (inr (inr (inr (inr e))))) = absurd e
 
-no_bytes : (k : ℕ) (r : Reply) → Has last.messages (Said k r) → (x : List ℕ) → r.say ≡ Say.Bytes x → ⊥
+no_bytes : (k : ℕ) (r : Reply) → IsOneOf last.messages (Said k r) → (x : List ℕ) → r.say ≡ Say.Bytes x → ⊥
 no_bytes k r (inl e) x h = absurd (cc)
 no_bytes k r (inr (inl e)) x h = let q : given ≡ r = cc in let p : Say.Token token ≡ Say.Bytes x = ap (λ (z : Reply). z.say) q ∙ h in absurd (cc)
 no_bytes k r (inr (inr (inl e))) x h = absurd (cc)

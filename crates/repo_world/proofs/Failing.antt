@@ -7,10 +7,10 @@ use Rattle.repo_store.specs.declared.faults.Fail.{Fail}
 use Rattle.repo_store.specs.StoreMachine as machine
 use Rattle.repo_store.specs.StoreMachine.{Step, Looks, Fails}
 use Rattle.repo_store.specs.Stores.{Store}
-use Rattle.repo_store.specs.Failing.{IsRefusal, IsWritten, FailsItself, Failing}
+use Rattle.repo_store.specs.Failing.{IsRefused, IsWritten, FailsItself, Failing}
 
-refused : (say : Say) (code : Code) → say ≡ Say.Refused code → IsRefusal say
-refused say code e = subst IsRefusal (sym e) tt
+refused : (say : Say) (code : Code) → say ≡ Say.Refused code → IsRefused say
+refused say code e = subst IsRefused (sym e) tt
 
 -- what is written for looks at the shelf
 written_looks : (old : Store) (ask : Ask) (say : Say) (new : Store) → machine.Answers old ask say new → IsWritten old ask say → Looks old ask

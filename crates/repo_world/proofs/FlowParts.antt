@@ -15,7 +15,7 @@ use Rattle.repo_session.specs.Clients.{AnswersNext, exchange}
 use Rattle.repo_world.specs.AnyClients.{FitsAny, any_next, client_of, given_to}
 use Rattle.repo_world.specs.Clients.{Accepts, Client}
 use Rattle.repo_world.specs.Events.{Arrives, Crashes, Serves, Starts, Takes}
-use Rattle.repo_world.specs.Flows.{AreThere, Flow, IsThere, messages_in, seat_at, spoken, world_of}
+use Rattle.repo_world.specs.Flows.{EachIsThere, Flow, IsThere, messages_in, seat_at, spoken, world_of}
 use Rattle.repo_world.specs.inner.Seating.{Answered, Crashed, StepsAsArmed, TookReply}
 use Rattle.repo_world.specs.Seats.{Seated, empty_seat, listed, nothing, silence}
 use Rattle.repo_world.specs.World as world
@@ -51,7 +51,7 @@ said_there_as flow n k place e = slice_get-map (spoken flow.seats) flow.messages
 
 -- ---- a seat of a flow becomes another one
 
-module _ (seats : List Seated) (messages : List Message) (k : ℕ) (there : AreThere seats messages) (less : k < length seats) where
+module _ (seats : List Seated) (messages : List Message) (k : ℕ) (there : EachIsThere seats messages) (less : k < length seats) where
   -- the seat of k is another one now
   abbrev with_seat : Seated → List Seated
   with_seat s = slice_set seats k s
@@ -60,7 +60,7 @@ module _ (seats : List Seated) (messages : List Message) (k : ℕ) (there : AreT
   here s = get_or-set_same seats k s empty_seat less
 
   -- the seat shows what it showed
-  pub kept_there : (s : Seated) → s ≡ seat_at seats k → AreThere (with_seat s) messages
+  pub kept_there : (s : Seated) → s ≡ seat_at seats k → EachIsThere (with_seat s) messages
   kept_there s e = all_there seats (with_seat s) (grows_set seats k s less (goes_same _ _ (ap (λ (x : Seated). x.requests) e)) (goes_same _ _ (ap (λ (x : Seated). x.replies) e))) messages there
 
   pub same_world : (s : Seated) → s ≡ seat_at seats k → (store : Store) → world_of store (record { seats = with_seat s; messages = messages }) ≡ world_of store (record { seats = seats; messages = messages })
@@ -100,7 +100,7 @@ module _ (seats : List Seated) (messages : List Message) (k : ℕ) (there : AreT
     said_there : IsThere (with_seat s) (Message.Said k reply_place)
     said_there = subst (λ (x : Seated). reply_place < length x.replies) (sym (here s ∙ is)) (omega (arith, length-append (seat_at seats k).replies (reply ∷ [])))
 
-    pub served_there : AreThere (with_seat s) (messages ++ Message.Said k (length (seat_at seats k).replies) ∷ [])
+    pub served_there : EachIsThere (with_seat s) (messages ++ Message.Said k (length (seat_at seats k).replies) ∷ [])
     served_there = there_more seats (with_seat s) (grows_set seats k s less requests_on replies_on) messages there (Message.Said k reply_place) said_there
 
     said : spoken (with_seat s) (Message.Said k reply_place) ≡ world.Said k reply
@@ -163,7 +163,7 @@ module _ (seats : List Seated) (messages : List Message) (k : ℕ) (there : AreT
     }
 
     -- nothing more is asked
-    pub took_last_there : AreThere (with_seat s) messages
+    pub took_last_there : EachIsThere (with_seat s) messages
     took_last_there = all_there seats (with_seat s) grown messages there
 
     pub took_last : s.client.next ≡ None → (store : Store)
@@ -194,7 +194,7 @@ module _ (seats : List Seated) (messages : List Message) (k : ℕ) (there : AreT
       asked_there = subst (λ (x : Seated). last < length x.requests) (sym (here s))
           (let e = ap length asked_now in omega (arith, e, last_is, length-append (seat_at seats k).requests (request ∷ [])))
 
-      pub took_more_there : AreThere (with_seat s) (messages ++ Message.Asked k (length s.requests - 1) ∷ [])
+      pub took_more_there : EachIsThere (with_seat s) (messages ++ Message.Asked k (length s.requests - 1) ∷ [])
       took_more_there = there_more seats (with_seat s) grown messages there (Message.Asked k last) asked_there
 
       pub took_more : (store : Store) → Takes (world_of store (record { seats = seats; messages = messages })) k reply
@@ -211,7 +211,7 @@ module _ (seats : List Seated) (messages : List Message) (k : ℕ) (there : AreT
     crash_grown : Grows seats (with_seat s)
     crash_grown = grows_set seats k s less (goes_same _ _ (ap (λ (x : Seated). x.requests) stopped)) (goes_same _ _ (ap (λ (x : Seated). x.replies) stopped))
 
-    pub crashed_there : AreThere (with_seat s) messages
+    pub crashed_there : EachIsThere (with_seat s) messages
     crashed_there = all_there seats (with_seat s) crash_grown messages there
 
     pub crashes : (seat_at seats k).client.crashed ≡ false → (store : Store)
@@ -228,7 +228,7 @@ module _ (seats : List Seated) (messages : List Message) (k : ℕ) (there : AreT
 
 -- ---- a client starts
 
-module _ (seats : List Seated) (messages : List Message) (there : AreThere seats messages) (c : AnyClient) (f : FitsAny c []) (job : Job) (host : List ℕ) (time : ℕ)
+module _ (seats : List Seated) (messages : List Message) (there : EachIsThere seats messages) (c : AnyClient) (f : FitsAny c []) (job : Job) (host : List ℕ) (time : ℕ)
     (given : given_to c ≡ record { who = asker (instance_of (length seats)) host time; handed = job }) where
   abbrev number : ℕ
   number = length seats
@@ -252,7 +252,7 @@ module _ (seats : List Seated) (messages : List Message) (there : AreThere seats
   requests_are : (seat_at now number).requests ≡ first_of number ∷ []
   requests_are = ap (λ (x : Seated). x.requests) seat_is ∙ ap listed pending
 
-  pub started_there : AreThere (seats ++ first_seat ∷ []) (messages ++ Message.Asked (length seats) 0 ∷ [])
+  pub started_there : EachIsThere (seats ++ first_seat ∷ []) (messages ++ Message.Asked (length seats) 0 ∷ [])
   started_there = there_more seats now (grows_end seats first_seat) messages there (Message.Asked number 0) (subst (λ (l : List Request). 0 < length l) (sym requests_are) (lit≤ tt))
 
   module _ (store : Store) (accepted : Accepts job) (small : time < 2 ^ 64) (named : IsHost host) where

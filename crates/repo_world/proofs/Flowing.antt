@@ -2,7 +2,7 @@
 use Rattle.std.proofs.Common.{◌≡◌, ◌∙◌, ◌⊎◌, inl, inr, ⊎_elim, ◌<◌, ◌++◌, ◌∷◌, [], ℕ, zero, suc, List, length, map, slice_set, slice_index_or, refl, sym, ap, subst, arith, append-nil, length-append}
 use Rattle.std.proofs.lemmas.List.{get_or_append_left, map-append}
 use Rattle.std.proofs.Math.ListN.{get_or-map as get_or-map-at}
-use Rattle.repo_world.specs.Flows.{AreThere, IsThere, seat_at, spoken}
+use Rattle.repo_world.specs.Flows.{EachIsThere, IsThere, seat_at, spoken}
 use Rattle.repo_world.specs.Seats.{Seated, empty_seat, nothing, silence}
 use Rattle.repo_world.specs.World as world
 use Rattle.repo_world.specs.World.{World, client_at, nobody, sends}
@@ -93,16 +93,16 @@ there_same : (old new : List Seated) → Grows old new → (m : Message) → IsT
 there_same old new g (Message.Asked k n) h = longer _ _ n (g.requests k) h
 there_same old new g (Message.Said k n) h = longer _ _ n (g.replies k) h
 
-pub messages_same : (old new : List Seated) → Grows old new → (ms : List Message) → AreThere old ms → map (spoken new) ms ≡ map (spoken old) ms
+pub messages_same : (old new : List Seated) → Grows old new → (ms : List Message) → EachIsThere old ms → map (spoken new) ms ≡ map (spoken old) ms
 messages_same old new g [] h = refl
 messages_same old new g (m ∷ ms) h = λ i. spoken_same old new g m h.0 i ∷ messages_same old new g ms h.1 i
 
-pub all_there : (old new : List Seated) → Grows old new → (ms : List Message) → AreThere old ms → AreThere new ms
+pub all_there : (old new : List Seated) → Grows old new → (ms : List Message) → EachIsThere old ms → EachIsThere new ms
 all_there old new g [] h = h
 all_there old new g (m ∷ ms) h = (there_same old new g m h.0, all_there old new g ms h.1)
 
-pub there_more : (old new : List Seated) → Grows old new → (ms : List Message) → AreThere old ms → (m : Message) → IsThere new m → AreThere new (ms ++ m ∷ [])
+pub there_more : (old new : List Seated) → Grows old new → (ms : List Message) → EachIsThere old ms → (m : Message) → IsThere new m → EachIsThere new (ms ++ m ∷ [])
 there_more old new g ms h m t = each_end (IsThere new) ms m (all_there old new g ms h) t
 
-pub messages_more : (old new : List Seated) → Grows old new → (ms : List Message) → AreThere old ms → (m : Message) (x : world.Message) → spoken new m ≡ x → map (spoken new) (ms ++ m ∷ []) ≡ map (spoken old) ms ++ x ∷ []
+pub messages_more : (old new : List Seated) → Grows old new → (ms : List Message) → EachIsThere old ms → (m : Message) (x : world.Message) → spoken new m ≡ x → map (spoken new) (ms ++ m ∷ []) ≡ map (spoken old) ms ++ x ∷ []
 messages_more old new g ms h m x e = map-append (spoken new) ms (m ∷ []) ∙ (λ i. messages_same old new g ms h i ++ e i ∷ [])

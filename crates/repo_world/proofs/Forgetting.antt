@@ -21,7 +21,7 @@ use Rattle.repo_store.specs.Stores.{Store, Objects}
 use Rattle.repo_session.specs.Askers.{asker}
 use Rattle.repo_session.specs.Catalogs.{AreIndexed}
 use Rattle.repo_session.specs.Ends as ends
-use Rattle.repo_session.specs.Listings.{IsListing}
+use Rattle.repo_session.specs.Listings.{IsSnapshotListing}
 use Rattle.repo_session.specs.Order.{Task, IsWorking, Obeys, opened, lock_row}
 use Rattle.repo_session.specs.Traces.{Trace, Exchanged, WasAsked, Object, silent}
 use Rattle.repo_session.specs.declared.outcomes.Outcome.{Outcome}
@@ -331,7 +331,7 @@ module _ (host : List ℕ) (time : ℕ) (config pack index snapshot : List ℕ) 
       }
 
       -- nothing is needed, and nothing was put
-      settled_at : (es : Trace) → IsListing es [] → AreIndexed es → ((k : Kind) → objects_put k es ≡ []) → IsSettled es []
+      settled_at : (es : Trace) → IsSnapshotListing es [] → AreIndexed es → ((k : Kind) → objects_put k es ≡ []) → IsSettled es []
       settled_at es listing indexed none = record {
         rows = [];
         snapshots = listing;

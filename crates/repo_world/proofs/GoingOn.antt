@@ -7,11 +7,11 @@ use Rattle.repo_wire.specs.declared.messages.Request.{Request}
 use Rattle.repo_wire.specs.declared.messages.Say.{Say}
 use Rattle.repo_session.specs.Order.{IsWorking}
 use Rattle.repo_session.specs.Traces.{Trace, Exchanged}
-use Rattle.repo_world.specs.Bag.{AskedAt, StillSays, IsLawfulAsk, IsWithin, HasBag}
+use Rattle.repo_world.specs.Bag.{AskedAt, StillSays, IsLawfulAsk, IsWithinLimits, HasBag}
 use Rattle.repo_world.specs.Clients.{task_of, JobAllows, JobGives, Client}
 use Rattle.repo_world.specs.Laws.{Behaves}
 use Rattle.repo_world.specs.Safe.{Took}
-use Rattle.repo_world.specs.World.{World, Message, client, client_at, Has, Asked, Said}
+use Rattle.repo_world.specs.World.{World, Message, client, client_at, IsOneOf, Asked, Said}
 use Rattle.repo_world.proofs.ClientLists.{Changed, each}
 use Rattle.repo_world.proofs.Knowing.{sent_now}
 use Rattle.repo_world.proofs.Later.{Grows, Later, grows_same, later_put, later_asked, later_has_put, later_has_deleted, has_left, has_right, has_split}
@@ -31,7 +31,7 @@ one_later w clients k c extra changed grows = record {
 -- what a reply of client k is known to be
 pub record IsTold (w : World) (k : ℕ) (a : Ask) (s : Say) : Type 0 where
   pub still : StillSays w k a s
-  pub message : (reply : Reply) × Has w.messages (Said k reply) × (reply.say ≡ s)
+  pub message : (reply : Reply) × IsOneOf w.messages (Said k reply) × (reply.say ≡ s)
   pub asked : (q : ℕ) × AskedAt (client w k) q a
 
 -- what is to be shown of one client that goes on
@@ -39,12 +39,12 @@ pub record GoesOn (w : World) (clients : List Client) (k : ℕ) (c : Client) (ex
   pub changed : Changed w.clients clients k c
   pub grows : Grows (client w k) c
   pub behaves : Behaves c
-  pub within : c.crashed ≡ false → IsWithin c
+  pub within : c.crashed ≡ false → IsWithinLimits c
   pub told : (a : Ask) (s : Say) → Exchanged c.trace a s → IsTold w k a s
-  pub asked : (q : ℕ) (a : Ask) → AskedAt c q a → AskedAt (client w k) q a ⊎ ((r : Request) × Has extra (Asked k r) × (r.ask ≡ a))
-  pub joined : (j : ℕ) (r : Request) → Has extra (Asked j r) → (j ≡ k) × AskedAt c r.sequence r.ask
-  pub no_reply : (j : ℕ) (r : Reply) → Has extra (Said j r) → ⊥
-  pub lawful : (j : ℕ) (r : Request) → Has extra (Asked j r) → IsLawfulAsk r.ask
+  pub asked : (q : ℕ) (a : Ask) → AskedAt c q a → AskedAt (client w k) q a ⊎ ((r : Request) × IsOneOf extra (Asked k r) × (r.ask ≡ a))
+  pub joined : (j : ℕ) (r : Request) → IsOneOf extra (Asked j r) → (j ≡ k) × AskedAt c r.sequence r.ask
+  pub no_reply : (j : ℕ) (r : Reply) → IsOneOf extra (Said j r) → ⊥
+  pub lawful : (j : ℕ) (r : Request) → IsOneOf extra (Asked j r) → IsLawfulAsk r.ask
 
 pub old_told : (w : World) → HasBag w → (j : ℕ) (a : Ask) (s : Say) → Exchanged (client w j).trace a s → IsTold w j a s
 old_told w bag j a s h = let t = bag.told j a s h in record { still = t.0; message = t.1; asked = sent_as_asked (client w j) a s h }
@@ -86,20 +86,20 @@ module _ (w : World) (bag : HasBag w) (clients : List Client) (k : ℕ) (c : Cli
   all_told : (j : ℕ) (a : Ask) (s : Say) → Exchanged (client_at clients j).trace a s → IsTold w j a s
   all_told = each (λ i d. (b : Ask) (z : Say) → Exchanged d.trace b z → IsTold w i b z) w.clients clients k c g.changed (old_told w bag) g.told
 
-  old_said : (j : ℕ) (r : Reply) → Has (w.messages ++ extra) (Said j r) → Has w.messages (Said j r)
+  old_said : (j : ℕ) (r : Reply) → IsOneOf (w.messages ++ extra) (Said j r) → IsOneOf w.messages (Said j r)
   old_said j r h = ⊎_elim (λ d. d) (λ d. absurd (g.no_reply j r d)) (has_split w.messages extra (Said j r) h)
 
-  all_asked : (j : ℕ) (r : Request) → Has (w.messages ++ extra) (Asked j r) → AskedAt (client_at clients j) r.sequence r.ask
+  all_asked : (j : ℕ) (r : Request) → IsOneOf (w.messages ++ extra) (Asked j r) → AskedAt (client_at clients j) r.sequence r.ask
   all_asked j r h = ⊎_elim
       (λ d. (later_on.grows j).asked r.sequence r.ask (bag.asked j r d))
       (λ d. (let p = g.joined j r d in subst (λ i. AskedAt (client_at clients i) r.sequence r.ask) (sym p.0) (subst (λ i. AskedAt i r.sequence r.ask) (sym g.changed.here) p.1)))
       (has_split w.messages extra (Asked j r) h)
 
-  old_sent : (j q : ℕ) (a : Ask) → AskedAt (client w j) q a → (r : Request) × Has (w.messages ++ extra) (Asked j r) × (r.ask ≡ a)
+  old_sent : (j q : ℕ) (a : Ask) → AskedAt (client w j) q a → (r : Request) × IsOneOf (w.messages ++ extra) (Asked j r) × (r.ask ≡ a)
   old_sent j q a h = let s = bag.sent j q a h in (s.0, has_left w.messages extra (Asked j s.0) s.1, s.2)
 
-  all_sent : (j q : ℕ) (a : Ask) → AskedAt (client_at clients j) q a → (r : Request) × Has (w.messages ++ extra) (Asked j r) × (r.ask ≡ a)
-  all_sent = each (λ j d. (q : ℕ) (a : Ask) → AskedAt d q a → (r : Request) × Has (w.messages ++ extra) (Asked j r) × (r.ask ≡ a)) w.clients clients k c g.changed old_sent
+  all_sent : (j q : ℕ) (a : Ask) → AskedAt (client_at clients j) q a → (r : Request) × IsOneOf (w.messages ++ extra) (Asked j r) × (r.ask ≡ a)
+  all_sent = each (λ j d. (q : ℕ) (a : Ask) → AskedAt d q a → (r : Request) × IsOneOf (w.messages ++ extra) (Asked j r) × (r.ask ≡ a)) w.clients clients k c g.changed old_sent
       (λ q a h. ⊎_elim (λ d. old_sent k q a d) (λ d. (d.0, has_right w.messages extra (Asked k d.0) d.1, d.2)) (g.asked q a h))
 
   pub keeps_client : HasBag (moved w clients (w.messages ++ extra))
@@ -108,7 +108,7 @@ module _ (w : World) (bag : HasBag w) (clients : List Client) (k : ℕ) (c : Cli
     ledger = bag.ledger;
     origin = λ j n x h. later_put w (moved w clients (w.messages ++ extra)) later_on j n x (bag.origin j n x h);
     behave = all_behave;
-    within = each (λ j d. d.crashed ≡ false → IsWithin d) w.clients clients k c g.changed bag.within g.within;
+    within = each (λ j d. d.crashed ≡ false → IsWithinLimits d) w.clients clients k c g.changed bag.within g.within;
     told = λ j a s h.
         let t = all_told j a s h in
         (kept j t.asked.0 a s t.asked.1 t.still, (t.message.0, has_left w.messages extra (Said j t.message.0) t.message.1, t.message.2));

@@ -22,7 +22,7 @@ use Rattle.repo_world.specs.Events.{Serves, Takes, Delivers, Starts, Crashes, Un
 use Rattle.repo_store.specs.Failing.{Plainly, Failing}
 use Rattle.repo_world.specs.Laws.{IsEmpty}
 use Rattle.repo_world.specs.Safe.{HasNoClash}
-use Rattle.repo_world.specs.World.{World, Message, client, Has, Asked, Said, sends, started, first_of, crashed_one}
+use Rattle.repo_world.specs.World.{World, Message, client, IsOneOf, Asked, Said, sends, started, first_of, crashed_one}
 use Rattle.repo_world.proofs.ClientLists.{changed_set, changed_end, absent_end}
 use Rattle.repo_world.proofs.Failing.{failing_step}
 use Rattle.repo_world.proofs.GoingOn.{moved, one_later}
@@ -40,7 +40,7 @@ use Rattle.repo_world.specs.declared.events.Applied.{Applied}
 -- ---- what only grows
 
 -- the clients are as they were
-same_clients : (w : World) (store : Store) (messages : List Message) → ((m : Message) → Has w.messages m → Has messages m) → Later w (served w store messages)
+same_clients : (w : World) (store : Store) (messages : List Message) → ((m : Message) → IsOneOf w.messages m → IsOneOf messages m) → Later w (served w store messages)
 same_clients w store messages more = record { grows = λ j. grows_same (client w j) (client w j) refl refl refl; messages = more }
 
 same_later : (w v : World) → v ≡ w → Later w v
@@ -153,7 +153,7 @@ module _ (w : World) (bag : HasBag w) (t : Token) (v : World) (u : Unlocks w t v
 same_bag : (w v : World) → HasBag w → v ≡ w → HasBag v
 same_bag w v bag e = subst (λ (u : World). HasBag u) (sym e) bag
 
-has_got : (xs : List Message) (i : ℕ) (x : Message) → slice_get xs i ≡ Some x → Has xs x
+has_got : (xs : List Message) (i : ℕ) (x : Message) → slice_get xs i ≡ Some x → IsOneOf xs x
 has_got [] i x h = absurd (none-some x h)
 has_got (y ∷ xs) zero x h = inl (same_Some y x h)
 has_got (y ∷ xs) (suc i) x h = inr (has_got xs i x h)
@@ -161,7 +161,7 @@ has_got (y ∷ xs) (suc i) x h = inr (has_got xs i x h)
 as_step : (How : Store → Ask → Say → Store → Type 0) → ((s : Store) (a : Ask) (z : Say) (t : Store) → How s a z t → Step s a z t) → (w : World) (k : ℕ) (request : Request) (v : World) → Serves How w k request v → Serves Step w k request v
 as_step How how w k request v h = record { reply = h.reply; store = h.store; answers = h.answers; step = how w.store request.ask h.reply.say h.store h.step; is = h.is }
 
-deliver_keeps : (How : Store → Ask → Say → Store → Type 0) → ((s : Store) (a : Ask) (z : Say) (t : Store) → How s a z t → Step s a z t) → (w v : World) → HasBag w → HasNoClash v → (o : Option Message) → ((m : Message) → o ≡ Some m → Has w.messages m) → (r : Applied) → Delivers How w o r v → HasBag v
+deliver_keeps : (How : Store → Ask → Say → Store → Type 0) → ((s : Store) (a : Ask) (z : Say) (t : Store) → How s a z t → Step s a z t) → (w v : World) → HasBag w → HasNoClash v → (o : Option Message) → ((m : Message) → o ≡ Some m → IsOneOf w.messages m) → (r : Applied) → Delivers How w o r v → HasBag v
 deliver_keeps How how w v bag clash None has r h = same_bag w v bag h.1
 deliver_keeps How how w v bag clash (Some (Asked k request)) has r h = serve_keeps w v k request bag clash (has (Asked k request) refl, as_step How how w k request v h.1)
 deliver_keeps How how w v bag clash (Some (Said k reply)) has r (inl h) = take_keeps w bag k reply v (has (Said k reply) refl) h.1

@@ -12,7 +12,7 @@ use Rattle.repo_store.specs.StoreMachine.{Step}
 use Rattle.repo_store.specs.Stores.{Store}
 use Rattle.repo_session.specs.declared.outcomes.Outcome.{Outcome}
 use Rattle.repo_session.specs.Askers.{Asker, asker}
-use Rattle.repo_session.specs.Clients.{IsNext, exchange}
+use Rattle.repo_session.specs.Clients.{IsNextRequest, exchange}
 use Rattle.repo_session.specs.Obedience.{holds_whole}
 use Rattle.repo_session.specs.Ends as ends
 use Rattle.repo_session.specs.Order.{Task, May, IsPermitted, IsUnlock, IsNoUnlock, IsWorking, Obeys, opened, locked, ticketed}
@@ -230,7 +230,7 @@ module _ (w : World) (job : Job) (host : List ℕ) (time : ℕ) (accepted : Acce
   waits : (es : Trace) (a : Ask) (o : Option Outcome) → Obeys (task_of job who) (JobAllows job) (JobGives job) es → May (task_of job who) es a → IsPermitted (JobAllows job) es a → Shows o a es → IsDutiful (talking es (Some (asked_of (length w.clients) es a)) o)
   waits es a o obeys may permitted shows = record {
     obeys = obeys;
-    pending = λ r q. subst (λ (z : Request). IsNext (task_of job who) (JobAllows job) es z) (same_Some (asked_of (length w.clients) es a) r q) (record { instance = refl; sequence = refl; may = may; permitted = permitted });
+    pending = λ r q. subst (λ (z : Request). IsNextRequest (task_of job who) (JobAllows job) es z) (same_Some (asked_of (length w.clients) es a) r q) (record { instance = refl; sequence = refl; may = may; permitted = permitted });
     settled = λ q. absurd (some_none (asked_of (length w.clients) es a) q);
     concluded = λ x q. concluded x q shows;
     released = λ q. absurd (some_none (asked_of (length w.clients) es a) q);

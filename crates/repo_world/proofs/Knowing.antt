@@ -17,7 +17,7 @@ use Rattle.repo_session.specs.Soundness.{IsHeld}
 use Rattle.repo_session.specs.Told.{Told, Seen}
 use Rattle.repo_session.specs.Traces.{Trace, Exchanged, WasAsked}
 use Rattle.repo_writing.specs.Laws.{StandAsPut}
-use Rattle.repo_world.specs.Bag.{AskedAt, HasPut, HasDeleted, IsLive, IsExclusive, IsSpent, StillSays, HasBag}
+use Rattle.repo_world.specs.Bag.{AskedAt, HasPut, HasDeleted, IsLive, IsExclusive, WasUsed, StillSays, HasBag}
 use Rattle.repo_world.specs.Clients.{task_of, JobAllows, JobGives}
 use Rattle.repo_world.specs.Safe.{IsPutBy, Took, by_put, by_reply, IsKnown, known_spoken, known_part, HasNoClash}
 use Rattle.repo_world.specs.World.{World, client}
@@ -53,11 +53,11 @@ module _ (w : World) (bag : HasBag w) where
       one_token (task_of c.job c.who) (JobAllows c.job) (JobGives c.job) c.trace u t (ruled c (bag.behave k)).obeys (within Ask.Ticket (Say.Token u) (working_took (task_of c.job c.who) u es working)) took
 
   -- which is spent
-  pub spent_working : (k : ℕ) (t u : Token) (es : Trace) → Within es (client w k).trace → IsWorking (task_of (client w k).job (client w k).who) u es → Took w k t → IsSpent w.store.tokens t
+  pub spent_working : (k : ℕ) (t u : Token) (es : Trace) → Within es (client w k).trace → IsWorking (task_of (client w k).job (client w k).who) u es → Took w k t → WasUsed w.store.tokens t
   spent_working k t u es within working took =
       let row = lock_row (task_of (client w k).job (client w k).who) u in
       let done = within (Ask.Lock row) Say.Done (working_locked (task_of (client w k).job (client w k).who) u es working) in
-      subst (λ z. IsSpent w.store.tokens z) (same_ticket k t u es within working took) ((bag.told k (Ask.Lock row) Say.Done done).0.locked row refl refl)
+      subst (λ z. WasUsed w.store.tokens z) (same_ticket k t u es within working took) ((bag.told k (Ask.Lock row) Say.Done done).0.locked row refl refl)
 
   -- who puts or deletes took its token
   pub put_took : (k q : ℕ) (t : Token) (j : Kind) (n : Name) (x : List ℕ) → AskedAt (client w k) q (Ask.Put t j n x) → Took w k t

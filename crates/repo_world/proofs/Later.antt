@@ -8,7 +8,7 @@ use Rattle.repo_session.specs.Traces.{Trace, Exchanged}
 use Rattle.repo_world.specs.Bag.{AskedAt, AskedIn, with_next, HasPut, HasDeleted}
 use Rattle.repo_world.specs.Clients.{MadeOf, Client}
 use Rattle.repo_world.specs.Safe.{IsPutBy, IsAsked, IsSpoken, by_put, by_reply, IsKnown, known_spoken, known_part, known_made, HasNoClash}
-use Rattle.repo_world.specs.World.{World, client, Message, Has, Asked, Said}
+use Rattle.repo_world.specs.World.{World, client, Message, IsOneOf, Asked, Said}
 use Rattle.repo_world.proofs.Sending.{Within}
 use Rattle.repo_world.specs.declared.jobs.Job.{Job}
 
@@ -21,7 +21,7 @@ pub record Grows (c d : Client) : Type 0 where
 -- a world that has gone on
 pub record Later (w v : World) : Type 0 where
   pub grows : (k : ℕ) → Grows (client w k) (client v k)
-  pub messages : (m : Message) → Has w.messages m → Has v.messages m
+  pub messages : (m : Message) → IsOneOf w.messages m → IsOneOf v.messages m
 
 -- what was made of what was handed is made of it as the trace grows
 pub made_more : (b : Job) (es fs : Trace) → Within es fs → (x : List ℕ) → MadeOf b es x → MadeOf b fs x
@@ -75,16 +75,16 @@ later_known w v l x (known_made k made) = known_made k ((l.grows k).made x made)
 pub no_clash_before : (w v : World) → Later w v → HasNoClash v → HasNoClash w
 no_clash_before w v l h x y a b e = h x y (later_known w v l x a) (later_known w v l y b) e
 
-pub has_left : {A : Type 0} (xs ys : List A) (x : A) → Has xs x → Has (xs ++ ys) x
+pub has_left : {A : Type 0} (xs ys : List A) (x : A) → IsOneOf xs x → IsOneOf (xs ++ ys) x
 has_left [] ys x h = absurd h
 has_left (y ∷ xs) ys x (inl h) = inl h
 has_left (y ∷ xs) ys x (inr h) = inr (has_left xs ys x h)
 
-pub has_right : {A : Type 0} (xs ys : List A) (x : A) → Has ys x → Has (xs ++ ys) x
+pub has_right : {A : Type 0} (xs ys : List A) (x : A) → IsOneOf ys x → IsOneOf (xs ++ ys) x
 has_right [] ys x h = h
 has_right (y ∷ xs) ys x h = inr (has_right xs ys x h)
 
-pub has_split : {A : Type 0} (xs ys : List A) (x : A) → Has (xs ++ ys) x → Has xs x ⊎ Has ys x
+pub has_split : {A : Type 0} (xs ys : List A) (x : A) → IsOneOf (xs ++ ys) x → IsOneOf xs x ⊎ IsOneOf ys x
 has_split [] ys x h = inr h
 has_split (y ∷ xs) ys x (inl h) = inl (inl h)
 has_split (y ∷ xs) ys x (inr h) = ⊎_elim (λ g. inl (inr g)) inr (has_split xs ys x h)

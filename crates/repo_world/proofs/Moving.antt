@@ -12,14 +12,14 @@ use Rattle.repo_locks.proofs.LawfulSteps as lawful
 use Rattle.repo_locks.proofs.Numbers as numbers
 use Rattle.repo_store.specs.StoreMachine.{Step, Answers}
 use Rattle.repo_store.specs.Stores.{Store, Objects, Added, Removed, SavesTokens}
-use Rattle.repo_world.specs.Bag.{IsSpent, IsLawfulAsk}
+use Rattle.repo_world.specs.Bag.{WasUsed, IsLawfulAsk}
 
 -- what a step does to the tokens: a spent number is live after it only as it was before
 pub record TokensMove (old new : Tokens) : Type 0 where
   pub ok : IsLedger new
   pub next : old.next ≤ new.next
-  pub spent : (t : Token) → IsSpent old t → IsSpent new t
-  pub live : (t : Token) (e : Bool) → IsSpent old t → live_as new t ≡ Some e → live_as old t ≡ Some e
+  pub spent : (t : Token) → WasUsed old t → WasUsed new t
+  pub live : (t : Token) (e : Bool) → WasUsed old t → live_as new t ≡ Some e → live_as old t ≡ Some e
 
 -- and to the objects
 pub data ObjectsMove (l : Tokens) (old : Objects) (ask : Ask) (new : Objects) : Type 0 where

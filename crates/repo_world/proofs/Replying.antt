@@ -8,7 +8,7 @@ use Rattle.repo_locks.specs.declared.outcomes.LockError.{LockError}
 use Rattle.repo_locks.specs.Lawful.{IsLedger}
 use Rattle.repo_locks.proofs.Ascending.{kind_beyond}
 use Rattle.repo_locks.proofs.Numbers.{locked_live}
-use Rattle.repo_world.specs.Bag.{IsSpent}
+use Rattle.repo_world.specs.Bag.{WasUsed}
 use Rattle.repo_world.proofs.Moving.{bool_false}
 use Rattle.repo_name.specs.declared.kinds.Kind.{Kind}
 use Rattle.repo_name.specs.declared.names.Name.{Name}
@@ -74,7 +74,7 @@ ticket_told old t new (Err TicketError.Exhausted) tokens step says same = absurd
 ticket_told old t new (Err TicketError.Memory) tokens step says same = absurd says
 
 -- a live number is spent
-pub live_spent : (l : Tokens) (t : Token) (e : Bool) → IsLedger l → live_as l t ≡ Some e → IsSpent l t
+pub live_spent : (l : Tokens) (t : Token) (e : Bool) → IsLedger l → live_as l t ≡ Some e → WasUsed l t
 live_spent l t e ok h = record {
   issued = ⊎_elim (λ lt. lt) (λ beyond. absurd (none-some e (sym (kind_beyond 0 l.next l.live t ok.live beyond) ∙ h))) (cases_lt t.0 l.next);
   unfresh = bool_false (is_fresh l t) (λ f. none-some e (sym (ok.apart t f) ∙ h));
@@ -88,7 +88,7 @@ lock_said old tokens t e time host (Err LockError.Busy) step says = absurd (no_d
 lock_said old tokens t e time host (Err LockError.Full) step says = absurd (no_done Say.Done refl Code.Full says)
 lock_said old tokens t e time host (Err LockError.Memory) step says = absurd says
 
-pub lock_told : (old : Store) (row : LockRow) (new : Store) → IsLedger new.tokens → Step old (Ask.Lock row) Say.Done new → IsSpent new.tokens row.token
+pub lock_told : (old : Store) (row : LockRow) (new : Store) → IsLedger new.tokens → Step old (Ask.Lock row) Say.Done new → WasUsed new.tokens row.token
 lock_told old row new ok s =
     let a = answered old (Ask.Lock row) Say.Done new (no_done Say.Done refl) s in
     let live = lock_said old.tokens a.tokens row.token row.exclusive row.time row.host a.result a.step a.says in

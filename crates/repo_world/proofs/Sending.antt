@@ -9,7 +9,7 @@ use Rattle.repo_wire.specs.declared.messages.Request.{Request}
 use Rattle.repo_wire.specs.declared.messages.Say.{Say}
 use Rattle.repo_session.specs.declared.outcomes.Outcome.{Outcome}
 use Rattle.repo_session.specs.Askers.{Asker}
-use Rattle.repo_session.specs.Clients.{IsNext}
+use Rattle.repo_session.specs.Clients.{IsNextRequest}
 use Rattle.repo_session.specs.Deletions.{NoneDeleted}
 use Rattle.repo_session.specs.Ends as ends
 use Rattle.repo_session.specs.Order.{Task, May, IsPermitted, Obeys, IsWorking, opened, lock_row}
@@ -87,7 +87,7 @@ one_token task JobAllows JobGives (e ∷ es) t u o (inr x) (inr y) = one_token t
 -- what the rule of a job says of a client
 pub record IsRuled (b : Job) (c : Client) : Type 0 where
   pub obeys : Obeys (task_of b c.who) (JobAllows b) (JobGives b) c.trace
-  pub pending : (r : Request) → c.next ≡ Some r → IsNext (task_of b c.who) (JobAllows b) c.trace r
+  pub pending : (r : Request) → c.next ≡ Some r → IsNextRequest (task_of b c.who) (JobAllows b) c.trace r
   pub concluded : (o : Outcome) → c.outcome ≡ Some o → ends.Concludes (JobConcludes b) (ends.before_unlock c.trace) o
 
 nobody_ruled : IsRuled nobody.job nobody
@@ -122,7 +122,7 @@ module _ (b : Job) (who : Asker) where
       let g = sending_in es q a o.3 h in
       record { older = g.older; within = λ c s x. inr (g.within c s x); obeys = g.obeys; may = g.may; permitted = g.permitted }
 
-  sending_next : (next : Option Request) (es : Trace) (q : ℕ) (a : Ask) → Obeys (task_of b who) (JobAllows b) (JobGives b) es → ((r : Request) → next ≡ Some r → IsNext (task_of b who) (JobAllows b) es r) → AskedIn (with_next next es) q a → Sending b who es a
+  sending_next : (next : Option Request) (es : Trace) (q : ℕ) (a : Ask) → Obeys (task_of b who) (JobAllows b) (JobGives b) es → ((r : Request) → next ≡ Some r → IsNextRequest (task_of b who) (JobAllows b) es r) → AskedIn (with_next next es) q a → Sending b who es a
   sending_next None es q a o m h = sending_in es q a o h
   sending_next (Some r) es q a o m (inl h) = record {
     older = es;
@@ -189,7 +189,7 @@ module _ (who : Asker) where
         before = λ q u j n x. ⊎_elim (λ f. absurd (late_put es d.ask p t i m u j n x o.1 h f.0)) (g.before q u j n x);
       }
 
-  deleting_next : (next : Option Request) (es : Trace) (p : ℕ) (t : Token) (i : Kind) (m : Name) → Obeys (task_of Job.Prune who) (JobAllows Job.Prune) (JobGives Job.Prune) es → ((r : Request) → next ≡ Some r → IsNext (task_of Job.Prune who) (JobAllows Job.Prune) es r) → AskedIn (with_next next es) p (Ask.Delete t i m)
+  deleting_next : (next : Option Request) (es : Trace) (p : ℕ) (t : Token) (i : Kind) (m : Name) → Obeys (task_of Job.Prune who) (JobAllows Job.Prune) (JobGives Job.Prune) es → ((r : Request) → next ≡ Some r → IsNextRequest (task_of Job.Prune who) (JobAllows Job.Prune) es r) → AskedIn (with_next next es) p (Ask.Delete t i m)
       → Deleting who es (with_next next es) t i m
   deleting_next None es p t i m o may h = deleting_in es p t i m o h
   deleting_next (Some r) es p t i m o may (inl h) =

@@ -9,7 +9,7 @@ use Rattle.repo_wire.specs.declared.messages.Request.{Request}
 use Rattle.repo_wire.specs.declared.messages.Say.{Say}
 use Rattle.repo_store.specs.StoreMachine.{Step}
 use Rattle.repo_store.specs.Stores.{Store, Objects}
-use Rattle.repo_world.specs.World.{World, client, Has, Asked, Said}
+use Rattle.repo_world.specs.World.{World, client, IsOneOf, Asked, Said}
 use Rattle.repo_world.specs.Safe.{IsPutBy, HasNoClash}
 use Rattle.repo_world.specs.Bag.{AskedAt, StillSays, HasBag}
 use Rattle.repo_world.proofs.Later.{Later, grows_same, later_put, has_left, has_split}
@@ -19,7 +19,7 @@ use Rattle.repo_world.proofs.Moving.{StoreMoves, step_moves, ObjectsMove}
 use Rattle.repo_world.proofs.Replying.{token_told}
 use Rattle.repo_world.proofs.Sending.{sent_as_asked}
 
-module _ (w : World) (bag : HasBag w) (clash : HasNoClash w) (k : ℕ) (request : Request) (m : Has w.messages (Asked k request)) (reply : Reply) (store : Store) (instance : reply.instance ≡ request.instance) (sequence : reply.sequence ≡ request.sequence) (step : Step w.store request.ask reply.say store) where
+module _ (w : World) (bag : HasBag w) (clash : HasNoClash w) (k : ℕ) (request : Request) (m : IsOneOf w.messages (Asked k request)) (reply : Reply) (store : Store) (instance : reply.instance ≡ request.instance) (sequence : reply.sequence ≡ request.sequence) (step : Step w.store request.ask reply.say store) where
   pub later : Later w (served w store (w.messages ++ Said k reply ∷ []))
   later = record { grows = λ j. grows_same (client w j) (client w j) refl refl refl; messages = λ x h. has_left w.messages (Said k reply ∷ []) x h }
 
@@ -38,10 +38,10 @@ module _ (w : World) (bag : HasBag w) (clash : HasNoClash w) (k : ℕ) (request 
   fresh : StillSays (served w store (w.messages ++ Said k reply ∷ [])) k request.ask reply.say
   fresh = says_now w bag store (w.messages ++ Said k reply ∷ []) later moves.tokens.ok k request.ask reply.say step
 
-  old_asked : (j : ℕ) (r : Request) → Has (w.messages ++ Said k reply ∷ []) (Asked j r) → Has w.messages (Asked j r)
+  old_asked : (j : ℕ) (r : Request) → IsOneOf (w.messages ++ Said k reply ∷ []) (Asked j r) → IsOneOf w.messages (Asked j r)
   old_asked j r h = ⊎_elim (λ g. g) (λ g. ⊎_elim (λ (e : Said k reply ≡ Asked j r). absurd (cc)) (λ g. absurd g) g) (has_split w.messages (Said k reply ∷ []) (Asked j r) h)
 
-  said : (j : ℕ) (r : Reply) → Has (w.messages ++ Said k reply ∷ []) (Said j r) → Has w.messages (Said j r) ⊎ ((k ≡ j) × (reply ≡ r))
+  said : (j : ℕ) (r : Reply) → IsOneOf (w.messages ++ Said k reply ∷ []) (Said j r) → IsOneOf w.messages (Said j r) ⊎ ((k ≡ j) × (reply ≡ r))
   said j r h = ⊎_elim inl (λ g. ⊎_elim (λ (e : Said k reply ≡ Said j r). let a : k ≡ j = cc in let b : reply ≡ r = cc in inr (a, b)) (λ g. absurd g) g) (has_split w.messages (Said k reply ∷ []) (Said j r) h)
 
   new_token : (t : Token) → reply.say ≡ Say.Token t → (t.0 ≡ w.store.tokens.next) × (store.tokens.next ≡ w.store.tokens.next + 1)

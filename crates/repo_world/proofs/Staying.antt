@@ -10,9 +10,9 @@ use Rattle.repo_wire.specs.declared.messages.Say.{Say}
 use Rattle.repo_locks.specs.TokenMachine.{live_as}
 use Rattle.repo_locks.proofs.Numbers.{exclusive_alone}
 use Rattle.repo_store.specs.Stores.{Store, Objects}
-use Rattle.repo_world.specs.World.{World, client, Message, Has, Asked}
+use Rattle.repo_world.specs.World.{World, client, Message, IsOneOf, Asked}
 use Rattle.repo_world.specs.Safe.{IsAsked, Took}
-use Rattle.repo_world.specs.Bag.{AskedAt, HasPut, HasDeleted, IsLive, IsExclusive, IsSpent, StillSays, HasBag}
+use Rattle.repo_world.specs.Bag.{AskedAt, HasPut, HasDeleted, IsLive, IsExclusive, WasUsed, StillSays, HasBag}
 use Rattle.repo_world.proofs.Later.{Later, later_put, later_asked, later_has_put, later_has_deleted}
 use Rattle.repo_world.proofs.Moving.{TokensMove, ObjectsMove}
 use Rattle.repo_world.proofs.Replying.{put_told, delete_told, get_told, list_told, lock_told}
@@ -22,7 +22,7 @@ use Rattle.repo_world.proofs.Knowing.{sent_now, owner_of, spent_working, put_too
 
 -- what may become of the objects of a world
 abbrev pub Move : World → Objects → Type 0
-Move w O = (O ≡ w.store.objects) ⊎ ((k : ℕ) × (request : Request) × Has w.messages (Asked k request) × ObjectsMove w.store.tokens w.store.objects request.ask O)
+Move w O = (O ≡ w.store.objects) ⊎ ((k : ℕ) × (request : Request) × IsOneOf w.messages (Asked k request) × ObjectsMove w.store.tokens w.store.objects request.ask O)
 
 -- a world after the store's step: the clients are as they were
 abbrev pub served : World → Store → List Message → World
@@ -33,16 +33,16 @@ some_of None h = absurd (h refl)
 some_of (Some e) h = (e, refl)
 
 module _ (w : World) (bag : HasBag w) where
-  get_spent : (k q : ℕ) (t : Token) (a : Ask) (j : Kind) (n : Name) → AskedAt (client w k) q a → a ≡ Ask.Get j n → Took w k t → IsSpent w.store.tokens t
+  get_spent : (k q : ℕ) (t : Token) (a : Ask) (j : Kind) (n : Name) → AskedAt (client w k) q a → a ≡ Ask.Get j n → Took w k t → WasUsed w.store.tokens t
   get_spent k q t a j n h e took = let s = sent_now w bag k q (Ask.Get j n) (subst (λ b. AskedAt (client w k) q b) e h) in spent_working w bag k t s.may.0.0 s.older s.within s.may.0.1 took
 
-  list_spent : (k q : ℕ) (t : Token) (a : Ask) (j : Kind) (n : Option Name) → AskedAt (client w k) q a → a ≡ Ask.List j n → Took w k t → IsSpent w.store.tokens t
+  list_spent : (k q : ℕ) (t : Token) (a : Ask) (j : Kind) (n : Option Name) → AskedAt (client w k) q a → a ≡ Ask.List j n → Took w k t → WasUsed w.store.tokens t
   list_spent k q t a j n h e took = let s = sent_now w bag k q (Ask.List j n) (subst (λ b. AskedAt (client w k) q b) e h) in spent_working w bag k t s.may.0.0 s.older s.within s.may.0.1 took
 
-  put_spent : (k q : ℕ) (t : Token) (a : Ask) (u : Token) (j : Kind) (n : Name) (x : List ℕ) → AskedAt (client w k) q a → a ≡ Ask.Put u j n x → Took w k t → IsSpent w.store.tokens t
+  put_spent : (k q : ℕ) (t : Token) (a : Ask) (u : Token) (j : Kind) (n : Name) (x : List ℕ) → AskedAt (client w k) q a → a ≡ Ask.Put u j n x → Took w k t → WasUsed w.store.tokens t
   put_spent k q t a u j n x h e took = let s = sent_now w bag k q (Ask.Put u j n x) (subst (λ b. AskedAt (client w k) q b) e h) in spent_working w bag k t u s.older s.within s.may.0 took
 
-  delete_spent : (k q : ℕ) (t : Token) (a : Ask) (u : Token) (j : Kind) (n : Name) → AskedAt (client w k) q a → a ≡ Ask.Delete u j n → Took w k t → IsSpent w.store.tokens t
+  delete_spent : (k q : ℕ) (t : Token) (a : Ask) (u : Token) (j : Kind) (n : Name) → AskedAt (client w k) q a → a ≡ Ask.Delete u j n → Took w k t → WasUsed w.store.tokens t
   delete_spent k q t a u j n h e took = let s = sent_now w bag k q (Ask.Delete u j n) (subst (λ b. AskedAt (client w k) q b) e h) in spent_working w bag k t u s.older s.within s.may.0 took
 
   -- beside a live exclusive token only its client's puts apply
@@ -104,10 +104,10 @@ module _ (w : World) (bag : HasBag w) where
         ⊎_elim (λ g. ⊎_elim inl (λ f. inr (⊎_elim (λ c. inl (later_has_put w (served w store messages) later k j n c)) inr f)) (h.paged j b more names e d t took alone n y g above)) (λ g. inr (inl (later_has_put w (served w store messages) later k j n g))) (gained store.objects move k t j n y took alone here);
   }
     where
-      before : (t : Token) → IsSpent w.store.tokens t → live_as store.tokens t ≢ None → live_as w.store.tokens t ≢ None
+      before : (t : Token) → WasUsed w.store.tokens t → live_as store.tokens t ≢ None → live_as w.store.tokens t ≢ None
       before t spent live none = let e = some_of (live_as store.tokens t) live in absurd (none-some e.0 (sym none ∙ tokens.live t e.0 spent e.1))
 
-      kept : (j : Kind) (n : Name) (x : List ℕ) (t : Token) → Took w k t → IsSpent w.store.tokens t → live_as store.tokens t ≢ None → w.store.objects j n ≡ Some x → HasDeleted (served w store messages) k j n ⊎ (store.objects j n ≡ Some x)
+      kept : (j : Kind) (n : Name) (x : List ℕ) (t : Token) → Took w k t → WasUsed w.store.tokens t → live_as store.tokens t ≢ None → w.store.objects j n ≡ Some x → HasDeleted (served w store messages) k j n ⊎ (store.objects j n ≡ Some x)
       kept j n x t took spent live here = ⊎_elim (λ g. inl (later_has_deleted w (served w store messages) later k j n g)) inr (lost store.objects move k t j n x took (before t spent live) here)
 
   -- a reply has its word at its moment

@@ -8,14 +8,14 @@ use Rattle.repo_wire.specs.declared.messages.Reply.{Reply}
 use Rattle.repo_wire.specs.declared.messages.Request.{Request}
 use Rattle.repo_wire.specs.declared.messages.Say.{Say}
 use Rattle.repo_session.specs.Askers.{Asker}
-use Rattle.repo_session.specs.Clients.{exchange, IsNext}
+use Rattle.repo_session.specs.Clients.{exchange, IsNextRequest}
 use Rattle.repo_session.specs.Order.{May}
 use Rattle.repo_session.specs.Traces.{Trace, Exchanged}
-use Rattle.repo_world.specs.Bag.{AskedIn, AskedAt, with_next, StillSays, IsLawfulAsk, IsWithin, HasBag}
+use Rattle.repo_world.specs.Bag.{AskedIn, AskedAt, with_next, StillSays, IsLawfulAsk, IsWithinLimits, HasBag}
 use Rattle.repo_world.specs.Clients.{task_of, JobAllows, Client, IsDutiful}
 use Rattle.repo_world.specs.Events.{Takes, Starts, Crashes}
 use Rattle.repo_world.specs.Laws.{Behaves}
-use Rattle.repo_world.specs.World.{World, Asked, Said, client, nobody, Has, sends, first_of, started, crashed_one}
+use Rattle.repo_world.specs.World.{World, Asked, Said, client, nobody, IsOneOf, sends, first_of, started, crashed_one}
 use Rattle.repo_world.proofs.ClientLists.{changed_set, changed_end, absent_end}
 use Rattle.repo_world.proofs.GoingOn.{moved, IsTold, GoesOn, old_told, keeps_client}
 use Rattle.repo_world.proofs.Later.{Grows, grows_with, grows_same}
@@ -46,17 +46,17 @@ taken_on None r es fs q a p here old h = absurd (none-some r p)
 taken_on (Some x) r es fs q a p here old (inl h) = here a q (ap (λ (z : Request). z.ask) (sym (same_Some x r p)) ∙ h.0) h.1
 taken_on (Some x) r es fs q a p here old (inr h) = old h
 
-split_next : (k : ℕ) (p : Option Request) (es : Trace) (q : ℕ) (a : Ask) → AskedIn (with_next p es) q a → AskedIn es q a ⊎ ((r : Request) × Has (sends k p) (Asked k r) × (r.ask ≡ a))
+split_next : (k : ℕ) (p : Option Request) (es : Trace) (q : ℕ) (a : Ask) → AskedIn (with_next p es) q a → AskedIn es q a ⊎ ((r : Request) × IsOneOf (sends k p) (Asked k r) × (r.ask ≡ a))
 split_next k None es q a h = inl h
 split_next k (Some x) es q a (inl h) = inr (x, inl refl, h.0)
 split_next k (Some x) es q a (inr h) = inl h
 
-sends_is : (k : ℕ) (p : Option Request) (j : ℕ) (r : Request) → Has (sends k p) (Asked j r) → (j ≡ k) × (p ≡ Some r)
+sends_is : (k : ℕ) (p : Option Request) (j : ℕ) (r : Request) → IsOneOf (sends k p) (Asked j r) → (j ≡ k) × (p ≡ Some r)
 sends_is k None j r h = absurd h
 sends_is k (Some x) j r (inl h) = let a : k ≡ j = cc in let b : x ≡ r = cc in (sym a, ap Some b)
 sends_is k (Some x) j r (inr h) = absurd h
 
-sends_no_reply : (k : ℕ) (p : Option Request) (j : ℕ) (r : Reply) → Has (sends k p) (Said j r) → ⊥
+sends_no_reply : (k : ℕ) (p : Option Request) (j : ℕ) (r : Reply) → IsOneOf (sends k p) (Said j r) → ⊥
 sends_no_reply k None j r h = h
 sends_no_reply k (Some x) j r (inl h) = absurd (cc)
 sends_no_reply k (Some x) j r (inr h) = h
@@ -82,8 +82,8 @@ takes_grows w k reply v t = grows_with (client w k) t.new t.job
     (λ a s h. subst (λ es. Exchanged es a s) (sym t.trace) (inr h))
     (λ q a h. trace_asked t.new.next t.new.trace q a (subst (λ es. AskedIn es q a) (sym t.trace) (taken_on (client w k).next t.request (client w k).trace (exchange t.request reply t.emitted ∷ (client w k).trace) q a t.pending (λ z n e d. inl (e, d)) (λ g. inr g) h)))
 
-module _ (w : World) (bag : HasBag w) (k : ℕ) (reply : Reply) (v : World) (m : Has w.messages (Said k reply)) (t : Takes w k reply v) where
-  now : IsNext (task_of (client w k).job (client w k).who) (JobAllows (client w k).job) (client w k).trace t.request
+module _ (w : World) (bag : HasBag w) (k : ℕ) (reply : Reply) (v : World) (m : IsOneOf w.messages (Said k reply)) (t : Takes w k reply v) where
+  now : IsNextRequest (task_of (client w k).job (client w k).who) (JobAllows (client w k).job) (client w k).trace t.request
   now = (ruled (client w k) (bag.behave k)).pending t.request t.pending
 
   here : AskedAt (client w k) reply.sequence t.request.ask
@@ -101,8 +101,8 @@ module _ (w : World) (bag : HasBag w) (k : ℕ) (reply : Reply) (v : World) (m :
   told a s (inl h) = subst (λ b. IsTold w k b s) h.0 (subst (λ z. IsTold w k t.request.ask z) h.1 (record { still = still; message = (reply, m, refl); asked = (reply.sequence, here) }))
   told a s (inr h) = old_told w bag k a s h
 
-  within_new : IsWithin t.new
-  within_new = subst (λ (a : Asker). IsWithin (record { job = t.new.job; who = a; trace = []; next = None; outcome = None; crashed = false })) (sym t.who) (bag.within k t.running)
+  within_new : IsWithinLimits t.new
+  within_new = subst (λ (a : Asker). IsWithinLimits (record { job = t.new.job; who = a; trace = []; next = None; outcome = None; crashed = false })) (sym t.who) (bag.within k t.running)
 
   lawful_lock : (row : LockRow) (r : Request) → t.new.next ≡ Some r → r.ask ≡ Ask.Lock row → IsLawfulAsk (Ask.Lock row)
   lawful_lock row r p q =
@@ -165,7 +165,7 @@ some_none r e = absurd (cc)
 pub started_dutiful : (k : ℕ) (job : Job) (host : List ℕ) (time : ℕ) → IsDutiful (started k job host time)
 started_dutiful k job host time = record {
   obeys = tt;
-  pending = λ r h. subst (λ (q : Request). IsNext (task_of job (started k job host time).who) (JobAllows job) [] q) (same_Some (first_of k) r h) (record { instance = refl; sequence = refl; may = refl; permitted = λ work. absurd work });
+  pending = λ r h. subst (λ (q : Request). IsNextRequest (task_of job (started k job host time).who) (JobAllows job) [] q) (same_Some (first_of k) r h) (record { instance = refl; sequence = refl; may = refl; permitted = λ work. absurd work });
   settled = λ e. absurd (some_none (first_of k) e);
   concluded = λ o e. absurd (none-some o e);
   released = λ e. absurd (some_none (first_of k) e);
@@ -177,11 +177,11 @@ pub started_grows : (c : Client) → c ≡ nobody → (k : ℕ) (job : Job) (hos
 started_grows c e k job host time = subst (λ d. Grows d (started k job host time)) (sym e) (record { trace = λ a s h. absurd h; asked = λ q a h. absurd h; made = λ x h. absurd h })
 
 -- the only message that joins
-only_first : (k j : ℕ) (r : Request) → Has (Asked k (first_of k) ∷ []) (Asked j r) → (k ≡ j) × (first_of k ≡ r)
+only_first : (k j : ℕ) (r : Request) → IsOneOf (Asked k (first_of k) ∷ []) (Asked j r) → (k ≡ j) × (first_of k ≡ r)
 only_first k j r (inl e) = let a : k ≡ j = cc in let b : first_of k ≡ r = cc in (a, b)
 only_first k j r (inr h) = absurd h
 
-no_said : (k j : ℕ) (r : Reply) → Has (Asked k (first_of k) ∷ []) (Said j r) → ⊥
+no_said : (k j : ℕ) (r : Reply) → IsOneOf (Asked k (first_of k) ∷ []) (Said j r) → ⊥
 no_said k j r (inl e) = absurd (cc)
 no_said k j r (inr h) = h
 

@@ -37,7 +37,7 @@ use Rattle.repo_store.specs.Stores.{Store, Objects}
 use Rattle.repo_session.specs.Askers.{asker}
 use Rattle.repo_session.specs.Catalogs.{AreIndexed}
 use Rattle.repo_session.specs.Ends as ends
-use Rattle.repo_session.specs.Listings.{IsListing}
+use Rattle.repo_session.specs.Listings.{IsSnapshotListing}
 use Rattle.repo_session.specs.Order.{Task, IsWorking, Obeys, opened, lock_row}
 use Rattle.repo_session.specs.Received.{Received}
 use Rattle.repo_session.specs.Traces.{Trace, Exchanged, WasAsked, Object, ReadFact, silent}
@@ -297,7 +297,7 @@ module _ (host : List ℕ) (time : ℕ) (config pack index snapshot : List ℕ) 
     abbrev rows : List Row
     rows = (ns, snapshot_of host time) ∷ []
 
-    listing : IsListing t7 rows
+    listing : IsSnapshotListing t7 rows
     listing = record {
       listed = record { complete = refl; rise = record { ascend = (tt, tt); moves = no_page Kind.Snapshot } };
       names = refl;

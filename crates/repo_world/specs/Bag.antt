@@ -19,7 +19,7 @@ use Rattle.repo_session.specs.Traces.{Trace, Exchanged, silent}
 use Rattle.repo_world.specs.Clients.{Client}
 use Rattle.repo_world.specs.Laws.{AllBehave}
 use Rattle.repo_world.specs.Safe.{IsPutBy, IsThereOrAsked, Took}
-use Rattle.repo_world.specs.World.{World, client, Has, Asked, Said}
+use Rattle.repo_world.specs.World.{World, client, IsOneOf, Asked, Said}
 
 -- ---- what a client sent
 
@@ -46,8 +46,8 @@ abbrev pub HasDeleted : World → ℕ → Kind → Name → Type 0
 HasDeleted w k j n = (q : ℕ) × (token : Token) × AskedAt (client w k) q (Ask.Delete token j n)
 
 -- the client's host and time are within their limits
-abbrev pub IsWithin : Client → Type 0
-IsWithin c = (c.who.time < 2 ^ 64) × IsHost c.who.host
+abbrev pub IsWithinLimits : Client → Type 0
+IsWithinLimits c = (c.who.time < 2 ^ 64) × IsHost c.who.host
 
 -- the numbers of a lock, or of a refresh, are within their limits
 abbrev pub IsLawfulAsk : Ask → Type 0
@@ -66,7 +66,7 @@ abbrev pub IsExclusive : World → Token → Type 0
 IsExclusive w t = live_as w.store.tokens t ≡ Some true
 
 -- it was issued, and isn't fresh any more: it is live, or dead for good
-pub record IsSpent (l : Tokens) (t : Token) : Type 0 where
+pub record WasUsed (l : Tokens) (t : Token) : Type 0 where
   pub issued : t.0 < l.next
   pub unfresh : is_fresh l t ≡ false
 
@@ -75,7 +75,7 @@ pub record IsSpent (l : Tokens) (t : Token) : Type 0 where
 -- what a reply to client k still says of the store, taken or not, however old it is:
 pub record StillSays (w : World) (k : ℕ) (ask : Ask) (say : Say) : Type 0 where
   -- a token that was granted is live, or dead for good
-  pub locked : (row : LockRow) → ask ≡ Ask.Lock row → say ≡ Say.Done → IsSpent w.store.tokens row.token
+  pub locked : (row : LockRow) → ask ≡ Ask.Lock row → say ≡ Say.Done → WasUsed w.store.tokens row.token
   -- what was got was put
   pub got_put : (j : Kind) (n : Name) (x : List ℕ) → ask ≡ Ask.Get j n → say ≡ Say.Bytes x → IsPutBy w j n x
   -- while the client's token is live, what was got is there, but for the client's own deletes
@@ -101,13 +101,13 @@ pub record HasBag (w : World) : Type 0 where
   pub origin : (j : Kind) (n : Name) (x : List ℕ) → w.store.objects j n ≡ Some x → IsPutBy w j n x
   -- the clients: each behaves, and what it was told is a message, and is still so
   pub behave : AllBehave w
-  pub within : (k : ℕ) → (client w k).crashed ≡ false → IsWithin (client w k)
-  pub told : (k : ℕ) (ask : Ask) (say : Say) → Exchanged (client w k).trace ask say → StillSays w k ask say × ((reply : Reply) × Has w.messages (Said k reply) × (reply.say ≡ say))
+  pub within : (k : ℕ) → (client w k).crashed ≡ false → IsWithinLimits (client w k)
+  pub told : (k : ℕ) (ask : Ask) (say : Say) → Exchanged (client w k).trace ask say → StillSays w k ask say × ((reply : Reply) × IsOneOf w.messages (Said k reply) × (reply.say ≡ say))
   -- the messages: requests are just those that clients sent, and a reply is to one of them, and is still so
-  pub asked : (k : ℕ) (request : Request) → Has w.messages (Asked k request) → AskedAt (client w k) request.sequence request.ask
-  pub sent : (k q : ℕ) (a : Ask) → AskedAt (client w k) q a → (request : Request) × Has w.messages (Asked k request) × (request.ask ≡ a)
-  pub lawful : (k : ℕ) (request : Request) → Has w.messages (Asked k request) → IsLawfulAsk request.ask
-  pub replied : (k : ℕ) (reply : Reply) → Has w.messages (Said k reply) → (a : Ask) × AskedAt (client w k) reply.sequence a × StillSays w k a reply.say
+  pub asked : (k : ℕ) (request : Request) → IsOneOf w.messages (Asked k request) → AskedAt (client w k) request.sequence request.ask
+  pub sent : (k q : ℕ) (a : Ask) → AskedAt (client w k) q a → (request : Request) × IsOneOf w.messages (Asked k request) × (request.ask ≡ a)
+  pub lawful : (k : ℕ) (request : Request) → IsOneOf w.messages (Asked k request) → IsLawfulAsk request.ask
+  pub replied : (k : ℕ) (reply : Reply) → IsOneOf w.messages (Said k reply) → (a : Ask) × AskedAt (client w k) reply.sequence a × StillSays w k a reply.say
   -- the tickets: each number was given to one client alone
-  pub issued : (k : ℕ) (reply : Reply) (t : Token) → Has w.messages (Said k reply) → reply.say ≡ Say.Token t → t.0 < w.store.tokens.next
-  pub owner : (k j : ℕ) (reply other : Reply) (t : Token) → Has w.messages (Said k reply) → Has w.messages (Said j other) → reply.say ≡ Say.Token t → other.say ≡ Say.Token t → k ≡ j
+  pub issued : (k : ℕ) (reply : Reply) (t : Token) → IsOneOf w.messages (Said k reply) → reply.say ≡ Say.Token t → t.0 < w.store.tokens.next
+  pub owner : (k j : ℕ) (reply other : Reply) (t : Token) → IsOneOf w.messages (Said k reply) → IsOneOf w.messages (Said j other) → reply.say ≡ Say.Token t → other.say ≡ Say.Token t → k ≡ j

@@ -12,7 +12,7 @@ use Rattle.repo_world.specs.Bag.{IsLive, IsExclusive, HasBag}
 use Rattle.repo_world.specs.Events.{Happens, Serves, Takes, Starts, Crashes, Unlocks}
 use Rattle.repo_world.specs.Laws.{IsEmpty}
 use Rattle.repo_world.specs.Safe.{HandedIsOne, HasNoClash, IsSafe}
-use Rattle.repo_world.specs.World.{World, Has, Asked, Said, beginning}
+use Rattle.repo_world.specs.World.{World, IsOneOf, Asked, Said, beginning}
 use Rattle.repo_world.specs.declared.jobs.Job.{Job}
 use Rattle.repo_world.specs.declared.events.Event.{Event}
 use Rattle.repo_world.specs.declared.events.Applied.{Applied}
@@ -23,7 +23,7 @@ BeginningHasBag = (store : Store) → IsEmpty store → HasBag (beginning store)
 
 -- a request among the messages is delivered, and the store makes a step
 abbrev pub IsServed : World → ℕ → Request → World → Type 0
-IsServed w k request v = Has w.messages (Asked k request) × Serves Step w k request v
+IsServed w k request v = IsOneOf w.messages (Asked k request) × Serves Step w k request v
 
 -- ---- requests that may change objects
 
@@ -78,7 +78,7 @@ LocksKeepBag = (w v : World) (k : ℕ) (request : Request) → HasBag w → HasN
 
 -- a reply among the messages is taken
 abbrev pub RepliesKeepBag : Type 0
-RepliesKeepBag = (w v : World) (k : ℕ) (reply : Reply) → HasBag w → Has w.messages (Said k reply) → Takes w k reply v → HasBag v
+RepliesKeepBag = (w v : World) (k : ℕ) (reply : Reply) → HasBag w → IsOneOf w.messages (Said k reply) → Takes w k reply v → HasBag v
 
 -- a client starts
 abbrev pub StartsKeepBag : Type 0

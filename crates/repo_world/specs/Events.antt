@@ -72,8 +72,8 @@ pub record Starts (w : World) (job : Job) (host : List ℕ) (time : ℕ) (v : Wo
   }
 
 -- it starts, or isn't begun
-abbrev pub Begins : World → Job → List ℕ → ℕ → Applied → World → Type 0
-Begins w job host time applied v = ((applied ≡ Applied.Done) × Starts w job host time v) ⊎ ((refusal : Refusal) × Refuses job refusal × (applied ≡ Applied.Refused refusal) × (v ≡ w))
+abbrev pub BeginsJob : World → Job → List ℕ → ℕ → Applied → World → Type 0
+BeginsJob w job host time applied v = ((applied ≡ Applied.Done) × Starts w job host time v) ⊎ ((refusal : Refusal) × Refuses job refusal × (applied ≡ Applied.Refused refusal) × (v ≡ w))
 
 -- a client stops for good
 pub record Crashes (w : World) (k : ℕ) (v : World) : Type 0 where
@@ -94,7 +94,7 @@ pub record Unlocks (w : World) (t : Token) (v : World) : Type 0 where
 
 -- from w the event may lead to v, and come to this
 abbrev pub Happens : Type 0 → World → Event → Applied → World → Type 0
-Happens Own w (Event.Start job host time) applied v = Begins w job host time applied v
+Happens Own w (Event.Start job host time) applied v = BeginsJob w job host time applied v
 Happens Own w (Event.Deliver i) applied v = Delivers (Plainly Own) w (slice_get w.messages i) applied v
 Happens Own w (Event.Fault i fail) applied v = Delivers (Failing Own fail) w (slice_get w.messages i) applied v
 Happens Own w (Event.Unlock t) applied v = (applied ≡ Applied.Done) × (Unlocks w t v ⊎ (Own × (v ≡ w)))

@@ -28,8 +28,8 @@ IsThere seats (Message.Asked k request) = request < length (seat_at seats k).req
 IsThere seats (Message.Said k reply) = reply < length (seat_at seats k).replies
 
 -- each does
-abbrev pub AreThere : List Seated → List Message → Type 0
-AreThere seats messages = Each (IsThere seats) messages
+abbrev pub EachIsThere : List Seated → List Message → Type 0
+EachIsThere seats messages = Each (IsThere seats) messages
 
 -- the clients
 abbrev pub clients_in : Flow → List Client

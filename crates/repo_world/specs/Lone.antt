@@ -17,7 +17,7 @@ abbrev pub ended : ℕ → Job → List ℕ → ℕ → Trace → Option Outcome
 ended k job host time es outcome = record { job = job; who = asker (instance_of k) host time; trace = es; next = None; outcome = outcome; crashed = false }
 
 -- some events lead from a world to one with this store, where this client has joined, and the others are as they were
-pub record Joins (w : World) (store : Store) (c : Client) : Type 0 where
+pub record JoinsWorld (w : World) (store : Store) (c : Client) : Type 0 where
   pub events : List Event
   pub last : World
   pub run : Run w events last
@@ -28,4 +28,4 @@ pub record Joins (w : World) (store : Store) (c : Client) : Type 0 where
 abbrev pub LoneTalkIsARun : Type 0
 LoneTalkIsARun = (w : World) (job : Job) (host : List ℕ) (time : ℕ) (turn : Turn) (talk : Talk) (to : Store) (failed failing : ℕ) (outcome : Option Outcome)
     → Accepts job → (time < 2 ^ 64) × IsHost host → TalkRan w.store failed (turn ∷ talk) to failing → IsDutiful (ended (length w.clients) job host time (trace_of (turn ∷ talk)) outcome)
-    → Joins w to (ended (length w.clients) job host time (trace_of (turn ∷ talk)) outcome)
+    → JoinsWorld w to (ended (length w.clients) job host time (trace_of (turn ∷ talk)) outcome)

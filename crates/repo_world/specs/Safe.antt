@@ -21,7 +21,7 @@ use Rattle.repo_session.specs.Rebuilding.{rebuilt, AreWhole}
 use Rattle.repo_session.specs.Soundness.{IsHeld, IsSound}
 use Rattle.repo_session.specs.Traces.{Exchanged, emitted_in}
 use Rattle.repo_world.specs.Clients.{handed_to, MadeOf}
-use Rattle.repo_world.specs.World.{World, client, Has, Asked, Said}
+use Rattle.repo_world.specs.World.{World, client, IsOneOf, Asked, Said}
 use Rattle.repo_world.specs.declared.jobs.Job.{Job}
 
 -- ---- what was handed to a snapshot's backup
@@ -31,7 +31,7 @@ pub record IsPutBy (w : World) (k : Kind) (n : Name) (x : List ℕ) : Type 0 whe
   pub by : ℕ
   pub request : Request
   pub token : Token
-  pub message : Has w.messages (Asked by request)
+  pub message : IsOneOf w.messages (Asked by request)
   pub asks : request.ask ≡ Ask.Put token k n x
 
 -- the client took this ticket
@@ -57,7 +57,7 @@ HandedIsOne w = (s : Name) (some others : List Entry) → Handed w s some → Ha
 -- the bytes stand in a message: a put, or a reply
 pub data IsSpoken (w : World) (x : List ℕ) : Type 0 where
   by_put : (k : Kind) (n : Name) → IsPutBy w k n x → IsSpoken w x
-  by_reply : (k : ℕ) (reply : Reply) → Has w.messages (Said k reply) → reply.say ≡ Say.Bytes x → IsSpoken w x
+  by_reply : (k : ℕ) (reply : Reply) → IsOneOf w.messages (Said k reply) → reply.say ≡ Say.Bytes x → IsSpoken w x
 
 -- the bytes stand in a spoken pack, at a place that a spoken index gives
 pub record IsPartOf (w : World) (x : List ℕ) : Type 0 where
@@ -87,7 +87,7 @@ pub record IsAsked (w : World) (s : Name) : Type 0 where
   pub by : ℕ
   pub request : Request
   pub token : Token
-  pub message : Has w.messages (Asked by request)
+  pub message : IsOneOf w.messages (Asked by request)
   pub asks : request.ask ≡ Ask.Delete token Kind.Snapshot s
 
 -- the snapshot is there, or its deletion was asked for

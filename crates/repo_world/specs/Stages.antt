@@ -39,7 +39,7 @@ abbrev pub Shelf : Type 0 → Type 0
 Shelf S = Kept (FaultShelf S)
 
 -- the device is honest, and what is remembered of it agrees with it; nothing is armed; and a run leads here
-pub record Stands {S : Type 0} (Honest : S → Type 0) (store : S → Store) (shelf : Shelf S) (flow : Flow) : Type 0 where
+pub record WorldStands {S : Type 0} (Honest : S → Type 0) (store : S → Store) (shelf : Shelf S) (flow : Flow) : Type 0 where
   pub honest : Honest shelf.inner.inner
   pub agrees : Agrees shelf.known (store shelf.inner.inner)
   pub disarmed : shelf.inner.armed ≡ Armed.Nothing
@@ -50,5 +50,5 @@ abbrev pub IsSafely : World → Type 0
 IsSafely w = HasNoClash w → IsSafe w × HandedIsOne w
 
 -- nothing was sent, and the store is the old one with a config, where none was
-abbrev pub BeginsWith : List ℕ → Store → World → Type 0
-BeginsWith text old w = (old.config ≡ None) × SavesConfig text old w.store × (w ≡ beginning w.store)
+abbrev pub BeginsWithConfig : List ℕ → Store → World → Type 0
+BeginsWithConfig text old w = (old.config ≡ None) × SavesConfig text old w.store × (w ≡ beginning w.store)

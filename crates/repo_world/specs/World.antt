@@ -58,9 +58,9 @@ abbrev pub awaited : Client → Option Request
 awaited c = cond c.crashed None c.next
 
 -- it is one of these
-abbrev pub Has : {A : Type 0} → List A → A → Type 0
-Has [] x = ⊥
-Has (y ∷ ys) x = (y ≡ x) ⊎ Has ys x
+abbrev pub IsOneOf : {A : Type 0} → List A → A → Type 0
+IsOneOf [] x = ⊥
+IsOneOf (y ∷ ys) x = (y ≡ x) ⊎ IsOneOf ys x
 
 -- the message of what is pending
 abbrev pub sends : ℕ → Option Request → List Message

@@ -8,7 +8,7 @@ use Rattle.repo_wire.specs.declared.messages.Request.{Request}
 use Rattle.repo_wire.specs.declared.messages.Say.{Say}
 use Rattle.repo_store.specs.Stores.{Store, RemovesObject}
 use Rattle.repo_session.specs.Traces.{Exchanged}
-use Rattle.repo_world.specs.Bag.{HasDeleted, IsLive, IsSpent, StillSays}
+use Rattle.repo_world.specs.Bag.{HasDeleted, IsLive, WasUsed, StillSays}
 use Rattle.repo_world.specs.Events.{Serves}
 use Rattle.repo_world.specs.Safe.{Took}
 use Rattle.repo_world.specs.World.{World, client}
@@ -19,7 +19,7 @@ pub record DeletesForEver (old : Store) (ask : Ask) (say : Say) (new : Store) : 
   pub kind : Kind
   pub name : Name
   pub asks : ask ≡ Ask.Delete token kind name
-  pub granted : IsSpent old.tokens token
+  pub granted : WasUsed old.tokens token
   pub says : say ≡ Say.Done
   pub removes : RemovesObject kind name old new
 

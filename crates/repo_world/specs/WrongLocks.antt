@@ -8,7 +8,7 @@ use Rattle.repo_wire.specs.declared.messages.Request.{Request}
 use Rattle.repo_wire.specs.declared.messages.Say.{Say}
 use Rattle.repo_locks.specs.TokenMachine.{live_as, granted}
 use Rattle.repo_store.specs.Stores.{Store, SavesTokens}
-use Rattle.repo_world.specs.Bag.{HasDeleted, IsSpent, StillSays}
+use Rattle.repo_world.specs.Bag.{HasDeleted, WasUsed, StillSays}
 use Rattle.repo_world.specs.Events.{Serves}
 use Rattle.repo_world.specs.Safe.{Took}
 use Rattle.repo_world.specs.World.{World}
@@ -17,7 +17,7 @@ use Rattle.repo_world.specs.World.{World}
 pub record GrantsAgain (old : Store) (ask : Ask) (say : Say) (new : Store) : Type 0 where
   pub row : LockRow
   pub asks : ask ≡ Ask.Lock row
-  pub spent : IsSpent old.tokens row.token
+  pub spent : WasUsed old.tokens row.token
   pub dead : live_as old.tokens row.token ≡ None
   pub says : say ≡ Say.Done
   pub saves : SavesTokens (granted old.tokens row) old new

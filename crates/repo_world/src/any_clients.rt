@@ -2,7 +2,7 @@
 
 ghost use Rattle.std.specs.Prelude.{◌≡◌, [], List, IfOk, IfErr};
 ghost use Rattle.repo_tree.specs.declared.entries.Entry.{Entry};
-ghost use Rattle.repo_backup.specs.Handed.{IsRefusal};
+ghost use Rattle.repo_backup.specs.Handed.{IsRefusalOf};
 ghost use Rattle.repo_world.specs.AnyClients.{FitsAny, given_to};
 ghost use Rattle.repo_world.specs.Clients.{Accepts};
 ghost use Rattle.repo_world.specs.Reports.{role_of};
@@ -39,7 +39,7 @@ pub enum NotBegun {
 
 /// The refusal of entries, or want of memory.
 fn entries_refused(error: BackupError) -> NotBegun
-    ensures { (entries : List Entry) → IsRefusal entries error → IsNotBegun (Job.Backup entries) result }
+    ensures { (entries : List Entry) → IsRefusalOf entries error → IsNotBegun (Job.Backup entries) result }
 {
     match error {
         BackupError::BadPath => NotBegun::Refused(Refusal::BadPath),

@@ -147,7 +147,8 @@ impl Seat {
     /// Has the store answer the request at a place, which is there. It fails for memory alone, and then nothing changed.
     pub fn serve<S: Shelf>(&mut self, shelf: &mut S, place: usize) -> Result<(), AllocError>
         requires { place < length self.old.requests }
-        ensures answered { S.honest shelf.old → IfOk result (λ _. Answered self.old place self.new (S.store shelf.old) (S.armed shelf.old) (S.own shelf.old) (S.store shelf.new) (S.armed shelf.new) (S.own shelf.new)) }
+        ensures answered { S.honest shelf.old → IfOk result (λ _. Answered self.old place self.new (S.store shelf.old) (S.armed shelf.old) (S.own shelf.old)
+            (S.store shelf.new) (S.armed shelf.new) (S.own shelf.new)) }
         ensures replied { IfOk result (λ _. Replied self.old self.new) }
         ensures honest { S.honest shelf.old → S.honest shelf.new }
         ensures err { OnErr result (self.new ≡ self.old) }

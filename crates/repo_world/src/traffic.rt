@@ -1,20 +1,20 @@
 //! All clients with all messages between them and the store.
 
-ghost use Rattle.std.specs.Prelude.{◌≡◌, ◌<◌, [], ℕ, IfOk, IsOk, OnErr, IfSome, length, option_map, slice_get, slice_index_or, string_bytes, true, map, Some};
+ghost use Rattle.std.specs.Prelude.{◌≡◌, ◌<◌, [], ℕ, IfOk, IsOk, OnErr, IfSome, length, option_map, slice_get, string_bytes, true, map, Some};
 ghost use Rattle.repo_name.specs.Rows.{IsHost};
 ghost use Rattle.repo_wire.specs.Messages.{requests as request_sort};
 ghost use Rattle.repo_wire.specs.Stream.{FitsFrame};
 ghost use Rattle.repo_store.specs.Stores.{Store};
 ghost use Rattle.repo_store.specs.declared.faults.Armed.{Armed};
 ghost use Rattle.repo_session.specs.Askers.{asker};
-ghost use Rattle.repo_world.specs.Events.{Arrives, Begins, Delivers, Serves, Stops};
+ghost use Rattle.repo_world.specs.Events.{BeginsJob, Stops};
 ghost use Rattle.repo_world.specs.Flows.{clients_in, messages_in, seat_at, world_of};
 ghost use Rattle.repo_world.specs.Reports.{client_lines};
 ghost use Rattle.repo_world.specs.inner.Seating.{StepsAsArmed};
-ghost use Rattle.repo_world.specs.Seats.{nothing, silence};
 ghost use Rattle.repo_world.specs.World.{instance_of, client};
 ghost use Rattle.repo_world.specs.Calmness.{IsIgnored};
 ghost use Rattle.repo_world.specs.declared.events.Applied.{Applied};
+ghost use Rattle.repo_world.specs.inner.Flowing.{FlowServes, ReplyArrives, FlowDelivers};
 
 use crate::any_clients::{AnyClient, NotBegun};
 use crate::events::Applied;
@@ -37,13 +37,13 @@ pub struct Traffic {
 }
 
 impl Model for Traffic {
-    ghost use Rattle.repo_world.specs.Flows.{AreThere, Flow};
+    ghost use Rattle.repo_world.specs.Flows.{EachIsThere, Flow};
 
     ghost Value = { Flow };
 
     ghost view = { λ t. record { seats = t.seats.items; messages = t.messages.items } };
 
-    ghost invariant = { λ t. AreThere t.seats.items t.messages.items };
+    ghost invariant = { λ t. EachIsThere t.seats.items t.messages.items };
 }
 
 /// Who the client of a number is. It fails for memory alone.
@@ -107,7 +107,7 @@ impl Traffic {
     /// A client starts, as the one of the next number, and asks for its ticket; or it isn't begun. It fails for memory
     /// alone, and then nothing changed.
     pub fn start(&mut self, job: Job, host: &Host, time: u64) -> Result<Applied, AllocError>
-        ensures begins { (store : Store) → IfOk result (λ applied. Begins (world_of store self.old) job host.now time applied (world_of store self.new)) }
+        ensures begins { (store : Store) → IfOk result (λ applied. BeginsJob (world_of store self.old) job host.now time applied (world_of store self.new)) }
         ensures err { OnErr result (self.new ≡ self.old) }
     {
         self.seats.reserve(1)?;
@@ -137,7 +137,9 @@ impl Traffic {
     ) -> Result<Applied, AllocError>
         requires { request < length (seat_at self.old.seats client).requests }
         ensures done { IfOk result (λ applied. applied ≡ Applied.Done) }
-        ensures serves { S.honest shelf.old → IfOk result (λ _. Serves (StepsAsArmed (S.armed shelf.old) (S.own shelf.old) (S.armed shelf.new) (S.own shelf.new)) (world_of (S.store shelf.old) self.old) client (slice_index_or (seat_at self.old.seats client).requests request nothing) (world_of (S.store shelf.new) self.new)) }
+        ensures serves { S.honest shelf.old → IfOk result (λ _. FlowServes
+            (StepsAsArmed (S.armed shelf.old) (S.own shelf.old) (S.armed shelf.new) (S.own shelf.new))
+            (S.store shelf.old) self.old client request (S.store shelf.new) self.new) }
         ensures honest { S.honest shelf.old → S.honest shelf.new }
         ensures disarmed { S.honest shelf.old → S.armed shelf.old ≡ Armed.Nothing → S.armed shelf.new ≡ Armed.Nothing }
         ensures err { OnErr result (self.new ≡ self.old) }
@@ -155,7 +157,7 @@ impl Traffic {
     /// nothing changed; no memory is asked for where the client stopped.
     fn take(&mut self, client: usize, reply: usize) -> Result<Applied, AllocError>
         requires { reply < length (seat_at self.old.seats client).replies }
-        ensures arrives { (store : Store) → IfOk result (λ applied. Arrives (world_of store self.old) client (slice_index_or (seat_at self.old.seats client).replies reply silence) applied (world_of store self.new)) }
+        ensures arrives { (store : Store) → IfOk result (λ applied. ReplyArrives store self.old client reply applied self.new) }
         ensures err { OnErr result (self.new ≡ self.old) }
         ensures calm { (seat_at self.old.seats client).client.crashed ≡ true → IsOk result }
     {
@@ -180,7 +182,9 @@ impl Traffic {
     /// The message of a number is delivered: a request to the store, or a reply to its client. It fails for memory alone,
     /// and then nothing changed; no memory is asked for where it is ignored.
     pub fn deliver<S: Shelf>(&mut self, shelf: &mut S, number: usize) -> Result<Applied, AllocError>
-        ensures delivers { S.honest shelf.old → IfOk result (λ applied. Delivers (StepsAsArmed (S.armed shelf.old) (S.own shelf.old) (S.armed shelf.new) (S.own shelf.new)) (world_of (S.store shelf.old) self.old) (slice_get (messages_in self.old) number) applied (world_of (S.store shelf.new) self.new)) }
+        ensures delivers { S.honest shelf.old → IfOk result (λ applied. FlowDelivers
+            (StepsAsArmed (S.armed shelf.old) (S.own shelf.old) (S.armed shelf.new) (S.own shelf.new))
+            (S.store shelf.old) self.old number applied (S.store shelf.new) self.new) }
         ensures honest { S.honest shelf.old → S.honest shelf.new }
         ensures disarmed { S.honest shelf.old → S.armed shelf.old ≡ Armed.Nothing → S.armed shelf.new ≡ Armed.Nothing }
         ensures err { OnErr result (self.new ≡ self.old) }

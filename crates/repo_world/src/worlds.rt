@@ -13,7 +13,7 @@ ghost use Rattle.repo_store.specs.Memory.{store_of};
 ghost use Rattle.repo_store.specs.Stores.{empty};
 ghost use Rattle.repo_world.specs.Laws.{IsEmpty};
 ghost use Rattle.repo_world.specs.Reports.{IsReport};
-ghost use Rattle.repo_world.specs.Stages.{BeginsWith, IsSafely, Leads, seen};
+ghost use Rattle.repo_world.specs.Stages.{BeginsWithConfig, IsSafely, Leads, seen};
 ghost use Rattle.repo_world.specs.Flows.{seat_at};
 ghost use Rattle.repo_world.specs.World as world;
 ghost use Rattle.repo_world.specs.World.{awaited};
@@ -50,13 +50,13 @@ pub struct World<S: Shelf + Drop> {
 }
 
 impl<S: Shelf + Drop> Model for World<S> {
-    ghost use Rattle.repo_world.specs.Stages.{Stage, Stands};
+    ghost use Rattle.repo_world.specs.Stages.{Stage, WorldStands};
 
     ghost Value = { Stage S };
 
     ghost view = { λ w. record { device = w.shelf.inner.inner; flow = w.flow } };
 
-    ghost invariant = { λ w. Stands S.honest S.store w.shelf w.flow };
+    ghost invariant = { λ w. WorldStands S.honest S.store w.shelf w.flow };
 }
 
 /// The removal of a token's lock, as it is asked of the store.
@@ -86,7 +86,7 @@ impl World<MemShelf> {
     pub fn in_memory(alloc: Global, config: &Config) -> Result<World<MemShelf>, AllocError>
         requires version { config.now.version ≡ 1 }
         requires target { IsTarget config.now.target }
-        ensures begins { IfOk result (λ w. BeginsWith (config_text config.now) empty (seen store_of w)) }
+        ensures begins { IfOk result (λ w. BeginsWithConfig (config_text config.now) empty (seen store_of w)) }
     {
         match World::new(alloc, MemShelf::new(alloc), config) {
             Ok(world) => Ok(world),
@@ -105,7 +105,7 @@ impl<S: Shelf + Drop> World<S> {
         requires empty { IsEmpty (S.store shelf) }
         requires version { config.now.version ≡ 1 }
         requires target { IsTarget config.now.target }
-        ensures begins { IfOk result (λ w. BeginsWith (config_text config.now) (S.store shelf) (seen S.store w)) }
+        ensures begins { IfOk result (λ w. BeginsWithConfig (config_text config.now) (S.store shelf) (seen S.store w)) }
         ensures exists { IsErrOf result InitError.Exists → (S.store shelf).config ≢ None }
         ensures safe { IfOk result (λ w. IsSafely (seen S.store w)) }
     {
@@ -211,7 +211,8 @@ impl<S: Shelf + Drop> World<S> {
     /// The events happen, one after another, until there is no memory. The world is safe after those that happened.
     pub fn run(&mut self, events: &[Event]) -> Result<(), RunError>
         ensures ran { OnOk result (Run (seen S.store self.old) events.now (seen S.store self.new)) }
-        ensures stopped { IfErr result (λ e. (e.applied < length events.now) × Run (seen S.store self.old) (take e.applied events.now) (seen S.store self.new)) }
+        ensures stopped { IfErr result (λ e. (e.applied < length events.now)
+            × Run (seen S.store self.old) (take e.applied events.now) (seen S.store self.new)) }
         ensures safe { IsSafely (seen S.store self.new) }
     {
         // A look at a field tells the prover the invariant.

@@ -1,5 +1,5 @@
 -- Packs and indexes that were put.
-use Rattle.std.specs.Prelude.{◌≡◌, ◌↔◌, ◌-◌, ◌^◌, ℕ, List, length, map, min, Contains}
+use Rattle.std.specs.Prelude.{◌≡◌, ◌↔◌, ◌-◌, ◌^◌, ℕ, List, length, map, min, Contains, ◌≤◌}
 use Rattle.std.specs.List.{flat_map, sum_by}
 use Rattle.repo_name.specs.declared.kinds.BlobKind.{BlobKind}
 use Rattle.repo_name.specs.declared.kinds.Kind.{Kind}
@@ -14,6 +14,9 @@ use Rattle.repo_index.specs.IndexText.{IsIndexText, Says}
 use Rattle.repo_index.specs.Exactness.{AreFactsAt}
 use Rattle.repo_session.specs.Traces.{Each, Trace, Exchanged, Object, objects_put, ReadFact}
 use Rattle.repo_writing.specs.Blobs.{HasItem}
+use Rattle.repo_name.specs.Naming as naming
+use Rattle.repo_index.specs.IndexWriting.{AreFew, AreLawful}
+use Rattle.repo_session.specs.declared.jobs.Step.{Step}
 
 -- the object was put, and that is done
 abbrev pub PutDone : Trace → Kind → Name → List ℕ → Type 0
@@ -75,3 +78,8 @@ pub record AreCounted (es : Trace) (blobs bytes : ℕ) : Type 0 where
   pub each : Each (λ (p : Packed). IsTruePack p.pack.bytes p.items) packs
   pub blobs_are : IsCount blobs (length (flat_map (λ (p : Packed). p.items) packs))
   pub bytes_are : IsCount bytes (sum_by (λ (item : Item). length item.bytes) (flat_map (λ (p : Packed). p.items) packs))
+
+-- what puts an index of these packs
+abbrev pub PutsIndexOf : Token → List PackFacts → Step → Type 0
+PutsIndexOf token waiting step = AreLawful waiting → AreFew waiting → (x : List ℕ) × IsIndexText x waiting × (length x ≤ index_limit)
+    × (step ≡ Step.Ask (Ask.Put token Kind.Index (naming.name x) x))

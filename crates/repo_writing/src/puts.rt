@@ -1,17 +1,17 @@
 //! The requests that put packs and indexes.
 
-ghost use Rattle.std.specs.Prelude.{◌≡◌, ◌≤◌, ◌↔◌, ℕ, List, length, IsTrue, IfOk};
+ghost use Rattle.std.specs.Prelude.{◌≡◌, ◌≤◌, ◌↔◌, List, length, IsTrue, IfOk};
 ghost use Rattle.repo_name.specs.Naming as naming;
 ghost use Rattle.repo_name.specs.declared.kinds.Kind.{Kind};
-ghost use Rattle.repo_index.specs.IndexText.{IsIndexText, facts_in};
-ghost use Rattle.repo_index.specs.IndexWriting.{AreLawful, AreFew};
+ghost use Rattle.repo_index.specs.IndexText.{facts_in};
 ghost use Rattle.repo_pack.specs.PackLayout.{Item};
 ghost use Rattle.repo_session.specs.Jobs.{IsShort, IsShortStep};
 ghost use Rattle.repo_session.specs.declared.jobs.Step.{Step};
 ghost use Rattle.repo_store.specs.StoreMachine.{object_limit};
 ghost use Rattle.repo_wire.specs.declared.messages.Ask.{Ask};
 ghost use Rattle.repo_writing.specs.Sealing.{IsSealedOf};
-ghost use Rattle.repo_name.specs.Limits.{facts_limit, index_limit, put_limit};
+ghost use Rattle.repo_name.specs.Limits.{facts_limit, put_limit};
+ghost use Rattle.repo_writing.specs.Putting.{PutsIndexOf};
 
 use repo_index::IndexText;
 use repo_name::{Bytes, FACTS_LIMIT, Kind, Name, PUT_LIMIT, Token, name_of};
@@ -66,8 +66,7 @@ pub fn put_pack(token: Token, sealed: Sealed) -> Step
 
 /// Puts an index of the packs that wait. It fails for memory alone.
 pub fn put_index(alloc: Global, token: Token, waiting: &IndexText) -> Result<Step, AllocError>
-    ensures puts { IfOk result (λ step. AreLawful waiting.now → AreFew waiting.now → (x : List ℕ) × IsIndexText x waiting.now × (length x ≤ index_limit)
-        × (step ≡ Step.Ask (Ask.Put token Kind.Index (naming.name x) x))) }
+    ensures puts { IfOk result (PutsIndexOf token waiting.now) }
     ensures short { IfOk result IsShortStep }
 {
     match waiting.write(alloc) {

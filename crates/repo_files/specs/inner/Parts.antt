@@ -6,5 +6,5 @@ abbrev pub part_of : List ℕ → List ℕ
 part_of name = name ++ codes ".vault-part"
 
 -- a file of this name was being written
-abbrev pub IsPart : List ℕ → Type 0
-IsPart part = (name : List ℕ) × (part ≡ part_of name)
+abbrev pub IsPartFile : List ℕ → Type 0
+IsPartFile part = (name : List ℕ) × (part ≡ part_of name)

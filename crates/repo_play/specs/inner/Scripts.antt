@@ -67,3 +67,20 @@ HaltsBy Fails _ = ⊤
 abbrev pub EndsBy : Type 0 → LoopError → Type 0
 EndsBy Fails (LoopError.Carry error) = Fails
 EndsBy Fails (LoopError.Play error) = ⊤
+
+-- ---- wherever a script stands: it runs a line, a piece of its input, all that is left, or what a reader gives
+
+abbrev pub RunsLine : {C : Type 0} → List ℕ → Script C → Option (List ℕ) → Result (Unit {0}) LoopError → Script C → Option (List ℕ) → Type 0
+RunsLine bytes old before result new after = (input : List ℕ) (start : Option (List ℕ)) (lines left : List (List ℕ)) (text : List ℕ) → cut line_feed input ≡ lines ++ bytes ∷ left
+    → RanLines start old lines text before → LineRuns input start (lines ++ bytes ∷ []) result new after
+
+abbrev pub RunsPiece : {C : Type 0} → List ℕ → Script C → Option (List ℕ) → Result (Unit {0}) LoopError → Script C → Option (List ℕ) → Type 0
+RunsPiece piece old before result new after = (input : List ℕ) (start : Option (List ℕ)) (ahead : List ℕ) → ScriptStands input start old (piece ++ ahead) before
+    → PieceRuns input start ahead result new after
+
+abbrev pub RunsToEnd : {C : Type 0} → Script C → Option (List ℕ) → Result (Unit {0}) LoopError → Option (List ℕ) → Type 0
+RunsToEnd old before result after = (input : List ℕ) (start : Option (List ℕ)) → ScriptStands input start old [] before → Plays old.grammar input start result after
+
+abbrev pub ScriptReads : {C : Type 0} → Option (List ℕ) → Script C → Option (List ℕ) → Result Bool LoopError → Option (List ℕ) → Script C → Option (List ℕ) → Type 0
+ScriptReads unread old before result left new after = (input ahead : List ℕ) (start : Option (List ℕ)) → unread ≡ Some ahead → ScriptStands input start old ahead before
+    → ReadGives input start ahead left result new after

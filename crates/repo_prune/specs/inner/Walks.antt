@@ -41,7 +41,7 @@ pub record GoesDown (old : Standing) (row : Row) (new : Standing) : Type 0 where
   pub other_day : row_cmp row old.row.now ≢ Ordering.Equal → day row ≢ day old.row.now → (new.later ≡ old.seen) × (new.days ≡ min (old.days + 1) (2 ^ 64 - 1)) × (new.is_last ≡ true)
 
 -- where a row stands, with so many rows before it: how many of its host up to it, how many later, how many later days, whether it is the last of its day
-pub record StandsAt (rows : List Row) (place : ℕ) (row : Row) (s : Standing) : Type 0 where
+pub record RowStandsAt (rows : List Row) (place : ℕ) (row : Row) (s : Standing) : Type 0 where
   pub here : slice_get rows place ≡ Some row
   pub same : s.row.now ≡ row
   pub seen : Counts s.seen (count_by (same_host row) (take (place + 1) rows))
@@ -52,9 +52,13 @@ pub record StandsAt (rows : List Row) (place : ℕ) (row : Row) (s : Standing) :
 -- where the row before it stands, if there is one
 abbrev pub RowsBefore : List Row → ℕ → Option Standing → Type 0
 RowsBefore rows place None = place ≡ 0
-RowsBefore rows place (Some s) = (before : ℕ) × (place ≡ before + 1) × StandsAt rows before s.row.now s
+RowsBefore rows place (Some s) = (before : ℕ) × (place ≡ before + 1) × RowStandsAt rows before s.row.now s
 
 -- so a row is kept
 abbrev pub IsKeptAt : Policy → List Row → Row → Type 0
 IsKeptAt policy rows row = (count_by (is_later row) rows < policy.last)
     ⊎ (IsLastOfDay rows row × ((days : List ℕ) × AreLaterDays rows row days × (length days < policy.daily)))
+
+-- wherever a row comes after those of a standing, it stands so
+abbrev pub RowStandsAfter : Option Standing → Row → Standing → Type 0
+RowStandsAfter before row s = (rows : List Row) (place : ℕ) → Descends rows → slice_get rows place ≡ Some row → RowsBefore rows place before → RowStandsAt rows place row s

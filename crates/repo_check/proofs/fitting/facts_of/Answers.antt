@@ -1,6 +1,6 @@
 use Rattle.std.proofs.Common.{List, Option, None, sym, ap, subst, ◌∙◌, option_map, Bor}
 use Rattle.repo_index.specs.declared.facts.Fact.{Fact}
-use Rattle.repo_store.specs.Pages.{Ascends}
+use Rattle.repo_store.specs.Pages.{NamesAscend}
 use Rattle.repo_check.specs.Fitting.{facts_at}
 use Rattle.repo_check.proofs.PackFinds.{found_none, none_here, noted_here}
 use Rattle.repo_check.proofs.fitting.facts_of.Goals as goal
@@ -10,7 +10,7 @@ returns-in_default c = λ ascend.
     let same = c.as_slice.ensures.value in
     let notes = c.args.packs.now.notes.items in
     let pack = c.args.pack.now in
-    sym (ap (λ ns. facts_at ns notes pack) (sym same) ∙ found_none c.as_slice.result.now notes pack c.in_default.field-0 c.in_default.ensures.bound (subst (λ ns. Ascends None ns) (sym same) ascend) c.in_default.ensures.position)
+    sym (ap (λ ns. facts_at ns notes pack) (sym same) ∙ found_none c.as_slice.result.now notes pack c.in_default.field-0 c.in_default.ensures.bound (subst (λ ns. NamesAscend None ns) (sym same) ascend) c.in_default.ensures.position)
 
 pub returns-in_err-note : goal.returns-in_err-note
 returns-in_err-note c = λ ascend.

@@ -3,7 +3,7 @@ use Rattle.repo_wire.specs.declared.messages.Say.{Say}
 use Rattle.repo_tree.specs.declared.nodes.Node.{Node}
 use Rattle.repo_reach.specs.Links.{LeadTo}
 use Rattle.repo_check.specs.Answers.{Gathered}
-use Rattle.repo_check.specs.Measures.{AreGiven, Judges}
+use Rattle.repo_check.specs.Measures.{AreGivenFacts, Judges}
 use Rattle.repo_check.proofs.Arriving.{with_bytes}
 use Rattle.repo_check.proofs.Measuring.{judged}
 use Rattle.repo_check.proofs.TreeLooks.{tree_unread}
@@ -23,7 +23,7 @@ returns-in_ok-links-in-Ok c =
         has = (refl, c.requires.0);
         tree = record { len = c.requires.1; reads = c.in-Ok.ensures.ok };
         lead = subst (λ (ns : List Node). LeadTo ns links) c.as_slice.ensures.value c.in_ok-links-in-Ok.ensures;
-        judged = let P : List Node → Type 0 = λ ns. (answers : Gathered) → AreGiven answers c.args.lookup.now → Judges answers ns c.all_suit-right.result in
+        judged = let P : List Node → Type 0 = λ ns. (answers : Gathered) → AreGivenFacts answers c.args.lookup.now → Judges answers ns c.all_suit-right.result in
             subst P c.as_slice-in-Ok.ensures.value (judged c.args.lookup.now c.as_slice-in-Ok.result.now c.all_suit-right.result c.all_suit-right.ensures.all c.all_suit-right.ensures.some);
       },
     )

@@ -1,7 +1,7 @@
 use Rattle.std.proofs.Common.{◌++◌, [], Bool, Ok, subst, arith, inr}
 use Rattle.std.proofs.lemmas.Result.{err_from_is_err_and}
 use Rattle.repo_store.specs.Services.{nothing}
-use Rattle.repo_prog.specs.Talks.{PieceGives}
+use Rattle.repo_prog.specs.Talks.{FramesPieceGives}
 use Rattle.repo_prog.proofs.TalkLemmas.{begun, memory_told, whole_told}
 use Rattle.repo_prog.proofs.frames_engine.frames.Goals as goal
 
@@ -32,7 +32,7 @@ pub returns-then-not-more : goal.returns-then-not-more
 returns-then-not-more g c input same =
     let start = g.W.Write.contents c.args.writer.now in
     let i = c.loop-turn.invariant.next input same in
-    let P : Bool → Type 0 = λ more. PieceGives input start i.0 (g.R.Read.remaining c.read_piece.new.reader) (Ok more) c.read_piece.new.talk (g.W.Write.contents c.read_piece.new.writer) in
+    let P : Bool → Type 0 = λ more. FramesPieceGives input start i.0 (g.R.Read.remaining c.read_piece.new.reader) (Ok more) c.read_piece.new.talk (g.W.Write.contents c.read_piece.new.writer) in
     let r = subst P c.if-not-more.true (c.in_ok-more.ensures.next input i.0 start i.3 i.4 i.1 i.5) in
     c.finish.ensures input start r.0 r.1 r.2
 
@@ -41,7 +41,7 @@ loop-turn-preserved g c = record {
   next = λ input same.
       let start = g.W.Write.contents c.args.writer.now in
       let i = c.loop-turn.invariant.next input same in
-      let P : Bool → Type 0 = λ more. PieceGives input start i.0 (g.R.Read.remaining c.read_piece.new.reader) (Ok more) c.read_piece.new.talk (g.W.Write.contents c.read_piece.new.writer) in
+      let P : Bool → Type 0 = λ more. FramesPieceGives input start i.0 (g.R.Read.remaining c.read_piece.new.reader) (Ok more) c.read_piece.new.talk (g.W.Write.contents c.read_piece.new.writer) in
       let r = subst P c.if-not-more.false (c.in_ok-more.ensures.next input i.0 start i.3 i.4 i.1 i.5) in
       (r.0, r.1, omega (arith, i.2, r.2), r.3, r.4, r.5);
   number = omega (arith, c.in_ok-more.ensures.number, c.loop-turn.invariant.number, c.as_mut_slice.ensures.len, c.loop-turn.invariant.piece);

@@ -4,7 +4,7 @@ use Rattle.std.specs.List.Sorted.{IsSortedBy}
 use Rattle.std.proofs.lemmas.Option.{slice_get-map, slice_get_read}
 use Rattle.repo_name.specs.declared.names.Name.{Name}
 use Rattle.repo_prune.specs.Keeping.{Row}
-use Rattle.repo_prune.specs.inner.Walks.{is_before, IsKeptAt, StandsAt}
+use Rattle.repo_prune.specs.inner.Walks.{is_before, IsKeptAt, RowStandsAt}
 use Rattle.std.specs.List.Sorted.{IsPermutation, IsStrictlySortedBy}
 use Rattle.std.proofs.lemmas.List.{length-map}
 use Rattle.std.proofs.lemmas.List.Sorted.{Contains-permutation, IsPermutation-sym, IsPermutation-map}
@@ -32,7 +32,7 @@ loop-row-preserved c =
     let at : slice_get refs i ≡ Some c.row-item.result = slice_get_read refs (length refs) i c.row-item.result refl c.loop-row-test.true c.row-item.is in
     let here : slice_get rows i ≡ Some row = slice_get-map (λ (r : Bor Row). r.now) refs i ∙ ap (λ o. option_map (λ (r : Bor Row). r.now) o) at in
     let stands = c.after-standing.ensures rows i (sorted_descends refs sorted) here c.loop-row.invariant.0 in
-    let itself : StandsAt rows i standing.row.now standing = subst (λ r. StandsAt rows i r standing) (sym stands.same) stands in
+    let itself : RowStandsAt rows i standing.row.now standing = subst (λ r. RowStandsAt rows i r standing) (sym stands.same) stands in
     let kept = c.is_kept.ensures rows i itself in
     let N : List Name → Type 0 = λ l. AreNamesTo policy rows (i + 1) l in (
       (i, refl, itself),

@@ -1,6 +1,6 @@
 use Rattle.std.proofs.Common.{rules, ◌≡◌, ◌≤◌, ◌<◌, ◌∙◌, List, Option, option_map, IfSome, IfNone, [], subst, arith, lit≤}
 use Rattle.repo_name.specs.declared.names.Name.{Name}
-use Rattle.repo_store.specs.Kept.{Joins}
+use Rattle.repo_store.specs.Kept.{PageJoins}
 use Rattle.repo_store.specs.Pages.{Has, IsPage}
 use Rattle.repo_store.specs.Stores.{Store}
 use Rattle.repo_store.proofs.AllNames.{goes_on}
@@ -24,7 +24,7 @@ loop-turn-preserved g c =
           let A : Option Name → Type 0 = λ a. IsPage first.objects kind a 256 page.names page.more in
           let B : Store → Type 0 = λ s. IsPage s.objects kind (option_map (λ name. name.now) c.as_ref.result) 256 page.names page.more in
           let is_page = subst A c.as_ref.ensures.value (subst B (i.same h) (p.law (i.honest h)).0) in
-          let J : List Name → Type 0 = λ l. Joins l c.loop-turn.names c.join.new.names in
+          let J : List Name → Type 0 = λ l. PageJoins l c.loop-turn.names c.join.new.names in
           let L : List Name → Type 0 = λ l. IfSome c.last_of-last.result (Has l) × IfNone c.last_of-last.result (l ≡ []) in
           let joins = subst J c.as_slice-in-loop-turn.ensures.value c.in_ok-join.ensures in
           let last = subst L c.as_slice-in-loop-turn-2.ensures.value (c.last_of-last.ensures.some, c.last_of-last.ensures.none) in

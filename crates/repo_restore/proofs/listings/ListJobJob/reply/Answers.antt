@@ -2,7 +2,7 @@ use Rattle.std.proofs.Common.{◌∷◌, [], List, refl, sym, subst, inl}
 use Rattle.repo_name.specs.declared.names.Name.{Name}
 use Rattle.repo_tree.specs.declared.snapshots.Snapshot.{Snapshot}
 use Rattle.repo_session.specs.Jobs.{task_under}
-use Rattle.repo_session.specs.Listings.{IsListing}
+use Rattle.repo_session.specs.Listings.{IsSnapshotListing}
 use Rattle.repo_session.specs.Traces.{Exchange, silent}
 use Rattle.repo_restore.specs.Listing.{list_rule}
 use Rattle.repo_restore.proofs.listings.ListJobJob.reply.Goals as goal
@@ -19,7 +19,7 @@ returns-in-All-clause-steps c = λ es w obeys asked.
     let holding = c.args._holder.now in
     let e : Exchange = silent c.args.ask.now c.args.say.now in
     let lists = rw c.in-All.is at c.in_ok-next.ensures.ok in
-    let L : List (Name × Snapshot) → Type 0 = λ rows. IsListing (e ∷ es) rows in
+    let L : List (Name × Snapshot) → Type 0 = λ rows. IsSnapshotListing (e ∷ es) rows in
     (inl refl, subst L (sym c.take_rows.ensures.rows) (lists (task_under list_rule holding.who) holding.token [] es w asked.may asked.knows))
 
 pub returns-in-Bad-clause-steps : goal.returns-in-Bad-clause-steps

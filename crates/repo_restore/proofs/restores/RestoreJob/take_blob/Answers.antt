@@ -9,7 +9,7 @@ use Rattle.repo_session.specs.Traces.{Exchange, emitted_in, giving}
 use Rattle.repo_restore.specs.declared.restores.Stage.{Stage}
 use Rattle.repo_restore.specs.Flowing.{is_open}
 use Rattle.repo_restore.specs.Restoring.{IsForBlob, RestoreGives, restore_rule}
-use Rattle.repo_restore.specs.RestoreStates.{KnowsAt, KnowsRestore}
+use Rattle.repo_restore.specs.RestoreStates.{KnowsAtStage, KnowsRestore}
 use Rattle.repo_restore.proofs.Advancing.{range_taken, turn_flowed, turn_gave, turn_is}
 use Rattle.repo_restore.proofs.restores.RestoreJob.take_blob.Goals as goal
 
@@ -24,7 +24,7 @@ returns-clause-ok c = λ ask named long holding es working obeys asked.
     let turn = c.in_ok-turn.turn in
     let e : Exchange = giving ask (Say.Bytes x) out in
     let is : e.say ≡ Say.Bytes x = refl in
-    let S : Stage → Type 0 = λ stage. KnowsAt j stage ask es in
+    let S : Stage → Type 0 = λ stage. KnowsAtStage j stage ask es in
     let known = subst S c.requires asked.knows in
     let root = known.1.root in
     let taken = range_taken j fact e x es known.0 is known.1 in

@@ -11,7 +11,7 @@ use Rattle.repo_session.proofs.Receiving.{unwelcome_get, bad_object}
 use Rattle.repo_restore.specs.declared.restores.Stage.{Stage}
 use Rattle.repo_session.specs.Trees.{HasRoot}
 use Rattle.repo_restore.specs.Restoring.{restore_rule}
-use Rattle.repo_restore.specs.RestoreStates.{KnowsAt}
+use Rattle.repo_restore.specs.RestoreStates.{KnowsAtStage}
 use Rattle.repo_restore.proofs.Advancing.{before_on, snapshot_on}
 use Rattle.repo_restore.proofs.restores.RestoreJob.take_snapshot.Goals as goal
 
@@ -19,7 +19,7 @@ pub returns-in_default-clause-ok : goal.returns-in_default-clause-ok
 returns-in_default-clause-ok c = λ ask holding es w obeys asked.
     let j = c.args.self.now in
     let e : Exchange = giving ask c.args.say.now j.given.items in
-    let S : Stage → Type 0 = λ stage. KnowsAt j stage e.ask es in
+    let S : Stage → Type 0 = λ stage. KnowsAtStage j stage e.ask es in
     let known = subst S c.requires asked.knows in
     let U : Ask → Type 0 = λ a. IsUnwelcome a e.say in
     subst U (sym known.0) (unwelcome_get Kind.Snapshot j.snapshot e.say c.in_default.not-Bytes)
@@ -28,7 +28,7 @@ pub returns-then-not-is_named-clause-ok : goal.returns-then-not-is_named-clause-
 returns-then-not-is_named-clause-ok c = λ ask holding es w obeys asked.
     let j = c.args.self.now in
     let e : Exchange = giving ask c.args.say.now j.given.items in
-    let S : Stage → Type 0 = λ stage. KnowsAt j stage e.ask es in
+    let S : Stage → Type 0 = λ stage. KnowsAtStage j stage e.ask es in
     let known = subst S c.requires asked.knows in
     let n = j.snapshot in
     let N : List ℕ → Type 0 = λ y. naming.name y ≢ n in
@@ -40,7 +40,7 @@ pub returns-in-Ok-clause-ok : goal.returns-in-Ok-clause-ok
 returns-in-Ok-clause-ok c = λ ask holding es w obeys asked.
     let j = c.args.self.now in
     let e : Exchange = giving ask c.args.say.now j.given.items in
-    let S : Stage → Type 0 = λ stage. KnowsAt j stage e.ask es in
+    let S : Stage → Type 0 = λ stage. KnowsAtStage j stage e.ask es in
     let known = subst S c.requires asked.knows in
     let n = j.snapshot in
     let x = c.in-Bytes.bytes in
@@ -57,7 +57,7 @@ pub returns-in_ok-end-in-Err-clause-ok : goal.returns-in_ok-end-in-Err-clause-ok
 returns-in_ok-end-in-Err-clause-ok c = λ ask holding es w obeys asked.
     let j = c.args.self.now in
     let e : Exchange = giving ask c.args.say.now j.given.items in
-    let S : Stage → Type 0 = λ stage. KnowsAt j stage e.ask es in
+    let S : Stage → Type 0 = λ stage. KnowsAtStage j stage e.ask es in
     let known = subst S c.requires asked.knows in
     let n = j.snapshot in
     let end = c.in_ok-end-in-Err.end in

@@ -2,7 +2,7 @@ use Rattle.std.proofs.Common.{◌≡◌, ◌++◌, ◌∷◌, [], ℕ, List, Som
 use Rattle.std.proofs.lemmas.Option.{same_Some}
 use Rattle.repo_tree.specs.declared.nodes.Node.{Node}
 use Rattle.repo_restore.specs.declared.nodes.Level.{Level}
-use Rattle.repo_restore.specs.Walking.{HasBegun, IsNextPath}
+use Rattle.repo_restore.specs.Walking.{NodeHasBegun, IsNextPath}
 use Rattle.repo_restore.proofs.Passing.{last_same}
 use Rattle.repo_restore.proofs.walks.Walk.next_path.Goals as goal
 
@@ -16,9 +16,9 @@ none_last levels items x p q r =
     absurd (cc)
 
 joined_path : {E : Type 0} (levels : List Level) (x : Level) (n : Node) (result : Result (List (List ℕ)) E) → (levels ≡ [] → ⊥) → ((above : List Level) (level : Level) → levels ≡ above ++ level ∷ [] → x ≡ level)
-    → ((node : Node) → HasBegun x node → n ≡ node) → IfOk result (λ p. p ≡ x.path ++ n.name ∷ []) → IfOk result (IsNextPath levels)
+    → ((node : Node) → NodeHasBegun x node → n ≡ node) → IfOk result (λ p. p ≡ x.path ++ n.name ∷ []) → IfOk result (IsNextPath levels)
 joined_path levels x n (Ok p) none same node h =
-    (λ e. absurd (none e), λ above level m e b. let q = same above level e in let r = node m (subst (λ l. HasBegun l m) (sym q) b) in h ∙ ap (λ l. l.path ++ n.name ∷ []) q ∙ ap (λ (y : Node). level.path ++ y.name ∷ []) r)
+    (λ e. absurd (none e), λ above level m e b. let q = same above level e in let r = node m (subst (λ l. NodeHasBegun l m) (sym q) b) in h ∙ ap (λ l. l.path ++ n.name ∷ []) q ∙ ap (λ (y : Node). level.path ++ y.name ∷ []) r)
 joined_path levels x n (Err e) none same node h = tt
 
 pub returns-in-None-begun_node : goal.returns-in-None-begun_node
@@ -26,7 +26,7 @@ returns-in-None-begun_node c = (
   λ none. c.of-in-None-begun_node.ensures ∙ c.new-in-None-begun_node.ensures.items,
   λ above level node are b.
       let same = last_same c.args.self.now.levels.items c.as_slice.result.now above c.in-Some.level.now level c.as_slice.ensures.value c.in-Some.ensures.value are in
-      absurd (none_some node (c.in-None-begun_node.ensures node (subst (λ l. HasBegun l node) (sym same) b))),
+      absurd (none_some node (c.in-None-begun_node.ensures node (subst (λ l. NodeHasBegun l node) (sym same) b))),
 )
 
 pub returns-in-Some-begun_node : goal.returns-in-Some-begun_node

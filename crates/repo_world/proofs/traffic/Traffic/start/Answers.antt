@@ -1,8 +1,8 @@
 use Rattle.std.proofs.Common.{rules, ◌≡◌, ◌∙◌, ◌<◌, ◌^◌, ◌++◌, ◌∷◌, [], inl, inr, false, length, refl, sym, ap, subst}
 use Rattle.repo_session.specs.Askers.{Asker, asker}
 use Rattle.repo_world.specs.AnyClients.{any_next, client_of}
-use Rattle.repo_world.specs.Events.{Begins}
-use Rattle.repo_world.specs.Flows.{AreThere, Flow, world_of}
+use Rattle.repo_world.specs.Events.{BeginsJob}
+use Rattle.repo_world.specs.Flows.{EachIsThere, Flow, world_of}
 use Rattle.repo_world.specs.Seats.{Seated, listed}
 use Rattle.repo_world.specs.Starting.{IsNotBegun}
 use Rattle.repo_world.specs.World.{instance_of}
@@ -23,19 +23,19 @@ invariant_of-self-in-Ok c =
     let now : record { seats = c.push.new.self.items; messages = c.push-in-Ok.new.self.items }
     ≡ record { seats = seats ++ record { client = client_of client [] false; requests = listed (any_next client); replies = [] } ∷ []; messages = messages ++ Message.Asked (length seats) 0 ∷ [] } =
     λ i. record { seats = (pushed ∙ ap (λ (x : Seated). seats ++ x ∷ []) c.new-in-Ok.ensures) i; messages = (said ∙ ap (λ n. messages ++ Message.Asked n 0 ∷ []) number) i } in
-    subst (λ (f : Flow). AreThere f.seats f.messages) (sym now) (started_there seats messages c.self.invariant client c.in-Ok.ensures.fits c.args.job c.args.host.now c.args.time given)
+    subst (λ (f : Flow). EachIsThere f.seats f.messages) (sym now) (started_there seats messages c.self.invariant client c.in-Ok.ensures.fits c.args.job c.args.host.now c.args.time given)
 
 pub invariant_of-self-in-Err-Refused : goal.invariant_of-self-in-Err-Refused
 invariant_of-self-in-Err-Refused c =
     let seats : c.reserve.new.self.items ≡ c.self.inside.seats.items = search rules in
     let messages : c.reserve-2.new.self.items ≡ c.self.inside.messages.items = search rules in
-    subst (λ (f : Flow). AreThere f.seats f.messages) (λ i. record { seats = sym seats i; messages = sym messages i }) c.self.invariant
+    subst (λ (f : Flow). EachIsThere f.seats f.messages) (λ i. record { seats = sym seats i; messages = sym messages i }) c.self.invariant
 
 pub invariant_of-self-in-Err-Memory : goal.invariant_of-self-in-Err-Memory
 invariant_of-self-in-Err-Memory c =
     let seats : c.reserve.new.self.items ≡ c.self.inside.seats.items = search rules in
     let messages : c.reserve-2.new.self.items ≡ c.self.inside.messages.items = search rules in
-    subst (λ (f : Flow). AreThere f.seats f.messages) (λ i. record { seats = sym seats i; messages = sym messages i }) c.self.invariant
+    subst (λ (f : Flow). EachIsThere f.seats f.messages) (λ i. record { seats = sym seats i; messages = sym messages i }) c.self.invariant
 
 pub returns-in_ok-push-in-Ok-2-clause-begins : goal.returns-in_ok-push-in-Ok-2-clause-begins
 returns-in_ok-push-in-Ok-2-clause-begins c = λ store.
@@ -53,7 +53,7 @@ returns-in_ok-push-in-Ok-2-clause-begins c = λ store.
     ≡ record { seats = seats ++ record { client = client_of client [] false; requests = listed (any_next client); replies = [] } ∷ []; messages = messages ++ Message.Asked (length seats) 0 ∷ [] } =
     λ i. record { seats = (pushed ∙ ap (λ (x : Seated). seats ++ x ∷ []) c.new-in-Ok.ensures) i; messages = (said ∙ ap (λ n. messages ++ Message.Asked n 0 ∷ []) number) i } in
     let small : time < 2 ^ 64 = c.ranges.time.fits in
-    let Is : Flow → Flow → Type 0 = λ f v. Begins (world_of store f) job host time Applied.Done (world_of store v) in
+    let Is : Flow → Flow → Type 0 = λ f v. BeginsJob (world_of store f) job host time Applied.Done (world_of store v) in
     subst (λ (f : Flow). Is f (record { seats = c.push.new.self.items; messages = c.push-in-Ok.new.self.items })) c.self.view_is
     (subst (λ (v : Flow). Is (record { seats = seats; messages = messages }) v) (sym now)
     (inl (refl, starts seats messages c.self.invariant client c.in-Ok.ensures.fits job host time given store c.in-Ok.ensures.accepted small c.who_of.ensures.host)))
@@ -63,5 +63,5 @@ returns-in-Err-Refused-clause-begins c = λ store.
     let refusal = c.in-Err-Refused.refusal in
     let seats : c.reserve.new.self.items ≡ c.self.inside.seats.items = search rules in
     let messages : c.reserve-2.new.self.items ≡ c.self.inside.messages.items = search rules in
-    subst (λ (f : Flow). Begins (world_of store f) c.args.job c.args.host.now c.args.time (Applied.Refused refusal) (world_of store (record { seats = c.reserve.new.self.items; messages = c.reserve-2.new.self.items }))) c.self.view_is
+    subst (λ (f : Flow). BeginsJob (world_of store f) c.args.job c.args.host.now c.args.time (Applied.Refused refusal) (world_of store (record { seats = c.reserve.new.self.items; messages = c.reserve-2.new.self.items }))) c.self.view_is
     (inr (refusal, subst (IsNotBegun c.args.job) c.in-Err-Refused.field-0-is c.in-Err-Refused.ensures.refused, refl, λ i. world_of store (record { seats = seats i; messages = messages i })))

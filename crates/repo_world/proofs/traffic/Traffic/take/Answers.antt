@@ -2,7 +2,7 @@ use Rattle.std.proofs.Common.{rules, ◌≡◌, ◌∙◌, ◌<◌, ◌-◌, ◌
 use Rattle.std.proofs.lemmas.List.{get_or_default}
 use Rattle.repo_session.specs.Clients.{AnswersNext}
 use Rattle.repo_world.specs.Events.{Arrives}
-use Rattle.repo_world.specs.Flows.{AreThere, Flow, seat_at, world_of}
+use Rattle.repo_world.specs.Flows.{EachIsThere, Flow, seat_at, world_of}
 use Rattle.repo_world.specs.inner.Seating.{SeatTook, TookReply}
 use Rattle.repo_world.specs.Seats.{Seated, empty_seat, silence}
 use Rattle.repo_world.specs.declared.events.Applied.{Applied}
@@ -43,7 +43,7 @@ invariant_of-self-in_err-reserve c =
     let less : k < length seats = within_replies seats k c.args.reply (subst (λ (f : Flow). c.args.reply < length (seat_at f.seats k).replies) (sym c.self.view_is) c.requires) in
     let found : seat_at seats k ≡ s = get_or_default seats k empty_seat s less ∙ sym c.index_mut-seat.ensures.value in
     let rest : c.reserve.new.self.items ≡ messages = search rules in
-    subst (AreThere (slice_set seats k s)) (sym rest) (kept_there seats messages k c.self.invariant less s (sym found))
+    subst (EachIsThere (slice_set seats k s)) (sym rest) (kept_there seats messages k c.self.invariant less s (sym found))
 
 pub invariant_of-self-in_err-take : goal.invariant_of-self-in_err-take
 invariant_of-self-in_err-take c =
@@ -54,7 +54,7 @@ invariant_of-self-in_err-take c =
     let less : k < length seats = within_replies seats k c.args.reply (subst (λ (f : Flow). c.args.reply < length (seat_at f.seats k).replies) (sym c.self.view_is) c.requires) in
     let found : seat_at seats k ≡ s = get_or_default seats k empty_seat s less ∙ sym c.index_mut-seat.ensures.value in
     let rest : c.reserve.new.self.items ≡ messages = search rules in
-    subst (AreThere (slice_set seats k c.take.new.self)) (sym rest) (kept_there seats messages k c.self.invariant less c.take.new.self (c.in_err-take.ensures.err ∙ sym found))
+    subst (EachIsThere (slice_set seats k c.take.new.self)) (sym rest) (kept_there seats messages k c.self.invariant less c.take.new.self (c.in_err-take.ensures.err ∙ sym found))
 
 pub invariant_of-self-in-Unawaited : goal.invariant_of-self-in-Unawaited
 invariant_of-self-in-Unawaited c =
@@ -68,7 +68,7 @@ invariant_of-self-in-Unawaited c =
     let found : seat_at seats k ≡ s = get_or_default seats k empty_seat s less ∙ sym c.index_mut-seat.ensures.value in
     let rest : c.reserve.new.self.items ≡ messages = search rules in
     let took : SeatTook s place new Arrival.Unawaited = subst (SeatTook s place new) c.in-Unawaited.is c.in_ok-take.ensures.took in
-    subst (AreThere (slice_set seats k new)) (sym rest) (kept_there seats messages k c.self.invariant less new (took.2 ∙ sym found))
+    subst (EachIsThere (slice_set seats k new)) (sym rest) (kept_there seats messages k c.self.invariant less new (took.2 ∙ sym found))
 
 pub invariant_of-self-in-Continue-branch-4 : goal.invariant_of-self-in-Continue-branch-4
 invariant_of-self-in-Continue-branch-4 c =
@@ -86,7 +86,7 @@ invariant_of-self-in-Continue-branch-4 c =
     let next = asked_from _ c.pending.result new.client.next c.pending.ensures (sym c.is_some.ensures ∙ c.if-is_some.true) in
     let pushed : c.push.new.self.items ≡ messages ++ Message.Asked k (c.requests-request.result - 1) ∷ [] = search rules in
     let last : c.push.new.self.items ≡ messages ++ Message.Asked k (length new.requests - 1) ∷ [] = pushed ∙ ap (λ n. messages ++ Message.Asked k (n - 1) ∷ []) c.requests-request.ensures in
-    subst (AreThere (slice_set seats k new)) (sym last) (took_more_there seats messages k c.self.invariant less reply new t next.0 next.1)
+    subst (EachIsThere (slice_set seats k new)) (sym last) (took_more_there seats messages k c.self.invariant less reply new t next.0 next.1)
 
 pub invariant_of-self-else-is_some : goal.invariant_of-self-else-is_some
 invariant_of-self-else-is_some c =
@@ -102,7 +102,7 @@ invariant_of-self-else-is_some c =
     let took : SeatTook s place new Arrival.Taken = subst (SeatTook s place new) c.in-Taken.is c.in_ok-take.ensures.took in
     let t : TookReply (seat_at seats k) reply new = subst (λ (x : Seated). TookReply x (slice_index_or x.replies place silence) new) (sym found) took in
     let rest : c.reserve.new.self.items ≡ messages = search rules in
-    subst (AreThere (slice_set seats k new)) (sym rest) (took_last_there seats messages k c.self.invariant less reply new t)
+    subst (EachIsThere (slice_set seats k new)) (sym rest) (took_last_there seats messages k c.self.invariant less reply new t)
 
 pub returns-in-Unawaited-clause-arrives : goal.returns-in-Unawaited-clause-arrives
 returns-in-Unawaited-clause-arrives c = λ store.

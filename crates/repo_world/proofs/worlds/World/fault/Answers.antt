@@ -3,7 +3,7 @@ use Rattle.std.specs.Prelude.{IfOk, OnErr}
 use Rattle.repo_store.specs.Kept.{Agrees}
 use Rattle.repo_store.specs.declared.faults.Armed.{Armed}
 use Rattle.repo_world.specs.Calmness.{IsCalm}
-use Rattle.repo_world.specs.Stages.{Leads, Shelf, Stage, Stands, seen}
+use Rattle.repo_world.specs.Stages.{Leads, Shelf, Stage, WorldStands, seen}
 use Rattle.repo_world.specs.declared.events.Event.{Event}
 use Rattle.repo_world.proofs.Standing.{Delivered, arms, failing_leads, reached_by, unhappened}
 use Rattle.repo_world.proofs.worlds.World.fault.Goals as goal
@@ -26,7 +26,7 @@ invariant_of-self g c =
     let leads = failing_leads S store failed result c.args.fail after.inner.armed old c.args.message new (delivers (stands.honest, stands.agrees)) in
     let same = unhappened S store failed result armed after c.self.inside.flow c.deliver-applied.new.self says.err (subst (λ (s : Shelf S). OnErr result (after ≡ s)) c.arm.ensures says.unused) in
     let honest = subst (λ (s : Shelf S). Honestly s → Honestly after) c.arm.ensures says.honest (stands.honest, stands.agrees) in
-    subst (λ (s : Shelf S). Stands g.S.Shelf.honest store s c.deliver-applied.new.self) (sym c.disarm.ensures) (record {
+    subst (λ (s : Shelf S). WorldStands g.S.Shelf.honest store s c.deliver-applied.new.self) (sym c.disarm.ensures) (record {
       honest = honest.0;
       agrees = honest.1;
       disarmed = λ i. Armed.Nothing;
