@@ -18,6 +18,7 @@ use Rattle.repo_restore.specs.declared.nodes.Begun.{Begun}
 use Rattle.repo_restore.specs.declared.nodes.Level.{Level}
 use Rattle.repo_restore.specs.declared.walks.Turn.{Turn}
 use Rattle.repo_restore.specs.declared.walks.Walk.{Walk}
+use Rattle.repo_restore.specs.declared.steps.Stop.{Stop}
 use Rattle.repo_index.specs.Lookups.{IsLeast}
 use Rattle.repo_restore.specs.Nodes.{WaitsFor, DirBegins, FileBegins}
 use Rattle.repo_session.specs.Trees.{Under, IsNeeded, IsBroken}

@@ -1,6 +1,7 @@
 -- Packs and indexes that were put.
 use Rattle.std.specs.Prelude.{◌≡◌, ◌↔◌, ◌-◌, ◌^◌, ℕ, List, length, map, min, Contains, ◌≤◌}
 use Rattle.std.specs.List.{flat_map, sum_by}
+use Rattle.repo_name.specs.Limits.{index_limit}
 use Rattle.repo_name.specs.declared.kinds.BlobKind.{BlobKind}
 use Rattle.repo_name.specs.declared.kinds.Kind.{Kind}
 use Rattle.repo_name.specs.declared.names.Name.{Name}
