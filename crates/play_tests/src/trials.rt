@@ -59,7 +59,7 @@ impl Counting {
 impl Carrier for &mut Counting {
     ghost use Rattle.std.specs.Prelude.{⊤};
 
-    ghost fails = { ⊤ };
+    ghost fails = { λ _. ⊤ };
 
     fn request(&mut self, client: usize, _request: &Request) -> Result<(), CarryError> {
         self.take()?;

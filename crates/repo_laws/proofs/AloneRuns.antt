@@ -1,6 +1,7 @@
 -- What a job comes to that is alone with its store.
 use Rattle.std.proofs.Common.{arith, ◌≡◌, ◌⊎◌, ◌≤◌, ◌<◌, ◌^◌, ◌-◌, ◌++◌, ◌∷◌, [], ℕ, List, length, Option, Some, None, Result, Ok, Err, IfOk, refl, sym, ap, subst, inl, inr, append-nil, ◌∙◌}
 use Rattle.repo_name.specs.declared.kinds.Kind.{Kind}
+use Rattle.repo_name.specs.declared.names.Instance.{Instance}
 use Rattle.repo_name.specs.declared.names.Name.{Name}
 use Rattle.repo_tree.specs.declared.entries.Entry.{Entry}
 use Rattle.repo_wire.specs.declared.messages.Code.{Code}
@@ -43,10 +44,10 @@ pub record IsEnded {C : Type 0} (Fits : C → Trace → Type 0) (next : C → Op
   pub few : length talk < 2 ^ 64 - 1
   pub gave : given ≡ given_in talk
 
-pub at_end : {C : Type 0} (Fits : C → Trace → Type 0) (next : C → Option Request) (old new : C) (result : Result ℕ StepError) (from to : Store) (failed failing : ℕ) (out kept : List Emission) → Fits old []
-    → (talk : Talk) × Steps Fits next old result new talk from failed to failing out kept → IfOk result (λ n. n ≤ 2 ^ 32)
+pub at_end : {C : Type 0} (instance : Instance) (Fits : C → Trace → Type 0) (next : C → Option Request) (old new : C) (result : Result ℕ StepError) (from to : Store) (failed failing : ℕ) (out kept : List Emission) → Fits old []
+    → (talk : Talk) × Steps instance Fits next old result new talk from failed to failing out kept → IfOk result (λ n. n ≤ 2 ^ 32)
     → IfOk result (λ n. (given : List Emission) × IsEnded Fits next new from to failed failing given)
-at_end Fits next old new (Ok n) from to failed failing out kept fits s few =
+at_end instance Fits next old new (Ok n) from to failed failing out kept fits s few =
     let d = s.1 in (
       given_in s.0,
       record {
@@ -58,13 +59,13 @@ at_end Fits next old new (Ok n) from to failed failing out kept fits s few =
         gave = refl;
       },
     )
-at_end Fits next old new (Err e) from to failed failing out kept fits s few = tt
+at_end instance Fits next old new (Err e) from to failed failing out kept fits s few = tt
 
 -- the exchanges that were made, and their number; and what was given out
-pub went_by : {C : Type 0} (Fits : C → Trace → Type 0) (next : C → Option Request) (old new : C) (result : Result ℕ StepError) (from to : Store) (failed failing : ℕ) (out kept : List Emission)
-    → (talk : Talk) × Steps Fits next old result new talk from failed to failing out kept → IfOk result (λ n. (talk : Talk) × Went Fits old talk new × (n ≡ length talk) × (kept ≡ out ++ given_in talk))
-went_by Fits next old new (Ok n) from to failed failing out kept s = (s.0, s.1.0, s.1.1, s.1.4)
-went_by Fits next old new (Err e) from to failed failing out kept s = tt
+pub went_by : {C : Type 0} (instance : Instance) (Fits : C → Trace → Type 0) (next : C → Option Request) (old new : C) (result : Result ℕ StepError) (from to : Store) (failed failing : ℕ) (out kept : List Emission)
+    → (talk : Talk) × Steps instance Fits next old result new talk from failed to failing out kept → IfOk result (λ n. (talk : Talk) × Went instance Fits old talk new × (n ≡ length talk) × (kept ≡ out ++ given_in talk))
+went_by instance Fits next old new (Ok n) from to failed failing out kept s = (s.0, s.1.0, s.1.1, s.1.4)
+went_by instance Fits next old new (Err e) from to failed failing out kept s = tt
 
 pub if_ok_with : {A E : Type 0} (P Q : A → Type 0) (result : Result A E) → ((a : A) → P a → Q a) → IfOk result P → IfOk result Q
 if_ok_with P Q (Ok x) f h = f x h

@@ -1,5 +1,6 @@
 -- What a job comes to that is alone with its store, from its beginning to its end.
 use Rattle.std.specs.Prelude.{◌≡◌, ◌≢◌, ◌⊎◌, ◌<◌, [], ⊤, ℕ, List, Option, Some, None, ◌++◌, length}
+use Rattle.repo_name.specs.declared.names.Instance.{Instance}
 use Rattle.repo_name.specs.declared.names.Name.{Name}
 use Rattle.repo_wire.specs.declared.messages.Code.{Code}
 use Rattle.repo_tree.specs.declared.entries.Entry.{Entry}
@@ -67,5 +68,5 @@ GivesNothing who outcome to = ((name : Name) (blobs bytes : ℕ) → outcome ≢
     ⊎ ((name : Name) × (blobs : ℕ) × (bytes : ℕ) × (outcome ≡ Some (Outcome.Stored name blobs bytes)) × IsNotRestored who name to)
 
 -- a job went so many requests far, and what it gave out was appended
-abbrev pub WentGiving : {C : Type 0} → (C → Trace → Type 0) → C → ℕ → C → List Emission → List Emission → Type 0
-WentGiving Fits old n new out more = (talk : Talk) × Went Fits old talk new × (n ≡ length talk) × (more ≡ out ++ given_in talk)
+abbrev pub WentGiving : {C : Type 0} → Instance → (C → Trace → Type 0) → C → ℕ → C → List Emission → List Emission → Type 0
+WentGiving instance Fits old n new out more = (talk : Talk) × Went instance Fits old talk new × (n ≡ length talk) × (more ≡ out ++ given_in talk)

@@ -2,7 +2,7 @@
 
 ghost use Rattle.std.specs.Prelude.{◌≡◌, ◌≢◌, [], ℕ, List, Some, None, IfOk, IsTrue, IsFalse, length, option_map};
 ghost use Rattle.repo_session.specs.Alone.{IsFit, HasAsked};
-ghost use Rattle.repo_session.specs.Sessions.{ended_in};
+ghost use Rattle.repo_session.specs.Sessions.{ended_in, who_in};
 ghost use Rattle.repo_session.specs.Soundness.{IsSound};
 ghost use Rattle.repo_session.specs.Talks.{Talk, Went};
 ghost use Rattle.repo_session.specs.declared.emissions.Emission.{Emission};
@@ -31,7 +31,7 @@ pub fn back_up_alone<S: Shelf>(
 ) -> Result<u64, StepError>
     requires honest { S.honest shelf.old }
     requires fresh { FitsBackup backup.old [] }
-    ensures went { IfOk result (λ n. (talk : Talk) × Went FitsBackup backup.old talk backup.new × (n ≡ length talk)) }
+    ensures went { IfOk result (λ n. (talk : Talk) × Went (who_in backup.old.session).instance FitsBackup backup.old talk backup.new × (n ≡ length talk)) }
     ensures comes { IfOk result (λ _. IsFit (S.store shelf.old) → NeverFailed (S.failed shelf.old) (S.failed shelf.new)
         → BacksUp (handed_to backup.old.session.job) (S.store shelf.old) (S.store shelf.new) (ended_in backup.new.session)) }
 {
@@ -53,7 +53,7 @@ pub fn restore_alone<S: Shelf>(
 ) -> Result<u64, StepError>
     requires honest { S.honest shelf.old }
     requires fresh { FitsRestore restore.old [] }
-    ensures went { IfOk result (λ n. WentGiving FitsRestore restore.old n restore.new out.old.items out.new.items) }
+    ensures went { IfOk result (λ n. WentGiving (who_in restore.old.session).instance FitsRestore restore.old n restore.new out.old.items out.new.items) }
     ensures comes { IfOk result (λ _. IsFit (S.store shelf.old) → HasAsked (S.store shelf.old) (Some (wish_of restore.old).snapshot)
         → NeverFailed (S.failed shelf.old) (S.failed shelf.new) → RestoresAlone (S.store shelf.old) (S.store shelf.new) (ended_in restore.new.session)) }
 {
@@ -71,7 +71,7 @@ pub fn list_alone<S: Shelf>(
 ) -> Result<u64, StepError>
     requires honest { S.honest shelf.old }
     requires fresh { FitsList list.old [] }
-    ensures went { IfOk result (λ n. (talk : Talk) × Went FitsList list.old talk list.new × (n ≡ length talk)) }
+    ensures went { IfOk result (λ n. (talk : Talk) × Went (who_in list.old.session).instance FitsList list.old talk list.new × (n ≡ length talk)) }
     ensures comes { IfOk result (λ _. IsFit (S.store shelf.old) → NeverFailed (S.failed shelf.old) (S.failed shelf.new)
         → ListsAlone (S.store shelf.old) (S.store shelf.new) (ended_in list.new.session)) }
 {
@@ -103,7 +103,7 @@ pub fn back_up_and_restore<S: Shelf>(
 ) -> Result<Option<Vec<Emission>>, StepError>
     requires honest { S.honest shelf.old }
     requires fresh { FitsBackup backup.old [] }
-    ensures went { IfOk result (λ _. (talk : Talk) × Went FitsBackup backup.old talk backup.new) }
+    ensures went { IfOk result (λ _. (talk : Talk) × Went (who_in backup.old.session).instance FitsBackup backup.old talk backup.new) }
     ensures none { IfOk result (λ given. given ≡ None → GivesNothing who (ended_in backup.new.session) (S.store shelf.new)) }
     ensures back { IfOk result (λ given. IsSound (S.store shelf.old).objects → (emissions : List Emission) → option_map (λ v. v.items) given ≡ Some emissions
         → GivesBack (handed_to backup.old.session.job) (S.store shelf.old) emissions) }

@@ -1,5 +1,5 @@
 -- What is written of a script.
-use Rattle.std.specs.Prelude.{◌≡◌, ◌≢◌, ◌⊎◌, ◌≤◌, ◌+◌, ◌^◌, ◌++◌, ◌∷◌, [], ℕ, true, false, List, length, Option, Result, Ok, Err}
+use Rattle.std.specs.Prelude.{◌≡◌, ◌≢◌, ◌⊎◌, ◌≤◌, ◌+◌, ◌^◌, ◌++◌, ◌∷◌, [], ℕ, true, false, List, length, Option, Result, Ok, Err, ⊤}
 use Rattle.std.specs.Io.KnownBytes.{Appends}
 use Rattle.repo_store.specs.Output.{AppendsPart}
 use Rattle.repo_script.specs.Cuts.{cut, line_feed}
@@ -9,6 +9,7 @@ use Rattle.repo_play.specs.Lines.{State, IsFreshScript, MayStand, Does, IsNonsen
 use Rattle.repo_play.specs.declared.faults.LoopError.{LoopError}
 use Rattle.repo_play.specs.declared.faults.PlayError.{PlayError}
 use Rattle.repo_play.specs.declared.grammars.Grammar.{Grammar}
+use Rattle.repo_play.specs.declared.faults.CarryError.{CarryError}
 
 -- ---- the bytes of a line, behind so many other lines
 
@@ -84,3 +85,8 @@ Plays grammar input start (Err (LoopError.Play PlayError.Write)) contents =
 abbrev pub uncarried : Result (Unit {0}) PlayError → Result (Unit {0}) LoopError
 uncarried (Ok done) = Ok done
 uncarried (Err error) = Err (LoopError.Play error)
+
+-- it may end so, where what carries messages may fail so: an error of it is one with which it may
+abbrev pub EndsBy : (CarryError → Type 0) → LoopError → Type 0
+EndsBy Fails (LoopError.Carry error) = Fails error
+EndsBy Fails (LoopError.Play error) = ⊤

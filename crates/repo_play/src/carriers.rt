@@ -1,22 +1,23 @@
 //! What carries the messages between clients and store.
 
-ghost use Rattle.std.specs.Prelude.{IsErr};
+ghost use Rattle.std.specs.Prelude.{IfErr};
+ghost use Rattle.repo_play.specs.declared.faults.CarryError.{CarryError};
 
 use crate::faults::CarryError;
 use repo_wire::{Reply, Request};
 
 /// What carries each message from one end to the other, before it is delivered.
 pub trait Carrier {
-    /// Holds where it may fail.
-    ghost fails: { Type 0 };
+    /// The errors that it may fail with.
+    ghost fails: { CarryError → Type 0 };
 
     /// Carries a request of a client to the store.
     fn request(&mut self, client: usize, request: &Request) -> Result<(), CarryError>
-        ensures fails { IsErr result → fails };
+        ensures fails { IfErr result fails };
 
     /// Carries a reply of the store to a client.
     fn reply(&mut self, client: usize, reply: &Reply) -> Result<(), CarryError>
-        ensures fails { IsErr result → fails };
+        ensures fails { IfErr result fails };
 }
 
 /// Nothing: messages are delivered as they are.
@@ -24,7 +25,7 @@ pub trait Carrier {
 pub struct Nothing;
 
 impl Carrier for Nothing {
-    ghost fails = { ⊥ };
+    ghost fails = { λ _. ⊥ };
 
     fn request(&mut self, _client: usize, _request: &Request) -> Result<(), CarryError> {
         Ok(())

@@ -42,7 +42,7 @@ fn carry_pending<S: Shelf + Drop, C: Carrier>(
     carrier: &mut C,
     client: usize,
 ) -> Result<(), Halt>
-    ensures { IfErr result (λ halt. (C.fails × (error : CarryError) × (halt ≡ Halt.Carry error))) }
+    ensures { IfErr result (λ halt. (error : CarryError) × C.fails error × (halt ≡ Halt.Carry error)) }
 {
     if let Some(request) = world.pending(client) {
         carrier.request(client, request)?;
@@ -56,7 +56,7 @@ fn carry_said<S: Shelf + Drop, C: Carrier>(
     carrier: &mut C,
     place: usize,
 ) -> Result<(), Halt>
-    ensures { IfErr result (λ halt. (C.fails × (error : CarryError) × (halt ≡ Halt.Carry error))) }
+    ensures { IfErr result (λ halt. (error : CarryError) × C.fails error × (halt ≡ Halt.Carry error)) }
 {
     if let Some(Message::Said { client, reply }) = message(world, place) {
         if let Some(said) = world.reply(*client, *reply) {

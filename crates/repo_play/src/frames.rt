@@ -1,6 +1,6 @@
 //! Messages that go over a connection as frames.
 
-ghost use Rattle.std.specs.Prelude.{◌≡◌, ◌≤◌, ◌<◌, OnOk, IfOk, IsErrOf, length, take};
+ghost use Rattle.std.specs.Prelude.{◌≡◌, ◌⊎◌, ◌≤◌, ◌<◌, ◌↔◌, OnOk, IfOk, IsErrOf, length, take};
 ghost use Rattle.std.specs.Io.KnownBytes.{Appends, Consumes};
 ghost use Rattle.repo_wire.specs.Messages.{replies, reply_body, requests, request_body};
 ghost use Rattle.repo_wire.specs.Stream.{FitsFrame, frame};
@@ -22,6 +22,7 @@ fn hear_some<R: Read>(coming: &[u8], piece: &mut [u8], reader: &mut R) -> Result
     requires room { length coming.now ≤ length piece.old }
     ensures heard { IfOk result (λ n. (0 < n) × (n ≤ length coming.now) × Consumes (R.remaining reader.old) (R.remaining reader.new) (take n coming.now)) }
     ensures room { length piece.new ≡ length piece.old }
+    ensures short { ¬ IsErrOf result CarryError.TooLarge }
 {
     let room = &mut piece[..coming.len()];
     match reader.read(room) {
@@ -40,7 +41,8 @@ fn hear_some<R: Read>(coming: &[u8], piece: &mut [u8], reader: &mut R) -> Result
 /// Reads the bytes that are to come.
 fn hear<R: Read>(coming: &[u8], piece: &mut [u8], reader: &mut R) -> Result<(), CarryError>
     requires { length coming.now ≤ length piece.old }
-    ensures { OnOk result (Consumes (R.remaining reader.old) (R.remaining reader.new) coming.now) }
+    ensures heard { OnOk result (Consumes (R.remaining reader.old) (R.remaining reader.new) coming.now) }
+    ensures short { ¬ IsErrOf result CarryError.TooLarge }
 {
     let mut heard = 0;
     while heard < coming.len() {
@@ -57,7 +59,8 @@ fn carry_frame<R: Read, W: Write>(
     writer: &mut W,
 ) -> Result<(), CarryError>
     ensures carried { OnOk result (IsCarried frame.now (R.remaining reader.old) (R.remaining reader.new) (W.contents writer.old) (W.contents writer.new)) }
-    ensures large { 65536 < length frame.now → IsErrOf result CarryError.TooLarge }
+    ensures large { IsErrOf result CarryError.TooLarge ↔ (65536 < length frame.now) }
+    ensures quiet { IsErrOf result CarryError.TooLarge → (reader.new ≡ reader.old) × (writer.new ≡ writer.old) }
 {
     if frame.len() > FRAME_LIMIT {
         return Err(CarryError::TooLarge);
@@ -69,7 +72,7 @@ fn carry_frame<R: Read, W: Write>(
 
 /// Carries a request as a frame: writes it, and reads it at the other end of the connection.
 ///
-/// `TooLarge` comes first, where it fits no frame of 65,536 bytes, and nothing is written then; `Read` and `Write` where the
+/// `TooLarge` comes just where it fits no frame of 65,536 bytes, and nothing is written or read then; `Read` and `Write` where the
 /// connection fails or ends, and `Malformed` where something else comes out.
 pub fn carry_request<R: Read, W: Write>(
     alloc: Global,
@@ -80,6 +83,8 @@ pub fn carry_request<R: Read, W: Write>(
     ensures carried { OnOk result (IsCarried (frame (request_body request.now)) (R.remaining reader.old) (R.remaining reader.new)
         (W.contents writer.old) (W.contents writer.new)) }
     ensures fits { OnOk result (FitsFrame requests request.now) }
+    ensures large { IsErrOf result CarryError.TooLarge ↔ (¬ FitsFrame requests request.now ⊎ (65536 < length (frame (request_body request.now)))) }
+    ensures quiet { IsErrOf result CarryError.TooLarge → (reader.new ≡ reader.old) × (writer.new ≡ writer.old) }
 {
     if !request.fits() {
         return Err(CarryError::TooLarge);
@@ -99,6 +104,8 @@ pub fn carry_reply<R: Read, W: Write>(
     ensures carried { OnOk result (IsCarried (frame (reply_body reply.now)) (R.remaining reader.old) (R.remaining reader.new)
         (W.contents writer.old) (W.contents writer.new)) }
     ensures fits { OnOk result (FitsFrame replies reply.now) }
+    ensures large { IsErrOf result CarryError.TooLarge ↔ (¬ FitsFrame replies reply.now ⊎ (65536 < length (frame (reply_body reply.now)))) }
+    ensures quiet { IsErrOf result CarryError.TooLarge → (reader.new ≡ reader.old) × (writer.new ≡ writer.old) }
 {
     if !reply.fits() {
         return Err(CarryError::TooLarge);

@@ -1,8 +1,8 @@
 //! Scripts from a reader.
 
 ghost use Rattle.std.specs.Prelude.{◌≡◌, ◌<◌, ℕ, List, Some, IfErr, length};
-ghost use Rattle.repo_play.specs.Plays.{Plays, uncarried};
-ghost use Rattle.repo_play.specs.inner.Scripts.{EndsBy, ScriptReads};
+ghost use Rattle.repo_play.specs.Plays.{Plays, EndsBy, uncarried};
+ghost use Rattle.repo_play.specs.inner.Scripts.{ScriptReads};
 ghost use Rattle.repo_play.specs.declared.grammars.Grammar.{Grammar};
 
 use crate::carriers::{Carrier, Nothing};
@@ -85,14 +85,15 @@ pub fn play<R: Read, W: Write>(
 /// Plays a script of entries, starts, finishes and reports, and has each request and each reply carried before it is delivered.
 /// What it writes is what [`play`] writes.
 ///
-/// See [`LoopError`] for when each error comes.
+/// See [`LoopError`] for when each error comes. One of the carrier is one with which it may fail.
 pub fn carry<C: Carrier + Drop, R: Read, W: Write>(
     alloc: Global,
     carrier: C,
     reader: &mut R,
     writer: &mut W,
 ) -> Result<(), LoopError>
-    ensures { (input : List ℕ) → R.remaining reader.old ≡ Some input → Plays Grammar.Carried input (W.contents writer.old) result (W.contents writer.new) }
+    ensures plays { (input : List ℕ) → R.remaining reader.old ≡ Some input → Plays Grammar.Carried input (W.contents writer.old) result (W.contents writer.new) }
+    ensures carried { IfErr result (EndsBy C.fails) }
 {
     play_carried(alloc, Grammar::Carried, carrier, reader, writer)
 }

@@ -3,8 +3,8 @@
 ghost use Rattle.std.specs.Prelude.{◌≡◌, ◌<◌, ◌^◌, [], false, IfOk, IfErr, string_bytes};
 ghost use Rattle.repo_play.specs.Lines.{IsFreshScript};
 ghost use Rattle.repo_play.specs.inner.Players.{state_on};
-ghost use Rattle.repo_play.specs.Plays.{LineSays};
-ghost use Rattle.repo_play.specs.inner.Scripts.{ScriptStops, EndsBy, RunsLine, RunsPiece, RunsToEnd};
+ghost use Rattle.repo_play.specs.Plays.{LineSays, EndsBy};
+ghost use Rattle.repo_play.specs.inner.Scripts.{ScriptStops, RunsLine, RunsPiece, RunsToEnd};
 
 use crate::carriers::Carrier;
 use crate::faults::{Halt, LoopError, PlayError};

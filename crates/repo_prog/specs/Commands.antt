@@ -90,12 +90,12 @@ PlayGives input start Status.Failed contents = (error : PlayError) × Plays Gram
 PlayGives input start Status.Usage contents = ⊥
 PlayGives input start Status.Flawed contents = ⊥
 
--- and of one whose messages are carried; or no connection could be made, and nothing was written
-abbrev pub LoopGives : List ℕ → Option (List ℕ) → Status → Option (List ℕ) → Type 0
-LoopGives input start Status.Done contents = Plays Grammar.Carried input start (Ok tt) contents
-LoopGives input start Status.Failed contents = (contents ≡ start) ⊎ ((error : LoopError) × Plays Grammar.Carried input start (Err error) contents)
-LoopGives input start Status.Usage contents = ⊥
-LoopGives input start Status.Flawed contents = ⊥
+-- and of one whose messages are carried; or nothing could listen, and nothing was read or written
+abbrev pub LoopGives : List ℕ → Option (List ℕ) → Status → Option (List ℕ) → Option (List ℕ) → Type 0
+LoopGives input start Status.Done left contents = Plays Grammar.Carried input start (Ok tt) contents
+LoopGives input start Status.Failed left contents = ((left ≡ Some input) × (contents ≡ start)) ⊎ ((error : LoopError) × Plays Grammar.Carried input start (Err error) contents)
+LoopGives input start Status.Usage left contents = ⊥
+LoopGives input start Status.Flawed left contents = ⊥
 
 -- the line that tells a new store's instance
 abbrev pub created_line : Instance → List ℕ
@@ -105,9 +105,11 @@ created_line id = codes "created " ++ encode_lower id.0 ++ line_feed ∷ []
 abbrev pub listening_line : List ℕ
 listening_line = codes "listening" ++ line_feed ∷ []
 
--- what making a store gives: it was made, and its line was written; or an error left what it leaves, and some first part of the line was written
+-- what making a store gives: it was made, and its line was written, or some first part of the line; or an error left what it leaves, and nothing was written
 abbrev pub InitGives : Config → Store → Option (List ℕ) → Status → Store → Option (List ℕ) → Type 0
 InitGives config old start Status.Done new contents = Makes (config_text config) old (Ok tt) new × Appends start contents (created_line config.id)
-InitGives config old start Status.Failed new contents = ((result : Result (Unit {0}) InitError) × Makes (config_text config) old result new) × AppendsPart start contents (created_line config.id)
+InitGives config old start Status.Failed new contents =
+    ((error : InitError) × Makes (config_text config) old (Err error) new × (contents ≡ start))
+    ⊎ (Makes (config_text config) old (Ok tt) new × AppendsPart start contents (created_line config.id))
 InitGives config old start Status.Usage new contents = ⊥
 InitGives config old start Status.Flawed new contents = ⊥

@@ -1,6 +1,7 @@
 -- What is said over connections that are made one after another.
 use Rattle.std.specs.Prelude.{◌≡◌, ◌≤◌, ◌++◌, ◌∷◌, [], ⊤, ℕ, Bool, true, false, List, length, Option, Some, None, Result, Ok, Err}
 use Rattle.std.specs.Io.KnownBytes.{Consumes}
+use Rattle.repo_name.specs.declared.names.Instance.{Instance}
 use Rattle.repo_wire.specs.declared.messages.Request.{Request}
 use Rattle.repo_session.specs.declared.driving.DriveError.{DriveError}
 use Rattle.repo_session.specs.Talks.{Talk, Said, Drives, Went}
@@ -60,10 +61,10 @@ AreDialed coming (try ∷ tries) after = (mid : Coming) × AreDialed coming trie
 
 -- ---- a client
 
--- a client was driven over a connection, to this result
-pub record DrivenOver {C J : Type 0} (job : C → J) (Fits : C → Trace → Type 0) (next : C → Option Request) (old : C) (call : Call) (result : Result ℕ DriveError) (new : C) : Type 0 where
+-- a client was driven over a connection, to this result; its job tells the instance that its requests have
+pub record DrivenOver {C J : Type 0} (own : J → Instance) (job : C → J) (Fits : C → Trace → Type 0) (next : C → Option Request) (old : C) (call : Call) (result : Result ℕ DriveError) (new : C) : Type 0 where
   pub read : Consumes call.came.ahead call.left.ahead call.said.bytes
-  pub drives : Drives Fits next old result new call.said call.came.sent call.left.sent
+  pub drives : Drives (own (job old)) Fits next old result new call.said call.came.sent call.left.sent
   pub same : job new ≡ job old
 
 -- what a driver gives, as a try gives it
@@ -72,9 +73,9 @@ as_try (Ok n) = Ok n
 as_try (Err error) = Err (TryError.Drive error)
 
 -- what a try gives: the client was driven over its connection; or there was none, and the client is as before
-abbrev pub TryGives : {C J : Type 0} → (C → J) → (C → Trace → Type 0) → (C → Option Request) → C → Try → Result ℕ TryError → C → Type 0
-TryGives job Fits next old None result new = (result ≡ Err TryError.NotReached) × (new ≡ old)
-TryGives job Fits next old (Some call) result new = (driven : Result ℕ DriveError) × DrivenOver job Fits next old call driven new × (result ≡ as_try driven)
+abbrev pub TryGives : {C J : Type 0} → (J → Instance) → (C → J) → (C → Trace → Type 0) → (C → Option Request) → C → Try → Result ℕ TryError → C → Type 0
+TryGives own job Fits next old None result new = (result ≡ Err TryError.NotReached) × (new ≡ old)
+TryGives own job Fits next old (Some call) result new = (driven : Result ℕ DriveError) × DrivenOver own job Fits next old call driven new × (result ≡ as_try driven)
 
 -- an error after which the job may go on over another connection: there was none, or it ended, broke or brought what is no reply
 abbrev pub is_cut : TryError → Bool
@@ -87,19 +88,19 @@ is_cut (TryError.Drive DriveError.Memory) = false
 is_cut (TryError.Drive DriveError.Sink) = false
 
 -- tries that all ended by such errors, the newest first, brought the client on
-abbrev pub AreCut : {C J : Type 0} → (C → J) → (C → Trace → Type 0) → (C → Option Request) → C → List Try → C → Type 0
-AreCut job Fits next old [] new = new ≡ old
-AreCut {C} job Fits next old (try ∷ tries) new = (mid : C) × AreCut job Fits next old tries mid × ((error : TryError) × TryGives job Fits next mid try (Err error) new × (is_cut error ≡ true))
+abbrev pub AreCut : {C J : Type 0} → (J → Instance) → (C → J) → (C → Trace → Type 0) → (C → Option Request) → C → List Try → C → Type 0
+AreCut own job Fits next old [] new = new ≡ old
+AreCut {C} own job Fits next old (try ∷ tries) new = (mid : C) × AreCut own job Fits next old tries mid × ((error : TryError) × TryGives own job Fits next mid try (Err error) new × (is_cut error ≡ true))
 
 -- what driving a client over connections gives, where the first may be followed by so many more: the last try gave the result, and all before it
 -- were cut off; the client went as over one connection; and where the last one was cut off too, no more were left
-pub record DrivesAgain {C J : Type 0} (job : C → J) (Fits : C → Trace → Type 0) (next : C → Option Request) (retry : ℕ) (old : C) (result : Result ℕ TryError) (new : C) (coming after : Coming) : Type 0 where
+pub record DrivesAgain {C J : Type 0} (own : J → Instance) (job : C → J) (Fits : C → Trace → Type 0) (next : C → Option Request) (retry : ℕ) (old : C) (result : Result ℕ TryError) (new : C) (coming after : Coming) : Type 0 where
   pub cut : List Try
   pub mid : C
   pub last : Try
-  pub before : AreCut job Fits next old cut mid
-  pub gives : TryGives job Fits next mid last result new
+  pub before : AreCut own job Fits next old cut mid
+  pub gives : TryGives own job Fits next mid last result new
   pub dialed : AreDialed coming (last ∷ cut) after
-  pub went : Went Fits old (talk_over (last ∷ cut)) new
+  pub went : Went (own (job old)) Fits old (talk_over (last ∷ cut)) new
   pub few : length cut ≤ retry
   pub spent : (error : TryError) → result ≡ Err error → is_cut error ≡ true → length cut ≡ retry

@@ -7,3 +7,4 @@ pub mod Tellings
 pub mod Dialing
 pub mod Jobs
 pub mod Shown
+pub mod Errands

@@ -50,7 +50,7 @@ fn try_once<C: Client, D: Dial, F: FnMut(&Emission) -> bool>(
     sink: &mut F,
 ) -> Result<u64, TryError>
     requires callable { (state : F) (x : _) → F.pre state x }
-    ensures { (try : Try) × Dials (D.coming dial.old) (dialed_in try) (D.coming dial.new) × TryGives C.job C.fits C.next client.old try result client.new }
+    ensures { (try : Try) × Dials (D.coming dial.old) (dialed_in try) (D.coming dial.new) × TryGives (λ job. (C.task job).who.instance) C.job C.fits C.next client.old try result client.new }
 {
     let Some((mut reader, mut writer)) = dial.dial() else {
         return Err(TryError::NotReached);
@@ -74,7 +74,8 @@ pub fn drive_again<C: Client, D: Dial, F: FnMut(&Emission) -> bool>(
     mut sink: F,
 ) -> Result<u64, TryError>
     requires callable { (state : F) (x : _) → F.pre state x }
-    ensures again { DrivesAgain C.job C.fits C.next retry client.old result client.new (D.coming dial.old) (D.coming dial.new) }
+    ensures again { DrivesAgain (λ job. (C.task job).who.instance) C.job C.fits C.next retry client.old result client.new
+            (D.coming dial.old) (D.coming dial.new) }
     ensures job { C.job client.new ≡ C.job client.old }
 {
     let mut result = try_once(alloc, client, dial, &mut sink);

@@ -8,6 +8,7 @@ ghost use Rattle.repo_prog.specs.Commands.{IsEnd, IsStoredStatus};
 ghost use Rattle.repo_prog.specs.Tellings.{stored_line};
 ghost use Rattle.repo_prog.specs.declared.status.Status.{Status};
 ghost use Rattle.repo_prog.specs.Shown.{ShowsStored, TellsStored};
+ghost use Rattle.repo_prog.specs.Jobs.{BackupObeyed};
 
 use crate::again::drive_again;
 use crate::callers::Caller;
@@ -79,6 +80,7 @@ pub fn backup_entries<D: Dial, O: Write, F: Write>(
     faults: &mut F,
 ) -> Status
     requires { IsHost host.now }
+    ensures obeyed { BackupObeyed caller.now host.now entries.items retry (D.coming dial.old) (D.coming dial.new) }
     ensures stored { result ≡ Status.Done → TellsStored caller.now host.now entries.items retry (D.coming dial.old) (D.coming dial.new)
         (O.contents output.old) (O.contents output.new) }
     ensures silent { result ≡ Status.Done → faults.new ≡ faults.old }
@@ -110,6 +112,7 @@ pub fn backup_found<D: Dial, O: Write, F: Write>(
     faults: &mut F,
 ) -> Status
     requires { IsHost host.now }
+    ensures obeyed { BackupObeyed caller.now host.now found.entries.items retry (D.coming dial.old) (D.coming dial.new) }
     ensures stored { IsStoredStatus result → TellsStored caller.now host.now found.entries.items retry (D.coming dial.old) (D.coming dial.new)
         (O.contents output.old) (O.contents output.new) }
     ensures whole { result ≡ Status.Done → found.skipped.items ≡ [] }
@@ -141,6 +144,7 @@ pub fn backup_command<T: Files + AllocGlobal + Clone + Drop, D: Dial, O: Write, 
     faults: &mut F,
 ) -> Status
     requires { IsHost host.now }
+    ensures obeyed { (entries : List Entry) × BackupObeyed caller.now host.now entries retry (D.coming dial.old) (D.coming dial.new) }
     ensures stored { IsStoredStatus result → (entries : List Entry) × TellsStored caller.now host.now entries retry (D.coming dial.old) (D.coming dial.new)
         (O.contents output.old) (O.contents output.new) }
     ensures silent { result ≡ Status.Done → faults.new ≡ faults.old }

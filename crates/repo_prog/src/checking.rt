@@ -8,6 +8,7 @@ ghost use Rattle.repo_prog.specs.Commands.{IsEnd, IsStoredStatus};
 ghost use Rattle.repo_prog.specs.Tellings.{clean_line, fault_lines};
 ghost use Rattle.repo_prog.specs.declared.status.Status.{Status};
 ghost use Rattle.repo_prog.specs.Shown.{ShowsClean, ShowsFaults, TellsClean, TellsFaults};
+ghost use Rattle.repo_prog.specs.Jobs.{CheckObeyed};
 
 use crate::again::drive_again;
 use crate::callers::{Caller, HOST};
@@ -95,6 +96,7 @@ pub fn check_command<D: Dial, O: Write, F: Write>(
     output: &mut O,
     faults: &mut F,
 ) -> Status
+    ensures obeyed { CheckObeyed caller.now retry (D.coming dial.old) (D.coming dial.new) }
     ensures clean { result ≡ Status.Done → TellsClean caller.now retry (D.coming dial.old) (D.coming dial.new) (O.contents output.old) (O.contents output.new) }
     ensures flawed { result ≡ Status.Flawed → TellsFaults caller.now retry (D.coming dial.old) (D.coming dial.new)
         (O.contents output.old) (O.contents output.new) }

@@ -72,7 +72,7 @@ where
     ensures plays { order ≡ Order.Play → (text : List ℕ) → R.remaining input.old ≡ Some text
         → PlayGives text (W.contents output.old) result (W.contents output.new) }
     ensures loops { order ≡ Order.Loop → (text : List ℕ) → R.remaining input.old ≡ Some text
-        → LoopGives text (W.contents output.old) result (W.contents output.new) }
+        → LoopGives text (W.contents output.old) result (R.remaining input.new) (W.contents output.new) }
 {
     match order {
         Order::Frames => frames_command(rt.alloc(), input, output, faults),

@@ -2,6 +2,7 @@
 
 ghost use Rattle.std.specs.Prelude.{◌≡◌, ◌≢◌};
 ghost use Rattle.repo_prog.specs.Commands.{IsErrand};
+ghost use Rattle.repo_prog.specs.Errands.{ErrandGives, LocksGive};
 ghost use Rattle.repo_prog.specs.declared.status.Status.{Status};
 
 use crate::backing::backup_command;
@@ -30,6 +31,7 @@ fn ask_locks<D: Dial, O: Write, F: Write>(
     output: &mut O,
     faults: &mut F,
 ) -> Status
+    ensures gives { LocksGive errand caller.now (D.coming dial.old) (D.coming dial.new) (O.contents output.old) result (O.contents output.new) }
     ensures silent { result ≡ Status.Done → faults.new ≡ faults.old }
     ensures status { result ≢ Status.Usage }
 {
@@ -45,7 +47,7 @@ fn ask_locks<D: Dial, O: Write, F: Write>(
 }
 
 /// Does an errand over connections that are made one after another: of a job, so many at most after the first; of what
-/// is asked about locks, one.
+/// is asked about locks, one. It does what the errand's command says of itself, and no other's.
 pub fn do_errand<T: Files + AllocGlobal + Clone + Drop, D: Dial, O: Write, F: Write>(
     rt: &T,
     caller: &Caller,
@@ -56,6 +58,7 @@ pub fn do_errand<T: Files + AllocGlobal + Clone + Drop, D: Dial, O: Write, F: Wr
     faults: &mut F,
 ) -> Status
     requires { IsErrand errand }
+    ensures gives { ErrandGives errand caller.now retry (D.coming dial.old) (D.coming dial.new) (O.contents output.old) result (O.contents output.new) }
     ensures silent { result ≡ Status.Done → faults.new ≡ faults.old }
     ensures status { result ≢ Status.Usage }
 {

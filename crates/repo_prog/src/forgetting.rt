@@ -7,6 +7,7 @@ ghost use Rattle.repo_prog.specs.Commands.{IsEnd};
 ghost use Rattle.repo_prog.specs.Tellings.{forgotten_lines};
 ghost use Rattle.repo_prog.specs.declared.status.Status.{Status};
 ghost use Rattle.repo_prog.specs.Shown.{ShowsForgotten, TellsForgotten};
+ghost use Rattle.repo_prog.specs.Jobs.{ForgetObeyed};
 
 use crate::again::drive_again;
 use crate::callers::{Caller, HOST};
@@ -50,6 +51,7 @@ pub fn forget_command<D: Dial, O: Write, F: Write>(
     output: &mut O,
     faults: &mut F,
 ) -> Status
+    ensures obeyed { ForgetObeyed caller.now choice retry (D.coming dial.old) (D.coming dial.new) }
     ensures forgotten { result ≡ Status.Done → TellsForgotten caller.now choice retry (D.coming dial.old) (D.coming dial.new)
         (O.contents output.old) (O.contents output.new) }
     ensures none { IsNoPolicy choice → (result ≡ Status.Failed) × (dial.new ≡ dial.old) × (output.new ≡ output.old) }

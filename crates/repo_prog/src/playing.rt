@@ -94,7 +94,7 @@ impl<'a, T: Net> Loopback<'a, T> {
 impl<T: Net> Carrier for Loopback<'_, T> {
     ghost use Rattle.std.specs.Prelude.{⊤};
 
-    ghost fails = { ⊤ };
+    ghost fails = { λ _. ⊤ };
 
     fn request(&mut self, client: usize, request: &Request) -> Result<(), CarryError> {
         let alloc = self.alloc;
@@ -117,7 +117,8 @@ pub fn loop_command<T: Net + AllocGlobal, R: Read, W: Write, F: Write>(
     output: &mut W,
     faults: &mut F,
 ) -> Status
-    ensures gives { (text : List ℕ) → R.remaining input.old ≡ Some text → LoopGives text (W.contents output.old) result (W.contents output.new) }
+    ensures gives { (text : List ℕ) → R.remaining input.old ≡ Some text → LoopGives text (W.contents output.old) result
+        (R.remaining input.new) (W.contents output.new) }
     ensures silent { result ≡ Status.Done → faults.new ≡ faults.old }
     ensures status { result ≢ Status.Usage }
 {

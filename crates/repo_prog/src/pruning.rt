@@ -6,6 +6,7 @@ ghost use Rattle.repo_prog.specs.Commands.{IsEnd};
 ghost use Rattle.repo_prog.specs.Tellings.{pruned_line};
 ghost use Rattle.repo_prog.specs.declared.status.Status.{Status};
 ghost use Rattle.repo_prog.specs.Shown.{ShowsPruned, TellsPruned};
+ghost use Rattle.repo_prog.specs.Jobs.{PruneObeyed};
 
 use crate::again::drive_again;
 use crate::callers::{Caller, HOST};
@@ -48,6 +49,7 @@ pub fn prune_command<D: Dial, O: Write, F: Write>(
     output: &mut O,
     faults: &mut F,
 ) -> Status
+    ensures obeyed { PruneObeyed caller.now retry (D.coming dial.old) (D.coming dial.new) }
     ensures pruned { result ≡ Status.Done → TellsPruned caller.now retry (D.coming dial.old) (D.coming dial.new)
         (O.contents output.old) (O.contents output.new) }
     ensures silent { result ≡ Status.Done → faults.new ≡ faults.old }

@@ -5,7 +5,7 @@ ghost use Rattle.repo_name.specs.declared.names.Name.{Name};
 ghost use Rattle.repo_session.specs.Sessions.{ended_in};
 ghost use Rattle.repo_session.specs.declared.outcomes.Outcome.{Outcome};
 ghost use Rattle.repo_prog.specs.Commands.{IsEnd};
-ghost use Rattle.repo_prog.specs.Jobs.{RestoresSnapshot};
+ghost use Rattle.repo_prog.specs.Jobs.{RestoresSnapshot, ListObeyed, RestoreObeyed};
 ghost use Rattle.repo_prog.specs.Tellings.{snapshot_lines, complete_line};
 ghost use Rattle.repo_prog.specs.declared.status.Status.{Status};
 ghost use Rattle.repo_prog.specs.Shown.{ShowsListed, TellsListed, ShowsRestored, TellsRestored};
@@ -53,6 +53,7 @@ pub fn snapshots_command<D: Dial, O: Write, F: Write>(
     output: &mut O,
     faults: &mut F,
 ) -> Status
+    ensures obeyed { ListObeyed caller.now retry (D.coming dial.old) (D.coming dial.new) }
     ensures listed { result ≡ Status.Done → TellsListed caller.now retry (D.coming dial.old) (D.coming dial.new)
         (O.contents output.old) (O.contents output.new) }
     ensures silent { result ≡ Status.Done → faults.new ≡ faults.old }
@@ -104,7 +105,8 @@ fn restored<D: Dial, S: FnMut(&Emission) -> bool>(
     retry: u64,
 ) -> Result<Restore, TryError>
     requires callable { (state : S) (x : _) → S.pre state x }
-    ensures { IfOk result (λ restore. (entries : ℕ) → ended_in restore.session ≡ Some (Outcome.Complete entries)
+    ensures obeyed { RestoreObeyed caller.now name retry (D.coming dial.old) (D.coming dial.new) }
+    ensures ended { IfOk result (λ restore. (entries : ℕ) → ended_in restore.session ≡ Some (Outcome.Complete entries)
         → RestoresSnapshot caller.now name entries retry (D.coming dial.old) (D.coming dial.new)) }
 {
     let who = caller.who(alloc, HOST)?;
@@ -125,6 +127,7 @@ pub fn restore_into<D: Dial, S: FnMut(&Emission) -> bool, O: Write, F: Write>(
     faults: &mut F,
 ) -> Status
     requires callable { (state : S) (x : _) → S.pre state x }
+    ensures obeyed { RestoreObeyed caller.now name retry (D.coming dial.old) (D.coming dial.new) }
     ensures restored { result ≡ Status.Done → TellsRestored caller.now name retry (D.coming dial.old) (D.coming dial.new)
         (O.contents output.old) (O.contents output.new) }
     ensures silent { result ≡ Status.Done → faults.new ≡ faults.old }
@@ -163,6 +166,7 @@ pub fn restore_command<T: Files + AllocGlobal + Clone + Drop, D: Dial, O: Write,
     output: &mut O,
     faults: &mut F,
 ) -> Status
+    ensures obeyed { RestoreObeyed caller.now name retry (D.coming dial.old) (D.coming dial.new) }
     ensures restored { result ≡ Status.Done → TellsRestored caller.now name retry (D.coming dial.old) (D.coming dial.new)
         (O.contents output.old) (O.contents output.new) }
     ensures silent { result ≡ Status.Done → faults.new ≡ faults.old }

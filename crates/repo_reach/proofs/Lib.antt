@@ -7,3 +7,4 @@ pub mod Adding
 pub mod Turning
 pub mod Reaching
 pub mod Using
+pub mod Deepening

@@ -162,6 +162,18 @@ TurnIs facts texts c (turn.Missing n) = IsTreeNowhere facts n × StandsAt c.seen
 TurnIs facts texts c (turn.TooDeep n) = HasTooDeep c.seen.items n × LeadsTo texts c.roots.items greatest_depth n
 TurnIs facts texts c turn.Done = (c.waiting.items ≡ []) × (length c.roots.items ≤ c.root)
 
+-- each tree that has nodes at the greatest depth, and is looked at there now, was so before or is told
+abbrev pub DeepOnes : (Name → Type 0) → List Seen → List Seen → Type 0
+DeepOnes Told old new = (i : ℕ) (was seen : Seen) → slice_get old i ≡ Some was → slice_get new i ≡ Some seen → WasAt seen greatest_depth → IsTooDeep seen greatest_depth
+    → WasAt was greatest_depth ⊎ Told seen.name
+
+-- what comes next tells the one that is new
+abbrev pub TellsDeep : List Seen → List Seen → Turn → Type 0
+TellsDeep old new (turn.Ask fact) = DeepOnes (λ n. ⊥) old new
+TellsDeep old new (turn.Missing n) = DeepOnes (λ n. ⊥) old new
+TellsDeep old new (turn.TooDeep deep) = DeepOnes (λ n. n ≡ deep) old new
+TellsDeep old new turn.Done = DeepOnes (λ n. ⊥) old new
+
 -- ---- one tree more, and one less
 
 -- a tree of this name that was looked at at no depth

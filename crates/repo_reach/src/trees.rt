@@ -9,7 +9,7 @@ ghost use Rattle.repo_reach.specs.declared.trees.Seen.{Seen};
 ghost use Rattle.repo_reach.specs.declared.trees.Visit.{Visit};
 ghost use Rattle.repo_reach.specs.declared.trees.Trees.{Trees};
 ghost use Rattle.repo_tree.specs.Spelling.{greatest_depth};
-ghost use Rattle.repo_reach.specs.Walks.{StandsAt, WasAt, IsWalk, IsVisitDue, IsLeftToVisit, IsNextVisit, IsSameSeen, IsSameWalk, IsTooDeep, Flags, AreSameTrees, trees_below, TurnIs, IsNewTree, HasRead, Adds, IsUnchanged, Rewinds, Drops, KeepsWalk, JoinsWalk, ComesBack, HasTreesBack};
+ghost use Rattle.repo_reach.specs.Walks.{StandsAt, WasAt, IsWalk, IsVisitDue, IsLeftToVisit, IsNextVisit, IsSameSeen, IsSameWalk, IsTooDeep, Flags, AreSameTrees, trees_below, TurnIs, IsNewTree, HasRead, Adds, IsUnchanged, Rewinds, Drops, TellsDeep, KeepsWalk, JoinsWalk, ComesBack, HasTreesBack};
 ghost use Rattle.repo_reach.specs.inner.Looking.{SaysItFits, TurnsTo, SaysLooked, IsRootVisit, SpreadsFrom, LooksOn, LeavesFewer};
 
 use crate::links::Links;
@@ -332,6 +332,7 @@ impl Trees {
     /// more is.
     fn look(&mut self, at: usize, depth: usize) -> Result<(), AllocError>
         ensures walk { OnOk result (LooksOn self.old at depth self.new) }
+        ensures flags { OnOk result (Flags self.old.seen.items at depth self.new.seen.items) }
         ensures fewer { OnOk result (LeavesFewer self.old at depth self.new) }
         ensures err { OnErr result (KeepsWalk self.old self.new) }
         ensures kept { IsSameWalk self.old self.new }
@@ -342,12 +343,13 @@ impl Trees {
     }
 
     /// What comes next: the tree to be asked for, one that no fact gives, one that has nodes at a path of 100
-    /// components, or the end. What was asked for is to be given by `add` or `pass_over` before the next call, and one
+    /// components, just where one is looked at there, or the end. What was asked for is to be given by `add` or `pass_over` before the next call, and one
     /// that is missing by `pass_over`; else the same comes again. After one that is too deep the walk can go on. It fails
     /// for memory alone, and then it can be called again.
     pub fn next(&mut self, lookup: &Lookup) -> Result<Turn, AllocError>
         ensures walk { KeepsWalk self.old self.new }
         ensures turn { IfOk result (λ turn. (texts : List (List ℕ)) → IsWalk texts self.old → TurnIs lookup.now texts self.new turn) }
+        ensures deep { IfOk result (λ turn. (texts : List (List ℕ)) → IsWalk texts self.old → TellsDeep self.old.seen.items self.new.seen.items turn) }
         ensures kept { IsSameWalk self.old self.new }
     {
         while let Some(visit) = self.next_visit() {

@@ -1,10 +1,11 @@
 -- What a talk has, after one turn more.
-use Rattle.std.proofs.Common.{◌≡◌, ◌<◌, ◌+◌, ◌++◌, ◌∷◌, [], ℕ, List, Option, Some, None, Result, Ok, Err, length, take, refl, sym, ap, subst, arith, inl, inr, append_assoc, get_or, suc, ◌∙◌}
+use Rattle.std.proofs.Common.{◌≡◌, ◌<◌, ◌+◌, ◌++◌, ◌∷◌, [], ℕ, List, Option, Some, None, Result, Ok, Err, length, take, refl, sym, ap, subst, arith, inl, inr, append_assoc, length-append, get_or, suc, ◌∙◌}
 use Rattle.std.specs.Io.KnownBytes.{Appends, Consumes}
 use Rattle.std.proofs.KnownBytes.{Appends-trans, Appends-nil}
 use Rattle.std.proofs.Math.Seq.{take-length, take-append-add, take-suc}
-use Rattle.std.proofs.lemmas.List.{append-nil}
+use Rattle.std.proofs.lemmas.List.{append-nil, length-map}
 use Rattle.std.proofs.lemmas.List.Concat.{flat_map-append}
+use Rattle.repo_name.specs.declared.names.Instance.{Instance}
 use Rattle.repo_wire.specs.declared.messages.Ask.{Ask}
 use Rattle.repo_wire.specs.declared.messages.Reply.{Reply}
 use Rattle.repo_wire.specs.declared.messages.Request.{Request}
@@ -18,10 +19,12 @@ use Rattle.repo_store.proofs.ServiceLemmas.{causes_on}
 use Rattle.repo_session.specs.declared.connections.Connection.{Connection}
 use Rattle.repo_session.specs.declared.driving.DriveError.{DriveError}
 use Rattle.repo_session.specs.declared.emissions.Emission.{Emission}
-use Rattle.repo_session.specs.Clients.{IsReplyTo, exchange}
+use Rattle.repo_session.specs.declared.outcomes.Outcome.{Outcome}
+use Rattle.repo_session.specs.Clients.{IsReplyTo, IsObedient, exchange}
+use Rattle.repo_session.specs.Order.{Task}
 use Rattle.repo_session.specs.Connections.{BeginsWithReplies, Asks}
 use Rattle.repo_session.specs.Talks.{Turn, Talk, IsTurn, first_carried, trace_of, sent_in, taken_in, read_in, frames_of, Went, Said, IsHeard, WritesPart, ArePassed, DriveCause, TalkRan, MayBeAhead, AskGives}
-use Rattle.repo_session.specs.Traces.{Each, Trace}
+use Rattle.repo_session.specs.Traces.{Each, Exchange, Trace}
 use Rattle.repo_session.proofs.Connecting.{begins}
 
 -- the frames of one request more
@@ -58,9 +61,19 @@ pub first_of_more : (sent : List Request) (request : Request) (before now later 
 first_of_more [] request before now later is first = sym is ∙ first
 first_of_more (r ∷ sent) request before now later is first = first
 
+-- the request is the client's own, with the number after those of a trace
+abbrev pub IsNumbered : Instance → Trace → Request → Type 0
+IsNumbered instance es request = (request.instance ≡ instance) × (request.sequence ≡ length es + 1)
+
+-- so is each that is pending of an obedient client
+pub numbered_next : (task : Task) (Allows : Trace → Ask → Type 0) (Gives : Trace → Exchange → Type 0) (Own : Trace → Outcome → Type 0) (next : Option Request) (outcome : Option Outcome)
+    (es : Trace) (instance : Instance) (request : Request) → IsObedient task Allows Gives Own next outcome es → next ≡ Some request → task.who.instance ≡ instance
+    → IsNumbered instance es request
+numbered_next task Allows Gives Own next outcome es instance request o is same = let n = o.pending request is in (n.instance ∙ same, n.sequence)
+
 -- no turn
-pub went_nowhere : {C : Type 0} (Fits : C → Trace → Type 0) (client : C) → Went Fits client [] client
-went_nowhere Fits client = record { turns = tt; fits = λ es h. h }
+pub went_nowhere : {C : Type 0} (instance : Instance) (Fits : C → Trace → Type 0) (client : C) → Went instance Fits client [] client
+went_nowhere instance Fits client = record { turns = tt; numbered = λ es h. tt; fits = λ es h. h }
 
 pub passed_none : (next : Option Request) → ArePassed next []
 passed_none None = tt
@@ -88,13 +101,21 @@ unanswered error request bytes talk passed new next a b c same h asks w =
     at DriveError.Sink x = absurd x
 
 -- a turn more
-pub went_on : {C : Type 0} (Fits : C → Trace → Type 0) (old mid new : C) (talk : Talk) (turn : Turn) → Went Fits old talk mid → IsTurn turn
-    → ((es : Trace) → Fits mid es → Fits new (exchange turn.request turn.reply turn.emitted ∷ es)) → Went Fits old (turn ∷ talk) new
-went_on Fits old mid new talk turn w t f = record { turns = (t, w.turns); fits = λ es h. f (trace_of talk ++ es) (w.fits es h) }
+pub went_on : {C : Type 0} (instance : Instance) (Fits : C → Trace → Type 0) (old mid new : C) (talk : Talk) (turn : Turn) → Went instance Fits old talk mid → IsTurn turn
+    → ((es : Trace) → Fits mid es → IsNumbered instance es turn.request)
+    → ((es : Trace) → Fits mid es → Fits new (exchange turn.request turn.reply turn.emitted ∷ es)) → Went instance Fits old (turn ∷ talk) new
+went_on instance Fits old mid new talk turn w t n f = record {
+  turns = (t, w.turns);
+  numbered = λ es h.
+      let q = n (trace_of talk ++ es) (w.fits es h) in
+      (q.0, omega (arith, q.1, length-append (trace_of talk) es, length-map talk (λ (t : Turn). exchange t.request t.reply t.emitted)), w.numbered es h);
+  fits = λ es h. f (trace_of talk ++ es) (w.fits es h);
+}
 
 -- the same turns, where the client went on by itself
-pub went_same : {C : Type 0} (Fits : C → Trace → Type 0) (old mid new : C) (talk : Talk) → Went Fits old talk mid → ((es : Trace) → Fits mid es → Fits new es) → Went Fits old talk new
-went_same Fits old mid new talk w f = record { turns = w.turns; fits = λ es h. f (trace_of talk ++ es) (w.fits es h) }
+pub went_same : {C : Type 0} (instance : Instance) (Fits : C → Trace → Type 0) (old mid new : C) (talk : Talk) → Went instance Fits old talk mid → ((es : Trace) → Fits mid es → Fits new es)
+    → Went instance Fits old talk new
+went_same instance Fits old mid new talk w f = record { turns = w.turns; numbered = w.numbered; fits = λ es h. f (trace_of talk ++ es) (w.fits es h) }
 
 -- ---- against a shelf
 

@@ -3,9 +3,9 @@
 ghost use Rattle.std.specs.Prelude.{◌≡◌, ◌≢◌, ◌≤◌, ◌+◌, ◌^◌, ◌-◌, ℕ, min, length, option_map, All, Bool, true, false, Some, None, IfOk, IsErrOf};
 ghost use Rattle.repo_name.specs.declared.kinds.Kind.{Kind};
 ghost use Rattle.repo_name.specs.Naming.{IsName};
-ghost use Rattle.repo_store.specs.Faults.{fails_reading, fails_writing, one_less, count_of, WritesThenFails};
+ghost use Rattle.repo_store.specs.Faults.{fails_reading, fails_writing, one_less, count_of, ReadsAsArmed, WritesThenFails};
 ghost use Rattle.repo_store.specs.Laws.{Reads, Writes, HasCause};
-ghost use Rattle.repo_store.specs.Pages.{IsPage};
+ghost use Rattle.repo_store.specs.Pages.{ReadsPage};
 ghost use Rattle.repo_store.specs.Slices.{IsSlice, HasLength};
 ghost use Rattle.repo_store.specs.Stores.{PutsObject, RemovesObject, SavesTokens, SavesConfig};
 ghost use Rattle.repo_store.specs.declared.faults.Armed.{Armed};
@@ -197,14 +197,28 @@ impl<S: Shelf> Shelf for FaultShelf<S> {
         kind: Kind,
         after: Option<&Name>,
         limit: usize,
-    ) -> Result<Page, ShelfError> {
+    ) -> Result<Page, ShelfError>
+        ensures law { S.honest self.old.inner → ReadsPage kind (option_map (λ name. name.now) after.entry) limit (S.store self.old.inner) result (S.store self.new.inner) }
+        ensures cause { S.honest self.old.inner → HasCause (count_of (S.failed self.old.inner) self.old.count) result (count_of (S.failed self.new.inner) self.new.count) }
+        ensures armed { S.honest self.old.inner → ReadsAsArmed self.old.armed (S.failed self.old.inner) result self.new.armed (S.failed self.new.inner) }
+        ensures honest { S.honest self.old.inner → S.honest self.new.inner }
+        ensures quiet { S.writes self.new.inner ≡ S.writes self.old.inner }
+        ensures few { IfOk result (λ page. length page.names ≤ limit) }
+        ensures names { IfOk result (λ page. All IsName page.names) }
+    {
         if self.fails_reading() {
             return Err(ShelfError::Fault);
         }
         self.inner.names_after(kind, after, limit)
     }
 
-    fn ledger(&mut self) -> Result<Ledger, ShelfError> {
+    fn ledger(&mut self) -> Result<Ledger, ShelfError>
+        ensures law { S.honest self.old.inner → Reads (λ ledger. ledger ≡ (S.store self.old.inner).tokens) (S.store self.old.inner) result (S.store self.new.inner) }
+        ensures cause { S.honest self.old.inner → HasCause (count_of (S.failed self.old.inner) self.old.count) result (count_of (S.failed self.new.inner) self.new.count) }
+        ensures armed { S.honest self.old.inner → ReadsAsArmed self.old.armed (S.failed self.old.inner) result self.new.armed (S.failed self.new.inner) }
+        ensures honest { S.honest self.old.inner → S.honest self.new.inner }
+        ensures quiet { S.writes self.new.inner ≡ S.writes self.old.inner }
+    {
         if self.fails_reading() {
             return Err(ShelfError::Fault);
         }

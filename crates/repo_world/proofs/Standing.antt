@@ -20,7 +20,7 @@ use Rattle.repo_world.specs.Flows.{Flow, seat_at, world_of}
 use Rattle.repo_world.specs.Laws.{IsEmpty}
 use Rattle.repo_world.specs.inner.Seating.{StepsAsArmed}
 use Rattle.repo_world.specs.Seats.{Seated, empty_seat}
-use Rattle.repo_world.specs.Stages.{IsReachable, IsSafely, Leads, Shelf, Stage, seen}
+use Rattle.repo_world.specs.Stages.{IsReachable, IsSafely, Leads, LeadsOn, Shelf, Stage, seen}
 use Rattle.repo_world.specs.World.{Asked, Message, Said, World, beginning, client_at}
 use Rattle.repo_world.specs.declared.events.Applied.{Applied}
 use Rattle.repo_world.specs.declared.events.Event.{Event}
@@ -127,6 +127,18 @@ safely w r clash = every_run_is_safe r.store r.empty r.events [] w w r.run refl 
 
 pub ran_more : (w : World) (es : List Event) (n : ℕ) (d : Event) (u : World) (a : Applied) (v : World) → n < length es → Run w (take n es) u → Happens ⊤ u (get_or es n d) a v → Run w (take (n + 1) es) v
 ran_more w es n d u a v less r h = subst (λ (l : List Event). Run w l v) (sym (take_more es n d less)) (run_more w (take n es) u (get_or es n d) a v r h)
+
+-- ---- stages, one after another
+
+led_one : {S : Type 0} (store : S → Store) (failed : S → ℕ) (a : Stage S) (es : List Event) (b : Stage S) (e : Event) (applied : Applied) (c : Stage S) → LeadsOn store failed a es b
+    → Leads store failed b e applied c → LeadsOn store failed a (es ++ e ∷ []) c
+led_one store failed a [] b e applied c l h = (c, (applied, subst (λ x. Leads store failed x e applied c) l h), refl)
+led_one store failed a (d ∷ es) b e applied c l h = (l.0, l.1, led_one store failed l.0 es b e applied c l.2 h)
+
+pub led_more : {S : Type 0} (store : S → Store) (failed : S → ℕ) (a : Stage S) (es : List Event) (n : ℕ) (d : Event) (b : Stage S) (applied : Applied) (c : Stage S) → n < length es
+    → LeadsOn store failed a (take n es) b → Leads store failed b (get_or es n d) applied c → LeadsOn store failed a (take (n + 1) es) c
+led_more store failed a es n d b applied c less l h =
+    subst (λ (x : List Event). LeadsOn store failed a x c) (sym (take_more es n d less)) (led_one store failed a (take n es) b (get_or es n d) applied c l h)
 
 -- ---- a client's seat, as it is looked up
 

@@ -1,5 +1,5 @@
 -- What a world in code is made of, and the world for which it stands.
-use Rattle.std.specs.Prelude.{◌≡◌, ℕ, List, None}
+use Rattle.std.specs.Prelude.{◌≡◌, ◌∷◌, [], ℕ, List, None}
 use Rattle.repo_store.specs.Failing.{HasFailed}
 use Rattle.repo_store.specs.Kept.{Agrees}
 use Rattle.repo_store.specs.Stores.{Store, SavesConfig}
@@ -26,6 +26,15 @@ seen store stage = world_of (store stage.device) stage.flow
 -- an event leads from a stage to another, and comes to this; the device may fail by itself where its count of failures says that it did
 abbrev pub Leads : {S : Type 0} → (S → Store) → (S → ℕ) → Stage S → Event → Applied → Stage S → Type 0
 Leads store failed old event applied new = Happens (HasFailed (failed old.device) (failed new.device)) (seen store old) event applied (seen store new)
+
+-- events lead from a stage to another, one after another
+abbrev pub LeadsOn : {S : Type 0} → (S → Store) → (S → ℕ) → Stage S → List Event → Stage S → Type 0
+LeadsOn store failed old [] new = new ≡ old
+LeadsOn {S} store failed old (e ∷ es) new = (mid : Stage S) × ((applied : Applied) × Leads store failed old e applied mid) × LeadsOn store failed mid es new
+
+-- they lead so far, and the world is as they left it
+abbrev pub StopsAfter : {S : Type 0} → (S → Store) → (S → ℕ) → Stage S → List Event → Stage S → Type 0
+StopsAfter {S} store failed old es new = (mid : Stage S) × LeadsOn store failed old es mid × (seen store new ≡ seen store mid)
 
 -- a run from a store without objects leads to the world
 pub record IsReachable (w : World) : Type 0 where

@@ -13,7 +13,7 @@ ghost use Rattle.repo_store.specs.Memory.{store_of};
 ghost use Rattle.repo_store.specs.Stores.{empty};
 ghost use Rattle.repo_world.specs.Laws.{IsEmpty};
 ghost use Rattle.repo_world.specs.Reports.{IsReport};
-ghost use Rattle.repo_world.specs.Stages.{BeginsWithConfig, IsSafely, Leads, seen};
+ghost use Rattle.repo_world.specs.Stages.{BeginsWithConfig, IsSafely, Leads, LeadsOn, StopsAfter, seen};
 ghost use Rattle.repo_world.specs.Flows.{seat_at};
 ghost use Rattle.repo_world.specs.World as world;
 ghost use Rattle.repo_world.specs.World.{awaited};
@@ -208,11 +208,14 @@ impl<S: Shelf + Drop> World<S> {
         self.apply(copy)
     }
 
-    /// The events happen, one after another, until there is no memory. The world is safe after those that happened.
+    /// The events happen, one after another, as [`World::apply`] has each of them happen, until there is no memory. The
+    /// world is safe after those that happened.
     pub fn run(&mut self, events: &[Event]) -> Result<(), RunError>
+        ensures leads { OnOk result (LeadsOn S.store S.failed self.old events.now self.new) }
         ensures ran { OnOk result (Run (seen S.store self.old) events.now (seen S.store self.new)) }
         ensures stopped { IfErr result (λ e. (e.applied < length events.now)
-            × Run (seen S.store self.old) (take e.applied events.now) (seen S.store self.new)) }
+            × Run (seen S.store self.old) (take e.applied events.now) (seen S.store self.new)
+            × StopsAfter S.store S.failed self.old (take e.applied events.now) self.new) }
         ensures safe { IsSafely (seen S.store self.new) }
     {
         // A look at a field tells the prover the invariant.

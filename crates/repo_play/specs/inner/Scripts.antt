@@ -11,6 +11,7 @@ use Rattle.repo_play.specs.declared.faults.Halt.{Halt}
 use Rattle.repo_play.specs.declared.faults.LoopError.{LoopError}
 use Rattle.repo_play.specs.declared.faults.PlayError.{PlayError}
 use Rattle.repo_play.specs.declared.scripts.Script.{Script}
+use Rattle.repo_play.specs.declared.faults.CarryError.{CarryError}
 
 -- these lines were run, from the beginning, and what they print was written
 pub record RanLines {C : Type 0} (start : Option (List ℕ)) (script : Script C) (lines : List (List ℕ)) (text : List ℕ) (contents : Option (List ℕ)) : Type 0 where
@@ -59,14 +60,10 @@ ReadGives input start ahead remaining (Ok true) script contents =
 ReadGives input start ahead remaining (Ok false) script contents = ScriptStands input start script [] contents
 ReadGives input start ahead remaining (Err error) script contents = Plays script.grammar input start (Err error) contents
 
--- it may halt so, where what carries messages may fail so: an error of it comes only where it may
-abbrev pub HaltsBy : Type 0 → Halt → Type 0
-HaltsBy Fails (Halt.Carry error) = Fails
+-- it may halt so, where what carries messages may fail so: an error of it is one with which it may
+abbrev pub HaltsBy : (CarryError → Type 0) → Halt → Type 0
+HaltsBy Fails (Halt.Carry error) = Fails error
 HaltsBy Fails _ = ⊤
-
-abbrev pub EndsBy : Type 0 → LoopError → Type 0
-EndsBy Fails (LoopError.Carry error) = Fails
-EndsBy Fails (LoopError.Play error) = ⊤
 
 -- ---- wherever a script stands: it runs a line, a piece of its input, all that is left, or what a reader gives
 

@@ -23,9 +23,9 @@ returns-clause-comes g c =
     let is : IsBackup (who_in new.session) (handed_to new.session.job) None (ended_in new.session) (trace_of d.talk) = subst (λ (r : Option Request). IsBackup (who_in new.session) (handed_to new.session.job) r (ended_in new.session) (trace_of d.talk)) d.rests (backup_obeys new (trace_of d.talk) d.fits) in
     backs_up (who_in new.session) (handed_to old.session.job) from to failed d.talk (ended_in new.session) fit never.low ran d.few
     (subst (λ es. IsBackup (who_in new.session) es None (ended_in new.session) (trace_of d.talk)) (λ i. (job i).entries) is))
-    (at_end FitsBackup (λ (b : Backup). next_in b.session) old new c.lockstep.result from to failed (g.S.Shelf.failed c.lockstep.new.shelf) _ _ c.requires.fresh (c.lockstep.ensures.steps c.requires.honest) c.lockstep.ensures.few)
+    (at_end _ FitsBackup (λ (b : Backup). next_in b.session) old new c.lockstep.result from to failed (g.S.Shelf.failed c.lockstep.new.shelf) _ _ c.requires.fresh (c.lockstep.ensures.steps c.requires.honest) c.lockstep.ensures.few)
 
 pub returns-clause-went : goal.returns-clause-went
 returns-clause-went g c =
     if_ok_with _ _ c.lockstep.result (λ n w. (w.0, w.1, w.2))
-    (went_by FitsBackup (λ (b : Backup). next_in b.session) c.args.backup.now c.lockstep.new.client c.lockstep.result (g.S.Shelf.store c.args.shelf.now) (g.S.Shelf.store c.lockstep.new.shelf) (g.S.Shelf.failed c.args.shelf.now) (g.S.Shelf.failed c.lockstep.new.shelf) _ _ (c.lockstep.ensures.steps c.requires.honest))
+    (went_by _ FitsBackup (λ (b : Backup). next_in b.session) c.args.backup.now c.lockstep.new.client c.lockstep.result (g.S.Shelf.store c.args.shelf.now) (g.S.Shelf.store c.lockstep.new.shelf) (g.S.Shelf.failed c.args.shelf.now) (g.S.Shelf.failed c.lockstep.new.shelf) _ _ (c.lockstep.ensures.steps c.requires.honest))

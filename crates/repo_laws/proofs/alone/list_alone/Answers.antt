@@ -21,9 +21,9 @@ returns-clause-comes g c =
     let ran : TalkRan from failed d.talk to failed = subst (λ (i : ℕ). TalkRan from failed d.talk to i) never.same d.ran in
     let is : IsList (who_of new) None (ended_in new.session) (trace_of d.talk) = subst (λ (r : Option Request). IsList (who_of new) r (ended_in new.session) (trace_of d.talk)) d.rests (list_obeys new (trace_of d.talk) d.fits) in
     lists (who_of new) from to failed d.talk (ended_in new.session) fit never.low ran d.few is)
-    (at_end FitsList (λ (l : SnapshotList). next_in l.session) old new c.lockstep.result from to failed (g.S.Shelf.failed c.lockstep.new.shelf) _ _ c.requires.fresh (c.lockstep.ensures.steps c.requires.honest) c.lockstep.ensures.few)
+    (at_end _ FitsList (λ (l : SnapshotList). next_in l.session) old new c.lockstep.result from to failed (g.S.Shelf.failed c.lockstep.new.shelf) _ _ c.requires.fresh (c.lockstep.ensures.steps c.requires.honest) c.lockstep.ensures.few)
 
 pub returns-clause-went : goal.returns-clause-went
 returns-clause-went g c =
     if_ok_with _ _ c.lockstep.result (λ n w. (w.0, w.1, w.2))
-    (went_by FitsList (λ (l : SnapshotList). next_in l.session) c.args.list.now c.lockstep.new.client c.lockstep.result (g.S.Shelf.store c.args.shelf.now) (g.S.Shelf.store c.lockstep.new.shelf) (g.S.Shelf.failed c.args.shelf.now) (g.S.Shelf.failed c.lockstep.new.shelf) _ _ (c.lockstep.ensures.steps c.requires.honest))
+    (went_by _ FitsList (λ (l : SnapshotList). next_in l.session) c.args.list.now c.lockstep.new.client c.lockstep.result (g.S.Shelf.store c.args.shelf.now) (g.S.Shelf.store c.lockstep.new.shelf) (g.S.Shelf.failed c.args.shelf.now) (g.S.Shelf.failed c.lockstep.new.shelf) _ _ (c.lockstep.ensures.steps c.requires.honest))

@@ -25,8 +25,8 @@ returns-clause-comes g c =
     let is : IsRestore (wish_of new) None (ended_in new.session) (trace_of d.talk) = subst (λ (r : Option Request). IsRestore (wish_of new) r (ended_in new.session) (trace_of d.talk)) d.rests (restore_obeys new (trace_of d.talk) d.fits) in
     restores (wish_of old) from to failed d.talk (ended_in new.session) asked.0 fit asked.1 never.low ran d.few
     (subst (λ (w : Wish). IsRestore w None (ended_in new.session) (trace_of d.talk)) c.lockstep.ensures.job is))
-    (at_end FitsRestore (λ (r : Restore). next_in r.session) old new c.lockstep.result from to failed (g.S.Shelf.failed c.lockstep.new.shelf) _ _ c.requires.fresh (c.lockstep.ensures.steps c.requires.honest) c.lockstep.ensures.few)
+    (at_end _ FitsRestore (λ (r : Restore). next_in r.session) old new c.lockstep.result from to failed (g.S.Shelf.failed c.lockstep.new.shelf) _ _ c.requires.fresh (c.lockstep.ensures.steps c.requires.honest) c.lockstep.ensures.few)
 
 pub returns-clause-went : goal.returns-clause-went
 returns-clause-went g c =
-    went_by FitsRestore (λ (r : Restore). next_in r.session) c.args.restore.now c.lockstep.new.client c.lockstep.result (g.S.Shelf.store c.args.shelf.now) (g.S.Shelf.store c.lockstep.new.shelf) (g.S.Shelf.failed c.args.shelf.now) (g.S.Shelf.failed c.lockstep.new.shelf) _ _ (c.lockstep.ensures.steps c.requires.honest)
+    went_by _ FitsRestore (λ (r : Restore). next_in r.session) c.args.restore.now c.lockstep.new.client c.lockstep.result (g.S.Shelf.store c.args.shelf.now) (g.S.Shelf.store c.lockstep.new.shelf) (g.S.Shelf.failed c.args.shelf.now) (g.S.Shelf.failed c.lockstep.new.shelf) _ _ (c.lockstep.ensures.steps c.requires.honest)

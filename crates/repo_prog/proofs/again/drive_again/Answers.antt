@@ -6,7 +6,7 @@ pub loop-turn-init : goal.loop-turn-init
 loop-turn-init g c =
     let e = c.try_once-result.ensures in
     record {
-      tried = tried_first g.C.Client.job g.C.Client.fits g.C.Client.next c.args.client.now c.try_once-result.result c.try_once-result.new.client
+      tried = tried_first (λ job. (g.C.Client.task job).who.instance) g.C.Client.job g.C.Client.fits g.C.Client.next c.args.client.now c.try_once-result.result c.try_once-result.new.client
           (g.D.Dial.coming c.args.dial.now) (g.D.Dial.coming c.try_once-result.new.dial) e.0 e.1 e.2;
       few = omega arith;
     }
@@ -14,10 +14,10 @@ loop-turn-init g c =
 pub loop-turn-preserved : goal.loop-turn-preserved
 loop-turn-preserved g c =
     let e = c.try_once-result-in-Err.ensures in
-    let before = subst (λ r. Tried g.C.Client.job g.C.Client.fits g.C.Client.next c.args.client.now r c.loop-turn.client (g.D.Dial.coming c.args.dial.now) (g.D.Dial.coming c.loop-turn.dial) c.loop-turn.turn)
+    let before = subst (λ r. Tried (λ job. (g.C.Client.task job).who.instance) g.C.Client.job g.C.Client.fits g.C.Client.next c.args.client.now r c.loop-turn.client (g.D.Dial.coming c.args.dial.now) (g.D.Dial.coming c.loop-turn.dial) c.loop-turn.turn)
     c.in-Err.is c.loop-turn.invariant.tried in
     record {
-      tried = tried_again g.C.Client.job g.C.Client.fits g.C.Client.next c.args.client.now c.in-Err.error c.try_once-result-in-Err.result c.loop-turn.client c.try_once-result-in-Err.new.client
+      tried = tried_again (λ job. (g.C.Client.task job).who.instance) g.C.Client.job g.C.Client.fits g.C.Client.next c.args.client.now c.in-Err.error c.try_once-result-in-Err.result c.loop-turn.client c.try_once-result-in-Err.new.client
           (g.D.Dial.coming c.args.dial.now) (g.D.Dial.coming c.loop-turn.dial) (g.D.Dial.coming c.try_once-result-in-Err.new.dial) c.loop-turn.turn e.0 before (search rules) e.1 e.2;
       few = omega (arith, c.loop-turn-test.true);
     }

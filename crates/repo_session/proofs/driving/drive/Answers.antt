@@ -3,7 +3,7 @@ use Rattle.std.proofs.KnownBytes.{Consumes-nil, Appends-nil}
 use Rattle.std.proofs.lemmas.Result.{err_from_is_err_and}
 use Rattle.repo_session.specs.Talks.{Turn, Talk, IsTurn, Said, first_carried, read_in, sent_in}
 use Rattle.repo_session.proofs.Connecting.{begins, consumed}
-use Rattle.repo_session.proofs.Talking.{first_of_more, silent, written_on, whole_next, whole_part, part_next, passed_none, heard_all, unanswered, went_nowhere, went_on, went_same}
+use Rattle.repo_session.proofs.Talking.{first_of_more, silent, written_on, whole_next, whole_part, part_next, passed_none, heard_all, unanswered, numbered_next, went_nowhere, went_on, went_same}
 use Rattle.repo_session.proofs.driving.drive.Goals as goal
 
 pub returns-in_err-piece-clause-carries : goal.returns-in_err-piece-clause-carries
@@ -13,12 +13,12 @@ returns-in_err-piece-clause-carries g c =
     rw (p.1, p.2) (
       silent,
       Consumes-nil (g.R.Read.remaining c.args.reader.now),
-      (went_nowhere g.C.Client.fits c.args.client.now, ([], refl), whole_part start start [] (g.C.Client.next c.args.client.now) (Appends-nil start), refl),
+      (went_nowhere (g.C.Client.task (g.C.Client.job c.args.client.now)).who.instance g.C.Client.fits c.args.client.now, ([], refl), whole_part start start [] (g.C.Client.next c.args.client.now) (Appends-nil start), refl),
     )
 
 pub loop-turn-init : goal.loop-turn-init
 loop-turn-init g c = record {
-  gone = ([], [], Consumes-nil (g.R.Read.remaining c.args.reader.now), c.new-connection.ensures, went_nowhere g.C.Client.fits c.args.client.now, refl, Appends-nil (g.W.Write.contents c.args.writer.now), refl);
+  gone = ([], [], Consumes-nil (g.R.Read.remaining c.args.reader.now), c.new-connection.ensures, went_nowhere (g.C.Client.task (g.C.Client.job c.args.client.now)).who.instance g.C.Client.fits c.args.client.now, refl, Appends-nil (g.W.Write.contents c.args.writer.now), refl);
   few = lit≤ tt;
   room = c.in_ok-piece.ensures;
   sink = c.requires;
@@ -64,7 +64,7 @@ returns-in_err-take-clause-carries g c =
       said,
       consumed (g.R.Read.remaining c.args.reader.now) (g.R.Read.remaining c.loop-turn.reader) (g.R.Read.remaining c.ask.new.reader) i.0 n.0 i.2 n.1,
       (
-        went_same g.C.Client.fits c.args.client.now c.loop-turn.client c.take.new.self i.1 i.4 c.in_err-take.ensures.fits,
+        went_same (g.C.Client.task (g.C.Client.job c.args.client.now)).who.instance g.C.Client.fits c.args.client.now c.loop-turn.client c.take.new.self i.1 i.4 c.in_err-take.ensures.fits,
         begins (i.0 ++ n.0) (read_in i.1 ++ more) c.ask.new.self n.4.0.1,
         part_next start end (sent_in i.1) c.in-Some.request.now (g.C.Client.next c.take.new.self) still (whole_next start end (sent_in i.1) c.in-Some.request.now written),
         ap (first_carried (sent_in i.1)) c.in_err-take.ensures.next ∙ i.7,
@@ -86,8 +86,10 @@ returns-then-not-hand_out-clause-carries g c =
       said,
       consumed (g.R.Read.remaining c.args.reader.now) (g.R.Read.remaining c.loop-turn.reader) (g.R.Read.remaining c.ask.new.reader) i.0 n.0 i.2 n.1,
       (
-        went_on g.C.Client.fits c.args.client.now c.loop-turn.client c.take.new.self i.1 turn i.4 is (c.in_ok-take.ensures.taken c.in-Some.request.now pending is.answers),
-        (heard_all (i.0 ++ n.0) talk (begins (i.0 ++ n.0) (read_in talk) c.ask.new.self n.4.0.1), refl),
+        went_on (g.C.Client.task (g.C.Client.job c.args.client.now)).who.instance g.C.Client.fits c.args.client.now c.loop-turn.client c.take.new.self i.1 turn i.4 is
+            (λ es f. numbered_next _ _ _ _ _ _ es (g.C.Client.task (g.C.Client.job c.args.client.now)).who.instance c.in-Some.request.now (g.met.C.Client.obedient c.loop-turn.client es f) pending (ap (λ j. (g.C.Client.task j).who.instance) c.loop-turn.invariant.job))
+            (c.in_ok-take.ensures.taken c.in-Some.request.now pending is.answers),
+        (heard_all (i.0 ++ n.0) talk (begins (i.0 ++ n.0) (read_in talk) c.ask.new.self n.4.0.1), refl, λ none. c.hand_out.ensures.some c.if-not-hand_out.true (c.emitted.ensures ∙ none)),
         whole_part start end (sent_in talk) (g.C.Client.next c.take.new.self) written,
         first_of_more (sent_in i.1) c.in-Some.request.now (g.C.Client.next c.args.client.now) (g.C.Client.next c.loop-turn.client) (g.C.Client.next c.take.new.self) pending i.7,
       ),
@@ -108,14 +110,16 @@ loop-turn-preserved g c =
         turn ∷ i.1,
         consumed (g.R.Read.remaining c.args.reader.now) (g.R.Read.remaining c.loop-turn.reader) (g.R.Read.remaining c.ask.new.reader) i.0 n.0 i.2 n.1,
         n.4.0.1,
-        went_on g.C.Client.fits c.args.client.now c.loop-turn.client c.take.new.self i.1 turn i.4 is (c.in_ok-take.ensures.taken c.in-Some.request.now pending is.answers),
+        went_on (g.C.Client.task (g.C.Client.job c.args.client.now)).who.instance g.C.Client.fits c.args.client.now c.loop-turn.client c.take.new.self i.1 turn i.4 is
+            (λ es f. numbered_next _ _ _ _ _ _ es (g.C.Client.task (g.C.Client.job c.args.client.now)).who.instance c.in-Some.request.now (g.met.C.Client.obedient c.loop-turn.client es f) pending (ap (λ j. (g.C.Client.task j).who.instance) c.loop-turn.invariant.job))
+            (c.in_ok-take.ensures.taken c.in-Some.request.now pending is.answers),
         omega (arith, i.5),
         written_on start (g.W.Write.contents c.loop-turn.writer) end (sent_in i.1) c.in-Some.request.now i.6 n.4.1,
         first_of_more (sent_in i.1) c.in-Some.request.now (g.C.Client.next c.args.client.now) (g.C.Client.next c.loop-turn.client) (g.C.Client.next c.take.new.self) pending i.7,
       );
       few = omega (arith, c.loop-turn-test.true);
       room = c.loop-turn.invariant.room;
-      sink = c.hand_out.ensures;
+      sink = c.hand_out.ensures.callable;
       job = c.in_ok-take.ensures.job ∙ c.loop-turn.invariant.job;
     }
 

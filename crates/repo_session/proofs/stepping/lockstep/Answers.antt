@@ -1,7 +1,7 @@
 use Rattle.std.proofs.Common.{◌≡◌, ◌++◌, ◌∷◌, [], Some, sym, ap, take, arith, option_map, ◌∙◌}
 use Rattle.std.proofs.lemmas.Result.{err_from_is_err_and}
 use Rattle.repo_session.specs.Talks.{Turn, IsTurn}
-use Rattle.repo_session.proofs.Talking.{answerable, went_on, went_same, ran_on, may_stay, may_step, kept_on, kept_part, kept_all}
+use Rattle.repo_session.proofs.Talking.{answerable, numbered_next, went_on, went_same, ran_on, may_stay, may_step, kept_on, kept_part, kept_all}
 use Rattle.repo_session.proofs.stepping.lockstep.Goals as goal
 
 pub answer-reply-requires : goal.answer-reply-requires
@@ -19,7 +19,7 @@ returns-in_err-take-clause-steps g c honest =
     rw (p.1, p.2) (
       i.0,
       (
-        went_same g.C.Client.fits c.args.client.now c.loop-turn.client c.take.new.self i.0 i.1 c.in_err-take.ensures.fits,
+        went_same (g.C.Client.task (g.C.Client.job c.args.client.now)).who.instance g.C.Client.fits c.args.client.now c.loop-turn.client c.take.new.self i.0 i.1 c.in_err-take.ensures.fits,
         (
           g.S.Shelf.store c.loop-turn.shelf,
           g.S.Shelf.failed c.loop-turn.shelf,
@@ -45,7 +45,8 @@ returns-in_err-keep-clause-steps g c honest =
     rw (p.1, p.2) (
       turn ∷ i.0,
       (
-        went_on g.C.Client.fits c.args.client.now c.loop-turn.client c.take.new.self i.0 turn i.1 is taken,
+        went_on (g.C.Client.task (g.C.Client.job c.args.client.now)).who.instance g.C.Client.fits c.args.client.now c.loop-turn.client c.take.new.self i.0 turn i.1 is
+            (λ es f. numbered_next _ _ _ _ _ _ es (g.C.Client.task (g.C.Client.job c.args.client.now)).who.instance c.in-Some.request.now (g.met.C.Client.obedient c.loop-turn.client es f) pending (ap (λ j. (g.C.Client.task j).who.instance) c.loop-turn.invariant.job)) taken,
         (
           g.S.Shelf.store c.answer-reply.new.shelf,
           g.S.Shelf.failed c.answer-reply.new.shelf,
@@ -64,8 +65,11 @@ returns-in_err-keep-clause-went g c =
     let pending : g.C.Client.next c.loop-turn.client ≡ Some c.in-Some.request.now = sym c.pending.ensures.next ∙ ap (option_map (λ r. r.now)) c.in-Some.is in
     let turn : Turn = record { request = c.in-Some.request.now; passed = []; reply = c.answer-reply.result; emitted = g.C.Client.given c.take.new.self } in
     let is : IsTurn turn = record { fits = c.pending.ensures.frame c.in-Some.request.now pending; passed = tt; answers = c.answer-reply.ensures.repeats } in
-    let taken = c.in_ok-take.ensures.taken c.in-Some.request.now pending is.answers in
-    (turn ∷ i.0, went_on g.C.Client.fits c.args.client.now c.loop-turn.client c.take.new.self i.0 turn i.1 is taken)
+    let taken = c.in_ok-take.ensures.taken c.in-Some.request.now pending is.answers in (
+      turn ∷ i.0,
+      went_on (g.C.Client.task (g.C.Client.job c.args.client.now)).who.instance g.C.Client.fits c.args.client.now c.loop-turn.client c.take.new.self i.0 turn i.1 is
+          (λ es f. numbered_next _ _ _ _ _ _ es (g.C.Client.task (g.C.Client.job c.args.client.now)).who.instance c.in-Some.request.now (g.met.C.Client.obedient c.loop-turn.client es f) pending (ap (λ j. (g.C.Client.task j).who.instance) c.loop-turn.invariant.job)) taken,
+    )
 
 pub loop-turn-preserved : goal.loop-turn-preserved
 loop-turn-preserved g c =
@@ -77,7 +81,8 @@ loop-turn-preserved g c =
     record {
       gone = (
         turn ∷ i.0,
-        went_on g.C.Client.fits c.args.client.now c.loop-turn.client c.take.new.self i.0 turn i.1 is taken,
+        went_on (g.C.Client.task (g.C.Client.job c.args.client.now)).who.instance g.C.Client.fits c.args.client.now c.loop-turn.client c.take.new.self i.0 turn i.1 is
+            (λ es f. numbered_next _ _ _ _ _ _ es (g.C.Client.task (g.C.Client.job c.args.client.now)).who.instance c.in-Some.request.now (g.met.C.Client.obedient c.loop-turn.client es f) pending (ap (λ j. (g.C.Client.task j).who.instance) c.loop-turn.invariant.job)) taken,
         omega (arith, i.2),
         λ honest.
             let h = c.loop-turn.invariant.honest honest in

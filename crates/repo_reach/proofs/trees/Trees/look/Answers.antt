@@ -18,3 +18,6 @@ returns-clause-kept c =
     let same = c.spread.ensures.kept in
     let flags : Flags c.args.self.now.seen.items c.args.at c.args.depth c.flag.new.all.items = subst (λ (all : List Seen). Flags all c.args.at c.args.depth c.flag.new.all.items) (ap (λ v. v.items) same.seen) c.flag.ensures in
     record { trees = same_of c.args.self.now.seen.items c.args.at c.args.depth c.flag.new.all.items flags; places = same.places; roots = same.roots }
+
+pub returns-clause-flags : goal.returns-clause-flags
+returns-clause-flags c = subst (λ (all : List Seen). Flags all c.args.at c.args.depth c.flag.new.all.items) (ap (λ v. v.items) c.spread.ensures.kept.seen) c.flag.ensures

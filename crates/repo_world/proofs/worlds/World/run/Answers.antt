@@ -7,7 +7,7 @@ use Rattle.repo_world.specs.Flows.{world_of}
 use Rattle.repo_world.specs.Stages.{IsSafely, Leads, Stage, seen}
 use Rattle.repo_world.specs.World.{World}
 use Rattle.repo_world.specs.declared.events.Event.{Event}
-use Rattle.repo_world.proofs.Standing.{happens_any, if_failed, if_well_with, ran_more, safely}
+use Rattle.repo_world.proofs.Standing.{happens_any, if_failed, if_well_with, led_more, ran_more, safely}
 use Rattle.repo_world.proofs.worlds.World.run.Goals as goal
 
 pub loop-applied-init : goal.loop-applied-init
@@ -15,6 +15,7 @@ loop-applied-init g c =
     let store = g.S.Shelf.store in
     record {
       ran = refl;
+      led = refl;
       safe = subst (λ (stage : Stage g.row.S.Denot). IsSafely (seen store stage)) c.self.view_is (safely (world_of (store c.self.inside.shelf.inner.inner) c.self.inside.flow) c.self.invariant.reached);
     }
 
@@ -33,6 +34,8 @@ loop-applied-preserved g c =
     let happens = happens_any (HasFailed (failed old.device) (failed new.device)) (seen store old) event leads.0 (seen store new) leads.1 in
     let here = subst (λ (e : Event). Happens ⊤ (seen store old) e leads.0 (seen store new)) c.index-events-applied.is happens in
     record {
+      led = led_more store failed c.args.self.now events n event old leads.0 new less c.loop-applied.invariant.led
+          (subst (λ (e : Event). Leads store failed old e leads.0 new) c.index-events-applied.is leads.1);
       ran = ran_more (seen store c.args.self.now) events n event (seen store old) leads.0 (seen store new) less c.loop-applied.invariant.ran here;
       safe = c.apply_lent.ensures.safe;
     }
@@ -45,4 +48,8 @@ returns-then-is_err-clause-stopped g c =
     let less : n < length events = search rules in
     let bad : is_err c.apply_lent.result ≡ true = search rules in
     let same = if_failed c.apply_lent.result (seen store c.apply_lent.new.self ≡ seen store c.loop-applied.self) bad c.apply_lent.ensures.err in
-    (less, subst (λ (w : World). Run (seen store c.args.self.now) (take n events) w) (sym same) c.loop-applied.invariant.ran)
+    (
+      less,
+      subst (λ (w : World). Run (seen store c.args.self.now) (take n events) w) (sym same) c.loop-applied.invariant.ran,
+      (c.loop-applied.self, c.loop-applied.invariant.led, same),
+    )
