@@ -1,7 +1,8 @@
 //! The program's engines and commands, as functions over readers, writers and values.
 //!
-//! [`frames`] answers request frames in hexadecimal from an empty store in memory. [`play_command`] and [`loop_command`] play
-//! scripts of clients over a store in memory, the second over connections of the machine to itself. [`init_command`] makes
+//! [`frames`] answers request frames in hexadecimal from an empty store in memory. [`play`], which is `repo_play`'s, plays
+//! scripts of clients over a store in memory; [`play_command`] and [`loop_command`] do so as commands, the second over
+//! connections of the machine to itself. [`init_command`] makes
 //! a store, and [`serve_connections`] serves one. The others are a client's: [`backup_command`], [`snapshots_command`],
 //! [`restore_command`], [`forget_command`], [`prune_command`] and [`check_command`] bring a job to its end, over connections that
 //! are made one after another ([`Dial`]), by [`drive_again`]; [`locks_command`], [`refresh_command`] and [`unlock_command`] ask
@@ -11,13 +12,14 @@
 //! empty store, over the requests of the stream that the input's lines spell; each of its errors comes
 //! only for its cause, after the replies to all requests before it. A client's command that is done told no fault, and
 //! wrote the line of what it did: that of a job that went to its end by its own rules, over just the requests that were
-//! sent and the replies that were read; or of a reply. Not promised: what a terminal or a
+//! sent and the replies that were read; or of a reply. However it ends, a job's rules are kept. Not promised: what a terminal or a
 //! file gives or takes.
 //!
 //! The definitions stand in `specs/`: `HexLines` (lines, and the bytes that they spell), `FramesRun`
 //! (what `frames` gives), `Talks` (what holds while it runs), `Commands` (what the commands give), `Tellings` (the lines
 //! of the clients' commands), `Asking` (what those do that ask), `Dialing` (what is said over one connection after another), `Jobs`
-//! (what those do that bring a job to its end).
+//! (what those do that bring a job to its end, or as far as it comes), `Shown` (what is shown of a job's outcome), `Errands` (what
+//! a client's errand gives).
 #![tactic(auto)]
 
 mod again;
@@ -61,6 +63,7 @@ pub use locking::{locks_command, refresh_command, unlock_command};
 pub use making::{init_command, init_folder, random_instance};
 pub use playing::{Loopback, loop_command, play_command};
 pub use pruning::prune_command;
+pub use repo_play::{PlayError, play};
 pub use restoring::{restore_command, restore_into, snapshots_command};
 pub use status::{Status, refuse_words};
 pub use telling::fault_word;
