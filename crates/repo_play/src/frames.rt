@@ -4,7 +4,7 @@ ghost use Rattle.std.specs.Prelude.{◌≡◌, ◌⊎◌, ◌≤◌, ◌<◌, �
 ghost use Rattle.std.specs.Io.KnownBytes.{Appends, Consumes};
 ghost use Rattle.repo_wire.specs.Messages.{replies, reply_body, requests, request_body};
 ghost use Rattle.repo_wire.specs.Stream.{FitsFrame, frame};
-ghost use Rattle.repo_play.specs.Frames.{IsCarried};
+ghost use Rattle.repo_play.specs.Frames.{IsCarried, IsTooLarge};
 ghost use Rattle.repo_play.specs.declared.faults.CarryError.{CarryError};
 
 use crate::faults::CarryError;
@@ -72,7 +72,7 @@ fn carry_frame<R: Read, W: Write>(
 
 /// Carries a request as a frame: writes it, and reads it at the other end of the connection.
 ///
-/// `TooLarge` comes just where it fits no frame of 65,536 bytes, and nothing is written or read then; `Read` and `Write` where the
+/// `TooLarge` comes just where it fits no frame of 65,536 bytes, unless memory is wanting, and nothing is written or read then; `Read` and `Write` where the
 /// connection fails or ends, and `Malformed` where something else comes out.
 pub fn carry_request<R: Read, W: Write>(
     alloc: Global,
@@ -83,7 +83,8 @@ pub fn carry_request<R: Read, W: Write>(
     ensures carried { OnOk result (IsCarried (frame (request_body request.now)) (R.remaining reader.old) (R.remaining reader.new)
         (W.contents writer.old) (W.contents writer.new)) }
     ensures fits { OnOk result (FitsFrame requests request.now) }
-    ensures large { IsErrOf result CarryError.TooLarge ↔ (¬ FitsFrame requests request.now ⊎ (65536 < length (frame (request_body request.now)))) }
+    ensures large { IsErrOf result CarryError.TooLarge → IsTooLarge (FitsFrame requests request.now) (frame (request_body request.now)) }
+    ensures refused { IsTooLarge (FitsFrame requests request.now) (frame (request_body request.now)) → IsErrOf result CarryError.TooLarge ⊎ IsErrOf result CarryError.Memory }
     ensures quiet { IsErrOf result CarryError.TooLarge → (reader.new ≡ reader.old) × (writer.new ≡ writer.old) }
 {
     if !request.fits() {
@@ -104,7 +105,8 @@ pub fn carry_reply<R: Read, W: Write>(
     ensures carried { OnOk result (IsCarried (frame (reply_body reply.now)) (R.remaining reader.old) (R.remaining reader.new)
         (W.contents writer.old) (W.contents writer.new)) }
     ensures fits { OnOk result (FitsFrame replies reply.now) }
-    ensures large { IsErrOf result CarryError.TooLarge ↔ (¬ FitsFrame replies reply.now ⊎ (65536 < length (frame (reply_body reply.now)))) }
+    ensures large { IsErrOf result CarryError.TooLarge → IsTooLarge (FitsFrame replies reply.now) (frame (reply_body reply.now)) }
+    ensures refused { IsTooLarge (FitsFrame replies reply.now) (frame (reply_body reply.now)) → IsErrOf result CarryError.TooLarge ⊎ IsErrOf result CarryError.Memory }
     ensures quiet { IsErrOf result CarryError.TooLarge → (reader.new ≡ reader.old) × (writer.new ≡ writer.old) }
 {
     if !reply.fits() {

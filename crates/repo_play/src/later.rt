@@ -72,7 +72,7 @@ pub fn late<S: Shelf + Drop>(
     ensures late { IfOk result (λ text. IsLate (seen S.store world.old) client (string_bytes text) (seen S.store world.new)) }
     ensures nonsense { IsErrOf result Halt.Nonsense → ¬ HasClient (seen S.store world.old) client }
     ensures few { ¬ IsErrOf result Halt.Limit }
-    ensures carried { IfErr result (HaltsBy ⊥) }
+    ensures carried { IfErr result (HaltsBy (λ _. ⊥)) }
 {
     let Some(place) = last_request(world, client) else {
         return Err(Halt::Nonsense);

@@ -24,7 +24,7 @@ fn crash<S: Shelf + Drop>(world: &mut World<S>, client: usize) -> Result<(), Hal
     ensures moves { OnOk result (MovesWorld (Line.Crash client) (seen S.store world.old) (seen S.store world.new)) }
     ensures nonsense { IsErrOf result Halt.Nonsense → ¬ HasClient (seen S.store world.old) client }
     ensures few { ¬ IsErrOf result Halt.Limit }
-    ensures carried { IfErr result (HaltsBy ⊥) }
+    ensures carried { IfErr result (HaltsBy (λ _. ⊥)) }
 {
     if last_request(world, client).is_none() {
         return Err(Halt::Nonsense);

@@ -39,7 +39,7 @@ impl<S: Shelf + Drop> Player<S> {
         ensures same { self.new.world ≡ self.old.world }
         ensures nonsense { IsErrOf result Halt.Nonsense → (job : Job) → ¬ IsJob start.now (state_of S.store self.old) job }
         ensures few { ¬ IsErrOf result Halt.Limit }
-        ensures carried { IfErr result (HaltsBy ⊥) }
+        ensures carried { IfErr result (HaltsBy (λ _. ⊥)) }
     {
         match start {
             Start::Backup { .. } => {
@@ -67,7 +67,7 @@ impl<S: Shelf + Drop> Player<S> {
         ensures starts { IfOk result (λ text. DoesStart start.now (state_of S.store self.old) (string_bytes text) (state_of S.store self.new)) }
         ensures nonsense { IsErrOf result Halt.Nonsense → IsNonsense (Line.Start start.now) (state_of S.store self.old) }
         ensures few { ¬ IsErrOf result Halt.Limit }
-        ensures carried { IfErr result (HaltsBy ⊥) }
+        ensures carried { IfErr result (HaltsBy (λ _. ⊥)) }
     {
         let host = host_of(self.alloc, start)?;
         let time = time_of(start);

@@ -46,7 +46,7 @@ pub fn host_of(alloc: Global, start: &Start) -> Result<Host, Halt>
     ensures host { IfOk result (λ host. host ≡ host_of start.now) }
     ensures nonsense { IsErrOf result Halt.Nonsense → ¬ IsHost (host_of start.now) }
     ensures few { ¬ IsErrOf result Halt.Limit }
-    ensures carried { IfErr result (HaltsBy ⊥) }
+    ensures carried { IfErr result (HaltsBy (λ _. ⊥)) }
 {
     let host = match start {
         Start::Backup { host, .. } => host.as_str(),
@@ -88,7 +88,7 @@ pub fn all_stored<S: Shelf + Drop>(
     ensures stored { IfOk result (λ names. all_stored (seen S.store world.now) clients.now ≡ Some names.items) }
     ensures nonsense { IsErrOf result Halt.Nonsense → all_stored (seen S.store world.now) clients.now ≡ None }
     ensures few { ¬ IsErrOf result Halt.Limit }
-    ensures carried { IfErr result (HaltsBy ⊥) }
+    ensures carried { IfErr result (HaltsBy (λ _. ⊥)) }
 {
     let mut names = Vec::new(alloc);
     for client in clients {

@@ -6,7 +6,8 @@ use Rattle.repo_prog.specs.declared.callers.Caller.{Caller}
 use Rattle.repo_prog.specs.declared.errands.Errand.{Errand}
 use Rattle.repo_prog.specs.declared.errands.LockErrand.{LockErrand}
 use Rattle.repo_prog.specs.declared.status.Status.{Status}
-use Rattle.repo_prog.specs.Asking.{Streams, streams, Asked, RemovesLocks, request_of, locks_told, refresh_told}
+use Rattle.repo_prog.specs.Asking.{Streams, streams, Asked, RemovesLocks, request_of}
+use Rattle.repo_prog.specs.Tellings.{locks_told, refresh_told}
 use Rattle.repo_prog.specs.Commands.{IsStoredStatus}
 use Rattle.repo_prog.specs.Dialing.{Coming, ConnectionEnds, Dials}
 use Rattle.repo_prog.specs.Jobs.{ListObeyed, RestoreObeyed, ForgetObeyed, PruneObeyed, CheckObeyed, BackupObeyed}
@@ -23,7 +24,7 @@ abbrev pub LocksGive : LockErrand → Caller → Coming → Coming → Option (L
 LocksGive errand caller coming after start status contents =
     (Dials coming None after × (status ≡ Status.Failed) × (contents ≡ start))
     ⊎ ((came left : ConnectionEnds) × Dials coming (Some came) after
-        × LockGives errand caller (streams came.ahead came.sent start) status (streams left.ahead left.sent contents))
+    × LockGives errand caller (streams came.ahead came.sent start) status (streams left.ahead left.sent contents))
 
 -- what each errand gives, over so many connections at most after the first
 abbrev pub ErrandGives : Errand → Caller → ℕ → Coming → Coming → Option (List ℕ) → Status → Option (List ℕ) → Type 0

@@ -75,7 +75,7 @@ pub fn drive_again<C: Client, D: Dial, F: FnMut(&Emission) -> bool>(
 ) -> Result<u64, TryError>
     requires callable { (state : F) (x : _) → F.pre state x }
     ensures again { DrivesAgain (λ job. (C.task job).who.instance) C.job C.fits C.next retry client.old result client.new
-            (D.coming dial.old) (D.coming dial.new) }
+        (D.coming dial.old) (D.coming dial.new) }
     ensures job { C.job client.new ≡ C.job client.old }
 {
     let mut result = try_once(alloc, client, dial, &mut sink);

@@ -42,6 +42,6 @@ loop-heard-smaller g c =
     let less : length coming - (heard + c.in_ok-heard.field-0) < length coming - heard = omega (arith, some, most, size, left, within) in
     less
 
-pub returns : goal.returns
-returns g c =
+pub returns-clause-heard : goal.returns-clause-heard
+returns-clause-heard g c =
     subst (Consumes (g.R.Read.remaining c.args.reader.now) (g.R.Read.remaining c.loop-heard.reader)) (take_all c.loop-heard.heard c.args.coming.now c.loop-heard-test.false) c.loop-heard.invariant.read

@@ -1,5 +1,5 @@
 use Rattle.std.proofs.Common.{sym, ◌∙◌}
-use Rattle.repo_prog.proofs.JobLemmas.{same_handing, stored}
+use Rattle.repo_prog.proofs.JobLemmas.{same_handing, stored, backup_obeyed, backup_none}
 use Rattle.repo_prog.proofs.backing.backup_entries.Goals as goal
 
 pub returns-in-Ok-drive_again-clause-stored : goal.returns-in-Ok-drive_again-clause-stored
@@ -15,3 +15,23 @@ returns-in-Ok-drive_again-clause-stored g c done =
           made.fits job c.in-Ok-drive_again.ensures.again (sym c.outcome.ensures ∙ shown.3),
       shown.4,
     )
+
+pub returns-in_default-clause-obeyed : goal.returns-in_default-clause-obeyed
+returns-in_default-clause-obeyed g c = backup_none c.args.caller.now c.args.host.now c.args.entries.items c.args.retry (g.D.Dial.coming c.args.dial.now)
+
+pub returns-in-Err-clause-obeyed : goal.returns-in-Err-clause-obeyed
+returns-in-Err-clause-obeyed g c = backup_none c.args.caller.now c.args.host.now c.args.entries.items c.args.retry (g.D.Dial.coming c.args.dial.now)
+
+pub returns-in-Ok-drive_again-clause-obeyed : goal.returns-in-Ok-drive_again-clause-obeyed
+returns-in-Ok-drive_again-clause-obeyed g c =
+    let backup = c.in-Ok-new.backup in
+    let made = c.in-Ok-new.ensures in
+    let job = same_handing backup c.args.caller.now c.args.host.now c.args.entries.items (made.who ∙ c.in-Ok.ensures) made.handed in
+    backup_obeyed c.args.caller.now c.args.host.now c.args.entries.items c.args.retry backup c.drive_again.new.client _ (g.D.Dial.coming c.args.dial.now) (g.D.Dial.coming c.drive_again.new.dial) made.fits job c.in-Ok-drive_again.ensures.again
+
+pub returns-clause-obeyed : goal.returns-clause-obeyed
+returns-clause-obeyed g c =
+    let backup = c.in-Ok-new.backup in
+    let made = c.in-Ok-new.ensures in
+    let job = same_handing backup c.args.caller.now c.args.host.now c.args.entries.items (made.who ∙ c.in-Ok.ensures) made.handed in
+    backup_obeyed c.args.caller.now c.args.host.now c.args.entries.items c.args.retry backup c.drive_again.new.client _ (g.D.Dial.coming c.args.dial.now) (g.D.Dial.coming c.drive_again.new.dial) made.fits job c.in-Err-drive_again.ensures.again

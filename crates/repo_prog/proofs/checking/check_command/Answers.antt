@@ -1,6 +1,6 @@
 use Rattle.std.proofs.Common.{sym, ◌∙◌}
 use Rattle.repo_session.specs.declared.outcomes.Outcome.{Outcome}
-use Rattle.repo_prog.proofs.JobLemmas.{checked}
+use Rattle.repo_prog.proofs.JobLemmas.{checked, check_obeyed, check_none}
 use Rattle.repo_prog.proofs.checking.check_command.Goals as goal
 
 pub returns-in-Ok-drive_again-clause-clean : goal.returns-in-Ok-drive_again-clause-clean
@@ -25,3 +25,14 @@ returns-in-Ok-drive_again-clause-flawed g c done =
           c.new-check.ensures.fits who c.in-Ok-drive_again.ensures.again (sym c.outcome.ensures ∙ shown.1),
       shown.2,
     )
+
+pub returns-in_default-clause-obeyed : goal.returns-in_default-clause-obeyed
+returns-in_default-clause-obeyed g c = check_none c.args.caller.now c.args.retry (g.D.Dial.coming c.args.dial.now)
+
+pub returns-in-Ok-drive_again-clause-obeyed : goal.returns-in-Ok-drive_again-clause-obeyed
+returns-in-Ok-drive_again-clause-obeyed g c =
+    check_obeyed c.args.caller.now c.args.retry c.new-check.result c.drive_again.new.client _ (g.D.Dial.coming c.args.dial.now) (g.D.Dial.coming c.drive_again.new.dial) c.new-check.ensures.fits (c.new-check.ensures.who ∙ c.in-Ok.ensures) c.in-Ok-drive_again.ensures.again
+
+pub returns-clause-obeyed : goal.returns-clause-obeyed
+returns-clause-obeyed g c =
+    check_obeyed c.args.caller.now c.args.retry c.new-check.result c.drive_again.new.client _ (g.D.Dial.coming c.args.dial.now) (g.D.Dial.coming c.drive_again.new.dial) c.new-check.ensures.fits (c.new-check.ensures.who ∙ c.in-Ok.ensures) c.in-Err.ensures.again
