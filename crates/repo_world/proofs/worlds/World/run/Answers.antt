@@ -47,8 +47,7 @@ returns-then-is_err-clause-stopped g c =
     let events = c.args.events.now in
     let less : n < length events = search rules in
     let bad : is_err c.apply_lent.result ≡ true = search rules in
-    let same = if_failed c.apply_lent.result (seen store c.apply_lent.new.self ≡ seen store c.loop-applied.self) bad c.apply_lent.ensures.err in
-    (
+    let same = if_failed c.apply_lent.result (seen store c.apply_lent.new.self ≡ seen store c.loop-applied.self) bad c.apply_lent.ensures.err in (
       less,
       subst (λ (w : World). Run (seen store c.args.self.now) (take n events) w) (sym same) c.loop-applied.invariant.ran,
       (c.loop-applied.self, c.loop-applied.invariant.led, same),
