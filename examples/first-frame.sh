@@ -5,8 +5,8 @@
 # bytes), the sequence number (1). The reply: length (33), tag 129, instance and sequence, token 1.
 #
 # Without a word the program runs as it is, checked while it runs and not yet proved: a minute and a half
-# in a fresh clone. With the word `proved` everything is proved first, and the program built: some 40
-# minutes in a fresh clone, once.
+# in a fresh clone. With the word `proved` everything is proved first, and the program built: about
+# an hour in a fresh clone, once.
 set -euo pipefail
 cd "$(dirname "$0")/../crates/vault"
 request=0000001901010101010101010101010101010101010000000000000001

@@ -1,17 +1,15 @@
 //! The commands of clients, over what a server says.
 
-ghost use Rattle.std.specs.Prelude.{◌↔◌, IsTrue};
+ghost use Rattle.std.specs.Prelude.{◌↔◌, IfOk, IsTrue};
 ghost use Rattle.repo_name.specs.Rows.{IsHost};
+ghost use Rattle.repo_prog.specs.Commands.{IsErrand};
 
 use crate::lines::{ScriptError, cut, name, names, number, policy};
 use crate::streams::{Inlet, Outlet, Pace};
 use crate::told::Told;
 use repo_files::{Scan, Skipped};
 use repo_name::{Instance, Name, Names, Token};
-use repo_prog::{
-    Caller, Once, Status, backup_found, check_command, forget_command, locks_command,
-    prune_command, refresh_command, restore_into, snapshots_command, unlock_command,
-};
+use repo_prog::{Caller, Errand, LockErrand, Once, Status, backup_found, do_errand, restore_into};
 use repo_prune::Choice;
 use repo_session::Emission;
 use repo_tree::Entry;
@@ -70,7 +68,7 @@ impl Sink {
 /// A command that runs: its streams, and what a restore gave out.
 #[derive(Drop)]
 struct Talk<'a> {
-    alloc: Global,
+    rt: &'a HostRuntime,
     caller: Caller,
     reader: Inlet<'a>,
     sent: Outlet,
@@ -86,29 +84,33 @@ fn is_host(word: &str) -> bool
     !word.is_empty() && word.len() <= 255
 }
 
+/// What is asked for by the words of a command that needs no folder and gives nothing out.
+fn errand(alloc: Global, word: &str, rest: &str) -> Result<Errand, ScriptError>
+    ensures { IfOk result IsErrand }
+{
+    match word {
+        "locks" => Ok(Errand::Locks(LockErrand::List)),
+        "refresh" => Ok(Errand::Locks(LockErrand::Refresh(Token(number(rest)?)))),
+        "unlock" => {
+            let all = rest == "--remove-all";
+            Ok(Errand::Locks(LockErrand::Remove { all }))
+        }
+        "snapshots" => Ok(Errand::Snapshots),
+        "forget" => Ok(Errand::Forget(Choice::Names(Names::of(names(alloc, rest)?)))),
+        "keep" => Ok(Errand::Forget(Choice::Keep(policy(rest)?))),
+        "prune" => Ok(Errand::Prune),
+        "check" => Ok(Errand::Check),
+        _ => Err(ScriptError::Line),
+    }
+}
+
 impl Talk<'_> {
-    fn locks(&mut self) -> Status {
-        let (r, w) = (&mut self.reader, &mut self.sent);
-        let (o, f) = (&mut self.output, &mut self.faults);
-        locks_command(self.alloc, &self.caller, r, w, o, f)
-    }
-
-    fn refresh(&mut self, token: Token) -> Status {
-        let (r, w) = (&mut self.reader, &mut self.sent);
-        let (o, f) = (&mut self.output, &mut self.faults);
-        refresh_command(self.alloc, &self.caller, token, r, w, o, f)
-    }
-
-    fn unlock(&mut self, all: bool) -> Status {
-        let (r, w) = (&mut self.reader, &mut self.sent);
-        let (o, f) = (&mut self.output, &mut self.faults);
-        unlock_command(self.alloc, &self.caller, all, r, w, o, f)
-    }
-
-    fn snapshots(&mut self) -> Status {
+    fn errand(&mut self, errand: Errand) -> Status
+        requires { IsErrand errand }
+    {
         let mut dial = Once::new(&mut self.reader, &mut self.sent);
         let (o, f) = (&mut self.output, &mut self.faults);
-        snapshots_command(self.alloc, &self.caller, &mut dial, 0, o, f)
+        do_errand(self.rt, &self.caller, errand, &mut dial, 0, o, f)
     }
 
     fn backup(&mut self, host: &str, found: Scan) -> Result<Status, ScriptError> {
@@ -117,7 +119,16 @@ impl Talk<'_> {
         }
         let mut dial = Once::new(&mut self.reader, &mut self.sent);
         let (o, f) = (&mut self.output, &mut self.faults);
-        Ok(backup_found(self.alloc, &self.caller, host, found, &mut dial, 0, o, f))
+        Ok(backup_found(
+            self.rt.alloc(),
+            &self.caller,
+            host,
+            found,
+            &mut dial,
+            0,
+            o,
+            f,
+        ))
     }
 
     fn restore(&mut self, name: Name) -> Status {
@@ -125,42 +136,28 @@ impl Talk<'_> {
         let (o, f) = (&mut self.output, &mut self.faults);
         let sink = &mut self.sink;
         let takes = |emission: &Emission| sink.take(emission);
-        restore_into(self.alloc, &self.caller, name, takes, &mut dial, 0, o, f)
-    }
-
-    fn forget(&mut self, choice: Choice) -> Status {
-        let mut dial = Once::new(&mut self.reader, &mut self.sent);
-        let (o, f) = (&mut self.output, &mut self.faults);
-        forget_command(self.alloc, &self.caller, choice, &mut dial, 0, o, f)
-    }
-
-    fn prune(&mut self) -> Status {
-        let mut dial = Once::new(&mut self.reader, &mut self.sent);
-        let (o, f) = (&mut self.output, &mut self.faults);
-        prune_command(self.alloc, &self.caller, &mut dial, 0, o, f)
-    }
-
-    fn check(&mut self) -> Status {
-        let mut dial = Once::new(&mut self.reader, &mut self.sent);
-        let (o, f) = (&mut self.output, &mut self.faults);
-        check_command(self.alloc, &self.caller, &mut dial, 0, o, f)
+        restore_into(
+            self.rt.alloc(),
+            &self.caller,
+            name,
+            takes,
+            &mut dial,
+            0,
+            o,
+            f,
+        )
     }
 
     /// Runs the command of these words.
     fn run(&mut self, words: &str, found: Scan) -> Result<Status, ScriptError> {
         let (word, rest) = cut(words);
         match word {
-            "locks" => Ok(self.locks()),
-            "refresh" => Ok(self.refresh(Token(number(rest)?))),
-            "unlock" => Ok(self.unlock(rest == "--remove-all")),
-            "snapshots" => Ok(self.snapshots()),
             "backup" => self.backup(rest, found),
             "restore" => Ok(self.restore(name(rest)?)),
-            "forget" => Ok(self.forget(Choice::Names(Names::of(names(self.alloc, rest)?)))),
-            "prune" => Ok(self.prune()),
-            "check" => Ok(self.check()),
-            "keep" => Ok(self.forget(Choice::Keep(policy(rest)?))),
-            _ => Err(ScriptError::Line),
+            _ => {
+                let errand = errand(self.rt.alloc(), word, rest)?;
+                Ok(self.errand(errand))
+            }
         }
     }
 
@@ -176,14 +173,15 @@ impl Talk<'_> {
 
 /// Runs a command over what a server says, and tells what came of it.
 pub fn run_command(
-    alloc: Global,
+    rt: &HostRuntime,
     words: &str,
     server: &Server,
     found: Scan,
     told: &mut Told,
 ) -> Result<(), ScriptError> {
+    let alloc = rt.alloc();
     let mut talk = Talk {
-        alloc,
+        rt,
         caller: Caller {
             instance: Instance([1; 16]),
             time: server.time,

@@ -62,12 +62,12 @@ impl Script {
     }
 
     /// Runs a client's command over what the server says, which is used up.
-    fn command(&mut self, line: &str) -> Result<(), ScriptError> {
+    fn command(&mut self, rt: &HostRuntime, line: &str) -> Result<(), ScriptError> {
         let found = Scan {
             entries: self.taken_entries(),
             skipped: mem::replace(&mut self.skipped, Vec::new(self.alloc)),
         };
-        run_command(self.alloc, line, &self.server, found, &mut self.told)?;
+        run_command(rt, line, &self.server, found, &mut self.told)?;
         self.server = Server::new(self.alloc);
         Ok(())
     }
@@ -203,7 +203,7 @@ impl Script {
             "#" => self.told.line(line)?,
             "vault" => self.words(rt, line)?,
             "ask" => self.ask(rest)?,
-            _ => self.command(line)?,
+            _ => self.command(rt, line)?,
         }
         Ok(())
     }

@@ -1,10 +1,11 @@
 //! Jobs over connections that end, and that go on over the next ones.
 
 use crate::runs::{CALLER, Run, kept, run_or_none, small_config};
+use crate::sockets::taken_port;
 use crate::yards::{Yard, text_or_none};
 use repo_name::{Instance, Name, Names};
 use repo_prog::{
-    Dial, backup_command, check_command, forget_command, prune_command, restore_command,
+    Address, Dial, backup_command, check_command, forget_command, prune_command, restore_command,
     snapshots_command,
 };
 use repo_prune::Choice;
@@ -354,6 +355,17 @@ fn the_error_of_the_last_try_is_told(rt: HostRuntime) {
         yard.count(told.as_str().starts_with(wanted));
     }
     yard.end(&rt);
+}
+
+// Nobody has to accept a connection for that.
+#[test]
+fn an_address_is_reached_while_somebody_listens(rt: HostRuntime) {
+    let (listener, word) = taken_port(rt).expect(&rt, "no port");
+    let address = word.as_str().strip_prefix(" ").unwrap_or("");
+    let reached = Address::new(&rt, address).reach(2);
+    drop(listener);
+    let gone = Address::new(&rt, address).reach(2);
+    assert_eq!(rt; (reached, gone), (Some(2), None));
 }
 
 /// Connections that bring so many bytes which are no reply, one after another; after them none can be had.

@@ -1,5 +1,5 @@
 -- What is known while a backup is made.
-use Rattle.std.specs.Prelude.{◌≡◌, ◌⊎◌, ◌<◌, ◌++◌, ◌∷◌, [], ⊤, ℕ, Bool, false, cond, List, length, None}
+use Rattle.std.specs.Prelude.{◌≡◌, ◌≢◌, ◌⊎◌, ◌<◌, ◌++◌, ◌∷◌, [], ⊤, ℕ, Bool, false, cond, List, length, None}
 use Rattle.repo_name.specs.declared.kinds.Kind.{Kind}
 use Rattle.repo_name.specs.declared.names.Name.{Name}
 use Rattle.repo_chunk.specs.Parameters.{Parameters}
@@ -133,6 +133,7 @@ pub record IsIndexNext (entries : List Entry) (facts : List Fact) (b : Backing) 
   pub puts : List Put
   pub backs : Backs entries facts b.waiting b.counts folder puts [] es
   pub work : IsAtWork facts folder (items_of puts) b
+  pub some : b.waiting ≢ []
   pub few : FewWait b.waiting
 
 -- all is put and indexed

@@ -5,13 +5,14 @@ ghost use Rattle.repo_name.specs.declared.kinds.Kind.{Kind};
 ghost use Rattle.repo_name.specs.declared.names.Name.{Name};
 ghost use Rattle.repo_wire.specs.declared.messages.Ask.{Ask};
 ghost use Rattle.repo_wire.specs.declared.messages.Say.{Say};
+ghost use Rattle.repo_session.specs.Order.{last_of};
 ghost use Rattle.repo_session.specs.Traces.{Trace};
 ghost use Rattle.repo_check.specs.Rounds.{IsShortTurn};
 ghost use Rattle.repo_index.specs.declared.facts.Fact.{Fact};
 ghost use Rattle.repo_check.specs.Walks.{walk_of};
 ghost use Rattle.repo_check.specs.declared.rounds.Turn.{Turn};
 ghost use Rattle.repo_check.specs.declared.surveys.Next.{Next};
-ghost use Rattle.repo_check.specs.Surveys.{WalkBegins, GoesAfter, GoesToTrees, WalkHasBegun, IsShortNext, SurveyHasTaken, SurveyKnows, SurveyTakes, first_page, next_of, rounds_of, StaysAtPage, StaysAtTree};
+ghost use Rattle.repo_check.specs.Surveys.{WalkBegins, GoesAfter, GoesToTrees, WalkHasBegun, IsShortNext, SurveyHasTaken, SurveyKnows, SurveyTakes, next_of, rounds_of, StaysAtPage, StaysAtTree};
 
 use crate::gathering::{lookup_of, roots_of};
 use crate::knowing::note_of;
@@ -21,7 +22,7 @@ use crate::visits::{take_index, take_pack, take_snapshot};
 use crate::walks::Walk;
 use repo_index::Fact;
 use repo_name::{Kind, Name};
-use repo_session::range_ask;
+use repo_session::{Roll, range_ask};
 use repo_wire::{Ask, Say};
 use std::alloc::AllocError;
 
@@ -36,39 +37,23 @@ fn next_of(fact: Option<Fact>) -> Next
     }
 }
 
+/// What comes after a turn, where the names of this roll are listed next. It takes no memory.
+fn after_turn(turn: Turn, next: &Roll) -> Next
+    requires { IsShortTurn turn }
+    ensures after { GoesAfter turn (Next.Ask (Ask.List next.now.kind (last_of next.now.names.items))) result }
+    ensures more { result ≢ Next.Over }
+    ensures short { IsShortNext result }
+{
+    match turn {
+        Turn::Ask(ask) => Next::Ask(ask),
+        Turn::All => Next::Ask(next.page_ask()),
+        Turn::Senseless => Next::Senseless,
+        Turn::Version => Next::Version,
+        Turn::Away => Next::Away,
+    }
+}
+
 impl Survey {
-    /// What comes after a turn of the snapshots. It takes no memory.
-    fn after_snapshots(&self, turn: Turn) -> Next
-        requires { IsShortTurn turn }
-        ensures after { GoesAfter turn (first_page (rounds_of self.now).indexes) result }
-        ensures more { result ≢ Next.Over }
-        ensures short { IsShortNext result }
-    {
-        match turn {
-            Turn::Ask(ask) => Next::Ask(ask),
-            Turn::All => Next::Ask(self.indexes.roll.page_ask()),
-            Turn::Senseless => Next::Senseless,
-            Turn::Version => Next::Version,
-            Turn::Away => Next::Away,
-        }
-    }
-
-    /// What comes after a turn of the indexes. It takes no memory.
-    fn after_indexes(&self, turn: Turn) -> Next
-        requires { IsShortTurn turn }
-        ensures after { GoesAfter turn (first_page (rounds_of self.now).packs) result }
-        ensures more { result ≢ Next.Over }
-        ensures short { IsShortNext result }
-    {
-        match turn {
-            Turn::Ask(ask) => Next::Ask(ask),
-            Turn::All => Next::Ask(self.packs.roll.page_ask()),
-            Turn::Senseless => Next::Senseless,
-            Turn::Version => Next::Version,
-            Turn::Away => Next::Away,
-        }
-    }
-
     /// Takes the reply to the request for a page of snapshots. It fails for memory alone, and then nothing changed.
     fn take_snapshot_page(&mut self, say: &Say) -> Result<Next, AllocError>
         ensures takes { IfOk result (λ next. (after : Option Name) → SurveyTakes self.old (Ask.List Kind.Snapshot after) say.now next self.new) }
@@ -78,7 +63,7 @@ impl Survey {
         ensures walk { self.new.walk ≡ self.old.walk }
     {
         let turn = self.snapshots.take_page(say)?;
-        Ok(self.after_snapshots(turn))
+        Ok(after_turn(turn, &self.indexes.roll))
     }
 
     /// Takes the reply to the request for a snapshot. It fails for memory alone, and then nothing changed.
@@ -90,7 +75,7 @@ impl Survey {
         ensures walk { self.new.walk ≡ self.old.walk }
     {
         let turn = take_snapshot(self.alloc, &mut self.snapshots, name, say)?;
-        Ok(self.after_snapshots(turn))
+        Ok(after_turn(turn, &self.indexes.roll))
     }
 
     /// Takes the reply to the request for a page of indexes. It fails for memory alone, and then nothing changed.
@@ -102,7 +87,7 @@ impl Survey {
         ensures walk { self.new.walk ≡ self.old.walk }
     {
         let turn = self.indexes.take_page(say)?;
-        Ok(self.after_indexes(turn))
+        Ok(after_turn(turn, &self.packs.roll))
     }
 
     /// Takes the reply to the request for an index. It fails for memory alone, and then nothing changed.
@@ -114,7 +99,7 @@ impl Survey {
         ensures walk { self.new.walk ≡ self.old.walk }
     {
         let turn = take_index(self.alloc, &mut self.indexes, name, say)?;
-        Ok(self.after_indexes(turn))
+        Ok(after_turn(turn, &self.packs.roll))
     }
 
     /// A walk over the trees that hasn't gone on. It fails for memory alone.

@@ -11,9 +11,9 @@
 //! so that there is one at a time, and touches nothing there that isn't a store's own.
 //!
 //! Promised: no call goes wrong in memory, and each ends. A scan's entries have paths of components, each
-//! above the one before it, whatever the file system answers. A restorer writes at such paths alone, so at
-//! none with `..` in it, and takes the parts of a restore in their order. A slice has the asked length and
-//! a page at most the asked number of names.
+//! above the one before it, whatever the file system answers. A restorer takes the parts of a restore
+//! in their order, and at such paths alone, so at none with `..` in it. A slice has the asked length and a
+//! page at most the asked number of names.
 //!
 //! Not promised: what a file holds, before or after. No contract can say so of a machine, and `honest` is
 //! never claimed here: that the folder keeps what it was given is a premise of all that is proved over
@@ -22,9 +22,9 @@
 //! real folders and over a file system that stops after any call show these. It wants a file system whose
 //! rename within a folder is atomic, whose syncs reach the disk, and whose locks on files keep others out.
 //!
-//! The definitions stand in `specs/`: `Parts` (names of files that are being written), `Places` (paths, and
-//! where they lie), `Scanned` (entries as a scan hands them on), `Restoring` (what a restorer takes, and where
-//! it stands).
+//! The definitions stand in `specs/`: `Scanned` (entries as a scan hands them on), `Restoring` (what a
+//! restorer takes, and where it stands); and in `specs/inner/`: `Parts` (names of files that are being
+//! written), `Places` (paths, and where they lie).
 #![tactic(auto)]
 
 pub use dir_shelf::{DirShelf, has_config};

@@ -30,7 +30,7 @@ use std::{io, mem};
 ///
 /// Nothing is synced while it is written: a restore that is cut off is begun anew. [`Restorer::finish`] syncs
 /// every file and directory, each once, and only then is all of it on the disk. What a power cut before that
-/// leaves may be any part, a file under its own name with fewer bytes than it has among it.
+/// leaves may be any part of it, even a file under its own name that is cut short.
 pub struct Restorer<R: Files> {
     ground: Ground<R>,
     phase: Phase<R::File>,

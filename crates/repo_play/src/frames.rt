@@ -1,7 +1,7 @@
 //! Messages that go over a connection as frames.
 
 ghost use Rattle.std.specs.Prelude.{◌≡◌, ◌⊎◌, ◌≤◌, ◌<◌, ◌↔◌, OnOk, IfOk, IsErrOf, length, take};
-ghost use Rattle.std.specs.Io.KnownBytes.{Appends, Consumes};
+ghost use Rattle.std.specs.Io.KnownBytes.{Consumes};
 ghost use Rattle.repo_wire.specs.Messages.{replies, reply_body, requests, request_body};
 ghost use Rattle.repo_wire.specs.Stream.{FitsFrame, frame};
 ghost use Rattle.repo_play.specs.Frames.{IsCarried, IsTooLarge};
@@ -23,6 +23,7 @@ fn hear_some<R: Read>(coming: &[u8], piece: &mut [u8], reader: &mut R) -> Result
     ensures heard { IfOk result (λ n. (0 < n) × (n ≤ length coming.now) × Consumes (R.remaining reader.old) (R.remaining reader.new) (take n coming.now)) }
     ensures room { length piece.new ≡ length piece.old }
     ensures short { ¬ IsErrOf result CarryError.TooLarge }
+    ensures reached { ¬ IsErrOf result CarryError.NotReached }
 {
     let room = &mut piece[..coming.len()];
     match reader.read(room) {
@@ -43,6 +44,7 @@ fn hear<R: Read>(coming: &[u8], piece: &mut [u8], reader: &mut R) -> Result<(), 
     requires { length coming.now ≤ length piece.old }
     ensures heard { OnOk result (Consumes (R.remaining reader.old) (R.remaining reader.new) coming.now) }
     ensures short { ¬ IsErrOf result CarryError.TooLarge }
+    ensures reached { ¬ IsErrOf result CarryError.NotReached }
 {
     let mut heard = 0;
     while heard < coming.len() {
@@ -61,6 +63,7 @@ fn carry_frame<R: Read, W: Write>(
     ensures carried { OnOk result (IsCarried frame.now (R.remaining reader.old) (R.remaining reader.new) (W.contents writer.old) (W.contents writer.new)) }
     ensures large { IsErrOf result CarryError.TooLarge ↔ (65536 < length frame.now) }
     ensures quiet { IsErrOf result CarryError.TooLarge → (reader.new ≡ reader.old) × (writer.new ≡ writer.old) }
+    ensures reached { ¬ IsErrOf result CarryError.NotReached }
 {
     if frame.len() > FRAME_LIMIT {
         return Err(CarryError::TooLarge);
@@ -86,6 +89,7 @@ pub fn carry_request<R: Read, W: Write>(
     ensures large { IsErrOf result CarryError.TooLarge → IsTooLarge (FitsFrame requests request.now) (frame (request_body request.now)) }
     ensures refused { IsTooLarge (FitsFrame requests request.now) (frame (request_body request.now)) → IsErrOf result CarryError.TooLarge ⊎ IsErrOf result CarryError.Memory }
     ensures quiet { IsErrOf result CarryError.TooLarge → (reader.new ≡ reader.old) × (writer.new ≡ writer.old) }
+    ensures reached { ¬ IsErrOf result CarryError.NotReached }
 {
     if !request.fits() {
         return Err(CarryError::TooLarge);
@@ -108,6 +112,7 @@ pub fn carry_reply<R: Read, W: Write>(
     ensures large { IsErrOf result CarryError.TooLarge → IsTooLarge (FitsFrame replies reply.now) (frame (reply_body reply.now)) }
     ensures refused { IsTooLarge (FitsFrame replies reply.now) (frame (reply_body reply.now)) → IsErrOf result CarryError.TooLarge ⊎ IsErrOf result CarryError.Memory }
     ensures quiet { IsErrOf result CarryError.TooLarge → (reader.new ≡ reader.old) × (writer.new ≡ writer.old) }
+    ensures reached { ¬ IsErrOf result CarryError.NotReached }
 {
     if !reply.fits() {
         return Err(CarryError::TooLarge);

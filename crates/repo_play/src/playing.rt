@@ -2,7 +2,7 @@
 
 ghost use Rattle.std.specs.Prelude.{◌≡◌, ◌<◌, ℕ, List, Some, IfErr, length};
 ghost use Rattle.repo_play.specs.Plays.{Plays, EndsBy, uncarried};
-ghost use Rattle.repo_play.specs.inner.Scripts.{ScriptReads};
+ghost use Rattle.repo_play.specs.inner.Scripts.{ScriptReads, ScriptStands};
 ghost use Rattle.repo_play.specs.declared.grammars.Grammar.{Grammar};
 
 use crate::carriers::{Carrier, Nothing};
@@ -42,6 +42,27 @@ fn read_piece<C: Carrier + Drop, R: Read, W: Write>(
     }
 }
 
+/// Runs the lines of a script to its end.
+fn play_on<C: Carrier + Drop, R: Read, W: Write>(
+    script: &mut Script<C>,
+    piece: &mut [u8],
+    reader: &mut R,
+    writer: &mut W,
+) -> Result<(), LoopError>
+    requires { 0 < length piece.old }
+    ensures plays { (input : List ℕ) → R.remaining reader.old ≡ Some input → ScriptStands input (W.contents writer.old) script.old input (W.contents writer.old)
+        → Plays script.old.grammar input (W.contents writer.old) result (W.contents writer.new) }
+    ensures carried { IfErr result (EndsBy C.fails) }
+{
+    for turn in 0..READS {
+        let more = read_piece(script, piece, reader, writer)?;
+        if !more {
+            return script.finish(writer);
+        }
+    }
+    Err(LoopError::Play(PlayError::Limit))
+}
+
 /// Runs the lines of a script, and carries its messages.
 fn play_carried<C: Carrier + Drop, R: Read, W: Write>(
     alloc: Global,
@@ -53,15 +74,9 @@ fn play_carried<C: Carrier + Drop, R: Read, W: Write>(
     ensures plays { (input : List ℕ) → R.remaining reader.old ≡ Some input → Plays grammar input (W.contents writer.old) result (W.contents writer.new) }
     ensures carried { IfErr result (EndsBy C.fails) }
 {
-    let mut script = Script::new(alloc, grammar, carrier)?;
     let mut piece = vec![in alloc; 0u8; PIECE]?;
-    for turn in 0..READS {
-        let more = read_piece(&mut script, piece.as_mut_slice(), reader, writer)?;
-        if !more {
-            return script.finish(writer);
-        }
-    }
-    Err(LoopError::Play(PlayError::Limit))
+    let mut script = Script::new(alloc, grammar, carrier)?;
+    play_on(&mut script, piece.as_mut_slice(), reader, writer)
 }
 
 /// Plays a script: reads its lines, runs each over a store in memory, and writes what it prints before the next one is read.

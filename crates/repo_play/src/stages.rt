@@ -1,6 +1,6 @@
 //! The stage of a script: a player over a store that only appends, or over one that doesn't.
 
-ghost use Rattle.std.specs.Prelude.{◌≡◌, true, false, IfOk, IfErr, IsErrOf, string_bytes};
+ghost use Rattle.std.specs.Prelude.{◌≡◌, true, false, IfOk, IfErr, IsErrOf, OnOk, string_bytes};
 ghost use Rattle.repo_play.specs.Lines.{Does, GoesFar, IsFreshScript, IsNonsense};
 ghost use Rattle.repo_play.specs.inner.Players.{state_on};
 ghost use Rattle.repo_play.specs.Plays.{LineSays, IsNotUnderstood};
@@ -41,6 +41,14 @@ impl Stage {
         Ok(Stage::Appending(beginning(alloc, device)?))
     }
 
+    /// The stage is the one behind the first line, where that says that the store only appends.
+    fn append_only(&mut self, alloc: Global) -> Result<(), AllocError>
+        ensures { OnOk result (IsFreshScript true (state_on self.new)) }
+    {
+        *self = Stage::appending(alloc)?;
+        Ok(())
+    }
+
     /// A line is run. What it prints is given.
     fn run<C: Carrier>(&mut self, carrier: &mut C, line: Line) -> Result<String, Halt>
         ensures does { IfOk result (λ text. Does line (state_on self.old) (string_bytes text) (state_on self.new)) }
@@ -78,7 +86,7 @@ impl Stage {
             return Err(Halt::Nonsense);
         }
         if before == 0 && matches!(&line, Line::AppendOnly) {
-            *self = Stage::appending(alloc)?;
+            self.append_only(alloc)?;
             return Ok(String::new(alloc));
         }
         self.run(carrier, line)

@@ -1,5 +1,5 @@
 -- A client that is driven over one connection after another.
-use Rattle.std.proofs.Common.{◌≡◌, ◌≤◌, ◌+◌, ◌++◌, ◌∷◌, [], ℕ, Bool, true, List, Option, Some, None, Result, Ok, Err, length, map, refl, sym, ap, subst, arith, append_assoc, length-append, ◌∙◌}
+use Rattle.std.proofs.Common.{◌≡◌, ◌≤◌, ◌+◌, ◌++◌, ◌∷◌, [], ℕ, true, List, Option, Some, None, Result, Ok, Err, length, refl, sym, ap, subst, arith, append_assoc, length-append, ◌∙◌}
 use Rattle.std.proofs.lemmas.List.{append-nil, length-map, map-append}
 use Rattle.repo_name.specs.declared.names.Instance.{Instance}
 use Rattle.repo_wire.specs.declared.messages.Request.{Request}
@@ -8,7 +8,7 @@ use Rattle.repo_session.specs.Clients.{exchange}
 use Rattle.repo_session.specs.Talks.{Talk, Said, IsTurn, AreNumbered, Drives, Went, trace_of}
 use Rattle.repo_session.specs.Traces.{Each, Trace}
 use Rattle.repo_session.proofs.Talking.{went_nowhere}
-use Rattle.repo_prog.specs.Dialing.{Call, Coming, Try, dialed_in, talk_in, talk_over, AreDialed, Dials, DrivenOver, TryGives, AreCut, is_cut, as_try, DrivesAgain}
+use Rattle.repo_prog.specs.Dialing.{Coming, Try, dialed_in, talk_in, talk_over, AreDialed, Dials, TryGives, AreCut, is_cut, DrivesAgain}
 use Rattle.repo_prog.specs.declared.again.TryError.{TryError}
 
 -- ---- talks, one after another

@@ -1,4 +1,4 @@
-use Rattle.std.proofs.Common.{◌≡◌, ◌+◌, ◌++◌, ◌∷◌, [], ℕ, List, Option, Some, None, Result, Ok, Err, OnOk, length, refl, sym, ap, subst, inl, append_assoc, ◌∙◌}
+use Rattle.std.proofs.Common.{◌≡◌, ◌++◌, ◌∷◌, [], ℕ, List, Option, Some, None, Result, Ok, Err, OnOk, length, refl, sym, ap, subst, inl, append_assoc, ◌∙◌}
 use Rattle.std.specs.Prelude.{ok_or}
 use Rattle.repo_wire.specs.Stream.{Waits}
 use Rattle.repo_store.specs.declared.forms.ServiceError.{ServiceError}

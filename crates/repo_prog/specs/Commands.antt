@@ -1,4 +1,4 @@
-use Rattle.std.specs.Prelude.{◌≡◌, ◌⊎◌, ◌<◌, ◌≤◌, ◌++◌, ◌∷◌, [], ⊤, ℕ, List, Option, Some, None, Result, Ok, Err, codes}
+use Rattle.std.specs.Prelude.{◌≡◌, ◌⊎◌, ◌<◌, ◌≤◌, ◌++◌, ◌∷◌, [], ⊤, ℕ, List, Option, Some, None, Ok, Err, codes}
 use Rattle.std.specs.Duration.{as_nanos}
 use Rattle.std.specs.declared.time.Duration.{Duration}
 use Rattle.std.specs.Io.KnownBytes.{Appends}
@@ -16,6 +16,7 @@ use Rattle.repo_play.specs.declared.faults.LoopError.{LoopError}
 use Rattle.repo_play.specs.declared.faults.PlayError.{PlayError}
 use Rattle.repo_play.specs.declared.grammars.Grammar.{Grammar}
 use Rattle.repo_prog.specs.declared.errands.Errand.{Errand}
+use Rattle.repo_prog.specs.declared.errands.LockErrand.{LockErrand}
 use Rattle.repo_prog.specs.declared.errors.FramesError.{FramesError}
 use Rattle.repo_prog.specs.declared.status.Status.{Status}
 use Rattle.repo_prog.specs.declared.words.Order.{Order}
@@ -42,6 +43,18 @@ IsStoredStatus Status.Done = ⊤
 IsStoredStatus Status.Flawed = ⊤
 IsStoredStatus Status.Failed = ⊥
 IsStoredStatus Status.Usage = ⊥
+
+-- the word of an errand's command
+abbrev pub errand_word : Errand → List ℕ
+errand_word (Errand.Backup host folder) = codes "backup"
+errand_word Errand.Snapshots = codes "snapshots"
+errand_word (Errand.Restore name folder) = codes "restore"
+errand_word (Errand.Forget choice) = codes "forget"
+errand_word Errand.Prune = codes "prune"
+errand_word Errand.Check = codes "check"
+errand_word (Errand.Locks LockErrand.List) = codes "locks"
+errand_word (Errand.Locks (LockErrand.Refresh token)) = codes "refresh"
+errand_word (Errand.Locks (LockErrand.Remove all)) = codes "unlock"
 
 -- an errand within its limits
 abbrev pub IsErrand : Errand → Type 0
@@ -104,6 +117,10 @@ created_line id = codes "created " ++ encode_lower id.0 ++ line_feed ∷ []
 -- the line that tells that a server listens
 abbrev pub listening_line : List ℕ
 listening_line = codes "listening" ++ line_feed ∷ []
+
+-- nothing was written, or some first part of these bytes
+abbrev pub IsCutShort : Option (List ℕ) → Option (List ℕ) → List ℕ → Type 0
+IsCutShort start contents bytes = (contents ≡ start) ⊎ AppendsPart start contents bytes
 
 -- what making a store gives: it was made, and its line was written, or some first part of the line; or an error left what it leaves, and nothing was written
 abbrev pub InitGives : Config → Store → Option (List ℕ) → Status → Store → Option (List ℕ) → Type 0

@@ -1,17 +1,23 @@
 -- What a client's errand gives: what its command does.
-use Rattle.std.specs.Prelude.{◌≡◌, ◌⊎◌, ℕ, List, Option, Some, None}
+use Rattle.std.specs.Prelude.{◌≡◌, ◌⊎◌, ◌≤◌, ⊤, ℕ, List, Option, Some, None}
+use Rattle.std.specs.Io.KnownBytes.{Appends}
+use Rattle.repo_name.specs.Naming.{IsInstance}
+use Rattle.repo_name.specs.declared.names.Instance.{Instance}
 use Rattle.repo_wire.specs.declared.messages.Ask.{Ask}
 use Rattle.repo_tree.specs.declared.entries.Entry.{Entry}
 use Rattle.repo_prog.specs.declared.callers.Caller.{Caller}
 use Rattle.repo_prog.specs.declared.errands.Errand.{Errand}
 use Rattle.repo_prog.specs.declared.errands.LockErrand.{LockErrand}
 use Rattle.repo_prog.specs.declared.status.Status.{Status}
+use Rattle.repo_prog.specs.declared.words.Order.{Order}
+use Rattle.repo_prune.specs.Forgetting.{IsNoPolicy}
 use Rattle.repo_prog.specs.Asking.{Streams, streams, Asked, RemovesLocks, request_of}
 use Rattle.repo_prog.specs.Tellings.{locks_told, refresh_told}
-use Rattle.repo_prog.specs.Commands.{IsStoredStatus}
+use Rattle.repo_prog.specs.Commands.{IsEnd, created_line, listening_line}
+use Rattle.repo_files.specs.Scanned.{AreScanned}
 use Rattle.repo_prog.specs.Dialing.{Coming, ConnectionEnds, Dials}
 use Rattle.repo_prog.specs.Jobs.{ListObeyed, RestoreObeyed, ForgetObeyed, PruneObeyed, CheckObeyed, BackupObeyed}
-use Rattle.repo_prog.specs.Shown.{TellsStored, TellsListed, TellsRestored, TellsForgotten, TellsPruned, TellsClean, TellsFaults}
+use Rattle.repo_prog.specs.Shown.{TellsStored, TellsListed, TellsRestored, TellsForgotten, TellsPruned, TellsChecked, unflawed}
 
 -- what is asked about the locks over a connection, and told
 abbrev pub LockGives : LockErrand → Caller → Streams → Status → Streams → Type 0
@@ -26,20 +32,35 @@ LocksGive errand caller coming after start status contents =
     ⊎ ((came left : ConnectionEnds) × Dials coming (Some came) after
     × LockGives errand caller (streams came.ahead came.sent start) status (streams left.ahead left.sent contents))
 
+-- entries with paths of components, each above the one before it, are backed up
+abbrev pub BacksUp : Caller → List ℕ → ℕ → Coming → Coming → Option (List ℕ) → Status → Option (List ℕ) → Type 0
+BacksUp caller host retry coming after start status contents =
+    (entries : List Entry) × AreScanned entries × BackupObeyed caller host entries retry coming after × TellsStored caller host entries retry coming after (unflawed status) start contents
+
 -- what each errand gives, over so many connections at most after the first
 abbrev pub ErrandGives : Errand → Caller → ℕ → Coming → Coming → Option (List ℕ) → Status → Option (List ℕ) → Type 0
-ErrandGives (Errand.Backup host folder) caller retry coming after start status contents =
-    ((entries : List Entry) × BackupObeyed caller host entries retry coming after)
-    × (IsStoredStatus status → (entries : List Entry) × TellsStored caller host entries retry coming after start contents)
+ErrandGives (Errand.Backup host folder) caller retry coming after start status contents = BacksUp caller host retry coming after start status contents
 ErrandGives Errand.Snapshots caller retry coming after start status contents =
-    ListObeyed caller retry coming after × (status ≡ Status.Done → TellsListed caller retry coming after start contents)
+    ListObeyed caller retry coming after × TellsListed caller retry coming after status start contents
 ErrandGives (Errand.Restore name folder) caller retry coming after start status contents =
-    RestoreObeyed caller name retry coming after × (status ≡ Status.Done → TellsRestored caller name retry coming after start contents)
+    RestoreObeyed caller name retry coming after × TellsRestored caller name retry coming after status start contents
 ErrandGives (Errand.Forget choice) caller retry coming after start status contents =
-    ForgetObeyed caller choice retry coming after × (status ≡ Status.Done → TellsForgotten caller choice retry coming after start contents)
+    ForgetObeyed caller choice retry coming after × TellsForgotten caller choice retry coming after status start contents
+    × (IsNoPolicy choice → (status ≡ Status.Failed) × (contents ≡ start))
 ErrandGives Errand.Prune caller retry coming after start status contents =
-    PruneObeyed caller retry coming after × (status ≡ Status.Done → TellsPruned caller retry coming after start contents)
+    PruneObeyed caller retry coming after × TellsPruned caller retry coming after status start contents
 ErrandGives Errand.Check caller retry coming after start status contents =
-    CheckObeyed caller retry coming after × (status ≡ Status.Done → TellsClean caller retry coming after start contents)
-    × (status ≡ Status.Flawed → TellsFaults caller retry coming after start contents)
+    CheckObeyed caller retry coming after × TellsChecked caller retry coming after status start contents
 ErrandGives (Errand.Locks errand) caller retry coming after start status contents = LocksGive errand caller coming after start status contents
+
+-- what an errand gives at an address, of whose connections nothing is known: it failed, and nothing was written; or somebody did it over them
+abbrev pub AddressGives : Errand → ℕ → Option (List ℕ) → Status → Option (List ℕ) → Type 0
+AddressGives errand retry start status contents = ((status ≡ Status.Failed) × (contents ≡ start))
+    ⊎ ((caller : Caller) × (left : ℕ) × IsInstance caller.instance × (left ≤ retry) × ErrandGives errand caller left None None start status contents)
+
+-- what an order gives on the output, where it reads no input
+abbrev pub OrderGives : Order → Option (List ℕ) → Status → Option (List ℕ) → Type 0
+OrderGives (Order.Init folder making) start status contents = IsEnd status × (status ≡ Status.Done → (id : Instance) × Appends start contents (created_line id))
+OrderGives (Order.Serve folder address serving) start status contents = IsEnd status × (status ≡ Status.Done → Appends start contents listening_line)
+OrderGives (Order.Client address errand retry) start status contents = AddressGives errand retry start status contents
+OrderGives _ start status contents = ⊤

@@ -1,62 +1,105 @@
 -- What commands show of their jobs.
-use Rattle.std.specs.Prelude.{◌≡◌, Option, ℕ, List, Some}
+use Rattle.std.specs.Prelude.{◌≡◌, ◌⊎◌, Option, ℕ, List, Some}
 use Rattle.repo_prog.specs.Tellings.{snapshot_lines, complete_line, stored_line, forgotten_lines, pruned_line, fault_lines, clean_line}
 use Rattle.repo_prog.specs.Dialing.{Coming}
 use Rattle.repo_prog.specs.declared.callers.Caller.{Caller}
+use Rattle.repo_prog.specs.declared.status.Status.{Status}
 use Rattle.repo_prog.specs.Jobs.{RestoresSnapshot, Prunes, Checks, Stores, Forgets, ListsSnapshots}
 use Rattle.repo_tree.specs.declared.entries.Entry.{Entry}
 use Rattle.std.specs.Io.KnownBytes.{Appends}
 use Rattle.repo_prune.specs.declared.choices.Choice.{Choice}
 use Rattle.repo_session.specs.declared.outcomes.CheckFault.{CheckFault}
 use Rattle.repo_name.specs.declared.names.Name.{Name}
+use Rattle.repo_store.specs.Output.{AppendsPart}
 use Rattle.repo_tree.specs.declared.snapshots.Snapshot.{Snapshot}
 use Rattle.repo_session.specs.declared.outcomes.Outcome.{Outcome}
 
--- ---- a job's outcome is shown: it is the one of success, and its lines are written
+-- What is told, by the status. Done: it came to something, and the lines of that were written. Failed: nothing was written, or some first part of the lines
+-- of something that it came to.
+abbrev pub Tells : {A : Type 0} → (A → Type 0) → (A → List ℕ) → Status → Option (List ℕ) → Option (List ℕ) → Type 0
+Tells {A} Came lines Status.Done before after = (a : A) × Came a × Appends before after (lines a)
+Tells {A} Came lines Status.Failed before after = (after ≡ before) ⊎ ((a : A) × Came a × AppendsPart before after (lines a))
+Tells Came lines Status.Flawed before after = ⊥
+Tells Came lines Status.Usage before after = ⊥
 
-abbrev pub ShowsStored : Option Outcome → Option (List ℕ) → Option (List ℕ) → Type 0
-ShowsStored outcome before after = (name : Name) × (blobs : ℕ) × (bytes : ℕ) × (outcome ≡ Some (Outcome.Stored name blobs bytes)) × Appends before after (stored_line name blobs bytes)
+-- the same of what may come to one of two: flawed, it came to the second
+abbrev pub TellsEither : {A B : Type 0} → (A → Type 0) → (A → List ℕ) → (B → Type 0) → (B → List ℕ) → Status → Option (List ℕ) → Option (List ℕ) → Type 0
+TellsEither {A} {B} Well lines Ill flaws Status.Done before after = (a : A) × Well a × Appends before after (lines a)
+TellsEither {A} {B} Well lines Ill flaws Status.Flawed before after = (b : B) × Ill b × Appends before after (flaws b)
+TellsEither {A} {B} Well lines Ill flaws Status.Failed before after =
+    (after ≡ before) ⊎ (((a : A) × Well a × AppendsPart before after (lines a)) ⊎ ((b : B) × Ill b × AppendsPart before after (flaws b)))
+TellsEither Well lines Ill flaws Status.Usage before after = ⊥
 
-abbrev pub ShowsListed : Option Outcome → Option (List ℕ) → Option (List ℕ) → Type 0
-ShowsListed outcome before after = (rows : List (Name × Snapshot)) × (outcome ≡ Some (Outcome.Listed rows)) × Appends before after (snapshot_lines rows)
+-- a status without its flaw
+abbrev pub unflawed : Status → Status
+unflawed Status.Done = Status.Done
+unflawed Status.Failed = Status.Failed
+unflawed Status.Usage = Status.Usage
+unflawed Status.Flawed = Status.Done
 
-abbrev pub ShowsRestored : Option Outcome → Option (List ℕ) → Option (List ℕ) → Type 0
-ShowsRestored outcome before after = (entries : ℕ) × (outcome ≡ Some (Outcome.Complete entries)) × Appends before after (complete_line entries)
+-- ---- what a job comes to, and its lines
 
-abbrev pub ShowsForgotten : Option Outcome → Option (List ℕ) → Option (List ℕ) → Type 0
-ShowsForgotten outcome before after = (names : List Name) × (outcome ≡ Some (Outcome.Forgotten names)) × Appends before after (forgotten_lines names)
+-- a snapshot's name, and how many blobs of how many bytes were put
+abbrev pub Stored : Type 0
+Stored = Name × ℕ × ℕ
 
-abbrev pub ShowsPruned : Option Outcome → Option (List ℕ) → Option (List ℕ) → Type 0
-ShowsPruned outcome before after = (packs : ℕ) × (bytes : ℕ) × (outcome ≡ Some (Outcome.Pruned packs bytes)) × Appends before after (pruned_line packs bytes)
+abbrev pub stored_lines : Stored → List ℕ
+stored_lines s = stored_line s.0 s.1 s.2
 
-abbrev pub ShowsClean : Option Outcome → Option (List ℕ) → Option (List ℕ) → Type 0
-ShowsClean outcome before after = (snapshots : ℕ) × (indexes : ℕ) × (packs : ℕ) × (blobs : ℕ) × (outcome ≡ Some (Outcome.Clean snapshots indexes packs blobs))
-    × Appends before after (clean_line snapshots indexes packs blobs)
+-- how many packs were deleted, and how many bytes of blobs moved
+abbrev pub Pruned : Type 0
+Pruned = ℕ × ℕ
 
-abbrev pub ShowsFaults : Option Outcome → Option (List ℕ) → Option (List ℕ) → Type 0
-ShowsFaults outcome before after = (found : List CheckFault) × (outcome ≡ Some (Outcome.Faults found)) × Appends before after (fault_lines found)
+abbrev pub pruned_lines : Pruned → List ℕ
+pruned_lines p = pruned_line p.0 p.1
 
--- ---- a command tells success: its job came to that over the connections that were made, and its lines are written
+-- how many snapshots, indexes, packs and blobs are well
+abbrev pub Clean : Type 0
+Clean = ℕ × ℕ × ℕ × ℕ
 
-abbrev pub TellsStored : Caller → List ℕ → List Entry → ℕ → Coming → Coming → Option (List ℕ) → Option (List ℕ) → Type 0
-TellsStored caller host entries retry coming left before after = (name : Name) × (blobs : ℕ) × (bytes : ℕ) × Stores caller host entries name blobs bytes retry coming left
-    × Appends before after (stored_line name blobs bytes)
+abbrev pub clean_lines : Clean → List ℕ
+clean_lines c = clean_line c.0 c.1 c.2 c.3
 
-abbrev pub TellsListed : Caller → ℕ → Coming → Coming → Option (List ℕ) → Option (List ℕ) → Type 0
-TellsListed caller retry coming left before after = (rows : List (Name × Snapshot)) × ListsSnapshots caller rows retry coming left × Appends before after (snapshot_lines rows)
+-- ---- an outcome is shown
 
-abbrev pub TellsRestored : Caller → Name → ℕ → Coming → Coming → Option (List ℕ) → Option (List ℕ) → Type 0
-TellsRestored caller name retry coming left before after = (entries : ℕ) × RestoresSnapshot caller name entries retry coming left × Appends before after (complete_line entries)
+abbrev pub ShowsStored : Option Outcome → Status → Option (List ℕ) → Option (List ℕ) → Type 0
+ShowsStored outcome status before after = Tells (λ (s : Stored). outcome ≡ Some (Outcome.Stored s.0 s.1 s.2)) stored_lines status before after
 
-abbrev pub TellsForgotten : Caller → Choice → ℕ → Coming → Coming → Option (List ℕ) → Option (List ℕ) → Type 0
-TellsForgotten caller choice retry coming left before after = (names : List Name) × Forgets caller choice names retry coming left × Appends before after (forgotten_lines names)
+abbrev pub ShowsListed : Option Outcome → Status → Option (List ℕ) → Option (List ℕ) → Type 0
+ShowsListed outcome status before after = Tells (λ (rows : List (Name × Snapshot)). outcome ≡ Some (Outcome.Listed rows)) snapshot_lines status before after
 
-abbrev pub TellsPruned : Caller → ℕ → Coming → Coming → Option (List ℕ) → Option (List ℕ) → Type 0
-TellsPruned caller retry coming left before after = (packs : ℕ) × (bytes : ℕ) × Prunes caller packs bytes retry coming left × Appends before after (pruned_line packs bytes)
+abbrev pub ShowsRestored : Option Outcome → Status → Option (List ℕ) → Option (List ℕ) → Type 0
+ShowsRestored outcome status before after = Tells (λ (entries : ℕ). outcome ≡ Some (Outcome.Complete entries)) complete_line status before after
 
-abbrev pub TellsClean : Caller → ℕ → Coming → Coming → Option (List ℕ) → Option (List ℕ) → Type 0
-TellsClean caller retry coming left before after = (snapshots : ℕ) × (indexes : ℕ) × (packs : ℕ) × (blobs : ℕ)
-    × Checks caller (Outcome.Clean snapshots indexes packs blobs) retry coming left × Appends before after (clean_line snapshots indexes packs blobs)
+abbrev pub ShowsForgotten : Option Outcome → Status → Option (List ℕ) → Option (List ℕ) → Type 0
+ShowsForgotten outcome status before after = Tells (λ (names : List Name). outcome ≡ Some (Outcome.Forgotten names)) forgotten_lines status before after
 
-abbrev pub TellsFaults : Caller → ℕ → Coming → Coming → Option (List ℕ) → Option (List ℕ) → Type 0
-TellsFaults caller retry coming left before after = (found : List CheckFault) × Checks caller (Outcome.Faults found) retry coming left × Appends before after (fault_lines found)
+abbrev pub ShowsPruned : Option Outcome → Status → Option (List ℕ) → Option (List ℕ) → Type 0
+ShowsPruned outcome status before after = Tells (λ (p : Pruned). outcome ≡ Some (Outcome.Pruned p.0 p.1)) pruned_lines status before after
+
+abbrev pub ShowsChecked : Option Outcome → Status → Option (List ℕ) → Option (List ℕ) → Type 0
+ShowsChecked outcome status before after =
+    TellsEither (λ (c : Clean). outcome ≡ Some (Outcome.Clean c.0 c.1 c.2 c.3)) clean_lines (λ (found : List CheckFault). outcome ≡ Some (Outcome.Faults found)) fault_lines status before after
+
+-- ---- a command tells what its job came to, over the connections that were made
+
+abbrev pub TellsStored : Caller → List ℕ → List Entry → ℕ → Coming → Coming → Status → Option (List ℕ) → Option (List ℕ) → Type 0
+TellsStored caller host entries retry coming left status before after =
+    Tells (λ (s : Stored). Stores caller host entries s.0 s.1 s.2 retry coming left) stored_lines status before after
+
+abbrev pub TellsListed : Caller → ℕ → Coming → Coming → Status → Option (List ℕ) → Option (List ℕ) → Type 0
+TellsListed caller retry coming left status before after = Tells (λ rows. ListsSnapshots caller rows retry coming left) snapshot_lines status before after
+
+abbrev pub TellsRestored : Caller → Name → ℕ → Coming → Coming → Status → Option (List ℕ) → Option (List ℕ) → Type 0
+TellsRestored caller name retry coming left status before after = Tells (λ entries. RestoresSnapshot caller name entries retry coming left) complete_line status before after
+
+abbrev pub TellsForgotten : Caller → Choice → ℕ → Coming → Coming → Status → Option (List ℕ) → Option (List ℕ) → Type 0
+TellsForgotten caller choice retry coming left status before after = Tells (λ names. Forgets caller choice names retry coming left) forgotten_lines status before after
+
+abbrev pub TellsPruned : Caller → ℕ → Coming → Coming → Status → Option (List ℕ) → Option (List ℕ) → Type 0
+TellsPruned caller retry coming left status before after = Tells (λ (p : Pruned). Prunes caller p.0 p.1 retry coming left) pruned_lines status before after
+
+abbrev pub TellsChecked : Caller → ℕ → Coming → Coming → Status → Option (List ℕ) → Option (List ℕ) → Type 0
+TellsChecked caller retry coming left status before after =
+    TellsEither (λ (c : Clean). Checks caller (Outcome.Clean c.0 c.1 c.2 c.3) retry coming left) clean_lines (λ found. Checks caller (Outcome.Faults found) retry coming left) fault_lines
+    status before after

@@ -1,20 +1,18 @@
 //! `vault backup`.
 
-ghost use Rattle.std.specs.Prelude.{◌≡◌, ◌≢◌, [], List, Some, option_map};
+ghost use Rattle.std.specs.Prelude.{◌≡◌, ◌≢◌, [], option_map};
 ghost use Rattle.repo_name.specs.Rows.{IsHost};
-ghost use Rattle.repo_session.specs.declared.outcomes.Outcome.{Outcome};
-ghost use Rattle.repo_tree.specs.declared.entries.Entry.{Entry};
-ghost use Rattle.repo_prog.specs.Commands.{IsEnd, IsStoredStatus};
-ghost use Rattle.repo_prog.specs.Tellings.{stored_line};
+ghost use Rattle.repo_backup.specs.Handed.{AreHanded};
 ghost use Rattle.repo_prog.specs.declared.status.Status.{Status};
-ghost use Rattle.repo_prog.specs.Shown.{ShowsStored, TellsStored};
+ghost use Rattle.repo_prog.specs.Shown.{ShowsStored, TellsStored, unflawed};
+ghost use Rattle.repo_prog.specs.Errands.{BacksUp};
 ghost use Rattle.repo_prog.specs.Jobs.{BackupObeyed};
 
 use crate::again::drive_again;
 use crate::callers::Caller;
 use crate::dialing::Dial;
 use crate::status::{Status, failed, flawed, tell};
-use crate::telling::{show, stored_line, unfinished};
+use crate::telling::{show_made, stored_line, unfinished};
 use repo_backup::{Backup, BackupError};
 use repo_files::{Scan, ScanError, Skipped, scan};
 use repo_session::{Client, DriveError, Outcome};
@@ -24,7 +22,7 @@ use std::fs::Files;
 use std::io::Write;
 
 /// Tells what a scan left out, a line each.
-pub fn tell_skipped<F: Write>(skipped: &[Skipped], faults: &mut F) {
+fn tell_skipped<F: Write>(skipped: &[Skipped], faults: &mut F) {
     for left in skipped {
         match left {
             Skipped::Other(path) => tell(faults, &format_args!("skipped {path}")),
@@ -36,7 +34,7 @@ pub fn tell_skipped<F: Write>(skipped: &[Skipped], faults: &mut F) {
 }
 
 /// Tells why entries can't be backed up.
-pub fn cannot_begin<F: Write>(error: BackupError, faults: &mut F) -> Status
+fn cannot_begin<F: Write>(error: BackupError, faults: &mut F) -> Status
     ensures { result ≡ Status.Failed }
 {
     match error {
@@ -48,27 +46,23 @@ pub fn cannot_begin<F: Write>(error: BackupError, faults: &mut F) -> Status
     }
 }
 
-/// Writes the line of a snapshot that was stored, or tells how the job ended else.
-pub fn show_stored<O: Write, F: Write>(
+/// Writes the line of a snapshot that was stored, or tells how else the job ended.
+fn show_stored<O: Write, F: Write>(
     alloc: Global,
     outcome: Option<&Outcome>,
     output: &mut O,
     faults: &mut F,
 ) -> Status
-    ensures stored { result ≡ Status.Done → ShowsStored (option_map (λ o. o.now) outcome.entry) (O.contents output.old) (O.contents output.new) }
+    ensures shows { ShowsStored (option_map (λ o. o.now) outcome.entry) result (O.contents output.old) (O.contents output.new) }
     ensures silent { result ≡ Status.Done → faults.new ≡ faults.old }
-    ensures status { IsEnd result }
 {
     let Some(Outcome::Stored { name, blobs, bytes }) = outcome else {
         return unfinished(alloc, outcome, faults);
     };
-    match stored_line(alloc, name, *blobs, *bytes) {
-        Ok(line) => show(line.as_str(), output, faults),
-        Err(_) => failed(faults, &DriveError::Memory),
-    }
+    show_made(stored_line(alloc, name, *blobs, *bytes), output, faults)
 }
 
-/// Backs up entries under the name of a machine.
+/// Backs up entries under the name of a machine. Where they may not be backed up no connection is asked for.
 pub fn backup_entries<D: Dial, O: Write, F: Write>(
     alloc: Global,
     caller: &Caller,
@@ -80,11 +74,10 @@ pub fn backup_entries<D: Dial, O: Write, F: Write>(
     faults: &mut F,
 ) -> Status
     requires { IsHost host.now }
+    ensures unlawful { ¬ AreHanded entries.items → (result ≡ Status.Failed) × (dial.new ≡ dial.old) × (output.new ≡ output.old) }
     ensures obeyed { BackupObeyed caller.now host.now entries.items retry (D.coming dial.old) (D.coming dial.new) }
-    ensures stored { result ≡ Status.Done → TellsStored caller.now host.now entries.items retry (D.coming dial.old) (D.coming dial.new)
-        (O.contents output.old) (O.contents output.new) }
+    ensures tells { TellsStored caller.now host.now entries.items retry (D.coming dial.old) (D.coming dial.new) result (O.contents output.old) (O.contents output.new) }
     ensures silent { result ≡ Status.Done → faults.new ≡ faults.old }
-    ensures status { IsEnd result }
 {
     let Ok(who) = caller.who(alloc, host) else {
         return failed(faults, &DriveError::Memory);
@@ -113,8 +106,7 @@ pub fn backup_found<D: Dial, O: Write, F: Write>(
 ) -> Status
     requires { IsHost host.now }
     ensures obeyed { BackupObeyed caller.now host.now found.entries.items retry (D.coming dial.old) (D.coming dial.new) }
-    ensures stored { IsStoredStatus result → TellsStored caller.now host.now found.entries.items retry (D.coming dial.old) (D.coming dial.new)
-        (O.contents output.old) (O.contents output.new) }
+    ensures tells { TellsStored caller.now host.now found.entries.items retry (D.coming dial.old) (D.coming dial.new) (unflawed result) (O.contents output.old) (O.contents output.new) }
     ensures whole { result ≡ Status.Done → found.skipped.items ≡ [] }
     ensures flawed { result ≡ Status.Flawed → found.skipped.items ≢ [] }
     ensures silent { result ≡ Status.Done → faults.new ≡ faults.old }
@@ -144,9 +136,7 @@ pub fn backup_command<T: Files + AllocGlobal + Clone + Drop, D: Dial, O: Write, 
     faults: &mut F,
 ) -> Status
     requires { IsHost host.now }
-    ensures obeyed { (entries : List Entry) × BackupObeyed caller.now host.now entries retry (D.coming dial.old) (D.coming dial.new) }
-    ensures stored { IsStoredStatus result → (entries : List Entry) × TellsStored caller.now host.now entries retry (D.coming dial.old) (D.coming dial.new)
-        (O.contents output.old) (O.contents output.new) }
+    ensures gives { BacksUp caller.now host.now retry (D.coming dial.old) (D.coming dial.new) (O.contents output.old) result (O.contents output.new) }
     ensures silent { result ≡ Status.Done → faults.new ≡ faults.old }
     ensures status { result ≢ Status.Usage }
 {

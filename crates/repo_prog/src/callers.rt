@@ -1,6 +1,7 @@
 //! Who runs a command against a server, and when.
 
-ghost use Rattle.std.specs.Prelude.{◌≡◌, IfOk};
+ghost use Rattle.std.specs.Prelude.{◌≡◌, ◌/◌, IfOk, IfSome};
+ghost use Rattle.std.specs.Time.{system_time_nanos};
 ghost use Rattle.repo_name.specs.Naming.{IsInstance};
 ghost use Rattle.repo_name.specs.Rows.{IsHost};
 ghost use Rattle.repo_wire.specs.Messages.{IsAsk, IsShortAsk, requests};
@@ -19,7 +20,7 @@ use std::random::RandomSource;
 use std::rt::Clock;
 use std::time::{SystemTime, UNIX_EPOCH};
 
-/// The host under which commands take a lock that aren't told another.
+/// The host of a lock that isn't a backup's.
 pub const HOST: &str = "vault";
 
 /// Who runs a command against a server, and when.
@@ -31,19 +32,28 @@ pub struct Caller {
     pub time: u64,
 }
 
+/// The caller of this instance at a moment. `None` before 1970.
+fn caller_at(instance: Instance, now: SystemTime) -> Option<Caller>
+    ensures { IfSome result (λ caller. caller ≡ record { instance = instance; time = system_time_nanos now / 1_000_000_000 }) }
+{
+    match now.duration_since(UNIX_EPOCH) {
+        Ok(age) => Some(Caller {
+            instance,
+            time: age.as_secs(),
+        }),
+        Err(_) => None,
+    }
+}
+
 /// The caller that runs now: sixteen random bytes, and the moment by the machine's clock. It fails where the
 /// machine gives no random bytes, or its clock stands before 1970.
 pub fn caller_now<R: RandomSource + Clock>(rt: &R) -> io::Result<Caller>
     ensures { IfOk result (λ caller. IsInstance caller.instance) }
 {
     let instance = random_instance(rt)?;
-    let now = SystemTime::now(rt)?;
-    match now.duration_since(UNIX_EPOCH) {
-        Ok(age) => Ok(Caller {
-            instance,
-            time: age.as_secs(),
-        }),
-        Err(_) => Err(io::Error::from(ErrorKind::InvalidData)),
+    match caller_at(instance, SystemTime::now(rt)?) {
+        Some(caller) => Ok(caller),
+        None => Err(io::Error::from(ErrorKind::InvalidData)),
     }
 }
 

@@ -1,73 +1,30 @@
 //! `vault check`.
 
-ghost use Rattle.std.specs.Prelude.{◌≡◌, ◌≢◌, Some, option_map};
-ghost use Rattle.std.specs.Io.KnownBytes.{Appends};
-ghost use Rattle.repo_session.specs.declared.outcomes.CheckFault.{CheckFault};
-ghost use Rattle.repo_session.specs.declared.outcomes.Outcome.{Outcome};
-ghost use Rattle.repo_prog.specs.Commands.{IsEnd, IsStoredStatus};
-ghost use Rattle.repo_prog.specs.Tellings.{clean_line, fault_lines};
+ghost use Rattle.std.specs.Prelude.{◌≡◌, option_map};
+ghost use Rattle.repo_prog.specs.Commands.{IsStoredStatus};
 ghost use Rattle.repo_prog.specs.declared.status.Status.{Status};
-ghost use Rattle.repo_prog.specs.Shown.{ShowsClean, ShowsFaults, TellsClean, TellsFaults};
+ghost use Rattle.repo_prog.specs.Shown.{ShowsChecked, TellsChecked};
 ghost use Rattle.repo_prog.specs.Jobs.{CheckObeyed};
 
 use crate::again::drive_again;
 use crate::callers::{Caller, HOST};
 use crate::dialing::Dial;
 use crate::status::{Status, failed, flawed};
-use crate::telling::{clean_line, fault_lines, show, unfinished};
+use crate::telling::{clean_line, fault_lines, show_made, unfinished};
 use repo_check::Check;
-use repo_session::{CheckFault, Client, DriveError, Outcome};
+use repo_session::{Client, DriveError, Outcome};
 use std::alloc::Global;
 use std::io::Write;
 
-/// Writes the line of a check that found nothing at fault, by its counts.
-fn show_clean<O: Write, F: Write>(
-    alloc: Global,
-    snapshots: u64,
-    indexes: u64,
-    packs: u64,
-    blobs: u64,
-    output: &mut O,
-    faults: &mut F,
-) -> Status
-    ensures clean { result ≡ Status.Done → Appends (O.contents output.old) (O.contents output.new) (clean_line snapshots indexes packs blobs) }
-    ensures silent { result ≡ Status.Done → faults.new ≡ faults.old }
-    ensures status { IsEnd result }
-{
-    match clean_line(alloc, snapshots, indexes, packs, blobs) {
-        Ok(line) => show(line.as_str(), output, faults),
-        Err(_) => failed(faults, &DriveError::Memory),
-    }
-}
-
-/// Writes the lines of things that are at fault.
-fn show_found<O: Write, F: Write>(
-    alloc: Global,
-    found: &[CheckFault],
-    output: &mut O,
-    faults: &mut F,
-) -> Status
-    ensures found { result ≡ Status.Done → Appends (O.contents output.old) (O.contents output.new) (fault_lines found.now) }
-    ensures silent { result ≡ Status.Done → faults.new ≡ faults.old }
-    ensures status { IsEnd result }
-{
-    match fault_lines(alloc, found) {
-        Ok(lines) => show(lines.as_str(), output, faults),
-        Err(_) => failed(faults, &DriveError::Memory),
-    }
-}
-
-/// Writes what a check found, and where things are at fault the status is `Flawed`; or tells how the job ended else.
-pub fn show_checked<O: Write, F: Write>(
+/// Writes what a check found, and where things are at fault the status is `Flawed`; or tells how else the job ended.
+fn show_checked<O: Write, F: Write>(
     alloc: Global,
     outcome: Option<&Outcome>,
     output: &mut O,
     faults: &mut F,
 ) -> Status
-    ensures clean { result ≡ Status.Done → ShowsClean (option_map (λ o. o.now) outcome.entry) (O.contents output.old) (O.contents output.new) }
-    ensures flawed { result ≡ Status.Flawed → ShowsFaults (option_map (λ o. o.now) outcome.entry) (O.contents output.old) (O.contents output.new) }
+    ensures shows { ShowsChecked (option_map (λ o. o.now) outcome.entry) result (O.contents output.old) (O.contents output.new) }
     ensures silent { IsStoredStatus result → faults.new ≡ faults.old }
-    ensures status { result ≢ Status.Usage }
 {
     match outcome {
         Some(
@@ -77,9 +34,12 @@ pub fn show_checked<O: Write, F: Write>(
                 packs,
                 blobs,
             },
-        ) => show_clean(alloc, *snapshots, *indexes, *packs, *blobs, output, faults),
+        ) => {
+            let line = clean_line(alloc, *snapshots, *indexes, *packs, *blobs);
+            show_made(line, output, faults)
+        }
         Some(Outcome::Faults(found)) => {
-            flawed(show_found(alloc, found.as_slice(), output, faults))
+            flawed(show_made(fault_lines(alloc, found.as_slice()), output, faults))
         }
         _ => unfinished(alloc, outcome, faults),
     }
@@ -97,11 +57,8 @@ pub fn check_command<D: Dial, O: Write, F: Write>(
     faults: &mut F,
 ) -> Status
     ensures obeyed { CheckObeyed caller.now retry (D.coming dial.old) (D.coming dial.new) }
-    ensures clean { result ≡ Status.Done → TellsClean caller.now retry (D.coming dial.old) (D.coming dial.new) (O.contents output.old) (O.contents output.new) }
-    ensures flawed { result ≡ Status.Flawed → TellsFaults caller.now retry (D.coming dial.old) (D.coming dial.new)
-        (O.contents output.old) (O.contents output.new) }
+    ensures tells { TellsChecked caller.now retry (D.coming dial.old) (D.coming dial.new) result (O.contents output.old) (O.contents output.new) }
     ensures silent { IsStoredStatus result → faults.new ≡ faults.old }
-    ensures status { result ≢ Status.Usage }
 {
     let Ok(who) = caller.who(alloc, HOST) else {
         return failed(faults, &DriveError::Memory);

@@ -1,7 +1,10 @@
 //! What the command line's words ask for, done over readers, writers and a machine.
 
 ghost use Rattle.std.specs.Prelude.{◌≡◌, ◌≢◌, ℕ, List, Some};
+ghost use Rattle.clap.specs.Values.{kind_of};
+ghost use Rattle.clap.specs.declared.error.kind.ErrorKind.{ErrorKind};
 ghost use Rattle.repo_prog.specs.Commands.{FramesGives, IsOrder, ReadsInput, LoopGives, PlayGives};
+ghost use Rattle.repo_prog.specs.Errands.{OrderGives};
 ghost use Rattle.repo_prog.specs.declared.status.Status.{Status};
 ghost use Rattle.repo_prog.specs.declared.words.Order.{Order};
 
@@ -12,7 +15,9 @@ use crate::making::init_folder;
 use crate::playing::{loop_command, play_command};
 use crate::status::{Status, failed, refuse_both, refuse_words};
 use crate::words::{Order, WordsError, order_of};
+use clap::error::ErrorKind;
 use repo_files::HoldFile;
+use repo_session::DriveError;
 use std::alloc::{AllocGlobal, Global};
 use std::fs::Files;
 use std::io::{Read, Write};
@@ -38,23 +43,28 @@ pub fn frames_command<R: Read, W: Write, F: Write>(
     }
 }
 
-/// Shows `clap`'s text: its help on the output, and else its refusal on the faults.
+/// Shows `clap`'s text: its help and its version on the output, and else its refusal on the faults.
 fn show<W: Write, F: Write>(error: &clap::Error, output: &mut W, faults: &mut F) -> Status
-    ensures status { result ≢ Status.Failed }
+    ensures status { result ≢ Status.Flawed }
     ensures silent { result ≡ Status.Done → faults.new ≡ faults.old }
     ensures usage { result ≡ Status.Usage → output.new ≡ output.old }
+    ensures memory { kind_of error.now ≡ ErrorKind.OutOfMemory → result ≡ Status.Failed }
 {
-    if error.use_stderr() {
-        let _ = write!(faults, "{error}");
-        Status::Usage
-    } else {
-        let _ = write!(output, "{error}");
-        Status::Done
+    match error.kind() {
+        ErrorKind::OutOfMemory => failed(faults, &DriveError::Memory),
+        ErrorKind::DisplayHelp | ErrorKind::DisplayVersion => match write!(output, "{error}") {
+            Ok(()) => Status::Done,
+            Err(_) => failed(faults, &DriveError::Write),
+        },
+        _ => {
+            let _ = write!(faults, "{error}");
+            Status::Usage
+        }
     }
 }
 
-/// Does what is asked for. Of `vault frames`, `play` and `loop` all is said that their engines say; of the others, nothing that
-/// a folder or a socket would have to keep. Where it is done, no fault was told.
+/// Does what is asked for. Of `vault frames`, `play` and `loop` all is said that their engines say; of a client's command what it
+/// says over connections of which nothing is known; of `init` and `serve` their lines. Where it is done, no fault was told.
 pub fn perform<
     T: Files + Net + AllocGlobal + RandomSource + Clock + Clone + Drop,
     R: Read,
@@ -67,6 +77,7 @@ where
     ensures silent { result ≡ Status.Done → faults.new ≡ faults.old }
     ensures status { result ≢ Status.Usage }
     ensures unread { ¬ ReadsInput order → input.new ≡ input.old }
+    ensures gives { OrderGives order (W.contents output.old) result (W.contents output.new) }
     ensures frames { order ≡ Order.Frames → (text : List ℕ) → R.remaining input.old ≡ Some text
         → FramesGives text (W.contents output.old) result (W.contents output.new) }
     ensures plays { order ≡ Order.Play → (text : List ℕ) → R.remaining input.old ≡ Some text

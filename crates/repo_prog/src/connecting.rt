@@ -2,7 +2,7 @@
 
 ghost use Rattle.std.specs.Prelude.{◌≡◌, ◌≢◌};
 ghost use Rattle.repo_prog.specs.Commands.{IsErrand};
-ghost use Rattle.repo_prog.specs.Errands.{ErrandGives, LocksGive};
+ghost use Rattle.repo_prog.specs.Errands.{AddressGives, ErrandGives, LocksGive};
 ghost use Rattle.repo_prog.specs.declared.status.Status.{Status};
 
 use crate::backing::backup_command;
@@ -90,6 +90,7 @@ pub fn run_errand<
     F: Write,
 >(rt: &T, address: &str, errand: Errand, retry: u64, output: &mut O, faults: &mut F) -> Status
     requires { IsErrand errand }
+    ensures gives { AddressGives errand retry (O.contents output.old) result (O.contents output.new) }
     ensures silent { result ≡ Status.Done → faults.new ≡ faults.old }
     ensures status { result ≢ Status.Usage }
 {

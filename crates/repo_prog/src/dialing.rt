@@ -1,6 +1,6 @@
 //! Connections to a server, made one after another.
 
-ghost use Rattle.std.specs.Prelude.{◌≡◌, ◌≤◌, ◌∷◌, [], Some, IfSome, option_map};
+ghost use Rattle.std.specs.Prelude.{◌≡◌, ◌≤◌, ◌↔◌, ◌∷◌, [], Some, IfSome, IsSome, option_map};
 ghost use Rattle.repo_prog.specs.Dialing.{Coming, coming_once, ends, Dials};
 
 use std::io::{Read, Write};
@@ -52,7 +52,8 @@ impl<'a, T: Net> Address<'a, T> {
     /// Makes the next connection before it is asked for, and tries it so many times more at most. It gives how many
     /// of these are left: `None` where it can't be had.
     pub fn reach(&mut self, retry: u64) -> Option<u64>
-        ensures { IfSome result (λ left. left ≤ retry) }
+        ensures left { IfSome result (λ left. left ≤ retry) }
+        ensures ready { IsSome result ↔ IsSome self.new.ready }
     {
         self.ready = connect(self.rt, self.address);
         for tried in 0..retry {

@@ -1,12 +1,12 @@
 //! The words of what a client asks of a server.
 
-ghost use Rattle.std.specs.Prelude.{IfOk};
-ghost use Rattle.repo_prog.specs.Commands.{IsErrand};
+ghost use Rattle.std.specs.Prelude.{◌≡◌, IfOk, codes};
+ghost use Rattle.repo_prog.specs.Commands.{IsErrand, errand_word};
 
 use crate::choosing::{choice_of, choice_words};
 use crate::help::{BACKUP, CHECK, FORGET, LOCKS, PRUNE, REFRESH, RESTORE, SNAPSHOTS, UNLOCK};
 use crate::words::{WordsError, flag, needed, number, number_of, word_of};
-use clap::{Arg, ArgMatches, Command};
+use clap::{ArgMatches, Command};
 use repo_name::{Name, Text, Token, is_host};
 use repo_prune::Choice;
 use std::alloc::{AllocError, Global};
@@ -121,7 +121,8 @@ pub fn with_errands<'a>(alloc: Global, program: Command<'a>) -> Result<Command<'
 }
 
 fn backup_errand(alloc: Global, words: &ArgMatches) -> Result<Errand, WordsError>
-    ensures { IfOk result IsErrand }
+    ensures within { IfOk result IsErrand }
+    ensures word { IfOk result (λ errand. errand_word errand ≡ codes "backup") }
 {
     let host = word_of(alloc, words, "HOST")?;
     if !is_host(host.as_str()) {
@@ -135,7 +136,8 @@ fn backup_errand(alloc: Global, words: &ArgMatches) -> Result<Errand, WordsError
 }
 
 fn restore_errand(alloc: Global, words: &ArgMatches) -> Result<Errand, WordsError>
-    ensures { IfOk result IsErrand }
+    ensures within { IfOk result IsErrand }
+    ensures word { IfOk result (λ errand. errand_word errand ≡ codes "restore") }
 {
     let word = word_of(alloc, words, "NAME")?;
     let Ok(name) = Name::from_hex(word.as_str()) else {
@@ -152,7 +154,8 @@ pub fn retry_of(words: &ArgMatches) -> u64 {
 
 /// What the words of one of these commands ask for.
 pub fn errand_of(alloc: Global, command: &str, words: &ArgMatches) -> Result<Errand, WordsError>
-    ensures { IfOk result IsErrand }
+    ensures within { IfOk result IsErrand }
+    ensures word { IfOk result (λ errand. errand_word errand ≡ command.now) }
 {
     match command {
         "backup" => backup_errand(alloc, words),

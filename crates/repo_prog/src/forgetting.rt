@@ -1,10 +1,7 @@
 //! `vault forget`.
 
-ghost use Rattle.std.specs.Prelude.{◌≡◌, Some, option_map};
-ghost use Rattle.repo_session.specs.declared.outcomes.Outcome.{Outcome};
+ghost use Rattle.std.specs.Prelude.{◌≡◌, option_map};
 ghost use Rattle.repo_prune.specs.Forgetting.{IsNoPolicy};
-ghost use Rattle.repo_prog.specs.Commands.{IsEnd};
-ghost use Rattle.repo_prog.specs.Tellings.{forgotten_lines};
 ghost use Rattle.repo_prog.specs.declared.status.Status.{Status};
 ghost use Rattle.repo_prog.specs.Shown.{ShowsForgotten, TellsForgotten};
 ghost use Rattle.repo_prog.specs.Jobs.{ForgetObeyed};
@@ -13,30 +10,26 @@ use crate::again::drive_again;
 use crate::callers::{Caller, HOST};
 use crate::dialing::Dial;
 use crate::status::{Status, failed};
-use crate::telling::{forgotten_lines, show, unfinished};
+use crate::telling::{forgotten_lines, show_made, unfinished};
 use repo_prune::{Choice, Forget, ForgetError};
 use repo_session::{Client, DriveError, Outcome};
 use std::alloc::Global;
 use std::io::Write;
 
-/// Writes the lines of the snapshots that were forgotten, or tells how the job ended else.
-pub fn show_forgotten<O: Write, F: Write>(
+/// Writes the lines of the snapshots that were forgotten, or tells how else the job ended.
+fn show_forgotten<O: Write, F: Write>(
     alloc: Global,
     outcome: Option<&Outcome>,
     output: &mut O,
     faults: &mut F,
 ) -> Status
-    ensures forgotten { result ≡ Status.Done → ShowsForgotten (option_map (λ o. o.now) outcome.entry) (O.contents output.old) (O.contents output.new) }
+    ensures shows { ShowsForgotten (option_map (λ o. o.now) outcome.entry) result (O.contents output.old) (O.contents output.new) }
     ensures silent { result ≡ Status.Done → faults.new ≡ faults.old }
-    ensures status { IsEnd result }
 {
     let Some(Outcome::Forgotten(names)) = outcome else {
         return unfinished(alloc, outcome, faults);
     };
-    match forgotten_lines(alloc, names.as_slice()) {
-        Ok(lines) => show(lines.as_str(), output, faults),
-        Err(_) => failed(faults, &DriveError::Memory),
-    }
+    show_made(forgotten_lines(alloc, names.as_slice()), output, faults)
 }
 
 /// `vault forget`: forgets the chosen snapshots, and tells their names, a line each, ascending. A policy that keeps
@@ -52,11 +45,9 @@ pub fn forget_command<D: Dial, O: Write, F: Write>(
     faults: &mut F,
 ) -> Status
     ensures obeyed { ForgetObeyed caller.now choice retry (D.coming dial.old) (D.coming dial.new) }
-    ensures forgotten { result ≡ Status.Done → TellsForgotten caller.now choice retry (D.coming dial.old) (D.coming dial.new)
-        (O.contents output.old) (O.contents output.new) }
+    ensures tells { TellsForgotten caller.now choice retry (D.coming dial.old) (D.coming dial.new) result (O.contents output.old) (O.contents output.new) }
     ensures none { IsNoPolicy choice → (result ≡ Status.Failed) × (dial.new ≡ dial.old) × (output.new ≡ output.old) }
     ensures silent { result ≡ Status.Done → faults.new ≡ faults.old }
-    ensures status { IsEnd result }
 {
     let Ok(who) = caller.who(alloc, HOST) else {
         return failed(faults, &DriveError::Memory);

@@ -1,6 +1,6 @@
 //! The engine of `vault frames`.
 
-ghost use Rattle.std.specs.Prelude.{◌≡◌, ◌<◌, ◌≤◌, ◌+◌, ◌^◌, ℕ, List, Some, length, OnOk};
+ghost use Rattle.std.specs.Prelude.{◌≡◌, ◌<◌, ◌≤◌, ◌+◌, ◌^◌, ℕ, List, Some, length, IfOk, OnOk};
 ghost use Rattle.repo_prog.specs.FramesRun.{FramesGive};
 ghost use Rattle.repo_prog.specs.Talks.{TalkReads};
 
@@ -24,9 +24,11 @@ fn read_piece<R: Read, W: Write>(
 ) -> Result<bool, FramesError>
     requires room { 0 < length piece.old }
     requires number { talk.old.number + length piece.old < 2 ^ 63 }
+    requires few { talk.old.service.answered < 2 ^ 32 }
     ensures next { TalkReads (R.remaining reader.old) talk.old (W.contents writer.old) result
         (R.remaining reader.new) talk.new (W.contents writer.new) }
     ensures number { OnOk result (talk.new.number ≤ talk.old.number + length piece.old) }
+    ensures few { OnOk result (talk.new.service.answered < 2 ^ 32) }
 {
     match reader.read(piece) {
         Ok(0) => Ok(false),
@@ -40,7 +42,7 @@ fn read_piece<R: Read, W: Write>(
 
 /// Answers the request frames that the input's lines spell in hexadecimal, from an empty store in
 /// memory, and writes each reply's frame in hexadecimal on a line. It gives the number of requests
-/// that were answered, at an input that ends between frames.
+/// that were answered, at an input that ends between frames: fewer than 2^32.
 ///
 /// Line by line, a line's bytes are read and all whole requests answered before the next line: so the
 /// replies to all requests before a fault were written when it is told. See [`FramesError`] for when
@@ -50,7 +52,8 @@ pub fn frames<R: Read, W: Write>(
     reader: &mut R,
     writer: &mut W,
 ) -> Result<u64, FramesError>
-    ensures { (input : List ℕ) → R.remaining reader.old ≡ Some input → FramesGive input (W.contents writer.old) result (W.contents writer.new) }
+    ensures few { IfOk result (λ count. count < 2 ^ 32) }
+    ensures gives { (input : List ℕ) → R.remaining reader.old ≡ Some input → FramesGive input (W.contents writer.old) result (W.contents writer.new) }
 {
     let mut talk = Talk::new(alloc);
     let mut piece = vec![in alloc; 0u8; PIECE]?;

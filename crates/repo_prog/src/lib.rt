@@ -2,11 +2,12 @@
 //!
 //! [`frames`] answers request frames in hexadecimal from an empty store in memory. [`play`], which is `repo_play`'s, plays
 //! scripts of clients over a store in memory; [`play_command`] and [`loop_command`] do so as commands, the second over
-//! connections of the machine to itself. [`init_command`] makes
-//! a store, and [`serve_connections`] serves one. The others are a client's: [`backup_command`], [`snapshots_command`],
-//! [`restore_command`], [`forget_command`], [`prune_command`] and [`check_command`] bring a job to its end, over connections that
-//! are made one after another ([`Dial`]), by [`drive_again`]; [`locks_command`], [`refresh_command`] and [`unlock_command`] ask
-//! themselves, over one. [`run_errand`] connects, and [`run`] goes by the words.
+//! connections of the machine to itself. [`init_command`] makes a store, and [`serve_connections`] serves one.
+//!
+//! The others are a client's: [`backup_command`], [`snapshots_command`], [`restore_command`], [`forget_command`],
+//! [`prune_command`] and [`check_command`] bring a job to its end, over connections that are made one after another ([`Dial`]),
+//! by [`drive_again`]; [`locks_command`], [`refresh_command`] and [`unlock_command`] ask themselves, over one. [`run_errand`]
+//! connects, and [`run`] goes by the words.
 //!
 //! Promised: what `frames` writes is the lines of the replies of a run of the store machine, from the
 //! empty store, over the requests of the stream that the input's lines spell; each of its errors comes

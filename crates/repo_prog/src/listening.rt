@@ -1,9 +1,9 @@
 //! `vault serve`.
 
-ghost use Rattle.std.specs.Prelude.{◌≡◌, ◌≢◌, IsErr};
+ghost use Rattle.std.specs.Prelude.{◌≡◌, IsErr, IsOk};
 ghost use Rattle.std.specs.Io.KnownBytes.{Appends};
 ghost use Rattle.repo_store.specs.Serving.{Ran};
-ghost use Rattle.repo_prog.specs.Commands.{listening_line};
+ghost use Rattle.repo_prog.specs.Commands.{listening_line, IsEnd};
 ghost use Rattle.repo_prog.specs.declared.status.Status.{Status};
 
 use crate::status::{Status, failed};
@@ -63,7 +63,8 @@ where
 /// The status after a connection: where it ended by an error the text is told.
 fn status_after<F: Write>(status: Status, served: Result<u64, ServeError>, faults: &mut F) -> Status
     ensures silent { result ≡ Status.Done → (status ≡ Status.Done) × (faults.new ≡ faults.old) }
-    ensures usage { status ≢ Status.Usage → result ≢ Status.Usage }
+    ensures status { IsEnd status → IsEnd result }
+    ensures done { IsOk served → result ≡ status }
     ensures failed { IsErr served → result ≡ Status.Failed }
 {
     match served {
@@ -93,7 +94,7 @@ where
     ensures runs { S.honest shelf.old → Ran (S.store shelf.old) (S.failed shelf.old) (S.store shelf.new) (S.failed shelf.new) }
     ensures honest { S.honest shelf.old → S.honest shelf.new }
     ensures silent { result ≡ Status.Done → faults.new ≡ faults.old }
-    ensures status { result ≢ Status.Usage }
+    ensures status { IsEnd result }
 {
     let mut status = Status::Done;
     for turn in 0..connections {
@@ -114,7 +115,7 @@ fn serve_shelf<L: OpenListener, S: Shelf + Drop, F: Write>(
 where
     L::Stream: Read + Write + OpenStream,
     ensures silent { result ≡ Status.Done → faults.new ≡ faults.old }
-    ensures status { result ≢ Status.Usage }
+    ensures status { IsEnd result }
 {
     let Serving {
         connections,
@@ -157,7 +158,7 @@ pub fn serve_folder<R: Files + Net + AllocGlobal + Clone + Drop, W: Write, F: Wr
 where
     R::File: HoldFile,
     ensures silent { result ≡ Status.Done → faults.new ≡ faults.old }
-    ensures status { result ≢ Status.Usage }
+    ensures status { IsEnd result }
     ensures written { result ≡ Status.Done → Appends (W.contents output.old) (W.contents output.new) listening_line }
 {
     let Ok(mut shelf) = DirShelf::open(rt, folder) else {

@@ -1,10 +1,10 @@
 //! `vault locks`, `vault refresh` and `vault unlock`.
 
-ghost use Rattle.std.specs.Prelude.{◌≡◌, ◌<◌, ◌+◌, ◌^◌, ℕ, List, Some, length, IfOk};
+ghost use Rattle.std.specs.Prelude.{◌≡◌, ◌<◌, ◌+◌, ◌^◌, length, IfOk};
 ghost use Rattle.repo_wire.specs.declared.messages.Ask.{Ask};
 ghost use Rattle.repo_wire.specs.Messages.{IsAsk, IsShortAsk};
 ghost use Rattle.repo_locks.specs.TokenMachine.{tokens_of};
-ghost use Rattle.repo_prog.specs.Asking.{streams, request_of, chosen, Asked, AreRemoved, Removes, RemovesLocks};
+ghost use Rattle.repo_prog.specs.Asking.{streams, request_of, chosen, Asked, Removes, RemovesLocks};
 ghost use Rattle.repo_prog.specs.Commands.{IsEnd};
 ghost use Rattle.repo_prog.specs.Tellings.{locks_told, refresh_told, removal_told, TellsIfThere};
 ghost use Rattle.repo_prog.specs.declared.status.Status.{Status};

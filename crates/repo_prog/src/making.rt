@@ -1,11 +1,11 @@
 //! `vault init`.
 
-ghost use Rattle.std.specs.Prelude.{◌≡◌, ◌≢◌, IfOk, string_bytes};
+ghost use Rattle.std.specs.Prelude.{◌≡◌, ◌⊎◌, IfOk, string_bytes};
 ghost use Rattle.std.specs.Io.KnownBytes.{Appends};
 ghost use Rattle.repo_name.specs.declared.names.Instance.{Instance};
 ghost use Rattle.repo_name.specs.Naming.{IsInstance};
 ghost use Rattle.repo_tree.specs.ConfigText.{IsTarget};
-ghost use Rattle.repo_prog.specs.Commands.{created_line, InitGives};
+ghost use Rattle.repo_prog.specs.Commands.{created_line, InitGives, IsCutShort, IsEnd};
 ghost use Rattle.repo_prog.specs.declared.status.Status.{Status};
 
 use crate::status::{Status, failed};
@@ -46,8 +46,8 @@ fn created_line(alloc: Global, id: &Instance) -> Result<String, AllocError>
 }
 
 /// Keeps the config on a shelf that has none, and writes `created` and the config's instance in
-/// hexadecimal on a line. The texts of its ends: `exists`, `shelf failed`, `out of memory`, and `write
-/// failed` where the line can't be written, though the store was made.
+/// hexadecimal on a line. The texts of its ends: `exists`, `shelf failed`, `out of memory`, and
+/// `write failed` where the line can't be written, though the store was made.
 pub fn init_command<S: Shelf, W: Write, F: Write>(
     alloc: Global,
     shelf: &mut S,
@@ -60,8 +60,9 @@ pub fn init_command<S: Shelf, W: Write, F: Write>(
     ensures gives { S.honest shelf.old → InitGives config.now (S.store shelf.old) (W.contents output.old) result (S.store shelf.new) (W.contents output.new) }
     ensures honest { S.honest shelf.old → S.honest shelf.new }
     ensures silent { result ≡ Status.Done → faults.new ≡ faults.old }
-    ensures status { result ≢ Status.Usage }
+    ensures status { IsEnd result }
     ensures written { result ≡ Status.Done → Appends (W.contents output.old) (W.contents output.new) (created_line config.now.id) }
+    ensures cut { result ≡ Status.Failed → IsCutShort (W.contents output.old) (W.contents output.new) (created_line config.now.id) }
 {
     let line = match created_line(alloc, &config.id) {
         Ok(line) => line,
@@ -103,8 +104,10 @@ where
     R::File: HoldFile,
     requires { IsTarget making.now.target }
     ensures silent { result ≡ Status.Done → faults.new ≡ faults.old }
-    ensures status { result ≢ Status.Usage }
+    ensures status { IsEnd result }
     ensures written { result ≡ Status.Done → (id : Instance) × Appends (W.contents output.old) (W.contents output.new) (created_line id) }
+    ensures cut { result ≡ Status.Failed → (W.contents output.new ≡ W.contents output.old)
+        ⊎ ((id : Instance) × IsCutShort (W.contents output.old) (W.contents output.new) (created_line id)) }
 {
     let Ok(id) = random_instance(rt) else {
         return failed(faults, &"read failed");

@@ -1,6 +1,6 @@
 //! `vault play` and `vault loop`.
 
-ghost use Rattle.std.specs.Prelude.{◌≡◌, ◌≢◌, IsErr, ℕ, List, Some};
+ghost use Rattle.std.specs.Prelude.{◌≡◌, ◌≢◌, ℕ, List, Some};
 ghost use Rattle.repo_prog.specs.Commands.{LoopGives, PlayGives};
 ghost use Rattle.repo_prog.specs.declared.status.Status.{Status};
 

@@ -1,9 +1,6 @@
 //! `vault prune`.
 
-ghost use Rattle.std.specs.Prelude.{◌≡◌, Some, option_map};
-ghost use Rattle.repo_session.specs.declared.outcomes.Outcome.{Outcome};
-ghost use Rattle.repo_prog.specs.Commands.{IsEnd};
-ghost use Rattle.repo_prog.specs.Tellings.{pruned_line};
+ghost use Rattle.std.specs.Prelude.{◌≡◌, option_map};
 ghost use Rattle.repo_prog.specs.declared.status.Status.{Status};
 ghost use Rattle.repo_prog.specs.Shown.{ShowsPruned, TellsPruned};
 ghost use Rattle.repo_prog.specs.Jobs.{PruneObeyed};
@@ -12,30 +9,26 @@ use crate::again::drive_again;
 use crate::callers::{Caller, HOST};
 use crate::dialing::Dial;
 use crate::status::{Status, failed};
-use crate::telling::{pruned_line, show, unfinished};
+use crate::telling::{pruned_line, show_made, unfinished};
 use repo_prune::Prune;
 use repo_session::{Client, DriveError, Outcome};
 use std::alloc::Global;
 use std::io::Write;
 
-/// Writes the line of a prune that is done, or tells how the job ended else.
-pub fn show_pruned<O: Write, F: Write>(
+/// Writes the line of a prune that is done, or tells how else the job ended.
+fn show_pruned<O: Write, F: Write>(
     alloc: Global,
     outcome: Option<&Outcome>,
     output: &mut O,
     faults: &mut F,
 ) -> Status
-    ensures pruned { result ≡ Status.Done → ShowsPruned (option_map (λ o. o.now) outcome.entry) (O.contents output.old) (O.contents output.new) }
+    ensures shows { ShowsPruned (option_map (λ o. o.now) outcome.entry) result (O.contents output.old) (O.contents output.new) }
     ensures silent { result ≡ Status.Done → faults.new ≡ faults.old }
-    ensures status { IsEnd result }
 {
     let Some(Outcome::Pruned { packs, bytes }) = outcome else {
         return unfinished(alloc, outcome, faults);
     };
-    match pruned_line(alloc, *packs, *bytes) {
-        Ok(line) => show(line.as_str(), output, faults),
-        Err(_) => failed(faults, &DriveError::Memory),
-    }
+    show_made(pruned_line(alloc, *packs, *bytes), output, faults)
 }
 
 /// `vault prune`: removes what no snapshot needs, and tells how many packs it deleted, and how many bytes of blobs it
@@ -50,10 +43,8 @@ pub fn prune_command<D: Dial, O: Write, F: Write>(
     faults: &mut F,
 ) -> Status
     ensures obeyed { PruneObeyed caller.now retry (D.coming dial.old) (D.coming dial.new) }
-    ensures pruned { result ≡ Status.Done → TellsPruned caller.now retry (D.coming dial.old) (D.coming dial.new)
-        (O.contents output.old) (O.contents output.new) }
+    ensures tells { TellsPruned caller.now retry (D.coming dial.old) (D.coming dial.new) result (O.contents output.old) (O.contents output.new) }
     ensures silent { result ≡ Status.Done → faults.new ≡ faults.old }
-    ensures status { IsEnd result }
 {
     let Ok(who) = caller.who(alloc, HOST) else {
         return failed(faults, &DriveError::Memory);

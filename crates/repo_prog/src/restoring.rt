@@ -1,12 +1,9 @@
 //! `vault snapshots` and `vault restore`.
 
-ghost use Rattle.std.specs.Prelude.{◌≡◌, ℕ, Option, Some, IfOk, true, option_map};
-ghost use Rattle.repo_name.specs.declared.names.Name.{Name};
+ghost use Rattle.std.specs.Prelude.{◌≡◌, ℕ, Some, IfOk, true, option_map};
 ghost use Rattle.repo_session.specs.Sessions.{ended_in};
 ghost use Rattle.repo_session.specs.declared.outcomes.Outcome.{Outcome};
-ghost use Rattle.repo_prog.specs.Commands.{IsEnd};
 ghost use Rattle.repo_prog.specs.Jobs.{RestoresSnapshot, ListObeyed, RestoreObeyed};
-ghost use Rattle.repo_prog.specs.Tellings.{snapshot_lines, complete_line};
 ghost use Rattle.repo_prog.specs.declared.status.Status.{Status};
 ghost use Rattle.repo_prog.specs.Shown.{ShowsListed, TellsListed, ShowsRestored, TellsRestored};
 
@@ -14,7 +11,7 @@ use crate::again::{TryError, drive_again};
 use crate::callers::{Caller, HOST};
 use crate::dialing::Dial;
 use crate::status::{Status, failed};
-use crate::telling::{complete_line, show, snapshot_lines, unfinished};
+use crate::telling::{complete_line, show_made, snapshot_lines, unfinished};
 use repo_files::{Restorer, RestorerError};
 use repo_name::Name;
 use repo_restore::{Restore, SnapshotList};
@@ -23,24 +20,20 @@ use std::alloc::{AllocGlobal, Global};
 use std::fs::Files;
 use std::io::Write;
 
-/// Writes the lines of a list of snapshots, or tells how the job ended else.
-pub fn show_list<O: Write, F: Write>(
+/// Writes the lines of a list of snapshots, or tells how else the job ended.
+fn show_list<O: Write, F: Write>(
     alloc: Global,
     outcome: Option<&Outcome>,
     output: &mut O,
     faults: &mut F,
 ) -> Status
-    ensures listed { result ≡ Status.Done → ShowsListed (option_map (λ o. o.now) outcome.entry) (O.contents output.old) (O.contents output.new) }
+    ensures shows { ShowsListed (option_map (λ o. o.now) outcome.entry) result (O.contents output.old) (O.contents output.new) }
     ensures silent { result ≡ Status.Done → faults.new ≡ faults.old }
-    ensures status { IsEnd result }
 {
     let Some(Outcome::Listed(snapshots)) = outcome else {
         return unfinished(alloc, outcome, faults);
     };
-    match snapshot_lines(alloc, snapshots.as_slice()) {
-        Ok(lines) => show(lines.as_str(), output, faults),
-        Err(_) => failed(faults, &DriveError::Memory),
-    }
+    show_made(snapshot_lines(alloc, snapshots.as_slice()), output, faults)
 }
 
 /// `vault snapshots`: lists the snapshots, a line each, ascending by name. After the first connection `retry` more are made at
@@ -54,10 +47,8 @@ pub fn snapshots_command<D: Dial, O: Write, F: Write>(
     faults: &mut F,
 ) -> Status
     ensures obeyed { ListObeyed caller.now retry (D.coming dial.old) (D.coming dial.new) }
-    ensures listed { result ≡ Status.Done → TellsListed caller.now retry (D.coming dial.old) (D.coming dial.new)
-        (O.contents output.old) (O.contents output.new) }
+    ensures tells { TellsListed caller.now retry (D.coming dial.old) (D.coming dial.new) result (O.contents output.old) (O.contents output.new) }
     ensures silent { result ≡ Status.Done → faults.new ≡ faults.old }
-    ensures status { IsEnd result }
 {
     let Ok(who) = caller.who(alloc, HOST) else {
         return failed(faults, &DriveError::Memory);
@@ -69,8 +60,8 @@ pub fn snapshots_command<D: Dial, O: Write, F: Write>(
     }
 }
 
-/// Writes the line of a restore that is complete, once what it gave out is finished, or tells how the job ended else.
-pub fn show_restored<E: FnOnce() -> bool, O: Write, F: Write>(
+/// Writes the line of a restore that is complete, once what it gave out is finished, or tells how else the job ended.
+fn show_restored<E: FnOnce() -> bool, O: Write, F: Write>(
     alloc: Global,
     outcome: Option<&Outcome>,
     finish: E,
@@ -79,9 +70,8 @@ pub fn show_restored<E: FnOnce() -> bool, O: Write, F: Write>(
 ) -> Status
     requires { E.pre finish }
     ensures finished { result ≡ Status.Done → E.post finish true }
-    ensures restored { result ≡ Status.Done → ShowsRestored (option_map (λ o. o.now) outcome.entry) (O.contents output.old) (O.contents output.new) }
+    ensures shows { ShowsRestored (option_map (λ o. o.now) outcome.entry) result (O.contents output.old) (O.contents output.new) }
     ensures silent { result ≡ Status.Done → faults.new ≡ faults.old }
-    ensures status { IsEnd result }
 {
     let Some(Outcome::Complete { entries }) = outcome else {
         return unfinished(alloc, outcome, faults);
@@ -89,10 +79,7 @@ pub fn show_restored<E: FnOnce() -> bool, O: Write, F: Write>(
     if !finish() {
         return failed(faults, &DriveError::Sink);
     }
-    match complete_line(alloc, *entries) {
-        Ok(line) => show(line.as_str(), output, faults),
-        Err(_) => failed(faults, &DriveError::Memory),
-    }
+    show_made(complete_line(alloc, *entries), output, faults)
 }
 
 /// A restore that was driven to its end, and that handed what it gave out to a sink.
@@ -128,10 +115,8 @@ pub fn restore_into<D: Dial, S: FnMut(&Emission) -> bool, O: Write, F: Write>(
 ) -> Status
     requires callable { (state : S) (x : _) → S.pre state x }
     ensures obeyed { RestoreObeyed caller.now name retry (D.coming dial.old) (D.coming dial.new) }
-    ensures restored { result ≡ Status.Done → TellsRestored caller.now name retry (D.coming dial.old) (D.coming dial.new)
-        (O.contents output.old) (O.contents output.new) }
+    ensures tells { TellsRestored caller.now name retry (D.coming dial.old) (D.coming dial.new) result (O.contents output.old) (O.contents output.new) }
     ensures silent { result ≡ Status.Done → faults.new ≡ faults.old }
-    ensures status { IsEnd result }
 {
     match restored(alloc, caller, name, sink, dial, retry) {
         Ok(restore) => show_restored(alloc, restore.outcome(), || true, output, faults),
@@ -140,7 +125,7 @@ pub fn restore_into<D: Dial, S: FnMut(&Emission) -> bool, O: Write, F: Write>(
 }
 
 /// Tells why a folder can't be restored into.
-pub fn not_begun<F: Write>(error: RestorerError, faults: &mut F) -> Status
+fn not_begun<F: Write>(error: RestorerError, faults: &mut F) -> Status
     ensures { result ≡ Status.Failed }
 {
     match error {
@@ -153,9 +138,8 @@ pub fn not_begun<F: Write>(error: RestorerError, faults: &mut F) -> Status
 /// `vault restore`: restores a snapshot into a folder, which is made where it isn't there and has to be empty. What
 /// was written before an end stays. All of it is synced before it is told as complete.
 ///
-/// After the first connection `retry` more are made at most; the folder is begun once, and each part is written once, whatever
-/// connections it takes. That the folder then
-/// holds what was given out is no clause, since no contract sees a file.
+/// After the first connection `retry` more are made at most; the folder is begun once, whatever connections it takes. That the
+/// folder then holds what was given out is no clause, since no contract sees a file.
 pub fn restore_command<T: Files + AllocGlobal + Clone + Drop, D: Dial, O: Write, F: Write>(
     rt: &T,
     caller: &Caller,
@@ -167,10 +151,8 @@ pub fn restore_command<T: Files + AllocGlobal + Clone + Drop, D: Dial, O: Write,
     faults: &mut F,
 ) -> Status
     ensures obeyed { RestoreObeyed caller.now name retry (D.coming dial.old) (D.coming dial.new) }
-    ensures restored { result ≡ Status.Done → TellsRestored caller.now name retry (D.coming dial.old) (D.coming dial.new)
-        (O.contents output.old) (O.contents output.new) }
+    ensures tells { TellsRestored caller.now name retry (D.coming dial.old) (D.coming dial.new) result (O.contents output.old) (O.contents output.new) }
     ensures silent { result ≡ Status.Done → faults.new ≡ faults.old }
-    ensures status { IsEnd result }
 {
     let mut restorer = match Restorer::new(rt, folder) {
         Ok(restorer) => restorer,

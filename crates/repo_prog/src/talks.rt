@@ -1,6 +1,6 @@
 //! A talk with a store in memory, line by line.
 
-ghost use Rattle.std.specs.Prelude.{◌≡◌, ◌<◌, ◌≤◌, ◌+◌, ◌^◌, ◌∷◌, [], ℕ, List, Option, length, OnOk};
+ghost use Rattle.std.specs.Prelude.{◌≡◌, ◌<◌, ◌≤◌, ◌+◌, ◌^◌, ◌∷◌, [], ℕ, List, Option, length, IfOk, OnOk};
 ghost use Rattle.repo_store.specs.Services.{nothing};
 ghost use Rattle.repo_prog.specs.Talks.{Talks, EndsLine, TakesBytes, EndsLastLine, EndsTalk};
 
@@ -27,6 +27,7 @@ impl Talk {
         ensures talks { (start : Option (List ℕ)) → Talks start result [] nothing start }
         ensures line { result.line.items ≡ [] }
         ensures number { result.number ≡ 0 }
+        ensures few { result.service.answered < 2 ^ 32 }
     {
         Talk {
             line: Vec::new(alloc),
@@ -43,6 +44,7 @@ impl Talk {
         ensures next { EndsLine self.old (W.contents writer.old) result self.new (W.contents writer.new) }
         ensures line { OnOk result (self.new.line.items ≡ []) }
         ensures number { OnOk result (self.new.number ≡ self.old.number + 1) }
+        ensures few { OnOk result (self.new.service.answered < 2 ^ 32) }
     {
         let alloc = *self.line.allocator();
         let bytes = match hex::decode(alloc, self.line.as_slice()) {
@@ -59,9 +61,11 @@ impl Talk {
 
     /// Takes the next byte of the input.
     fn take_byte<W: Write>(&mut self, byte: u8, writer: &mut W) -> Result<(), FramesError>
-        requires { self.old.number < 2 ^ 63 }
+        requires number { self.old.number < 2 ^ 63 }
+        requires few { self.old.service.answered < 2 ^ 32 }
         ensures next { TakesBytes (byte ∷ []) self.old (W.contents writer.old) result self.new (W.contents writer.new) }
         ensures number { OnOk result (self.new.number ≤ self.old.number + 1) }
+        ensures few { OnOk result (self.new.service.answered < 2 ^ 32) }
     {
         if byte == b'\n' {
             return self.end_line(writer);
@@ -74,9 +78,11 @@ impl Talk {
 
     /// Takes the next piece of the input.
     pub fn take<W: Write>(&mut self, piece: &[u8], writer: &mut W) -> Result<(), FramesError>
-        requires { self.old.number + length piece.now < 2 ^ 63 }
+        requires number { self.old.number + length piece.now < 2 ^ 63 }
+        requires few { self.old.service.answered < 2 ^ 32 }
         ensures next { TakesBytes piece.now self.old (W.contents writer.old) result self.new (W.contents writer.new) }
         ensures number { OnOk result (self.new.number ≤ self.old.number + length piece.now) }
+        ensures few { OnOk result (self.new.service.answered < 2 ^ 32) }
     {
         for byte in piece {
             self.take_byte(*byte, writer)?;
@@ -86,8 +92,10 @@ impl Talk {
 
     /// Ends the last line, if there is one, at the end of the input.
     fn end_last_line<W: Write>(&mut self, writer: &mut W) -> Result<(), FramesError>
-        requires { self.old.number < 2 ^ 63 }
-        ensures { EndsLastLine self.old (W.contents writer.old) result self.new (W.contents writer.new) }
+        requires number { self.old.number < 2 ^ 63 }
+        requires few { self.old.service.answered < 2 ^ 32 }
+        ensures few { OnOk result (self.new.service.answered < 2 ^ 32) }
+        ensures ends { EndsLastLine self.old (W.contents writer.old) result self.new (W.contents writer.new) }
     {
         if self.line.as_slice().is_empty() {
             return Ok(());
@@ -97,8 +105,10 @@ impl Talk {
 
     /// Ends the input, and gives the number of requests that were answered.
     pub fn finish<W: Write>(mut self, writer: &mut W) -> Result<u64, FramesError>
-        requires { self.number < 2 ^ 63 }
-        ensures { EndsTalk self (W.contents writer.old) result (W.contents writer.new) }
+        requires number { self.number < 2 ^ 63 }
+        requires few { self.service.answered < 2 ^ 32 }
+        ensures few { IfOk result (λ count. count < 2 ^ 32) }
+        ensures ends { EndsTalk self (W.contents writer.old) result (W.contents writer.new) }
     {
         self.end_last_line(writer)?;
         self.service.finish().ok_or(FramesError::Inside)

@@ -1,8 +1,8 @@
 //! What the commands of clients write, and how they tell why they ended.
 
-ghost use Rattle.std.specs.Prelude.{◌≡◌, IfOk, string_bytes};
+ghost use Rattle.std.specs.Prelude.{◌≡◌, ℕ, List, IfOk, string_bytes};
 ghost use Rattle.repo_prog.specs.Commands.{IsEnd};
-ghost use Rattle.repo_prog.specs.Tellings.{lock_word, lock_line, lock_lines, snapshot_line, snapshot_lines, stored_line, complete_line, forgotten_line, forgotten_lines, pruned_line, clean_line, fault_word, fault_line, fault_lines, removed_line, Shows};
+ghost use Rattle.repo_prog.specs.Tellings.{lock_word, lock_line, lock_lines, snapshot_line, snapshot_lines, stored_line, complete_line, forgotten_line, forgotten_lines, pruned_line, clean_line, fault_word, fault_line, fault_lines, removed_line, Shows, ShowsAtMost};
 ghost use Rattle.repo_prog.specs.declared.status.Status.{Status};
 
 use crate::status::{Status, failed};
@@ -170,6 +170,22 @@ pub fn show<O: Write, F: Write>(text: &str, output: &mut O, faults: &mut F) -> S
     match write_whole(output, text.as_bytes()) {
         Ok(()) => Status::Done,
         Err(error) => failed(faults, &error),
+    }
+}
+
+/// Writes lines that were made, or tells that there was no memory for them.
+pub fn show_made<O: Write, F: Write>(
+    made: Result<String, AllocError>,
+    output: &mut O,
+    faults: &mut F,
+) -> Status
+    ensures shows { (lines : List ℕ) → IfOk made (λ text. string_bytes text ≡ lines) → ShowsAtMost lines result (O.contents output.old) (O.contents output.new) }
+    ensures silent { result ≡ Status.Done → faults.new ≡ faults.old }
+    ensures status { IsEnd result }
+{
+    match made {
+        Ok(lines) => show(lines.as_str(), output, faults),
+        Err(_) => failed(faults, &DriveError::Memory),
     }
 }
 

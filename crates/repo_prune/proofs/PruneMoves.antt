@@ -1,8 +1,9 @@
 -- What is known while a prune moves blobs, and once it did.
-use Rattle.std.proofs.Common.{◌≡◌, ◌≢◌, ◌++◌, ◌∷◌, [], ℕ, List, Some, length, map, slice_get, refl, sym, ap, subst, inl, ◌∙◌, Contains, append-nil, append_assoc}
+use Rattle.std.proofs.Common.{◌≡◌, ◌≢◌, ◌++◌, ◌∷◌, [], ℕ, List, Some, length, map, take, slice_get, refl, sym, ap, subst, inl, ◌∙◌, Contains, append-nil, append_assoc}
 use Rattle.std.proofs.lemmas.List.{map-append}
+use Rattle.std.proofs.lemmas.List.Elements.{Contains-append_left, Contains-append_right}
 use Rattle.std.proofs.lemmas.Option.{same_Some}
-use Rattle.repo_name.proofs.Containing.{contains_got}
+use Rattle.repo_name.proofs.Containing.{contains_got, contains_map, map_contains}
 use Rattle.repo_name.specs.declared.kinds.Kind.{Kind}
 use Rattle.repo_name.specs.declared.names.Name.{Name}
 use Rattle.repo_name.specs.declared.tokens.Token.{Token}
@@ -24,9 +25,9 @@ use Rattle.repo_writing.proofs.PutLemmas.{objects_put_other}
 use Rattle.repo_writing.proofs.Writings.{none_put, packs_stay, pack_sent, pack_done, items_push, put_of, is_put}
 use Rattle.repo_writing.specs.Writing.{Put, IsPut, items_of, ArePut, AreCounts}
 use Rattle.repo_writing.specs.declared.counts.Counts.{Counts}
-use Rattle.repo_prune.specs.Moving.{IsMoving, AwaitsBlob, MovesOn, SendsPack}
+use Rattle.repo_prune.specs.Moving.{IsMoving, AwaitsBlob, MovesOn, Pair, SendsPack, items_so_far, pair_of_fact, pair_of_item}
 use Rattle.repo_prune.specs.PruneStates.{Known, ArePlanned, HasPlanned, IsRepacking, KnowsMove, HasMoved, KnowsStage, IsNextStep, MovesTo}
-use Rattle.repo_prune.specs.Pruning.{prune_rule, prune_task}
+use Rattle.repo_prune.specs.Pruning.{prune_rule, prune_task, HasToMove, IsNeededBy}
 use Rattle.repo_prune.specs.declared.moving.Moved.{Moved}
 use Rattle.repo_prune.specs.declared.moving.Moving.{Moving}
 use Rattle.repo_prune.specs.declared.prunes.Stage.{Stage}
@@ -35,6 +36,7 @@ use Rattle.repo_pack.specs.PackLayout.{IsBlobLength}
 use Rattle.repo_session.specs.declared.outcomes.End.{End}
 use Rattle.repo_session.specs.Ends.{blob_thing, IsBad, IsBadBlob, IsCause}
 use Rattle.repo_prune.proofs.PruneTrees.{read_within}
+use Rattle.repo_prune.proofs.Relistings.{in_first}
 use Rattle.repo_prune.proofs.Repacking.{none_awaited}
 use Rattle.repo_session.proofs.Descending.{received_grows}
 
@@ -53,6 +55,7 @@ planned_later k kept moves e es aside h = record {
       (λ has. let b = is.0 has in (fact_stays e es fact b.0, b.1), λ both. is.1 (fact_same e es aside fact both.0, both.1));
   listable = h.listable;
   moves_are = λ fact among. fact_stays e es fact (h.moves_are fact among);
+  must = h.must;
 }
 
 -- ---- with the moving as it stands
@@ -92,6 +95,17 @@ module _ (k : Known) (m n : Moving) (puts : List Put) (es : Trace) (r : IsRepack
         knows = record { puts = puts; sealed = []; fact = fact; repacking = repacks_as k m n puts [] es moves listed (counted_alone n.counts puts a.moving.counted) r; awaits = a; asks = refl };
       }
 
+  -- each blob of a pack that is sent moves
+  sent_moves : (sealed : Sealed) (s : SendsPack (items_of puts) m.listed.items sealed n) (item : Item) → Contains s.items item → HasToMove (IsNeededBy k.rows r.planned.texts) k.facts item.kind item.name
+  sent_moves sealed s item among =
+      let sent : List Item = items_of puts ++ s.items in
+      let inside : Contains (items_so_far sent [] n) item =
+      Contains-append_left (sent ++ []) n.packer.writer.items item (Contains-append_left sent [] item (Contains-append_right (items_of puts) s.items item among)) in
+      let pair = subst (λ ps. Contains ps (pair_of_item item)) s.moving.moved (contains_map pair_of_item (items_so_far sent [] n) item inside) in
+      let found = map_contains pair_of_fact (take n.added n.moves.items) (pair_of_item item) pair in
+      let there : Contains m.moves.items found.0 = subst (λ fs. Contains fs found.0) same_moves (in_first n.moves.items n.added found.0 found.1) in
+      (found.0, r.planned.must found.0 there, ap (λ (p : Pair). p.kind) found.2, ap (λ (p : Pair). p.name) found.2)
+
   -- a pack may be put
   pub pack_asked : (sealed : Sealed) → SendsPack (items_of puts) m.listed.items sealed n → MayAsk prune_rule who (KnowsStage k (Stage.Moving n)) es (Ask.Put token Kind.Pack sealed.name sealed.bytes)
   pack_asked sealed s =
@@ -104,7 +118,20 @@ module _ (k : Known) (m n : Moving) (puts : List Put) (es : Trace) (r : IsRepack
       record {
         work = tt;
         may = (w, sym s.lists.holds.named, s.lists.holds.small);
-        allowed = record { none = r.none; items = s.items; pack = s.lists.holds.holds };
+        allowed = record {
+          none = r.none;
+          items = s.items;
+          pack = s.lists.holds.holds;
+          rows = k.rows;
+          snapshots = r.read.snapshots;
+          indexes = r.read.indexes;
+          texts = r.planned.texts;
+          trees = r.planned.trees;
+          walked = r.planned.walked;
+          facts = k.facts;
+          gives = r.read.gives;
+          moved = sent_moves sealed s;
+        };
         knows = record {
           puts = puts;
           put = p;

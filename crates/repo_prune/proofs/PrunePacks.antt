@@ -171,7 +171,7 @@ module _ (k : Known) (r s : Relisting) (es : Trace) (h : MayList k r es) where
       let may : MayAsk prune_rule who (KnowsStage k (Stage.Relisting s)) es (Ask.Put token Kind.Index (naming.name p.text) p.text) = record {
         work = tt;
         may = (w, refl, p.short);
-        allowed = record { none = h.packed.none; indexes = h.packed.read.indexes; lists = record { packs = p.waiting; reads = p.reads; each = λ listed has. h.packed.each listed (among listed has) } };
+        allowed = record { none = h.packed.none; indexes = h.packed.read.indexes; lists = record { packs = p.waiting; reads = p.reads; some = p.some; each = λ listed has. h.packed.each listed (among listed has) } };
         knows = record {
           packed = packed_as p.packs p.counts;
           waiting = p.waiting;

@@ -40,12 +40,13 @@ use Rattle.repo_reach.specs.Walks.{IsWalk, HasText}
 use Rattle.repo_reach.specs.declared.links.Links.{Links}
 use Rattle.repo_reach.specs.declared.trees.Seen.{Seen}
 use Rattle.repo_reach.specs.declared.trees.Trees.{Trees}
+use Rattle.repo_reach.specs.Used.{UsedHasPair}
 use Rattle.repo_writing.proofs.PutLemmas.{each_contained}
 use Rattle.repo_writing.specs.Putting.{IsKeptPack}
 use Rattle.repo_prune.specs.inner.Deciding.{IsPlanned}
 use Rattle.repo_prune.specs.Keeping.{Row}
 use Rattle.repo_prune.specs.PruneStates.{Known, HaveRead, IsWalkOver, HasWalked, ArePlanned, KnowsStage}
-use Rattle.repo_prune.specs.Pruning.{IsUntouched, prune_rule, prune_task, IsNeededBy, AreWalked, IsBadTree, PruneConcludes}
+use Rattle.repo_prune.specs.Pruning.{IsUntouched, prune_rule, prune_task, IsNeededBy, IsUsedCopyBy, MayStayBy, AreWalked, IsBadTree, PruneConcludes}
 use Rattle.repo_prune.specs.Reading.{Walks, Awaits, CannotGoOn, IsPromised, TakesTree}
 use Rattle.repo_prune.specs.declared.reading.Walked.{Walked}
 use Rattle.repo_prune.proofs.Asides.{IsAside, IsNoChange, read_same, untouched_same}
@@ -209,6 +210,19 @@ module _ (k : Known) (trees : Trees) (es : Trace) (h : HasWalked k trees es) whe
     λ both. (each fact).1 (subst (λ fs. Contains fs fact) (sym same) ((h.over.read.gives fact).1 both.0), both.1),
   )
 
+  needed_copy : {plan : Plan} (p : IsPlanned k.facts trees plan) (fact : Fact) → IsUsedCopyBy (UsedHasPair p.used) k.facts fact → IsUsedCopyBy (IsNeededBy k.rows h.texts) k.facts fact
+  needed_copy p fact c = record { is_used = used_needed fact.kind fact.name ((p.pairs fact.kind fact.name).0 c.is_used); least = c.least }
+
+  stays_used : {plan : Plan} (p : IsPlanned k.facts trees plan) (listed : PackFacts) → MayStayBy (IsNeededBy k.rows h.texts) k.facts listed → MayStayBy (UsedHasPair p.used) k.facts listed
+  stays_used p listed stays = record {
+    all = stays.all;
+    some = stays.some;
+    few = stays.few;
+    copies = λ fact among.
+        let c = stays.copies fact among in
+        record { is_used = (p.pairs fact.kind fact.name).1 (needed_used fact.kind fact.name c.is_used); least = c.least };
+  }
+
   pub planned : (plan : Plan) → IsPlanned k.facts trees plan → ArePlanned k plan.kept.items plan.moves.items es
   planned plan p = record {
     texts = h.texts;
@@ -228,6 +242,9 @@ module _ (k : Known) (trees : Trees) (es : Trace) (h : HasWalked k trees es) whe
           within = λ fact has. let b = (stays.all.each fact).0 has in (b.1, read_within es fact ((h.over.read.gives fact).0 b.0));
         };
     moves_are = λ fact among. (h.over.read.gives fact).0 ((p.plan_of.moves fact).0 among).copy.least.among;
+    must = λ fact among.
+        let moves = (p.plan_of.moves fact).0 among in
+        record { copy = needed_copy p fact moves.copy; leaves = λ listed stays. moves.leaves listed (stays_used p listed stays) };
   }
 
   -- some content that is used, and that no index gives

@@ -1,5 +1,5 @@
 -- The listing of packs in new indexes.
-use Rattle.std.proofs.Common.{arith, ◌≡◌, ◌≢◌, ◌+◌, ◌++◌, [], ℕ, List, length, take, drop, take-add, ap, subst, ◌∙◌, Contains}
+use Rattle.std.proofs.Common.{arith, ◌≡◌, ◌≢◌, ◌≤◌, ◌+◌, ◌++◌, ◌∷◌, [], ℕ, zero, suc, List, length, take, drop, take-add, ap, subst, ◌∙◌, Contains}
 use Rattle.std.proofs.lemmas.List.{take-append-drop}
 use Rattle.std.proofs.lemmas.List.Elements.{Contains-append_left, Contains-append_right}
 use Rattle.repo_index.specs.IndexWriting.{AreLawful, AreFew}
@@ -18,6 +18,16 @@ module _ {X : Type 0} where
 
   pub take_behind : (xs : List X) (i n j : ℕ) → j ≡ i + n → take j xs ≡ take i xs ++ take n (drop i xs)
   take_behind xs i n j is = ap (λ k. take k xs) is ∙ take-add i n xs
+
+-- a list with a first element isn't empty
+no_cons : {X : Type 0} (x : X) (xs : List X) → x ∷ xs ≢ []
+no_cons x xs none = omega (arith, ap length none)
+
+-- where some are left, what is taken of them is no empty list
+pub some_taken : (rest : List PackFacts) (count : ℕ) → (rest ≢ [] → 1 ≤ count) → 1 ≤ length rest → take count rest ≢ []
+some_taken [] count some long = absurd (omega (arith, long))
+some_taken (p ∷ rest) zero some long = let one = some (λ none. no_cons p rest none) in absurd (omega (arith, one))
+some_taken (p ∷ rest) (suc count) some long = no_cons p (take count rest)
 
 -- the packs that go into one index may be listed
 pub some_listable : (packs waiting : List PackFacts) → ((p : PackFacts) → Contains waiting p → Contains packs p) → AreListable packs → AreListable waiting

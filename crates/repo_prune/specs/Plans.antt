@@ -1,37 +1,30 @@
 -- What a prune keeps, and what it moves.
 use Rattle.std.specs.Prelude.{◌≡◌, ◌≢◌, ◌≤◌, ◌⊎◌, ◌++◌, ◌∷◌, ◌↔◌, [], List, map, length, Contains}
 use Rattle.std.specs.List.Sorted.{IsStrictlySortedBy}
-use Rattle.repo_name.specs.Limits.{blobs_limit}
 use Rattle.repo_name.specs.Naming.{name_cmp}
 use Rattle.repo_name.specs.declared.kinds.BlobKind.{BlobKind}
 use Rattle.repo_name.specs.declared.names.Name.{Name}
 use Rattle.repo_index.specs.IndexText.{facts_in}
-use Rattle.repo_index.specs.Lookups.{IsLeast, AreFactsOf}
 use Rattle.repo_index.specs.Order.{place_first}
 use Rattle.repo_index.specs.declared.facts.Fact.{Fact}
 use Rattle.repo_index.specs.declared.facts.PackFacts.{PackFacts}
 use Rattle.repo_reach.specs.Used.{UsedHasPair}
 use Rattle.repo_reach.specs.declared.used.Used.{Used}
 use Rattle.repo_writing.specs.Blobs.{HasFact}
-use Rattle.repo_prune.specs.Pruning.{AreFactsOnce}
+use Rattle.repo_prune.specs.Pruning.{AreFactsOnce, IsUsedCopyBy, MayStayBy, MustMoveBy}
 use Rattle.repo_prune.specs.declared.plans.Plan.{Plan}
 
 -- the copy of a used pair that is used: the one at the least place
-pub record IsUsedCopy (used : Used) (facts : List Fact) (fact : Fact) : Type 0 where
-  pub is_used : UsedHasPair used fact.kind fact.name
-  pub least : IsLeast facts fact.kind fact.name fact.place
+abbrev pub IsUsedCopy : Used → List Fact → Fact → Type 0
+IsUsedCopy used facts fact = IsUsedCopyBy (UsedHasPair used) facts fact
 
 -- a pack stays: these are its facts, 1 to 4,096, and all are used copies
-pub record MayStay (used : Used) (facts : List Fact) (listed : PackFacts) : Type 0 where
-  pub all : AreFactsOf facts listed.pack listed.facts
-  pub some : 1 ≤ length listed.facts
-  pub few : length listed.facts ≤ blobs_limit
-  pub copies : (fact : Fact) → Contains listed.facts fact → IsUsedCopy used facts fact
+abbrev pub MayStay : Used → List Fact → PackFacts → Type 0
+MayStay used facts listed = MayStayBy (UsedHasPair used) facts listed
 
 -- a blob moves: it is a used copy, and its pack doesn't stay
-pub record MustMove (used : Used) (facts : List Fact) (fact : Fact) : Type 0 where
-  pub copy : IsUsedCopy used facts fact
-  pub leaves : (listed : PackFacts) → MayStay used facts listed → listed.pack ≢ fact.place.pack
+abbrev pub MustMove : Used → List Fact → Fact → Type 0
+MustMove used facts fact = MustMoveBy (UsedHasPair used) facts fact
 
 -- the packs that stay, and the blobs that move, ascending
 pub record IsPlanOf (used : Used) (facts : List Fact) (plan : Plan) : Type 0 where

@@ -37,7 +37,7 @@ use Rattle.repo_writing.specs.Writing.{Put, items_of, ArePut, AreListed}
 use Rattle.repo_writing.specs.declared.counts.Counts.{Counts}
 use Rattle.repo_prune.specs.Keeping.{Row}
 use Rattle.repo_prune.specs.Moving.{IsMoving, AwaitsBlob}
-use Rattle.repo_prune.specs.Pruning.{prune_rule, prune_task, IsUntouched, AreTrees, IsNeededBy, AreWalked, AreFactsOnce, AreCovered, ListsPack, IsSettled, PruneConcludes}
+use Rattle.repo_prune.specs.Pruning.{prune_rule, prune_task, IsUntouched, AreTrees, IsNeededBy, AreWalked, AreFactsOnce, MustMoveBy, AreCovered, ListsPack, IsSettled, PruneConcludes}
 use Rattle.repo_prune.specs.Reading.{Walks, Awaits, HasTaken}
 use Rattle.repo_prune.specs.Relisting.{AreListable}
 use Rattle.repo_prune.specs.declared.deleting.Deleting.{Deleting}
@@ -91,7 +91,7 @@ pub record HasWalked (k : Known) (trees : Trees) (es : Trace) : Type 0 where
 
 -- ---- the plan
 
--- These packs stay, and these blobs move: there are trees that were received, in which each tree that a snapshot reaches is there; and what snapshots reach in
+-- These packs stay, and these blobs move, each as it has to: there are trees that were received, in which each tree that a snapshot reaches is there; and what snapshots reach in
 -- them are just the pairs of these facts, no two of which are of one pair.
 pub record ArePlanned (k : Known) (kept : List PackFacts) (moves : List Fact) (es : Trace) : Type 0 where
   pub texts : List (List ℕ)
@@ -103,6 +103,7 @@ pub record ArePlanned (k : Known) (kept : List PackFacts) (moves : List Fact) (e
   pub kept_are : (listed : PackFacts) → Contains kept listed → IsKeptPack es listed
   pub listable : AreListable kept
   pub moves_are : (fact : Fact) → Contains moves fact → ReadFact es fact
+  pub must : (fact : Fact) → Contains moves fact → MustMoveBy (IsNeededBy k.rows texts) k.facts fact
 
 -- it is planned, and nothing was put yet
 pub record HasPlanned (k : Known) (kept : List PackFacts) (moves : List Fact) (es : Trace) : Type 0 where

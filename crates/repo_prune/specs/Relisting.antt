@@ -1,5 +1,5 @@
 -- How a prune puts its new indexes.
-use Rattle.std.specs.Prelude.{◌≡◌, ◌≤◌, ◌++◌, ◌∷◌, [], ⊤, ℕ, List, length, take, Option, Some, None, Contains}
+use Rattle.std.specs.Prelude.{◌≡◌, ◌≢◌, ◌≤◌, ◌++◌, ◌∷◌, [], ⊤, ℕ, List, length, take, Option, Some, None, Contains}
 use Rattle.repo_name.specs.Limits.{blobs_limit, index_limit}
 use Rattle.repo_name.specs.Naming as naming
 use Rattle.repo_name.specs.declared.kinds.Kind.{Kind}
@@ -35,6 +35,7 @@ pub record PutsNext (old : Relisting) (token : Token) (step : Step) (new : Relis
   pub waiting : List PackFacts
   pub text : List ℕ
   pub reads : IsIndexText text waiting
+  pub some : waiting ≢ []
   pub short : length text ≤ index_limit
   pub behind : take new.listed new.packs.items ≡ take old.listed old.packs.items ++ waiting
   pub puts : step ≡ Step.Ask (Ask.Put token Kind.Index (naming.name text) text)

@@ -29,6 +29,7 @@ use Rattle.repo_session.specs.Traces.{Each, Exchange, Trace, emitted_in, page_na
 use Rattle.repo_session.proofs.Cataloguing.{catalog_fresh, catalog_on}
 use Rattle.repo_session.proofs.Descending.{fact_read, received_grows, root_grows, unindexed}
 use Rattle.repo_session.proofs.Holding.{opened_working}
+use Rattle.repo_session.proofs.Receiving.{each_more}
 use Rattle.repo_restore.specs.declared.nodes.Level.{Level}
 use Rattle.repo_restore.specs.declared.restores.RestoreJob.{RestoreJob}
 use Rattle.repo_restore.specs.declared.restores.Stage.{Stage}
@@ -40,7 +41,7 @@ use Rattle.repo_session.specs.Trees.{HasRoot, Under}
 use Rattle.repo_restore.specs.Restoring.{HaveLength, IsUneven, IsBadTree, MayGive, counted, restore_rule, RestoreConcludes}
 use Rattle.repo_restore.specs.RestoreStates.{IsRangeOf, IsBefore, IsNewRestore, IsWalking, KnowsAtStage, KnowsRestore, RestoreTurnIs}
 use Rattle.repo_restore.specs.Walking.{WalkEnds, WaitsForBlob, Turns, TurnGives, IsUnevenIn, IsUnfitIn}
-use Rattle.repo_restore.specs.Walks.{Sums}
+use Rattle.repo_restore.specs.Walks.{Sums, WalkGives}
 use Rattle.repo_restore.proofs.Flows.{follow_both}
 use Rattle.repo_restore.proofs.Growing.{walk_grows}
 
@@ -117,10 +118,22 @@ turn_flowed old out (Turn.Ask fact) begun f g = (is_open fact.kind, follow_both 
 turn_flowed old out (Turn.Complete count) begun f g = (false, follow_both false begun false old out f g)
 turn_flowed old out (Turn.Ended end) begun f g = (g.0, follow_both false begun g.0 old out f g.1)
 
-pub turn_gave : (facts : List Fact) (B : Blobs) (root : Name) (levels : List Level) (sent entries : ℕ) (old out : List Emission) (turn : Turn) → TurnGives facts B root levels sent entries old out turn → Each (MayGive 1 B root) out
+turn_gave : (facts : List Fact) (B : Blobs) (root : Name) (levels : List Level) (sent entries : ℕ) (old out : List Emission) (turn : Turn) → TurnGives facts B root levels sent entries old out turn → Each (WalkGives facts B root) out
 turn_gave facts B root levels sent entries old out (Turn.Ask fact) h = h.1
 turn_gave facts B root levels sent entries old out (Turn.Complete count) h = h.2
 turn_gave facts B root levels sent entries old out (Turn.Ended end) h = h.1
+
+may_give : (c : Catalog) (es : Trace) (root : Name) (given : Emission) → Catalogs c true es → WalkGives c.lookup (Received es) root given → MayGive es 1 root given
+may_give c es root (Emission.Dir path) h g = g
+may_give c es root (Emission.File path) h g = (g.0, g.1, g.2, lengths_of c es g.1 g.0 h g.3)
+may_give c es root (Emission.Piece bytes) h g = g
+may_give c es root Emission.Close h g = g
+
+-- each part that a turn gives out is one that may be
+pub turn_may_give : (c : Catalog) (es : Trace) (root : Name) (levels : List Level) (sent entries : ℕ) (old out : List Emission) (turn : Turn) → Catalogs c true es
+    → TurnGives c.lookup (Received es) root levels sent entries old out turn → Each (MayGive es 1 root) out
+turn_may_give c es root levels sent entries old out turn h t =
+    each_more (WalkGives c.lookup (Received es) root) (MayGive es 1 root) out (λ given g. may_give c es root given h g) (turn_gave c.lookup (Received es) root levels sent entries old out turn t)
 
 -- what is known where the bytes of the blob came that was asked for
 pub record RangeTaken (j : RestoreJob) (fact : Fact) (root : Name) (e : Exchange) (bytes : List ℕ) (es : Trace) : Type 0 where

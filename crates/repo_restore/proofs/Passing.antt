@@ -20,9 +20,9 @@ use Rattle.repo_restore.specs.declared.nodes.Begun.{Begun}
 use Rattle.repo_restore.specs.declared.nodes.Level.{Level}
 use Rattle.repo_restore.specs.Nodes.{WaitsFor, BlobFollows}
 use Rattle.repo_session.specs.Trees.{Under, IsNodeAt, IsNeeded}
-use Rattle.repo_restore.specs.Restoring.{MayGive, counted}
+use Rattle.repo_restore.specs.Restoring.{counted}
 use Rattle.repo_restore.specs.Walking.{WaitsIn, WaitsAs, with_begun, IsNextPath, FileWaits, TreeWaits, WaitsByKind, WalkWaits, WalkEnds}
-use Rattle.repo_restore.specs.Walks.{IsOpenLevel, DirectoryIsBegun, IsFile, IsWriting, LeadsOn, AtLevel, AtOpen, Sums}
+use Rattle.repo_restore.specs.Walks.{IsOpenLevel, DirectoryIsBegun, IsFile, IsWriting, LeadsOn, AtLevel, AtOpen, Sums, WalkGives}
 use Rattle.repo_session.proofs.Descending.{under_more}
 use Rattle.repo_restore.proofs.Rebuilds.{rebuilt_length, writing_more, writing_done}
 use Rattle.repo_restore.proofs.Summing.{one_more, sums_drop}
@@ -211,7 +211,7 @@ module _ (facts : List Fact) (B : Blobs) (root : Name) (levels : List Level) (se
   -- its last blob came
   pub blob_last : (h : FileWaits facts B root levels sent fact old) → IsLeast facts BlobKind.Content fact.name fact.place → content ≡ h.content → next ≡ sent + 1 → B BlobKind.Content bytes → naming.name bytes ≡ fact.name
       → length bytes ≡ fact.place.length → out ≡ [] → mid ≡ out ++ Emission.Piece bytes ∷ [] → BlobFollows facts content next mid new Begun.Done
-      → AtOpen B root levels (length levels) h.level.begun (rebuilt (old ++ new)) × Each (MayGive 1 B root) new
+      → AtOpen B root levels (length levels) h.level.begun (rebuilt (old ++ new)) × Each (WalkGives facts B root) new
   blob_last h least same count among named long none m b =
       let part = part_more facts B h.size sent h.content h.bytes bytes fact h.part h.asked least among named long in
       let past : slice_get h.content (sent + 1) ≡ None = ap (λ ns. slice_get ns (sent + 1)) (sym same) ∙ ap (λ i. slice_get content i) (sym count) ∙ b.0 in
@@ -221,13 +221,13 @@ module _ (facts : List Fact) (B : Blobs) (root : Name) (levels : List Level) (se
       let whole : old ++ new ≡ (old ++ Emission.Piece bytes ∷ []) ++ Emission.Close ∷ [] = split old mid new (Emission.Close ∷ []) b.1 ∙ ap (λ p. (old ++ p) ++ Emission.Close ∷ []) piece in
       let given : new ≡ Emission.Piece bytes ∷ Emission.Close ∷ [] = b.1 ∙ ap (λ p. p ++ Emission.Close ∷ []) piece in (
         subst (λ e. AtOpen B root levels (length levels) h.level.begun (rebuilt e)) (sym whole) at,
-        subst (λ e. Each (MayGive 1 B root) e) (sym given) (among, (tt, tt)),
+        subst (λ e. Each (WalkGives facts B root) e) (sym given) (among, (tt, tt)),
       )
 
   -- another one follows
   pub blob_more : (after : Fact) (h : FileWaits facts B root levels sent fact old) → IsLeast facts BlobKind.Content fact.name fact.place → content ≡ h.content → next ≡ sent + 1 → B BlobKind.Content bytes
       → naming.name bytes ≡ fact.name → length bytes ≡ fact.place.length → out ≡ [] → mid ≡ out ++ Emission.Piece bytes ∷ [] → entries ≡ counted (length (rebuilt old)) → BlobFollows facts content next mid new (Begun.Waits after)
-      → WalkWaits facts B root levels next entries after (old ++ new) × Each (MayGive 1 B root) new
+      → WalkWaits facts B root levels next entries after (old ++ new) × Each (WalkGives facts B root) new
   blob_more after h least same count among named long none m entry b =
       let part = part_more facts B h.size sent h.content h.bytes bytes fact h.part h.asked least among named long in
       let asked : slice_get h.content (sent + 1) ≡ Some after.name = ap (λ ns. slice_get ns (sent + 1)) (sym same) ∙ ap (λ i. slice_get content i) (sym count) ∙ b.0 in
@@ -255,15 +255,15 @@ module _ (facts : List Fact) (B : Blobs) (root : Name) (levels : List Level) (se
         waits = subst (λ kind. WaitsByKind kind facts B root levels (sent + 1) after (old ++ Emission.Piece bytes ∷ [])) (sym b.1.0) waits;
       } in (
         subst (λ e. WalkWaits facts B root levels next entries after (old ++ e)) (sym given) (subst (λ n. WalkWaits facts B root levels n entries after (old ++ Emission.Piece bytes ∷ [])) (sym count) known),
-        subst (λ e. Each (MayGive 1 B root) e) (sym given) (among, tt),
+        subst (λ e. Each (WalkGives facts B root) e) (sym given) (among, tt),
       )
 
   -- it is in no index
-  pub blob_ends : (h : FileWaits facts B root levels sent fact old) → content ≡ h.content → (end : End) → B BlobKind.Content bytes → out ≡ [] → mid ≡ out ++ Emission.Piece bytes ∷ [] → BlobFollows facts content next mid new (Begun.Ended end) → WalkEnds facts B root end × Each (MayGive 1 B root) new
+  pub blob_ends : (h : FileWaits facts B root levels sent fact old) → content ≡ h.content → (end : End) → B BlobKind.Content bytes → out ≡ [] → mid ≡ out ++ Emission.Piece bytes ∷ [] → BlobFollows facts content next mid new (Begun.Ended end) → WalkEnds facts B root end × Each (WalkGives facts B root) new
   blob_ends h same end among none m b =
       let given : new ≡ Emission.Piece bytes ∷ [] = b.4 ∙ pieced none m in
       let path : List (List ℕ) = h.level.path ++ h.node.name ∷ [] in
       let at = node_at B root h.level.tree h.level.path h.level.nodes.items h.begun.at h.begun.at h.inside h.node h.begun.opened h.begun.node_is in
       let blob = subst (λ (ns : List Name). Contains ns b.0) same (contains_got content next b.0 b.2) in
       let needed : IsNeeded 1 B root BlobKind.Content b.0 = (path, h.size, h.content, subst (λ what. IsNodeAt 1 B root path what) h.file at, blob) in
-      (subst (λ x. WalkEnds facts B root x) (sym b.1) (BlobKind.Content, refl, b.3, needed), subst (λ e. Each (MayGive 1 B root) e) (sym given) (among, tt))
+      (subst (λ x. WalkEnds facts B root x) (sym b.1) (BlobKind.Content, refl, b.3, needed), subst (λ e. Each (WalkGives facts B root) e) (sym given) (among, tt))

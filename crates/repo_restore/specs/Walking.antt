@@ -22,9 +22,9 @@ use Rattle.repo_restore.specs.declared.steps.Stop.{Stop}
 use Rattle.repo_index.specs.Lookups.{IsLeast}
 use Rattle.repo_restore.specs.Nodes.{WaitsFor, DirBegins, FileBegins}
 use Rattle.repo_session.specs.Trees.{Under, IsNeeded, IsBroken}
-use Rattle.repo_restore.specs.Restoring.{MayGive, counted}
+use Rattle.repo_restore.specs.Restoring.{counted}
 use Rattle.repo_session.specs.Catalogs.{IsBlobNowhere}
-use Rattle.repo_restore.specs.Walks.{Sums, IsOpenLevel, DirectoryIsBegun, IsFile, LeadsOn, IsWriting, AtOpen}
+use Rattle.repo_restore.specs.Walks.{Sums, WalkGives, IsOpenLevel, DirectoryIsBegun, IsFile, LeadsOn, IsWriting, AtOpen}
 use Rattle.repo_session.specs.Received.{Received}
 use Rattle.repo_name.specs.Naming as naming
 
@@ -34,11 +34,11 @@ NodeBegins facts tree path (NodeKind.File size content) old new begun = FileBegi
 NodeBegins facts tree path (NodeKind.Dir subtree) old new begun = DirBegins facts path subtree old new begun
 
 -- a level whose first nodes were given out, after what was given out before
-pub record LevelStands (B : Blobs) (root : Name) (level : Level) (begun : ℕ) (before : List Entry) (old out : List Emission) : Type 0 where
+pub record LevelStands (facts : List Fact) (B : Blobs) (root : Name) (level : Level) (begun : ℕ) (before : List Entry) (old out : List Emission) : Type 0 where
   pub inside : List Entry
   pub opened : IsOpenLevel B root level.tree level.path level.nodes.items begun inside
   pub whole : rebuilt (old ++ out) ≡ before ++ inside
-  pub given : Each (MayGive 1 B root) out
+  pub given : Each (WalkGives facts B root) out
 
 -- a blob that a node waits for, with what was given out up to it
 abbrev pub WaitsAs : List Fact → NodeKind → List (List ℕ) → Fact → List Entry → List Emission → Type 0
@@ -54,7 +54,7 @@ pub record WaitsIn (facts : List Fact) (B : Blobs) (root : Name) (level : Level)
   pub inside : List Entry
   pub opened : IsOpenLevel B root level.tree level.path level.nodes.items at inside
   pub waits : WaitsAs facts node.what (level.path ++ node.name ∷ []) fact (before ++ inside) (old ++ out)
-  pub given : Each (MayGive 1 B root) out
+  pub given : Each (WalkGives facts B root) out
 
 -- a file whose blobs have another size
 abbrev pub IsUnevenIn : List Fact → List Node → Type 0
@@ -72,16 +72,16 @@ WalkEnds facts B root _ = ⊥
 
 -- what beginning a level's next nodes gives
 abbrev pub NextBegins : List Fact → Blobs → Name → Level → List Entry → List Emission → List Emission → ℕ → Begun → Type 0
-NextBegins facts B root level before old out now Begun.Done = LevelStands B root level (length level.nodes.items) before old out
+NextBegins facts B root level before old out now Begun.Done = LevelStands facts B root level (length level.nodes.items) before old out
 NextBegins facts B root level before old out now (Begun.Waits fact) = WaitsIn facts B root level now before old out fact
-NextBegins facts B root level before old out now (Begun.Ended end) = WalkEnds facts B root end × Each (MayGive 1 B root) out
+NextBegins facts B root level before old out now (Begun.Ended end) = WalkEnds facts B root end × Each (WalkGives facts B root) out
 
 -- where a walk stops
 abbrev pub StopsAt : List Fact → Blobs → Name → List Level → List Emission → List Emission → ℕ → ℕ → Begun → Type 0
-StopsAt facts B root levels old out depth begun Begun.Done = Spells 1 B root [] (rebuilt (old ++ out)) × Each (MayGive 1 B root) out
+StopsAt facts B root levels old out depth begun Begun.Done = Spells 1 B root [] (rebuilt (old ++ out)) × Each (WalkGives facts B root) out
 StopsAt facts B root levels old out depth begun (Begun.Waits fact) = (level : Level) × (before : List Entry) × (slice_get levels depth ≡ Some level)
     × LeadsOn B root root [] [] (take depth levels) level.tree level.path before × WaitsIn facts B root level begun before old out fact
-StopsAt facts B root levels old out depth begun (Begun.Ended end) = WalkEnds facts B root end × Each (MayGive 1 B root) out
+StopsAt facts B root levels old out depth begun (Begun.Ended end) = WalkEnds facts B root end × Each (WalkGives facts B root) out
 
 -- a level of which so many nodes are begun
 abbrev pub with_begun : Level → ℕ → Level
@@ -122,9 +122,9 @@ pub record WalkWaits (facts : List Fact) (B : Blobs) (root : Name) (levels : Lis
 
 -- what comes of a step of a walk
 abbrev pub TurnGives : List Fact → Blobs → Name → List Level → ℕ → ℕ → List Emission → List Emission → Turn → Type 0
-TurnGives facts B root levels sent entries old out (Turn.Ask fact) = WalkWaits facts B root levels sent entries fact (old ++ out) × Each (MayGive 1 B root) out
-TurnGives facts B root levels sent entries old out (Turn.Complete count) = Spells 1 B root [] (rebuilt (old ++ out)) × (count ≡ counted (length (rebuilt (old ++ out)))) × Each (MayGive 1 B root) out
-TurnGives facts B root levels sent entries old out (Turn.Ended end) = WalkEnds facts B root end × Each (MayGive 1 B root) out
+TurnGives facts B root levels sent entries old out (Turn.Ask fact) = WalkWaits facts B root levels sent entries fact (old ++ out) × Each (WalkGives facts B root) out
+TurnGives facts B root levels sent entries old out (Turn.Complete count) = Spells 1 B root [] (rebuilt (old ++ out)) × (count ≡ counted (length (rebuilt (old ++ out)))) × Each (WalkGives facts B root) out
+TurnGives facts B root levels sent entries old out (Turn.Ended end) = WalkEnds facts B root end × Each (WalkGives facts B root) out
 
 -- ---- over the code's own type
 
@@ -147,13 +147,13 @@ IsNextPath levels path = (levels ≡ [] → path ≡ [])
 
 -- wherever it stands in a directory, its next node begins
 abbrev pub BeginsNext : List Fact → Level → ℕ → List Emission → List Emission → ℕ → Begun → Type 0
-BeginsNext facts level begun out more now what = (gs : Trace) (root : Name) (before : List Entry) (old : List Emission) → LevelStands (Received gs) root level begun before old out
+BeginsNext facts level begun out more now what = (gs : Trace) (root : Name) (before : List Entry) (old : List Emission) → LevelStands facts (Received gs) root level begun before old out
     → NextBegins facts (Received gs) root level before old more now what
 
 -- wherever the levels are open, it goes on to the next stop
 abbrev pub GoesToStop : List Fact → List Level → ℕ → List Emission → List Emission → ℕ → ℕ → Begun → Type 0
 GoesToStop facts levels begun out more depth now what = (gs : Trace) (root : Name) (old : List Emission)
-    → AtOpen (Received gs) root levels (length levels) begun (rebuilt (old ++ out)) → Each (MayGive 1 (Received gs) root) out
+    → AtOpen (Received gs) root levels (length levels) begun (rebuilt (old ++ out)) → Each (WalkGives facts (Received gs) root) out
     → StopsAt facts (Received gs) root levels old more depth now what
 
 -- the content of the file that the last level has begun

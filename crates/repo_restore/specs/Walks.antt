@@ -1,5 +1,5 @@
 -- Where a walk over trees stands.
-use Rattle.std.specs.Prelude.{◌≡◌, ◌≢◌, ◌<◌, ◌⊎◌, ◌+◌, ◌++◌, ◌∷◌, [], ℕ, zero, suc, List, length, take, drop, slice_get, Option, Some, None, Contains}
+use Rattle.std.specs.Prelude.{◌≡◌, ◌≢◌, ◌<◌, ◌⊎◌, ◌+◌, ◌++◌, ◌∷◌, [], ⊤, ℕ, zero, suc, List, length, take, drop, slice_get, Option, Some, None, Contains}
 use Rattle.repo_name.specs.declared.kinds.BlobKind.{BlobKind}
 use Rattle.repo_name.specs.declared.names.Name.{Name}
 use Rattle.repo_pack.specs.declared.places.Place.{Place}
@@ -13,7 +13,7 @@ use Rattle.repo_tree.specs.Spelling.{Joined, NodesSpell, Spells, greatest_depth,
 use Rattle.repo_session.specs.declared.emissions.Emission.{Emission}
 use Rattle.repo_session.specs.Catalogs.{IsBlobNowhere}
 use Rattle.repo_session.specs.Rebuilding.{rebuilt}
-use Rattle.repo_session.specs.Trees.{Under}
+use Rattle.repo_session.specs.Trees.{Under, IsNodeAt}
 use Rattle.repo_restore.specs.declared.nodes.Filed.{Filed}
 use Rattle.repo_restore.specs.declared.nodes.Level.{Level}
 
@@ -21,6 +21,14 @@ use Rattle.repo_restore.specs.declared.nodes.Level.{Level}
 abbrev pub Sums : List Fact → List Name → ℕ → Type 0
 Sums facts [] total = total ≡ 0
 Sums facts (name ∷ names) total = (place : Place) × (rest : ℕ) × IsLeast facts BlobKind.Content name place × Sums facts names rest × (total ≡ place.length + rest)
+
+-- what a walk may give out: directories and files that received trees have at their paths, each file only where its blobs have places and its size; and
+-- content that was received
+abbrev pub WalkGives : List Fact → Blobs → Name → Emission → Type 0
+WalkGives facts B root (Emission.Dir path) = (subtree : Name) × IsNodeAt 1 B root path (NodeKind.Dir subtree)
+WalkGives facts B root (Emission.File path) = (size : ℕ) × (content : List Name) × IsNodeAt 1 B root path (NodeKind.File size content) × Sums facts content size
+WalkGives facts B root (Emission.Piece bytes) = B BlobKind.Content bytes
+WalkGives facts B root Emission.Close = ⊤
 
 -- what is left of a size after so many bytes, if they aren't more
 abbrev pub LeftOf : Option ℕ → ℕ → ℕ → Type 0

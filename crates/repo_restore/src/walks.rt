@@ -13,7 +13,6 @@ ghost use Rattle.repo_session.specs.Traces.{Each, Trace};
 ghost use Rattle.repo_restore.specs.declared.nodes.Level.{Level};
 ghost use Rattle.repo_restore.specs.Flowing.{is_open, FlowsTo, TurnFlows};
 ghost use Rattle.repo_session.specs.Received.{Received};
-ghost use Rattle.repo_restore.specs.Restoring.{MayGive};
 ghost use Rattle.repo_restore.specs.Walking.{with_begun, WaitsForBlob, Turns, NodeHasBegun, IsNextPath, IsOpenContent, TurnsAtStop, EntersTree, TakesContent, TakesBlob};
 
 use crate::nodes::{Begun, Level, next_blob, path_of};

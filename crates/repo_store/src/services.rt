@@ -1,6 +1,6 @@
 //! The requests of one stream, answered one after another.
 
-ghost use Rattle.std.specs.Prelude.{◌≡◌, ◌<◌, ◌+◌, ◌^◌, ◌++◌, IfOk, IsTrue, OnOk, OnErr};
+ghost use Rattle.std.specs.Prelude.{◌≡◌, ◌<◌, ◌+◌, ◌^◌, ◌++◌, IfOk, IfSome, IsTrue, IsFalse, OnOk, OnErr};
 ghost use Rattle.repo_wire.specs.Reading.{fed};
 ghost use Rattle.repo_store.specs.Serving.{Past, Moment, seen};
 ghost use Rattle.repo_store.specs.Services.{nothing, Rests, Finishes, ServesNext, ServesEach};
@@ -50,6 +50,7 @@ impl<F: Form + Drop> Service<F> {
             result self.new (seen (S.store shelf.new) (S.failed shelf.new) (W.contents writer.new)) }
         ensures honest { S.honest shelf.old → S.honest shelf.new }
         ensures counted { IfOk result (λ more. IsTrue more → self.new.answered ≡ self.old.answered + 1) }
+        ensures still { IfOk result (λ more. IsFalse more → self.new.answered ≡ self.old.answered) }
     {
         let Some(request) = self.reader.next_request()? else {
             return Ok(false);
@@ -82,6 +83,7 @@ impl<F: Form + Drop> Service<F> {
         ensures all { S.honest shelf.old → ServesEach F.shown self.old (seen (S.store shelf.old) (S.failed shelf.old) (W.contents writer.old))
             result self.new (seen (S.store shelf.new) (S.failed shelf.new) (W.contents writer.new)) }
         ensures honest { S.honest shelf.old → S.honest shelf.new }
+        ensures few { OnOk result (self.new.answered < 2 ^ 32) }
     {
         while self.answered < REQUESTS {
             let more = self.answer_next(shelf, writer)?;
@@ -94,7 +96,8 @@ impl<F: Form + Drop> Service<F> {
 
     /// Ends the stream, and gives the number of requests that were answered; `None` inside a frame.
     pub fn finish(self) -> Option<u64>
-        ensures { (before after : Moment) (past : Past) → Rests F.shown before self past after → Finishes F.shown before past result after }
+        ensures finishes { (before after : Moment) (past : Past) → Rests F.shown before self past after → Finishes F.shown before past result after }
+        ensures count { IfSome result (λ count. count ≡ self.answered) }
     {
         if !self.reader.is_between() {
             return None;

@@ -1,6 +1,6 @@
 //! The server of one connection.
 
-ghost use Rattle.std.specs.Prelude.{◌≡◌, ◌<◌, ℕ, List, length, Option, IfOk, vec_len};
+ghost use Rattle.std.specs.Prelude.{◌≡◌, ◌<◌, ◌^◌, ℕ, List, length, Option, IfOk, OnOk, vec_len};
 ghost use Rattle.std.specs.Io.KnownBytes.{Consumes};
 ghost use Rattle.repo_store.specs.AppendOnly.{OnlyAppends};
 ghost use Rattle.repo_store.specs.Services.{Rests, PieceGives};
@@ -84,11 +84,13 @@ fn take_piece<R: Read, W: Write, S: Shelf>(
     writer: &mut W,
     shelf: &mut S,
 ) -> Result<bool, ServeError>
-    requires { 0 < length piece.old }
+    requires room { 0 < length piece.old }
+    requires few { service.old.answered < 2 ^ 32 }
     ensures next { S.honest shelf.old → (input : Option (List ℕ)) (before : Moment) (past : Past) → Consumes input (R.remaining reader.old) past.bytes
         → Rests plain before service.old past (seen (S.store shelf.old) (S.failed shelf.old) (W.contents writer.old))
         → PieceGives input before past result (R.remaining reader.new) service.new (seen (S.store shelf.new) (S.failed shelf.new) (W.contents writer.new)) }
     ensures honest { S.honest shelf.old → S.honest shelf.new }
+    ensures few { OnOk result (service.new.answered < 2 ^ 32) }
 {
     match reader.read(piece) {
         Ok(0) => Ok(false),
@@ -102,8 +104,8 @@ fn take_piece<R: Read, W: Write, S: Shelf>(
 }
 
 /// Answers the requests of one connection, in their order, and writes the frame of each reply. It gives
-/// the number of requests that were answered, at an input that ends between frames. See [`ServeError`]
-/// for when each error comes, and what stands then.
+/// the number of requests that were answered, at an input that ends between frames: fewer than 2^32. See
+/// [`ServeError`] for when each error comes, and what stands then.
 ///
 /// Whatever the reader and the writer tell of their bytes, the shelf is where a run of the machine leads,
 /// and a reply says that the device failed only where the device counted a failure. Whatever the stream
@@ -118,6 +120,7 @@ pub fn serve<R: Read, W: Write, S: Shelf>(
         result (R.remaining reader.new) (seen (S.store shelf.new) (S.failed shelf.new) (W.contents writer.new)) }
     ensures kept { S.honest shelf.old → OnlyAppends (S.store shelf.old) (S.store shelf.new) }
     ensures honest { S.honest shelf.old → S.honest shelf.new }
+    ensures few { IfOk result (λ count. count < 2 ^ 32) }
 {
     let mut service = Service::new(alloc, Plain);
     let mut piece = room(alloc)?;

@@ -196,6 +196,7 @@ module _ (host : List ℕ) (time : ℕ) (config pack index snapshot : List ℕ) 
     lists = record {
       packs = record { pack = naming.name pack; facts = texts.facts } ∷ [];
       reads = texts.indexed;
+      some = λ none. omega (arith, ap length none);
       each = λ listed c. listed_is listed (contained_or (record { pack = naming.name pack; facts = texts.facts }) [] listed c);
     };
   }

@@ -79,7 +79,7 @@ module _ (w : World) (bag : HasBag w) (clash : HasNoClash w) (k : ℕ) (t : Toke
     backup_index : Sending (Job.Backup entries) (client w k).who (client w k).trace (Ask.Put t Kind.Index n x) → IsSoundIndex w.store.objects x
     backup_index s =
         let r : backing.IndexRule s.older x = s.permitted tt in
-        lists_sound s.older s.within (kept_by s.older) (record { packs = r.lists.packs; reads = r.lists.reads; each = λ listed among. inl (r.lists.each listed among) })
+        lists_sound s.older s.within (kept_by s.older) (record { packs = r.lists.packs; reads = r.lists.reads; some = r.lists.some; each = λ listed among. inl (r.lists.each listed among) })
 
     made_known : (es : Trace) → Within es (client w k).trace → (y : List ℕ) → IsMadeOf entries es y → IsKnown w y
     made_known es within y m = known_made k (subst (λ (b : Job). MadeOf b (client w k).trace y) (sym job) (record {

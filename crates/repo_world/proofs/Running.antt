@@ -18,7 +18,7 @@ use Rattle.repo_world.proofs.ClientLists.{Changed, each, changed_set, changed_en
 use Rattle.repo_world.proofs.Failing.{failing_step}
 use Rattle.repo_world.proofs.Happening.{begins, happens_later, event_keeps}
 use Rattle.repo_world.proofs.Later.{no_clash_before}
-use Rattle.repo_world.proofs.Safety.{bag_safe, handed_is_one, stored_own}
+use Rattle.repo_world.proofs.Safety.{bag_safe, handed_is_one}
 use Rattle.repo_world.proofs.Taking.{crashed_behaves, started_dutiful}
 use Rattle.repo_world.specs.declared.events.Event.{Event}
 use Rattle.repo_world.specs.declared.events.Applied.{Applied}
@@ -106,4 +106,4 @@ each_report_holds store empty events more w last run rest clash k s blobs bytes 
     let bag : HasBag w = run_keeps (beginning store) events w (begins store empty) run calm in
     let after : HasBag last = run_keeps w more last bag rest clash in
     let still : (client last k).outcome ≡ Some (Outcome.Stored s blobs bytes) = run_reports w more last rest bag.behave k (Outcome.Stored s blobs bytes) e in
-    record { there = (bag_safe last after clash).stored k s blobs bytes still; own = λ entries handed. stored_own last after clash k s blobs bytes entries handed still }
+    (bag_safe last after clash).stored k s blobs bytes still

@@ -24,13 +24,14 @@ use Rattle.repo_session.specs.Received.{Received}
 use Rattle.repo_session.specs.Soundness.{IsHeld}
 use Rattle.repo_session.specs.Traces.{Exchange, Trace, emitted_in}
 use Rattle.repo_session.proofs.Concluding.{exchanged_before}
+use Rattle.repo_prune.specs.declared.choices.Choice.{Choice}
 use Rattle.repo_backup.specs.Folders.{Folder, blobs_of}
 use Rattle.repo_backup.specs.Rules as backing
 use Rattle.repo_writing.specs.Putting.{PutDone}
 use Rattle.repo_restore.specs.Restoring.{IsRestored, IsForBlob, RestoreAllows, RestoreGives}
 use Rattle.repo_world.specs.Bag.{AskedAt, HasBag}
 use Rattle.repo_world.specs.Clients.{task_of, JobConcludes, handed_to, MadeOf}
-use Rattle.repo_world.specs.Safe.{IsPutBy, IsThereOrAsked, Took, Handed, IsKnown, known_made, HasNoClash, IsSafe, HandedIsOne, known_spoken, by_put}
+use Rattle.repo_world.specs.Safe.{IsPutBy, IsAsked, IsThereOrAsked, IsThereOrForgotten, Took, Handed, IsKnown, known_made, HasNoClash, IsSafe, HandedIsOne, known_spoken, by_put}
 use Rattle.repo_world.specs.World.{World, client}
 use Rattle.repo_world.proofs.Knowing.{rule_at, sent_as, put_named, held_known, received_known, owner_of}
 use Rattle.repo_world.proofs.Sending.{Within, IsRuled, ruled, Sending, working_took, sent_as_asked}
@@ -158,14 +159,6 @@ module _ (w : World) (bag : HasBag w) (clash : HasNoClash w) where
       let one : h.snapshot ≡ snapshot = snapshot_texts_one x h.snapshot snapshot h.reads reads in
       (h.entries, subst (λ (es : List Entry). Handed w s es) same (handed_of s x source.0 put source.1), subst (λ (z : Snapshot). Spells z.version (IsHeld w.store.objects) z.tree [] h.entries) one h.spells)
 
-  pub bag_safe : IsSafe w
-  bag_safe = record {
-    sound = bag.sound;
-    snapshots = spelled_in;
-    restored = restored_is;
-    stored = λ k s blobs bytes outcome. stored_by k s blobs bytes (client w k).job ((ruled (client w k) (bag.behave k)).concluded (Outcome.Stored s blobs bytes) outcome);
-  }
-
   -- ---- what was handed is one list
 
   pub handed_is_one : HandedIsOne w
@@ -191,5 +184,32 @@ module _ (w : World) (bag : HasBag w) (clash : HasNoClash w) where
   own_of k s blobs bytes Job.Prune entries job same r = absurd r
   own_of k s blobs bytes Job.Check entries job same r = absurd r
 
-  pub stored_own : (k : ℕ) (s : Name) (blobs bytes : ℕ) (entries : List Entry) → handed_to (client w k).job ≡ Some entries → (client w k).outcome ≡ Some (Outcome.Stored s blobs bytes) → Handed w s entries
+  stored_own : (k : ℕ) (s : Name) (blobs bytes : ℕ) (entries : List Entry) → handed_to (client w k).job ≡ Some entries → (client w k).outcome ≡ Some (Outcome.Stored s blobs bytes) → Handed w s entries
   stored_own k s blobs bytes entries same outcome = own_of k s blobs bytes (client w k).job entries refl same ((ruled (client w k) (bag.behave k)).concluded (Outcome.Stored s blobs bytes) outcome)
+
+  -- ---- who asked for a deletion
+
+  asked_by : (s : Name) (a : IsAsked w s) (b : Job) → (client w a.by).job ≡ b → AskedAt (client w a.by) a.request.sequence (Ask.Delete a.token Kind.Snapshot s) → (choice : Choice) × (b ≡ Job.Forget choice)
+  asked_by s a (Job.Backup entries) e h = absurd ((sent_as w bag a.by a.request.sequence (Ask.Delete a.token Kind.Snapshot s) (Job.Backup entries) e h).permitted tt)
+  asked_by s a Job.Prune e h = absurd ((sent_as w bag a.by a.request.sequence (Ask.Delete a.token Kind.Snapshot s) Job.Prune e h).permitted tt)
+  asked_by s a (Job.Restore n) e h = absurd ((sent_as w bag a.by a.request.sequence (Ask.Delete a.token Kind.Snapshot s) (Job.Restore n) e h).permitted tt)
+  asked_by s a Job.List e h = absurd ((sent_as w bag a.by a.request.sequence (Ask.Delete a.token Kind.Snapshot s) Job.List e h).permitted tt)
+  asked_by s a Job.Check e h = absurd ((sent_as w bag a.by a.request.sequence (Ask.Delete a.token Kind.Snapshot s) Job.Check e h).permitted tt)
+  asked_by s a (Job.Forget choice) e h = (choice, refl)
+
+  there_or_forgotten : (s : Name) → IsThereOrAsked w s → IsThereOrForgotten w s
+  there_or_forgotten s (inl there) = inl there
+  there_or_forgotten s (inr a) =
+      let f = asked_by s a (client w a.by).job refl (subst (λ (x : Ask). AskedAt (client w a.by) a.request.sequence x) a.asks (bag.asked a.by a.request a.message)) in
+      inr (record { asked = a; choice = f.0; forgets = f.1 })
+
+  pub bag_safe : IsSafe w
+  bag_safe = record {
+    sound = bag.sound;
+    snapshots = spelled_in;
+    restored = restored_is;
+    stored = λ k s blobs bytes outcome. record {
+      there = there_or_forgotten s (stored_by k s blobs bytes (client w k).job ((ruled (client w k) (bag.behave k)).concluded (Outcome.Stored s blobs bytes) outcome));
+      own = λ entries same. stored_own k s blobs bytes entries same outcome;
+    };
+  }

@@ -246,7 +246,7 @@ module _ (host : List ℕ) (time : ℕ) (config pack index snapshot : List ℕ) 
     index_rule = record {
       none = λ k. refl;
       indexes = indexed;
-      lists = record { packs = listed ∷ []; reads = texts.indexed; each = λ p c. inr (subst (λ (q : PackFacts). IsKeptPack t6 q) (only listed p c) kept) };
+      lists = record { packs = listed ∷ []; reads = texts.indexed; some = λ none. omega (arith, ap length none); each = λ p c. inr (subst (λ (q : PackFacts). IsKeptPack t6 q) (only listed p c) kept) };
     }
 
     obeys : Obeys task (JobAllows Job.Prune) (JobGives Job.Prune) all

@@ -84,7 +84,7 @@ pub record Crashes (w : World) (k : ℕ) (v : World) : Type 0 where
 abbrev pub Stops : World → ℕ → Applied → World → Type 0
 Stops w k applied v = ((applied ≡ Applied.Done) × Crashes w k v) ⊎ ((applied ≡ Applied.Ignored) × ((client w k).crashed ≡ true) × (v ≡ w))
 
--- a lock is removed: its number is neither fresh nor live from now on
+-- a lock is removed: its number, if it was issued, is neither fresh nor live from now on
 pub record Unlocks (w : World) (t : Token) (v : World) : Type 0 where
   pub store : Store
   pub saves : SavesTokens (unlocked w.store.tokens t) w.store store

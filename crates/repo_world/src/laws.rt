@@ -3,7 +3,7 @@
 ghost use Rattle.repo_world.specs.Backed.{BackupIsARun, ForgetIsARun, PruneIsARun, RestoreIsARun};
 ghost use Rattle.repo_world.specs.Example.{ExampleIsARun};
 ghost use Rattle.repo_world.specs.Lone.{LoneTalkIsARun};
-ghost use Rattle.repo_world.specs.Laws.{EachEventKeepsReports, EachReportHolds, EventsOnlyAppend, EveryRunIsSafe, FailingIsAStep, NoClashGoesBack};
+ghost use Rattle.repo_world.specs.Laws.{EachEventKeepsReports, EachReportHolds, EventsOnlyAppend, EveryRunIsSafe, EverySnapshotIsRestored, EveryStoreIsFit, FailingIsAStep, NoClashGoesBack};
 
 /// A step in which a call of the store's device fails, as it was called for, is a step of the store machine.
 pub fn failing_is_a_step()
@@ -26,7 +26,7 @@ pub fn each_event_keeps_reports()
     ensures { EachEventKeepsReports }
 {}
 
-/// A snapshot that a client once reported as stored is there, or its deletion was asked for, at every later time; and what
+/// A snapshot that a client once reported as stored is there, or a forget asked for its deletion, at every later time; and what
 /// this client was handed is what is known as handed to the snapshot's backup.
 pub fn each_report_holds()
     ensures { EachReportHolds }
@@ -36,6 +36,18 @@ pub fn each_report_holds()
 /// snapshot's backup is one list: where no two byte lists clash in the last world.
 pub fn every_run_is_safe()
     ensures { EveryRunIsSafe }
+{}
+
+/// After any events the store is one in which a client alone finds all that it wants, where it is at rest: its config reads, no
+/// lock is live, and there is a next number.
+pub fn every_store_is_fit()
+    ensures { EveryStoreIsFit }
+{}
+
+/// And then each snapshot that is there can be had: a restore of it alone with that store, whose device doesn't fail, is complete
+/// at its end, or the store had no memory.
+pub fn every_snapshot_is_restored()
+    ensures { EverySnapshotIsRestored }
 {}
 
 /// A client that talks alone with the world's store, from its ticket to its end, as it owes it, is a part of a run: so a run

@@ -51,8 +51,9 @@ pub use events::{Applied, Event};
 pub use jobs::{Entries, Host, HostError, Job, Refusal};
 pub use laws::{
     backup_is_a_run, each_event_keeps_reports, each_report_holds, events_only_append,
-    every_run_is_safe, example_is_a_run, failing_is_a_step, forget_is_a_run, lone_talk_is_a_run,
-    no_clash_goes_back, prune_is_a_run, restore_is_a_run,
+    every_run_is_safe, every_snapshot_is_restored, every_store_is_fit, example_is_a_run,
+    failing_is_a_step, forget_is_a_run, lone_talk_is_a_run, no_clash_goes_back, prune_is_a_run,
+    restore_is_a_run,
 };
 pub use messages::Message;
 pub use reports::{Role, client_line, store_line};

@@ -192,10 +192,10 @@ waits_more listed waiting x es h = record {
 pub waits_among : (listed waiting : List PackFacts) (es : Trace) (x : PackFacts) → AreListed listed waiting es → Contains waiting x → Contains listed x
 waits_among listed waiting es x h among = subst (λ ls. Contains ls x) (sym h.lists) (Contains-append_right (packs_of h.listings) waiting x among)
 
--- an index of what waits, of packs that may be listed
+-- an index of what waits, where something does, of packs that may be listed
 pub index_of : (MayList : PackFacts → Type 0) (listed waiting : List PackFacts) (es : Trace) (x : List ℕ) → AreListed listed waiting es → ((l : PackFacts) → Contains listed l → MayList l)
-    → IsIndexText x waiting → IsIndexOf MayList x
-index_of MayList listed waiting es x h may reads = record { packs = waiting; reads = reads; each = λ l among. may l (waits_among listed waiting es l h among) }
+    → IsIndexText x waiting → waiting ≢ [] → IsIndexOf MayList x
+index_of MayList listed waiting es x h may reads some = record { packs = waiting; reads = reads; some = some; each = λ l among. may l (waits_among listed waiting es l h among) }
 
 -- its put is done, and nothing waits
 pub index_done : (listed waiting : List PackFacts) (token : Token) (n : Name) (x : List ℕ) (e : Exchange) (es : Trace) → IsIndexText x waiting → e.ask ≡ Ask.Put token Kind.Index n x → e.say ≡ Say.Done

@@ -1,9 +1,13 @@
-use Rattle.std.proofs.Common.{[]}
+use Rattle.std.proofs.Common.{[], refl}
 use Rattle.repo_prog.proofs.JobLemmas.{backup_none}
+use Rattle.repo_prog.proofs.TellLemmas.{nothing_told, told_plain}
 use Rattle.repo_prog.proofs.backing.backup_command.Goals as goal
 
-pub returns-in-Err-Unreadable-clause-obeyed : goal.returns-in-Err-Unreadable-clause-obeyed
-returns-in-Err-Unreadable-clause-obeyed g c = ([], backup_none c.args.caller.now c.args.host.now [] c.args.retry (g.D.Dial.coming c.args.dial.now))
+pub returns-in-Ok-clause-gives : goal.returns-in-Ok-clause-gives
+returns-in-Ok-clause-gives g c = (c.in-Ok.found.entries.items, c.in-Ok.ensures, c.backup_found.ensures.obeyed, c.backup_found.ensures.tells)
 
-pub returns-in-Err-Memory-clause-obeyed : goal.returns-in-Err-Memory-clause-obeyed
-returns-in-Err-Memory-clause-obeyed g c = ([], backup_none c.args.caller.now c.args.host.now [] c.args.retry (g.D.Dial.coming c.args.dial.now))
+pub returns-in-Err-Unreadable-clause-gives : goal.returns-in-Err-Unreadable-clause-gives
+returns-in-Err-Unreadable-clause-gives g c = ([], tt, backup_none c.args.caller.now c.args.host.now [] c.args.retry (g.D.Dial.coming c.args.dial.now), told_plain _ _ _ _ _ (nothing_told _ _ _ _ _ c.failed.ensures refl))
+
+pub returns-in-Err-Memory-clause-gives : goal.returns-in-Err-Memory-clause-gives
+returns-in-Err-Memory-clause-gives g c = ([], tt, backup_none c.args.caller.now c.args.host.now [] c.args.retry (g.D.Dial.coming c.args.dial.now), told_plain _ _ _ _ _ (nothing_told _ _ _ _ _ c.failed-in-Err-Memory.ensures refl))

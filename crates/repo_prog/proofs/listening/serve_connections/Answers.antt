@@ -15,5 +15,5 @@ loop-turn-preserved g c = record {
   runs = λ honest. runs_compose _ _ _ _ _ _ (c.loop-turn.invariant.runs honest) (c.serve_next-served.ensures.runs (c.loop-turn.invariant.honest honest));
   honest = λ honest. c.serve_next-served.ensures.honest (c.loop-turn.invariant.honest honest);
   silent = λ done. let s = c.status_after-status.ensures.silent done in s.1 ∙ c.loop-turn.invariant.silent s.0;
-  status = c.status_after-status.ensures.usage c.loop-turn.invariant.status;
+  status = c.status_after-status.ensures.status c.loop-turn.invariant.status;
 }

@@ -1,11 +1,16 @@
-use Rattle.std.proofs.Common.{sym, ◌∙◌}
+use Rattle.std.proofs.Common.{refl, sym, ◌∙◌}
 use Rattle.repo_prog.proofs.JobLemmas.{restore_none}
+use Rattle.repo_prog.proofs.TellLemmas.{nothing_told, tells_as}
 use Rattle.repo_prog.proofs.restoring.restore_command.Goals as goal
-
-pub returns-clause-restored : goal.returns-clause-restored
-returns-clause-restored g c done =
-    let shown = c.show_restored.ensures.restored done in
-    (shown.0, c.in-Ok-restored.ensures.ended shown.0 (sym c.outcome.ensures ∙ shown.1), shown.2)
 
 pub returns-in-Err-clause-obeyed : goal.returns-in-Err-clause-obeyed
 returns-in-Err-clause-obeyed g c = restore_none c.args.caller.now c.args.name c.args.retry (g.D.Dial.coming c.args.dial.now)
+
+pub returns-in-Err-clause-tells : goal.returns-in-Err-clause-tells
+returns-in-Err-clause-tells g c = nothing_told _ _ _ _ _ c.not_begun.ensures refl
+
+pub returns-in-Err-restored-clause-tells : goal.returns-in-Err-restored-clause-tells
+returns-in-Err-restored-clause-tells g c = nothing_told _ _ _ _ _ c.failed.ensures refl
+
+pub returns-clause-tells : goal.returns-clause-tells
+returns-clause-tells g c = tells_as _ _ _ _ _ (λ entries is. c.in-Ok-restored.ensures.ended entries (sym c.outcome.ensures ∙ is)) _ c.show_restored.ensures.shows

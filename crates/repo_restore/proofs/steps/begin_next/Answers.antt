@@ -55,4 +55,4 @@ pub returns-clause-begins : goal.returns-clause-begins
 returns-clause-begins c = λ gs root before old h.
     let level = c.args.level.now in
     let past : length level.nodes.items ≤ c.loop-at.at = omega (arith, c.loop-at-test.false, c.len-at-end.ensures, level.nodes.ok.0) in
-    stands_all (Received gs) root level c.loop-at.at before old c.loop-at.out.items past (c.loop-at.invariant.0 gs root before old h)
+    stands_all c.args.lookup.now (Received gs) root level c.loop-at.at before old c.loop-at.out.items past (c.loop-at.invariant.0 gs root before old h)

@@ -9,5 +9,5 @@ use Rattle.repo_restore.specs.Walking.{LevelStands}
 use Rattle.repo_restore.proofs.steps.begin_next.Given as goal
 
 abbrev pub invariant-loop-at : goal.invariant-loop-at
-invariant-loop-at l = ((gs : Trace) (root : Name) (before : List Entry) (old : List Emission) → LevelStands (Received gs) root l.fn.level l.fn.begun before old l.fn.out.items → LevelStands (Received gs) root l.level l.at before old l.out.items)
+invariant-loop-at l = ((gs : Trace) (root : Name) (before : List Entry) (old : List Emission) → LevelStands l.fn.lookup (Received gs) root l.fn.level l.fn.begun before old l.fn.out.items → LevelStands l.fn.lookup (Received gs) root l.level l.at before old l.out.items)
     × ((before : Bool) → Follow before l.fn.out.items false → Follow before l.out.items false)

@@ -16,8 +16,8 @@ loop-up-preserved c = (
       let many : suc depth + c.loop-up.up ≡ length levels = omega arith in
       let got : slice_get levels depth ≡ Some x = slice_get_read levels (length levels) depth x refl (omega arith) c.index-levels-depth.is in
       let h = at_level (Received gs) root levels depth c.loop-up.begun x (rebuilt (old ++ c.loop-up.out.items)) got (so.0 (suc depth) many) in
-      let next = rw c.in-Done.is at (c.in_ok-next.ensures.begins gs root h.before old (level_stands (Received gs) root levels depth c.loop-up.begun x old c.loop-up.out.items h so.1)) in
-      let closed = level_done (Received gs) root levels depth c.loop-up.begun c.begun_above-begun.result x old c.loop-up.out.items c.begin_next.new.out.items h next c.begun_above-begun.ensures in (
+      let next = rw c.in-Done.is at (c.in_ok-next.ensures.begins gs root h.before old (level_stands c.args.lookup.now (Received gs) root levels depth c.loop-up.begun x old c.loop-up.out.items h so.1)) in
+      let closed = level_done c.args.lookup.now (Received gs) root levels depth c.loop-up.begun c.begun_above-begun.result x old c.loop-up.out.items c.begin_next.new.out.items h next c.begun_above-begun.ensures in (
         λ k e. (let same : depth ≡ k = omega arith in let P : ℕ → Type 0 = λ d. AtOpen (Received gs) root levels d c.begun_above-begun.result (rebuilt (old ++ c.begin_next.new.out.items)) in subst P same closed),
         next.given,
       ),
@@ -42,7 +42,7 @@ returns-in-Waits-clause-stops c = λ gs root old start given.
     let many : suc depth + c.loop-up.up ≡ length levels = omega arith in
     let got : slice_get levels depth ≡ Some x = slice_get_read levels (length levels) depth x refl (omega arith) c.index-levels-depth.is in
     let h = at_level (Received gs) root levels depth c.loop-up.begun x (rebuilt (old ++ c.loop-up.out.items)) got (so.0 (suc depth) many) in
-    let next = rw c.in-Waits.is at (c.in_ok-next.ensures.begins gs root h.before old (level_stands (Received gs) root levels depth c.loop-up.begun x old c.loop-up.out.items h so.1)) in
+    let next = rw c.in-Waits.is at (c.in_ok-next.ensures.begins gs root h.before old (level_stands c.args.lookup.now (Received gs) root levels depth c.loop-up.begun x old c.loop-up.out.items h so.1)) in
     (x, h.before, got, h.leads, next)
 
 pub returns-in-Ended-clause-stops : goal.returns-in-Ended-clause-stops
@@ -54,7 +54,7 @@ returns-in-Ended-clause-stops c = λ gs root old start given.
     let many : suc depth + c.loop-up.up ≡ length levels = omega arith in
     let got : slice_get levels depth ≡ Some x = slice_get_read levels (length levels) depth x refl (omega arith) c.index-levels-depth.is in
     let h = at_level (Received gs) root levels depth c.loop-up.begun x (rebuilt (old ++ c.loop-up.out.items)) got (so.0 (suc depth) many) in
-    rw c.in-Ended.is at (c.in_ok-next.ensures.begins gs root h.before old (level_stands (Received gs) root levels depth c.loop-up.begun x old c.loop-up.out.items h so.1))
+    rw c.in-Ended.is at (c.in_ok-next.ensures.begins gs root h.before old (level_stands c.args.lookup.now (Received gs) root levels depth c.loop-up.begun x old c.loop-up.out.items h so.1))
 
 pub returns-clause-stops : goal.returns-clause-stops
 returns-clause-stops c = λ gs root old start given.

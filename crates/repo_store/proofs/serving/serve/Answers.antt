@@ -20,6 +20,9 @@ loop-turn-init g c = record {
       let now = seen (g.S.Shelf.store c.args.shelf.now) (g.S.Shelf.failed c.args.shelf.now) (g.W.Write.contents c.args.writer.now) in
       (nothing, Consumes-nil (g.R.Read.remaining c.args.reader.now), lit≤ tt, c.new-service.ensures now);
   honest = λ honest. honest;
+  few =
+      let none = (c.new-service.ensures (seen (g.S.Shelf.store c.args.shelf.now) (g.S.Shelf.failed c.args.shelf.now) (g.W.Write.contents c.args.writer.now))).has.count in
+      omega (arith, none);
   piece = c.in_ok-piece.ensures;
 }
 
@@ -39,7 +42,7 @@ returns-then-not-more-clause-serves g c honest =
     let left = g.R.Read.remaining c.take_piece.new.reader in
     let P : Bool → Type 0 = λ more. PieceGives input now i.0 (Ok more) left c.take_piece.new.service after in
     let e = subst P c.if-not-more.true (c.in_ok-more.ensures.next (c.loop-turn.invariant.honest honest) input now i.0 i.1 i.3) in
-    rw c.ok_or.ensures.value (finish_served c.finish.result input left now i.0 after e.0 e.1 (c.finish.ensures now after i.0 e.2))
+    rw c.ok_or.ensures.value (finish_served c.finish.result input left now i.0 after e.0 e.1 (c.finish.ensures.finishes now after i.0 e.2))
 
 pub loop-turn-preserved : goal.loop-turn-preserved
 loop-turn-preserved g c = record {
@@ -53,6 +56,7 @@ loop-turn-preserved g c = record {
       let e = subst P c.if-not-more.false (c.in_ok-more.ensures.next (c.loop-turn.invariant.honest honest) input now i.0 i.1 i.3) in
       (e.0, e.1, omega (arith, i.2, e.2), e.3);
   honest = λ honest. c.take_piece.ensures.honest (c.loop-turn.invariant.honest honest);
+  few = c.in_ok-more.ensures.few;
   piece = c.loop-turn.invariant.piece;
 }
 

@@ -1,4 +1,4 @@
-use Rattle.std.proofs.Common.{◌≡◌, ◌≤◌, length, vec_len}
+use Rattle.std.proofs.Common.{◌≡◌, ◌≤◌, ◌<◌, ◌^◌, length, vec_len}
 use Rattle.std.specs.Io.KnownBytes.{Consumes}
 use Rattle.repo_store.specs.Services.{Rests}
 use Rattle.repo_store.specs.Serving.{Past, seen, plain}
@@ -11,5 +11,6 @@ invariant-loop-turn g l = record {
       × Rests plain (seen (g.S.Shelf.store l.fn.shelf) (g.S.Shelf.failed l.fn.shelf) (g.W.Write.contents l.fn.writer)) l.service past
       (seen (g.S.Shelf.store l.shelf) (g.S.Shelf.failed l.shelf) (g.W.Write.contents l.writer));
   honest : g.S.Shelf.honest l.fn.shelf → g.S.Shelf.honest l.shelf;
+  few : l.service.answered < 2 ^ 32;
   piece : vec_len l.piece ≡ 65536;
 }

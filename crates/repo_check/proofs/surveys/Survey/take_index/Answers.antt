@@ -9,4 +9,4 @@ pub returns-clause-takes : goal.returns-clause-takes
 returns-clause-takes c = λ task token es w may h.
     let old = rounds_of c.args.self.now in
     let new : RoundsView = record { snapshots = old.snapshots; indexes = round_of c.take_index.new.round; packs = old.packs } in
-    indexes_got old new (walk_of c.args.self.now.walk) c.args.say.now c.in_ok-turn.turn c.after_indexes.result c.args.name c.in_ok-turn.ensures.takes refl refl c.after_indexes.ensures.after task token es w h
+    indexes_got old new (walk_of c.args.self.now.walk) c.args.say.now c.in_ok-turn.turn c.after_turn.result c.args.name c.in_ok-turn.ensures.takes refl refl c.after_turn.ensures.after task token es w h

@@ -9,4 +9,4 @@ pub returns-clause-takes : goal.returns-clause-takes
 returns-clause-takes c = λ after task token es w may h.
     let old = rounds_of c.args.self.now in
     let new : RoundsView = record { snapshots = old.snapshots; indexes = round_of c.take_page.new.self; packs = old.packs } in
-    indexes_page old new (walk_of c.args.self.now.walk) c.args.say.now c.in_ok-turn.turn c.after_indexes.result c.in_ok-turn.ensures.pages (ap (λ v. v.items) c.in_ok-turn.ensures.notes) refl refl c.after_indexes.ensures.after task token after es w may h
+    indexes_page old new (walk_of c.args.self.now.walk) c.args.say.now c.in_ok-turn.turn c.after_turn.result c.in_ok-turn.ensures.pages (ap (λ v. v.items) c.in_ok-turn.ensures.notes) refl refl c.after_turn.ensures.after task token after es w may h

@@ -17,4 +17,4 @@ returns-then-matches-clause-says g c =
     let has : c.has.result ≡ true = search rules in
     let may = c.has.ensures.0 has in
     let is = rw c.in-Ok-Some.field-0-is at c.in-Ok-Some.ensures.line in
-    inr (inr ((first, (subst (λ (l : Line). IsLine bytes l) only is, subst (λ (l : Line). MayStand c.args.grammar l) only may)), c.new-then-matches.ensures.bytes, c.in_ok-self.ensures))
+    inr (inr ((first, (subst (λ (l : Line). IsLine bytes l) only is, subst (λ (l : Line). MayStand c.args.grammar l) only may)), c.new-then-matches.ensures.bytes, c.in_ok-append_only.ensures))

@@ -5,8 +5,8 @@ use Rattle.repo_prog.proofs.LineLemmas.{last_line}
 use Rattle.repo_prog.proofs.TalkLemmas.{last_goes}
 use Rattle.repo_prog.proofs.talks.Talk.end_last_line.Goals as goal
 
-pub returns : goal.returns
-returns g c input start lines past r =
+pub returns-clause-ends : goal.returns-clause-ends
+returns-clause-ends g c input start lines past r =
     let line = c.args.self.now.line.items in
     let P : List ℕ → Type 0 = λ x. AreLines input lines x in
     let some : line ≡ [] → ⊥ = λ none.

@@ -4,7 +4,7 @@ use Rattle.repo_index.specs.IndexText.{IsIndexText}
 use Rattle.repo_index.specs.IndexWriting.{AreLawful, AreFew}
 use Rattle.repo_index.specs.declared.facts.PackFacts.{PackFacts}
 use Rattle.repo_prune.specs.Relisting.{AreListable}
-use Rattle.repo_prune.proofs.Relistings.{in_first, in_rest, take_behind, some_listable, listable_small, listable_lawful, listable_few}
+use Rattle.repo_prune.proofs.Relistings.{in_first, in_rest, take_behind, some_taken, some_listable, listable_small, listable_lawful, listable_few}
 use Rattle.repo_prune.proofs.relisting.Relisting.next.Goals as goal
 
 pub returns-clause-on : goal.returns-clause-on
@@ -34,6 +34,7 @@ returns-clause-on c = λ listable.
       waiting = take count (drop r.listed r.packs.items);
       text = put.0;
       reads = subst (λ ps. IsIndexText put.0 ps) (text_is ∙ ap (take count) rest_is) put.1;
+      some = some_taken (drop r.listed r.packs.items) count (λ none. c.cut-count.ensures.cut.some (λ empty. none (sym rest_is ∙ empty))) (omega (arith, left, below));
       short = put.2;
       behind = ap (take c.saturating_add-self.result) packs_same ∙ take_behind r.packs.items r.listed count c.saturating_add-self.result moved;
       puts = put.3;

@@ -9,9 +9,8 @@ use Rattle.repo_session.specs.Traces.{Each}
 use Rattle.repo_restore.specs.declared.nodes.Level.{Level}
 use Rattle.repo_session.specs.Received.{Received}
 use Rattle.repo_session.specs.Trees.{Under}
-use Rattle.repo_restore.specs.Restoring.{MayGive}
 use Rattle.repo_restore.specs.Walking.{WaitsByKind, StopsAt, Turns}
-use Rattle.repo_restore.specs.Walks.{AtOpen}
+use Rattle.repo_restore.specs.Walks.{AtOpen, WalkGives}
 use Rattle.repo_session.specs.Rebuilding.{rebuilt, Follow}
 use Rattle.repo_restore.specs.Flowing.{FlowsTo, TurnFlows}
 use Rattle.repo_restore.proofs.Passing.{path_is, entered}
@@ -28,7 +27,7 @@ returns-then-is_too_deep-clause-ok c = λ gs root fact old h k n t none.
     let D : List (List ℕ) → Type 0 = λ p. greatest_depth ≤ length p in
     let N : List Node → Type 0 = λ ns. ns ≢ [] in
     let U : Name → Type 0 = λ m. Under 1 (Received gs) root tree.0 m in
-    let E : List Emission → Type 0 = λ e. Each (MayGive 1 (Received gs) root) e in
+    let E : List Emission → Type 0 = λ e. Each (WalkGives c.args.lookup.now (Received gs) root) e in
     ((refl, (tree.0, subst U n tree.2, inl (inr (inl (c.args.nodes.items, t, subst N c.as_slice.ensures.value deep.1, subst D at deep.0))))), subst E (sym none) tt)
 
 pub returns-in-Ok-clause-ok : goal.returns-in-Ok-clause-ok
@@ -46,7 +45,7 @@ returns-in-Ok-clause-ok c = λ gs root fact old h k n t none.
     let same : c.as_slice-2.result.now ≡ levels ++ level ∷ [] = c.as_slice-2.ensures.value ∙ c.in_ok-push.ensures.items in
     let A : List Level → Type 0 = λ ls. AtOpen (Received gs) root ls (length ls) 0 (rebuilt (old ++ [])) in
     let O : List Emission → Type 0 = λ e. AtOpen (Received gs) root c.as_slice-2.result.now (length c.as_slice-2.result.now) 0 (rebuilt (old ++ e)) in
-    let E : List Emission → Type 0 = λ e. Each (MayGive 1 (Received gs) root) e in
+    let E : List Emission → Type 0 = λ e. Each (WalkGives c.args.lookup.now (Received gs) root) e in
     let stops = c.in-Ok.ensures.stops gs root old (subst O (sym none) (subst A (sym same) start)) (subst E (sym none) tt) in
     let out = c.go_on.new.out.items in
     let stop = c.in-Ok.stop in

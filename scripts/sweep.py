@@ -1,0 +1,193 @@
+#!/usr/bin/env python3
+"""Disturbs each step of each client in turn, in worlds that `vault play` plays, and looks at what is left.
+
+Usage: scripts/sweep.py [VAULT]
+
+Every world is a list of clients that run one after another. Before each step of each of them, once: the client stops for good;
+its lock is removed; or the device fails in that step, after its change, before it, or where it reads. The clients after it
+run on. Then all locks are removed, and a check has to be clean, and each snapshot that was reported as stored, and that no
+forget was asked to delete, has to be restored whole. What is printed has to stay the same where each request so far comes
+once more before the report, and where the store is closed and opened before each line, unless the device failed where it reads:
+a store that remembers reads at other steps.
+
+VAULT is the program; without it the one that `scripts/vault.sh` builds is run. Nothing is kept.
+"""
+import re
+import subprocess
+import sys
+from dataclasses import dataclass
+from pathlib import Path
+
+PROGRAM = Path(__file__).resolve().parents[1] / "crates/vault/out/vault"
+FAILURES = ("applied", "unapplied", "read")
+# More steps than a client of these worlds takes.
+MANY = 100
+
+
+@dataclass
+class Client:
+    """A client: the lines that start it, how many entries it is handed, the clients whose snapshots it names, and those that it
+    may delete."""
+
+    lines: list
+    entries: int = 0
+    names: tuple = ()
+    forgets: tuple = ()
+
+
+def backup(host, time, *entries):
+    return Client([*entries, f"start backup {host} {time}"], entries=len(entries))
+
+
+def forget(*clients):
+    return Client(["start forget " + " ".join(map(str, clients))], names=clients, forgets=clients)
+
+
+def restore(client):
+    return Client([f"start restore {client}"], names=(client,))
+
+
+PRUNE, CHECK, LIST = Client(["start prune"]), Client(["start check"]), Client(["start list"])
+
+WORLDS = {
+    "two hosts with one file": [backup("a", 1, "file x 616263"), backup("b", 2, "file x 616263"), LIST],
+    "a pack that is thinned out": [
+        backup("a", 1, "file x 61", "file y 62"),
+        backup("a", 2, "file x 61"),
+        forget(0),
+        PRUNE,
+        backup("b", 3, "file y 62"),
+    ],
+    "a pack that is pruned and made again": [backup("a", 1, "file x 616263"), forget(0), PRUNE, backup("b", 2, "file x 616263"), CHECK],
+    "directories that are restored": [
+        backup("a", 1, "dir d", "file d/x 616263", "file d/y -", "dir e"),
+        backup("b", 2, "dir d", "file d/x 616263"),
+        restore(0),
+        Client(["start keep 1 1"], forgets=(0, 1)),
+        PRUNE,
+    ],
+}
+
+
+def play(program, lines):
+    """What a script prints, a line each."""
+    text = "".join(line + "\n" for line in lines)
+    run = subprocess.run([program, "play"], input=text, capture_output=True, text=True, timeout=120)
+    if run.returncode != 0:
+        sys.exit(f"status {run.returncode}, {run.stderr.strip()}, of\n{text}")
+    return run.stdout.splitlines()
+
+
+def told_of(printed, client):
+    """What the report tells of a client."""
+    for line in printed:
+        found = re.fullmatch(rf"client {client} \S+ (.*)", line)
+        if found:
+            return found[1]
+    return None
+
+
+def is_stored(printed, client):
+    return (told_of(printed, client) or "").startswith("stored ")
+
+
+def lines_before(world, client):
+    """All that runs before a client's first step."""
+    lines = []
+    for number, earlier in enumerate(world[:client]):
+        lines += [*earlier.lines, f"finish {number}"]
+    return lines + world[client].lines
+
+
+def goes_on(program, world, lines, client):
+    """The world and its lines when the clients after a disturbed one ran. One that names a snapshot which isn't stored lists
+    in its place."""
+    world = list(world)
+    for number in range(client + 1, len(world)):
+        printed = play(program, [*lines, "report"])
+        if not all(is_stored(printed, named) for named in world[number].names):
+            world[number] = LIST
+        lines = [*lines, *world[number].lines, f"finish {number}"]
+    return world, lines
+
+
+def steps_of(program, world, client):
+    """How many steps a client takes that nothing disturbs."""
+    for steps in range(MANY):
+        printed = play(program, [*lines_before(world, client), *[f"step {client}"] * steps, "report"])
+        if told_of(printed, client) != "running":
+            return steps
+    sys.exit("a client takes too many steps")
+
+
+def disturbances(client, steps):
+    """Each way to disturb a client before a step, by name."""
+    before = [f"step {client}"] * steps
+    yield "stops", [*before, f"crash {client}"]
+    yield "loses its lock", [*before, f"unlock {client + 1}", f"finish {client}"]
+    for failure in FAILURES:
+        yield f"has a device that fails {failure}", [*before, f"fault {client} {failure}", f"finish {client}"]
+
+
+def stored(world, printed):
+    """The backups that were reported as stored, and of which no forget was asked to delete the snapshot."""
+    forgotten = {number for client in world for number in client.forgets}
+    for number, client in enumerate(world):
+        if number not in forgotten and is_stored(printed, number):
+            yield number, client.entries
+
+
+def ending(world, kept):
+    """All locks are removed; a check; and a restore of each snapshot that has to be there."""
+    checker = len(world)
+    lines = [f"unlock {token}" for token in range(1, len(world) + 1)] + ["start check", f"finish {checker}"]
+    for place, (number, _) in enumerate(kept):
+        lines += [f"start restore {number}", f"finish {checker + 1 + place}"]
+    return lines
+
+
+def faults_of(world, kept, printed):
+    """What isn't as it has to be."""
+    checker = len(world)
+    if not (told_of(printed, checker) or "").startswith("clean "):
+        yield f"check {told_of(printed, checker)}"
+    for place, (number, entries) in enumerate(kept):
+        if told_of(printed, checker + 1 + place) != f"complete {entries}":
+            yield f"restore of client {number}'s snapshot {told_of(printed, checker + 1 + place)}"
+
+
+def look_at(program, world, lines, reads):
+    """Plays on to the end, and tells what isn't as it has to be."""
+    kept = list(stored(world, play(program, [*lines, "report"])))
+    whole = [*lines, *ending(world, kept)]
+    printed = play(program, [*whole, "report"])
+    yield from faults_of(world, kept, printed)
+    if play(program, [*whole, "replay", "report"]) != printed:
+        yield "another report when all requests come once more"
+    opened = [each for line in whole for each in ("restart", line)]
+    if not reads and play(program, [*opened, "report"]) != printed:
+        yield "another report when the store is opened before each line"
+
+
+def sweep(program, name, world):
+    """Tries each disturbance of a world, and counts those after which something isn't as it has to be."""
+    tried = wrong = 0
+    for client in range(len(world)):
+        for steps in range(steps_of(program, world, client) + 1):
+            for what, lines in disturbances(client, steps):
+                tried += 1
+                ran, whole = goes_on(program, world, [*lines_before(world, client), *lines], client)
+                for fault in look_at(program, ran, whole, what.endswith("read")):
+                    wrong += 1
+                    print(f"{name}: client {client} {what} after {steps} steps: {fault}")
+    print(f"{name}: {tried} tried, {wrong} wrong")
+    return wrong
+
+
+def main():
+    program = Path(sys.argv[1]).resolve() if len(sys.argv) > 1 else PROGRAM
+    sys.exit(1 if sum(sweep(program, name, world) for name, world in WORLDS.items()) else 0)
+
+
+if __name__ == "__main__":
+    main()
