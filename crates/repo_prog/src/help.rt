@@ -58,7 +58,7 @@ Example:
 
 Exit status:
   0  the store is made, and its instance printed
-  1  it isn't, and standard error says why; what was in the folder stays as it was
+  1  standard error says why. With `write failed` it may be made; else what was in the folder stays as it was
   2  the words make no command, or a number is outside its limits";
 
 /// Below the help of `vault serve`.
@@ -88,7 +88,7 @@ Example:
 
 Exit status:
   0  the snapshot is stored
-  1  it isn't, and standard error says why
+  1  it ended before it could say so, and standard error says why; at its very end the snapshot may be stored
   2  the words make no command
   3  the snapshot is stored, without the entries that standard error names";
 
@@ -118,7 +118,7 @@ where NAME is the 64 digits that `backup` and `snapshots` print.
 
 Exit status:
   0  all of the snapshot is restored
-  1  it isn't, and standard error says why; what was written so far stays
+  1  it ended before, and standard error says why; what was written so far stays
   2  the words make no command, or NAME is no name";
 
 /// Below the help of `vault forget`.
@@ -155,7 +155,7 @@ Example:
 
 Exit status:
   0  it is done; printed is how many packs are deleted, and how many bytes of blobs are in new ones
-  1  it isn't, and standard error says why
+  1  it ended before, and standard error says why
   2  the words make no command";
 
 /// Below the help of `vault check`.
@@ -199,7 +199,7 @@ Example:
 
 Exit status:
   0  the lock has this moment as its time
-  1  it hasn't, and standard error says why
+  1  the store didn't say so, and standard error says why
   2  the words make no command";
 
 /// Below the help of `vault unlock`.
