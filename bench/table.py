@@ -3,13 +3,14 @@
 
 Usage: bench/table.py NAME=FILE [NAME=FILE..]. Each FILE is what one run printed, and NAME what vault was built for.
 
-A row is a step of one run: vault's seconds of processors, client and server together, divided by restic's of that very run; then
-those seconds, client + server, and those of restic and borg; then the seconds of the clock of each; then the MiB that each took at
-most, client + server. A list is left out: it takes vault nothing that the clock shows.
+A row is a step. Of each run it has vault's seconds of processors, client and server together, divided by restic's in that very run,
+and then the two: client + server, and restic's. Behind them, of the first run: borg's seconds of processors, the seconds of the
+clock of each program, and the MiB that vault took at most. A list is left out: it takes vault nothing that the clock shows.
 """
 import sys
 
-ROW = "| {} | {} | {} | {} | {} | {} | {} | {} | {} | {} | {} | {} |"
+PROGRAMS = ("vault", "restic", "borg")
+RATIO, CLOCK, PROCESSORS, MEMORY = range(4)
 
 
 def steps(path):
@@ -18,23 +19,31 @@ def steps(path):
     with open(path, encoding="utf-8") as lines:
         for line in lines:
             fields = [field.strip() for field in line.strip().strip("|").split("|")]
-            if len(fields) == 7 and fields[1] in ("restic", "vault", "borg"):
+            if len(fields) == 7 and fields[1] in PROGRAMS:
                 found.setdefault(fields[0], {})[fields[1]] = fields[2:]
     return found
 
 
-def main(runs):
-    heads = ("Step", "Built for", "of restic", "vault: client + server", "restic", "borg", "clock: vault", "restic", "borg", "MiB: vault", "restic", "borg")
-    print(ROW.format(*heads))
-    print("|" + "---|" * len(heads))
-    runs = [(name, steps(path)) for name, _, path in (run.partition("=") for run in runs)]
-    for step in runs[0][1]:
+def row(cells):
+    print("| " + " | ".join(cells) + " |")
+
+
+def main(arguments):
+    names, paths = zip(*(argument.split("=", 1) for argument in arguments))
+    runs = [steps(path) for path in paths]
+    heads = ["Step"]
+    for name in names:
+        heads += [f"{name}, of restic", f"vault {name}", "restic"]
+    row([*heads, "borg", "clock: vault", "restic", "borg", "MiB: vault"])
+    print("|---" * (len(heads) + 5) + "|")
+    for step, first in runs[0].items():
         if step.endswith(": list"):
             continue
-        for name, run in runs:
-            vault, restic, borg = (run[step][program] for program in ("vault", "restic", "borg"))
-            cells = [each[field] for field in (2, 1, 3) for each in (vault, restic, borg)]
-            print(ROW.format(step, name, vault[0], *cells))
+        cells = [step]
+        for run in runs:
+            cells += [run[step]["vault"][RATIO], run[step]["vault"][PROCESSORS], run[step]["restic"][PROCESSORS]]
+        cells += [first["borg"][PROCESSORS], *(first[program][CLOCK] for program in PROGRAMS), first["vault"][MEMORY]]
+        row(cells)
 
 
 main(sys.argv[1:])
