@@ -1,5 +1,5 @@
 -- The lines that the commands of clients write.
-use Rattle.std.specs.Prelude.{◌≡◌, ◌⊎◌, ◌++◌, ℕ, Bool, true, false, List, codes, decimal, Option, Some, None}
+use Rattle.std.specs.Prelude.{◌≡◌, ◌++◌, ℕ, Bool, true, false, List, codes, decimal, Option, Some, None}
 use Rattle.std.specs.Io.KnownBytes.{Appends}
 use Rattle.std.specs.List.{flat_map}
 use Rattle.repo_name.specs.Naming.{hex_of}
@@ -90,13 +90,6 @@ Shows text Status.Done start contents = Appends start contents text
 Shows text Status.Failed start contents = AppendsPart start contents text
 Shows text Status.Flawed start contents = ⊥
 Shows text Status.Usage start contents = ⊥
-
--- what a status says of lines that were to be made: done, they were written; failed, nothing was, or some first part of them
-abbrev pub ShowsAtMost : List ℕ → Status → Option (List ℕ) → Option (List ℕ) → Type 0
-ShowsAtMost lines Status.Done start contents = Appends start contents lines
-ShowsAtMost lines Status.Failed start contents = (contents ≡ start) ⊎ AppendsPart start contents lines
-ShowsAtMost lines Status.Flawed start contents = ⊥
-ShowsAtMost lines Status.Usage start contents = ⊥
 
 -- what a status says of a text that there may be: where there is none it failed, and nothing was written
 abbrev pub TellsIfThere : Option (List ℕ) → Status → Option (List ℕ) → Option (List ℕ) → Type 0

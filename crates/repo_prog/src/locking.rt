@@ -11,7 +11,7 @@ ghost use Rattle.repo_prog.specs.declared.status.Status.{Status};
 
 use crate::callers::Caller;
 use crate::status::{Status, failed};
-use crate::telling::{lock_lines, removed_line, show, unwelcome};
+use crate::telling::{lock_lines, removed_line, show, show_made, unwelcome};
 use repo_locks::stale;
 use repo_name::{LockRow, Token};
 use repo_session::{DriveError, ask};
@@ -33,10 +33,7 @@ fn show_locks<O: Write, F: Write>(
     let Say::LockList(rows) = say else {
         return unwelcome(say, faults);
     };
-    match lock_lines(alloc, rows.as_slice()) {
-        Ok(lines) => show(lines.as_str(), output, faults),
-        Err(_) => failed(faults, &DriveError::Memory),
-    }
+    show_made(lock_lines(alloc, rows.as_slice()), output, faults)
 }
 
 /// `vault locks`: lists the live locks, a line each.
@@ -115,10 +112,7 @@ fn show_removal<O: Write, F: Write>(
     ensures status { IsEnd result }
 {
     match say {
-        Say::Done => match removed_line(alloc, token) {
-            Ok(line) => show(line.as_str(), output, faults),
-            Err(_) => failed(faults, &DriveError::Memory),
-        },
+        Say::Done => show_made(removed_line(alloc, token), output, faults),
         _ => unwelcome(say, faults),
     }
 }

@@ -2,7 +2,7 @@
 
 ghost use Rattle.std.specs.Prelude.{◌≡◌, ℕ, List, IfOk, string_bytes};
 ghost use Rattle.repo_prog.specs.Commands.{IsEnd};
-ghost use Rattle.repo_prog.specs.Tellings.{lock_word, lock_line, lock_lines, snapshot_line, snapshot_lines, stored_line, complete_line, forgotten_line, forgotten_lines, pruned_line, clean_line, fault_word, fault_line, fault_lines, removed_line, Shows, ShowsAtMost};
+ghost use Rattle.repo_prog.specs.Tellings.{lock_word, lock_line, lock_lines, snapshot_line, snapshot_lines, stored_line, complete_line, forgotten_line, forgotten_lines, pruned_line, clean_line, fault_word, fault_line, fault_lines, removed_line, Shows};
 ghost use Rattle.repo_prog.specs.declared.status.Status.{Status};
 
 use crate::status::{Status, failed};
@@ -179,7 +179,7 @@ pub fn show_made<O: Write, F: Write>(
     output: &mut O,
     faults: &mut F,
 ) -> Status
-    ensures shows { (lines : List ℕ) → IfOk made (λ text. string_bytes text ≡ lines) → ShowsAtMost lines result (O.contents output.old) (O.contents output.new) }
+    ensures shows { (lines : List ℕ) → IfOk made (λ text. string_bytes text ≡ lines) → Shows lines result (O.contents output.old) (O.contents output.new) }
     ensures silent { result ≡ Status.Done → faults.new ≡ faults.old }
     ensures status { IsEnd result }
 {
