@@ -58,6 +58,15 @@ fn stopped(rt: HostRuntime, root: &str, calls: u64) -> u64 {
     }
 }
 
+/// How many calls opening makes.
+pub(crate) fn calls_of_opening(rt: HostRuntime, root: &str) -> u64 {
+    let fuse = Fuse::new(rt.alloc(), ENDLESS);
+    match DirShelf::open(Cut::new(rt, &fuse), root) {
+        Ok(_) => fuse.steps().len() as u64,
+        Err(_) => ENDLESS,
+    }
+}
+
 /// Makes a shelf, whose syncs aren't made.
 pub(crate) fn made(rt: HostRuntime, root: &str, calls: u64) -> bool {
     let fuse = Fuse::new(rt.alloc(), calls);
@@ -204,16 +213,19 @@ impl Yard {
         acknowledged
     }
 
-    /// It stops after each number of calls, until all changes are acknowledged: six of some calls each.
+    /// It stops after each number of calls, until all changes are acknowledged: six of some calls each. The calls by
+    /// which it opens are alike, so of these a few are tried.
     fn stops_everywhere(&mut self) {
+        let opening = calls_of_opening(self.rt, self.root.as_str());
         let (mut acknowledged, mut last) = (0u64, 0u64);
         for calls in 0..1000u64 {
-            if acknowledged < CHANGES {
+            let is_tried = calls % 128 == 0 || calls.saturating_add(3) > opening;
+            if acknowledged < CHANGES && is_tried {
                 acknowledged = self.stops_after(calls);
                 last = calls;
             }
         }
-        self.count(acknowledged == CHANGES && last > 30);
+        self.count(acknowledged == CHANGES && last > opening.saturating_add(30));
     }
 }
 

@@ -4,8 +4,8 @@ use crate::fuses::{Fuse, Trick, What};
 use repo_files::HoldFile;
 use std::alloc::{Allocator, Global};
 use std::fs::{File, Files, Metadata, OpenFile, OpenOptions};
-use std::io;
 use std::io::{ErrorKind, Read, Seek, SeekFrom, Write};
+use std::{fs, io};
 
 /// A file system that passes calls on until its fuse has burnt down.
 #[derive(Clone, Drop)]
@@ -18,6 +18,11 @@ impl<'a> Cut<'a> {
     /// This file system, until the fuse has burnt down.
     pub(crate) fn new(inner: HostRuntime, fuse: &'a Fuse) -> Cut<'a> {
         Cut { inner, fuse }
+    }
+
+    /// Keeps what has a name before it changes.
+    fn keep(&self, path: &str) -> io::Result<()> {
+        self.fuse.keep(path, fs::read(&self.inner, path).ok())
     }
 }
 
@@ -153,11 +158,13 @@ impl<'a> Files for Cut<'a> {
     fn rename(&self, from: &str, to: &str) -> io::Result<()> {
         self.fuse.burn(What::Come, to)?;
         self.fuse.note(What::Leave, from)?;
+        self.keep(to)?;
         self.inner.rename(from, to)
     }
 
     fn remove_file(&self, path: &str) -> io::Result<()> {
         self.fuse.burn(What::Remove, path)?;
+        self.keep(path)?;
         self.inner.remove_file(path)
     }
 

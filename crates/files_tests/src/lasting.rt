@@ -6,7 +6,7 @@ use crate::fuses::{Fuse, Step, What};
 use crate::shelves::number;
 use crate::yards::Yard;
 use repo_files::DirShelf;
-use repo_name::{Kind, Token, name_of};
+use repo_name::Token;
 use repo_store::Shelf;
 use std::panic::Expect;
 use std::{fs, io};
@@ -59,11 +59,6 @@ impl Yard {
         self.count(last(steps));
     }
 
-    /// A folder is synced in these steps.
-    fn syncs(&mut self, steps: &[Step], path: &str) {
-        self.count(is_synced(steps, path));
-    }
-
     /// A change of a shelf is acknowledged, and on the disk.
     fn changes<S: Shelf>(&mut self, shelf: &mut S, fuse: &Fuse, which: u64) {
         let is_changed = change(shelf, which).is_ok();
@@ -71,23 +66,6 @@ impl Yard {
         let steps = fuse.steps();
         self.lasts(steps.as_slice());
         self.count(steps.iter().any(|step| step.what == What::Sync));
-    }
-
-    /// A put of an index syncs this folder, and so does its removal.
-    fn puts_and_removes<S: Shelf>(&mut self, shelf: &mut S, fuse: &Fuse, folder: &str) {
-        let name = name_of(b"abc");
-        let is_put = shelf.put(Kind::Index, &name, b"abc").is_ok();
-        self.count(is_put);
-        self.syncs(fuse.steps().as_slice(), folder);
-        let is_put = shelf.put(Kind::Index, &name, b"abc").is_ok();
-        self.count(is_put);
-        self.syncs(fuse.steps().as_slice(), folder);
-        let is_removed = shelf.remove(Kind::Index, &name).is_ok();
-        self.count(is_removed);
-        self.syncs(fuse.steps().as_slice(), folder);
-        let is_removed = shelf.remove(Kind::Index, &name).is_ok();
-        self.count(is_removed);
-        self.syncs(fuse.steps().as_slice(), folder);
     }
 }
 
@@ -171,23 +149,5 @@ fn what_is_acknowledged_is_on_the_disk(rt: HostRuntime) {
     let mut yard = Yard::new(rt, "lasting").expect(&rt, "no folder");
     let root = yard.place("above/shelf");
     try_changes(&mut yard, root.as_str());
-    yard.end(&rt);
-}
-
-/// Puts, and removals, each twice.
-fn try_twice(yard: &mut Yard, root: &str, folder: &str) {
-    let fuse = Fuse::new(yard.rt.alloc(), ENDLESS);
-    let Ok(mut shelf) = DirShelf::create(Cut::new(yard.rt, &fuse), root) else {
-        return yard.count(false);
-    };
-    let _ = fuse.steps();
-    yard.puts_and_removes(&mut shelf, &fuse, folder);
-}
-
-#[test]
-fn a_second_try_syncs_what_a_first_one_left(rt: HostRuntime) {
-    let mut yard = Yard::new(rt, "second").expect(&rt, "no folder");
-    let (root, folder) = (yard.place("shelf"), yard.place("shelf/index"));
-    try_twice(&mut yard, root.as_str(), folder.as_str());
     yard.end(&rt);
 }

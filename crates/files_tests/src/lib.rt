@@ -49,4 +49,6 @@ mod sockets;
 #[cfg(test)]
 mod texts;
 #[cfg(test)]
+mod undoing;
+#[cfg(test)]
 mod yards;

@@ -6,7 +6,8 @@ ghost use Rattle.repo_store.specs.Slices.{HasLength};
 
 use crate::folders::{Folder, Paths};
 use crate::holding::HoldFile;
-use crate::own_names::{CONFIG, FOLDERS, INDEXES, LEDGER, PACKS, SNAPSHOTS};
+use crate::lasting::pack_folder;
+use crate::own_names::{CONFIG, FOLDERS, INDEXES, LEDGER, SNAPSHOTS};
 use repo_locks::{Ledger, LedgerError};
 use repo_name::{Bytes, Kind, Name, Names};
 use repo_store::{Page, Shelf, ShelfError, Slice};
@@ -18,6 +19,11 @@ use std::io::ErrorKind;
 /// A shelf that keeps a store in a folder. It holds the folder until it is dropped: no other shelf is opened
 /// there meanwhile, by this program or another.
 ///
+/// **No call answers from what may still be undone.** A name that was made, replaced or removed is seen at once,
+/// and lasts only once its folder was synced. So all its folders are synced when it is opened, before the first
+/// call; and after a change that failed, which may be there and not last, each call syncs all of them before
+/// anything else, and is a `Fault` where that fails.
+///
 /// Nothing is proved of what its files hold: it is never claimed to be honest, so what is proved over
 /// honest shelves takes the machine's honesty as a premise.
 #[derive(Drop)]
@@ -26,6 +32,8 @@ pub struct DirShelf<R: Files> {
     folder: Folder<R>,
     /// The file by which the folder is held.
     held: R::File,
+    /// Whether all that a reading call sees lasts.
+    is_lasting: bool,
     failures: u64,
 }
 
@@ -55,21 +63,23 @@ impl<R: Files + AllocGlobal + Clone + Drop> DirShelf<R> {
         }
         folder.make_whole()?;
         let held = folder.hold()?;
-        let shelf = DirShelf {
+        make_folders(&folder)?;
+        folder.make_lasting()?;
+        begin_ledger(&folder)?;
+        Ok(DirShelf {
             rt,
             folder,
             held,
+            is_lasting: true,
             failures: 0,
-        };
-        shelf.make_folders()?;
-        shelf.begin_ledger()?;
-        Ok(shelf)
+        })
     }
 
     /// The shelf in the folder of this path, which has to be a store: its config or its ledger is there. Else
     /// the error is of the kind `NotFound`; where another shelf holds the folder, of the kind `WouldBlock`.
     /// Nothing but the file by which it is held is made, and nothing is removed: where there is no ledger, each
-    /// call that reads it fails.
+    /// call that reads it fails. All that is there lasts then: where a folder of the store can't be synced, that
+    /// error is told.
     /// It counts no failure yet.
     pub fn open(rt: R, root: &str) -> io::Result<DirShelf<R>>
     where
@@ -81,10 +91,12 @@ impl<R: Files + AllocGlobal + Clone + Drop> DirShelf<R> {
             return Err(io::Error::from(ErrorKind::NotFound));
         }
         let held = folder.hold()?;
+        folder.make_lasting()?;
         Ok(DirShelf {
             rt,
             folder,
             held,
+            is_lasting: true,
             failures: 0,
         })
     }
@@ -95,59 +107,53 @@ impl<R: Files + AllocGlobal + Clone + Drop> DirShelf<R> {
         self.folder.clean();
     }
 
-    /// Makes its folders where they aren't there, so that they last.
-    fn make_folders(&self) -> io::Result<()> {
-        for below in FOLDERS {
-            self.folder.make(below)?;
-        }
-        for first in 0..=255u8 {
-            self.folder
-                .make(pack_folder(self.rt.alloc(), first)?.as_str())?;
-        }
-        self.folder.sync(PACKS)?;
-        self.folder.sync("")
-    }
-
-    /// Keeps a fresh ledger where there is none.
-    fn begin_ledger(&self) -> io::Result<()> {
-        if self.folder.read("", LEDGER)?.is_some() {
-            return Ok(());
-        }
-        let bytes = Ledger::new(self.rt.alloc()).write()?;
-        let paths = Paths::of(&self.folder, "", LEDGER)?;
-        self.folder.write(&paths, bytes.as_slice())
-    }
-
     /// Counts a failure of the device.
     fn fault(&mut self) -> ShelfError {
         self.failures = self.failures.saturating_add(1);
         ShelfError::Fault
     }
 
-    /// Why a reading call failed.
-    fn unread(&mut self, error: &io::Error) -> ShelfError {
+    /// Why a call failed that changed nothing.
+    fn unmade(&mut self, error: &io::Error) -> ShelfError {
         if error.kind() == ErrorKind::OutOfMemory {
             return ShelfError::Memory;
         }
         self.fault()
     }
 
-    /// Writes a file whole. Want of memory is told where the paths can't be made, and nothing was done.
-    fn keep(&mut self, below: &str, name: &str, bytes: &[u8]) -> Result<(), ShelfError> {
-        let paths = Paths::of(&self.folder, below, name)?;
-        match self.folder.write(&paths, bytes) {
+    /// Makes sure that all that is there lasts, before a call looks or changes anything: a change before may have
+    /// failed between its making and the sync of its folder.
+    fn settle(&mut self) -> Result<(), ShelfError> {
+        if self.is_lasting {
+            return Ok(());
+        }
+        match self.folder.make_lasting() {
+            Ok(()) => {
+                self.is_lasting = true;
+                Ok(())
+            }
+            Err(error) => Err(self.unmade(&error)),
+        }
+    }
+
+    /// Takes what came of a change, which lasts where it came to its end.
+    fn changed(&mut self, made: io::Result<()>) -> Result<(), ShelfError> {
+        self.is_lasting = made.is_ok();
+        match made {
             Ok(()) => Ok(()),
             Err(_) => Err(self.fault()),
         }
     }
 
-    /// Makes sure that a file that is in a folder lasts: a put before may have ended between its rename
-    /// and the sync of the folder.
-    fn hold(&mut self, below: &str) -> Result<(), ShelfError> {
-        match self.folder.sync(below) {
-            Ok(()) => Ok(()),
-            Err(error) => Err(self.unread(&error)),
+    /// Writes a file whole. Where it can't be written, or its folder can't be synced, that is a failure. Want of
+    /// memory is told where it comes before the file has its name, and nothing was done.
+    fn keep(&mut self, below: &str, name: &str, bytes: &[u8]) -> Result<(), ShelfError> {
+        let paths = Paths::of(&self.folder, below, name)?;
+        if let Err(error) = self.folder.draft(&paths, bytes) {
+            return Err(self.unmade(&error));
         }
+        let made = self.folder.place(&paths);
+        self.changed(made)
     }
 
     /// Reads a file whole, if it is there.
@@ -155,7 +161,7 @@ impl<R: Files + AllocGlobal + Clone + Drop> DirShelf<R> {
         match self.folder.read(below, name) {
             Ok(None) => Ok(None),
             Ok(Some(bytes)) => Ok(Some(Bytes::of(bytes))),
-            Err(error) => Err(self.unread(&error)),
+            Err(error) => Err(self.unmade(&error)),
         }
     }
 
@@ -209,13 +215,26 @@ impl<R: Files + AllocGlobal + Clone + Drop> DirShelf<R> {
     }
 }
 
-/// The folder of the packs whose names begin with this byte.
-fn pack_folder(alloc: Global, first: u8) -> Result<String, AllocError> {
-    let digits = hex::encode(alloc, &[first])?;
-    let mut below = String::from_str(alloc, PACKS)?;
-    below.push('/')?;
-    below.push_str(digits.as_str())?;
-    Ok(below)
+/// Makes the folders of a store where they aren't there.
+fn make_folders<R: Files + AllocGlobal + Clone + Drop>(folder: &Folder<R>) -> io::Result<()> {
+    for below in FOLDERS {
+        folder.make(below)?;
+    }
+    for first in 0..=255u8 {
+        folder.make(pack_folder(folder.rt.alloc(), first)?.as_str())?;
+    }
+    Ok(())
+}
+
+/// Keeps a fresh ledger where there is none.
+fn begin_ledger<R: Files + AllocGlobal + Clone + Drop>(folder: &Folder<R>) -> io::Result<()> {
+    if folder.read("", LEDGER)?.is_some() {
+        return Ok(());
+    }
+    let bytes = Ledger::new(folder.rt.alloc()).write()?;
+    let paths = Paths::of(folder, "", LEDGER)?;
+    folder.draft(&paths, bytes.as_slice())?;
+    folder.place(&paths)
 }
 
 impl<R: Files + AllocGlobal + Clone + Drop> Shelf for DirShelf<R> {
@@ -235,37 +254,43 @@ impl<R: Files + AllocGlobal + Clone + Drop> Shelf for DirShelf<R> {
     ghost honest = { λ _. ⊥ };
 
     fn get(&mut self, kind: Kind, name: &Name) -> Result<Option<Bytes>, ShelfError> {
+        self.settle()?;
         let (below, file) = self.place(kind, name)?;
         self.whole(below.as_str(), file.as_str())
     }
 
     fn range(&mut self, pack: &Name, offset: u32, length: u32) -> Result<Slice, ShelfError> {
+        self.settle()?;
         let (below, file) = self.place(Kind::Pack, pack)?;
         match self
             .folder
             .read_part(below.as_str(), file.as_str(), offset, length)
         {
             Ok(slice) => Ok(slice),
-            Err(error) => Err(self.unread(&error)),
+            Err(error) => Err(self.unmade(&error)),
         }
     }
 
     fn put(&mut self, kind: Kind, name: &Name, bytes: &[u8]) -> Result<(), ShelfError> {
+        let had_failed = !self.is_lasting;
+        self.settle()?;
         let (below, file) = self.place(kind, name)?;
-        match self.folder.has(below.as_str(), file.as_str()) {
-            Ok(true) => self.hold(below.as_str()),
-            Ok(false) => self.keep(below.as_str(), file.as_str(), bytes),
-            Err(error) => Err(self.unread(&error)),
+        let is_there = match self.folder.has(below.as_str(), file.as_str()) {
+            Ok(is_there) => is_there,
+            Err(error) => return Err(self.unmade(&error)),
+        };
+        if is_there && !had_failed {
+            return Ok(());
         }
+        self.keep(below.as_str(), file.as_str(), bytes)
     }
 
     fn remove(&mut self, kind: Kind, name: &Name) -> Result<(), ShelfError> {
+        self.settle()?;
         let (below, file) = self.place(kind, name)?;
         let paths = Paths::of(&self.folder, below.as_str(), file.as_str())?;
-        match self.folder.remove(&paths) {
-            Ok(()) => Ok(()),
-            Err(_) => Err(self.fault()),
-        }
+        let made = self.folder.remove(&paths);
+        self.changed(made)
     }
 
     fn names_after(
@@ -274,9 +299,10 @@ impl<R: Files + AllocGlobal + Clone + Drop> Shelf for DirShelf<R> {
         after: Option<&Name>,
         limit: usize,
     ) -> Result<Page, ShelfError> {
+        self.settle()?;
         let mut names = match self.names_above(kind, after, limit) {
             Ok(names) => names,
-            Err(error) => return Err(self.unread(&error)),
+            Err(error) => return Err(self.unmade(&error)),
         };
         let more = names.len() > limit;
         names.truncate(limit);
@@ -287,6 +313,7 @@ impl<R: Files + AllocGlobal + Clone + Drop> Shelf for DirShelf<R> {
     }
 
     fn ledger(&mut self) -> Result<Ledger, ShelfError> {
+        self.settle()?;
         let Some(bytes) = self.whole("", LEDGER)? else {
             return Err(self.fault());
         };
@@ -298,15 +325,18 @@ impl<R: Files + AllocGlobal + Clone + Drop> Shelf for DirShelf<R> {
     }
 
     fn save_ledger(&mut self, ledger: &Ledger) -> Result<(), ShelfError> {
+        self.settle()?;
         let bytes = ledger.write()?;
         self.keep("", LEDGER, bytes.as_slice())
     }
 
     fn config(&mut self) -> Result<Option<Bytes>, ShelfError> {
+        self.settle()?;
         self.whole("", CONFIG)
     }
 
     fn save_config(&mut self, bytes: &[u8]) -> Result<(), ShelfError> {
+        self.settle()?;
         self.keep("", CONFIG, bytes)
     }
 

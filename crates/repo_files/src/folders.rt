@@ -86,12 +86,6 @@ impl<R: Files + AllocGlobal + Clone + Drop> Folder<R> {
         }
     }
 
-    /// Syncs the folder of this path in it, so that the names in it last.
-    pub fn sync(&self, below: &str) -> io::Result<()> {
-        let path = self.path(below, "")?;
-        sync_at(&self.rt, path.as_str())
-    }
-
     /// Removes the files whose writing was cut off, as far as that can be done. They do no harm.
     pub fn clean(&self) {
         let Ok(path) = self.path(TEMPORARY, "") else {
@@ -145,30 +139,40 @@ impl<R: Files + AllocGlobal + Clone + Drop> Folder<R> {
         fs::exists(&self.rt, path.as_str())
     }
 
-    /// Writes a file whole: at its temporary path, synced, and then renamed into its place, whose folder
-    /// is synced. Where it can't be written, what there is of it is removed, as far as that can be done.
-    pub fn write(&self, paths: &Paths, bytes: &[u8]) -> io::Result<()> {
-        if let Err(error) = self.settle(paths, bytes) {
+    /// Writes a file whole at its temporary path, and syncs it. Where that fails, what there is of it is removed,
+    /// as far as that can be done, and nothing else was changed.
+    pub fn draft(&self, paths: &Paths, bytes: &[u8]) -> io::Result<()> {
+        let written = self.write_at(paths.temporary.as_str(), bytes);
+        if written.is_err() {
+            let _ = fs::remove_file(&self.rt, paths.temporary.as_str());
+        }
+        written
+    }
+
+    /// Writes a new file at this path, and syncs it.
+    fn write_at(&self, path: &str, bytes: &[u8]) -> io::Result<()> {
+        let mut file = fs::create(&self.rt, path)?;
+        file.write_all(bytes)?;
+        file.sync_all()
+    }
+
+    /// Renames a file from its temporary path into its place, and syncs its folder. Where the rename fails, what
+    /// is still at the temporary path is removed, as far as that can be done. On an error the file may be in its
+    /// place, and may not last there.
+    pub fn place(&self, paths: &Paths) -> io::Result<()> {
+        if let Err(error) = fs::rename(&self.rt, paths.temporary.as_str(), paths.file.as_str()) {
             let _ = fs::remove_file(&self.rt, paths.temporary.as_str());
             return Err(error);
         }
         sync_at(&self.rt, paths.folder.as_str())
     }
 
-    /// Writes a file at its temporary path, synced, and renames it into its place.
-    fn settle(&self, paths: &Paths, bytes: &[u8]) -> io::Result<()> {
-        let mut file = fs::create(&self.rt, paths.temporary.as_str())?;
-        file.write_all(bytes)?;
-        file.sync_all()?;
-        fs::rename(&self.rt, paths.temporary.as_str(), paths.file.as_str())
-    }
-
-    /// Removes a file, if it is there, and syncs its folder. It is synced also where the file isn't there:
-    /// a removal before may have ended in between.
+    /// Removes a file, if it is there, and syncs its folder. On an error it may be gone, and may come back.
     pub fn remove(&self, paths: &Paths) -> io::Result<()> {
         match fs::remove_file(&self.rt, paths.file.as_str()) {
-            Err(error) if error.kind() != ErrorKind::NotFound => Err(error),
-            _ => sync_at(&self.rt, paths.folder.as_str()),
+            Ok(()) => sync_at(&self.rt, paths.folder.as_str()),
+            Err(error) if error.kind() == ErrorKind::NotFound => Ok(()),
+            Err(error) => Err(error),
         }
     }
 

@@ -7,8 +7,10 @@
 //! `ledger`, and the objects as files named by their names in lower-case hexadecimal, packs under `data/` and
 //! their first two digits, indexes under `index/`, snapshots under `snapshots/`, as restic's design document
 //! has them. A file is written under `tmp/`, synced, renamed into its place, and its folder synced, before the
-//! call is acknowledged. Files of other names are passed over. A shelf holds its folder, by a lock on a file,
-//! so that there is one at a time, and touches nothing there that isn't a store's own.
+//! call is acknowledged. Files of other names are passed over. No call answers from what may still be undone: all
+//! folders are synced when a shelf is opened, and again before the next call where a change failed. A shelf holds
+//! its folder, by a lock on a file, so that there is one at a time, and touches nothing there that isn't a store's
+//! own.
 //!
 //! Promised: no call goes wrong in memory, and each ends. A scan's entries have paths of components, each
 //! above the one before it, whatever the file system answers. A restorer takes the parts of a restore
@@ -39,6 +41,7 @@ mod drafts;
 mod folders;
 mod grounds;
 mod holding;
+mod lasting;
 mod own_names;
 mod parts;
 mod phases;

@@ -1,0 +1,171 @@
+//! Power cuts that undo what isn't synced, after a kill or a call that failed.
+
+use crate::cuts::{CHANGES, ENDLESS, calls_of_opening, change};
+use crate::cutting::Cut;
+use crate::fuses::{Change, Fuse};
+use crate::yards::Yard;
+use repo_files::DirShelf;
+use repo_name::{Kind, Token, name_of};
+use repo_store::{Shelf, ShelfError};
+use std::fs;
+use std::panic::Expect;
+
+/// What a shelf answers: whether each of its objects and its config is there, and which number is the next.
+#[derive(Clone, Copy, PartialEq, Eq)]
+struct Seen {
+    first: bool,
+    second: bool,
+    index: bool,
+    config: bool,
+    next: Token,
+}
+
+/// Whether an object is there.
+fn has<S: Shelf>(shelf: &mut S, kind: Kind, bytes: &[u8]) -> Result<bool, ShelfError> {
+    Ok(shelf.get(kind, &name_of(bytes))?.is_some())
+}
+
+/// The number that comes next.
+fn next<S: Shelf>(shelf: &mut S) -> Result<Token, ShelfError> {
+    match shelf.ledger()?.ticket() {
+        Ok(token) => Ok(token),
+        Err(_) => Err(ShelfError::Fault),
+    }
+}
+
+/// All that a shelf answers.
+fn seen<S: Shelf>(shelf: &mut S) -> Result<Seen, ShelfError> {
+    Ok(Seen {
+        first: has(shelf, Kind::Pack, b"abc")?,
+        second: has(shelf, Kind::Pack, b"a second one")?,
+        index: has(shelf, Kind::Index, b"abc")?,
+        config: shelf.config()?.is_some(),
+        next: next(shelf)?,
+    })
+}
+
+/// The shelf in a folder is opened, and tells what it has.
+fn seen_at(rt: HostRuntime, root: &str, fuse: &Fuse) -> Option<Seen> {
+    let mut shelf = DirShelf::open(Cut::new(rt, fuse), root).ok()?;
+    seen(&mut shelf).ok()
+}
+
+/// Undoes a change, as a cut does.
+fn undo(rt: HostRuntime, change: &Change) {
+    let place = change.place.as_str();
+    let _ = match &change.before {
+        Some(bytes) => fs::write(&rt, place, bytes.as_slice()),
+        None => fs::remove_file(&rt, place),
+    };
+}
+
+/// The power goes: of the changes that can be undone those are, the newest first, whose place the choice has a bit for.
+fn cut(rt: HostRuntime, fuse: &Fuse, choice: u64) {
+    let changes = fuse.undone();
+    for (place, change) in changes.iter().enumerate().rev() {
+        if place < 64 && (choice >> place as u64) & 1 == 1 {
+            undo(rt, change);
+        }
+    }
+}
+
+/// A machine that makes changes, one of which meets a failure.
+#[derive(Clone, Copy)]
+struct Run {
+    /// The change that meets it.
+    which: u64,
+    /// How many of its calls are passed on before.
+    calls: u64,
+    /// Which of the changes that can be undone are.
+    choice: u64,
+}
+
+/// Makes the changes before one, on a machine on which nothing fails.
+fn prepared(rt: HostRuntime, root: &str, which: u64) -> bool {
+    let fuse = Fuse::new(rt.alloc(), ENDLESS);
+    let Ok(mut shelf) = DirShelf::create(Cut::new(rt, &fuse), root) else {
+        return false;
+    };
+    for earlier in 0..which {
+        if change(&mut shelf, earlier).is_err() {
+            return false;
+        }
+    }
+    fuse.undone().is_empty()
+}
+
+/// The machine is killed in the change, and started again; what it answers then, and what it answers after a cut.
+fn killed(rt: HostRuntime, root: &str, run: Run) -> (Option<Seen>, Option<Seen>) {
+    let opening = calls_of_opening(rt, root);
+    let fuse = Fuse::new(rt.alloc(), opening.saturating_add(run.calls));
+    if let Ok(mut shelf) = DirShelf::open(Cut::new(rt, &fuse), root) {
+        let _ = change(&mut shelf, run.which);
+    }
+    let fuse = fuse.after();
+    let answered = seen_at(rt, root, &fuse);
+    cut(rt, &fuse, run.choice);
+    let fuse = Fuse::new(rt.alloc(), ENDLESS);
+    (answered, seen_at(rt, root, &fuse))
+}
+
+/// One call fails, and the same shelf goes on; what it answers then, asked once more where that call was the one that
+/// failed, and what it answers after a cut.
+fn failed(rt: HostRuntime, root: &str, run: Run) -> (Option<Seen>, Option<Seen>) {
+    let opening = calls_of_opening(rt, root);
+    let fuse = Fuse::failing_once(rt.alloc(), opening.saturating_add(run.calls));
+    let answered = match DirShelf::open(Cut::new(rt, &fuse), root) {
+        Ok(mut shelf) => {
+            let _ = change(&mut shelf, run.which);
+            seen(&mut shelf).or_else(|_| seen(&mut shelf)).ok()
+        }
+        Err(_) => None,
+    };
+    cut(rt, &fuse, run.choice);
+    let fuse = Fuse::new(rt.alloc(), ENDLESS);
+    (answered, seen_at(rt, root, &fuse))
+}
+
+/// More calls than a change makes.
+const CALLS: u64 = 12;
+
+impl Yard {
+    /// A store with the changes before one.
+    fn is_prepared(&mut self, which: u64) {
+        let _ = fs::remove_dir_all(&self.rt, self.root.as_str());
+        let is_prepared = prepared(self.rt, self.root.as_str(), which);
+        self.count(is_prepared);
+    }
+
+    /// What was answered is what a cut leaves.
+    fn lasts_as_answered(&mut self, told: (Option<Seen>, Option<Seen>)) {
+        self.count(told.0.is_some() && told.0 == told.1);
+    }
+
+    /// A change meets a failure at each of its calls, and a cut undoes what it can.
+    fn meets_each_failure(&mut self, which: u64, choice: u64) {
+        for calls in 0..CALLS {
+            let run = Run {
+                which,
+                calls,
+                choice,
+            };
+            self.is_prepared(which);
+            let told = killed(self.rt, self.root.as_str(), run);
+            self.lasts_as_answered(told);
+            self.is_prepared(which);
+            let told = failed(self.rt, self.root.as_str(), run);
+            self.lasts_as_answered(told);
+        }
+    }
+}
+
+#[test]
+fn what_was_answered_is_never_undone(rt: HostRuntime) {
+    let mut yard = Yard::new(rt, "undone").expect(&rt, "no folder");
+    for which in 0..CHANGES {
+        for choice in 1..4 {
+            yard.meets_each_failure(which, choice);
+        }
+    }
+    yard.end(&rt);
+}
