@@ -10,6 +10,7 @@ use crate::faults::BackupError;
 use crate::jobs::BackupJob;
 use crate::plans::plan;
 use crate::stages::Stage;
+use repo_name::Token;
 use repo_session::{Catalog, Client, Emission, Outcome, Session, Who};
 use repo_tree::Entry;
 use repo_wire::{Reply, Request};
@@ -47,11 +48,11 @@ impl Backup {
 
 impl Client for Backup {
     ghost use Rattle.std.specs.Prelude.{[], ⊤};
-    ghost use Rattle.repo_session.specs.Sessions.{who_in, next_in, ended_in};
+    ghost use Rattle.repo_session.specs.Sessions.{who_in, next_in, ended_in, token_in};
     ghost use Rattle.repo_backup.specs.Rules.{BackupAllows, BackupGives, BackupConcludes};
     ghost use Rattle.repo_backup.specs.BackupStates.{backup_task};
     ghost use Rattle.repo_backup.specs.Backups.{Handing, handed_to, FitsBackup};
-    ghost use Rattle.repo_backup.specs.BackupObedience.{backup_obeys};
+    ghost use Rattle.repo_backup.specs.BackupObedience.{backup_obeys, backup_tells};
 
     ghost Job = { Handing };
 
@@ -75,7 +76,11 @@ impl Client for Backup {
 
     ghost given = { λ b. [] };
 
+    ghost token_of = { λ b. token_in b.session };
+
     ghost obedient = { backup_obeys };
+
+    ghost ticketed = { backup_tells };
 
     fn pending(&self) -> Option<&Request> {
         self.session.pending()
@@ -91,5 +96,9 @@ impl Client for Backup {
 
     fn emitted(&self) -> &[Emission] {
         &[]
+    }
+
+    fn token(&self) -> Option<Token> {
+        self.session.token()
     }
 }

@@ -8,6 +8,7 @@ ghost use Rattle.repo_check.specs.Surveys.{IsShortNext};
 
 use crate::surveys::{Next, Survey, SurveyMark};
 use crate::verdicts::outcome_of;
+use repo_name::Token;
 use repo_session::{Client, Emission, End, Holder, Job, Outcome, Session, Step, Who};
 use repo_tree::Config;
 use repo_wire::{Ask, Reply, Request, Say};
@@ -112,10 +113,10 @@ impl Check {
 
 impl Client for Check {
     ghost use Rattle.repo_session.specs.Askers.{Asker};
-    ghost use Rattle.repo_session.specs.Sessions.{next_in, ended_in, given_by};
+    ghost use Rattle.repo_session.specs.Sessions.{next_in, ended_in, given_by, token_in};
     ghost use Rattle.repo_check.specs.Checking.{check_task, CheckAllows, CheckGives, CheckConcludes};
     ghost use Rattle.repo_check.specs.CheckStates.{FitsCheck, checker_of};
-    ghost use Rattle.repo_check.specs.CheckObedience.{check_obeys};
+    ghost use Rattle.repo_check.specs.CheckObedience.{check_obeys, check_tells};
 
     ghost Job = { Asker };
 
@@ -139,7 +140,11 @@ impl Client for Check {
 
     ghost given = { λ c. given_by (λ j. []) c.session };
 
+    ghost token_of = { λ c. token_in c.session };
+
     ghost obedient = { check_obeys };
+
+    ghost ticketed = { check_tells };
 
     fn pending(&self) -> Option<&Request> {
         self.session.pending()
@@ -155,5 +160,9 @@ impl Client for Check {
 
     fn emitted(&self) -> &[Emission] {
         self.session.emitted()
+    }
+
+    fn token(&self) -> Option<Token> {
+        self.session.token()
     }
 }

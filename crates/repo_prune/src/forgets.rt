@@ -15,7 +15,7 @@ ghost use Rattle.repo_prune.specs.ForgetStates.{FitsForget, IsFreshForget, Knows
 use crate::choices::{Choice, ForgetError};
 use crate::keeping::Policy;
 use crate::picking::{chosen, names_of};
-use repo_name::{Kind, Name, Names, Thing};
+use repo_name::{Kind, Name, Names, Thing, Token};
 use repo_session::{
     Client, Emission, End, Holder, Job, Outcome, Paging, Session, SnapshotReading, SnapshotRoll,
     Step, Who,
@@ -248,10 +248,10 @@ impl Forget {
 impl Client for Forget {
     ghost use Rattle.std.specs.Prelude.{⊤};
     ghost use Rattle.repo_prune.specs.declared.choices.Choice.{Choice};
-    ghost use Rattle.repo_session.specs.Sessions.{Given, next_in, ended_in, given_by};
+    ghost use Rattle.repo_session.specs.Sessions.{Given, next_in, ended_in, given_by, token_in};
     ghost use Rattle.repo_prune.specs.Forgetting.{forget_task, ForgetAllows, ForgetGives, ForgetConcludes};
     ghost use Rattle.repo_prune.specs.ForgetStates.{FitsForget, who_of, choice_of};
-    ghost use Rattle.repo_prune.specs.ForgetObedience.{forget_obeys};
+    ghost use Rattle.repo_prune.specs.ForgetObedience.{forget_obeys, forget_tells};
 
     ghost Job = { Given Choice };
 
@@ -275,7 +275,11 @@ impl Client for Forget {
 
     ghost given = { λ f. given_by (λ j. []) f.session };
 
+    ghost token_of = { λ f. token_in f.session };
+
     ghost obedient = { forget_obeys };
+
+    ghost ticketed = { forget_tells };
 
     fn pending(&self) -> Option<&Request> {
         self.session.pending()
@@ -291,5 +295,9 @@ impl Client for Forget {
 
     fn emitted(&self) -> &[Emission] {
         self.session.emitted()
+    }
+
+    fn token(&self) -> Option<Token> {
+        self.session.token()
     }
 }

@@ -148,10 +148,10 @@ impl Prune {
 impl Client for Prune {
     ghost use Rattle.std.specs.Prelude.{⊤};
     ghost use Rattle.repo_session.specs.Askers.{Asker};
-    ghost use Rattle.repo_session.specs.Sessions.{next_in, ended_in, given_by};
+    ghost use Rattle.repo_session.specs.Sessions.{next_in, ended_in, given_by, token_in};
     ghost use Rattle.repo_prune.specs.Pruning.{prune_task, PruneAllows, PruneGives, PruneConcludes};
     ghost use Rattle.repo_prune.specs.PruneStates.{FitsPrune, pruner_of};
-    ghost use Rattle.repo_prune.specs.PruneObedience.{prune_obeys};
+    ghost use Rattle.repo_prune.specs.PruneObedience.{prune_obeys, prune_tells};
 
     ghost Job = { Asker };
 
@@ -175,7 +175,11 @@ impl Client for Prune {
 
     ghost given = { λ p. given_by (λ j. []) p.session };
 
+    ghost token_of = { λ p. token_in p.session };
+
     ghost obedient = { prune_obeys };
+
+    ghost ticketed = { prune_tells };
 
     fn pending(&self) -> Option<&Request> {
         self.session.pending()
@@ -191,5 +195,9 @@ impl Client for Prune {
 
     fn emitted(&self) -> &[Emission] {
         self.session.emitted()
+    }
+
+    fn token(&self) -> Option<Token> {
+        self.session.token()
     }
 }

@@ -3,7 +3,7 @@
 ghost use Rattle.std.specs.Prelude.{◌≡◌, []};
 ghost use Rattle.repo_restore.specs.ListStates.{FitsList, IsFreshList, who_of};
 
-use repo_name::Thing;
+use repo_name::{Thing, Token};
 use repo_session::{
     Client, Emission, End, Holder, Job, Outcome, Session, SnapshotReading, SnapshotRoll, Step, Who,
 };
@@ -96,10 +96,10 @@ impl SnapshotList {
 impl Client for SnapshotList {
     ghost use Rattle.std.specs.Prelude.{⊤};
     ghost use Rattle.repo_session.specs.Askers.{Asker};
-    ghost use Rattle.repo_session.specs.Sessions.{next_in, ended_in, given_by};
+    ghost use Rattle.repo_session.specs.Sessions.{next_in, ended_in, given_by, token_in};
     ghost use Rattle.repo_restore.specs.Listing.{list_task, ListAllows, ListGives, ListConcludes};
     ghost use Rattle.repo_restore.specs.ListStates.{FitsList, who_of};
-    ghost use Rattle.repo_restore.specs.ListObedience.{list_obeys};
+    ghost use Rattle.repo_restore.specs.ListObedience.{list_obeys, list_tells};
 
     ghost Job = { Asker };
 
@@ -123,7 +123,11 @@ impl Client for SnapshotList {
 
     ghost given = { λ l. given_by (λ j. []) l.session };
 
+    ghost token_of = { λ l. token_in l.session };
+
     ghost obedient = { list_obeys };
+
+    ghost ticketed = { list_tells };
 
     fn pending(&self) -> Option<&Request> {
         self.session.pending()
@@ -139,5 +143,9 @@ impl Client for SnapshotList {
 
     fn emitted(&self) -> &[Emission] {
         self.session.emitted()
+    }
+
+    fn token(&self) -> Option<Token> {
+        self.session.token()
     }
 }

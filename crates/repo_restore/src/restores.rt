@@ -15,7 +15,7 @@ ghost use Rattle.repo_restore.specs.RestoreStates.{FitsRestore, IsNewRestore, Kn
 
 use crate::walks::{Turn, Walk};
 use repo_index::Fact;
-use repo_name::{Kind, Name, Thing, name_of};
+use repo_name::{Kind, Name, Thing, Token, name_of};
 use repo_session::{
     Catalog, Client, Emission, End, Fetched, Holder, Job, Outcome, Reading, Session, Step, Who,
     blob_of, blob_thing, get_ask, range_ask, snapshot_end,
@@ -251,10 +251,10 @@ impl Restore {
 
 impl Client for Restore {
     ghost use Rattle.std.specs.Prelude.{⊤};
-    ghost use Rattle.repo_session.specs.Sessions.{next_in, ended_in, given_by};
+    ghost use Rattle.repo_session.specs.Sessions.{next_in, ended_in, given_by, token_in};
     ghost use Rattle.repo_restore.specs.Restoring.{Wish, restore_task, RestoreAllows, RestoreGives, RestoreConcludes};
     ghost use Rattle.repo_restore.specs.RestoreStates.{FitsRestore};
-    ghost use Rattle.repo_restore.specs.RestoreObedience.{wish_of, restore_obeys};
+    ghost use Rattle.repo_restore.specs.RestoreObedience.{wish_of, restore_obeys, restore_tells};
 
     ghost Job = { Wish };
 
@@ -278,7 +278,11 @@ impl Client for Restore {
 
     ghost given = { λ c. given_by (λ j. j.given.items) c.session };
 
+    ghost token_of = { λ c. token_in c.session };
+
     ghost obedient = { restore_obeys };
+
+    ghost ticketed = { restore_tells };
 
     fn pending(&self) -> Option<&Request> {
         self.session.pending()
@@ -294,5 +298,9 @@ impl Client for Restore {
 
     fn emitted(&self) -> &[Emission] {
         self.session.emitted()
+    }
+
+    fn token(&self) -> Option<Token> {
+        self.session.token()
     }
 }

@@ -4,11 +4,12 @@ use Rattle.repo_name.specs.declared.tokens.Token.{Token}
 use Rattle.repo_wire.specs.declared.messages.Ask.{Ask}
 use Rattle.repo_wire.specs.declared.messages.Reply.{Reply}
 use Rattle.repo_wire.specs.declared.messages.Request.{Request}
+use Rattle.repo_wire.specs.declared.messages.Say.{Say}
 use Rattle.repo_session.specs.declared.emissions.Emission.{Emission}
 use Rattle.repo_session.specs.declared.outcomes.Outcome.{Outcome}
 use Rattle.repo_session.specs.Ends.{Concludes, NumbersAreSpent, before_unlock}
 use Rattle.repo_session.specs.Order.{Task, IsUnlock, Holds, May, IsPermitted, Obeys}
-use Rattle.repo_session.specs.Traces.{Exchange, Trace, giving}
+use Rattle.repo_session.specs.Traces.{Exchange, Exchanged, Trace, giving}
 
 -- the reply is to this request
 abbrev pub IsReplyTo : Request → Reply → Type 0
@@ -42,6 +43,11 @@ pub record IsObedient (task : Task) (Allows : Trace → Ask → Type 0) (Gives :
   pub released : next ≡ None → outcome ≢ None → (token : Token) → Holds task token es → NumbersAreSpent es
   pub beside : (request : Request) → next ≡ Some request → outcome ≢ None → IsUnlock request.ask
   pub ending : (request : Request) → next ≡ Some request → IsUnlock request.ask → outcome ≢ None
+
+-- a token that a client tells is that of its ticket; and where it was given one, and has no outcome yet, it tells it
+pub record TellsToken (told : Option Token) (outcome : Option Outcome) (es : Trace) : Type 0 where
+  pub given : (token : Token) → told ≡ Some token → Exchanged es Ask.Ticket (Say.Token token)
+  pub tells : (token : Token) → outcome ≡ None → Exchanged es Ask.Ticket (Say.Token token) → told ≡ Some token
 
 -- a request whose reply is taken without memory, whatever it says
 abbrev pub IsSteady : Ask → Type 0

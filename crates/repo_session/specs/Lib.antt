@@ -17,6 +17,7 @@ pub mod Lines
 pub mod Rolls
 pub mod Catalogs
 pub mod Obedience
+pub mod Tickets
 pub mod Results
 pub mod Jobs
 pub mod Sessions

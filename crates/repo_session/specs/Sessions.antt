@@ -107,6 +107,20 @@ next_in s = s.head.line.next
 abbrev pub ended_in : {J : Type 0} → Session J → Option Outcome
 ended_in s = s.head.line.outcome
 
+-- the token of its ticket, where the ticket isn't what is pending
+abbrev pub token_beside : Token → Ask → Option Token
+token_beside token Ask.Ticket = None
+token_beside token _ = Some token
+
+-- the token that a session tells: that of its ticket, until it has an outcome
+abbrev pub token_told : Token → Option Outcome → Option Request → Option Token
+token_told token (Some outcome) next = None
+token_told token None None = None
+token_told token None (Some request) = token_beside token request.ask
+
+abbrev pub token_in : {J : Type 0} → Session J → Option Token
+token_in s = token_told s.head.holder.token s.head.line.outcome s.head.line.next
+
 -- ---- how a session takes a reply: where it fitted a trace, it fits that with one exchange more
 
 -- what was said to the request for the config

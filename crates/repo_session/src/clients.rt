@@ -1,6 +1,7 @@
 //! Clients: one job each.
 
 ghost use Rattle.std.specs.Prelude.{◌≡◌, ◌∷◌, ℕ, List, Some, OnOk, OnErr, IsOk, IfSome, Option, option_map};
+ghost use Rattle.repo_name.specs.declared.tokens.Token.{Token};
 ghost use Rattle.repo_wire.specs.declared.messages.Ask.{Ask};
 ghost use Rattle.repo_wire.specs.declared.messages.Code.{Code};
 ghost use Rattle.repo_wire.specs.declared.messages.Request.{Request};
@@ -9,12 +10,13 @@ ghost use Rattle.repo_wire.specs.Messages.{requests};
 ghost use Rattle.repo_wire.specs.Stream.{FitsFrame};
 ghost use Rattle.repo_session.specs.declared.emissions.Emission.{Emission};
 ghost use Rattle.repo_session.specs.declared.outcomes.Outcome.{Outcome};
-ghost use Rattle.repo_session.specs.Clients.{IsReplyTo, AnswersNext, exchange, IsObedient, IsSteady};
+ghost use Rattle.repo_session.specs.Clients.{IsReplyTo, AnswersNext, exchange, IsObedient, IsSteady, TellsToken};
 ghost use Rattle.repo_session.specs.Order.{Task};
 ghost use Rattle.repo_session.specs.Traces.{Exchange, Trace};
 
 use crate::emissions::Emission;
 use crate::outcomes::Outcome;
+use repo_name::Token;
 use repo_wire::{Reply, Request};
 use std::alloc::AllocError;
 
@@ -47,6 +49,8 @@ pub trait Client {
     ghost ended: { Self → Option Outcome };
     /// What the last reply that was taken gave out.
     ghost given: { Self → List Emission };
+    /// The token that it tells.
+    ghost token_of: { Self → Option Token };
 
     /// The request that is pending: `None` once the job is at its end. It fits a frame.
     fn pending(&self) -> Option<&Request>
@@ -80,8 +84,15 @@ pub trait Client {
     fn emitted(&self) -> &[Emission]
         ensures { result.now ≡ given self.now };
 
+    /// The token of its ticket, once it was given one, until it has an outcome: by it its lock can be given back where
+    /// the job is not gone on with.
+    fn token(&self) -> Option<Token>
+        ensures { result ≡ token_of self.now };
+
     /// A trace at whose end the client stands obeys the common order and the job's rule; so does what is
     /// pending; where nothing is, there is an outcome, and the lock was ended; and an outcome comes only where it may.
     ghost obedient: { (client : Self) (es : Trace) → fits client es
         → IsObedient (task (job client)) (allows (job client)) (gives (job client)) (concludes (job client)) (next client) (ended client) es };
+    /// The token that it tells is the one that it was given.
+    ghost ticketed: { (client : Self) (es : Trace) → fits client es → TellsToken (token_of client) (ended client) es };
 }

@@ -23,6 +23,7 @@ use crate::jobs::{Job, Step};
 use crate::lines::Line;
 use crate::outcomes::{End, Outcome};
 use crate::who::{Claim, Holder, Who};
+use repo_name::Token;
 use repo_tree::Config;
 use repo_wire::{Ask, Code, Reply, Request, Say};
 use std::alloc::{AllocError, Global};
@@ -257,8 +258,9 @@ impl<J: Job + Drop> Session<J> {
 
 impl<J: Job + Drop> Client for Session<J> {
     ghost use Rattle.repo_session.specs.Jobs.{task_under};
-    ghost use Rattle.repo_session.specs.Sessions.{Given, FitsSession, given_by, who_in, next_in, ended_in};
+    ghost use Rattle.repo_session.specs.Sessions.{Given, FitsSession, given_by, who_in, next_in, ended_in, token_in};
     ghost use Rattle.repo_session.specs.Obedience.{session_obeys};
+    ghost use Rattle.repo_session.specs.Tickets.{session_tells};
 
     ghost Job = { Given J.Handed };
 
@@ -282,7 +284,11 @@ impl<J: Job + Drop> Client for Session<J> {
 
     ghost given = { λ s. given_by J.given s };
 
+    ghost token_of = { λ s. token_in s };
+
     ghost obedient = { λ s es f. session_obeys J.handed J.rule J.fresh J.knows s es f };
+
+    ghost ticketed = { λ s es f. session_tells J.handed J.rule J.fresh J.knows s es f };
 
     fn pending(&self) -> Option<&Request> {
         match &self.head.line.next {
@@ -301,5 +307,15 @@ impl<J: Job + Drop> Client for Session<J> {
 
     fn emitted(&self) -> &[Emission] {
         if self.told { self.job.emitted() } else { &[] }
+    }
+
+    fn token(&self) -> Option<Token> {
+        let (None, Some(letter)) = (&self.head.line.outcome, &self.head.line.next) else {
+            return None;
+        };
+        match &letter.request().ask {
+            Ask::Ticket => None,
+            _ => Some(self.head.holder.token()),
+        }
     }
 }

@@ -1,25 +1,26 @@
 -- A client of any job, as its job's own client stands.
 use Rattle.std.specs.Prelude.{[], Bool, List, Option}
 use Rattle.repo_wire.specs.declared.messages.Request.{Request}
+use Rattle.repo_name.specs.declared.tokens.Token.{Token}
 use Rattle.repo_session.specs.declared.emissions.Emission.{Emission}
 use Rattle.repo_session.specs.declared.outcomes.Outcome.{Outcome}
-use Rattle.repo_session.specs.Clients.{IsObedient}
-use Rattle.repo_session.specs.Sessions.{Given, who_in, next_in, ended_in, given_by}
+use Rattle.repo_session.specs.Clients.{IsObedient, TellsToken}
+use Rattle.repo_session.specs.Sessions.{Given, who_in, next_in, ended_in, given_by, token_in}
 use Rattle.repo_session.specs.Traces.{Trace}
-use Rattle.repo_backup.specs.BackupObedience.{backup_obeys}
+use Rattle.repo_backup.specs.BackupObedience.{backup_obeys, backup_tells}
 use Rattle.repo_backup.specs.Backups as backups
 use Rattle.repo_backup.specs.Backups.{FitsBackup}
-use Rattle.repo_restore.specs.ListObedience.{list_obeys}
+use Rattle.repo_restore.specs.ListObedience.{list_obeys, list_tells}
 use Rattle.repo_restore.specs.ListStates as lists
 use Rattle.repo_restore.specs.ListStates.{FitsList}
-use Rattle.repo_restore.specs.RestoreObedience.{wish_of, restore_obeys}
+use Rattle.repo_restore.specs.RestoreObedience.{wish_of, restore_obeys, restore_tells}
 use Rattle.repo_restore.specs.RestoreStates.{FitsRestore}
-use Rattle.repo_prune.specs.ForgetObedience.{forget_obeys}
+use Rattle.repo_prune.specs.ForgetObedience.{forget_obeys, forget_tells}
 use Rattle.repo_prune.specs.ForgetStates as forgets
 use Rattle.repo_prune.specs.ForgetStates.{FitsForget, choice_of}
-use Rattle.repo_prune.specs.PruneObedience.{prune_obeys}
+use Rattle.repo_prune.specs.PruneObedience.{prune_obeys, prune_tells}
 use Rattle.repo_prune.specs.PruneStates.{FitsPrune, pruner_of}
-use Rattle.repo_check.specs.CheckObedience.{check_obeys}
+use Rattle.repo_check.specs.CheckObedience.{check_obeys, check_tells}
 use Rattle.repo_check.specs.CheckStates.{FitsCheck, checker_of}
 use Rattle.repo_world.specs.Clients.{JobAllows, Client, JobConcludes, JobGives, task_of}
 use Rattle.repo_world.specs.declared.any_clients.AnyClient.{AnyClient}
@@ -70,6 +71,15 @@ any_given (AnyClient.Forget c) = given_by (λ j. []) c.session
 any_given (AnyClient.Prune c) = given_by (λ j. []) c.session
 any_given (AnyClient.Check c) = given_by (λ j. []) c.session
 
+-- the token that it tells
+abbrev pub any_token : AnyClient → Option Token
+any_token (AnyClient.Backup c) = token_in c.session
+any_token (AnyClient.Restore c) = token_in c.session
+any_token (AnyClient.List c) = token_in c.session
+any_token (AnyClient.Forget c) = token_in c.session
+any_token (AnyClient.Prune c) = token_in c.session
+any_token (AnyClient.Check c) = token_in c.session
+
 -- it owes what its job owes
 pub any_obeys : (c : AnyClient) (es : Trace) → FitsAny c es → IsObedient (task_of (given_to c).handed (given_to c).who) (JobAllows (given_to c).handed) (JobGives (given_to c).handed)
     (JobConcludes (given_to c).handed) (any_next c) (any_ended c) es
@@ -79,6 +89,14 @@ any_obeys (AnyClient.List c) es f = list_obeys c es f
 any_obeys (AnyClient.Forget c) es f = forget_obeys c es f
 any_obeys (AnyClient.Prune c) es f = prune_obeys c es f
 any_obeys (AnyClient.Check c) es f = check_obeys c es f
+
+pub any_tells : (c : AnyClient) (es : Trace) → FitsAny c es → TellsToken (any_token c) (any_ended c) es
+any_tells (AnyClient.Backup c) es f = backup_tells c es f
+any_tells (AnyClient.Restore c) es f = restore_tells c es f
+any_tells (AnyClient.List c) es f = list_tells c es f
+any_tells (AnyClient.Forget c) es f = forget_tells c es f
+any_tells (AnyClient.Prune c) es f = prune_tells c es f
+any_tells (AnyClient.Check c) es f = check_tells c es f
 
 -- what a client of the world is that stands so, after these exchanges
 abbrev pub client_of : AnyClient → Trace → Bool → Client

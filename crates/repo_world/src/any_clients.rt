@@ -13,6 +13,7 @@ use crate::jobs::{Job, Refusal};
 use crate::reports::Role;
 use repo_backup::{Backup, BackupError};
 use repo_check::Check;
+use repo_name::Token;
 use repo_prune::{Forget, ForgetError, Prune};
 use repo_restore::{Restore, SnapshotList};
 use repo_session::{Client, Emission, Outcome, Who};
@@ -91,7 +92,7 @@ impl AnyClient {
 
 impl Client for AnyClient {
     ghost use Rattle.repo_session.specs.Sessions.{Given};
-    ghost use Rattle.repo_world.specs.AnyClients.{FitsAny, any_ended, any_given, any_next, any_obeys, given_to};
+    ghost use Rattle.repo_world.specs.AnyClients.{FitsAny, any_ended, any_given, any_next, any_obeys, any_tells, any_token, given_to};
     ghost use Rattle.repo_world.specs.Clients.{JobAllows, JobConcludes, JobGives, rule_of, task_of};
     ghost use Rattle.repo_world.specs.declared.jobs.Job.{Job as AnyJob};
 
@@ -117,7 +118,11 @@ impl Client for AnyClient {
 
     ghost given = { any_given };
 
+    ghost token_of = { any_token };
+
     ghost obedient = { any_obeys };
+
+    ghost ticketed = { any_tells };
 
     fn pending(&self) -> Option<&Request> {
         match self {
@@ -160,6 +165,17 @@ impl Client for AnyClient {
             AnyClient::Forget(client) => client.emitted(),
             AnyClient::Prune(client) => client.emitted(),
             AnyClient::Check(client) => client.emitted(),
+        }
+    }
+
+    fn token(&self) -> Option<Token> {
+        match self {
+            AnyClient::Backup(client) => client.token(),
+            AnyClient::Restore(client) => client.token(),
+            AnyClient::List(client) => client.token(),
+            AnyClient::Forget(client) => client.token(),
+            AnyClient::Prune(client) => client.token(),
+            AnyClient::Check(client) => client.token(),
         }
     }
 }
