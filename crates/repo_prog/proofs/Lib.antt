@@ -1,6 +1,5 @@
 pub mod LineLemmas
 pub mod TalkLemmas
 pub mod AskLemmas
-pub mod DialLemmas
 pub mod JobLemmas
 pub mod TellLemmas

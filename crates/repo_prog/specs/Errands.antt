@@ -15,7 +15,7 @@ use Rattle.repo_prog.specs.Asking.{Streams, streams, Asked, RemovesLocks, reques
 use Rattle.repo_prog.specs.Tellings.{locks_told, refresh_told}
 use Rattle.repo_prog.specs.Commands.{IsEnd, created_line, listening_line}
 use Rattle.repo_files.specs.Scanned.{AreScanned}
-use Rattle.repo_prog.specs.Dialing.{Coming, ConnectionEnds, Dials}
+use Rattle.repo_dial.specs.Dialing.{Coming, ConnectionEnds, Dials}
 use Rattle.repo_prog.specs.Jobs.{ListObeyed, RestoreObeyed, ForgetObeyed, PruneObeyed, CheckObeyed, BackupObeyed}
 use Rattle.repo_prog.specs.Shown.{TellsStored, TellsListed, TellsRestored, TellsForgotten, TellsPruned, TellsChecked, unflawed}
 

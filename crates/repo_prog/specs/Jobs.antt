@@ -1,16 +1,12 @@
 -- What the commands do that bring a job to its end, over connections that are made one after another.
-use Rattle.std.specs.Prelude.{◌≡◌, ◌≤◌, ◌+◌, ◌++◌, ◌∷◌, [], ℕ, List, length, Option, Some, None, codes}
-use Rattle.std.specs.Io.KnownBytes.{Consumes}
+use Rattle.std.specs.Prelude.{ℕ, List, codes}
 use Rattle.repo_name.specs.declared.names.Name.{Name}
-use Rattle.repo_wire.specs.declared.messages.Request.{Request}
 use Rattle.repo_tree.specs.declared.entries.Entry.{Entry}
 use Rattle.repo_tree.specs.declared.snapshots.Snapshot.{Snapshot}
 use Rattle.repo_session.specs.declared.outcomes.Outcome.{Outcome}
 use Rattle.repo_session.specs.Askers.{Asker, asker}
-use Rattle.repo_session.specs.Clients.{IsObedient}
-use Rattle.repo_session.specs.Jobs.{Rule, task_under}
-use Rattle.repo_session.specs.Talks.{Talk, IsTurn, AreNumbered, IsHeard, WritesPart, first_carried, sent_in, trace_of}
-use Rattle.repo_session.specs.Traces.{Each, Trace}
+use Rattle.repo_dial.specs.Bringing.{Ended, Obeyed}
+use Rattle.repo_dial.specs.Dialing.{Coming}
 use Rattle.repo_backup.specs.BackupStates.{backup_rule}
 use Rattle.repo_check.specs.Checking.{check_rule}
 use Rattle.repo_prune.specs.declared.choices.Choice.{Choice}
@@ -18,54 +14,7 @@ use Rattle.repo_prune.specs.Forgetting.{forget_rule}
 use Rattle.repo_prune.specs.Pruning.{prune_rule}
 use Rattle.repo_restore.specs.Listing.{list_rule}
 use Rattle.repo_restore.specs.Restoring.{restore_rule}
-use Rattle.repo_prog.specs.Dialing.{Call, Coming, Try, talk_over, AreDialed}
 use Rattle.repo_prog.specs.declared.callers.Caller.{Caller}
-
--- a client stands at a trace by its job's rule
-abbrev pub IsObedientBy : Rule → Asker → Option Request → Option Outcome → Trace → Type 0
-IsObedientBy rule who next outcome es = IsObedient (task_under rule who) rule.allows rule.gives rule.concludes next outcome es
-
--- A job was brought on over a connection, by its rule: what was said over it was read from it and written to it, with some first part of the request that was
--- pending at its end; each request has the asker's instance and the number after those before it; what was pending before went first; and the job stands, by
--- its rule, at the trace of that and of all that was said before.
-pub record BroughtOn (rule : Rule) (who : Asker) (earlier : Talk) (before : Option Request) (call : Call) (next : Option Request) (outcome : Option Outcome) : Type 0 where
-  pub read : Consumes call.came.ahead call.left.ahead call.said.bytes
-  pub heard : IsHeard call.said
-  pub turns : Each IsTurn call.said.talk
-  pub numbered : AreNumbered who.instance (length (trace_of earlier)) call.said.talk
-  pub sent : WritesPart call.came.sent (sent_in call.said.talk) next call.left.sent
-  pub first : first_carried (sent_in call.said.talk) next ≡ before
-  pub obeyed : IsObedientBy rule who next outcome (trace_of (call.said.talk ++ earlier))
-
--- it was brought on so over each connection of these tries, the newest first, from one pending request to another: each connection begins with the
--- request at which the one before it ended
-abbrev pub IsBroughtOn : Rule → Asker → Option Request → List Try → Option Request → Type 0
-IsBroughtOn rule who begun [] next = next ≡ begun
-IsBroughtOn rule who begun (None ∷ tries) next = IsBroughtOn rule who begun tries next
-IsBroughtOn rule who begun (Some call ∷ tries) next =
-    (before : Option Request) × ((outcome : Option Outcome) × BroughtOn rule who (talk_over tries) before call next outcome) × IsBroughtOn rule who begun tries before
-
--- a job was brought to its end over connections that were made one after another, so many at most after the first: over each it was brought on, and over
--- the last to its end, with this outcome by its own rules. They hold of all that was said as over one connection.
-pub record Ended (rule : Rule) (who : Asker) (outcome : Outcome) (retry : ℕ) (coming after : Coming) : Type 0 where
-  pub cut : List Try
-  pub last : Call
-  pub few : length cut ≤ retry
-  pub dialed : AreDialed coming (Some last ∷ cut) after
-  pub begun : Option Request
-  pub waiting : Option Request
-  pub before : IsBroughtOn rule who begun cut waiting
-  pub ended : BroughtOn rule who (talk_over cut) waiting last None (Some outcome)
-
--- however far a job was brought over connections that were made one after another, so many at most after the first: over each it was brought on by its own
--- rules
-pub record Obeyed (rule : Rule) (who : Asker) (retry : ℕ) (coming after : Coming) : Type 0 where
-  pub tries : List Try
-  pub few : length tries ≤ retry + 1
-  pub dialed : AreDialed coming tries after
-  pub begun : Option Request
-  pub waiting : Option Request
-  pub brought : IsBroughtOn rule who begun tries waiting
 
 -- the name of the machine where a command isn't told another
 abbrev pub vault_host : List ℕ

@@ -3,8 +3,8 @@ pub mod FramesRun
 pub mod HexLines
 pub mod Talks
 pub mod Asking
+pub mod Printing
 pub mod Tellings
-pub mod Dialing
 pub mod Jobs
 pub mod Shown
 pub mod Errands

@@ -1,7 +1,7 @@
 -- What commands show of their jobs.
 use Rattle.std.specs.Prelude.{◌≡◌, ◌⊎◌, Option, ℕ, List, Some}
 use Rattle.repo_prog.specs.Tellings.{snapshot_lines, complete_line, stored_line, forgotten_lines, pruned_line, fault_lines, clean_line}
-use Rattle.repo_prog.specs.Dialing.{Coming}
+use Rattle.repo_dial.specs.Dialing.{Coming}
 use Rattle.repo_prog.specs.declared.callers.Caller.{Caller}
 use Rattle.repo_prog.specs.declared.status.Status.{Status}
 use Rattle.repo_prog.specs.Jobs.{RestoresSnapshot, Prunes, Checks, Stores, Forgets, ListsSnapshots}

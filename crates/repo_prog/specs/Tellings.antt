@@ -12,6 +12,7 @@ use Rattle.repo_session.specs.Results.{thing_word}
 use Rattle.repo_session.specs.declared.outcomes.CheckFault.{CheckFault}
 use Rattle.repo_session.specs.declared.outcomes.FaultKind.{FaultKind}
 use Rattle.repo_store.specs.Output.{AppendsPart}
+use Rattle.repo_prog.specs.Printing.{printed}
 use Rattle.repo_prog.specs.declared.status.Status.{Status}
 
 -- what a lock is called
@@ -21,7 +22,7 @@ lock_word false = codes "shared"
 
 -- a live lock: its token, which sort it is, its time and its host
 abbrev pub lock_line : LockRow → List ℕ
-lock_line row = decimal row.token.0 ++ (codes " " ++ (lock_word row.exclusive ++ (codes " " ++ (decimal row.time ++ (codes " " ++ (row.host ++ codes "\n"))))))
+lock_line row = decimal row.token.0 ++ (codes " " ++ (lock_word row.exclusive ++ (codes " " ++ (decimal row.time ++ (codes " " ++ (printed row.host ++ codes "\n"))))))
 
 -- live locks, a line each
 abbrev pub lock_lines : List LockRow → List ℕ
@@ -29,7 +30,7 @@ lock_lines rows = flat_map lock_line rows
 
 -- a snapshot: its name, its time and its host
 abbrev pub snapshot_line : Name × Snapshot → List ℕ
-snapshot_line row = hex_of row.0 ++ (codes " " ++ (decimal row.1.time ++ (codes " " ++ (row.1.host ++ codes "\n"))))
+snapshot_line row = hex_of row.0 ++ (codes " " ++ (decimal row.1.time ++ (codes " " ++ (printed row.1.host ++ codes "\n"))))
 
 -- snapshots, a line each
 abbrev pub snapshot_lines : List (Name × Snapshot) → List ℕ

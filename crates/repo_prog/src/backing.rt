@@ -8,12 +8,12 @@ ghost use Rattle.repo_prog.specs.Shown.{ShowsStored, TellsStored, unflawed};
 ghost use Rattle.repo_prog.specs.Errands.{BacksUp};
 ghost use Rattle.repo_prog.specs.Jobs.{BackupObeyed};
 
-use crate::again::drive_again;
 use crate::callers::Caller;
-use crate::dialing::Dial;
+use crate::printing::printed;
 use crate::status::{Status, failed, flawed, tell};
 use crate::telling::{show_made, stored_line, unfinished};
 use repo_backup::{Backup, BackupError};
+use repo_dial::{Dial, drive_again};
 use repo_files::{Scan, ScanError, Skipped, scan};
 use repo_session::{Client, DriveError, Outcome};
 use repo_tree::Entry;
@@ -21,16 +21,35 @@ use std::alloc::{AllocGlobal, Global};
 use std::fs::Files;
 use std::io::Write;
 
+/// Tells what is the matter with a path, as it is printed.
+fn tell_path<F: Write>(alloc: Global, matter: &str, path: &str, faults: &mut F) {
+    match printed(alloc, path) {
+        Ok(path) => tell(faults, &format_args!("{matter} {path}")),
+        Err(_) => tell(faults, &DriveError::Memory),
+    }
+}
+
 /// Tells what a scan left out, a line each.
-fn tell_skipped<F: Write>(skipped: &[Skipped], faults: &mut F) {
+fn tell_skipped<F: Write>(alloc: Global, skipped: &[Skipped], faults: &mut F) {
     for left in skipped {
         match left {
-            Skipped::Other(path) => tell(faults, &format_args!("skipped {path}")),
+            Skipped::Other(path) => tell_path(alloc, "skipped", path.as_str(), faults),
             Skipped::Unnamed(folder) => {
-                tell(faults, &format_args!("skipped an entry in {folder}"));
+                tell_path(alloc, "skipped an entry in", folder.as_str(), faults);
             }
         }
     }
+}
+
+/// Tells why a folder can't be backed up.
+fn not_scanned<F: Write>(alloc: Global, error: ScanError, faults: &mut F) -> Status
+    ensures { result ≡ Status.Failed }
+{
+    match error {
+        ScanError::Unreadable(path) => tell_path(alloc, "unreadable", path.as_str(), faults),
+        ScanError::Memory => tell(faults, &DriveError::Memory),
+    }
+    Status::Failed
 }
 
 /// Tells why entries can't be backed up.
@@ -116,7 +135,7 @@ pub fn backup_found<D: Dial, O: Write, F: Write>(
     if skipped.is_empty() {
         return backup_entries(alloc, caller, host, entries, dial, retry, output, faults);
     }
-    tell_skipped(skipped.as_slice(), faults);
+    tell_skipped(alloc, skipped.as_slice(), faults);
     let status = backup_entries(alloc, caller, host, entries, dial, retry, output, faults);
     flawed(status)
 }
@@ -142,7 +161,6 @@ pub fn backup_command<T: Files + AllocGlobal + Clone + Drop, D: Dial, O: Write, 
 {
     match scan(rt, folder) {
         Ok(found) => backup_found(rt.alloc(), caller, host, found, dial, retry, output, faults),
-        Err(ScanError::Unreadable(path)) => failed(faults, &format_args!("unreadable {path}")),
-        Err(ScanError::Memory) => failed(faults, &DriveError::Memory),
+        Err(error) => not_scanned(rt.alloc(), error, faults),
     }
 }

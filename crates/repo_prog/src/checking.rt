@@ -6,12 +6,11 @@ ghost use Rattle.repo_prog.specs.declared.status.Status.{Status};
 ghost use Rattle.repo_prog.specs.Shown.{ShowsChecked, TellsChecked};
 ghost use Rattle.repo_prog.specs.Jobs.{CheckObeyed};
 
-use crate::again::drive_again;
 use crate::callers::{Caller, HOST};
-use crate::dialing::Dial;
 use crate::status::{Status, failed, flawed};
 use crate::telling::{clean_line, fault_lines, show_made, unfinished};
 use repo_check::Check;
+use repo_dial::{Dial, drive_again};
 use repo_session::{Client, DriveError, Outcome};
 use std::alloc::Global;
 use std::io::Write;

@@ -3,18 +3,25 @@
 ghost use Rattle.std.specs.Prelude.{◌≡◌, ◌≢◌, ◌⊎◌, ◌↔◌, [], IfOk, IsErr};
 ghost use Rattle.repo_prune.specs.declared.choices.Choice.{Choice};
 
-use crate::words::{WordsError, number};
+use crate::words::{WordsError, number, with_word};
 use clap::{Arg, ArgMatches, Command};
 use repo_name::{Name, Names};
 use repo_prune::{Choice, Policy};
 use std::alloc::{AllocError, Global};
 
+/// An option whose word is a count.
+fn count<'a>(alloc: Global, name: &'a str) -> Result<Arg<'a>, AllocError> {
+    match number(alloc, name, "0") {
+        Ok(word) => Ok(word.value_parser(clap::value_parser!(u32))),
+        Err(error) => Err(error),
+    }
+}
+
 /// The words of a choice, added to those of a command.
 pub fn choice_words<'a>(alloc: Global, command: Command<'a>) -> Result<Command<'a>, AllocError> {
-    let last = number(alloc, "keep-last", "0")?.value_parser(clap::value_parser!(u32));
-    let daily = number(alloc, "keep-daily", "0")?.value_parser(clap::value_parser!(u32));
-    let names = Arg::new(alloc, "NAME").num_args(0..);
-    command.arg(last)?.arg(daily)?.arg(names)
+    let command = with_word(command, count(alloc, "keep-last"))?;
+    let command = with_word(command, count(alloc, "keep-daily"))?;
+    with_word(command, Ok(Arg::new(alloc, "NAME").num_args(0..)))
 }
 
 /// A count that `clap` has read.

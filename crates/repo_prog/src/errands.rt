@@ -105,19 +105,46 @@ fn unlock_words<'a>(alloc: Global) -> Result<Command<'a>, AllocError> {
     errand_words(alloc, "unlock", about, UNLOCK)?.arg(flag(alloc, "remove-all"))
 }
 
+/// The words of one more command, added to those of the program.
+fn with_command<'a>(
+    program: Command<'a>,
+    words: Result<Command<'a>, AllocError>,
+) -> Result<Command<'a>, AllocError> {
+    match words {
+        Ok(words) => program.subcommand(words),
+        Err(error) => Err(error),
+    }
+}
+
+/// The commands that store and give back, added to those of the program.
+fn with_copies<'a>(alloc: Global, program: Command<'a>) -> Result<Command<'a>, AllocError> {
+    let program = with_command(program, backup_words(alloc))?;
+    let program = with_command(program, snapshots_words(alloc))?;
+    with_command(program, restore_words(alloc))
+}
+
+/// The commands that want the store for themselves, added to those of the program.
+fn with_repairs<'a>(alloc: Global, program: Command<'a>) -> Result<Command<'a>, AllocError> {
+    let program = with_command(program, forget_words(alloc))?;
+    let program = with_command(program, prune_words(alloc))?;
+    with_command(program, check_words(alloc))
+}
+
+/// The commands of locks, added to those of the program.
+fn with_locks<'a>(alloc: Global, program: Command<'a>) -> Result<Command<'a>, AllocError> {
+    let program = with_command(
+        program,
+        errand_words(alloc, "locks", "Lists the live locks", LOCKS),
+    )?;
+    let program = with_command(program, refresh_words(alloc))?;
+    with_command(program, unlock_words(alloc))
+}
+
 /// The commands that go to a server, added to those of the program.
 pub fn with_errands<'a>(alloc: Global, program: Command<'a>) -> Result<Command<'a>, AllocError> {
-    let locks = errand_words(alloc, "locks", "Lists the live locks", LOCKS)?;
-    program
-        .subcommand(backup_words(alloc)?)?
-        .subcommand(snapshots_words(alloc)?)?
-        .subcommand(restore_words(alloc)?)?
-        .subcommand(forget_words(alloc)?)?
-        .subcommand(prune_words(alloc)?)?
-        .subcommand(check_words(alloc)?)?
-        .subcommand(locks)?
-        .subcommand(refresh_words(alloc)?)?
-        .subcommand(unlock_words(alloc)?)
+    let program = with_copies(alloc, program)?;
+    let program = with_repairs(alloc, program)?;
+    with_locks(alloc, program)
 }
 
 fn backup_errand(alloc: Global, words: &ArgMatches) -> Result<Errand, WordsError>

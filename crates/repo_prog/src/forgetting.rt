@@ -6,11 +6,10 @@ ghost use Rattle.repo_prog.specs.declared.status.Status.{Status};
 ghost use Rattle.repo_prog.specs.Shown.{ShowsForgotten, TellsForgotten};
 ghost use Rattle.repo_prog.specs.Jobs.{ForgetObeyed};
 
-use crate::again::drive_again;
 use crate::callers::{Caller, HOST};
-use crate::dialing::Dial;
 use crate::status::{Status, failed};
 use crate::telling::{forgotten_lines, show_made, unfinished};
+use repo_dial::{Dial, drive_again};
 use repo_prune::{Choice, Forget, ForgetError};
 use repo_session::{Client, DriveError, Outcome};
 use std::alloc::Global;

@@ -18,19 +18,17 @@
 //!
 //! The definitions stand in `specs/`: `HexLines` (lines, and the bytes that they spell), `FramesRun`
 //! (what `frames` gives), `Talks` (what holds while it runs), `Commands` (what the commands give), `Tellings` (the lines
-//! of the clients' commands), `Asking` (what those do that ask), `Dialing` (what is said over one connection after another), `Jobs`
+//! of the clients' commands), `Printing` (texts of others as they are printed), `Asking` (what those do that ask), `Jobs`
 //! (what those do that bring a job to its end, or as far as it comes), `Shown` (what is shown of a job's outcome), `Errands` (what
 //! a client's errand gives).
 #![tactic(auto)]
 
-mod again;
 mod backing;
 mod callers;
 mod checking;
 mod choosing;
 mod commands;
 mod connecting;
-mod dialing;
 mod errands;
 mod errors;
 mod forgetting;
@@ -41,6 +39,7 @@ mod locking;
 mod making;
 mod output;
 mod playing;
+mod printing;
 mod pruning;
 mod restoring;
 mod status;
@@ -48,13 +47,11 @@ mod talks;
 mod telling;
 mod words;
 
-pub use again::{TryError, drive_again};
 pub use backing::{backup_command, backup_entries, backup_found};
 pub use callers::{Caller, caller_now};
 pub use checking::check_command;
 pub use commands::{frames_command, perform, run};
 pub use connecting::{do_errand, run_errand};
-pub use dialing::{Address, Dial, Once};
 pub use errands::{Errand, LockErrand};
 pub use errors::FramesError;
 pub use forgetting::forget_command;
@@ -64,6 +61,7 @@ pub use locking::{locks_command, refresh_command, unlock_command};
 pub use making::{init_command, init_folder, random_instance};
 pub use playing::{Loopback, loop_command, play_command};
 pub use pruning::prune_command;
+pub use repo_dial::{Address, Dial, Once, TryError, drive_again};
 pub use repo_play::{PlayError, play};
 pub use restoring::{restore_command, restore_into, snapshots_command};
 pub use status::{Status, refuse_words};

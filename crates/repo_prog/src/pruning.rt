@@ -5,11 +5,10 @@ ghost use Rattle.repo_prog.specs.declared.status.Status.{Status};
 ghost use Rattle.repo_prog.specs.Shown.{ShowsPruned, TellsPruned};
 ghost use Rattle.repo_prog.specs.Jobs.{PruneObeyed};
 
-use crate::again::drive_again;
 use crate::callers::{Caller, HOST};
-use crate::dialing::Dial;
 use crate::status::{Status, failed};
 use crate::telling::{pruned_line, show_made, unfinished};
+use repo_dial::{Dial, drive_again};
 use repo_prune::Prune;
 use repo_session::{Client, DriveError, Outcome};
 use std::alloc::Global;

@@ -7,11 +7,10 @@ ghost use Rattle.repo_prog.specs.Jobs.{RestoresSnapshot, ListObeyed, RestoreObey
 ghost use Rattle.repo_prog.specs.declared.status.Status.{Status};
 ghost use Rattle.repo_prog.specs.Shown.{ShowsListed, TellsListed, ShowsRestored, TellsRestored};
 
-use crate::again::{TryError, drive_again};
 use crate::callers::{Caller, HOST};
-use crate::dialing::Dial;
 use crate::status::{Status, failed};
 use crate::telling::{complete_line, show_made, snapshot_lines, unfinished};
+use repo_dial::{Dial, TryError, drive_again};
 use repo_files::{Restorer, RestorerError};
 use repo_name::Name;
 use repo_restore::{Restore, SnapshotList};

@@ -5,6 +5,7 @@ ghost use Rattle.repo_prog.specs.Commands.{IsEnd};
 ghost use Rattle.repo_prog.specs.Tellings.{lock_word, lock_line, lock_lines, snapshot_line, snapshot_lines, stored_line, complete_line, forgotten_line, forgotten_lines, pruned_line, clean_line, fault_word, fault_line, fault_lines, removed_line, Shows};
 ghost use Rattle.repo_prog.specs.declared.status.Status.{Status};
 
+use crate::printing::printed;
 use crate::status::{Status, failed};
 use repo_name::{LockRow, Name, Token};
 use repo_session::{CheckFault, DriveError, FaultKind, Outcome, result_text, thing_word};
@@ -25,8 +26,8 @@ fn lock_word(exclusive: bool) -> &'static str
 fn lock_line(alloc: Global, row: &LockRow) -> Result<String, AllocError>
     ensures { IfOk result (λ line. string_bytes line ≡ lock_line row.now) }
 {
-    let (token, time) = (row.token.0, row.time);
-    let (word, host) = (lock_word(row.exclusive), row.host.as_str());
+    let (token, time, word) = (row.token.0, row.time, lock_word(row.exclusive));
+    let host = printed(alloc, row.host.as_str())?;
     format!(in alloc; "{token} {word} {time} {host}\n")
 }
 
@@ -47,7 +48,7 @@ fn snapshot_line(alloc: Global, row: &(Name, Snapshot)) -> Result<String, AllocE
     ensures { IfOk result (λ line. string_bytes line ≡ snapshot_line row.now) }
 {
     let name = row.0.to_hex(alloc)?;
-    let (time, host) = (row.1.time, row.1.host.as_str());
+    let (time, host) = (row.1.time, printed(alloc, row.1.host.as_str())?);
     format!(in alloc; "{name} {time} {host}\n")
 }
 

@@ -96,28 +96,45 @@ pub fn needed<'a>(alloc: Global, name: &'a str) -> Arg<'a> {
     Arg::new(alloc, name).required(true).action(ArgAction::Set)
 }
 
+/// One more word of a command, where there was memory for it.
+pub fn with_word<'a>(
+    command: Command<'a>,
+    word: Result<Arg<'a>, AllocError>,
+) -> Result<Command<'a>, AllocError> {
+    match word {
+        Ok(word) => command.arg(word),
+        Err(error) => Err(error),
+    }
+}
+
 fn init_words<'a>(alloc: Global) -> Result<Command<'a>, AllocError> {
-    Command::new(alloc, "init")
+    let command = Command::new(alloc, "init")
         .about("Makes a store in a folder")
-        .after_help(INIT)
-        .arg(needed(alloc, "DIR"))?
-        .arg(number(alloc, "min", "524288")?)?
-        .arg(number(alloc, "max", "8388608")?)?
-        .arg(number(alloc, "bits", "20")?)?
-        .arg(number(alloc, "target", "16777216")?)
+        .after_help(INIT);
+    let command = with_word(command, Ok(needed(alloc, "DIR")))?;
+    let command = with_word(command, number(alloc, "min", "524288"))?;
+    let command = with_word(command, number(alloc, "max", "8388608"))?;
+    let command = with_word(command, number(alloc, "bits", "20"))?;
+    with_word(command, number(alloc, "target", "16777216"))
+}
+
+/// How many seconds a connection may say nothing.
+fn idle<'a>(alloc: Global) -> Result<Arg<'a>, AllocError> {
+    match number(alloc, "idle", "21600") {
+        Ok(word) => Ok(word.value_name("SECONDS")),
+        Err(error) => Err(error),
+    }
 }
 
 fn serve_words<'a>(alloc: Global) -> Result<Command<'a>, AllocError> {
-    let idle = number(alloc, "idle", "21600")?.value_name("SECONDS");
-    let append_only = flag(alloc, "append-only");
-    Command::new(alloc, "serve")
+    let command = Command::new(alloc, "serve")
         .about("Serves the store in a folder to one connection after another")
-        .after_help(SERVE)
-        .arg(needed(alloc, "DIR"))?
-        .arg(needed(alloc, "ADDR"))?
-        .arg(number(alloc, "connections", "1")?)?
-        .arg(idle)?
-        .arg(append_only)
+        .after_help(SERVE);
+    let command = with_word(command, Ok(needed(alloc, "DIR")))?;
+    let command = with_word(command, Ok(needed(alloc, "ADDR")))?;
+    let command = with_word(command, number(alloc, "connections", "1"))?;
+    let command = with_word(command, idle(alloc))?;
+    with_word(command, Ok(flag(alloc, "append-only")))
 }
 
 /// What `vault --version` tells.

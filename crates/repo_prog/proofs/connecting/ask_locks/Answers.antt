@@ -1,5 +1,5 @@
 use Rattle.std.proofs.Common.{Some, inr, sym, subst, option_map}
-use Rattle.repo_prog.specs.Dialing.{ends, Dials}
+use Rattle.repo_dial.specs.Dialing.{ends, Dials}
 use Rattle.repo_prog.specs.Errands.{LocksGive}
 use Rattle.repo_prog.proofs.connecting.ask_locks.Goals as goal
 

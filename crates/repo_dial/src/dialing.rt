@@ -1,7 +1,7 @@
 //! Connections to a server, made one after another.
 
 ghost use Rattle.std.specs.Prelude.{◌≡◌, ◌≤◌, ◌↔◌, ◌∷◌, [], Some, IfSome, IsSome, option_map};
-ghost use Rattle.repo_prog.specs.Dialing.{Coming, coming_once, ends, Dials};
+ghost use Rattle.repo_dial.specs.Dialing.{Coming, coming_once, ends, Dials};
 
 use std::io::{Read, Write};
 use std::net::{Net, OpenStream, TcpStream};
@@ -101,7 +101,7 @@ impl<R: Read + Drop, W: Write + Drop> Once<R, W> {
 }
 
 impl<R: Read + Drop, W: Write + Drop> Dial for Once<R, W> {
-    ghost use Rattle.repo_prog.specs.Dialing.{coming_once};
+    ghost use Rattle.repo_dial.specs.Dialing.{coming_once};
 
     type Reader = R;
 

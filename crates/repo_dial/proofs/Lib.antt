@@ -1,0 +1,3 @@
+pub mod DialLemmas
+pub mod BringLemmas
+pub mod TryLemmas
