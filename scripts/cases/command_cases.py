@@ -11,6 +11,10 @@ OTHER_SAYS = [("token", 9), ("done",), ("names", False, [name_of(b"x")]), ("byte
               ("rows", [(1, False, 5, "a")])]
 LENGTHS = {"a length below the least": "00000018", "a length above the greatest": "01900001"}
 ABC = name_of(b"abc")
+# Hosts that aren't printed as they are, each with the characters beside those; and some that are.
+ODD_HOSTS = ["a\nb", "\x1b[31m", "\\u{a}", *(f"<{chr(code)}>" for code in (
+    0, 0x1F, 0x20, 0x7E, 0x7F, 0x9F, 0xA0, 0x61B, 0x61C, 0x61D, 0x200D, 0x200E, 0x200F, 0x2010, 0x2027, 0x2028, 0x2029, 0x202A, 0x202E, 0x202F,
+    0x2065, 0x2066, 0x2069, 0x206A, 0x1F600))]
 
 
 def say(sequence, what, instance=INSTANCE):
@@ -85,6 +89,7 @@ def locks(script):
             ("none", []), ("an exclusive one", [row(1, True)]),
             ("hosts with spaces and of other letters", [row(3, host="a b"), row(2**64 - 1, True, 2**64 - 1, "mañana-末")]),
             ("a host of 255 bytes", [row(7, host="h" * 255)]),
+            ("hosts that leave their line", [row(token, host=host) for token, host in enumerate(ODD_HOSTS, 1)]),
             ("as many as there may be", [row(token, time=token) for token in range(1, 257)])):
         script.heading("locks: " + text)
         script.locks(says(("rows", rows)))
@@ -246,6 +251,9 @@ def lists(script):
     for text, data in snapshots_texts():
         script.heading("snapshots: a snapshot " + text)
         script.snapshots(says(*OPENED, ("names", False, [name_of(data)]), ("bytes", data), ("done",)))
+    odd = sorted((snapshot_text(host, 5, 1, ABC) for host in ODD_HOSTS), key=name_of)
+    script.heading("snapshots: hosts that leave their line")
+    script.snapshots(says(*OPENED, ("names", False, [name_of(text) for text in odd]), *[("bytes", text) for text in odd], ("done",)))
     script.heading("snapshots: one of another name")
     script.snapshots(says(*OPENED, ("names", False, [ABC]), ("bytes", SNAPSHOT), ("done",)))
     texts = [snapshot_text("host " + letter, 7, 2, ABC) for letter in "xyz"]

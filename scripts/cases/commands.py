@@ -9,6 +9,15 @@ from prunes import Prune
 
 INSTANCE = bytes([1]) * 16
 STALE = 1_800
+# What isn't printed as it is: control characters, ends of lines and of paragraphs, and turns of the direction of writing.
+HIDDEN = (range(0x20), range(0x7F, 0xA0), range(0x2028, 0x202A), range(0x61C, 0x61D), range(0x200E, 0x2010), range(0x202A, 0x202F),
+          range(0x2066, 0x206A))
+
+
+def printed(text):
+    """A text of others as it is printed."""
+    return "".join(f"\\u{{{ord(char):x}}}" if any(ord(char) in hidden for hidden in HIDDEN) else char for char in text)
+
 
 
 class Failed(Exception):
@@ -79,9 +88,19 @@ class Talk:
             client.take(self.hear(request))
             for part in client.emitted:
                 if len(self.run.given) == self.server.stop:
+                    self.take_leave(client)
                     raise Failed("stopped")
                 self.run.given.append(part)
         return client.outcome
+
+    def take_leave(self, client):
+        """Asks for the end of a client's lock, in the place of what is pending. What comes of it isn't told."""
+        if not client.pending:
+            return
+        try:
+            self.ask(client.pending.sequence, ("unlock", client.token))
+        except Failed:
+            pass
 
     def show(self, text):
         self.run.output, whole = written(self.run.output, self.server.output_room, text.encode())
@@ -107,7 +126,7 @@ def done(say):
 def locks(talk):
     lines = ""
     for token, exclusive, time, host in rows_of(talk.ask(1, ("locks",))):
-        lines += f"{token} {'exclusive' if exclusive else 'shared'} {time} {host}\n"
+        lines += f"{token} {'exclusive' if exclusive else 'shared'} {time} {printed(host)}\n"
     talk.show(lines)
 
 
@@ -135,7 +154,7 @@ def job(talk, core, host):
 
 def snapshots(talk):
     rows = job(talk, List(), "vault").rows
-    talk.show("".join(f"{name.hex()} {time} {host}\n" for name, host, time, _ in rows))
+    talk.show("".join(f"{name.hex()} {time} {printed(host)}\n" for name, host, time, _ in rows))
 
 
 def restore(talk, name):
