@@ -1,29 +1,20 @@
-//! Tests over real folders and sockets: shelves, power cuts, scans and restores, and the commands that make and serve a
-//! store, or go to a folder of files; the help of the commands, the texts of errors, and commands whose growth is refused.
+//! Tests of what has to fail in the middle: shelves in folders whose machine stops, is killed, or fails in a call, scans and
+//! restores that meet the same, jobs whose connections end or lead to another store, and commands whose growth is refused.
+//! What the program does over real folders and sockets otherwise is tried on the program itself (`trials/`).
 //!
 //! They stand in a crate of their own since the proof of a crate with tests is made twice, with them and without.
 #![tactic(auto)]
 
 #[cfg(test)]
-mod claims;
-#[cfg(test)]
 mod cuts;
 #[cfg(test)]
 mod cutting;
-#[cfg(test)]
-mod folder_commands;
-#[cfg(test)]
-mod folders;
-#[cfg(test)]
-mod folders_served;
 #[cfg(test)]
 mod fuses;
 #[cfg(test)]
 mod growth;
 #[cfg(test)]
 mod lasting;
-#[cfg(test)]
-mod making;
 #[cfg(test)]
 mod meddling;
 #[cfg(test)]
@@ -44,8 +35,6 @@ mod scanning;
 mod serving;
 #[cfg(test)]
 mod shelves;
-#[cfg(test)]
-mod sockets;
 #[cfg(test)]
 mod texts;
 #[cfg(test)]

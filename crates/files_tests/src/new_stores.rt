@@ -1,14 +1,12 @@
 //! The command that makes a store, over shelves in memory.
 
-use crate::runs::{Run, Shut, small_config};
+use crate::runs::{Run, small_config};
 use repo_name::Instance;
 use repo_prog::{Status, init_command};
 use repo_store::{Fail, FaultShelf, MemShelf, Shelf};
 use std::alloc::{AllocError, Global};
 use std::io::Write;
 use std::process::Abort;
-
-const CREATED: &str = "0|created abababababababababababababababab\n|";
 
 /// A shelf, and how much wasn't as wanted.
 #[derive(Drop)]
@@ -72,23 +70,6 @@ impl Trial {
         self.shelf.arm(how);
         self.tells("1||shelf failed\n");
     }
-
-    /// A store is made, and its line can't be written.
-    fn is_not_told(&mut self) {
-        let is_so = match made(self.alloc, &mut self.shelf, &mut Shut) {
-            Ok(run) => run.tells(self.alloc, "1||write failed\n"),
-            Err(_) => false,
-        };
-        self.count(is_so);
-    }
-}
-
-#[test]
-fn init_tells_the_instance(rt: HostRuntime) {
-    let mut trial = Trial::new(rt.alloc());
-    trial.tells(CREATED);
-    trial.tells("1||exists\n");
-    trial.end(&rt);
 }
 
 // The write of the config fails twice: the first time it wasn't made, the second time it was.
@@ -97,14 +78,6 @@ fn a_shelf_that_fails_is_told(rt: HostRuntime) {
     let mut trial = Trial::new(rt.alloc());
     trial.fails(Fail::Write(false));
     trial.fails(Fail::Write(true));
-    trial.tells("1||exists\n");
-    trial.end(&rt);
-}
-
-#[test]
-fn a_store_whose_line_is_not_written_is_made(rt: HostRuntime) {
-    let mut trial = Trial::new(rt.alloc());
-    trial.is_not_told();
     trial.tells("1||exists\n");
     trial.end(&rt);
 }

@@ -7,7 +7,6 @@ use repo_files::{Scan, ScanError, Skipped, scan};
 use repo_tree::{Entry, EntryKind};
 use std::alloc::{AllocError, AllocGlobal, Global};
 use std::fs::Files;
-use std::os::unix::net::UnixListener;
 use std::panic::Expect;
 
 /// Adds the path of an entry.
@@ -85,17 +84,7 @@ impl Yard {
         self.count(is_so);
     }
 
-    /// A scan of a folder tells this, where `$` stands for the path of the root.
-    fn scans(&mut self, word: &str, wanted: &str) {
-        let (word, wanted) = (
-            self.with(word, self.root.as_str()),
-            self.with(wanted, self.root.as_str()),
-        );
-        let rt = self.rt;
-        self.tells_scan(&rt, word.as_str(), wanted.as_str());
-    }
-
-    /// The same over a file system that plays a trick.
+    /// A scan over a file system that plays a trick tells this, where `$` stands for the path of the root.
     fn scans_over(&mut self, trick: Trick, word: &str, wanted: &str) {
         let fuse = Fuse::playing(self.rt.alloc(), trick);
         let files = Cut::new(self.rt, &fuse);
@@ -120,13 +109,6 @@ impl Yard {
         self.count(is_so);
     }
 
-    /// Listens there, and scans.
-    fn scans_with_socket(&mut self, name: &str, wanted: &str) {
-        let listener = UnixListener::bind(&self.rt, self.place(name).as_str());
-        self.scans("$", wanted);
-        self.count(listener.is_ok());
-    }
-
     /// Makes so many folders one in another.
     fn makes_levels(&mut self, levels: u64) {
         let deepest = text_or_none(self.rt.alloc(), repeated(self.rt.alloc(), "d/", levels));
@@ -138,67 +120,6 @@ impl Yard {
         let text = text_or_none(self.rt.alloc(), told(&self.rt, self.root.as_str()));
         self.count(text.as_str().lines().count() == levels);
     }
-
-    /// Writes a file of so many bytes 7.
-    fn writes_sevens(&mut self, name: &str, count: u64) {
-        let text = text_or_none(self.rt.alloc(), repeated(self.rt.alloc(), "\x07", count));
-        self.writes(name, text.as_str());
-    }
-}
-
-// The last file is above the greatest chunk that the least limits of a store allow. With a slash at its end the
-// word names the same folder.
-#[test]
-fn entries_come_in_the_order_of_their_components(rt: HostRuntime) {
-    let mut yard = Yard::empty(rt, "scan").expect(&rt, "no folder");
-    for name in ["a/b/c", "a-b", "empty"] {
-        yard.makes(name);
-    }
-    for name in ["a/b/c/with space", "a/z", "a-b/Zürich ✓", "B", "~"] {
-        yard.writes(name, "abc");
-    }
-    yard.writes("none", "");
-    yard.writes_sevens("z", 100_000);
-    let wanted =
-        "B:3:99\na\na/b\na/b/c\na/b/c/with space:3:99\na/z:3:99\na-b\na-b/Zürich ✓:3:99\nempty\nnone:0:0\nz:100000:7\n~:3:99\n";
-    yard.scans("$", wanted);
-    yard.scans("$/", wanted);
-    yard.end(&rt);
-}
-
-// A link back to the folder itself, one to a file, and one to nothing.
-#[test]
-fn links_and_sockets_are_left_out(rt: HostRuntime) {
-    let mut yard = Yard::empty(rt, "links").expect(&rt, "no folder");
-    yard.makes("d");
-    yard.writes("f", "abc");
-    yard.links("d/loop", "..");
-    yard.links("e", "f");
-    yard.links("g", "nothing");
-    yard.scans_with_socket(
-        "s",
-        "d\nf:3:99\nother $/d/loop\nother $/e\nother $/g\nother $/s\n",
-    );
-    yard.end(&rt);
-}
-
-#[test]
-fn the_folder_itself_may_be_given_by_a_link(rt: HostRuntime) {
-    let mut yard = Yard::empty(rt, "link").expect(&rt, "no folder");
-    yard.makes("d/e");
-    yard.links("to", "d");
-    yard.scans("$/to", "e\n");
-    yard.end(&rt);
-}
-
-#[test]
-fn a_word_that_is_no_folder_is_unreadable(rt: HostRuntime) {
-    let mut yard = Yard::empty(rt, "no-folder").expect(&rt, "no folder");
-    yard.scans("$/away", "unreadable $/away");
-    yard.writes("file", "abc");
-    yard.scans("$/file", "unreadable $/file");
-    yard.scans("", "unreadable ");
-    yard.end(&rt);
 }
 
 // A whole scan lists two folders, looks at two entries, and opens the file, looks at it and reads it twice.
@@ -218,14 +139,6 @@ fn a_folder_of_many_levels(rt: HostRuntime) {
     let mut yard = Yard::empty(rt, "levels").expect(&rt, "no folder");
     yard.makes_levels(300);
     yard.scans_levels(300);
-    yard.end(&rt);
-}
-
-#[test]
-fn names_that_are_no_text_are_counted(rt: HostRuntime) {
-    let mut yard = Yard::empty(rt, "odd").expect(&rt, "no folder");
-    yard.makes("d");
-    yard.scans_over(Trick::OddName, "$", "d\nunnamed in $\nunnamed in $/d\n");
     yard.end(&rt);
 }
 

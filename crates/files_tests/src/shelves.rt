@@ -2,7 +2,6 @@
 
 use crate::yards::Yard;
 use repo_files::DirShelf;
-use repo_locks::Ledger;
 use repo_name::{Kind, Name, Token, name_of};
 use repo_store::{Shelf, ShelfError, Slice};
 use std::io;
@@ -27,61 +26,15 @@ impl Trial {
         Ok(Trial { yard, shelf })
     }
 
-    /// The same folder, opened again.
-    fn again(self) -> io::Result<Trial> {
-        let Trial { yard, shelf } = self;
-        drop(shelf);
-        let shelf = DirShelf::open(yard.rt, yard.root.as_str())?;
-        Ok(Trial { yard, shelf })
-    }
-
-    /// The same folder, in which a store is made again.
-    fn remade(self) -> io::Result<Trial> {
-        let Trial { yard, shelf } = self;
-        drop(shelf);
-        Trial::made(yard)
-    }
-
     fn puts(&mut self, kind: Kind, name: &Name, bytes: &[u8]) {
         let is_put = self.shelf.put(kind, name, bytes).is_ok();
         self.yard.count(is_put);
-    }
-
-    fn removes(&mut self, kind: Kind, name: &Name) {
-        let is_removed = self.shelf.remove(kind, name).is_ok();
-        self.yard.count(is_removed);
-    }
-
-    fn has(&mut self, kind: Kind, name: &Name, wanted: &[u8]) {
-        let is_so = match self.shelf.get(kind, name) {
-            Ok(Some(found)) => found.as_slice() == wanted,
-            _ => false,
-        };
-        self.yard.count(is_so);
-    }
-
-    fn lacks(&mut self, kind: Kind, name: &Name) {
-        let is_so = matches!(self.shelf.get(kind, name), Ok(None));
-        self.yard.count(is_so);
     }
 
     fn lists(&mut self, kind: Kind, after: Option<&Name>, wanted: &[Name], more: bool) {
         let is_so = match self.shelf.names_after(kind, after, 2) {
             Ok(page) => page.names.as_slice() == wanted && page.more == more,
             Err(_) => false,
-        };
-        self.yard.count(is_so);
-    }
-
-    fn configures(&mut self, bytes: &[u8]) {
-        let is_saved = self.shelf.save_config(bytes).is_ok();
-        self.yard.count(is_saved);
-    }
-
-    fn is_configured(&mut self, wanted: &[u8]) {
-        let is_so = match self.shelf.config() {
-            Ok(Some(found)) => found.as_slice() == wanted,
-            _ => false,
         };
         self.yard.count(is_so);
     }
@@ -104,23 +57,6 @@ impl Trial {
         let is_so = matches!(self.shelf.range(name, offset, length), Ok(Slice::Missing));
         self.yard.count(is_so);
     }
-
-    /// The ledger's next number is this one, and is kept.
-    fn numbers(&mut self, wanted: Token) {
-        let is_so = matches!(number(&mut self.shelf), Ok(token) if token == wanted);
-        self.yard.count(is_so);
-    }
-
-    /// The ledger can't be read.
-    fn is_unread(&mut self) {
-        let is_so = matches!(self.shelf.ledger(), Err(ShelfError::Fault));
-        self.yard.count(is_so);
-    }
-
-    fn failed(&mut self, wanted: u64) {
-        let is_so = self.shelf.failures() == wanted;
-        self.yard.count(is_so);
-    }
 }
 
 /// Takes a number from the shelf's ledger and saves it.
@@ -131,30 +67,6 @@ pub(crate) fn number<S: Shelf>(shelf: &mut S) -> Result<Token, ShelfError> {
     };
     shelf.save_ledger(&ledger)?;
     Ok(token)
-}
-
-const KINDS: [Kind; 3] = [Kind::Pack, Kind::Index, Kind::Snapshot];
-
-#[test]
-fn what_was_put_is_there_when_opened_again(rt: HostRuntime) {
-    let mut trial = Trial::new(rt, "again").expect(&rt, "no folder");
-    let name = name_of(b"abc");
-    for kind in KINDS {
-        trial.puts(kind, &name, b"abc");
-    }
-    trial.configures(b"{}");
-    let mut trial = trial.again().expect(&rt, "not opened");
-    for kind in KINDS {
-        trial.has(kind, &name, b"abc");
-        trial.lists(kind, None, &[name], false);
-        trial.lists(kind, Some(&name), &[], false);
-    }
-    trial.is_configured(b"{}");
-    trial.removes(Kind::Pack, &name);
-    trial.removes(Kind::Pack, &name);
-    trial.lacks(Kind::Pack, &name);
-    trial.failed(0);
-    trial.yard.end(&rt);
 }
 
 #[test]
@@ -183,19 +95,5 @@ fn pages_pass_over_files_of_other_names(rt: HostRuntime) {
     }
     trial.lists(Kind::Pack, None, &[one, five], true);
     trial.lists(Kind::Pack, Some(&one), &[five, nine], false);
-    trial.yard.end(&rt);
-}
-
-#[test]
-fn a_ledger_that_cannot_be_read_is_a_failure(rt: HostRuntime) {
-    let mut trial = Trial::new(rt, "ledger").expect(&rt, "no folder");
-    trial.numbers(Token(1));
-    let mut trial = trial.remade().expect(&rt, "not made");
-    trial.numbers(Token(2));
-    trial.yard.writes("ledger", "no ledger");
-    trial.is_unread();
-    trial.yard.removes("ledger");
-    trial.is_unread();
-    trial.failed(2);
     trial.yard.end(&rt);
 }

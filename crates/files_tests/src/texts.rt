@@ -1,7 +1,6 @@
-//! The help of the commands, and the texts of errors.
+//! The texts of errors.
 
-use crate::runs::words_run;
-use repo_prog::{FramesError, Status};
+use repo_prog::FramesError;
 use repo_session::DriveError;
 use repo_store::{InitError, ServeError};
 use std::alloc::Global;
@@ -38,39 +37,6 @@ impl Trial {
             Err(_) => self.count(false),
         }
     }
-
-    /// A text is among others.
-    fn has(&mut self, text: &str, wanted: &str) {
-        self.count(text.contains(wanted));
-    }
-
-    /// The help of a command has an example, and says what its exit statuses mean.
-    fn helps(&mut self, rt: HostRuntime, words: &str, example: &str) {
-        let ran = words_run(rt, words);
-        self.count(ran.status == Status::Done && ran.faults.is_empty());
-        let help = str::from_utf8(ran.output.as_slice()).unwrap_or("");
-        self.has(help, "Example:");
-        self.has(help, example);
-        self.has(help, "Exit status:");
-    }
-}
-
-#[test]
-fn helps(rt: HostRuntime) {
-    let mut trial = Trial::new(rt.alloc());
-    trial.helps(rt, "vault frames --help", "vault frames");
-    trial.helps(rt, "vault init --help", "vault init");
-    trial.helps(rt, "vault serve --help", "vault serve");
-    trial.helps(rt, "vault backup --help", "vault backup");
-    trial.helps(rt, "vault snapshots --help", "vault snapshots");
-    trial.helps(rt, "vault restore --help", "vault restore");
-    trial.helps(rt, "vault forget --help", "vault forget");
-    trial.helps(rt, "vault prune --help", "vault prune");
-    trial.helps(rt, "vault check --help", "vault check");
-    trial.helps(rt, "vault locks --help", "vault locks");
-    trial.helps(rt, "vault refresh --help", "vault refresh");
-    trial.helps(rt, "vault unlock --help", "vault unlock");
-    trial.end(&rt);
 }
 
 #[test]

@@ -1,6 +1,5 @@
 //! A folder of a test's own, and what is tried in it.
 
-use crate::runs::words_run;
 use std::alloc::{AllocError, Global};
 use std::os::unix::fs::symlink;
 use std::process::Abort;
@@ -62,13 +61,6 @@ impl Yard {
         Ok(yard)
     }
 
-    /// A store with the usual numbers in a folder of this test's own.
-    pub(crate) fn store(rt: HostRuntime, test: &str) -> io::Result<Yard> {
-        let mut yard = Yard::new(rt, test)?;
-        yard.begins("vault init ", "", "0|created ");
-        Ok(yard)
-    }
-
     /// Counts a step.
     pub(crate) fn count(&mut self, is_so: bool) {
         self.tried = self.tried.saturating_add(1);
@@ -105,11 +97,6 @@ impl Yard {
     pub(crate) fn writes(&mut self, name: &str, text: &str) {
         let is_written = fs::write(&self.rt, self.place(name).as_str(), text.as_bytes()).is_ok();
         self.count(is_written);
-    }
-
-    pub(crate) fn removes(&mut self, name: &str) {
-        let is_removed = fs::remove_file(&self.rt, self.place(name).as_str()).is_ok();
-        self.count(is_removed);
     }
 
     /// Removes a file, if it is there.
@@ -158,25 +145,6 @@ impl Yard {
             Ok(found) => found.count() == entries,
             Err(_) => false,
         };
-        self.count(is_so);
-    }
-
-    /// Words around the folder's path: what the program tells, its status, output and faults.
-    pub(crate) fn told(&self, before: &str, after: &str) -> String {
-        let (alloc, root) = (self.rt.alloc(), self.root.as_str());
-        let words = text_or_none(alloc, format!(in alloc; "{before}{root}{after}"));
-        text_or_none(alloc, words_run(self.rt, words.as_str()).told(alloc))
-    }
-
-    /// Words around the folder's path: the program tells this.
-    pub(crate) fn tells(&mut self, before: &str, after: &str, wanted: &str) {
-        let is_so = self.told(before, after).as_str() == wanted;
-        self.count(is_so);
-    }
-
-    /// The same: what that begins with.
-    pub(crate) fn begins(&mut self, before: &str, after: &str, wanted: &str) {
-        let is_so = self.told(before, after).as_str().starts_with(wanted);
         self.count(is_so);
     }
 }
