@@ -1,7 +1,7 @@
 #!/usr/bin/env python3
 """Disturbs each step of each client in turn, in worlds that `vault play` plays, and looks at what is left.
 
-Usage: scripts/sweep.py [VAULT]
+Usage: trials/sweep.py [VAULT]
 
 Every world is a list of clients that run one after another. Before each step of each of them, once: the client stops for good;
 its lock is removed; or the device fails in that step, after its change, before it, or where it reads. The clients after it
