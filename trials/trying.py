@@ -14,7 +14,7 @@ import time
 import traceback
 from concurrent.futures import ProcessPoolExecutor, as_completed
 from dataclasses import dataclass
-from multiprocessing import get_context
+from multiprocessing import active_children, get_context
 from pathlib import Path
 from typing import Callable
 
@@ -150,9 +150,15 @@ def runs(numbers, jobs):
     count = {"ok": 0, "skipped": 0, "FAILED": 0}
     with ProcessPoolExecutor(jobs, mp_context=get_context("fork"), initializer=ends_on_signal) as pool:
         begun = {pool.submit(outcome, number): number for number in sorted(numbers, key=lambda number: not TRIALS[number].is_early)}
-        for it in as_completed(begun):
-            count[it.result()[0]] += 1
-            print(told_of(TRIALS[begun[it]].name, *it.result()), flush=True)
+        try:
+            for it in as_completed(begun):
+                count[it.result()[0]] += 1
+                print(told_of(TRIALS[begun[it]].name, *it.result()), flush=True)
+        except BaseException:
+            pool.shutdown(wait=False, cancel_futures=True)
+            for child in active_children():
+                child.terminate()
+            raise
     return count
 
 
