@@ -50,8 +50,9 @@ class Closed:
 class Server:
     """A store's folder that is served at a port that was free."""
 
-    def __init__(self, store, *words, connections=1, before=(), env=None):
-        how = {"stdin": subprocess.DEVNULL, "stdout": subprocess.PIPE, "stderr": subprocess.PIPE, "env": os.environ | env if env else None}
+    def __init__(self, store, *words, connections=1, before=(), env=None, preexec_fn=None):
+        how = {"stdin": subprocess.DEVNULL, "stdout": subprocess.PIPE, "stderr": subprocess.PIPE, "preexec_fn": preexec_fn}
+        how["env"] = os.environ | env if env else None
         for _ in range(TRIES):
             self.port = free_port()
             self.address = f"127.0.0.1:{self.port}"

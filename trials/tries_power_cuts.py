@@ -10,7 +10,7 @@ from cuts.lives import BY_CHANCE, PLACED
 from cuts.machine import Machine
 
 # How many seeds each life is lived with: in the gate, and with --long.
-SEEDS = {"undisturbed": (1, 3), "kills": (2, 60), "failures": (2, 60)}
+SEEDS = {"undisturbed": (1, 3), "kills": (1, 60), "failures": (1, 60)}
 
 
 def is_traced():
@@ -30,7 +30,7 @@ def lived(life, seed):
             life(machine)
         finally:
             machine.ends()
-        return judged(machine, 12 if OPTIONS.is_long else 3, 60 if OPTIONS.is_long else 8)
+        return judged(machine, 12 if OPTIONS.is_long else 2, 60 if OPTIONS.is_long else 5)
 
 
 def cut_in(life):
@@ -43,7 +43,7 @@ def cut_in(life):
             found = lived(life, seed)
             images, opened = images + found.images, opened + found.opened
             holds(not found.faults, f"seed {seed}, {found.images} images, {found.opened} opened: {found.first}; in all {dict(found.faults.most_common(6))}")
-        holds(images > 50 and opened > 1, f"{images} images were made, and {opened} opened")
+        holds(images > 50 and opened > 0, f"{images} images were made, and {opened} opened")
     run.__name__, run.__module__ = f"a_cut_{life.__name__}", __name__
     trial(run, is_early=True)
 

@@ -124,8 +124,7 @@ class Disk:
 
     def by_names(self, pick, bytes_of):
         """`pick` takes the states that a name went through, and gives one of them."""
-        return walked(self.root, lambda folder: {name: pick(folder.past[name]) if name in folder.past else folder.now[name]
-                                                for name in folder.now.keys() | folder.past.keys()}, bytes_of)
+        return walked(self.root, lambda folder: folder.now | {name: pick(past) for name, past in folder.past.items()}, bytes_of)
 
     def by_folders(self, chance, bytes_of):
         """Of each folder so many of its first changes last as chance has it."""
@@ -160,7 +159,9 @@ def walked(root, state, bytes_of):
         for name, node in state(folder).items():
             if isinstance(node, Folder):
                 folders.add(f"{path}/{name}")
-                rest.append((node, f"{path}/{name}"))
+                # In most of the folders there is nothing, and nothing was.
+                if node.now or node.past:
+                    rest.append((node, f"{path}/{name}"))
             elif node is not None:
                 files[f"{path}/{name}"] = bytes_of(node)
     return files, folders

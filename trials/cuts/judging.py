@@ -78,7 +78,7 @@ class Judge:
     def judges(self, where, is_answer):
         """Looks at the images that a cut now may leave."""
         for model, (files, folders) in cuts(self.disk, self.chance, self.few):
-            key = hash((frozenset((path, self.reader.name(data)) for path, data in files.items()), frozenset(folders), self.answers.count,
+            key = hash((frozenset((path, self.reader.name(data)) for path, data in files.items()), len(folders), self.answers.count,
                         len(self.answers.objects), len(self.answers.forgotten)))
             if key in self.seen:
                 continue
