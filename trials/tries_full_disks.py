@@ -17,7 +17,7 @@ SMALL_FILES, LARGE_FILES = {"one": bytes(range(256)) * 200}, {"one": bytes(range
 def small_disk(place, size):
     """A file system of this size."""
     place.mkdir()
-    if subprocess.run(["mount", "-t", "tmpfs", "-o", f"size={size}", "tmpfs", place], capture_output=True).returncode:
+    if subprocess.run(["mount", "-t", "tmpfs", "-o", size, "tmpfs", place], capture_output=True).returncode:
         raise Skipped("no file system can be mounted here")
     try:
         yield
@@ -28,7 +28,7 @@ def small_disk(place, size):
 @trial
 def a_full_disk_of_the_store():
     """`refused 10`; what was stored stands, what was being written is removed, and with more room the backup is made."""
-    with Yard() as yard, small_disk(yard.root, "2m"):
+    with Yard() as yard, small_disk(yard.root, "size=2m"):
         has_status(told("init", yard.root, *NUMBERS), 0)
         small, large = filled(yard.top / "small", SMALL_FILES), filled(yard.top / "large", LARGE_FILES)
         with Server(yard.root, connections=99) as server:
@@ -47,7 +47,7 @@ def a_full_disk_of_the_store():
 @trial
 def a_full_disk_that_is_restored_to():
     """`stopped`; files under their own names are whole, and with more room all comes back."""
-    with Yard(*NUMBERS, is_store=True) as yard, small_disk(yard.top / "to", "1m"):
+    with Yard(*NUMBERS, is_store=True) as yard, small_disk(yard.top / "to", "size=1m"):
         large = filled(yard.top / "large", LARGE_FILES)
         with Server(yard.root, connections=99) as server:
             name = stored(server.address, large)
@@ -61,9 +61,14 @@ def a_full_disk_that_is_restored_to():
 
 @trial
 def a_disk_without_room_for_a_store():
-    with Yard() as yard, small_disk(yard.root, "16k"):
+    """No store is made, and none is served; with more room the making is made whole."""
+    with Yard() as yard, small_disk(yard.root, "nr_inodes=99"):
         same(told("init", yard.root), "1||shelf failed\n")
         same(told("serve", yard.root, "127.0.0.1:0"), "1||shelf failed\n")
+        subprocess.run(["mount", "-o", "remount,nr_inodes=9999", yard.root], check=True)
+        has_status(told("init", yard.root), 0)
+        yard.holds("data", 256)
+        yard.holds("tmp", 0)
 
 
 def limited():

@@ -6,7 +6,7 @@ import struct
 from pathlib import Path
 
 from program import TICKET, Server, frame, number, rest_of
-from trying import OPTIONS, holds, same, trial
+from trying import OPTIONS, awaits, holds, same, trial
 from yards import Yard, entries, filled, gives_back, in_store, is_clean
 
 MOST = 26_214_400
@@ -64,15 +64,15 @@ def hostile_connections_by_the_hundred():
     with Yard(is_store=True) as yard, Server(yard.root, connections=10**9, env={"ASAN_OPTIONS": "detect_leaks=0:quarantine_size_mb=1"}) as server:
         chance, root = random.Random(4), filled(yard.top / "from", {"x": b"abc" * 9999, "d/y": b""})
         server.process.stderr.close()
-        gives_back(server.address, root, yard.top / "to")
         open_before = files(server)
+        gives_back(server.address, root, yard.top / "to")
         for at in range(count):
             sends(server, hostile(chance), chance)
             if at == count // 3:
                 same(server.asked(TICKET)[:10], "0000002181")
                 before = memory(server, "VmRSS:")
         same(server.asked(TICKET)[:10], "0000002181")
-        same(files(server), open_before, "open files")
+        awaits(lambda: files(server) == open_before, f"{open_before} open files, and not {files(server)}")
         after, most = memory(server, "VmRSS:"), memory(server, "VmHWM:")
         holds(after < before + 32_768, f"it has {after} KiB, and had {before}")
         holds(most < 512 * 1024, f"it had {most} KiB at most")
