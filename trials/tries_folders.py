@@ -150,14 +150,14 @@ def large_files_come_back():
     """Files of some megabytes, alike in parts: what stood there before isn't sent again."""
     with Yard("--min", 65536, "--max", 1048576, "--bits", 17, "--target", 1048576, is_store=True) as yard:
         chance = random.Random(5)
-        common = chance.randbytes(4_000_000)
-        root = filled(yard.top / "from", {"one": common, "two": common + chance.randbytes(900_000), "zeros": bytes(3_000_000), "odd": common[1:]})
+        common = chance.randbytes(1_500_000)
+        root = filled(yard.top / "from", {"one": common, "two": common + chance.randbytes(400_000), "zeros": bytes(2_000_000), "odd": common[1:]})
         with Server(yard.root, connections=9) as server:
             _, _, sent = matches(told("backup", server.address, "h", root), STORED)
-            holds(5_000_000 < int(sent) < 8_500_000, f"{sent} bytes were sent")
+            holds(1_900_000 < int(sent) < 5_000_000, f"{sent} bytes were sent")
             (root / "three").write_bytes(chance.randbytes(10) + common)
             sent = matches(told("backup", server.address, "h", root), STORED)[2]
-            holds(int(sent) < 2_500_000, f"{sent} bytes were sent for ten new ones")
+            holds(int(sent) < 1_300_000, f"{sent} bytes were sent for ten new ones")
             gives_back(server.address, root, yard.top / "again")
             is_clean(server.address)
 

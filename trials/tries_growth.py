@@ -96,13 +96,13 @@ def commands_whose_memory_is_refused():
         with Server(yard.root, connections=10**6) as server:
             name = stored(server.address, root)
             for words in (["backup", "h", root], ["snapshots"], ["restore", name, yard.top / "to"], ["check"], ["locks"], ["prune"], ["unlock"]):
-                refuses_each(server.address, library, mark, words)
+                refuses_each(server.address, library, mark, words, entries(root))
                 has_status(told("unlock", server.address, "--remove-all"), 0)
                 is_clean(server.address)
                 restores(server.address, name, yard.top / "to", entries(root))
 
 
-def refuses_each(address, library, mark, words):
+def refuses_each(address, library, mark, words, wanted):
     """Refuses the requests of a command, one in each run."""
     for count, at in enumerate(numbers()):
         for each in words[1:]:
@@ -114,6 +114,8 @@ def refuses_each(address, library, mark, words):
         if not mark.is_symlink():
             break
         holds(is_an_end(words[0], got), f"{words[0]}, request {at} refused: {got}")
+        if words[0] == "restore" and got.startswith("0|"):
+            same(entries(words[2]), wanted, f"what was restored, request {at} refused")
         if count > (10_000 if OPTIONS.is_long else 60):
             break
     holds(at > 10, f"{words[0]} made {at} requests")
@@ -130,7 +132,7 @@ def a_server_whose_memory_is_refused():
             try:
                 server = Server(yard.root, connections=9, env=refusing(library, mark, at))
             except AssertionError as error:
-                holds(str(error).startswith("serve: "), error)
+                holds(mark.is_symlink() and str(error).startswith("serve: "), error)
                 continue
             with server:
                 got = told("backup", server.address, "h", root)

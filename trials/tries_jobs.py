@@ -59,7 +59,8 @@ def a_policy_goes_host_by_host_and_day_by_day(yard):
     """Of each host the last ones, and the last one of each of the last days that have one; days without any don't count."""
     rows = [("a", DAY * day + second) for day in (1, 2, 3, 9) for second in (0, 5, DAY - 1)] + [("b", DAY * 3), ("b", DAY * 3 + 1), ("c", 7)]
     names = lays_snapshots(yard, rows)
-    kept = {("a", DAY * 9 + second) for second in (5, DAY - 1)} | {("a", DAY * day + DAY - 1) for day in (2, 3)} | {("b", DAY * 3), ("b", DAY * 3 + 1), ("c", 7)}
+    kept = {("a", DAY * 9 + second) for second in (5, DAY - 1)} | {("a", DAY * day + DAY - 1) for day in (2, 3)}
+    kept |= {("b", DAY * 3), ("b", DAY * 3 + 1), ("c", 7)}
     with Server(yard.root, connections=9) as server:
         gone = sorted(names[row] for row in rows if row not in kept)
         same(rows_of(told("forget", server.address, "--keep-last", 2, "--keep-daily", 3)), [f"forgotten {name}" for name in gone])

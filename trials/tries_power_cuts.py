@@ -2,7 +2,7 @@
 acknowledged. The calls are recorded by strace; nothing here is a real cut, which trials/disks.sh makes."""
 import subprocess
 
-from trying import OPTIONS, Skipped, holds, needs, trial
+from trying import OPTIONS, ROOT, Skipped, holds, needs, trial
 from yards import Yard
 
 from cuts.judging import judged
@@ -46,6 +46,15 @@ def cut_in(life):
         holds(images > 50 and opened > 0, f"{images} images were made, and {opened} opened")
     run.__name__, run.__module__ = f"a_cut_{life.__name__}", __name__
     trial(run, is_early=True)
+
+
+@trial(is_long=True, is_early=True)
+def a_cut_of_real_disks():
+    """A copy of a file system's disk, taken as it is, is what a cut leaves."""
+    run = subprocess.run([ROOT / "trials/disks.sh", OPTIONS.program], capture_output=True, text=True, stdin=subprocess.DEVNULL, timeout=3000)
+    if run.returncode == 3:
+        raise Skipped(run.stdout.replace("\n", "; "))
+    holds(run.returncode == 0, run.stdout + run.stderr)
 
 
 for each in (*BY_CHANCE, *PLACED):

@@ -20,7 +20,7 @@ from typing import Callable
 
 ROOT = Path(__file__).resolve().parents[1]
 # How long anything is waited for, in seconds. Nothing is shown by how long it takes; this only ends what hangs.
-WAIT = 180
+WAIT = 300
 MEMORY = Path("/dev/shm")
 
 
