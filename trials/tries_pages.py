@@ -34,7 +34,7 @@ def man_pages_say_what_the_program_says():
         for option in set(re.findall(r"--[a-z-]+", given)) - {"--help"}:
             holds(option in page, f"the page of {command} has no {option}")
         for line in re.findall(r"^  (?:\d  )?(\S.*)$", given.split("Example:")[1], re.M):
-            holds(" ".join(line.split()) in page, f"the page of {command} has no line {line!r}")
+            holds(" ".join(line.replace("`", "").split()) in page, f"the page of {command} has no line {line!r}")
 
 
 def plain(text):
