@@ -1,17 +1,21 @@
 #!/usr/bin/env python3
 """Disturbs each step of each client in turn, in worlds that `vault play` plays, and looks at what is left.
 
-Usage: scripts/sweep.py [VAULT]
+Usage: trials/sweep.py [--every N] [VAULT]
 
-Every world is a list of clients that run one after another. Before each step of each of them, once: the client stops for good;
-its lock is removed; or the device fails in that step, after its change, before it, or where it reads. The clients after it
-run on. Then all locks are removed, and a check has to be clean, and each snapshot that was reported as stored, and that no
+Every world is a list of clients that run one after another; in some of them a prune has crashed, a deletion is under way, or a lock
+was removed. Before each step of each of them, once: the client stops for good; it stops, its lock is removed, and its last request
+comes late, behind all others; its lock is removed and it goes on; or the device fails in that step, after its change, before it, or
+where it reads. The clients after it run on. Then all locks are removed, and a check has to be clean, and each snapshot that was reported as stored, and that no
 forget was asked to delete, has to be restored whole. What is printed has to stay the same where each request so far comes
 once more before the report, and where the store is closed and opened before each line, unless the device failed where it reads:
 a store that remembers reads at other steps.
 
-VAULT is the program; without it the one that `scripts/vault.sh` builds is run. Nothing is kept.
+VAULT is the program; without it the one that `scripts/vault.sh` builds is run. With N only each N-th disturbance is tried. Nothing is
+kept.
 """
+import argparse
+import itertools
 import re
 import subprocess
 import sys
@@ -26,13 +30,17 @@ MANY = 100
 
 @dataclass
 class Client:
-    """A client: the lines that start it, how many entries it is handed, the clients whose snapshots it names, and those that it
-    may delete."""
+    """A client: the lines that start it, how many entries it is handed, the clients whose snapshots it names, those that it may delete,
+    and how it runs where it isn't the one that is disturbed: {0} is its number, and {1} its token."""
 
     lines: list
     entries: int = 0
     names: tuple = ()
     forgets: tuple = ()
+    runs: tuple = ("finish {0}",)
+
+    def run(self, number):
+        return [line.format(number, number + 1) for line in self.runs]
 
 
 def backup(host, time, *entries):
@@ -48,6 +56,20 @@ def restore(client):
 
 
 PRUNE, CHECK, LIST = Client(["start prune"]), Client(["start check"]), Client(["start list"])
+
+
+def prune_until(word, *behind):
+    """A prune that comes so far, and then this."""
+    return Client(["start prune"], runs=(f"until {{0}} {word}", *behind))
+
+
+def without_lock(client, word):
+    """A client whose lock is removed when it is about to ask this, and that goes on."""
+    return Client(client.lines, client.entries, client.names, client.forgets, (f"until {{0}} {word}", "unlock {1}", "finish {0}"))
+
+
+TWO = [backup("a", 1, "file x 61", "file y 62"), backup("a", 2, "file x 61")]
+CRASHED = ("crash {0}", "unlock {1}")
 
 WORLDS = {
     "two hosts with one file": [backup("a", 1, "file x 616263"), backup("b", 2, "file x 616263"), LIST],
@@ -66,6 +88,24 @@ WORLDS = {
         Client(["start keep 1 1"], forgets=(0, 1)),
         PRUNE,
     ],
+    "a prune that crashed before its index": [*TWO, forget(0), prune_until("put-index", *CRASHED), backup("b", 3, "file y 62"), PRUNE, restore(1)],
+    "a prune that crashed in its deletions": [*TWO, forget(0), prune_until("delete-pack", *CRASHED), PRUNE, backup("b", 3, "file y 62"), CHECK],
+    "a deletion that comes late": [
+        backup("a", 1, "file x 616263"),
+        forget(0),
+        prune_until("delete-pack", "unlock {1}"),
+        backup("a", 2, "file x 616263"),
+        Client(["start list"], runs=("late 2", "finish {0}", "late 2")),
+        restore(3),
+    ],
+    "a backup whose lock was removed": [
+        backup("a", 1, "file x 616263"),
+        without_lock(backup("b", 2, "file x 616263", "file z 7a"), "put-index"),
+        forget(0),
+        PRUNE,
+        backup("b", 3, "file x 616263", "file z 7a"),
+        CHECK,
+    ],
 }
 
 
@@ -74,7 +114,7 @@ def play(program, lines):
     text = "".join(line + "\n" for line in lines)
     run = subprocess.run([program, "play"], input=text, capture_output=True, text=True, timeout=120)
     if run.returncode != 0:
-        sys.exit(f"status {run.returncode}, {run.stderr.strip()}, of\n{text}")
+        raise AssertionError(f"status {run.returncode}, {run.stderr.strip()}, of\n{text}")
     return run.stdout.splitlines()
 
 
@@ -95,7 +135,7 @@ def lines_before(world, client):
     """All that runs before a client's first step."""
     lines = []
     for number, earlier in enumerate(world[:client]):
-        lines += [*earlier.lines, f"finish {number}"]
+        lines += [*earlier.lines, *earlier.run(number)]
     return lines + world[client].lines
 
 
@@ -107,7 +147,7 @@ def goes_on(program, world, lines, client):
         printed = play(program, [*lines, "report"])
         if not all(is_stored(printed, named) for named in world[number].names):
             world[number] = LIST
-        lines = [*lines, *world[number].lines, f"finish {number}"]
+        lines = [*lines, *world[number].lines, *world[number].run(number)]
     return world, lines
 
 
@@ -117,16 +157,17 @@ def steps_of(program, world, client):
         printed = play(program, [*lines_before(world, client), *[f"step {client}"] * steps, "report"])
         if told_of(printed, client) != "running":
             return steps
-    sys.exit("a client takes too many steps")
+    raise AssertionError("a client takes too many steps")
 
 
 def disturbances(client, steps):
-    """Each way to disturb a client before a step, by name."""
+    """Each way to disturb a client before a step: its name, its lines, and those behind all other clients."""
     before = [f"step {client}"] * steps
-    yield "stops", [*before, f"crash {client}"]
-    yield "loses its lock", [*before, f"unlock {client + 1}", f"finish {client}"]
+    yield "stops", [*before, f"crash {client}"], []
+    yield "is late", [*before, f"crash {client}", f"unlock {client + 1}"], [f"late {client}"]
+    yield "loses its lock", [*before, f"unlock {client + 1}", f"finish {client}"], []
     for failure in FAILURES:
-        yield f"has a device that fails {failure}", [*before, f"fault {client} {failure}", f"finish {client}"]
+        yield f"has a device that fails {failure}", [*before, f"fault {client} {failure}", f"finish {client}"], []
 
 
 def stored(world, printed):
@@ -169,24 +210,35 @@ def look_at(program, world, lines, reads):
         yield "another report when the store is opened before each line"
 
 
-def sweep(program, name, world):
-    """Tries each disturbance of a world, and counts those after which something isn't as it has to be."""
-    tried = wrong = 0
+def disturbed(program, world):
+    """Each disturbance of a world: the client, the number of its steps before, and what is done."""
     for client in range(len(world)):
         for steps in range(steps_of(program, world, client) + 1):
-            for what, lines in disturbances(client, steps):
-                tried += 1
-                ran, whole = goes_on(program, world, [*lines_before(world, client), *lines], client)
-                for fault in look_at(program, ran, whole, what.endswith("read")):
-                    wrong += 1
-                    print(f"{name}: client {client} {what} after {steps} steps: {fault}")
-    print(f"{name}: {tried} tried, {wrong} wrong")
-    return wrong
+            for way in disturbances(client, steps):
+                yield client, steps, *way
+
+
+def sweep(program, name, world, every=1):
+    """Tries each disturbance of a world, or each of so many: how many, and a text for each thing that isn't as it has to be."""
+    wrong, tried = [], 0
+    for client, steps, what, lines, behind in itertools.islice(disturbed(program, world), 0, None, every):
+        tried += 1
+        ran, whole = goes_on(program, world, [*lines_before(world, client), *lines], client)
+        for fault in look_at(program, ran, [*whole, *behind], what.endswith("read")):
+            wrong.append(f"{name}: client {client} {what} after {steps} steps: {fault}")
+    return tried, wrong
 
 
 def main():
-    program = Path(sys.argv[1]).resolve() if len(sys.argv) > 1 else PROGRAM
-    sys.exit(1 if sum(sweep(program, name, world) for name, world in WORLDS.items()) else 0)
+    parser = argparse.ArgumentParser(description="Disturbs each step of each client in turn")
+    parser.add_argument("--every", type=int, default=1, metavar="N", help="only each N-th disturbance")
+    parser.add_argument("program", nargs="?", default=str(PROGRAM), metavar="VAULT")
+    given, failed = parser.parse_args(), False
+    for name, world in WORLDS.items():
+        tried, wrong = sweep(str(Path(given.program).resolve()), name, world, given.every)
+        print(*wrong, f"{name}: {tried} tried, {len(wrong)} wrong", sep="\n")
+        failed = failed or bool(wrong)
+    sys.exit(failed)
 
 
 if __name__ == "__main__":

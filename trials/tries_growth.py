@@ -1,0 +1,146 @@
+"""Want of memory: requests for memory that are refused, one in each run, by a small library that stands before malloc and realloc.
+
+The program of cases is run so, with a case of each command and of a store with its clients; and the commands themselves, over a real server,
+each of whose runs is done all the same, or ends with a text that says why.
+"""
+import importlib.util
+import os
+import re
+import shutil
+import subprocess
+import sys
+from pathlib import Path
+
+from program import Server, has_status, told
+from trying import OPTIONS, ROOT, WAIT, Skipped, holds, needs, same, trial
+from yards import SMALL, Yard, entries, filled, is_clean, restores, stored
+
+CASES = ROOT / "crates/cases/out/cases"
+# In the gate each request up to this one is refused, then every seventh.
+FIRST, STEP = 40, 7
+
+
+def numbers():
+    """Which requests are refused, one after another, until one isn't made any more."""
+    at = 1
+    while True:
+        yield at
+        at += 1 if OPTIONS.is_long or at < FIRST else STEP
+
+
+def refuser(yard):
+    """The library, where it can be built and loaded before the program."""
+    needs("gcc")
+    library = yard.top / "refuse.so"
+    subprocess.run(["gcc", "-shared", "-fPIC", "-O1", "-o", library, ROOT / "scripts/refuse.c"], check=True, timeout=WAIT)
+    return library
+
+
+def counts(library, mark):
+    """Skips the trial where the library doesn't see the program's own requests: of a script, or of a program with a sanitizer."""
+    is_script = Path(OPTIONS.program).read_bytes()[:2] == b"#!"
+    if is_script or told("--version", env=refusing(library, mark, 1)).startswith("0|") and not mark.is_symlink():
+        raise Skipped("the requests of this program can't be refused")
+
+
+def refusing(library, mark, at):
+    mark.unlink(missing_ok=True)
+    return {"REFUSE": str(at), "REFUSED": str(mark), "LD_PRELOAD": str(library)}
+
+
+@trial(is_early=True)
+def cases_whose_memory_is_refused():
+    """Whichever request is refused, at most one case differs, and says why."""
+    if not CASES.is_file():
+        raise Skipped("there is no program of cases: `rt ci` leaves one")
+    with Yard() as yard:
+        library, mark = refuser(yard), yard.top / "refused"
+        refused = refused_cases()
+        script = refused.chosen()
+        given, wanted = "".join(line + "\n" for line in script.given), refused.by_case(script.wanted)
+        for at in numbers():
+            ran = subprocess.run([CASES], input=given, text=True, capture_output=True, env=os.environ | refusing(library, mark, at), timeout=WAIT)
+            if not mark.is_symlink():
+                break
+            holds(not refused.fault(ran, wanted), f"where request {at} is refused: {refused.fault(ran, wanted)}")
+        holds(at > 200, f"only {at} requests were made")
+
+
+def refused_cases():
+    """The cases that are run so, and how they are judged: scripts/cases/refused.py."""
+    folder = ROOT / "scripts/cases"
+    sys.path.append(str(folder))
+    spec = importlib.util.spec_from_file_location("refused", folder / "refused.py")
+    module = importlib.util.module_from_spec(spec)
+    spec.loader.exec_module(module)
+    return module
+
+
+# How a command is told as done; where it isn't, it ends with status 1 or 2, and no signal ends it.
+DONE = {"backup": r"0\|stored [0-9a-f]{64} \d+ \d+\n\|", "restore": r"0\|complete 3\n\|", "snapshots": r"0\|([0-9a-f]{64} \d+ h\n)+\|", "prune": r"0\|pruned \d+ \d+\n\|",
+        "check": r"0\|clean \d+ \d+ \d+ \d+\n\|", "locks": r"0\|(\d+ (shared|exclusive) \d+ .*\n)*\|", "unlock": r"0\|(removed \d+\n)*\|"}
+
+
+def is_an_end(job, got):
+    return re.fullmatch(DONE[job], got) or re.match(r"[12]\|", got)
+
+
+
+@trial(is_long=True, is_early=True)
+def commands_whose_memory_is_refused():
+    """Each is done all the same, or fails; the store is well behind it, and the same command is done when nothing is refused."""
+    with Yard(*SMALL, is_store=True) as yard:
+        library, mark = refuser(yard), yard.top / "refused"
+        counts(library, mark)
+        root = filled(yard.top / "from", {"d/x": b"abc" * 50, "y": b"def"})
+        with Server(yard.root, connections=10**6) as server:
+            name = stored(server.address, root)
+            for words in (["backup", "h", root], ["snapshots"], ["restore", name, yard.top / "to"], ["check"], ["locks"], ["prune"], ["unlock"]):
+                refuses_each(server.address, library, mark, words, entries(root))
+                has_status(told("unlock", server.address, "--remove-all"), 0)
+                is_clean(server.address)
+                restores(server.address, name, yard.top / "to", entries(root))
+
+
+def refuses_each(address, library, mark, words, wanted):
+    """Refuses the requests of a command, one in each run."""
+    for count, at in enumerate(numbers()):
+        for each in words[1:]:
+            if str(each).endswith("/to"):
+                shutil.rmtree(each, ignore_errors=True)
+        if count % 10 == 0:
+            told("unlock", address, "--remove-all")
+        got = told(words[0], address, *words[1:], env=refusing(library, mark, at))
+        if not mark.is_symlink():
+            break
+        holds(is_an_end(words[0], got), f"{words[0]}, request {at} refused: {got}")
+        if words[0] == "restore" and got.startswith("0|"):
+            same(entries(words[2]), wanted, f"what was restored, request {at} refused")
+        if count > (10_000 if OPTIONS.is_long else 60):
+            break
+    holds(at > 10, f"{words[0]} made {at} requests")
+
+
+@trial(is_long=True)
+def a_server_whose_memory_is_refused():
+    """It answers with code 11, ends the connection, or doesn't begin; over the next connection all is done."""
+    with Yard(*SMALL, is_store=True) as yard:
+        library, mark = refuser(yard), yard.top / "refused"
+        counts(library, mark)
+        root = filled(yard.top / "from", {"d/x": b"abc" * 50, "y": b"def"})
+        for count, at in enumerate(numbers()):
+            try:
+                server = Server(yard.root, connections=9, env=refusing(library, mark, at))
+            except AssertionError as error:
+                holds(mark.is_symlink() and str(error).startswith("serve: "), error)
+                continue
+            with server:
+                got = told("backup", server.address, "h", root)
+                holds(is_an_end("backup", got), f"request {at} of the server refused: {got}")
+            if not mark.is_symlink() or count > (10_000 if OPTIONS.is_long else 60):
+                break
+        with Server(yard.root, connections=9) as server:
+            has_status(told("unlock", server.address, "--remove-all"), 0)
+            is_clean(server.address)
+            restores(server.address, stored(server.address, root), yard.top / "to", entries(root))
+        same(at > 10, True, f"{at} requests")

@@ -1,0 +1,127 @@
+"""What stands around the program: man pages, completion for bash, units for systemd, and the cases that are written by another one."""
+import re
+import shlex
+import shutil
+import subprocess
+import sys
+
+from program import told
+from trying import ROOT, WAIT, holds, needs, same, trial
+
+UNITS = ROOT / "examples/systemd"
+COMPLETION = ROOT / "examples/completion/vault.bash"
+
+
+def says_nothing(*command):
+    """A command that ends well, and prints nothing."""
+    run = subprocess.run([str(word) for word in command], cwd=ROOT, capture_output=True, text=True, timeout=WAIT, stdin=subprocess.DEVNULL)
+    same((run.returncode, run.stdout + run.stderr), (0, ""), command[-1])
+
+
+@trial
+def man_pages_are_those_of_the_help():
+    says_nothing(sys.executable, "-B", "scripts/man.py", "--check")
+
+
+@trial
+def man_pages_say_what_the_program_says():
+    """Each command has a page, with its options, its example and its exit statuses as the built program's help has them."""
+    for command in re.findall(r"^  ([a-z]+)  ", told("--help"), re.M):
+        if command == "help":
+            continue
+        page = plain((ROOT / f"docs/man/vault-{command}.1").read_text())
+        given = told(command, "--help")
+        for option in set(re.findall(r"--[a-z-]+", given)) - {"--help"}:
+            holds(option in page, f"the page of {command} has no {option}")
+        for line in re.findall(r"^  (?:\d  )?(\S.*)$", given.split("Example:")[1], re.M):
+            holds(" ".join(line.replace("`", "").split()) in page, f"the page of {command} has no line {line!r}")
+
+
+def plain(text):
+    """A man page without its marks."""
+    return " ".join(re.sub(r"\\f.|\\&", "", text).replace("\\(aq", "'").replace("\\-", "-").replace("\\e", "\\").split())
+
+
+@trial
+def cases_are_those_that_are_written():
+    says_nothing(sys.executable, "-B", "scripts/cases/write.py", "--check")
+
+
+@trial
+def definitions_have_their_lines():
+    says_nothing("bash", "scripts/definitions.sh")
+
+
+def completed(*words):
+    """What the completion offers for the last of these words, as bash would ask it."""
+    script = (f"source {shlex.quote(str(COMPLETION))}; COMP_WORDS=({' '.join(map(shlex.quote, words))}); COMP_CWORD={len(words) - 1}; "
+              "_vault 2>/dev/null; printf '%s\\n' \"${COMPREPLY[@]}\"")
+    run = subprocess.run(["bash", "-c", script], cwd=UNITS.parent, capture_output=True, text=True, timeout=WAIT)
+    same((run.returncode, run.stderr), (0, ""), words)
+    return sorted(run.stdout.split())
+
+
+@trial
+def the_completion_offers_each_word():
+    """Each command of the program, the options of each, and folders where one is wanted."""
+    says_nothing("bash", "-n", COMPLETION)
+    commands = sorted(set(re.findall(r"^  ([a-z]+)  ", told("--help"), re.M)) - {"help"})
+    same(completed("vault", ""), sorted([*commands, "--help", "--version"]))
+    same(completed("vault", "ref"), ["refresh"])
+    for command in commands:
+        options = set(re.findall(r"--[a-z-]+", told(command, "--help").split("Example:")[0]))
+        if command not in ("frames", "play", "loop"):
+            same(completed("vault", command, "--"), sorted(options | {"--help"}), command)
+    for words in (("vault", "init", ""), ("vault", "serve", ""), ("vault", "backup", "a", "h", ""), ("vault", "restore", "a", "n", "")):
+        holds({"systemd", "completion"} <= set(completed(*words)), words)
+    same(completed("vault", "snapshots", ""), [])
+
+
+def started():
+    """The commands of vault that the units start, with their words: what systemd puts in for a variable is the word it has there."""
+    for unit in sorted(UNITS.glob("*.service")):
+        text = unit.read_text()
+        values = dict(re.findall(r"^Environment=(\w+)=(.*)$", text, re.M))
+        for line in re.findall(r"^ExecStart=(.*)$", text, re.M):
+            words = [values.get(word[2:-1], word) if word.startswith("${") else word for word in shlex.split(line)]
+            if words[0].endswith("/vault"):
+                yield unit.name, words[1:]
+
+
+@trial
+def units_start_commands_that_are_there():
+    """Their words make commands: each option is in the help, and each command gets as many words as it wants."""
+    found = list(started())
+    same(sorted({words[0] for _, words in found}), ["backup", "forget", "prune", "serve", "unlock"])
+    for unit, words in found:
+        given = told(words[0], "--help")
+        for option in [word for word in words if word.startswith("--")]:
+            holds(option in given, f"{unit}: {words[0]} has no {option}")
+        wanted = re.findall(r"<(\w+)>", re.search(r"^Usage:.*$", given, re.M).group(0))
+        plain_words = [word for at, word in enumerate(words[1:]) if not word.startswith("--") and not words[at].startswith("--")]
+        same(len(plain_words), len(wanted), f"{unit}: {words}")
+        text = [word.replace("127.0.0.1:7070", "127.0.0.1:1").replace("/var/lib/vault/store", "/nowhere") for word in words]
+        got = told(*text)
+        same(got[:2], "1|", f"{unit}: {got}")
+
+
+@trial
+def units_are_whole():
+    """Each has its parts, each timer its service, and what a unit names beside itself is there."""
+    names = {it.name for it in UNITS.iterdir()}
+    for unit in sorted(UNITS.glob("*.service")) + sorted(UNITS.glob("*.timer")):
+        text = unit.read_text()
+        for line in text.splitlines():
+            holds(line == "" or line.startswith("#") or re.fullmatch(r"\[\w+\]|[A-Z]\w+=.*", line), f"{unit.name}: {line!r}")
+        holds("[Unit]" in text and f"[{unit.suffix[1:].title()}]" in text, f"{unit.name} lacks a part")
+        holds(unit.suffix != ".timer" or unit.with_suffix(".service").name in names, f"{unit.name} has no service")
+        for page in re.findall(r"man:vault-(\w+)\(1\)", text):
+            holds((ROOT / f"docs/man/vault-{page}.1").exists(), f"{unit.name}: there is no page of {page}")
+        for other in re.findall(r"^After=(vault-\S+)$", text, re.M):
+            holds(other in names, f"{unit.name}: there is no {other}")
+
+
+@trial
+def systemd_takes_the_units():
+    needs("systemd-analyze")
+    says_nothing(UNITS / "verify.sh", shutil.which("true"))
