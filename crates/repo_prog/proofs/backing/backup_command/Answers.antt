@@ -6,8 +6,5 @@ use Rattle.repo_prog.proofs.backing.backup_command.Goals as goal
 pub returns-in-Ok-clause-gives : goal.returns-in-Ok-clause-gives
 returns-in-Ok-clause-gives g c = (c.in-Ok.found.entries.items, c.in-Ok.ensures, c.backup_found.ensures.obeyed, c.backup_found.ensures.tells)
 
-pub returns-in-Err-Unreadable-clause-gives : goal.returns-in-Err-Unreadable-clause-gives
-returns-in-Err-Unreadable-clause-gives g c = ([], tt, backup_none c.args.caller.now c.args.host.now [] c.args.retry (g.D.Dial.coming c.args.dial.now), told_plain _ _ _ _ _ (nothing_told _ _ _ _ _ c.failed.ensures refl))
-
-pub returns-in-Err-Memory-clause-gives : goal.returns-in-Err-Memory-clause-gives
-returns-in-Err-Memory-clause-gives g c = ([], tt, backup_none c.args.caller.now c.args.host.now [] c.args.retry (g.D.Dial.coming c.args.dial.now), told_plain _ _ _ _ _ (nothing_told _ _ _ _ _ c.failed-in-Err-Memory.ensures refl))
+pub returns-in-Err-clause-gives : goal.returns-in-Err-clause-gives
+returns-in-Err-clause-gives g c = ([], tt, backup_none c.args.caller.now c.args.host.now [] c.args.retry (g.D.Dial.coming c.args.dial.now), told_plain _ _ _ _ _ (nothing_told _ _ _ _ _ c.not_scanned.ensures refl))
