@@ -84,6 +84,8 @@ class Image:
                 if (0, pack) not in self.objects:
                     self.faults.append(f"index/{name} names the pack {pack}, which isn't there")
                     continue
+                if self.reader.name(self.objects[0, pack]) != pack:
+                    continue
                 held = self.reader.pack(self.objects[0, pack])
                 if set(held) != blobs:
                     self.faults.append(f"index/{name} tells otherwise of the pack {pack}")

@@ -1,0 +1,130 @@
+"""Calls of the system that fail, or at which the program is killed, each in turn: in a making, a scan and a restore.
+
+strace has them fail; where it isn't there, or may not trace, these are skipped.
+"""
+import os
+import shutil
+import subprocess
+
+from cuts.calls import events, strace
+from program import TICKET, Server, matches, token, told
+from trying import OPTIONS, WAIT, chosen, holds, same, trial
+from tries_power_cuts import is_traced
+from yards import CREATED, Yard, entries, filled, in_store, restores, stored
+
+
+def disturbed(log, inject, *words):
+    """What a command tells while this is done to its calls, and whether it was."""
+    run = subprocess.run([*strace(log, inject), OPTIONS.program, *map(str, words)], capture_output=True, text=True, stdin=subprocess.DEVNULL, timeout=WAIT)
+    text = log.read_text(errors="replace")
+    return f"{run.returncode}|{run.stdout}|{run.stderr}", "(INJECTED)" in text or "killed by SIGKILL" in text
+
+
+def places(call, words, yard, few):
+    """How often a command makes a call that nothing disturbs, as places to disturb; the last ones all, since they differ most."""
+    log = yard.top / "whole"
+    disturbed(log, None, *words)
+    count = sum(1 for line in log.read_text(errors="replace").splitlines() if f" {call}(" in line)
+    last = range(max(1, count - 7), count + 1)
+    return sorted({*chosen(range(1, count + 1), few), *(last if few > 4 else ())}), count
+
+
+@trial(is_early=True)
+def a_making_that_is_killed_is_made_again():
+    """At a call in turn: what is left is no store, or one with its ledger; made again it is whole, and gives the first number."""
+    is_traced()
+    with Yard() as yard:
+        for call, least in (("mkdir", 200), ("fsync", 4), ("openat", 4), ("rename", 2), ("write", 2)):
+            found, count = places(call, ["init", yard.top / "tried"], yard, 6)
+            shutil.rmtree(yard.top / "tried")
+            holds(count >= least, f"a making has {count} calls of {call}")
+            for place in found:
+                got, was_met = disturbed(yard.top / "log", f"{call}:signal=SIGKILL:when={place}", "init", yard.root)
+                holds(was_met and not got.startswith("0|"), f"{call} {place}: {got}")
+                if (yard.root / "ledger").exists():
+                    yard.serves(TICKET, "0||", token(1))
+                is_there = (yard.root / "config").exists()
+                got = told("init", yard.root)
+                holds(got == "1||exists\n" if is_there else matches(got, CREATED), f"{call} {place}, made again: {got}")
+                yard.holds("tmp", 0)
+                yard.holds("data", 256)
+                shutil.rmtree(yard.root, ignore_errors=True)
+
+
+@trial(is_early=True)
+def a_scan_whose_calls_fail_names_a_path():
+    """A backup is whole, or names a path in the folder that can't be read, and then nothing was stored."""
+    is_traced()
+    with Yard(is_store=True) as yard, Server(yard.root, connections=10**6) as server:
+        root, wanted = filled(yard.top / "from", {"d/f": b"abc" * 9, "e/": b"", "g": b"x"}), 0
+        for call, error in (("openat", "EMFILE"), ("read", "EIO"), ("getdents64", "EIO"), ("newfstatat", "EIO"), ("statx", "EIO"), ("fstat", "EIO")):
+            met = told_so = 0
+            for place in range(1, 60):
+                log = yard.top / "log"
+                words = ["strace", "-f", "-qq", "-o", log, "-e", f"trace={call}", "-P", root, *sum((["-P", it] for it in [*root.rglob("*")]), []),
+                         "-e", f"inject={call}:error={error}:when={place}", OPTIONS.program, "backup", server.address, "h", root]
+                run = subprocess.run([str(word) for word in words], capture_output=True, text=True, stdin=subprocess.DEVNULL, timeout=WAIT)
+                if "(INJECTED)" not in log.read_text():
+                    break
+                met += 1
+                is_path = run.returncode == 1 and run.stderr.startswith(f"unreadable {root}") and run.stdout == ""
+                told_so += is_path
+                holds(is_path or run.returncode == 0, f"{call} {place}: {run.returncode}, {run.stdout}{run.stderr}")
+            wanted += told_so
+        holds(wanted >= 6, f"only {wanted} failures were told")
+        for name, _, _ in (line.split() for line in told("snapshots", server.address).split("|")[1].splitlines()):
+            restores(server.address, name, yard.top / "to", entries(root))
+
+
+@trial(is_early=True)
+def a_restore_that_is_killed_leaves_whole_files():
+    """At a call in turn: what stands under an entry's own name has all its bytes."""
+    is_traced()
+    with Yard(is_store=True) as yard, Server(yard.root, connections=10**6) as server:
+        root, target = filled(yard.top / "from", {"a": b"abc" * 999, "d/b": b"def" * 99, "c": b""}), yard.top / "to"
+        words = ["restore", server.address, stored(server.address, root), target]
+        for call in ("write", "openat", "rename", "fsync", "mkdir"):
+            shutil.rmtree(target, ignore_errors=True)
+            found, _ = places(call, words, yard, 5)
+            for place in found:
+                shutil.rmtree(target, ignore_errors=True)
+                disturbed(yard.top / "log", f"{call}:signal=SIGKILL:when={place}", *words)
+                for path, data in entries(target).items() if target.exists() else ():
+                    if not os.path.basename(path).startswith("!restoring-"):
+                        same(data, entries(root)[path], f"{path}, killed at {call} {place}")
+
+
+@in_store
+def what_a_restore_tells_as_complete_is_on_the_disk(yard):
+    """Each file was synced once it had its name, and each folder after the last name that came into it, that of the target too."""
+    is_traced()
+    root, target, log = filled(yard.top / "from", {"a": b"abc", "d/e/b": b"def", "d/c": b"", "f/": b""}), yard.top / "above/to", yard.top / "log"
+    with Server(yard.root, connections=2) as server:
+        got, _ = disturbed(log, None, "restore", server.address, stored(server.address, root), target)
+    same(got, f"0|complete {len(entries(root))}\n|")
+    same(entries(target), entries(root))
+    made = list(events(log, yard.top))
+    told_at = next(at for at, event in enumerate(made) if event[0] == "told")
+    names = [(at, event[-1]) for at, event in enumerate(made) if event[0] in ("mkdir", "rename")]
+    same(len(names), len(entries(root)) + 2, "names that came")
+    for at, path in names:
+        synced = {event[1] for event in made[at:told_at] if event[0] == "sync"}
+        holds(path in synced and os.path.dirname(path) in synced, f"{path} isn't synced, or the folder in which it stands")
+
+
+@in_store
+def a_restore_whose_syncs_fail_is_not_complete(yard):
+    """But for those of a folder that isn't its own, above the target."""
+    is_traced()
+    root, target = filled(yard.top / "from", {"a": b"abc", "d/b": b"def"}), yard.top / "to"
+    with Server(yard.root, connections=99) as server:
+        words = ["restore", server.address, stored(server.address, root), target]
+        _, count = places("fsync", words, yard, 3)
+        holds(count >= len(entries(root)) + 1, f"{count} syncs")
+        stopped = 0
+        for place in range(1, count + 1):
+            shutil.rmtree(target, ignore_errors=True)
+            got, was_met = disturbed(yard.top / "log", f"fsync:error=EIO:when={place}", *words)
+            holds(was_met and got in ("1||stopped\n", "0|complete 3\n|"), f"sync {place} of {count}: {got}")
+            stopped += got == "1||stopped\n"
+        holds(stopped >= len(entries(root)) + 1, f"{stopped} of {count} were told")
