@@ -57,6 +57,17 @@ impl Trial {
         let is_so = matches!(self.shelf.range(name, offset, length), Ok(Slice::Missing));
         self.yard.count(is_so);
     }
+
+    /// The ledger can't be read.
+    fn is_unread(&mut self) {
+        let is_so = matches!(self.shelf.ledger(), Err(ShelfError::Fault));
+        self.yard.count(is_so);
+    }
+
+    fn failed(&mut self, wanted: u64) {
+        let is_so = self.shelf.failures() == wanted;
+        self.yard.count(is_so);
+    }
 }
 
 /// Takes a number from the shelf's ledger and saves it.
@@ -95,5 +106,16 @@ fn pages_pass_over_files_of_other_names(rt: HostRuntime) {
     }
     trial.lists(Kind::Pack, None, &[one, five], true);
     trial.lists(Kind::Pack, Some(&one), &[five, nine], false);
+    trial.yard.end(&rt);
+}
+
+#[test]
+fn a_ledger_that_cannot_be_read_is_a_failure(rt: HostRuntime) {
+    let mut trial = Trial::new(rt, "ledger").expect(&rt, "no folder");
+    trial.yard.writes("ledger", "no ledger");
+    trial.is_unread();
+    trial.yard.drops("ledger");
+    trial.is_unread();
+    trial.failed(2);
     trial.yard.end(&rt);
 }
