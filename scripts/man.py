@@ -76,13 +76,18 @@ def within(text, start):
 class Function:
     """A function of the sources: its values by name, the words that it adds, and the commands that it makes."""
 
-    def __init__(self, name, body):
-        self.name, self.body = name, body
+    def __init__(self, name, body, makers):
+        self.name, self.body, self.makers = name, body, makers
         self.values = dict(re.findall(r"let (\w+) = (.*?);", body))
-        added = (within(body, at.end() - 1).strip() for at in re.finditer(r"\.arg\(", body))
+        added = [within(body, at.end() - 1).strip() for at in re.finditer(r"\.arg\(", body)]
+        added += [within(body, at.end() - 1).split(",", 1)[1].strip() for at in re.finditer(r"with_word\(", body)]
         self.words = [Word(self.value_of(text.rstrip("?"))) for text in added]
 
     def value_of(self, text):
+        """A value by its name, or the text itself; of a word that another function makes, what stands in that one."""
+        made = re.fullmatch(r'(\w+)\(alloc(?:, ("[\w-]+"))?\)', text)
+        if made and made.group(1) in self.makers:
+            return re.sub(r"\bname\b", lambda _: made.group(2) or "name", self.makers[made.group(1)])
         return self.values.get(text, text)
 
     def commands(self):
@@ -95,9 +100,13 @@ class Function:
 
 
 def functions():
-    for source in SOURCES:
-        for name, body in re.findall(r"^(?:pub )?fn (\w+)(.*?)^\}", source, re.M | re.S):
-            yield Function(name, re.sub(r"\s+", " ", body).replace(" .", "."))
+    """The functions of the sources, but for the one that adds a word to a command."""
+    bodies = {name: re.sub(r"\s+", " ", body).replace(" .", ".") for source in SOURCES
+              for name, body in re.findall(r"^(?:pub )?fn (\w+)(.*?)^\}", source, re.M | re.S)}
+    makers = {name: body for name, body in bodies.items() if re.search(r"-> Result<Arg<", body)}
+    for name, body in bodies.items():
+        if name != "with_word":
+            yield Function(name, body, makers)
 
 
 def read_commands():

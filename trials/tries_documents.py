@@ -104,7 +104,10 @@ NOT_RUN = {
     "examples/a-week.sh": "it is tried by itself, and the gate is what runs the trials",
     "sudo install crates": "it makes a user and services on this machine",
     "sudo cp examples": "it makes services on this machine",
+    "laptop$ sudo install": "it wants another machine",
     "laptop$  ssh": "it wants two more machines",
+    "sudo nft": "it changes what this machine lets through",
+    "sudo systemctl": "it stops a service of this machine",
     "vault check 127.0.0.1:7070\nfault": "it shows a store with faults",
 }
 # Those that run in the store's folder, while no server runs.

@@ -92,7 +92,7 @@ def started():
 def units_start_commands_that_are_there():
     """Their words make commands: each option is in the help, and each command gets as many words as it wants."""
     found = list(started())
-    same(sorted({words[0] for _, words in found}), ["backup", "forget", "prune", "serve", "unlock"])
+    same(sorted({words[0] for _, words in found}), ["backup", "check", "forget", "prune", "serve", "unlock"])
     for unit, words in found:
         given = told(words[0], "--help")
         for option in [word for word in words if word.startswith("--")]:

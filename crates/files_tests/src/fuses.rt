@@ -120,8 +120,8 @@ impl Fuse {
 
     /// The next run of a machine that was killed: what can still be undone stays so.
     pub(crate) fn after(self) -> Fuse {
-        let fuse = Fuse::new(self.alloc, u64::MAX);
-        fuse.changes.replace(self.undone());
+        let mut fuse = Fuse::new(self.alloc, u64::MAX);
+        fuse.changes = RefCell::new(self.undone());
         fuse
     }
 

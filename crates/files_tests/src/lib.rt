@@ -10,6 +10,8 @@ mod cuts;
 #[cfg(test)]
 mod cutting;
 #[cfg(test)]
+mod folder_restores;
+#[cfg(test)]
 mod fuses;
 #[cfg(test)]
 mod growth;

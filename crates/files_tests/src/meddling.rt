@@ -1,6 +1,6 @@
 //! A restore that meets a file of somebody else's in its way.
 
-use crate::folder_commands::restored;
+use crate::folder_restores::restored;
 use crate::replies::{Replies, TREE, index, item, name_text, snapshot};
 use crate::runs::{Run, run_or_none};
 use crate::yards::Yard;

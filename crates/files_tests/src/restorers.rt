@@ -1,7 +1,7 @@
 //! Steps of a restorer into a real folder.
 
 use crate::cutting::Cut;
-use crate::folder_commands::file_restored;
+use crate::folder_restores::file_restored;
 use crate::fuses::{Fuse, Step, What};
 use crate::lasting::{is_synced, parent_of};
 use crate::runs::Run;

@@ -66,7 +66,7 @@ struct Listed {
 }
 
 /// Lists the snapshots over such connections.
-fn listed(alloc: Global, brings: &[&[u8]], retry: u64) -> Result<Listed, AllocError> {
+fn list_over(alloc: Global, brings: &[&[u8]], retry: u64) -> Result<Listed, AllocError> {
     let sent = RefCell::new(Vec::new(alloc));
     let mut run = Run::new(alloc);
     let mut script = Script {
@@ -86,7 +86,7 @@ fn listed(alloc: Global, brings: &[&[u8]], retry: u64) -> Result<Listed, AllocEr
 
 /// Whether it tells this, and asks for so many.
 fn lists(alloc: Global, brings: &[&[u8]], retry: u64, wanted: &str, dialed: usize) -> bool {
-    match listed(alloc, brings, retry) {
+    match list_over(alloc, brings, retry) {
         Ok(listed) => listed.told.as_str() == wanted && listed.dialed == dialed,
         Err(_) => false,
     }
@@ -184,7 +184,7 @@ fn led_to(alloc: Global, digit: u8) -> Result<Listed, AllocError> {
         return Err(AllocError);
     }
     let brings = [first.frames.as_slice(), second.frames.as_slice()];
-    listed(alloc, &brings, 1)
+    list_over(alloc, &brings, 1)
 }
 
 /// Whether a list tells this where the ask for the config is answered so, over the first of two connections.

@@ -41,6 +41,14 @@ impl Run {
         let faults = text_of(self.faults.as_slice());
         format!(in alloc; "{code}|{output}|{faults}")
     }
+
+    /// Whether it told this.
+    pub(crate) fn tells(&self, alloc: Global, wanted: &str) -> bool {
+        match self.told(alloc) {
+            Ok(text) => text.as_str() == wanted,
+            Err(_) => false,
+        }
+    }
 }
 
 /// A run, or one that gave nothing where there was no memory for it: no step wants that.

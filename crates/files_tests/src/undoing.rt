@@ -34,7 +34,7 @@ fn next<S: Shelf>(shelf: &mut S) -> Result<Token, ShelfError> {
 }
 
 /// All that a shelf answers.
-fn seen<S: Shelf>(shelf: &mut S) -> Result<Seen, ShelfError> {
+fn look_at<S: Shelf>(shelf: &mut S) -> Result<Seen, ShelfError> {
     Ok(Seen {
         first: has(shelf, Kind::Pack, b"abc")?,
         second: has(shelf, Kind::Pack, b"a second one")?,
@@ -47,7 +47,7 @@ fn seen<S: Shelf>(shelf: &mut S) -> Result<Seen, ShelfError> {
 /// The shelf in a folder is opened, and tells what it has.
 fn seen_at(rt: HostRuntime, root: &str, fuse: &Fuse) -> Option<Seen> {
     let mut shelf = DirShelf::open(Cut::new(rt, fuse), root).ok()?;
-    seen(&mut shelf).ok()
+    look_at(&mut shelf).ok()
 }
 
 /// Undoes a change, as a cut does.
@@ -116,7 +116,7 @@ fn failed(rt: HostRuntime, root: &str, run: Run) -> (Option<Seen>, Option<Seen>)
     let answered = match DirShelf::open(Cut::new(rt, &fuse), root) {
         Ok(mut shelf) => {
             let _ = change(&mut shelf, run.which);
-            seen(&mut shelf).or_else(|_| seen(&mut shelf)).ok()
+            look_at(&mut shelf).or_else(|_| look_at(&mut shelf)).ok()
         }
         Err(_) => None,
     };
