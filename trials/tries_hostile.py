@@ -84,7 +84,7 @@ def hostile_connections_by_the_hundred():
 @in_store
 def a_frame_that_promises_much_takes_what_comes(yard):
     """As much memory as a frame may have, and no more, also when it comes byte by byte and stops."""
-    with Server(yard.root, "--idle", 1, connections=12) as server:
+    with Server(yard.root, "--idle", 1, connections=13) as server:
         before = memory(server, "VmHWM:")
         for _ in range(10):
             with server.paused():
@@ -95,6 +95,7 @@ def a_frame_that_promises_much_takes_what_comes(yard):
         same(server.asked(frame(9, number(9), b"\0", bytes(32), bytes(1 << 20)).hex())[-2:], "02")
         most = memory(server, "VmHWM:")
         holds(most < before + 160 * 1024, f"it had {most} KiB at most, and {before} before")
+        same(server.asked(TICKET)[:10], "0000002181")
         same(server.end(), "1||" + "read failed\n" * 10)
 
 

@@ -83,6 +83,7 @@ def started():
         text = unit.read_text()
         values = dict(re.findall(r"^Environment=(\w+)=(.*)$", text, re.M))
         for line in re.findall(r"^ExecStart=(.*)$", text, re.M):
+            line = re.sub(r"\$(\w+)", lambda name: values.get(name[1], name[0]), line)
             words = [values.get(word[2:-1], word) if word.startswith("${") else word for word in shlex.split(line)]
             if words[0].endswith("/vault"):
                 yield unit.name, words[1:]

@@ -30,13 +30,14 @@ def undisturbed(machine):
 
 def stops_at(machine, job, folder, is_last, how):
     """The server is killed in a sync of this folder that a job asks for, the first or the last one, or that sync fails."""
-    places = [at for at, path in enumerate(machine.syncs_of(job), 1) if path == folder]
+    opening, synced = machine.syncs_of(job)
+    places = [at for at, path in enumerate(synced, 1) if at > opening and path == folder]
     if not places:
         raise AssertionError(f"the job has no sync of {folder}")
     place = places[-1 if is_last else 0]
     machine.serves(f"fsync:signal=SIGKILL:when={place}" if how == "killed" else f"fsync:error=EIO:when={place}")
     got = job()
-    if how == "killed" and not machine.server.is_dead() or how != "killed" and "(INJECTED)" not in machine.logs[-1].read_text(errors="replace"):
+    if how == "killed" and not machine.server.dies() or how != "killed" and "(INJECTED)" not in machine.logs[-1].read_text(errors="replace"):
         raise AssertionError(f"the sync of {folder} wasn't {how}: {got}")
 
 

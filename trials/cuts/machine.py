@@ -28,6 +28,14 @@ class Traced(Server):
     def is_dead(self):
         return self.process.poll() is not None
 
+    def dies(self):
+        """Whether it is dead, or is about to be."""
+        try:
+            self.process.wait(timeout=WAIT)
+        except subprocess.TimeoutExpired:
+            return False
+        return True
+
 
 class Machine:
     """What is done on it is logged; which bytes each snapshot has to have is remembered by its host."""
@@ -101,7 +109,8 @@ class Machine:
         return list(self.sources.values())[-1][0]
 
     def syncs_of(self, job):
-        """What a job has the server sync, in order, when nothing disturbs it: paths below the store. It is tried on a copy."""
+        """What the server syncs when nothing disturbs it, in order: paths below the store, of which so many come before a job. It is tried
+        on a copy."""
         kept = self.store, self.logs, self.names[:], dict(self.sources)
         self.ends()
         copy = self.top / "rehearsed"
@@ -109,11 +118,16 @@ class Machine:
         self.store, self.logs = copy / "store", []
         try:
             self.serves()
+            opening = len(self.synced(copy))
             job()
             self.ends()
-            found = [os.path.relpath(event[1], self.store) for event in events(self.logs[0], copy) if event[0] == "sync"]
+            found = self.synced(copy)
         finally:
             self.ends()
             self.store, self.logs, self.names, self.sources = kept
             shutil.rmtree(copy)
-        return found
+        return opening, found
+
+    def synced(self, top):
+        """The paths below the store that were synced so far, in order, by the first log."""
+        return [os.path.relpath(event[1], self.store) for event in events(self.logs[0], top) if event[0] == "sync"]
