@@ -16,8 +16,8 @@ use std::io::{Read, Write};
 
 /// Gives one byte at a read.
 #[derive(Drop)]
-struct Slow<'a> {
-    left: &'a [u8],
+pub struct Slow<'a> {
+    pub left: &'a [u8],
 }
 
 impl Read for Slow<'_> {

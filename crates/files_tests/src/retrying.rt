@@ -1,5 +1,6 @@
 //! Jobs over connections that end, and that lead to another store.
 
+use crate::growth::Slow;
 use crate::runs::{CALLER, Run};
 use repo_name::{Bytes, Names, Token};
 use repo_prog::{Dial, snapshots_command};
@@ -32,7 +33,7 @@ impl Write for Sent<'_> {
     }
 }
 
-/// Connections that bring these bytes, one after another; after them none can be had.
+/// Connections that bring these bytes, one after another, and each byte by byte; after them none can be had.
 #[derive(Drop)]
 struct Script<'a> {
     brings: &'a [&'a [u8]],
@@ -43,17 +44,17 @@ struct Script<'a> {
 impl<'a> Dial for Script<'a> {
     ghost use Rattle.std.specs.Prelude.{None};
 
-    type Reader = &'a [u8];
+    type Reader = Slow<'a>;
 
     type Writer = Sent<'a>;
 
     ghost coming = { λ _. None };
 
-    fn dial(&mut self) -> Option<(&'a [u8], Sent<'a>)> {
+    fn dial(&mut self) -> Option<(Slow<'a>, Sent<'a>)> {
         let (brings, at) = (self.brings, self.dialed);
         let bytes = brings.get(at).copied()?;
         self.dialed = at.saturating_add(1);
-        Some((bytes, Sent { bytes: self.sent }))
+        Some((Slow { left: bytes }, Sent { bytes: self.sent }))
     }
 }
 

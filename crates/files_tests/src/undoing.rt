@@ -1,6 +1,6 @@
 //! Power cuts that undo what isn't synced, after a kill or a call that failed.
 
-use crate::cuts::{CHANGES, ENDLESS, calls_of_opening, change};
+use crate::cuts::{ENDLESS, calls_of_opening, change};
 use crate::cutting::Cut;
 use crate::fuses::{Change, Fuse};
 use crate::yards::Yard;
@@ -59,13 +59,10 @@ fn undo(rt: HostRuntime, change: &Change) {
     };
 }
 
-/// The power goes: of the changes that can be undone those are, the newest first, whose place the choice has a bit for.
-fn cut(rt: HostRuntime, fuse: &Fuse, choice: u64) {
-    let changes = fuse.undone();
-    for (place, change) in changes.iter().enumerate().rev() {
-        if place < 64 && (choice >> place as u64) & 1 == 1 {
-            undo(rt, change);
-        }
+/// The power goes: all changes that can be undone are, the newest first.
+fn cut(rt: HostRuntime, fuse: &Fuse) {
+    for change in fuse.undone().iter().rev() {
+        undo(rt, change);
     }
 }
 
@@ -74,10 +71,8 @@ fn cut(rt: HostRuntime, fuse: &Fuse, choice: u64) {
 struct Run {
     /// The change that meets it.
     which: u64,
-    /// How many of its calls are passed on before.
+    /// How many calls are passed on before, those by which the shelf is opened among them.
     calls: u64,
-    /// Which of the changes that can be undone are.
-    choice: u64,
 }
 
 /// Makes the changes before one, on a machine on which nothing fails.
@@ -96,14 +91,13 @@ fn prepared(rt: HostRuntime, root: &str, which: u64) -> bool {
 
 /// The machine is killed in the change, and started again; what it answers then, and what it answers after a cut.
 fn killed(rt: HostRuntime, root: &str, run: Run) -> (Option<Seen>, Option<Seen>) {
-    let opening = calls_of_opening(rt, root);
-    let fuse = Fuse::new(rt.alloc(), opening.saturating_add(run.calls));
+    let fuse = Fuse::new(rt.alloc(), run.calls);
     if let Ok(mut shelf) = DirShelf::open(Cut::new(rt, &fuse), root) {
         let _ = change(&mut shelf, run.which);
     }
     let fuse = fuse.after();
     let answered = seen_at(rt, root, &fuse);
-    cut(rt, &fuse, run.choice);
+    cut(rt, &fuse);
     let fuse = Fuse::new(rt.alloc(), ENDLESS);
     (answered, seen_at(rt, root, &fuse))
 }
@@ -111,8 +105,7 @@ fn killed(rt: HostRuntime, root: &str, run: Run) -> (Option<Seen>, Option<Seen>)
 /// One call fails, and the same shelf goes on; what it answers then, asked once more where that call was the one that
 /// failed, and what it answers after a cut.
 fn failed(rt: HostRuntime, root: &str, run: Run) -> (Option<Seen>, Option<Seen>) {
-    let opening = calls_of_opening(rt, root);
-    let fuse = Fuse::failing_once(rt.alloc(), opening.saturating_add(run.calls));
+    let fuse = Fuse::failing_once(rt.alloc(), run.calls);
     let answered = match DirShelf::open(Cut::new(rt, &fuse), root) {
         Ok(mut shelf) => {
             let _ = change(&mut shelf, run.which);
@@ -120,13 +113,16 @@ fn failed(rt: HostRuntime, root: &str, run: Run) -> (Option<Seen>, Option<Seen>)
         }
         Err(_) => None,
     };
-    cut(rt, &fuse, run.choice);
+    cut(rt, &fuse);
     let fuse = Fuse::new(rt.alloc(), ENDLESS);
     (answered, seen_at(rt, root, &fuse))
 }
 
 /// More calls than a change makes.
-const CALLS: u64 = 12;
+const CALLS: u64 = 9;
+
+/// The changes that meet failures: an index is put, a number is given, and a pack is removed.
+const MEETING: [u64; 3] = [1, 2, 5];
 
 impl Yard {
     /// A store with the changes before one.
@@ -141,14 +137,10 @@ impl Yard {
         self.count(told.0.is_some() && told.0 == told.1);
     }
 
-    /// A change meets a failure at each of its calls, and a cut undoes what it can.
-    fn meets_each_failure(&mut self, which: u64, choice: u64) {
-        for calls in 0..CALLS {
-            let run = Run {
-                which,
-                calls,
-                choice,
-            };
+    /// A change meets a failure at each of its calls, behind so many by which the shelf is opened, and then the power goes.
+    fn meets_each_failure(&mut self, which: u64, opening: u64) {
+        for calls in opening..opening.saturating_add(CALLS) {
+            let run = Run { which, calls };
             self.is_prepared(which);
             let told = killed(self.rt, self.root.as_str(), run);
             self.lasts_as_answered(told);
@@ -162,10 +154,10 @@ impl Yard {
 #[test]
 fn what_was_answered_is_never_undone(rt: HostRuntime) {
     let mut yard = Yard::new(rt, "undone").expect(&rt, "no folder");
-    for which in 0..CHANGES {
-        for choice in 1..4 {
-            yard.meets_each_failure(which, choice);
-        }
+    yard.is_prepared(0);
+    let opening = calls_of_opening(rt, yard.root.as_str());
+    for which in MEETING {
+        yard.meets_each_failure(which, opening);
     }
     yard.end(&rt);
 }
