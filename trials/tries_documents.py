@@ -59,7 +59,7 @@ def files_that_are_named_are_there():
         for path in re.findall(rf"`((?:{TOPS})/[\w./*-]*)(?: [^`]*)?`", prose_of(page)):
             count += 1
             pattern = re.sub(r"\b[A-Z]+\b(?!\.md)|\brepo_x\b|\bModule\b", "*", path.rstrip("/"))
-            if "/out/" not in path and not list(ROOT.glob(pattern)):
+            if "out" not in path.split("/") and not list(ROOT.glob(pattern)):
                 lacking.append(f"{page.relative_to(ROOT)}: {path}")
     same(lacking, [])
     holds(count > 40, f"{count} paths are named")

@@ -51,10 +51,12 @@ def meets(yard, tag, files, meddles):
             target.mkdir(exist_ok=True)
             meddles(target)
         return True
-    with Server(yard.root, connections=2) as server:
+    with Server(yard.root, connections=3) as server:
         name = stored(server.address, root)
         with Watched(server.port, before) as line:
-            return told("restore", line.address, name, target), entries(target)
+            got = told("restore", line.address, name, target), entries(target)
+        same(told("locks", server.address), "0||", "the locks after a restore")
+        return got
 
 
 @in_store
