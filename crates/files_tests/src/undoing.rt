@@ -161,3 +161,44 @@ fn what_was_answered_is_never_undone(rt: HostRuntime) {
     }
     yard.end(&rt);
 }
+
+/// Whether the index that is put is there, with its own bytes.
+fn holds_index<S: Shelf>(shelf: &mut S) -> bool {
+    match shelf.get(Kind::Index, &name_of(b"abc")) {
+        Ok(Some(bytes)) => bytes.as_slice() == b"abc".as_slice(),
+        _ => false,
+    }
+}
+
+/// A put of an index meets one failure, behind so many calls. Then the shelf is read, and other bytes come to stand at
+/// each name that the put left unsynced. How many names those are, and whether a second put writes its own bytes there.
+fn put_again(rt: HostRuntime, root: &str, calls: u64) -> (usize, bool) {
+    let fuse = Fuse::failing_once(rt.alloc(), calls);
+    let Ok(mut shelf) = DirShelf::open(Cut::new(rt, &fuse), root) else {
+        return (0, false);
+    };
+    let _ = change(&mut shelf, 1);
+    let unsynced = fuse.undone();
+    let _ = look_at(&mut shelf);
+    for left in unsynced.iter() {
+        let _ = fs::write(&rt, left.place.as_str(), b"other");
+    }
+    let is_put = change(&mut shelf, 1).or_else(|_| change(&mut shelf, 1)).is_ok();
+    (unsynced.len(), is_put && holds_index(&mut shelf))
+}
+
+#[test]
+fn what_failed_is_written_again(rt: HostRuntime) {
+    let mut yard = Yard::new(rt, "again").expect(&rt, "no folder");
+    yard.is_prepared(1);
+    let opening = calls_of_opening(rt, yard.root.as_str());
+    let mut unsynced = 0usize;
+    for calls in opening..opening.saturating_add(CALLS) {
+        yard.is_prepared(1);
+        let (names, is_written) = put_again(rt, yard.root.as_str(), calls);
+        unsynced = unsynced.saturating_add(names);
+        yard.count(is_written);
+    }
+    yard.count(unsynced > 0);
+    yard.end(&rt);
+}

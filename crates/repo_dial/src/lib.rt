@@ -5,9 +5,9 @@
 //! next one.
 //!
 //! Promised: over all its connections a client goes as over one, and the request that was pending goes first. Where
-//! more than one may be made, each is first asked for the store's config, and the client says nothing to a store
-//! whose config has other bytes than the first one told. Where what a client gave out isn't taken, the lock of its own
-//! ticket, and no other, is given back over the connection that stands.
+//! more than one may be made, each is first asked for the store's config, and exchanges of the client stand only over
+//! connections that told one and the same. Where what a client gave out isn't taken, the lock that is given back over
+//! the connection that stands is that of its own ticket.
 //! Not promised: that a connection can be had, or that a lock is given back where a connection broke.
 //!
 //! The definitions stand in `specs/`: `Dialing` (connections, tries, which store is met, what a driver gives),

@@ -22,7 +22,8 @@ use std::io::ErrorKind;
 /// **No call answers from what may still be undone.** A name that was made, replaced or removed is seen at once,
 /// and lasts only once its folder was synced. So all its folders are synced when it is opened, before the first
 /// call; and after a change that failed, which may be there and not last, each call syncs all of them before
-/// anything else, and is a `Fault` where that fails.
+/// anything else, and is a `Fault` where that fails, or `Memory`. From such a failure on, a put of what is there
+/// already writes it again.
 ///
 /// Nothing is proved of what its files hold: it is never claimed to be honest, so what is proved over
 /// honest shelves takes the machine's honesty as a premise.
@@ -34,6 +35,8 @@ pub struct DirShelf<R: Files> {
     held: R::File,
     /// Whether all that a reading call sees lasts.
     is_lasting: bool,
+    /// Whether a change failed since it was opened.
+    has_failed: bool,
     failures: u64,
 }
 
@@ -71,6 +74,7 @@ impl<R: Files + AllocGlobal + Clone + Drop> DirShelf<R> {
             folder,
             held,
             is_lasting: true,
+            has_failed: false,
             failures: 0,
         })
     }
@@ -97,6 +101,7 @@ impl<R: Files + AllocGlobal + Clone + Drop> DirShelf<R> {
             folder,
             held,
             is_lasting: true,
+            has_failed: false,
             failures: 0,
         })
     }
@@ -141,7 +146,10 @@ impl<R: Files + AllocGlobal + Clone + Drop> DirShelf<R> {
         self.is_lasting = made.is_ok();
         match made {
             Ok(()) => Ok(()),
-            Err(_) => Err(self.fault()),
+            Err(_) => {
+                self.has_failed = true;
+                Err(self.fault())
+            }
         }
     }
 
@@ -272,14 +280,13 @@ impl<R: Files + AllocGlobal + Clone + Drop> Shelf for DirShelf<R> {
     }
 
     fn put(&mut self, kind: Kind, name: &Name, bytes: &[u8]) -> Result<(), ShelfError> {
-        let had_failed = !self.is_lasting;
         self.settle()?;
         let (below, file) = self.place(kind, name)?;
         let is_there = match self.folder.has(below.as_str(), file.as_str()) {
             Ok(is_there) => is_there,
             Err(error) => return Err(self.unmade(&error)),
         };
-        if is_there && !had_failed {
+        if is_there && !self.has_failed {
             return Ok(());
         }
         self.keep(below.as_str(), file.as_str(), bytes)

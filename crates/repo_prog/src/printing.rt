@@ -24,7 +24,7 @@ fn is_separator(c: char) -> bool
     is_from('\u{2028}', '\u{2029}', c)
 }
 
-/// Whether it turns the direction of writing.
+/// Whether it turns the direction of writing: one of Unicode's `Bidi_Control` characters.
 fn turns_direction(c: char) -> bool
     ensures { result ≡ turns_direction c }
 {
