@@ -4,7 +4,7 @@ import json
 import re
 import shutil
 
-from lines import Answering, Said, Watched
+from connections import Answering, Said, Watched
 from program import DEVICE, TICKET, Server, frame, matches, number, refused, token, told
 from trying import chosen, holds, same, trial
 from yards import SMALL, Yard, entries, filled, in_store, is_clean, restores, stored

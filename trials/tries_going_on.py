@@ -1,7 +1,7 @@
 """Jobs over connections that end, and that go on over the next ones (`--retry`)."""
 import re
 
-from lines import ALL, Cutter, Said
+from connections import ALL, Cutter, Said
 from program import Closed, Server, told
 from trying import awaits, chosen, holds, same, trial
 from yards import SMALL, Yard, entries, filled

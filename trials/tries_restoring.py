@@ -4,7 +4,7 @@ import json
 import os
 import shutil
 
-from lines import Answering, Watched
+from connections import Answering, Watched
 from program import Server, frame, matches, told
 from trying import same, trial
 from yards import Yard, entries, filled, in_store, restores, stored

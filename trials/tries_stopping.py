@@ -3,7 +3,7 @@ import shutil
 import subprocess
 import threading
 
-from lines import Watched
+from connections import Watched
 from program import Server, has_status, matches, told
 from trying import OPTIONS, WAIT, chosen, holds, same, trial
 from yards import SMALL, Yard, entries, filled, is_clean, restores, stored

@@ -9,7 +9,7 @@ import threading
 from dataclasses import dataclass, field
 
 import sweep
-from lines import Watched
+from connections import Watched
 from program import Server, has_status, told
 from tries_stopping import begun, kill
 from trying import OPTIONS, WAIT, chosen, holds, same, trial
