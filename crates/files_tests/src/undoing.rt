@@ -183,7 +183,9 @@ fn put_again(rt: HostRuntime, root: &str, calls: u64) -> (usize, bool) {
     for left in unsynced.iter() {
         let _ = fs::write(&rt, left.place.as_str(), b"other");
     }
-    let is_put = change(&mut shelf, 1).or_else(|_| change(&mut shelf, 1)).is_ok();
+    let is_put = change(&mut shelf, 1)
+        .or_else(|_| change(&mut shelf, 1))
+        .is_ok();
     (unsynced.len(), is_put && holds_index(&mut shelf))
 }
 
