@@ -70,10 +70,10 @@ impl<R: Files + AllocGlobal + Clone + Drop> Folder<R> {
             if let Some((above, rest)) = root.split_at_checked(end)
                 && rest.starts_with('/')
             {
-                make_lasting(&self.rt, above)?;
+                make_named(&self.rt, above)?;
             }
         }
-        make_lasting(&self.rt, root)
+        make_named(&self.rt, root)
     }
 
     /// Makes the folder of this path in it, where it isn't there. It lasts once the one that it stands in
@@ -218,9 +218,9 @@ pub fn sync_at<R: Files>(rt: &R, path: &str) -> io::Result<()> {
     File::open(rt, path)?.sync_all()
 }
 
-/// Makes a folder, where it isn't there, and syncs the one that it stands in. Where it was there already,
-/// and the one that it stands in can't be synced, that is let be.
-fn make_lasting<R: Files>(rt: &R, path: &str) -> io::Result<()> {
+/// Makes a folder, where it isn't there, and syncs the one that it stands in, so that its name lasts. Where it
+/// was there already, and the one that it stands in can't be synced, that is let be.
+fn make_named<R: Files>(rt: &R, path: &str) -> io::Result<()> {
     match fs::create_dir(rt, path) {
         Ok(()) => sync_at(rt, parent_of(path)),
         Err(error) if !is_folder(rt, path) => Err(error),
