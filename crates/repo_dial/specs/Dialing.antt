@@ -113,7 +113,7 @@ abbrev pub Meets : Option (List ℕ) → Result Reply DriveError → Result (Uni
 Meets known (Ok reply) result after = MeetsSay known reply.say result after
 Meets known (Err error) result after = (result ≡ Err (TryError.Drive error)) × (after ≡ known)
 
--- the store of a try is the one with this config, where stores are asked for it: the client says nothing to another
+-- the store of a try is the one with this config, where stores are asked for it: no exchange of the client stands at another
 abbrev pub IsAtStore : Bool → List ℕ → Try → Type 0
 IsAtStore asks config Missed = ⊤
 IsAtStore asks config (Turned asking) = asks ≡ true
