@@ -1,0 +1,3 @@
+mod Staying
+pub mod Hosting
+mod Joining

@@ -1,0 +1,28 @@
+//! The server of many connections at once, in one thread: a thin layer of sockets around a [`repo_hall::Hall`].
+//!
+//! Each round gives every connection that is ready one turn, and a turn answers one request at most. Where
+//! no connection moved, it waits until one can. Nothing is read from a connection that hasn't taken its last
+//! reply; nothing of a frame before the one in front of it was answered; and of large frames two at most are
+//! being read at once.
+//!
+//! Promised: whatever the connections bring, what they were answered, in the order in which they were, is
+//! one run of the store machine; and of each connection what its guest was given are the first bytes of the
+//! frames of the replies to its own requests. Where each went well, nothing was told as a fault. Not
+//! promised, since a listener and a poll tell no contract what they did: that anybody is served, and how
+//! long anybody waits.
+//!
+//! The definitions are those of `repo_hall`: `Halls.Hosted`, `HallLeads`.
+#![tactic(auto)]
+
+mod arrivals;
+mod large_frames;
+mod places;
+mod rounds;
+mod servers;
+mod sockets;
+mod steps;
+mod times;
+mod waits;
+
+pub use servers::{Manner, serve_many};
+pub use times::Served;

@@ -1,0 +1,220 @@
+//! The server: rounds over all connections, and waiting between them.
+
+ghost use Rattle.std.specs.Prelude.{◌≡◌, [], IfOk, ℕ};
+ghost use Rattle.repo_store.specs.Stores.{Store};
+ghost use Rattle.repo_hall.specs.Halls.{Hosted, Stands, HallLeads};
+ghost use Rattle.repo_hall.specs.Happenings.{Log};
+ghost use Rattle.repo_many.specs.declared.times.Served.{Served};
+
+use crate::arrivals::{Door, watch};
+use crate::large_frames::LargeFrames;
+use crate::places::{Place, is_in_use, is_taken};
+use crate::rounds::round;
+use crate::sockets::Timing;
+use crate::times::{Served, Tally, Watch};
+use crate::waits::{LISTENER, mark_ready, shorter, wait_for};
+use mio::{Events, Interest, Poll};
+use repo_hall::{Hall, HallError};
+use repo_store::{Shelf, room};
+use std::alloc::{AllocGlobal, Global};
+use std::io;
+use std::io::{ErrorKind, Read, Write};
+use std::net::{Net, OpenListener, OpenStream};
+use std::os::fd::AsRawFd;
+use std::time::{Clock, Duration, Instant};
+
+/// How connections are served.
+#[derive(Clone, Copy, Debug)]
+pub struct Manner {
+    /// How many are taken in all.
+    pub connections: u64,
+    /// How many are served at once, at most.
+    pub at_once: usize,
+    /// A connection on which nothing moves for longer ends; `None`: none does. The time in which requests are
+    /// answered that take long doesn't count.
+    pub idle: Option<Duration>,
+}
+
+/// What a server works with beside its guests.
+#[derive(Drop)]
+struct Server<T: Drop> {
+    poll: Poll,
+    events: Events,
+    places: Vec<Place<T>>,
+    door: Door,
+    large: LargeFrames,
+    watch: Watch,
+}
+
+/// A hall of so many places.
+fn hall_of(alloc: Global, places: usize) -> Result<Hall, HallError>
+    ensures { IfOk result (λ hall. (from : Store) (failed : ℕ) → Stands from failed hall.guests.items hall.entered [] from failed) }
+{
+    let mut hall = Hall::new(alloc);
+    for place in 0..places {
+        hall.add_place()?;
+    }
+    Ok(hall)
+}
+
+/// So many places without a connection.
+fn free_places<T: Drop>(alloc: Global, count: usize) -> io::Result<Vec<Place<T>>> {
+    let mut places = Vec::new(alloc);
+    for place in 0..count {
+        places.push(Place::Free)?;
+    }
+    Ok(places)
+}
+
+/// What a server of a listener works with, which none waits for any more.
+fn server_of<R: Net + Clock + AllocGlobal, L: OpenListener + AsRawFd>(
+    rt: &R,
+    listener: &L,
+    places: usize,
+) -> io::Result<Server<L::Stream>>
+where
+    L::Stream: Read + Write + OpenStream + AsRawFd,
+{
+    listener.set_nonblocking(true)?;
+    let poll = Poll::new(rt)?;
+    watch(&poll, listener, LISTENER, Interest::READABLE)?;
+    let events = Events::with_capacity(rt.alloc(), 256)?;
+    Ok(Server {
+        poll,
+        events,
+        places: free_places(rt.alloc(), places)?,
+        door: Door::new(),
+        large: LargeFrames::new(),
+        watch: Watch::new(Instant::now(rt)?),
+    })
+}
+
+impl<T: Drop> Server<T> {
+    /// Whether more connections may be taken.
+    fn is_open(&self, manner: Manner) -> bool {
+        let is_left = self.places.as_slice().iter().any(is_in_use);
+        is_left && self.door.taken < manner.connections
+    }
+
+    /// What the next round knows of the time.
+    fn timing(&self, manner: Manner) -> Timing {
+        Timing {
+            time: self.watch.time,
+            idle: manner.idle,
+            wanted: self.large.wanted,
+        }
+    }
+
+    /// Waits until one comes, or a connection is ready, or one was idle for too long; after a round in which
+    /// something moved not at all.
+    fn wait(&mut self, timing: Timing, moved: bool) -> io::Result<()> {
+        let mut wait = wait_for(self.places.as_slice(), timing);
+        wait = shorter(wait, self.door.pause(timing.time));
+        if moved {
+            wait = Some(Duration::ZERO);
+        }
+        self.poll.poll(&mut self.events, wait)?;
+        if mark_ready(&self.events, &mut self.places) {
+            self.door.ready = true;
+        }
+        Ok(())
+    }
+}
+
+/// Serves until as many connections came as were to come, and the last one left.
+fn serve_hall<C: Clock, L: OpenListener, S: Shelf, F: Write>(
+    clock: &C,
+    listener: &L,
+    manner: Manner,
+    hall: &mut Hall,
+    server: &mut Server<L::Stream>,
+    piece: &mut [u8],
+    shelf: &mut S,
+    tally: &mut Tally,
+    faults: &mut F,
+) -> io::Result<()>
+where
+    L::Stream: Read + Write + OpenStream + AsRawFd,
+    ensures leads { S.honest shelf.old → HallLeads hall.old (S.store shelf.old) (S.failed shelf.old) hall.new (S.store shelf.new) (S.failed shelf.new) }
+    ensures honest { S.honest shelf.old → S.honest shelf.new }
+    ensures silent { tally.new.served ≡ Served.Well → (tally.old.served ≡ Served.Well) × (faults.new ≡ faults.old) }
+{
+    for turn in 0..u64::MAX {
+        server.watch.go_on(Instant::now(clock)?, tally.moved);
+        tally.moved = false;
+        let open = server.is_open(manner);
+        if !open && !server.places.as_slice().iter().any(is_taken) {
+            return Ok(());
+        }
+        let timing = server.timing(manner);
+        server.door.welcome(
+            &server.poll,
+            listener,
+            open,
+            &mut server.places,
+            timing.time,
+            tally,
+            faults,
+        );
+        round(
+            hall,
+            &mut server.places,
+            &mut server.large,
+            piece,
+            shelf,
+            timing,
+            tally,
+            faults,
+        );
+        let timing = server.timing(manner);
+        server.wait(timing, tally.moved)?;
+    }
+    Ok(())
+}
+
+/// Serves connections of a bound listener, so many in all and so many at once, one request of each in turn,
+/// until as many were taken and the last one left. It gives whether one ended by an error.
+///
+/// Where one does, the error's text is told, and the others go on: `read failed` and `write failed` where its
+/// socket fails, or it was idle for too long; `malformed` where it brings what is no request, or ends inside
+/// one; `out of memory`. A connection that can't be taken is told as `read failed` and doesn't count; it is
+/// tried again after a tenth of a second, and told no more until one was taken. Once there is no number for
+/// a further guest the text is `limit`, and the place is served no more. It fails where it can't wait, or
+/// there is no memory to begin.
+///
+/// Whatever the connections bring, what was answered to all of them, in that order, is one run of the store
+/// machine, and what happened to each of them is a stay of its guest. No clause says which connections were
+/// taken, nor that a guest's bytes are those of its socket, since a listener and its sockets tell no
+/// contract what they did.
+pub fn serve_many<R: Net + Clock + AllocGlobal, L: OpenListener + AsRawFd, S: Shelf, F: Write>(
+    rt: &R,
+    listener: &L,
+    manner: Manner,
+    shelf: &mut S,
+    faults: &mut F,
+) -> io::Result<Served>
+where
+    L::Stream: Read + Write + OpenStream + AsRawFd,
+    ensures hosted { S.honest shelf.old → (log : Log) × Hosted (S.store shelf.old) (S.failed shelf.old) log (S.store shelf.new) (S.failed shelf.new) }
+    ensures honest { S.honest shelf.old → S.honest shelf.new }
+    ensures silent { IfOk result (λ served. served ≡ Served.Well → faults.new ≡ faults.old) }
+{
+    let mut server = server_of(rt, listener, manner.at_once)?;
+    let mut piece = room(rt.alloc())?;
+    let Ok(mut hall) = hall_of(rt.alloc(), manner.at_once) else {
+        return Err(io::Error::from(ErrorKind::OutOfMemory));
+    };
+    let mut tally = Tally::new();
+    serve_hall(
+        rt,
+        listener,
+        manner,
+        &mut hall,
+        &mut server,
+        piece.as_mut_slice(),
+        shelf,
+        &mut tally,
+        faults,
+    )?;
+    Ok(tally.served)
+}

@@ -1,0 +1,179 @@
+//! One connection, with its socket.
+
+ghost use Rattle.std.specs.Prelude.{◌≡◌, ◌<◌, length};
+ghost use Rattle.repo_hall.specs.Halls.{HallLeads, HallLeavesStore};
+
+use crate::large_frames::{HEAD, Room};
+use crate::steps::{Progress, give, reply, take};
+use repo_hall::Hall;
+use repo_store::{ServeError, Shelf};
+use std::io::{Read, Write};
+use std::time::Duration;
+
+/// Where others wait to read large frames, a connection that stands still in one ends after so many seconds.
+const PATIENCE: u64 = 60;
+
+/// What a round knows of the time.
+#[derive(Clone, Copy, Debug)]
+pub struct Timing {
+    /// The time that counted so far.
+    pub time: Duration,
+    /// A connection that is idle for longer ends; `None`: none does.
+    pub idle: Option<Duration>,
+    /// Some wait to read large frames.
+    pub wanted: bool,
+}
+
+/// A connection's socket.
+#[derive(Drop)]
+pub struct Socket<T: Drop> {
+    pub stream: T,
+    /// When it moved last.
+    pub since: Duration,
+    /// It may be read from or written to, as far as is known.
+    pub ready: bool,
+    /// Its input ended.
+    pub at_end: bool,
+    /// The length of the frame that is being read, as far as the bytes came that name it.
+    pub named: u32,
+}
+
+/// How long a connection may be idle that reads so.
+fn patience(timing: Timing, room: Room) -> Option<Duration> {
+    if !timing.wanted || room != Room::Large {
+        return timing.idle;
+    }
+    let patience = Duration::from_secs(PATIENCE);
+    match timing.idle {
+        Some(idle) if idle < patience => Some(idle),
+        _ => Some(patience),
+    }
+}
+
+impl<T: Read + Write + Drop> Socket<T> {
+    /// How many bytes are read at most, where so many of the frame are there: what its length lacks, or else the
+    /// frame. So nothing is read of a frame before the one in front of it was answered.
+    fn wanted(&self, held: usize) -> usize {
+        if held < HEAD {
+            return HEAD - held;
+        }
+        let whole = HEAD + self.named as usize;
+        whole.saturating_sub(held).max(1)
+    }
+
+    /// Notes the length that these bytes go on to name.
+    fn note_length(&mut self, bytes: &[u8]) {
+        for byte in bytes {
+            self.named = self.named.wrapping_mul(256).wrapping_add(u32::from(*byte));
+        }
+    }
+
+    /// Goes on with the input: a piece is taken, or it ended.
+    fn take_more(&mut self, hall: &mut Hall, place: usize, piece: &mut [u8], room: Room) -> Progress
+        requires { place < length hall.old.guests.items }
+        ensures leaves { HallLeavesStore hall.old hall.new }
+        ensures places { length hall.new.guests.items ≡ length hall.old.guests.items }
+    {
+        if self.at_end {
+            if hall.is_between(place) {
+                return Progress::AtEnd;
+            }
+            return Progress::Failed(ServeError::Malformed);
+        }
+        if room == Room::Barred {
+            return Progress::Barred;
+        }
+        let held = hall.held(place);
+        let most = self.wanted(held).min(piece.len());
+        let taken = take(hall, place, &mut piece[..most], &mut self.stream);
+        if taken == Progress::AtEnd {
+            self.at_end = true;
+            return Progress::Moved;
+        }
+        if held < HEAD {
+            let count = hall.held(place).saturating_sub(held).min(most);
+            self.note_length(&piece[..count]);
+        }
+        taken
+    }
+
+    /// What is to be given is written; where nothing is, one request is answered; and where there is none, a
+    /// piece is read.
+    fn advance<S: Shelf>(
+        &mut self,
+        hall: &mut Hall,
+        place: usize,
+        piece: &mut [u8],
+        shelf: &mut S,
+        room: Room,
+    ) -> Progress
+        requires { place < length hall.old.guests.items }
+        ensures leads { S.honest shelf.old → HallLeads hall.old (S.store shelf.old) (S.failed shelf.old) hall.new (S.store shelf.new) (S.failed shelf.new) }
+        ensures honest { S.honest shelf.old → S.honest shelf.new }
+        ensures places { length hall.new.guests.items ≡ length hall.old.guests.items }
+    {
+        if !self.ready {
+            return Progress::Still;
+        }
+        let given = give(hall, place, &mut self.stream);
+        if given != Progress::Still || !hall.out(place).is_empty() {
+            return given;
+        }
+        let replied = reply(hall, place, shelf);
+        if replied != Progress::Still {
+            return replied;
+        }
+        self.take_more(hall, place, piece, room)
+    }
+
+    /// What becomes of a connection that stands still: it fails where it does for too long.
+    fn endure(&mut self, hall: &Hall, place: usize, room: Room, timing: Timing) -> Progress
+        requires { place < length hall.now.guests.items }
+    {
+        self.ready = false;
+        let idle = timing.time.saturating_sub(self.since);
+        match patience(timing, room) {
+            Some(most) if idle >= most => {
+                if hall.out(place).is_empty() {
+                    return Progress::Failed(ServeError::Read);
+                }
+                Progress::Failed(ServeError::Write)
+            }
+            _ => Progress::Still,
+        }
+    }
+
+    /// One turn. A connection fails that is idle for too long; one that is barred isn't idle.
+    pub fn turn<S: Shelf>(
+        &mut self,
+        hall: &mut Hall,
+        place: usize,
+        piece: &mut [u8],
+        shelf: &mut S,
+        room: Room,
+        timing: Timing,
+    ) -> Progress
+        requires { place < length hall.old.guests.items }
+        ensures leads { S.honest shelf.old → HallLeads hall.old (S.store shelf.old) (S.failed shelf.old) hall.new (S.store shelf.new) (S.failed shelf.new) }
+        ensures honest { S.honest shelf.old → S.honest shelf.new }
+        ensures places { length hall.new.guests.items ≡ length hall.old.guests.items }
+    {
+        let progress = self.advance(hall, place, piece, shelf, room);
+        if progress == Progress::Still {
+            return self.endure(hall, place, room, timing);
+        }
+        self.since = timing.time;
+        progress
+    }
+}
+
+impl<T: Drop> Socket<T> {
+    /// How long it may stand still yet, where nobody waits to read large frames.
+    pub fn time_left(&self, timing: Timing) -> Option<Duration> {
+        let idle = timing.time.saturating_sub(self.since);
+        match timing.idle {
+            Some(most) => Some(most.saturating_sub(idle)),
+            None => None,
+        }
+    }
+}

@@ -1,0 +1,77 @@
+//! What a connection's turn is made of: one write, one answer, or one read.
+
+ghost use Rattle.std.specs.Prelude.{◌≡◌, ◌<◌, length};
+ghost use Rattle.repo_hall.specs.Halls.{HallLeads, HallLeavesStore};
+
+use repo_hall::Hall;
+use repo_store::{ServeError, Shelf};
+use std::io::{ErrorKind, Read, Write};
+
+/// What a turn came to.
+#[derive(Clone, Copy, Debug, PartialEq)]
+pub enum Progress {
+    /// Nothing can be done before the socket is ready.
+    Still,
+    /// It would have to read of a large frame, and others do.
+    Barred,
+    /// It went on.
+    Moved,
+    /// Its input ended, and all that it brought is done.
+    AtEnd,
+    /// It failed.
+    Failed(ServeError),
+}
+
+/// Gives the guest at a place some of what it is to be given, by one write at most.
+pub fn give<W: Write>(hall: &mut Hall, place: usize, writer: &mut W) -> Progress
+    requires { place < length hall.old.guests.items }
+    ensures leaves { HallLeavesStore hall.old hall.new }
+    ensures places { length hall.new.guests.items ≡ length hall.old.guests.items }
+{
+    let out = hall.out(place);
+    if out.is_empty() {
+        return Progress::Still;
+    }
+    match writer.write(out) {
+        Ok(0) => Progress::Failed(ServeError::Write),
+        Ok(count) => {
+            hall.gave(place, count);
+            Progress::Moved
+        }
+        Err(error) if error.kind() == ErrorKind::WouldBlock => Progress::Still,
+        Err(error) if error.kind() == ErrorKind::Interrupted => Progress::Moved,
+        Err(_) => Progress::Failed(ServeError::Write),
+    }
+}
+
+/// Takes a piece of what the guest at a place brings, by one read.
+pub fn take<R: Read>(hall: &mut Hall, place: usize, piece: &mut [u8], reader: &mut R) -> Progress
+    requires { place < length hall.old.guests.items }
+    ensures leaves { HallLeavesStore hall.old hall.new }
+    ensures places { length hall.new.guests.items ≡ length hall.old.guests.items }
+{
+    match reader.read(piece) {
+        Ok(0) => Progress::AtEnd,
+        Ok(count) => match hall.arrives(place, &piece[..count]) {
+            Ok(()) => Progress::Moved,
+            Err(_) => Progress::Failed(ServeError::Memory),
+        },
+        Err(error) if error.kind() == ErrorKind::WouldBlock => Progress::Still,
+        Err(error) if error.kind() == ErrorKind::Interrupted => Progress::Moved,
+        Err(_) => Progress::Failed(ServeError::Read),
+    }
+}
+
+/// Answers one request of the guest at a place, where a whole one is there.
+pub fn reply<S: Shelf>(hall: &mut Hall, place: usize, shelf: &mut S) -> Progress
+    requires { place < length hall.old.guests.items }
+    ensures leads { S.honest shelf.old → HallLeads hall.old (S.store shelf.old) (S.failed shelf.old) hall.new (S.store shelf.new) (S.failed shelf.new) }
+    ensures honest { S.honest shelf.old → S.honest shelf.new }
+    ensures places { length hall.new.guests.items ≡ length hall.old.guests.items }
+{
+    match hall.answer_at(place, shelf) {
+        Ok(true) => Progress::Moved,
+        Ok(false) => Progress::Still,
+        Err(error) => Progress::Failed(ServeError::from(error)),
+    }
+}
