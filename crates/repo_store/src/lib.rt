@@ -40,7 +40,7 @@ pub use forms::{Form, Plain, ServiceError};
 pub use kept::Kept;
 pub use laws::{mode_stays, refusals_change_nothing, runs_compose, runs_only_append, serving_runs};
 pub use making::{InitError, init};
-pub use memory::MemShelf;
+pub use memory::{MemShelf, page_after};
 pub use output::{Unwritten, write_whole};
 pub use pages::{all_names, rises};
 pub use services::Service;

@@ -1,0 +1,90 @@
+//! Each call of a shelf in a folder, and a life of it, over a disk that could stop.
+
+use repo_disk::{MemDisk, Stopping};
+use repo_folder::{DirShelf, Turn, live};
+use repo_name::{Bytes, Kind, name_of};
+use repo_store::{Shelf, ShelfError, Slice};
+use std::alloc::{AllocError, Global};
+
+/// A disk on which nothing is kept yet, and which stops after so many calls.
+fn stopping(alloc: Global, left: u64) -> Stopping<MemDisk> {
+    Stopping::new(MemDisk::new(alloc, Vec::new(alloc)), left)
+}
+
+/// Whether a slice is these bytes.
+fn is_slice(slice: &Slice, bytes: &[u8]) -> bool {
+    match slice {
+        Slice::Found(found) => found.as_slice() == bytes,
+        _ => false,
+    }
+}
+
+/// Whether nothing is read.
+fn is_nothing(read: &Result<Option<Bytes>, ShelfError>) -> bool {
+    matches!(read, Ok(None))
+}
+
+/// Whether a disk's failure is told.
+fn is_refused(made: &Result<DirShelf<Stopping<MemDisk>>, ShelfError>) -> bool {
+    matches!(made, Err(ShelfError::Fault))
+}
+
+#[test]
+fn each_call_is_answered(rt: HostRuntime) -> Result<(), ShelfError> {
+    let alloc = rt.alloc();
+    let name = name_of(b"pack");
+    let mut shelf = DirShelf::create(stopping(alloc, u64::MAX), alloc)?;
+    shelf.put(Kind::Pack, &name, b"pack")?;
+    let mut ledger = shelf.ledger()?;
+    let mut wrong = 0u32;
+    if ledger.ticket().is_err() {
+        wrong = wrong.saturating_add(1);
+    }
+    shelf.save_ledger(&ledger)?;
+    let mut shelf = shelf.kill();
+    if shelf.ledger()?.write()?.as_slice() != ledger.write()?.as_slice() {
+        wrong = wrong.saturating_add(1);
+    }
+    if !is_slice(&shelf.range(&name, 1, 2)?, b"ac") {
+        wrong = wrong.saturating_add(1);
+    }
+    let page = shelf.names_after(Kind::Pack, None, 8)?;
+    if page.more || page.names.as_slice() != [name].as_slice() {
+        wrong = wrong.saturating_add(1);
+    }
+    shelf.remove(Kind::Pack, &name)?;
+    if !is_nothing(&shelf.get(Kind::Pack, &name)) {
+        wrong = wrong.saturating_add(1);
+    }
+    if shelf.failures() != 0 {
+        wrong = wrong.saturating_add(1);
+    }
+    assert_eq!(rt; wrong, 0);
+    Ok(())
+}
+
+#[test]
+fn a_disk_that_stops_keeps_what_was_told(rt: HostRuntime) -> Result<(), ShelfError> {
+    let alloc = rt.alloc();
+    let name = name_of(b"index");
+    let mut wrong = 0u32;
+    if !is_refused(&DirShelf::create(stopping(alloc, 500), alloc)) {
+        wrong = wrong.saturating_add(1);
+    }
+    let shelf = DirShelf::create(stopping(alloc, 526), alloc)?;
+    let mut turns = Vec::new(alloc);
+    let bytes = Bytes::of(b"index".to_vec(alloc)?);
+    turns
+        .push(Turn::Put(Kind::Index, name, bytes))
+        .map_err(|_| ShelfError::Memory)?;
+    turns.push(Turn::Cut).map_err(|_| ShelfError::Memory)?;
+    let (mut shelf, told) = live(alloc, shelf, &turns)?;
+    if told.first() != Some(&Err(ShelfError::Fault)) {
+        wrong = wrong.saturating_add(1);
+    }
+    if shelf.get(Kind::Index, &name).is_err() {
+        wrong = wrong.saturating_add(1);
+    }
+    assert_eq!(rt; wrong, 0);
+    Ok(())
+}

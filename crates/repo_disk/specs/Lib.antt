@@ -1,0 +1,3 @@
+pub mod Cuts
+pub mod Disks
+pub mod Memory

@@ -1,0 +1,6 @@
+mod Deciding
+mod LedgerLemmas
+mod LifeLemmas
+mod ListingLemmas
+mod Settling
+mod SpellingLemmas

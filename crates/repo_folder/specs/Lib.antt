@@ -1,0 +1,6 @@
+pub mod Folders
+pub mod Laws
+pub mod Ledgers
+pub mod Listings
+pub mod Lives
+pub mod Spelling

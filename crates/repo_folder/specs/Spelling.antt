@@ -1,0 +1,67 @@
+-- The store that the files of a folder spell.
+use Rattle.std.specs.Prelude.{◌≡◌, ◌⊎◌, ◌==◌, ◌&&◌, ℕ, Bool, true, false, nat_lt, List, [], ◌∷◌, length, codes, Option, Some, None, Result, Ok, Err, if◌then◌else◌}
+use Rattle.repo_name.specs.declared.kinds.Kind.{Kind}
+use Rattle.repo_name.specs.declared.names.Name.{Name}
+use Rattle.repo_name.specs.Naming.{hex_of}
+use Rattle.repo_locks.specs.TokenMachine.{Tokens, start}
+use Rattle.repo_locks.specs.Lawful.{IsLedger}
+use Rattle.repo_locks.specs.LedgerBytes.{ledger_bytes}
+use Rattle.repo_store.specs.Stores.{Store}
+use Rattle.repo_store.specs.declared.shelves.ShelfError.{ShelfError}
+use Rattle.repo_disk.specs.declared.disks.DiskError.{DiskError}
+use Rattle.repo_disk.specs.declared.rooms.Room.{Room}
+use Rattle.repo_folder.specs.Folders.{IsKept}
+use Rattle.repo_folder.specs.Ledgers.{first_of, tokens_in}
+
+-- what each name in each folder has
+abbrev pub Files : Type 0
+Files = Room → List ℕ → Option (List ℕ)
+
+-- numbers below 256
+abbrev pub are_bytes : List ℕ → Bool
+are_bytes [] = true
+are_bytes (b ∷ bs) = if nat_lt b 256 then are_bytes bs else false
+
+-- a name of 32 bytes
+abbrev pub is_name : Name → Bool
+is_name n = (length n.0 == 32) && are_bytes n.0
+
+-- the folder of an object; its file has its name, in lower-case hexadecimal
+abbrev pub room_of : Kind → Name → Room
+room_of Kind.Pack n = Room.Packs (first_of n.0)
+room_of Kind.Index n = Room.Indexes
+room_of Kind.Snapshot n = Room.Snapshots
+
+-- the names of the config's file and of the ledger's
+abbrev pub config_name : List ℕ
+config_name = codes "config"
+
+abbrev pub ledger_name : List ℕ
+ledger_name = codes "ledger"
+
+-- the bytes of an object
+abbrev pub object_in : Files → Kind → Name → Option (List ℕ)
+object_in files kind n = if is_name n then files (room_of kind n) (hex_of n) else None
+
+-- the store that files spell
+abbrev pub spelled : Files → Store
+spelled files = record { config = files Room.Top config_name; objects = object_in files; tokens = tokens_in (files Room.Top ledger_name); append_only = false }
+
+-- files have a ledger
+abbrev pub HasLedger : Files → Type 0
+HasLedger files = (l : Tokens) × IsLedger l × (files Room.Top ledger_name ≡ Some (ledger_bytes l))
+
+-- files of which there are none yet but a fresh ledger
+pub record IsBegun (files : Files) : Type 0 where
+  pub ledger : (files Room.Top ledger_name ≡ None) ⊎ (files Room.Top ledger_name ≡ Some (ledger_bytes start))
+  pub others : (r : Room) (n : List ℕ) → IsKept r → ((r ≡ Room.Top) × (n ≡ ledger_name)) ⊎ (files r n ≡ None)
+
+-- what a disk's failure is to a shelf
+abbrev pub shelf_error : DiskError → ShelfError
+shelf_error DiskError.Failed = ShelfError.Fault
+shelf_error DiskError.Memory = ShelfError.Memory
+
+-- what a shelf tells of what came of a call
+abbrev pub told : {T : Type 0} → Result T DiskError → Result T ShelfError
+told (Ok x) = Ok x
+told (Err e) = Err (shelf_error e)

@@ -1,0 +1,139 @@
+//! Files are written into a store's folder, and removed there, so that what is told lasts.
+
+ghost use Rattle.std.specs.Prelude.{◌≡◌, ◌≤◌, ℕ, List, Some, None, true, OnOk, OnErr};
+ghost use Rattle.repo_disk.specs.Disks.{HasCause, ChangesDrafts};
+ghost use Rattle.repo_disk.specs.declared.rooms.Room.{Room};
+ghost use Rattle.repo_folder.specs.Folders.{IsKept, IsHonest, Stays, Comes, Puts, Keeps, noted};
+ghost use Rattle.repo_folder.specs.declared.folders.Standing.{Standing};
+
+use crate::folders::{Folder, Standing};
+use repo_disk::{Disk, DiskError, Room};
+
+/// What is known of all that is visible after a sync of what had changed.
+fn noted(synced: &Result<(), DiskError>) -> Standing
+    ensures { result ≡ noted synced.now }
+{
+    match synced {
+        Ok(()) => Standing::Settled,
+        Err(_) => Standing::Unsettled,
+    }
+}
+
+impl<D: Disk> Folder<D> {
+    /// Writes a file among those that are being written, so that its bytes last.
+    fn write(&mut self, draft: &str, bytes: &[u8]) -> Result<(), DiskError>
+        ensures drafts { D.faithful self.old.disk → ChangesDrafts (D.state self.old.disk) (D.state self.new.disk) }
+        ensures faithful { D.faithful self.old.disk → D.faithful self.new.disk }
+        ensures ok { D.faithful self.old.disk
+            → OnOk result ((D.state self.new.disk).now Room.Temporary draft.now ≡ Some (record { bytes = bytes.now; lasts = true })) }
+        ensures standing { self.new.standing ≡ self.old.standing }
+        ensures cause { HasCause (D.failed self.old.disk) result (D.failed self.new.disk) }
+    {
+        self.disk.draft(draft, bytes)?;
+        self.disk.sync_draft(draft)
+    }
+
+    /// The same, once all that is visible lasts. Where it fails, what was written is removed, as far as that can be done.
+    fn prepare(&mut self, draft: &str, bytes: &[u8]) -> Result<(), DiskError>
+        ensures honest { IsHonest (D.faithful self.old.disk) self.old.standing (D.state self.old.disk)
+            → IsHonest (D.faithful self.new.disk) self.new.standing (D.state self.new.disk) }
+        ensures same { IsHonest (D.faithful self.old.disk) self.old.standing (D.state self.old.disk) → Stays (D.state self.old.disk) (D.state self.new.disk) }
+        ensures ok { IsHonest (D.faithful self.old.disk) self.old.standing (D.state self.old.disk) → OnOk result ((self.new.standing ≡ Standing.Settled)
+            × ((D.state self.new.disk).now Room.Temporary draft.now ≡ Some (record { bytes = bytes.now; lasts = true }))) }
+        ensures cause { HasCause (D.failed self.old.disk) result (D.failed self.new.disk) }
+    {
+        self.settle()?;
+        let written = self.write(draft, bytes);
+        if written.is_err() {
+            self.disk.discard(draft);
+        }
+        written
+    }
+
+    /// Gives the file that was written its name, so that it lasts.
+    fn give(&mut self, draft: &str, room: Room, name: &str) -> Result<(), DiskError>
+        requires { IsKept room }
+        ensures honest { (bytes : List ℕ) → (D.state self.old.disk).now Room.Temporary draft.now ≡ Some (record { bytes = bytes; lasts = true })
+            → IsHonest (D.faithful self.old.disk) Standing.Settled (D.state self.old.disk)
+            → IsHonest (D.faithful self.new.disk) self.new.standing (D.state self.new.disk) }
+        ensures law { (bytes : List ℕ) → (D.state self.old.disk).now Room.Temporary draft.now ≡ Some (record { bytes = bytes; lasts = true })
+            → IsHonest (D.faithful self.old.disk) Standing.Settled (D.state self.old.disk)
+            → Keeps (Comes room name.now (Some bytes)) (D.state self.old.disk) result (D.state self.new.disk) }
+        ensures cause { HasCause (D.failed self.old.disk) result (D.failed self.new.disk) }
+    {
+        let placed = self.disk.place(draft, room, name);
+        let synced = self.disk.sync(room);
+        self.standing = noted(&synced);
+        placed?;
+        synced
+    }
+
+    /// Keeps a file whole, in place of what has its name.
+    pub fn keep(
+        &mut self,
+        draft: &str,
+        room: Room,
+        name: &str,
+        bytes: &[u8],
+    ) -> Result<(), DiskError>
+        requires { IsKept room }
+        ensures law { IsHonest (D.faithful self.old.disk) self.old.standing (D.state self.old.disk)
+            → Keeps (Comes room name.now (Some bytes.now)) (D.state self.old.disk) result (D.state self.new.disk) }
+        ensures honest { IsHonest (D.faithful self.old.disk) self.old.standing (D.state self.old.disk)
+            → IsHonest (D.faithful self.new.disk) self.new.standing (D.state self.new.disk) }
+        ensures cause { HasCause (D.failed self.old.disk) result (D.failed self.new.disk) }
+    {
+        self.prepare(draft, bytes)?;
+        self.give(draft, room, name)
+    }
+
+    /// Takes a name away, if something has it, where all that is visible lasts.
+    fn take_settled(&mut self, room: Room, name: &str) -> Result<(), DiskError>
+        requires { IsKept room }
+        ensures honest { IsHonest (D.faithful self.old.disk) Standing.Settled (D.state self.old.disk)
+            → IsHonest (D.faithful self.new.disk) self.new.standing (D.state self.new.disk) }
+        ensures law { IsHonest (D.faithful self.old.disk) Standing.Settled (D.state self.old.disk)
+            → Keeps (Comes room name.now None) (D.state self.old.disk) result (D.state self.new.disk) }
+        ensures cause { HasCause (D.failed self.old.disk) result (D.failed self.new.disk) }
+    {
+        let taken = self.disk.unlink(room, name);
+        let lasting = self.disk.sync(room);
+        self.standing = noted(&lasting);
+        taken?;
+        lasting
+    }
+
+    /// Takes a name away, if something has it.
+    pub fn take(&mut self, room: Room, name: &str) -> Result<(), DiskError>
+        requires { IsKept room }
+        ensures law { IsHonest (D.faithful self.old.disk) self.old.standing (D.state self.old.disk)
+            → Keeps (Comes room name.now None) (D.state self.old.disk) result (D.state self.new.disk) }
+        ensures honest { IsHonest (D.faithful self.old.disk) self.old.standing (D.state self.old.disk)
+            → IsHonest (D.faithful self.new.disk) self.new.standing (D.state self.new.disk) }
+        ensures cause { HasCause (D.failed self.old.disk) result (D.failed self.new.disk) }
+    {
+        self.settle()?;
+        self.take_settled(room, name)
+    }
+
+    /// Keeps a file whole, where nothing has its name; else nothing changes.
+    pub fn put(
+        &mut self,
+        draft: &str,
+        room: Room,
+        name: &str,
+        bytes: &[u8],
+    ) -> Result<(), DiskError>
+        requires { IsKept room }
+        ensures law { IsHonest (D.faithful self.old.disk) self.old.standing (D.state self.old.disk)
+            → Keeps (Puts room name.now bytes.now) (D.state self.old.disk) result (D.state self.new.disk) }
+        ensures honest { IsHonest (D.faithful self.old.disk) self.old.standing (D.state self.old.disk)
+            → IsHonest (D.faithful self.new.disk) self.new.standing (D.state self.new.disk) }
+        ensures cause { HasCause (D.failed self.old.disk) result (D.failed self.new.disk) }
+    {
+        if self.has(room, name)? {
+            return Ok(());
+        }
+        self.keep(draft, room, name, bytes)
+    }
+}

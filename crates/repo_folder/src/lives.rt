@@ -1,0 +1,70 @@
+//! A store's folder after the power was cut, or its program was killed.
+
+ghost use Rattle.std.specs.Prelude.{◌≡◌, IfOk};
+ghost use Rattle.repo_folder.specs.Folders.{IsHonest};
+ghost use Rattle.repo_folder.specs.Spelling.{spelled, HasLedger};
+ghost use Rattle.repo_folder.specs.declared.folders.Standing.{Standing};
+
+use crate::dir_shelf::DirShelf;
+use crate::folders::Folder;
+use crate::telling::told;
+use repo_disk::{Cuts, Disk};
+use repo_store::ShelfError;
+use std::alloc::Global;
+
+impl<D: Disk + Drop> DirShelf<D> {
+    /// The shelf of a store's folder on this disk, whatever happened there before. All that is visible lasts then;
+    /// where that can't be brought about, the disk's failure is told.
+    pub fn open(disk: D, alloc: Global) -> Result<DirShelf<D>, ShelfError>
+        ensures honest { IsHonest (D.faithful disk) Standing.Unsettled (D.state disk) → HasLedger (D.state disk).fate → IfOk result
+            (λ shelf. IsHonest (D.faithful shelf.folder.disk) shelf.folder.standing (D.state shelf.folder.disk) × HasLedger (D.state shelf.folder.disk).fate) }
+        ensures same { IsHonest (D.faithful disk) Standing.Unsettled (D.state disk)
+            → IfOk result (λ shelf. spelled (D.state shelf.folder.disk).fate ≡ spelled (D.state disk).fate) }
+        ensures settled { IfOk result (λ shelf. shelf.folder.standing ≡ Standing.Settled) }
+    {
+        let mut folder = Folder::of(disk);
+        told(folder.settle())?;
+        Ok(DirShelf { folder, alloc })
+    }
+
+    /// The disk of a shelf that is closed.
+    pub fn close(self) -> D
+        ensures { result ≡ self.folder.disk }
+    {
+        let DirShelf { folder, .. } = self;
+        let Folder { disk, .. } = folder;
+        disk
+    }
+
+    /// The program is killed, whatever happened before, and starts again: the store is the same.
+    pub fn kill(self) -> DirShelf<D>
+        ensures honest { IsHonest (D.faithful self.folder.disk) self.folder.standing (D.state self.folder.disk) → HasLedger (D.state self.folder.disk).fate
+            → IsHonest (D.faithful result.folder.disk) result.folder.standing (D.state result.folder.disk) × HasLedger (D.state result.folder.disk).fate }
+        ensures same { IsHonest (D.faithful self.folder.disk) self.folder.standing (D.state self.folder.disk)
+            → spelled (D.state result.folder.disk).fate ≡ spelled (D.state self.folder.disk).fate }
+    {
+        let DirShelf { folder, alloc } = self;
+        let Folder { disk, .. } = folder;
+        DirShelf {
+            folder: Folder::of(disk),
+            alloc,
+        }
+    }
+}
+
+impl<D: Cuts + Drop> DirShelf<D> {
+    /// The power is cut, whatever happened before, and comes back: the store is the same.
+    pub fn cut(self) -> DirShelf<D>
+        ensures honest { IsHonest (D.faithful self.folder.disk) self.folder.standing (D.state self.folder.disk) → HasLedger (D.state self.folder.disk).fate
+            → IsHonest (D.faithful result.folder.disk) result.folder.standing (D.state result.folder.disk) × HasLedger (D.state result.folder.disk).fate }
+        ensures same { IsHonest (D.faithful self.folder.disk) self.folder.standing (D.state self.folder.disk)
+            → spelled (D.state result.folder.disk).fate ≡ spelled (D.state self.folder.disk).fate }
+    {
+        let DirShelf { folder, alloc } = self;
+        let Folder { disk, .. } = folder;
+        DirShelf {
+            folder: Folder::of(disk.cut()),
+            alloc,
+        }
+    }
+}
