@@ -244,6 +244,8 @@ def runs_example(yard, name):
         if "not reached" not in run.stderr + run.stdout:
             break
     same(run.returncode, 0, f"examples/{name}.sh: {(run.stdout + run.stderr)[-600:]}")
+    if skipped := re.search(r"^skipped: (.*)$", run.stdout, re.M):
+        raise Skipped(skipped[1])
 
 
 def example(name):

@@ -5,7 +5,7 @@ from program import TICKET, Server, frame, has_status, matches, refused, token, 
 from trying import holds, same, trial
 from yards import Yard, filled, in_store
 
-COMMANDS = "frames init serve backup snapshots restore forget prune check locks refresh unlock play loop".split()
+COMMANDS = "frames init serve backup snapshots restore forget prune check upgrade locks refresh unlock play loop".split()
 NAME = "0" * 64
 # Nobody is asked there: the words are refused before.
 ANY = "127.0.0.1:1"
@@ -81,8 +81,8 @@ def frames_tells_what_is_none():
     """What was answered before stands on standard output."""
     first = TICKET + "\n"
     for given, fault in (("xy", "line 2: not hexadecimal"), ("0", "line 2: not hexadecimal"), (" 00", "line 2: not hexadecimal"), ("\n00\r", "line 3: not hexadecimal"),
-                         ("00000018", "malformed: length"), ("ffffffff", "malformed: length"), (frame(12).hex(), "malformed: tag"), (frame(129).hex(), "malformed: tag"),
-                         (frame(1, b"\0").hex(), "malformed: fields"), (frame(6, b"\3\0").hex(), "malformed: fields"), ("0000", "end of input inside a frame"),
+                         ("00000018", "malformed: length"), ("ffffffff", "malformed: length"), (frame(13).hex(), "malformed: tag"), (frame(129).hex(), "malformed: tag"),
+                         (frame(1, b"\0").hex(), "malformed: fields"), (frame(6, b"\3\0").hex(), "malformed: fields"), (frame(12).hex(), "malformed: fields"), ("0000", "end of input inside a frame"),
                          (TICKET[:-2], "end of input inside a frame")):
         same(told("frames", stdin=first + given + "\n"), f"1|{token(1)}\n|{fault}\n", given)
 

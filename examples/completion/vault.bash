@@ -8,21 +8,22 @@ _vault() {
     local word=${COMP_WORDS[COMP_CWORD]} options="" folder="" place=1 at
     COMPREPLY=()
     if [ "$COMP_CWORD" -eq 1 ]; then
-        mapfile -t COMPREPLY < <(compgen -W "backup check forget frames init locks loop play prune refresh restore serve snapshots unlock --help --version" -- "$word")
+        mapfile -t COMPREPLY < <(compgen -W "backup check forget frames init locks loop play prune refresh restore serve snapshots unlock upgrade --help --version" -- "$word")
         return
     fi
     case ${COMP_WORDS[1]} in
         frames) options="" ;;
         play) options="" ;;
         loop) options="" ;;
-        init) options="--min --max --bits --target" folder=1 ;;
-        serve) options="--connections --idle --append-only" folder=1 ;;
+        init) options="--min --max --bits --target --format" folder=1 ;;
+        serve) options="--connections --at-once --idle --append-only" folder=1 ;;
         backup) options="--retry" folder=3 ;;
         snapshots) options="--retry" ;;
         restore) options="--retry" folder=3 ;;
         forget) options="--retry --keep-last --keep-daily" ;;
         prune) options="--retry" ;;
         check) options="--retry" ;;
+        upgrade) options="--retry" ;;
         locks) options="" ;;
         refresh) options="" ;;
         unlock) options="--remove-all" ;;

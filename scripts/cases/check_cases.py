@@ -6,7 +6,7 @@ from checks import Check
 from command_cases import NO_NAMES, OPENED, codes, places, raw_pages, say, says, snapshots_texts, streams
 from job_cases import TREE, indexes, trees
 from prune_cases import ABC, DE, DONE, ROOT, Objects, broken_stores, laid, mixed, nested, replies_to, shapes
-from store import name_of
+from naming import name_of
 from texts import dir_node, file_node, index_text, pack_of, snapshot_text, tree_text
 from world_cases import TWO, X, stored
 

@@ -2,7 +2,7 @@
 
 from jobs import DEEPEST, End, Outcome, listed, refusal
 from prunes import by_pack, least_places
-from store import name_of
+from naming import name_of
 from texts import OtherVersion, Unreadable, read_index, read_pack, read_snapshot, read_tree, want
 
 

@@ -2,7 +2,7 @@
 
 from commands import INSTANCE
 from frames import Message
-from store import name_of
+from naming import name_of
 from texts import config_text, dump, snapshot_text, tree_text
 
 OPENED = [("token", 1), ("done",), ("bytes", config_text())]

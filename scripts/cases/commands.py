@@ -5,7 +5,7 @@ from dataclasses import dataclass, field
 from checks import Check
 from frames import REPLIES, REQUESTS, Malformed, Message, Stream
 from jobs import Backup, Client, Forget, List, Restore, StartRefused
-from prunes import Prune
+from prunes import Prune, Upgrade
 
 INSTANCE = bytes([1]) * 16
 STALE = 1_800
@@ -147,7 +147,7 @@ def unlock(talk, everything):
 def job(talk, core, host):
     outcome = talk.drive(Client(core, INSTANCE, host, talk.server.time))
     word = outcome.text.split(" ")[0]
-    if word not in ("stored", "complete", "listed", "forgotten", "pruned", "clean", "faults"):
+    if word not in ("stored", "complete", "listed", "forgotten", "pruned", "clean", "faults", "upgraded"):
         raise Failed(outcome.text)
     return outcome
 
@@ -163,6 +163,10 @@ def restore(talk, name):
 
 def prune(talk):
     talk.show(job(talk, Prune(), "vault").text + "\n")
+
+
+def upgrade(talk):
+    talk.show(job(talk, Upgrade(), "vault").text + "\n")
 
 
 def check(talk):

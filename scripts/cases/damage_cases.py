@@ -2,7 +2,7 @@
 
 from commands import INSTANCE
 from frames import Message
-from store import name_of
+from naming import name_of
 from texts import config_text, file_node, index_text, pack_of, snapshot_text, tree_text
 from world_cases import TWO, X, laid, restored, stored
 

@@ -4,7 +4,7 @@ import random
 
 from command_cases import ABC, OPENED, SNAPSHOT, TREE, codes, places, raw_pages, say, says, snapshots_texts, streams
 from jobs import DAY
-from store import name_of
+from naming import name_of
 from texts import snapshot_text
 from world_cases import TWO, X, restored, stored
 

@@ -2,7 +2,7 @@
 
 An ask is a tuple whose first item is its word: ("ticket",), ("lock", token, exclusive, time, host),
 ("refresh", token, time), ("unlock", token), ("locks",), ("list", kind, after or None), ("get", kind, name),
-("range", pack, offset, length), ("put", token, kind, name, data), ("delete", token, kind, name), ("config",).
+("range", pack, offset, length), ("put", token, kind, name, data), ("delete", token, kind, name), ("config",), ("upgrade", token).
 A say: ("token", token), ("done",), ("names", more, names), ("bytes", data), ("rows", rows), ("refused", code).
 """
 
@@ -11,7 +11,7 @@ from dataclasses import dataclass
 
 KINDS = ["pack", "index", "snapshot"]
 TAGS = {"ticket": 1, "lock": 2, "refresh": 3, "unlock": 4, "locks": 5, "list": 6, "get": 7, "range": 8,
-        "put": 9, "delete": 10, "config": 11,
+        "put": 9, "delete": 10, "config": 11, "upgrade": 12,
         "token": 129, "done": 130, "names": 131, "bytes": 132, "rows": 133, "refused": 134}
 LEAST, GREATEST = 25, 26_214_400
 PAGE = 256
@@ -68,7 +68,7 @@ def fields_of(what):
             return row_of(row)
         case ("refresh", token, time):
             return u64(token) + u64(time)
-        case ("unlock", token) | ("token", token):
+        case ("unlock", token) | ("upgrade", token) | ("token", token):
             return u64(token)
         case ("list", kind, None):
             return kind_of(kind) + b"\0"
@@ -154,6 +154,7 @@ REQUESTS = {
     9: lambda f: ("put", f.number(8), f.kind(), f.take(32), f.rest()),
     10: lambda f: ("delete", f.number(8), f.kind(), f.take(32)),
     11: lambda f: ("config",),
+    12: lambda f: ("upgrade", f.number(8)),
 }
 REPLIES = {
     129: lambda f: ("token", f.number(8)),

@@ -2,7 +2,7 @@
 
 from command_cases import (ABC, NO_NAMES, OPENED, SNAPSHOT, TREE, codes, no_texts, places, raw_pages, say, says,
                            snapshots_texts, streams)
-from store import name_of
+from naming import name_of
 from texts import dir_node, dump, file_node, index_text, pack_of, snapshot_text, tree_text
 
 PACK = name_of(b"pack")

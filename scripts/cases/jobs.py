@@ -4,7 +4,7 @@ from dataclasses import dataclass
 
 from chunks import chunks
 from frames import Message
-from store import BLOB_LARGEST, name_of
+from naming import BLOB_LARGEST, name_of
 from texts import (OtherVersion, Unreadable, dir_node, file_node, index_text, is_component, pack_of, read_config,
                    read_index, read_snapshot, read_tree, snapshot_text, tree_text)
 
@@ -105,10 +105,10 @@ def snapshots_read():
     return rows
 
 
-def config_read():
+def config_read(upto):
     data, = yield from asked(("config",), "bytes")
     try:
-        return read_config(data)
+        return read_config(data, upto)
     except OtherVersion:
         raise End("version")
     except Unreadable:
@@ -116,10 +116,12 @@ def config_read():
 
 
 class Client:
-    """One job of one client: what is pending, how it ended, what the last reply gave out."""
+    """One job of one client: what is pending, how it ended, what the last reply gave out. An old client knows version 1 alone;
+    each job but an upgrade knows no more."""
 
-    def __init__(self, job, instance, host, time):
+    def __init__(self, job, instance, host, time, old=False):
         self.job, self.instance, self.host, self.time = job, instance, host, time
+        self.upto = 1 if old else getattr(job, "upto", 1)
         self.sequence, self.pending, self.outcome, self.emitted = 0, None, None, []
         self.steps = self.run()
         self.send(next(self.steps))
@@ -147,7 +149,7 @@ class Client:
             self.outcome = end.outcome
             return
         try:
-            self.config = yield from config_read()
+            self.config = yield from config_read(self.upto)
             self.outcome = yield from self.job.run(self)
         except End as end:
             self.outcome = end.outcome

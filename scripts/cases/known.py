@@ -4,9 +4,10 @@ from checks import Check
 from chunks import chunks, remainder
 from commands import INSTANCE
 from frames import Message
-from jobs import Backup, Client, Forget, Restore, StartRefused, kept
-from prunes import Prune
-from store import Ledger, Store, name_of
+from jobs import Backup, Client, Forget, List, Restore, StartRefused, kept
+from prunes import Prune, Upgrade
+from naming import name_of
+from store import Ledger, Store
 from texts import (Unreadable, config_text, file_node, index_text, pack_of, read_index, read_snapshot, read_tree, snapshot_text,
                    tree_text)
 
@@ -37,6 +38,7 @@ def check_frames():
     is_frame(("lock", 1, False, 5, "a"), 2, "0000002c 02 I 0000000000000002 0000000000000001 00 0000000000000005 01 61")
     is_frame(("put", 1, "snapshot", ABC, b"abc"), 3, f"00000045 09 I 0000000000000003 0000000000000001 02 {A} 616263")
     is_frame(("get", "snapshot", ABC), 4, f"0000003a 07 I 0000000000000004 02 {A}")
+    is_frame(("upgrade", 1), 3, "00000021 0c I 0000000000000003 0000000000000001")
     is_frame(("bytes", b"abc"), 4, "0000001c 84 I 0000000000000004 616263")
 
 
@@ -119,6 +121,19 @@ def check_checks():
     assert outcome.faults == [("index", ABC, "unreadable"), ("pack", name_of(b""), "name")]
 
 
+def check_upgrades():
+    store = new_store()
+    assert store.answer(("ticket",)) == ("token", 1) and store.answer(("lock", 1, True, 5, "a")) == ("done",)
+    assert store.answer(("upgrade", 1)) == ("done",) and store.config == config_text(version=2)
+    store = Store()
+    store.answer(("ticket",)), store.answer(("lock", 1, True, 5, "a"))
+    assert store.answer(("upgrade", 1)) == ("refused", 5) and store.answer(("upgrade", 2)) == ("refused", 2)
+    store = new_store()
+    results = [finish(store, Client(job, INSTANCE, "play", 0, old)).text
+               for job, old in ((List(), True), (Upgrade(), False), (Upgrade(), True), (Restore(ABC), True), (Upgrade(), False))]
+    assert results == ["listed 0", "upgraded", "version", "version", "upgraded"]
+
+
 def check_tokens():
     ledger = Ledger()
     assert [ledger.ticket() for _ in range(1_025)] == list(range(1, 1_026))
@@ -126,5 +141,5 @@ def check_tokens():
 
 
 def check():
-    for part in (check_chunks, check_frames, check_texts, check_jobs, check_forgets, check_checks, check_tokens):
+    for part in (check_chunks, check_frames, check_texts, check_jobs, check_forgets, check_checks, check_upgrades, check_tokens):
         part()

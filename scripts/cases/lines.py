@@ -136,6 +136,11 @@ class Lines:
         self.line("prune")
         self.ran(commands.run(commands.prune, server))
 
+    def upgrade(self, *replies, **shape):
+        server = self.server(*replies, **shape)
+        self.line("upgrade")
+        self.ran(commands.run(commands.upgrade, server))
+
     def check(self, *replies, **shape):
         server = self.server(*replies, **shape)
         self.line("check")

@@ -50,6 +50,10 @@ WORKED = [
      TOLD + "client 3 prune refused 10\nclient 4 check clean 1 2 3 2\nstore packs 3 indexes 2 snapshots 1 live 0\n"),
 ]
 REFUSED = [
+    ("a line that starts no client, after `old`", "old report\n", "", 1),
+    ("`old` alone", "start list\nold\n", "", 2),
+    ("`old` twice", "old old start list\n", "", 1),
+    ("an upgrade of something", "start upgrade 1\n", "", 1),
     ("a line that isn't understood ends it; an empty one says nothing and counts", "report\n\nreport \nreport\n",
      "store packs 0 indexes 0 snapshots 0 live 0\n", 3),
     ("a client that isn't there", "step 0", "", 1),
@@ -69,6 +73,18 @@ ENDED = [
     ("a store that only appends refuses to delete",
      "append-only\nfile x 616263\nstart backup a 1\nfinish 0\nstart forget 0\nfinish 1\nreport\n",
      "client 0 backup stored 2 129\nclient 1 forget refused 14\nstore packs 1 indexes 1 snapshots 1 live 0\n"),
+    ("an upgrade waits for the lock of an old backup, whose snapshot comes late",
+     "file x 616263\nold start backup a 1\nfinish 0\nfile x 616263\nold start backup b 1\nuntil 1 put-snapshot\nstart upgrade\n"
+     "finish 2\nunlock 2\nstart upgrade\nfinish 3\nlate 1\nfinish 1\nold start restore 0\nfinish 4\nold start upgrade\nfinish 5\n"
+     "start upgrade\nuntil 6 upgrade\nfinish 6\nreport\n",
+     "late 1 refused 2\nclient 0 backup stored 2 129\nclient 1 backup fenced\nclient 2 upgrade busy\nclient 3 upgrade upgraded\n"
+     "client 4 restore version\nclient 5 upgrade version\nclient 6 upgrade upgraded\n"
+     "store packs 1 indexes 1 snapshots 1 live 0\n"),
+    ("an upgrade that is sent, and comes late",
+     "start upgrade\nuntil 0 upgrade\nunlock 1\nstart upgrade\nfinish 1\nstep 0\nlate 0\nreport\n",
+     "late 0 refused 2\nclient 0 upgrade fenced\nclient 1 upgrade upgraded\nstore packs 0 indexes 0 snapshots 0 live 0\n"),
+    ("a store that only appends is upgraded", "append-only\nold start upgrade\nfinish 0\nstart upgrade\nfinish 1\nreport\n",
+     "client 0 upgrade upgraded\nclient 1 upgrade upgraded\nstore packs 0 indexes 0 snapshots 0 live 0\n"),
     ("each request once more changes nothing that is told",
      WORKED[1][1].replace("report\n", "replay\nreport\n"), WORKED[1][2]),
 ]

@@ -6,7 +6,8 @@ from command_cases import NO_NAMES, OPENED, codes, no_texts, places, raw_pages, 
 from commands import INSTANCE
 from jobs import Client
 from prunes import Prune
-from store import Store, name_of
+from naming import name_of
+from store import Store
 from texts import config_text, dir_node, file_node, index_text, pack_of, snapshot_text, tree_text
 from world_cases import TWO, X, restored, stored
 

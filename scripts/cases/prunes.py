@@ -1,8 +1,8 @@
-"""The client of a prune, and what it and a check share: where blobs lie, and which of them each pack has."""
+"""The clients of a prune and of an upgrade, and what prune and check share: where blobs lie, and which of them each pack has."""
 
 from jobs import DEEPEST, INDEX_BLOBS, PACK_BLOBS, End, Outcome, asked, got, listed
-from store import name_of
-from texts import Unreadable, index_text, pack_of, read_index, read_snapshot, read_tree
+from naming import name_of
+from texts import GREATEST_VERSION, Unreadable, index_text, pack_of, read_index, read_snapshot, read_tree
 
 
 def least_places(facts):
@@ -138,3 +138,13 @@ class Prune:
     def delete(self, kind, names):
         for name in names:
             yield from asked(("delete", self.client.token, kind, name), "done")
+
+
+class Upgrade:
+    """An upgrade: the config is of version 2 at its end."""
+    role, exclusive, upto = "upgrade", True, GREATEST_VERSION
+
+    def run(self, client):
+        if client.config[4] < GREATEST_VERSION:
+            yield from asked(("upgrade", client.token), "done")
+        return Outcome("upgraded")

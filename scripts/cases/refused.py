@@ -20,7 +20,7 @@ from job_cases import FILE_TREE, indexed, restore_of, tree_first
 from prune_cases import Objects, mixed, replies_to
 from prunes import Prune
 from script import Script
-from store import name_of
+from naming import name_of
 from texts import dir_node, file_node, snapshot_text, tree_text
 
 PROGRAM = Path(__file__).resolve().parents[2] / "crates/cases/out/cases"

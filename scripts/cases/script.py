@@ -5,8 +5,9 @@ from checks import Check
 from frames import KINDS, Message
 from jobs import Backup, Client, Forget, List, Restore, StartRefused
 from lines import Lines, digits, frames_of, shown
-from prunes import Prune
-from store import Refused, Store, name_of
+from prunes import Prune, Upgrade
+from naming import name_of
+from store import Refused, Store
 from texts import config_text
 
 
@@ -91,9 +92,9 @@ class Script(Lines):
         frames = [Message(commands.INSTANCE, sequence + place, what).frame() for place, what in enumerate(asks)]
         self.serve(b"".join(frames))
 
-    def seat(self, core, host, time):
+    def seat(self, core, host, time, old=False):
         instance = len(self.seats).to_bytes(16, "big")
-        self.seats.append(Seat(Client(core, instance, host, time)))
+        self.seats.append(Seat(Client(core, instance, host, time, old)))
         return len(self.seats) - 1
 
     def start_backup(self, entries, host="a", time=5):
@@ -132,6 +133,11 @@ class Script(Lines):
     def start_prune(self):
         self.line("start prune")
         return self.seat(Prune(), "play", 0)
+
+    def start_upgrade(self, old=False):
+        """Of a client that knows both versions, or of an old one."""
+        self.line("old " * old + "start upgrade")
+        return self.seat(Upgrade(), "play", 0, old)
 
     def start_check(self):
         self.line("start check")

@@ -1,21 +1,14 @@
 """The token machine and the store machine: what a store says to each ask, and what it keeps then."""
 
-from hashlib import sha256
-
 from frames import PAGE
+from naming import BLOB_LARGEST, CONFIG_LARGEST, LARGEST, name_of
+from texts import GREATEST_VERSION, OtherVersion, Unreadable, config_text, read_config
 
-LARGEST = {"pack": 25_317_379, "index": 8_388_608, "snapshot": 65_536}
-CONFIG_LARGEST = 65_536
-BLOB_LARGEST = 8_388_608
 FRESH, LIVE = 1_024, 256
 
 
 class Refused(Exception):
     """A refusal with its code."""
-
-
-def name_of(data):
-    return sha256(data).digest()
 
 
 class Ledger:
@@ -204,3 +197,21 @@ class Store:
         if len(self.config) > CONFIG_LARGEST:
             raise Refused(7)
         return ("bytes", self.config)
+
+    def on_upgrade(self, token):
+        ledger = self.read_ledger()
+        if token not in ledger.live:
+            raise Refused(2)
+        if not ledger.live[token][0]:
+            raise Refused(4)
+        self.read()
+        if self.config is None:
+            raise Refused(5)
+        try:
+            *numbers, version, identity = read_config(self.config, GREATEST_VERSION)
+        except (OtherVersion, Unreadable):
+            raise Refused(1)
+        if version < GREATEST_VERSION:
+            raised = config_text(*numbers, version=GREATEST_VERSION, identity=identity)
+            self.write(lambda: setattr(self, "config", raised))
+        return ("done",)

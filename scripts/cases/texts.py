@@ -4,9 +4,10 @@ import json
 import math
 import struct
 
-from store import BLOB_LARGEST, LARGEST, name_of
+from naming import BLOB_LARGEST, LARGEST, name_of
 
 GREATEST_NUMBER = 2**64 - 1
+GREATEST_VERSION = 2
 TYPES = {"content": "data", "tree": "tree"}
 
 
@@ -48,8 +49,8 @@ def snapshot_text(host, time, token, tree, version=1):
     return dump({"host": host, "time": time, "token": token, "tree": tree.hex(), "version": version})
 
 
-def config_text(minimum=64, maximum=128, bits=6, target=1_024, version=1):
-    return dump({"chunk_bits": bits, "chunk_max": maximum, "chunk_min": minimum, "id": "00" * 16,
+def config_text(minimum=64, maximum=128, bits=6, target=1_024, version=1, identity="00" * 16):
+    return dump({"chunk_bits": bits, "chunk_max": maximum, "chunk_min": minimum, "id": identity,
                  "pack_target": target, "version": version})
 
 
@@ -177,27 +178,27 @@ def read_tree(data):
     return nodes
 
 
-def read_version(data, largest):
-    """A text of the known version."""
+def read_version(data, largest, upto):
+    """A text of a version that a reader knows: one from 1 to this one."""
     want(len(data) <= largest)
     value = load(data)
-    if number(value, "version") != 1:
+    if not 1 <= number(value, "version") <= upto:
         raise OtherVersion(value["version"])
     return value
 
 
-def read_snapshot(data):
-    value = read_version(data, LARGEST["snapshot"])
+def read_snapshot(data, upto=1):
+    value = read_version(data, LARGEST["snapshot"], upto)
     want(1 <= len(field(value, "host", str).encode()) <= 255)
     return value["host"], number(value, "time"), number(value, "token"), named(field(value, "tree", str))
 
 
-def read_config(data):
-    """The chunk rule's least and greatest length and bits, and a pack's target."""
-    value = read_version(data, 65_536)
+def read_config(data, upto=1):
+    """The chunk rule's least and greatest length and bits, a pack's target, the version, and the repository's own digits."""
+    value = read_version(data, 65_536, upto)
     minimum, maximum = number(value, "chunk_min"), number(value, "chunk_max")
     bits, target = number(value, "chunk_bits"), number(value, "pack_target")
     identity = field(value, "id", str)
     want(len(identity) == 32 and all(digit in "0123456789abcdef" for digit in identity))
     want(64 <= minimum <= maximum <= 8_388_608 and 1 <= bits <= 32 and 1_024 <= target <= 16_777_216)
-    return minimum, maximum, bits, target
+    return minimum, maximum, bits, target, value["version"], identity

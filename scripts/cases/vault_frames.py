@@ -3,7 +3,8 @@
 import random
 
 from frames import KINDS, Message
-from store import Store, name_of
+from naming import name_of
+from store import Store
 
 HOSTS = ["a", "b c", "mañana", "h" * 255, "末"]
 
@@ -43,7 +44,11 @@ def chosen(talk):
     talk.ask("put", 7, "snapshot", name_of(b""), bytes(65_537))
     for offset, length in ((0, 0), (0, 1), (0, 3), (1, 2), (2, 2), (3, 1), (0, 8_388_608), (0, 8_388_609), (2**32 - 1, 1), (0, 2**32 - 1)):
         talk.ask("range", a, offset, length)
+    talk.ask("upgrade", token)
     talk.ask("unlock", token)
+    exclusive = talk.locked(True)
+    talk.ask("upgrade", exclusive)
+    talk.ask("unlock", exclusive)
 
 
 def pages(talk):
@@ -98,7 +103,7 @@ def ask_by_chance(chance, talk):
         ("lock", token, chance.random() < 0.3, time, chance.choice(HOSTS)), ("refresh", token, time), ("unlock", token), ("locks",),
         ("list", kind, chance.choice([None, name])), ("get", kind, name), ("range", name, chance.randrange(3), chance.randrange(4)),
         ("put", token, kind, name, data), ("put", token, kind, name, data), ("put", token, kind, name, data),
-        ("delete", token, kind, name), ("delete", token, kind, name), ("config",)])
+        ("delete", token, kind, name), ("delete", token, kind, name), ("config",), ("upgrade", token)])
 
 
 def by_chance(talk):

@@ -2,7 +2,7 @@
 
 from commands import INSTANCE
 from frames import Message
-from store import name_of
+from naming import name_of
 
 A, E = name_of(b"abc"), name_of(b"")
 UPPER = A.hex().upper()
@@ -19,7 +19,7 @@ def asks(*whats):
 def bad_arguments(script):
     """Words that clap takes and the program doesn't."""
     for words in ("init x --min 63", "init x --max 63", "init x --min 129 --max 128", "init x --max 8388609", "init x --bits 0",
-                  "init x --bits 33", "init x --target 1023", "init x --target 16777217", "serve x y --connections 0",
+                  "init x --bits 33", "init x --target 1023", "init x --target 16777217", "init x --format 0", "init x --format 3", "serve x y --connections 0",
                   "backup x  p", "backup x " + "h" * 256 + " p", "backup x " + "é" * 128 + " p",
                   "restore x 12 d", "restore x " + UPPER + " d", "restore x " + A.hex() + "0 d", "restore x " + "g" * 64 + " d",
                   "forget x 12", "forget x " + UPPER, "forget x " + A.hex() + " " + "g" * 64, "forget x " + A.hex() + "0 " + A.hex()):
@@ -46,7 +46,7 @@ def claps(script):
             ("vault frames more", "error: unexpected argument 'more' found"),
             ("vault frames --all", "error: unexpected argument '--all' found"),
             ("vault init", missing), ("vault serve x", missing), ("vault backup x h", missing), ("vault restore x", missing),
-            ("vault refresh x", missing), ("vault snapshots", missing), ("vault forget", missing), ("vault prune", missing),
+            ("vault refresh x", missing), ("vault snapshots", missing), ("vault forget", missing), ("vault prune", missing), ("vault upgrade", missing),
             ("vault locks", missing), ("vault unlock", missing),
             ("vault init x --max -1", "error: unexpected argument '-1' found"),
             ("vault init x --max", "error: a value is required for '--max <N>' but none was supplied"),
@@ -63,12 +63,13 @@ def claps(script):
             ("vault serve x y --connections z", f"error: invalid value 'z' for '--connections <N>': {digits}"),
             ("vault locks x y", "error: unexpected argument 'y' found"),
             ("vault snapshots x y", "error: unexpected argument 'y' found"),
-            ("vault prune x y", "error: unexpected argument 'y' found"),
+            ("vault prune x y", "error: unexpected argument 'y' found"), ("vault upgrade x y", "error: unexpected argument 'y' found"),
             ("vault check x y", "error: unexpected argument 'y' found"),
             ("vault backup x h p --retry", "error: a value is required for '--retry <N>' but none was supplied"),
             ("vault prune x --retry y", f"error: invalid value 'y' for '--retry <N>': {digits}"),
             ("vault check x --retry 18446744073709551616",
              "error: invalid value '18446744073709551616' for '--retry <N>': number too large to fit in target type"),
+            ("vault init x --format y", f"error: invalid value 'y' for '--format <N>': {digits}"),
             ("vault locks x --retry 1", "error: unexpected argument '--retry' found"),
             ("vault unlock x --all", "error: unexpected argument '--all' found")):
         script.heading("words that clap refuses")
@@ -85,7 +86,7 @@ def unreached(script):
                   "restore nowhere " + A.hex() + " d", "prune nowhere", "check nowhere", "forget nowhere", "forget nowhere --keep-last 1", "forget nowhere --keep-daily 4294967295",
                   "forget nowhere " + A.hex() + " " + A.hex(), f"forget nowhere {A.hex()} --keep-last 0 {E.hex()} --keep-daily 0", "locks 127.0.0.1", "locks 127.0.0.1:x", "locks 127.0.0.1:0", "locks 127.0.0.1:65536",
                   "backup nowhere h p --retry 0", "snapshots nowhere --retry 1", "restore nowhere " + A.hex() + " d --retry 2", "forget nowhere --retry 3",
-                  "prune nowhere --retry 4", "check nowhere --retry 5"):
+                  "prune nowhere --retry 4", "check nowhere --retry 5", "upgrade nowhere", "upgrade nowhere --retry 1"):
         script.heading("an address that can't be connected to")
         script.vault("vault " + words)
         script.ended(1, "", "not reached\n")
@@ -139,7 +140,7 @@ def bad_streams(script):
     """Streams that end badly, each after a ticket and alone."""
     head = "01" * 16 + "0000000000000001"
     ticket = frame(("ticket",))
-    bodies = [("a tag of a reply", "81" + head), ("tag 0", "00" + head), ("tag 12", "0c" + head), ("tag 13", "0d" + head),
+    bodies = [("a tag of a reply", "81" + head), ("tag 0", "00" + head), ("tag 13", "0d" + head), ("tag 14", "0e" + head),
               ("a ticket with a field", "01" + head + "00"), ("a lock without a host", "02" + head + "00" * 17),
               ("a lock with a host of 0 bytes", "02" + head + "00" * 17 + "00"), ("a lock with a host that is cut", "02" + head + "00" * 17 + "0261"),
               ("a lock with a byte more", "02" + head + "00" * 17 + "016100"), ("a lock with a host that is no text", "02" + head + "00" * 17 + "01ff"),
@@ -149,7 +150,8 @@ def bad_streams(script):
               ("a list with a name that isn't given", "06" + head + "0000" + "00" * 32), ("a list whose name is cut", "06" + head + "0001" + "00" * 31),
               ("a get of kind 3", "07" + head + "03" + "00" * 32), ("a get with a byte more", "07" + head + "00" * 34),
               ("a range that is cut", "08" + head + "00" * 39), ("a put of kind 255", "09" + head + "00" * 8 + "ff" + "00" * 32),
-              ("a put that is cut", "09" + head + "00" * 40), ("a delete with bytes", "0a" + head + "00" * 42), ("a config with a field", "0b" + head + "00")]
+              ("a put that is cut", "09" + head + "00" * 40), ("a delete with bytes", "0a" + head + "00" * 42), ("a config with a field", "0b" + head + "00"),
+              ("an upgrade that is cut", "0c" + head + "00" * 7), ("an upgrade with a byte more", "0c" + head + "00" * 9)]
     for text, body in bodies:
         script.heading("frames: " + text)
         data = f"{len(body) // 2:08x}" + body
@@ -162,7 +164,7 @@ def bad_streams(script):
                         ("a frame over empty lines", ["", ticket[:34], "", ticket[34:]]), ("two frames on a line", [ticket + ticket]),
                         ("a bad length before bad digits", ["00000018", "xx"]), ("bad digits behind a frame on its line", [ticket + "xx"]),
                         ("bad digits on the next line", [ticket, "xx"]), ("a bad length behind a frame", [ticket + "00000018", "xx"]),
-                        ("the tag is told when the body is there", ["000000190d", "xx"]), ("nothing", []), ("empty lines", ["", ""])):
+                        ("the tag is told when the body is there", ["000000190e", "xx"]), ("nothing", []), ("empty lines", ["", ""])):
         script.heading("frames: " + text)
         script.frames(lines)
         script.frames([ticket] + lines)

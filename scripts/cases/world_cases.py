@@ -2,7 +2,7 @@
 
 import random
 
-from store import name_of
+from naming import name_of
 from texts import dir_node, file_node, index_text, pack_of, snapshot_text, tree_text
 
 X = [(["x"], b"abc")]

@@ -1,5 +1,8 @@
 //! Configs against texts that were written by hand after the format.
 
+ghost use Rattle.std.specs.Prelude.{◌≤◌};
+ghost use Rattle.repo_tree.specs.Versions.{greatest_version};
+
 use crate::trials::Trial;
 use repo_chunk::Params;
 use repo_name::Instance;
@@ -8,6 +11,9 @@ use std::alloc::{AllocError, Global};
 
 const CONFIG: &str =
     r#"{"chunk_bits":6,"chunk_max":128,"chunk_min":64,"id":"00000000000000000000000000000000","pack_target":1024,"version":1}"#;
+
+const CONFIG_2: &str =
+    r#"{"chunk_bits":6,"chunk_max":128,"chunk_min":64,"id":"00000000000000000000000000000000","pack_target":1024,"version":2}"#;
 
 const ID: &str = "\"00112233445566778899aabbccddeeff\"";
 
@@ -82,35 +88,58 @@ impl Trial {
         self.count(error == wanted);
     }
 
-    /// The config of the text above has that text, and is read from it.
-    fn keeps_config(&mut self) {
+    /// The config of a text above has that text, and is read from it.
+    fn keeps_config(&mut self, version: u64, text: &str) {
         let Ok(params) = Params::new(64, 128, 6) else {
             return self.count(false);
         };
         let config = Config {
-            version: 1,
+            version,
             id: Instance([0; 16]),
             params,
             target: 1024,
         };
-        self.writes_config(&config, CONFIG);
-        match self.config_of(CONFIG.as_bytes()) {
+        self.writes_config(&config, text);
+        match self.config_of(text.as_bytes()) {
             Ok(read) => self.count(read == config),
             Err(_) => self.count(false),
         }
     }
+
+    /// A reader that knows versions up to this one reads a text, or doesn't for this reason.
+    fn checks_upto(&mut self, text: &str, upto: u64, wanted: Option<TextError>)
+        requires { upto ≤ greatest_version }
+    {
+        let error = Config::read_upto(self.alloc, text.as_bytes(), upto).err();
+        self.count(error == wanted);
+    }
+}
+
+#[test]
+fn configs_of_versions_that_a_reader_knows(rt: HostRuntime) {
+    let mut trial = Trial::new(rt.alloc());
+    trial.checks_upto(CONFIG, 1, None);
+    trial.checks_upto(CONFIG, 2, None);
+    trial.checks_upto(CONFIG_2, 1, Some(TextError::Version));
+    trial.checks_upto(CONFIG_2, 2, None);
+    trial.checks_upto(CONFIG, 0, Some(TextError::Version));
+    trial.end(&rt);
 }
 
 #[test]
 fn configs_are_written_and_read_back(rt: HostRuntime) {
     let mut trial = Trial::new(rt.alloc());
     let padded = trial.padded(CONFIG, 65_536);
-    trial.keeps_config();
+    trial.keeps_config(1, CONFIG);
+    trial.keeps_config(2, CONFIG_2);
     trial.checks_config(padded.as_slice(), None);
     trial.checks_target(1, 16_777_216, None);
     trial.checks_target(1, 16_777_217, Some(TextError::Params));
     trial.checks_target(1, 1023, Some(TextError::Params));
-    trial.checks_target(2, 1023, Some(TextError::Version));
+    trial.checks_target(2, 16_777_216, None);
+    trial.checks_target(2, 1023, Some(TextError::Params));
+    trial.checks_target(3, 1023, Some(TextError::Version));
+    trial.checks_target(0, 1024, Some(TextError::Version));
     trial.end(&rt);
 }
 
@@ -134,6 +163,8 @@ fn members_that_make_no_config(rt: HostRuntime) {
     trial.checks_rules("null", ID, "1024", "1", Some(TextError::Shape));
     trial.checks_rules("null", ID, "1024", "null", Some(TextError::Shape));
     trial.checks_rules("null", ID, "1024", "0", Some(TextError::Version));
+    trial.checks_rules("null", ID, "1024", "3", Some(TextError::Version));
+    trial.checks_rules("null", ID, "1024", "2", Some(TextError::Shape));
     trial.checks_rules("x", ID, "1024", "0", Some(TextError::Json));
     trial.checks_config(large.as_slice(), Some(TextError::TooLarge));
     trial.end(&rt);
@@ -143,10 +174,10 @@ fn members_that_make_no_config(rt: HostRuntime) {
 #[test]
 fn refused_growth(rt: HostRuntime) {
     let mut trial = Trial::of_refusals(rt.alloc());
-    trial.keeps_config();
+    trial.keeps_config(1, CONFIG);
     // What is refused for another reason asks for no memory.
     trial.checks_target(1, 1_023, Some(TextError::Params));
-    trial.checks_target(2, 1_023, Some(TextError::Version));
+    trial.checks_target(3, 1_023, Some(TextError::Version));
     trial.end(&rt);
 }
 
@@ -155,7 +186,7 @@ fn refused_growth(rt: HostRuntime) {
 fn refused_growth_of_faulty_texts(rt: HostRuntime) {
     let mut trial = Trial::of_refusals(rt.alloc());
     trial.checks_config(b"{", Some(TextError::Json));
-    trial.checks_config(b"{\"version\":2}", Some(TextError::Version));
+    trial.checks_config(b"{\"version\":3}", Some(TextError::Version));
     trial.checks_config(b"{\"version\":1}", Some(TextError::Shape));
     trial.end(&rt);
 }

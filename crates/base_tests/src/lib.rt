@@ -26,6 +26,8 @@ mod names;
 #[cfg(test)]
 mod packs;
 #[cfg(test)]
+mod parts;
+#[cfg(test)]
 mod readers;
 #[cfg(test)]
 mod replies;

@@ -48,6 +48,7 @@ fn requests_for_locks_come_back(rt: HostRuntime) {
     trial.keeps_request(Ask::Unlock(token), "0000002104", "0000000000000001");
     trial.keeps_request(Ask::Locks, "0000001905", "");
     trial.keeps_request(Ask::Config, "000000190b", "");
+    trial.keeps_request(Ask::Upgrade(token), "000000210c", "0000000000000001");
     trial.end(&rt);
 }
 
@@ -112,6 +113,8 @@ fn fields_of_no_request_are_a_fault(rt: HostRuntime) {
     trial.faults_fields("0000002003", "00000000000000");
     trial.faults_fields("0000002a03", "0000000000000001 0000000000000009 00");
     trial.faults_fields("0000001b06", "0002");
+    trial.faults_fields("000000200c", "00000000000000");
+    trial.faults_fields("000000220c", "0000000000000001 00");
     trial.faults_fields(
         "0000003b06",
         "0000 ba7816bf8f01cfea414140de5dae2223b00361a396177a9cb410ff61f20015ad",

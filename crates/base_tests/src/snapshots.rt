@@ -1,5 +1,8 @@
 //! Snapshots against texts that were written by hand after the format.
 
+ghost use Rattle.std.specs.Prelude.{◌≤◌};
+ghost use Rattle.repo_tree.specs.Versions.{greatest_version};
+
 use crate::trials::Trial;
 use repo_name::{Name, Text, Token};
 use repo_tree::{Snapshot, TextError};
@@ -7,6 +10,9 @@ use std::alloc::{AllocError, Global};
 
 const SNAPSHOT: &str =
     r#"{"host":"a","time":5,"token":1,"tree":"e3b0c44298fc1c149afbf4c8996fb92427ae41e4649b934ca495991b7852b855","version":1}"#;
+
+const SNAPSHOT_2: &str =
+    r#"{"host":"a","time":5,"token":1,"tree":"e3b0c44298fc1c149afbf4c8996fb92427ae41e4649b934ca495991b7852b855","version":2}"#;
 
 // The SHA-256 of the empty text, from FIPS 180-4.
 const NO_BYTES: &str = "e3b0c44298fc1c149afbf4c8996fb92427ae41e4649b934ca495991b7852b855";
@@ -63,6 +69,14 @@ impl Trial {
     ) {
         let text = self.made(snapshot_text(self.alloc, host, time, tree, version));
         self.checks_snapshot(text.as_str().as_bytes(), wanted);
+    }
+
+    /// A reader that knows versions up to this one reads a text, or doesn't for this reason.
+    fn checks_snapshot_upto(&mut self, text: &str, upto: u64, wanted: Option<TextError>)
+        requires { upto ≤ greatest_version }
+    {
+        let error = Snapshot::read_upto(self.alloc, text.as_bytes(), upto).err();
+        self.count(error == wanted);
     }
 
     /// The snapshot of the text above is read from it.
@@ -133,12 +147,24 @@ fn snapshots_are_written_and_read_back(rt: HostRuntime) {
 }
 
 #[test]
+fn snapshots_of_versions_that_a_reader_knows(rt: HostRuntime) {
+    let mut trial = Trial::new(rt.alloc());
+    trial.checks_snapshot_upto(SNAPSHOT, 1, None);
+    trial.checks_snapshot_upto(SNAPSHOT, 2, None);
+    trial.checks_snapshot_upto(SNAPSHOT_2, 1, Some(TextError::Version));
+    trial.checks_snapshot_upto(SNAPSHOT_2, 2, None);
+    trial.end(&rt);
+}
+
+#[test]
 fn snapshots_that_are_not_written(rt: HostRuntime) {
     let mut trial = Trial::new(rt.alloc());
     trial.checks_host(255, 1, None);
     trial.checks_host(256, 1, Some(TextError::Shape));
     trial.checks_host(0, 1, Some(TextError::Shape));
-    trial.checks_host(0, 2, Some(TextError::Version));
+    trial.checks_host(255, 2, None);
+    trial.checks_host(0, 2, Some(TextError::Shape));
+    trial.checks_host(0, 3, Some(TextError::Version));
     trial.checks_host(1, 0, Some(TextError::Version));
     trial.end(&rt);
 }
@@ -158,9 +184,10 @@ fn members_that_make_no_snapshot(rt: HostRuntime) {
     let (letters, large) = (trial.letters(256), trial.padded("{", 65_537));
     let long = trial.made(format!(in rt.alloc(); "\"{letters}\""));
     trial.checks_members(long.as_str(), "5", TREE, "1", Some(TextError::Shape));
-    trial.checks_members("\"a\"", "5", TREE, "2", Some(TextError::Version));
-    trial.checks_members("0", "0.5", "0", "2", Some(TextError::Version));
-    trial.checks_members("a", "5", TREE, "2", Some(TextError::Json));
+    trial.checks_members("\"a\"", "5", TREE, "2", None);
+    trial.checks_members("\"a\"", "5", TREE, "3", Some(TextError::Version));
+    trial.checks_members("0", "0.5", "0", "3", Some(TextError::Version));
+    trial.checks_members("a", "5", TREE, "3", Some(TextError::Json));
     trial.checks_snapshot(large.as_slice(), Some(TextError::TooLarge));
     trial.end(&rt);
 }
@@ -178,7 +205,7 @@ fn refused_growth(rt: HostRuntime) {
 fn refused_growth_of_faulty_texts(rt: HostRuntime) {
     let mut trial = Trial::of_refusals(rt.alloc());
     trial.checks_snapshot(b"{", Some(TextError::Json));
-    trial.checks_snapshot(b"{\"version\":2}", Some(TextError::Version));
+    trial.checks_snapshot(b"{\"version\":3}", Some(TextError::Version));
     trial.checks_snapshot(b"{\"version\":1}", Some(TextError::Shape));
     trial.end(&rt);
 }

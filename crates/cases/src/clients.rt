@@ -5,7 +5,7 @@ use repo_backup::Backup;
 use repo_check::Check;
 use repo_name::{Kind, Name};
 use repo_prog::fault_word;
-use repo_prune::{Forget, Prune};
+use repo_prune::{Forget, Prune, Upgrade};
 use repo_restore::{Restore, SnapshotList};
 use repo_session::{
     CheckFault, Client, Emission, End, Outcome, StepError, lockstep, result_text, thing_word,
@@ -24,6 +24,7 @@ pub enum Core {
     Forget(Forget),
     Prune(Prune),
     Check(Check),
+    Upgrade(Upgrade),
 }
 
 /// A client, and what it sent last.
@@ -96,6 +97,7 @@ fn ask_word(ask: &Ask) -> &'static str {
         Ask::Put { kind, .. } => put_word(*kind),
         Ask::Delete { kind, .. } => delete_word(*kind),
         Ask::Config => "config",
+        Ask::Upgrade(_) => "upgrade",
     }
 }
 
@@ -109,6 +111,7 @@ impl Core {
             Core::Forget(_) => "forget",
             Core::Prune(_) => "prune",
             Core::Check(_) => "check",
+            Core::Upgrade(_) => "upgrade",
         }
     }
 
@@ -121,6 +124,7 @@ impl Core {
             Core::Forget(forget) => forget.outcome(),
             Core::Prune(prune) => prune.outcome(),
             Core::Check(check) => check.outcome(),
+            Core::Upgrade(upgrade) => upgrade.outcome(),
         }
     }
 
@@ -133,6 +137,7 @@ impl Core {
             Core::Forget(forget) => forget.pending(),
             Core::Prune(prune) => prune.pending(),
             Core::Check(check) => check.pending(),
+            Core::Upgrade(upgrade) => upgrade.pending(),
         }
     }
 
@@ -150,6 +155,7 @@ impl Core {
             Core::Forget(forget) => frame_of(alloc, forget),
             Core::Prune(prune) => frame_of(alloc, prune),
             Core::Check(check) => frame_of(alloc, check),
+            Core::Upgrade(upgrade) => frame_of(alloc, upgrade),
         }
     }
 
@@ -162,6 +168,7 @@ impl Core {
             Core::Forget(forget) => taken(forget, reply, told),
             Core::Prune(prune) => taken(prune, reply, told),
             Core::Check(check) => taken(check, reply, told),
+            Core::Upgrade(upgrade) => taken(upgrade, reply, told),
         }
     }
 
@@ -179,6 +186,7 @@ impl Core {
             Core::Forget(forget) => finished(alloc, forget, shelf, told),
             Core::Prune(prune) => finished(alloc, prune, shelf, told),
             Core::Check(check) => finished(alloc, check, shelf, told),
+            Core::Upgrade(upgrade) => finished(alloc, upgrade, shelf, told),
         }
     }
 

@@ -100,6 +100,7 @@ fn errand(alloc: Global, word: &str, rest: &str) -> Result<Errand, ScriptError>
         "keep" => Ok(Errand::Forget(Choice::Keep(policy(rest)?))),
         "prune" => Ok(Errand::Prune),
         "check" => Ok(Errand::Check),
+        "upgrade" => Ok(Errand::Upgrade),
         _ => Err(ScriptError::Line),
     }
 }

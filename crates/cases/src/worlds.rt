@@ -7,7 +7,7 @@ use crate::told::Told;
 use repo_backup::{Backup, BackupError};
 use repo_check::Check;
 use repo_name::{Instance, Name, Names};
-use repo_prune::{Choice, Forget, ForgetError, Prune};
+use repo_prune::{Choice, Forget, ForgetError, Prune, Upgrade};
 use repo_restore::{Restore, SnapshotList};
 use repo_session::{Who, WhoError};
 use repo_tree::Entry;
@@ -119,8 +119,23 @@ impl World {
         Ok(Choice::Names(Names::of(names)))
     }
 
+    /// Starts an upgrade, of a client that is old or isn't.
+    fn start_upgrade(&mut self, old: bool) -> Result<(), ScriptError> {
+        let who = self.who("play", 0)?;
+        let who = if old { who.as_version_1() } else { who };
+        self.seat_core(Core::Upgrade(Upgrade::new(self.alloc, who)))
+    }
+
+    /// Starts an old client, by a line behind the word that says so: `start upgrade`.
+    pub fn start_old(&mut self, words: &str) -> Result<(), ScriptError> {
+        match words {
+            "start upgrade" => self.start_upgrade(true),
+            _ => Err(ScriptError::Line),
+        }
+    }
+
     /// Starts a client: `backup HOST TIME`, `list`, `restore K`, `forget K..` (in place of a number K of a client that
-    /// stored it, a snapshot's name), `keep LAST DAILY`, `prune` or `check`.
+    /// stored it, a snapshot's name), `keep LAST DAILY`, `prune`, `check` or `upgrade`.
     pub fn start(
         &mut self,
         words: &str,
@@ -152,6 +167,7 @@ impl World {
                 self.seat_core(Core::Check(Check::new(self.alloc, who)))
             }
             "keep" => self.start_forget(Choice::Keep(policy(rest)?), told),
+            "upgrade" => self.start_upgrade(false),
             _ => Err(ScriptError::Line),
         }
     }

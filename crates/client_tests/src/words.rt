@@ -82,6 +82,7 @@ fn words_of_removals_and_checks(rt: HostRuntime) {
     );
     let none = CheckFaults::of(Vec::new(rt.alloc()));
     trial.ends(Outcome::Faults(none), "faults 0");
+    trial.ends(Outcome::Upgraded, "upgraded");
     assert_eq!(rt; trial.differ, 0);
 }
 
@@ -97,6 +98,7 @@ fn words_of_ends(rt: HostRuntime) {
     trial.ends(Outcome::Ended(End::Version), "version");
     let end = End::DirectoryTooLarge;
     trial.ends(Outcome::Ended(end), "directory too large");
+    trial.ends(Outcome::Ended(End::FileTooLarge), "file too large");
     let end = End::Refused(Code::Malformed);
     trial.ends(Outcome::Ended(end), "refused 1");
     let end = End::Refused(Code::Exhausted);

@@ -79,6 +79,7 @@ reading_puts c Ask.Config es h j = refl
 reading_puts c (Ask.Range pack offset len) es h j = refl
 reading_puts c (Ask.Put t k n x) es h j = absurd h
 reading_puts c (Ask.Delete t k n) es h j = refl
+reading_puts c (Ask.Upgrade t) es h j = refl
 
 module _ (entries : List Entry) (c : Catalog) (stage : Stage) (e : Exchange) (es : Trace) (known : KnowsIndexes c e.ask es) (work : AtWork stage (λ b. WorkHasBegun entries b es)) where
   begun_still : AtWork stage (λ b. WorkHasBegun entries b (e ∷ es))

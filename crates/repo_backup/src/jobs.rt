@@ -17,7 +17,7 @@ use crate::backing::Next;
 use crate::stages::Stage;
 use repo_index::Facts;
 use repo_name::{Kind, Name, Thing};
-use repo_session::{Catalog, Emission, End, Holder, Job, Outcome, Reading, Step};
+use repo_session::{Catalog, Emission, End, Holder, Job, Outcome, Reading, Step, Versions};
 use repo_tree::Config;
 use repo_wire::{Ask, Say};
 use repo_writing::Counts;
@@ -159,9 +159,13 @@ impl Job for BackupJob {
         false
     }
 
-    fn opened(&mut self, _holder: &Holder, config: &Config) -> Ask {
+    fn versions(&self) -> Versions {
+        Versions::One
+    }
+
+    fn opened(&mut self, _holder: &Holder, config: &Config) -> Step {
         self.stage.begin(self.alloc, config);
-        self.catalog.page_ask()
+        Step::Ask(self.catalog.page_ask())
     }
 
     fn reply(&mut self, holder: &Holder, ask: &Ask, say: &Say) -> Result<Step, AllocError> {

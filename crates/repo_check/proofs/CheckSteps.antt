@@ -3,6 +3,7 @@ use Rattle.std.proofs.Common.{◌≡◌, ◌≢◌, ◌∷◌, [], Bool, true, f
 use Rattle.std.specs.Bool.{◌==◌}
 use Rattle.std.proofs.lemmas.Bool.{eqb-false, eqb-true}
 use Rattle.repo_wire.specs.declared.messages.Ask.{Ask}
+use Rattle.repo_session.specs.Versions.{snapshot_version}
 use Rattle.repo_session.specs.Askers.{Asker}
 use Rattle.repo_session.specs.Ends.{Concludes}
 use Rattle.repo_session.specs.Jobs.{MayAsk}
@@ -28,6 +29,7 @@ round_reads k round Ask.Locks es h = absurd h
 round_reads k round (Ask.Range pack offset len) es h = absurd h
 round_reads k round (Ask.Put token j n x) es h = absurd h
 round_reads k round (Ask.Delete token j n) es h = absurd h
+round_reads k round (Ask.Upgrade token) es h = absurd h
 round_reads k round Ask.Config es h = absurd h
 
 -- what a survey asks for reads
@@ -48,6 +50,7 @@ reads_works (Ask.Unlock token) h = absurd h
 reads_works Ask.Locks h = absurd h
 reads_works (Ask.Put token j n x) h = tt
 reads_works (Ask.Delete token j n) h = tt
+reads_works (Ask.Upgrade token) h = tt
 reads_works Ask.Config h = absurd h
 
 -- so it may be asked for
@@ -57,9 +60,10 @@ may_ask j who es ask may knows =
     record { work = reads_works ask reads; may = may; allowed = reads; knows = knows }
 
 -- an outcome by the rule alone
-pub concludes : (es : Trace) (outcome : Outcome) → CheckConcludes es outcome → Concludes CheckConcludes es outcome
+pub concludes : (es : Trace) (outcome : Outcome) → CheckConcludes es outcome → Concludes snapshot_version CheckConcludes es outcome
 concludes es (Outcome.Clean snapshots indexes packs blobs) h = h
 concludes es (Outcome.Faults faults) h = h
+concludes es Outcome.Upgraded h = absurd h
 concludes es (Outcome.Stored name blobs bytes) h = absurd h
 concludes es (Outcome.Complete entries) h = absurd h
 concludes es (Outcome.Listed snapshots) h = absurd h

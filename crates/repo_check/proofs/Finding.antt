@@ -26,6 +26,7 @@ use Rattle.repo_tree.specs.declared.nodes.Node.{Node}
 use Rattle.repo_tree.specs.declared.nodes.NodeKind.{NodeKind}
 use Rattle.repo_name.proofs.Containing.{none_contained, contained_or}
 use Rattle.repo_tree.proofs.TreeLemmas.{tree_texts_one}
+use Rattle.repo_tree.specs.Versions.{greatest_version}
 use Rattle.repo_session.specs.declared.outcomes.FaultKind.{FaultKind}
 use Rattle.repo_session.specs.Traces.{Trace}
 use Rattle.repo_check.specs.Answers.{Answer, Gathered, LiesAt, LiesNowhere}
@@ -56,13 +57,13 @@ place_one a b ab ba =
 
 -- ---- what can't be read, doesn't
 
-unreadable_not : (x : List ℕ) (error : TextError) (s : Snapshot) → SnapshotFault x error → error ≢ TextError.Version → error ≢ TextError.Memory → IsSnapshotText x s → ⊥
+unreadable_not : (x : List ℕ) (error : TextError) (s : Snapshot) → SnapshotFault greatest_version x error → error ≢ TextError.Version → error ≢ TextError.Memory → IsSnapshotText x s → ⊥
 unreadable_not x TextError.TooLarge s fault v m is = let short = is.json.short in omega (arith, short, fault)
 unreadable_not x TextError.Json s fault v m is = fault.1 is.root is.json
 unreadable_not x TextError.Shape s fault v m is =
     let same : is.root ≡ fault.0 = (let p = is.json.is.reads in let q = fault.1.is.reads in cc (p, q)) in
     let has = subst (λ d. HasSnapshot d s) same is.members in
-    elim fault.2 [ inl none ↦ none s.version has.version | inr misses ↦ misses.1 s has ]
+    elim fault.2 [ inl none ↦ none s.version has.version | inr misses ↦ misses.3 s has ]
 unreadable_not x TextError.Version s fault v m is = v refl
 unreadable_not x TextError.Params s fault v m is = fault
 unreadable_not x TextError.Memory s fault v m is = m refl

@@ -29,7 +29,7 @@ use Rattle.repo_session.specs.Soundness.{IsSound}
 use Rattle.repo_session.specs.Talks.{Talk, trace_of}
 use Rattle.repo_session.specs.Told.{AskedToPut}
 use Rattle.repo_session.specs.Traces.{Each, Trace, Exchanged, Lists, names_in}
-use Rattle.repo_session.proofs.Concluding.{calm_of, either, ends_well, reads_first, suits_either}
+use Rattle.repo_session.proofs.Concluding.{calm_of, either, ends_well, puts_none, reads_first, suits_either}
 use Rattle.repo_name.proofs.Containing.{first_contained, later_contained, none_contained, contained_or}
 use Rattle.repo_session.proofs.Enumerating.{listed_or_put}
 use Rattle.repo_session.proofs.Growing.{Led, Shares, led}
@@ -226,7 +226,7 @@ module _ (who : Asker) (from : Store) where
           part (fact_of Tree n place) found.0 x t.1.1.given (first Kind.Pack place.pack found.0 found.1) found.2
 
       clean_sound : AreStoredApart from → IsSound from.objects
-      clean_sound apart = well_is_sound clean.answers from.objects clean.well (are clean.answers clean.received) (λ x y a b name. apart x y (is_spoken x a) (is_spoken y b) name)
+      clean_sound apart = well_is_sound clean.answers from.objects clean.well clean.received.known (are clean.answers clean.received) (λ x y a b name. apart x y (is_spoken x a) (is_spoken y b) name)
 
   clean_before : (talk : Talk) (to : Store) → Keeps (trace_of talk) → Led from talk to → AreStoredApart from → (snapshots indexes packs blobs : ℕ) → IsClean (before_unlock (trace_of talk)) snapshots indexes packs blobs → IsSound from.objects
   clean_before [] to o h apart snapshots indexes packs blobs clean = clean_sound [] to o h snapshots indexes packs blobs clean apart
@@ -244,7 +244,7 @@ clean_is_of_sound who from to failed failing talk next snapshots indexes packs b
 module _ (who : Asker) (from : Store) (sound : IsSound from.objects) (apart : AreHeldApart from.objects) where
   -- a sound store has no fault to be told
   faultless : (talk : Talk) (to : Store) → Obeys (check_task who) CheckAllows CheckGives (trace_of talk) → Led from talk to → (faults : List CheckFault) → IsAtFault (trace_of talk) faults → ⊥
-  faultless talk to o h faults f = f.some (by faults (λ fault c. no_fault f.answers from.objects sound apart (are who from talk to o h f.answers f.received) (given who from talk to o h f.answers f.received) (ranged who from talk to o h f.answers f.received) fault ((f.are.each fault).0 c)))
+  faultless talk to o h faults f = f.some (by faults (λ fault c. no_fault f.answers from.objects sound apart f.received.known (are who from talk to o h f.answers f.received) (given who from talk to o h f.answers f.received) (ranged who from talk to o h f.answers f.received) fault ((f.are.each fault).0 c)))
     where
       by : (faults : List CheckFault) → ((fault : CheckFault) → Contains faults fault → ⊥) → faults ≡ []
       by [] none = refl
@@ -258,6 +258,7 @@ module _ (who : Asker) (from : Store) (sound : IsSound from.objects) (apart : Ar
   own_well talk to o h (Outcome.Listed rows) own = absurd own
   own_well talk to o h (Outcome.Forgotten names) own = absurd own
   own_well talk to o h (Outcome.Pruned packs bytes) own = absurd own
+  own_well talk to o h Outcome.Upgraded own = absurd own
   own_well talk to o h (Outcome.Ended end) own = absurd own
 
   own_before : (talk : Talk) (to : Store) → Obeys (check_task who) CheckAllows CheckGives (trace_of talk) → Led from talk to → (outcome : Outcome) → CheckConcludes (before_unlock (trace_of talk)) outcome → IsCleanOrMemory (Some outcome)
@@ -271,9 +272,9 @@ check_well es None own h = h
 check_well es (Some outcome) own h = ⊎_elim (λ (q : outcome ≡ Outcome.Ended (End.Refused Code.NoMemory)). subst (λ x. IsCleanOrMemory (Some x)) (sym q) refl) (own outcome) h
 
 pub check_ends : CheckEndsWell
-check_ends who from to failed talk outcome fit apart low ran few is =
+check_ends who from to failed talk outcome fit versions apart low ran few is =
     let h = led from talk to ran.run in
     let agree = held_agree from (IsSent [] None) (λ x. ⊥) apart from.objects (λ k n x p. inl (n, p)) fit.sound.named in
     check_well (trace_of talk) outcome (own_before who from fit.sound agree talk to is.obeys h)
-    (ends_well (check_task who) CheckAllows CheckGives CheckConcludes (reads_first (check_task who) CheckAllows CheckGives (λ es t k n x. x)) from fit tt (suits_either CheckAllows from (λ es t k n x. x)) talk to outcome is h
+    (ends_well (check_task who) CheckAllows CheckGives CheckConcludes (reads_first (check_task who) CheckAllows CheckGives (λ es t k n x. x)) from fit tt versions (puts_none (check_task who) CheckAllows (λ es t n x h. h)) (suits_either CheckAllows from (λ es t k n x. x)) talk to outcome is h
     (sound_throughout (check_task who) CheckAllows CheckGives check_never from talk fit.sound is.obeys) (calm_of failed talk low ran.cause) few)

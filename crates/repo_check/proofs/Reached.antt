@@ -28,7 +28,7 @@ use Rattle.repo_check.specs.Arrivals.{IsIndexOf, IsPackOf, IsRootOf}
 use Rattle.repo_check.specs.Measures.{IsReadAs}
 use Rattle.repo_check.specs.Surveys.{ContentIsReached, HoldsContent, IsSurveyed, LevelsAreReached, RoundsView, IsInLevel, SurveyedIsReceived, answers_in, objects_in}
 use Rattle.repo_check.specs.Walks.{IsSettled, IsTold, WalkView}
-use Rattle.repo_check.proofs.Gathered.{came_as, contains_of, least_of, lies_of, of_root, root_of}
+use Rattle.repo_check.proofs.Gathered.{came_as, contains_of, least_of, lies_of, of_root, root_of, known_versions}
 use Rattle.repo_check.proofs.Measuring.{least_one}
 use Rattle.repo_check.proofs.Rounding.{all_got}
 use Rattle.repo_check.proofs.Sounding.{under_more}
@@ -283,7 +283,7 @@ module _ (rounds : RoundsView) (walk : WalkView) (es : Trace) (s : IsSurveyed ro
   got Kind.Snapshot = all_got Kind.Snapshot IsRootOf rounds.snapshots es s.objects.snapshots s.notes.snapshots
 
 pub surveyed_is_received : SurveyedIsReceived
-surveyed_is_received rounds walk es s = record { objects = got rounds walk es s; trees = ranged rounds walk es s }
+surveyed_is_received rounds walk es s = record { objects = got rounds walk es s; trees = ranged rounds walk es s; known = known_versions rounds walk es s }
 
 pub levels_are_reached : LevelsAreReached
 levels_are_reached rounds walk es s n = (

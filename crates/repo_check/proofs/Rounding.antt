@@ -73,6 +73,7 @@ module _ {T : Type 0} where
   roll_known k own (Ask.Range pack offset len) es kind read none h = absurd h
   roll_known k own (Ask.Put token j n x) es kind read none h = absurd h
   roll_known k own (Ask.Delete token j n) es kind read none h = absurd h
+  roll_known k own (Ask.Upgrade token) es kind read none h = absurd h
   roll_known k own Ask.Config es kind read none h = absurd h
 
 -- ---- exchanges of another kind
@@ -101,6 +102,7 @@ module _ (k : Kind) where
   no_names Ask.Locks say h = absurd h
   no_names (Ask.Put token j n x) say h = absurd h
   no_names (Ask.Delete token j n) say h = absurd h
+  no_names (Ask.Upgrade token) say h = absurd h
   no_names Ask.Config say h = absurd h
 
   no_last : (ask : Ask) (say : Say) → IsAside k ask → is_last_page k ask say ≡ false
@@ -120,6 +122,7 @@ module _ (k : Kind) where
   no_last Ask.Locks say h = absurd h
   no_last (Ask.Put token j n x) say h = absurd h
   no_last (Ask.Delete token j n) say h = absurd h
+  no_last (Ask.Upgrade token) say h = absurd h
   no_last Ask.Config say h = absurd h
 
   no_object : (ask : Ask) (say : Say) → IsAside k ask → object_got k ask say ≡ []
@@ -138,6 +141,7 @@ module _ (k : Kind) where
   no_object Ask.Locks say h = absurd h
   no_object (Ask.Put token j n x) say h = absurd h
   no_object (Ask.Delete token j n) say h = absurd h
+  no_object (Ask.Upgrade token) say h = absurd h
   no_object Ask.Config say h = absurd h
 
   other_self : (j : Kind) → same_kind j k ≡ false → j ≡ k → ⊥
@@ -159,6 +163,7 @@ module _ (k : Kind) where
   no_list Ask.Locks h after is = absurd h
   no_list (Ask.Put token j n x) h after is = absurd h
   no_list (Ask.Delete token j n) h after is = absurd h
+  no_list (Ask.Upgrade token) h after is = absurd h
   no_list Ask.Config h after is = absurd h
 
   pub paged_aside : (names : List Name) (whole : Bool) (e : Exchange) (es : Trace) → IsAside k e.ask → IsPaged k names whole es → IsPaged k names whole (e ∷ es)

@@ -22,6 +22,7 @@ use Rattle.repo_tree.specs.declared.nodes.NodeKind.{NodeKind}
 use Rattle.repo_tree.specs.declared.snapshots.Snapshot.{Snapshot}
 use Rattle.repo_tree.proofs.SnapshotLemmas.{snapshot_texts_one}
 use Rattle.repo_store.specs.Stores.{Objects}
+use Rattle.repo_session.proofs.Faulting.{first_version}
 use Rattle.repo_session.specs.Changes.{AreHeldApart}
 use Rattle.repo_session.specs.Soundness.{IsHeld, IsExactPack, IsSound}
 use Rattle.repo_session.specs.Trees.{IsBroken, IsNeeded, Under}
@@ -29,14 +30,14 @@ use Rattle.repo_session.specs.declared.outcomes.CheckFault.{CheckFault}
 use Rattle.repo_session.specs.declared.outcomes.FaultKind.{FaultKind}
 use Rattle.repo_session.proofs.Descending.{file_spelled, needed_grows, needed_there, root_spells_at, unbroken, under_grows}
 use Rattle.repo_session.proofs.Reaching.{reached_needed}
-use Rattle.repo_check.specs.Answers.{Answer, Gathered, Came, GivesFact, GivesRoot, IsReachedBlob, LiesAt, LiesNowhere, TreesOf}
+use Rattle.repo_check.specs.Answers.{Answer, Gathered, Came, GivesFact, GivesRoot, IsReachedBlob, LiesAt, LiesNowhere, TreesOf, AreOfKnownVersions}
 use Rattle.repo_check.specs.Checking.{IsFaultOf, IsFound}
 use Rattle.repo_check.specs.Findings.{BlobIs, IsExactOf, IsIllTree, IsMismeasured, Measure, ObjectIs, ReadsAs, TreeIs}
 use Rattle.repo_check.specs.Laws.{AreObjects}
 use Rattle.repo_check.proofs.Finding.{illegible_not}
 use Rattle.repo_check.proofs.Sounding.{BlobAt, blob_at}
 
-module _ (answers : Gathered) (objects : Objects) (sound : IsSound objects) (apart : AreHeldApart objects) (are : AreObjects answers objects)
+module _ (answers : Gathered) (objects : Objects) (sound : IsSound objects) (apart : AreHeldApart objects) (known_to : AreOfKnownVersions answers) (are : AreObjects answers objects)
     (given : (k : Kind) (a : Answer) → Contains (answers.objects k) a → (x : List ℕ) × (a.bytes ≡ Some x))
     (ranged : (a : Answer) → Contains answers.trees a → (place : Place) → LiesAt answers Tree a.name place → (pack x : List ℕ) → objects Kind.Pack place.pack ≡ Some pack → range pack place.offset place.length ≡ Some x → a.bytes ≡ Some x) where
   abbrev H : Blobs
@@ -125,7 +126,7 @@ module _ (answers : Gathered) (objects : Objects) (sound : IsSound objects) (apa
   rooted version root r =
       let s = sound.snapshots r.name r.text ((are Kind.Snapshot r.name r.text).1 r.came.among) in
       let one : s.snapshot ≡ r.snapshot = snapshot_texts_one r.text s.snapshot r.snapshot s.reads r.reads in
-      let known : r.snapshot.version ≡ 1 = r.reads.known in
+      let known : r.snapshot.version ≡ 1 = first_version r.snapshot.version r.reads.known (known_to r.name r.text r.snapshot r.came r.reads) in
       let spells : Spells r.snapshot.version H r.snapshot.tree [] s.entries = subst (λ (x : Snapshot). Spells x.version H x.tree [] s.entries) one s.spells in
       (sym r.version_is ∙ known, record { entries = s.entries; spells = subst (λ v. Spells v H root [] s.entries) known (subst (λ t. Spells r.snapshot.version H t [] s.entries) r.root_is spells) })
 

@@ -22,11 +22,12 @@ use Rattle.repo_tree.specs.declared.nodes.Node.{Node}
 use Rattle.repo_tree.specs.declared.nodes.NodeKind.{NodeKind}
 use Rattle.repo_name.proofs.Containing.{first_contained, later_contained}
 use Rattle.repo_store.specs.Stores.{Objects}
+use Rattle.repo_session.proofs.Faulting.{first_version}
 use Rattle.repo_session.specs.Changes.{AreHeldApart}
 use Rattle.repo_session.specs.Soundness.{IsHeld, IsExactPack, IsSoundIndex, IsSoundSnapshot, IsSound}
 use Rattle.repo_session.specs.Trees.{Under}
 use Rattle.repo_session.proofs.Wholeness.{spelled_sound}
-use Rattle.repo_check.specs.Answers.{Gathered, Came, GivesFact, TreesOf, GivesRoot, IsReachedBlob, IsDeepest}
+use Rattle.repo_check.specs.Answers.{Gathered, Came, GivesFact, TreesOf, GivesRoot, IsReachedBlob, IsDeepest, AreOfKnownVersions}
 use Rattle.repo_check.specs.Checking.{AreWell}
 use Rattle.repo_check.specs.Findings.{IsFitting, IsExactOf, Measure, IsMeasured, IsWellTree}
 use Rattle.repo_check.specs.Laws.{AreObjects, HasNoClash, IsSpoken, WellIsSound}
@@ -72,7 +73,7 @@ each_spelled H Sub path (node ∷ nodes) f =
     let r = each_spelled H Sub path nodes (λ m c. f m (later_contained node nodes m c)) in
     (a.0 ++ r.0, (a.0, r.0, a.1, r.1, refl))
 
-module _ (answers : Gathered) (objects : Objects) (well : AreWell answers) (are : AreObjects answers objects) (apart : HasNoClash answers) where
+module _ (answers : Gathered) (objects : Objects) (well : AreWell answers) (known_to : AreOfKnownVersions answers) (are : AreObjects answers objects) (apart : HasNoClash answers) where
   abbrev H : Blobs
   H = IsHeld objects
 
@@ -242,7 +243,7 @@ module _ (answers : Gathered) (objects : Objects) (well : AreWell answers) (are 
   snapshot_sound n x here =
       let read = (object_well Kind.Snapshot n x here).1 in
       let snapshot = read.0 in
-      let known : snapshot.version ≡ 1 = read.1.known in
+      let known : snapshot.version ≡ 1 = first_version snapshot.version read.1.known (known_to n x snapshot (came Kind.Snapshot n x here) read.1) in
       let rooted : GivesRoot answers 1 snapshot.tree = record { name = n; text = x; snapshot = snapshot; came = came Kind.Snapshot n x here; reads = read.1; version_is = known; root_is = refl } in
       let e = root_spelled snapshot.tree rooted in
       spelled_sound objects held_apart x snapshot e.0 read.1 (subst (λ v. Spells v H snapshot.tree [] e.0) (sym known) e.1)
@@ -262,4 +263,4 @@ module _ (answers : Gathered) (objects : Objects) (well : AreWell answers) (are 
   }
 
 pub well_is_sound : WellIsSound
-well_is_sound answers objects well are apart = sound answers objects well are apart
+well_is_sound answers objects well known are apart = sound answers objects well known are apart

@@ -1,5 +1,5 @@
 -- What a survey knows after one more exchange.
-use Rattle.std.proofs.Common.{◌≡◌, ◌++◌, ◌∷◌, ℕ, false, true, List, Option, refl, sym, subst, inl, inr, ◌∙◌, []}
+use Rattle.std.proofs.Common.{◌≡◌, ◌≤◌, ◌++◌, ◌∷◌, ℕ, false, true, List, Option, refl, sym, subst, inl, inr, ◌∙◌, []}
 use Rattle.repo_name.specs.declared.kinds.Kind.{Kind}
 use Rattle.repo_name.specs.declared.names.Name.{Name}
 use Rattle.repo_name.specs.declared.tokens.Token.{Token}
@@ -11,6 +11,7 @@ use Rattle.repo_session.specs.Order.{Task, IsReading, IsWorking, May, last_of, o
 use Rattle.repo_session.specs.Rolls.{IsRolled}
 use Rattle.repo_session.specs.Traces.{Exchange, Trace, silent}
 use Rattle.repo_session.proofs.Holding.{opened_working}
+use Rattle.repo_session.specs.Versions.{upto}
 use Rattle.repo_session.proofs.Rolling.{may_page, opened_rolled}
 use Rattle.repo_tree.specs.ConfigText.{IsConfigText}
 use Rattle.repo_tree.specs.declared.configs.Config.{Config}
@@ -207,6 +208,7 @@ known_reads k round Ask.Locks es h = absurd h
 known_reads k round (Ask.Range pack offset len) es h = absurd h
 known_reads k round (Ask.Put token j n x) es h = absurd h
 known_reads k round (Ask.Delete token j n) es h = absurd h
+known_reads k round (Ask.Upgrade token) es h = absurd h
 known_reads k round Ask.Config es h = absurd h
 
 -- each of them reads
@@ -217,11 +219,11 @@ survey_reads rounds walk ask es (notes, inr (inr (inl at))) = known_reads Kind.P
 survey_reads rounds walk ask es (notes, inr (inr (inr at))) = subst IsReading (sym at.asked) tt
 
 -- where nothing of the kinds was listed, the first page may be asked for
-pub first_known : (task : Task) (token : Token) (text : List ℕ) (config : Config) (rounds : RoundsView) (walk : WalkView) (ask : Ask) → IsConfigText text config → IsFreshSurvey rounds
+pub first_known : (task : Task) (token : Token) (text : List ℕ) (config : Config) (rounds : RoundsView) (walk : WalkView) (ask : Ask) → IsConfigText text config → config.version ≤ upto task.versions → IsFreshSurvey rounds
     → ask ≡ Ask.List rounds.snapshots.kind (last_of rounds.snapshots.names) → IsFirst task rounds walk (opened task token text) ask
-first_known task token text config rounds walk ask reads fresh is =
+first_known task token text config rounds walk ask reads known fresh is =
     let es = opened task token text in
-    let first = begins Kind.Snapshot rounds.snapshots task token es (opened_working task token text config reads) fresh.snapshots (opened_rolled Kind.Snapshot task token text) in
+    let first = begins Kind.Snapshot rounds.snapshots task token es (opened_working task token text config reads known) fresh.snapshots (opened_rolled Kind.Snapshot task token text) in
     subst (λ a. May task es a × Surveys rounds walk a es) (sym is) (
       first.1,
       (
@@ -259,6 +261,7 @@ other_back rounds rounds' walk walk' (Ask.Unlock token) es get range taken h = a
 other_back rounds rounds' walk walk' Ask.Locks es get range taken h = absurd taken
 other_back rounds rounds' walk walk' (Ask.Put token j n x) es get range taken h = absurd taken
 other_back rounds rounds' walk walk' (Ask.Delete token j n) es get range taken h = absurd taken
+other_back rounds rounds' walk walk' (Ask.Upgrade token) es get range taken h = absurd taken
 other_back rounds rounds' walk walk' Ask.Config es get range taken h = absurd taken
 
 -- the last note goes

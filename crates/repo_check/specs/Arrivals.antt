@@ -1,5 +1,5 @@
 -- What a reply brings of a thing that was asked for.
-use Rattle.std.specs.Prelude.{◌≡◌, ◌≢◌, ◌⊎◌, ◌<◌, [], ℕ, List, length, Some, None}
+use Rattle.std.specs.Prelude.{◌≤◌, ◌≡◌, ◌≢◌, ◌⊎◌, ◌<◌, [], ℕ, List, length, Some, None}
 use Rattle.repo_name.specs.Limits.{contents_limit}
 use Rattle.repo_name.specs.Naming as naming
 use Rattle.repo_name.specs.declared.kinds.Kind.{Kind}
@@ -15,6 +15,7 @@ use Rattle.repo_index.specs.declared.facts.PackFacts.{PackFacts}
 use Rattle.repo_tree.specs.SnapshotText.{IsSnapshotText}
 use Rattle.repo_tree.specs.declared.faults.TextError.{TextError}
 use Rattle.repo_tree.specs.declared.snapshots.Snapshot.{Snapshot}
+use Rattle.repo_session.specs.Versions.{snapshot_version}
 use Rattle.repo_session.specs.Ends.{IsOfOtherVersion, IsUnwelcome}
 use Rattle.repo_session.specs.declared.outcomes.FaultKind.{FaultKind}
 use Rattle.repo_check.specs.Answers.{Answer, Gathered}
@@ -46,9 +47,9 @@ abbrev pub IsFaulty : Kind → Answer → FaultKind → Type 0
 IsFaulty k a FaultKind.Place = ⊥
 IsFaulty k a what = (answers : Gathered) → ObjectIs answers k a (Some what)
 
--- it is a snapshot with this tree
+-- it is a snapshot with this tree, of a version that is known
 abbrev pub IsRootOf : Answer → Name → Type 0
-IsRootOf a root = (x : List ℕ) × (snapshot : Snapshot) × AnswersBytes a x × IsSnapshotText x snapshot × (snapshot.tree ≡ root)
+IsRootOf a root = (x : List ℕ) × (snapshot : Snapshot) × AnswersBytes a x × IsSnapshotText x snapshot × (snapshot.tree ≡ root) × (snapshot.version ≤ snapshot_version)
 
 -- it is the index of these packs
 abbrev pub IsIndexOf : Answer → List PackFacts → Type 0
@@ -66,7 +67,7 @@ IsPackOf a facts = (x : List ℕ) × (items : List Item) × AnswersBytes a x × 
 abbrev pub LooksAtSnapshot : Name → Say → SnapshotLook → Type 0
 LooksAtSnapshot n say (SnapshotLook.Root root) = (a : Answer) × IsAnswer n say a × IsRootOf a root
 LooksAtSnapshot n say (SnapshotLook.Fault what) = (a : Answer) × IsAnswer n say a × IsFaulty Kind.Snapshot a what
-LooksAtSnapshot n say SnapshotLook.Version = IsOfOtherVersion (Ask.Get Kind.Snapshot n) say
+LooksAtSnapshot n say SnapshotLook.Version = IsOfOtherVersion snapshot_version (Ask.Get Kind.Snapshot n) say
 LooksAtSnapshot n say SnapshotLook.Unwelcome = IsUnwelcome (Ask.Get Kind.Snapshot n) say × (say ≢ Say.Refused Code.Missing)
 
 -- why a snapshot can't be read, and what is told of it then

@@ -4,7 +4,8 @@ use Rattle.repo_wire.specs.declared.messages.Code.{Code}
 use Rattle.repo_wire.specs.declared.messages.Request.{Request}
 use Rattle.repo_store.specs.Laws.{greatest_count}
 use Rattle.repo_store.specs.Stores.{Store}
-use Rattle.repo_session.specs.Alone.{IsFit, IsSent, IsSpoken, NoClash}
+use Rattle.repo_session.specs.Versions.{upto}
+use Rattle.repo_session.specs.Alone.{IsFit, AreVersionsUpto, IsSent, IsSpoken, NoClash}
 use Rattle.repo_session.specs.Askers.{Asker}
 use Rattle.repo_session.specs.Clients.{IsObedient}
 use Rattle.repo_session.specs.Soundness.{IsSound}
@@ -41,4 +42,4 @@ IsCleanOrMemory (Some outcome) = outcome ≡ Outcome.Ended (End.Refused Code.NoM
 -- so ends a check alone with a store in which it finds all that it wants, and whose device doesn't fail
 abbrev pub CheckEndsWell : Type 0
 CheckEndsWell = (who : Asker) (from to : Store) (failed : ℕ) (talk : Talk) (outcome : Option Outcome)
-    → IsFit from → AreStoredApart from → failed < greatest_count → TalkRan from failed talk to failed → length talk < 2 ^ 64 - 1 → IsCheck who None outcome (trace_of talk) → IsCleanOrMemory outcome
+    → IsFit from → AreVersionsUpto (upto (check_task who).versions) from → AreStoredApart from → failed < greatest_count → TalkRan from failed talk to failed → length talk < 2 ^ 64 - 1 → IsCheck who None outcome (trace_of talk) → IsCleanOrMemory outcome

@@ -5,6 +5,7 @@ use Rattle.repo_name.specs.declared.names.Name.{Name}
 use Rattle.repo_name.specs.declared.tokens.Token.{Token}
 use Rattle.repo_wire.specs.declared.messages.Ask.{Ask}
 use Rattle.repo_wire.specs.declared.messages.Say.{Say}
+use Rattle.repo_session.specs.Versions.{snapshot_version}
 use Rattle.repo_session.specs.Ends.{IsOfOtherVersion, IsSenseless, IsUnwelcome}
 use Rattle.repo_session.specs.Jobs.{IsShort}
 use Rattle.repo_session.specs.Order.{Task, IsWorking, May}
@@ -79,7 +80,7 @@ abbrev pub TurnsOn : {T : Type 0} → Task → Kind → RoundView T → Turn →
 TurnsOn task k round (Turn.Ask ask) e es = KnowsRound k round ask (e ∷ es) × May task (e ∷ es) ask
 TurnsOn task k round Turn.All e es = IsWholeRound k round (e ∷ es)
 TurnsOn task k round Turn.Senseless e es = IsSenseless e.ask e.say
-TurnsOn task k round Turn.Version e es = IsOfOtherVersion e.ask e.say
+TurnsOn task k round Turn.Version e es = IsOfOtherVersion snapshot_version e.ask e.say
 TurnsOn task k round Turn.Away e es = IsUnwelcome e.ask e.say
 
 -- what a page comes to, after each trace at whose end it was asked for

@@ -1,5 +1,5 @@
 -- What a survey of a store knows of the trace.
-use Rattle.std.specs.Prelude.{◌≡◌, ◌⊎◌, ◌∷◌, [], ⊤, List, flat_map, Option, Some, None, ◌<◌, ◌↔◌, ℕ, slice_get, Contains, map, Bool, IsTrue}
+use Rattle.std.specs.Prelude.{◌≤◌, ◌≡◌, ◌⊎◌, ◌∷◌, [], ⊤, List, flat_map, Option, Some, None, ◌<◌, ◌↔◌, ℕ, slice_get, Contains, map, Bool, IsTrue}
 use Rattle.repo_name.specs.declared.kinds.BlobKind.TheVariants.{Content, Tree}
 use Rattle.repo_name.specs.declared.kinds.Kind.{Kind}
 use Rattle.repo_name.specs.declared.kinds.Thing.{Thing}
@@ -10,6 +10,7 @@ use Rattle.repo_wire.specs.declared.messages.Say.{Say}
 use Rattle.repo_index.specs.Lookups.{Joins}
 use Rattle.repo_index.specs.declared.facts.Fact.{Fact}
 use Rattle.repo_index.specs.declared.facts.PackFacts.{PackFacts}
+use Rattle.repo_session.specs.Versions.{snapshot_version, upto}
 use Rattle.repo_session.specs.declared.outcomes.CheckFault.{CheckFault}
 use Rattle.repo_session.specs.declared.outcomes.FaultKind.{FaultKind}
 use Rattle.repo_session.specs.Blobs.{range_of}
@@ -112,7 +113,7 @@ abbrev pub SurveysOn : Task → RoundsView → WalkView → Next → Exchange �
 SurveysOn task rounds walk (Next.Ask ask) e es = Surveys rounds walk ask (e ∷ es) × May task (e ∷ es) ask
 SurveysOn task rounds walk Next.Over e es = IsSurveyed rounds walk (e ∷ es)
 SurveysOn task rounds walk Next.Senseless e es = IsSenseless e.ask e.say
-SurveysOn task rounds walk Next.Version e es = IsOfOtherVersion e.ask e.say
+SurveysOn task rounds walk Next.Version e es = IsOfOtherVersion snapshot_version e.ask e.say
 SurveysOn task rounds walk Next.Away e es = IsUnwelcome e.ask e.say
 
 -- what is asked next fits a frame
@@ -206,9 +207,9 @@ pub record IsFreshSurvey (rounds : RoundsView) : Type 0 where
 abbrev pub IsFirst : Task → RoundsView → WalkView → Trace → Ask → Type 0
 IsFirst task rounds walk es ask = May task es ask × Surveys rounds walk ask es
 
--- the first request after whatever config was read
+-- the first request after whatever config was read, of a version that is known
 abbrev pub OpensWith : RoundsView → WalkView → Ask → Type 0
-OpensWith rounds walk ask = (task : Task) (token : Token) (text : List ℕ) (config : Config) → IsConfigText text config → IsFirst task rounds walk (opened task token text) ask
+OpensWith rounds walk ask = (task : Task) (token : Token) (text : List ℕ) (config : Config) → IsConfigText text config → config.version ≤ upto task.versions → IsFirst task rounds walk (opened task token text) ask
 
 -- ---- what a survey received
 

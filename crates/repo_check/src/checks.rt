@@ -9,7 +9,7 @@ ghost use Rattle.repo_check.specs.Surveys.{IsShortNext};
 use crate::surveys::{Next, Survey, SurveyMark};
 use crate::verdicts::outcome_of;
 use repo_name::Token;
-use repo_session::{Client, Emission, End, Holder, Job, Outcome, Session, Step, Who};
+use repo_session::{Client, Emission, End, Holder, Job, Outcome, Session, Step, Versions, Who};
 use repo_tree::Config;
 use repo_wire::{Ask, Reply, Request, Say};
 use std::alloc::{AllocError, Global};
@@ -68,8 +68,12 @@ impl Job for CheckJob {
         true
     }
 
-    fn opened(&mut self, _holder: &Holder, _config: &Config) -> Ask {
-        self.survey.first()
+    fn versions(&self) -> Versions {
+        Versions::One
+    }
+
+    fn opened(&mut self, _holder: &Holder, _config: &Config) -> Step {
+        Step::Ask(self.survey.first())
     }
 
     fn reply(&mut self, _holder: &Holder, ask: &Ask, say: &Say) -> Result<Step, AllocError> {

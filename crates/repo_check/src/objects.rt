@@ -10,7 +10,7 @@ use crate::arrivals::{Arrival, arrival_of};
 use repo_index::{Facts, IndexText, PackFacts};
 use repo_name::{Kind, Name};
 use repo_pack::PackView;
-use repo_session::FaultKind;
+use repo_session::{FaultKind, SNAPSHOT_VERSION};
 use repo_tree::{Snapshot, TextError};
 use repo_wire::Say;
 use std::alloc::{AllocError, Global};
@@ -74,7 +74,7 @@ pub fn look_at_snapshot(alloc: Global, name: Name, say: &Say) -> Result<Snapshot
         Arrival::Absent => return Ok(SnapshotLook::Fault(FaultKind::Missing)),
         Arrival::Unwelcome => return Ok(SnapshotLook::Unwelcome),
     };
-    match Snapshot::read(alloc, bytes) {
+    match Snapshot::read_upto(alloc, bytes, SNAPSHOT_VERSION) {
         Ok(snapshot) => Ok(SnapshotLook::Root(snapshot.tree)),
         Err(error) => misread_snapshot(error),
     }

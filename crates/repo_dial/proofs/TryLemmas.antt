@@ -45,6 +45,7 @@ token_given task es (Ask.Get k n) ended told token may tells is = tells.given to
 token_given task es (Ask.Range pack offset len) ended told token may tells is = tells.given token is
 token_given task es (Ask.Put t k n x) ended told token may tells is = tells.given token is
 token_given task es (Ask.Delete t k n) ended told token may tells is = tells.given token is
+token_given task es (Ask.Upgrade t) ended told token may tells is = tells.given token is
 token_given task es Ask.Config ended told token may tells is = tells.given token is
 
 module _ {C : Type 0} (Fits : C → Trace → Type 0) (client : C) (task : Task) (Allows : Trace → Ask → Type 0) (Gives : Trace → Exchange → Type 0) (Own : Trace → Outcome → Type 0) where

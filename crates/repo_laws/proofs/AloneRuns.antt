@@ -8,11 +8,12 @@ use Rattle.repo_wire.specs.declared.messages.Code.{Code}
 use Rattle.repo_wire.specs.declared.messages.Request.{Request}
 use Rattle.repo_store.specs.Laws.{greatest_count}
 use Rattle.repo_store.specs.Stores.{Store}
+use Rattle.repo_session.specs.Versions.{snapshot_version}
 use Rattle.repo_session.specs.declared.emissions.Emission.{Emission}
 use Rattle.repo_session.specs.declared.outcomes.End.{End}
 use Rattle.repo_session.specs.declared.outcomes.Outcome.{Outcome}
 use Rattle.repo_session.specs.declared.stepping.StepError.{StepError}
-use Rattle.repo_session.specs.Alone.{IsFit, EndsWell}
+use Rattle.repo_session.specs.Alone.{IsFit, AreVersionsUpto, EndsWell}
 use Rattle.repo_session.specs.Askers.{Asker}
 use Rattle.repo_session.specs.Ends.{before_unlock}
 use Rattle.repo_session.specs.Rebuilding.{rebuilt}
@@ -89,8 +90,12 @@ stored_well entries es (Some (Outcome.Clean snapshots indexes packs blobs)) (inl
 stored_well entries es (Some (Outcome.Clean snapshots indexes packs blobs)) (inr h) = absurd h
 stored_well entries es (Some (Outcome.Faults faults)) (inl h) = h
 stored_well entries es (Some (Outcome.Faults faults)) (inr h) = absurd h
+stored_well entries es (Some Outcome.Upgraded) (inl h) = h
+stored_well entries es (Some Outcome.Upgraded) (inr h) = absurd h
 stored_well entries es (Some (Outcome.Ended End.Busy)) (inl h) = h
 stored_well entries es (Some (Outcome.Ended End.Busy)) (inr h) = absurd h
+stored_well entries es (Some (Outcome.Ended End.FileTooLarge)) (inl h) = h
+stored_well entries es (Some (Outcome.Ended End.FileTooLarge)) (inr h) = absurd h
 stored_well entries es (Some (Outcome.Ended End.Fenced)) (inl h) = h
 stored_well entries es (Some (Outcome.Ended End.Fenced)) (inr h) = absurd h
 stored_well entries es (Some (Outcome.Ended (End.Missing thing name))) (inl h) = h
@@ -104,28 +109,28 @@ stored_well entries es (Some (Outcome.Ended End.BadReply)) (inr h) = absurd h
 stored_well entries es (Some (Outcome.Ended End.Version)) (inl h) = h
 stored_well entries es (Some (Outcome.Ended End.Version)) (inr h) = absurd h
 
-pub backs_up : (who : Asker) (entries : List Entry) (from to : Store) (failed : ℕ) (talk : Talk) (outcome : Option Outcome) → IsFit from → failed < greatest_count → TalkRan from failed talk to failed → length talk < 2 ^ 64 - 1
+pub backs_up : (who : Asker) (entries : List Entry) (from to : Store) (failed : ℕ) (talk : Talk) (outcome : Option Outcome) → IsFit from → AreVersionsUpto snapshot_version from → failed < greatest_count → TalkRan from failed talk to failed → length talk < 2 ^ 64 - 1
     → IsBackup who entries None outcome (trace_of talk) → BacksUp entries from to outcome
-backs_up who entries from to failed talk outcome fit low ran few is = record {
+backs_up who entries from to failed talk outcome fit versions low ran few is = record {
   talk = talk;
   sound = λ apart. backup_sound who entries from to to failed failed talk None outcome fit.sound ran refl is apart;
-  well = λ apart. stored_well entries (trace_of talk) outcome (backup_ends who entries from to failed talk outcome fit low ran few is apart);
+  well = λ apart. stored_well entries (trace_of talk) outcome (backup_ends who entries from to failed talk outcome fit versions low ran few is apart);
 }
 
 -- ---- a restore, and a list
 
-pub restores : (w : Wish) (from to : Store) (failed : ℕ) (talk : Talk) (outcome : Option Outcome) (text : List ℕ) → IsFit from → from.objects Kind.Snapshot w.snapshot ≡ Some text → failed < greatest_count → TalkRan from failed talk to failed
+pub restores : (w : Wish) (from to : Store) (failed : ℕ) (talk : Talk) (outcome : Option Outcome) (text : List ℕ) → IsFit from → AreVersionsUpto snapshot_version from → from.objects Kind.Snapshot w.snapshot ≡ Some text → failed < greatest_count → TalkRan from failed talk to failed
     → length talk < 2 ^ 64 - 1 → IsRestore w None outcome (trace_of talk) → RestoresAlone from to outcome
-restores w from to failed talk outcome text fit there low ran few is = record {
+restores w from to failed talk outcome text fit versions there low ran few is = record {
   same = restore_changes_nothing w from to to failed failed talk None outcome ran refl is;
-  well = λ apart. restore_ends w from to failed talk outcome text fit there low ran few apart is;
+  well = λ apart. restore_ends w from to failed talk outcome text fit versions there low ran few apart is;
 }
 
-pub lists : (who : Asker) (from to : Store) (failed : ℕ) (talk : Talk) (outcome : Option Outcome) → IsFit from → failed < greatest_count → TalkRan from failed talk to failed → length talk < 2 ^ 64 - 1
+pub lists : (who : Asker) (from to : Store) (failed : ℕ) (talk : Talk) (outcome : Option Outcome) → IsFit from → AreVersionsUpto snapshot_version from → failed < greatest_count → TalkRan from failed talk to failed → length talk < 2 ^ 64 - 1
     → IsList who None outcome (trace_of talk) → ListsAlone from to outcome
-lists who from to failed talk outcome fit low ran few is = record {
+lists who from to failed talk outcome fit versions low ran few is = record {
   same = list_changes_nothing who from to to failed failed talk None outcome ran refl is;
-  well = list_ends who from to failed talk outcome fit low ran few is;
+  well = list_ends who from to failed talk outcome fit versions low ran few is;
 }
 
 -- ---- a backup, and then a restore of its snapshot

@@ -117,6 +117,7 @@ module _ (w : Wish) (entries : List Entry) (from mid : Store) (es : Trace) (Sent
   handed_by (Ask.Range p offset len) turn talk to count q o h r = handed (turn ∷ talk) to count o h r
   handed_by (Ask.Put token k n x) turn talk to count q o h r = handed (turn ∷ talk) to count o h r
   handed_by (Ask.Delete token k n) turn talk to count q o h r = handed (turn ∷ talk) to count o h r
+  handed_by (Ask.Upgrade token) turn talk to count q o h r = handed (turn ∷ talk) to count o h r
   handed_by Ask.Config turn talk to count q o h r = handed (turn ∷ talk) to count o h r
 
   handed_all : (talk : Talk) (to : Store) (count : ℕ) → Obeys (restore_task w) (RestoreAllows w.snapshot) (RestoreGives w.snapshot) (trace_of talk) → Led mid talk to → IsRestored (before_unlock (trace_of talk)) w.snapshot count

@@ -1,7 +1,8 @@
 //! Jobs that are alone with a shelf, from their beginning to their end.
 
 ghost use Rattle.std.specs.Prelude.{◌≡◌, ◌≢◌, [], ℕ, List, Some, None, IfOk, IsTrue, IsFalse, length, option_map};
-ghost use Rattle.repo_session.specs.Alone.{IsFit, HasAsked};
+ghost use Rattle.repo_session.specs.Alone.{IsFit, AreVersionsUpto, HasAsked};
+ghost use Rattle.repo_session.specs.Versions.{snapshot_version};
 ghost use Rattle.repo_session.specs.Sessions.{ended_in, who_in};
 ghost use Rattle.repo_session.specs.Soundness.{IsSound};
 ghost use Rattle.repo_session.specs.Talks.{Talk, Went};
@@ -32,7 +33,7 @@ pub fn back_up_alone<S: Shelf>(
     requires honest { S.honest shelf.old }
     requires fresh { FitsBackup backup.old [] }
     ensures went { IfOk result (λ n. (talk : Talk) × Went (who_in backup.old.session).instance FitsBackup backup.old talk backup.new × (n ≡ length talk)) }
-    ensures comes { IfOk result (λ _. IsFit (S.store shelf.old) → NeverFailed (S.failed shelf.old) (S.failed shelf.new)
+    ensures comes { IfOk result (λ _. IsFit (S.store shelf.old) → AreVersionsUpto snapshot_version (S.store shelf.old) → NeverFailed (S.failed shelf.old) (S.failed shelf.new)
         → BacksUp (handed_to backup.old.session.job) (S.store shelf.old) (S.store shelf.new) (ended_in backup.new.session)) }
 {
     let mut nothing = Vec::new(alloc);
@@ -54,7 +55,7 @@ pub fn restore_alone<S: Shelf>(
     requires honest { S.honest shelf.old }
     requires fresh { FitsRestore restore.old [] }
     ensures went { IfOk result (λ n. WentGiving (who_in restore.old.session).instance FitsRestore restore.old n restore.new out.old.items out.new.items) }
-    ensures comes { IfOk result (λ _. IsFit (S.store shelf.old) → HasAsked (S.store shelf.old) (Some (wish_of restore.old).snapshot)
+    ensures comes { IfOk result (λ _. IsFit (S.store shelf.old) → AreVersionsUpto snapshot_version (S.store shelf.old) → HasAsked (S.store shelf.old) (Some (wish_of restore.old).snapshot)
         → NeverFailed (S.failed shelf.old) (S.failed shelf.new) → RestoresAlone (S.store shelf.old) (S.store shelf.new) (ended_in restore.new.session)) }
 {
     lockstep(alloc, restore, shelf, out)
@@ -72,7 +73,7 @@ pub fn list_alone<S: Shelf>(
     requires honest { S.honest shelf.old }
     requires fresh { FitsList list.old [] }
     ensures went { IfOk result (λ n. (talk : Talk) × Went (who_in list.old.session).instance FitsList list.old talk list.new × (n ≡ length talk)) }
-    ensures comes { IfOk result (λ _. IsFit (S.store shelf.old) → NeverFailed (S.failed shelf.old) (S.failed shelf.new)
+    ensures comes { IfOk result (λ _. IsFit (S.store shelf.old) → AreVersionsUpto snapshot_version (S.store shelf.old) → NeverFailed (S.failed shelf.old) (S.failed shelf.new)
         → ListsAlone (S.store shelf.old) (S.store shelf.new) (ended_in list.new.session)) }
 {
     let mut nothing = Vec::new(alloc);

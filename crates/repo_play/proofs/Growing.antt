@@ -54,8 +54,8 @@ delivers_grows How w (Some (Said k reply)) r v (inr (inl h)) = same_grows w v h.
 delivers_grows How w (Some (Said k reply)) r v (inr (inr h)) = same_grows w v h.2
 
 pub happens_grows : (Own : Type 0) (w : World) (e : Event) (r : Applied) (v : World) → Happens Own w e r v → Grows w v
-happens_grows Own w (Event.Start job host time) r v (inl h) = (Asked (length w.clients) (first_of (length w.clients)) ∷ [], ap (λ (u : World). u.messages) h.1.is)
-happens_grows Own w (Event.Start job host time) r v (inr h) = same_grows w v h.3
+happens_grows Own w (Event.Start job host time old) r v (inl h) = (Asked (length w.clients) (first_of (length w.clients)) ∷ [], ap (λ (u : World). u.messages) h.1.is)
+happens_grows Own w (Event.Start job host time old) r v (inr h) = same_grows w v h.3
 happens_grows Own w (Event.Deliver i) r v h = delivers_grows (Plainly Own) w (slice_get w.messages i) r v h
 happens_grows Own w (Event.Fault i f) r v h = delivers_grows (Failing Own f) w (slice_get w.messages i) r v h
 happens_grows Own w (Event.Unlock t) r v (d, inl u) = ([], ap (λ (x : World). x.messages) u.is ∙ sym (append-nil w.messages))

@@ -36,14 +36,14 @@ moves_reach (Line.Crash k) w v r h = all_reach w (Event.Crash k ∷ []) v r h.1
 moves_reach Line.Restart w v r h = all_reach w (Event.Restart ∷ []) v r h
 moves_reach Line.Replay w v r h = all_reach w (deliveries 0 w.messages) v r h
 moves_reach (Line.Entry entry) w v r h = absurd h
-moves_reach (Line.Start start) w v r h = absurd h
+moves_reach (Line.Start start old) w v r h = absurd h
 moves_reach (Line.Late k) w v r h = absurd h
 moves_reach Line.Report w v r h = absurd h
 moves_reach Line.AppendOnly w v r h = absurd h
 
 does_reach : (line : Line) (s : State) (text : List ℕ) (t : State) → IsReachable s.world → Does line s text t → IsReachable t.world
 does_reach (Line.Entry entry) s text t r h = subst (λ (u : State). IsReachable u.world) (sym h.1) r
-does_reach (Line.Start start) s text t r h = reached_more ⊥ s.world (Event.Start h.job (host_of start) (time_of start)) h.applied t.world r h.happens
+does_reach (Line.Start start old) s text t r h = reached_more ⊥ s.world (Event.Start h.job (host_of start) (time_of start) old) h.applied t.world r h.happens
 does_reach (Line.Late k) s text t r h = all_reach s.world (Event.Deliver h.0.place ∷ []) t.world r h.0.happen
 does_reach Line.Report s text t r h = subst (λ (u : State). IsReachable u.world) (sym h.1) r
 does_reach line s text t r h = moves_reach line s.world t.world r h.1

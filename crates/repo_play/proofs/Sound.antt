@@ -31,7 +31,7 @@ module _ (Own Other : Type 0) (f : Own → Other) where
   failing_so Fail.Read old ask say new (inr h) = inr (h.0, plainly_so old ask say new h.1)
 
   pub happens_so : (w : World) (e : Event) (a : Applied) (v : World) → Happens Own w e a v → Happens Other w e a v
-  happens_so w (Event.Start job host time) a v h = h
+  happens_so w (Event.Start job host time old) a v h = h
   happens_so w (Event.Deliver i) a v h = delivers_so (Plainly Own) (Plainly Other) plainly_so w (slice_get w.messages i) a v h
   happens_so w (Event.Fault i fail) a v h = delivers_so (Failing Own fail) (Failing Other fail) (failing_so fail) w (slice_get w.messages i) a v h
   happens_so w (Event.Unlock t) a v (d, inl u) = (d, inl u)

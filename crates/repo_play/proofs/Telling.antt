@@ -1,5 +1,5 @@
 -- What is told of a late request.
-use Rattle.std.proofs.Common.{Bor, ◌≡◌, ◌+◌, ◌-◌, ◌++◌, ◌∷◌, [], ◌∙◌, ℕ, List, length, Option, Some, None, sym, ap, subst, slice_get, slice_index_or, option_map, length-append, arith}
+use Rattle.std.proofs.Common.{Bor, ◌≡◌, ◌+◌, ◌-◌, ◌++◌, ◌∷◌, [], ◌∙◌, ℕ, Bool, List, length, Option, Some, None, sym, ap, subst, slice_get, slice_index_or, option_map, length-append, arith}
 use Rattle.std.specs.Option.{MatchOption, unwrap_or}
 use Rattle.std.proofs.lemmas.Option.{get_or_from_slice_get, none-some, same_Some, slice_get-map, unwrap_or-slice_get}
 use Rattle.repo_wire.specs.declared.messages.Reply.{Reply}
@@ -91,8 +91,8 @@ pub something_last : (flow : Flow) (messages : List Message) (k : ℕ) (reply : 
 something_last flow messages k reply e at = absurd (none-some _ (sym at ∙ (last_said flow messages k reply e).1))
 
 -- the same start, of the same world
-pub started : (w u : World) (job : Job) (host other : List ℕ) (time later : ℕ) (a : Applied) (v : World) → u ≡ w → other ≡ host → later ≡ time
-    → Happens ⊥ u (Event.Start job other later) a v → Happens ⊥ w (Event.Start job host time) a v
-started w u job host other time later a v same hosts times h =
-    subst (λ (x : World). Happens ⊥ x (Event.Start job host time) a v) same
-    (subst (λ b. Happens ⊥ u (Event.Start job b time) a v) hosts (subst (λ n. Happens ⊥ u (Event.Start job other n) a v) times h))
+pub started : (w u : World) (job : Job) (host other : List ℕ) (time later : ℕ) (old : Bool) (a : Applied) (v : World) → u ≡ w → other ≡ host → later ≡ time
+    → Happens ⊥ u (Event.Start job other later old) a v → Happens ⊥ w (Event.Start job host time old) a v
+started w u job host other time later old a v same hosts times h =
+    subst (λ (x : World). Happens ⊥ x (Event.Start job host time old) a v) same
+    (subst (λ b. Happens ⊥ u (Event.Start job b time old) a v) hosts (subst (λ n. Happens ⊥ u (Event.Start job other n old) a v) times h))

@@ -48,7 +48,7 @@ pub record IsFreshScript (appends : Bool) (s : State) : Type 0 where
 abbrev pub MayStand : Grammar → Line → Type 0
 MayStand Grammar.Whole line = ⊤
 MayStand Grammar.Carried (Line.Entry entry) = ⊤
-MayStand Grammar.Carried (Line.Start start) = ⊤
+MayStand Grammar.Carried (Line.Start start old) = ⊤
 MayStand Grammar.Carried (Line.Finish k) = ⊤
 MayStand Grammar.Carried Line.Report = ⊤
 MayStand Grammar.Carried _ = ⊥
@@ -76,6 +76,7 @@ IsJob (Start.Restore k) s job = (name : Name) × (stored_by s.world k ≡ Some n
 IsJob Start.List s job = job ≡ Job.List
 IsJob Start.Prune s job = job ≡ Job.Prune
 IsJob Start.Check s job = job ≡ Job.Check
+IsJob Start.Upgrade s job = job ≡ Job.Upgrade
 IsJob (Start.Forget ks) s job = (names : List Name) × (all_stored s.world ks ≡ Some names) × (job ≡ Job.Forget (Choice.Names names))
 IsJob (Start.Keep policy) s job = job ≡ Job.Forget (Choice.Keep policy)
 
@@ -106,12 +107,12 @@ abbrev pub start_line : Applied → List ℕ
 start_line (Applied.Refused refusal) = codes "start refused " ++ (decimal (refusal_number refusal) ++ codes "\n")
 start_line _ = []
 
--- a client starts, or isn't begun
-pub record DoesStart (start : Start) (s : State) (text : List ℕ) (t : State) : Type 0 where
+-- a client, old or not, starts, or isn't begun
+pub record DoesStart (start : Start) (old : Bool) (s : State) (text : List ℕ) (t : State) : Type 0 where
   pub job : Job
   pub is_job : IsJob start s job
   pub applied : Applied
-  pub happens : Happens ⊥ s.world (Event.Start job (host_of start) (time_of start)) applied t.world
+  pub happens : Happens ⊥ s.world (Event.Start job (host_of start) (time_of start) old) applied t.world
   pub told : text ≡ start_line applied
   pub left : t.entries ≡ left_by start s.entries
 
@@ -146,7 +147,7 @@ CannotMove _ w = ⊤
 -- from s a line leads to t, and prints this
 abbrev pub Does : Line → State → List ℕ → State → Type 0
 Does (Line.Entry entry) s text t = (text ≡ []) × (t ≡ record { world = s.world; entries = s.entries ++ entry ∷ [] })
-Does (Line.Start start) s text t = DoesStart start s text t
+Does (Line.Start start old) s text t = DoesStart start old s text t
 Does (Line.Late k) s text t = IsLate s.world k text t.world × (t.entries ≡ s.entries)
 Does Line.Report s text t = IsReport s.world text × (t ≡ s)
 Does line s text t = (text ≡ []) × MovesWorld line s.world t.world × (t.entries ≡ s.entries)
@@ -155,7 +156,7 @@ Does line s text t = (text ≡ []) × MovesWorld line s.world t.world × (t.entr
 -- store only appends is no line of this sort: it makes sense as a script's first line alone.)
 abbrev pub IsNonsense : Line → State → Type 0
 IsNonsense (Line.Entry entry) s = ⊥
-IsNonsense (Line.Start start) s = ((job : Job) → ¬ IsJob start s job) ⊎ (¬ IsHost (host_of start))
+IsNonsense (Line.Start start old) s = ((job : Job) → ¬ IsJob start s job) ⊎ (¬ IsHost (host_of start))
 IsNonsense (Line.Late k) s = ¬ HasClient s.world k
 IsNonsense Line.Report s = ⊥
 IsNonsense line s = CannotMove line s.world

@@ -21,8 +21,10 @@ impl Grammar {
     {
         match (self, line) {
             (Grammar::Whole, _) => true,
-            (Grammar::Carried, Line::Entry(_) | Line::Start(_) | Line::Finish(_) | Line::Report) =>
-                { true }
+            (
+                Grammar::Carried,
+                Line::Entry(_) | Line::Start { .. } | Line::Finish(_) | Line::Report,
+            ) => { true }
             (Grammar::Carried, _) => false,
         }
     }

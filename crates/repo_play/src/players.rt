@@ -58,21 +58,28 @@ impl<S: Shelf + Drop> Player<S> {
                 Ok(Job::Forget(Choice::Names(Names::of(names))))
             }
             Start::Keep(policy) => Ok(Job::Forget(Choice::Keep(*policy))),
+            Start::Upgrade => Ok(Job::Upgrade),
         }
     }
 
-    /// A client starts, or isn't begun. What is printed of it is given.
-    fn start(&mut self, start: &Start) -> Result<String, Halt>
+    /// A client, old or not, starts, or isn't begun. What is printed of it is given.
+    fn start(&mut self, start: &Start, old: bool) -> Result<String, Halt>
         requires { NeverFails S.failed }
-        ensures starts { IfOk result (λ text. DoesStart start.now (state_of S.store self.old) (string_bytes text) (state_of S.store self.new)) }
-        ensures nonsense { IsErrOf result Halt.Nonsense → IsNonsense (Line.Start start.now) (state_of S.store self.old) }
+        ensures starts { IfOk result (λ text. DoesStart start.now old (state_of S.store self.old) (string_bytes text) (state_of S.store self.new)) }
+        ensures nonsense { IsErrOf result Halt.Nonsense → IsNonsense (Line.Start start.now old) (state_of S.store self.old) }
         ensures few { ¬ IsErrOf result Halt.Limit }
         ensures carried { IfErr result (HaltsBy (λ _. ⊥)) }
     {
         let host = host_of(self.alloc, start)?;
         let time = time_of(start);
         let job = self.job_of(start)?;
-        let applied = happen(&mut self.world, Event::Start { job, host, time })?;
+        let event = Event::Start {
+            job,
+            host,
+            time,
+            old,
+        };
+        let applied = happen(&mut self.world, event)?;
         Ok(start_line(self.alloc, applied)?)
     }
 
@@ -122,7 +129,7 @@ impl<S: Shelf + Drop> Player<S> {
     {
         match line {
             Line::Entry(entry) => self.enter(entry),
-            Line::Start(start) => self.start(&start),
+            Line::Start { start, old } => self.start(&start, old),
             Line::Late(client) => late(self.alloc, &mut self.world, client),
             Line::Report => self.report(),
             other => self.go_on(carrier, &other),

@@ -27,6 +27,10 @@ use Rattle.repo_prune.specs.PruneObedience.{prune_obeys}
 use Rattle.repo_prune.specs.PruneStates as pruning
 use Rattle.repo_prune.specs.Pruning.{prune_rule, prune_task}
 use Rattle.repo_prune.specs.declared.prunes.Prune.{Prune}
+use Rattle.repo_prune.specs.UpgradeObedience.{upgrade_obeys}
+use Rattle.repo_prune.specs.UpgradeStates as upgrading
+use Rattle.repo_prune.specs.Upgrading.{upgrade_rule, upgrade_task}
+use Rattle.repo_prune.specs.declared.upgrades.Upgrade.{Upgrade}
 use Rattle.repo_prune.specs.Forgetting.{forget_rule, forget_task}
 use Rattle.repo_restore.specs.Listing.{list_rule, list_task}
 use Rattle.repo_restore.specs.ListObedience.{list_obeys}
@@ -37,7 +41,7 @@ use Rattle.repo_restore.specs.Restoring.{Wish, restore_rule, restore_task}
 use Rattle.repo_restore.specs.declared.listings.SnapshotList.{SnapshotList}
 use Rattle.repo_restore.specs.declared.restores.Restore.{Restore}
 use Rattle.repo_prog.specs.declared.callers.Caller.{Caller}
-use Rattle.repo_prog.specs.Jobs.{backup_asker, vault_asker, ListObeyed, RestoreObeyed, BackupObeyed, ForgetObeyed, PruneObeyed, CheckObeyed, ListsSnapshots, RestoresSnapshot, Forgets, Prunes, Checks, Stores}
+use Rattle.repo_prog.specs.Jobs.{backup_asker, vault_asker, ListObeyed, RestoreObeyed, BackupObeyed, ForgetObeyed, PruneObeyed, UpgradeObeyed, CheckObeyed, ListsSnapshots, RestoresSnapshot, Forgets, Prunes, Upgrades, Checks, Stores}
 
 -- ---- what a job was made for
 
@@ -85,6 +89,9 @@ forget_driven = driven_by (λ (g : Given Choice). forget_task g.who) choosing_of
 
 abbrev pub prune_driven : Driven Prune Asker
 prune_driven = driven_by prune_task pruning.pruner_of pruning.FitsPrune (λ (p : Prune). next_in p.session) (λ (p : Prune). token_in p.session)
+
+abbrev pub upgrade_driven : Driven Upgrade Asker
+upgrade_driven = driven_by upgrade_task upgrading.who_of_upgrade upgrading.FitsUpgrade (λ (u : Upgrade). next_in u.session) (λ (u : Upgrade). token_in u.session)
 
 abbrev pub check_driven : Driven Check Asker
 check_driven = driven_by check_task checking.checker_of checking.FitsCheck (λ (c : Check). next_in c.session) (λ (c : Check). token_in c.session)
@@ -137,6 +144,15 @@ pruned caller retry n old new coming after packs bytes fits who d is =
     ended_over prune_driven (λ (p : Prune). ended_in p.session) prune_rule (vault_asker caller)
     old (λ p same es f. subst (P p es) (same ∙ who) (prune_obeys p es f)) (ap (λ (w : Asker). w.instance) who) fits retry n new coming after (Outcome.Pruned packs bytes) d is
 
+-- an upgrade
+pub upgraded : (caller : Caller) (retry n : ℕ) (old new : Upgrade) (coming after : Coming)
+    → upgrading.FitsUpgrade old [] → upgrading.who_of_upgrade old ≡ vault_asker caller → DrivesAgain upgrade_driven retry old (Ok n) new coming after
+    → ended_in new.session ≡ Some Outcome.Upgraded → Upgrades caller retry coming after
+upgraded caller retry n old new coming after fits who d is =
+    let P : Upgrade → Trace → Asker → Type 0 = λ u es w. IsObedientBy upgrade_rule w (next_in u.session) (ended_in u.session) es in
+    ended_over upgrade_driven (λ (u : Upgrade). ended_in u.session) upgrade_rule (vault_asker caller)
+    old (λ u same es f. subst (P u es) (same ∙ who) (upgrade_obeys u es f)) (ap (λ (w : Asker). w.instance) who) fits retry n new coming after Outcome.Upgraded d is
+
 -- a check
 pub checked : (caller : Caller) (retry n : ℕ) (old new : Check) (coming after : Coming) (outcome : Outcome)
     → checking.FitsCheck old [] → checking.checker_of old ≡ vault_asker caller → DrivesAgain check_driven retry old (Ok n) new coming after
@@ -183,6 +199,13 @@ prune_obeyed caller retry old new result coming after fits who d =
     obeyed_over prune_driven (λ (p : Prune). ended_in p.session) prune_rule (vault_asker caller)
     old (λ p same es f. subst (P p es) (same ∙ who) (prune_obeys p es f)) (ap (λ (w : Asker). w.instance) who) fits retry result new coming after d
 
+pub upgrade_obeyed : (caller : Caller) (retry : ℕ) (old new : Upgrade) (result : Result ℕ TryError) (coming after : Coming)
+    → upgrading.FitsUpgrade old [] → upgrading.who_of_upgrade old ≡ vault_asker caller → DrivesAgain upgrade_driven retry old result new coming after → UpgradeObeyed caller retry coming after
+upgrade_obeyed caller retry old new result coming after fits who d =
+    let P : Upgrade → Trace → Asker → Type 0 = λ u es w. IsObedientBy upgrade_rule w (next_in u.session) (ended_in u.session) es in
+    obeyed_over upgrade_driven (λ (u : Upgrade). ended_in u.session) upgrade_rule (vault_asker caller)
+    old (λ u same es f. subst (P u es) (same ∙ who) (upgrade_obeys u es f)) (ap (λ (w : Asker). w.instance) who) fits retry result new coming after d
+
 pub check_obeyed : (caller : Caller) (retry : ℕ) (old new : Check) (result : Result ℕ TryError) (coming after : Coming)
     → checking.FitsCheck old [] → checking.checker_of old ≡ vault_asker caller → DrivesAgain check_driven retry old result new coming after → CheckObeyed caller retry coming after
 check_obeyed caller retry old new result coming after fits who d =
@@ -206,6 +229,9 @@ forget_none caller choice retry coming = obeyed_none (forget_rule choice) (vault
 
 pub prune_none : (caller : Caller) (retry : ℕ) (coming : Coming) → PruneObeyed caller retry coming coming
 prune_none caller retry coming = obeyed_none prune_rule (vault_asker caller) retry coming
+
+pub upgrade_none : (caller : Caller) (retry : ℕ) (coming : Coming) → UpgradeObeyed caller retry coming coming
+upgrade_none caller retry coming = obeyed_none upgrade_rule (vault_asker caller) retry coming
 
 pub check_none : (caller : Caller) (retry : ℕ) (coming : Coming) → CheckObeyed caller retry coming coming
 check_none caller retry coming = obeyed_none check_rule (vault_asker caller) retry coming

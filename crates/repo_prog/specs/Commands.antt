@@ -10,6 +10,7 @@ use Rattle.repo_store.specs.Output.{AppendsPart}
 use Rattle.repo_store.specs.Stores.{Store}
 use Rattle.repo_tree.specs.declared.configs.Config.{Config}
 use Rattle.repo_tree.specs.ConfigText.{IsTarget, config_text}
+use Rattle.repo_tree.specs.Versions.{greatest_version, IsKnownTo}
 use Rattle.repo_name.specs.Rows.{IsHost}
 use Rattle.repo_play.specs.Plays.{Plays, uncarried}
 use Rattle.repo_play.specs.declared.faults.LoopError.{LoopError}
@@ -19,6 +20,7 @@ use Rattle.repo_prog.specs.declared.errands.Errand.{Errand}
 use Rattle.repo_prog.specs.declared.errands.LockErrand.{LockErrand}
 use Rattle.repo_prog.specs.declared.errors.FramesError.{FramesError}
 use Rattle.repo_prog.specs.declared.status.Status.{Status}
+use Rattle.repo_prog.specs.declared.words.Making.{Making}
 use Rattle.repo_prog.specs.declared.words.Order.{Order}
 use Rattle.repo_prog.specs.FramesRun.{FramesGive}
 use Rattle.repo_prog.specs.HexLines.{line_feed}
@@ -51,6 +53,7 @@ errand_word Errand.Snapshots = codes "snapshots"
 errand_word (Errand.Restore name folder) = codes "restore"
 errand_word (Errand.Forget choice) = codes "forget"
 errand_word Errand.Prune = codes "prune"
+errand_word Errand.Upgrade = codes "upgrade"
 errand_word Errand.Check = codes "check"
 errand_word (Errand.Locks LockErrand.List) = codes "locks"
 errand_word (Errand.Locks (LockErrand.Refresh token)) = codes "refresh"
@@ -63,6 +66,7 @@ IsErrand Errand.Snapshots = ⊤
 IsErrand (Errand.Restore name folder) = ⊤
 IsErrand (Errand.Forget choice) = ⊤
 IsErrand Errand.Prune = ⊤
+IsErrand Errand.Upgrade = ⊤
 IsErrand Errand.Check = ⊤
 IsErrand (Errand.Locks errand) = ⊤
 
@@ -71,13 +75,21 @@ abbrev pub IsIdle : Option Duration → Type 0
 IsIdle None = ⊤
 IsIdle (Some time) = 0 < as_nanos time
 
+-- a way of making a store within its limits
+abbrev pub IsMaking : Making → Type 0
+IsMaking making = IsTarget making.target × IsKnownTo greatest_version making.version
+
+-- how many connections may be served at once
+abbrev pub IsAtOnce : ℕ → Type 0
+IsAtOnce n = (1 ≤ n) × (n ≤ 256)
+
 -- an order within its limits
 abbrev pub IsOrder : Order → Type 0
 IsOrder Order.Frames = ⊤
 IsOrder Order.Play = ⊤
 IsOrder Order.Loop = ⊤
-IsOrder (Order.Init folder making) = IsTarget making.target
-IsOrder (Order.Serve folder address serving) = (1 ≤ serving.connections) × IsIdle serving.idle
+IsOrder (Order.Init folder making) = IsMaking making
+IsOrder (Order.Serve folder address serving) = (1 ≤ serving.connections) × IsAtOnce serving.at_once × IsIdle serving.idle
 IsOrder (Order.Client address errand retry) = IsErrand errand
 
 -- an order that reads the input

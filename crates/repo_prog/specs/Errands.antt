@@ -16,8 +16,8 @@ use Rattle.repo_prog.specs.Tellings.{locks_told, refresh_told}
 use Rattle.repo_prog.specs.Commands.{IsEnd, created_line, listening_line}
 use Rattle.repo_files.specs.Scanned.{AreScanned}
 use Rattle.repo_dial.specs.Dialing.{Coming, ConnectionEnds, Dials}
-use Rattle.repo_prog.specs.Jobs.{ListObeyed, RestoreObeyed, ForgetObeyed, PruneObeyed, CheckObeyed, BackupObeyed}
-use Rattle.repo_prog.specs.Shown.{TellsStored, TellsListed, TellsRestored, TellsForgotten, TellsPruned, TellsChecked, unflawed}
+use Rattle.repo_prog.specs.Jobs.{ListObeyed, RestoreObeyed, ForgetObeyed, PruneObeyed, UpgradeObeyed, CheckObeyed, BackupObeyed}
+use Rattle.repo_prog.specs.Shown.{TellsStored, TellsListed, TellsRestored, TellsForgotten, TellsPruned, TellsUpgraded, TellsChecked, unflawed}
 
 -- what is asked about the locks over a connection, and told
 abbrev pub LockGives : LockErrand → Caller → Streams → Status → Streams → Type 0
@@ -49,6 +49,8 @@ ErrandGives (Errand.Forget choice) caller retry coming after start status conten
     × (IsNoPolicy choice → (status ≡ Status.Failed) × (contents ≡ start))
 ErrandGives Errand.Prune caller retry coming after start status contents =
     PruneObeyed caller retry coming after × TellsPruned caller retry coming after status start contents
+ErrandGives Errand.Upgrade caller retry coming after start status contents =
+    UpgradeObeyed caller retry coming after × TellsUpgraded caller retry coming after status start contents
 ErrandGives Errand.Check caller retry coming after start status contents =
     CheckObeyed caller retry coming after × TellsChecked caller retry coming after status start contents
 ErrandGives (Errand.Locks errand) caller retry coming after start status contents = LocksGive errand caller coming after start status contents

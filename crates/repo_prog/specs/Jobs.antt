@@ -5,6 +5,7 @@ use Rattle.repo_tree.specs.declared.entries.Entry.{Entry}
 use Rattle.repo_tree.specs.declared.snapshots.Snapshot.{Snapshot}
 use Rattle.repo_session.specs.declared.outcomes.Outcome.{Outcome}
 use Rattle.repo_session.specs.Askers.{Asker, asker}
+use Rattle.repo_session.specs.declared.versions.Versions.{Versions}
 use Rattle.repo_dial.specs.Bringing.{Ended, Obeyed}
 use Rattle.repo_dial.specs.Dialing.{Coming}
 use Rattle.repo_backup.specs.BackupStates.{backup_rule}
@@ -12,6 +13,7 @@ use Rattle.repo_check.specs.Checking.{check_rule}
 use Rattle.repo_prune.specs.declared.choices.Choice.{Choice}
 use Rattle.repo_prune.specs.Forgetting.{forget_rule}
 use Rattle.repo_prune.specs.Pruning.{prune_rule}
+use Rattle.repo_prune.specs.Upgrading.{upgrade_rule}
 use Rattle.repo_restore.specs.Listing.{list_rule}
 use Rattle.repo_restore.specs.Restoring.{restore_rule}
 use Rattle.repo_prog.specs.declared.callers.Caller.{Caller}
@@ -20,13 +22,13 @@ use Rattle.repo_prog.specs.declared.callers.Caller.{Caller}
 abbrev pub vault_host : List ℕ
 vault_host = codes "vault"
 
--- who lists, restores, forgets, prunes or checks
+-- who lists, restores, forgets, prunes, upgrades or checks
 abbrev pub vault_asker : Caller → Asker
-vault_asker caller = asker caller.instance vault_host caller.time
+vault_asker caller = asker caller.instance vault_host caller.time Versions.Both
 
 -- who backs up
 abbrev pub backup_asker : Caller → List ℕ → Asker
-backup_asker caller host = asker caller.instance host caller.time
+backup_asker caller host = asker caller.instance host caller.time Versions.Both
 
 -- the snapshots were listed
 abbrev pub ListsSnapshots : Caller → List (Name × Snapshot) → ℕ → Coming → Coming → Type 0
@@ -43,6 +45,10 @@ Forgets caller choice names retry coming after = Ended (forget_rule choice) (vau
 -- what no snapshot needs was removed: so many packs were deleted, and so many bytes of blobs put
 abbrev pub Prunes : Caller → ℕ → ℕ → ℕ → Coming → Coming → Type 0
 Prunes caller packs bytes retry coming after = Ended prune_rule (vault_asker caller) (Outcome.Pruned packs bytes) retry coming after
+
+-- the store's config is of version 2
+abbrev pub Upgrades : Caller → ℕ → Coming → Coming → Type 0
+Upgrades caller retry coming after = Ended upgrade_rule (vault_asker caller) Outcome.Upgraded retry coming after
 
 -- the store was checked, with this outcome: it is clean, or things are at fault
 abbrev pub Checks : Caller → Outcome → ℕ → Coming → Coming → Type 0
@@ -65,6 +71,9 @@ ForgetObeyed caller choice retry coming after = Obeyed (forget_rule choice) (vau
 
 abbrev pub PruneObeyed : Caller → ℕ → Coming → Coming → Type 0
 PruneObeyed caller retry coming after = Obeyed prune_rule (vault_asker caller) retry coming after
+
+abbrev pub UpgradeObeyed : Caller → ℕ → Coming → Coming → Type 0
+UpgradeObeyed caller retry coming after = Obeyed upgrade_rule (vault_asker caller) retry coming after
 
 abbrev pub CheckObeyed : Caller → ℕ → Coming → Coming → Type 0
 CheckObeyed caller retry coming after = Obeyed check_rule (vault_asker caller) retry coming after

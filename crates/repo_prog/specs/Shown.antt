@@ -1,10 +1,10 @@
 -- What commands show of their jobs.
-use Rattle.std.specs.Prelude.{◌≡◌, ◌⊎◌, Option, ℕ, List, Some}
-use Rattle.repo_prog.specs.Tellings.{snapshot_lines, complete_line, stored_line, forgotten_lines, pruned_line, fault_lines, clean_line}
+use Rattle.std.specs.Prelude.{◌≡◌, ⊤, ◌⊎◌, Option, ℕ, List, Some}
+use Rattle.repo_prog.specs.Tellings.{snapshot_lines, complete_line, stored_line, forgotten_lines, pruned_line, upgraded_line, fault_lines, clean_line}
 use Rattle.repo_dial.specs.Dialing.{Coming}
 use Rattle.repo_prog.specs.declared.callers.Caller.{Caller}
 use Rattle.repo_prog.specs.declared.status.Status.{Status}
-use Rattle.repo_prog.specs.Jobs.{RestoresSnapshot, Prunes, Checks, Stores, Forgets, ListsSnapshots}
+use Rattle.repo_prog.specs.Jobs.{RestoresSnapshot, Prunes, Checks, Stores, Forgets, ListsSnapshots, Upgrades}
 use Rattle.repo_tree.specs.declared.entries.Entry.{Entry}
 use Rattle.std.specs.Io.KnownBytes.{Appends}
 use Rattle.repo_prune.specs.declared.choices.Choice.{Choice}
@@ -53,6 +53,10 @@ Pruned = ℕ × ℕ
 abbrev pub pruned_lines : Pruned → List ℕ
 pruned_lines p = pruned_line p.0 p.1
 
+-- nothing but that it is done
+abbrev pub upgraded_lines : ⊤ → List ℕ
+upgraded_lines done = upgraded_line
+
 -- how many snapshots, indexes, packs and blobs are well
 abbrev pub Clean : Type 0
 Clean = ℕ × ℕ × ℕ × ℕ
@@ -77,6 +81,9 @@ ShowsForgotten outcome status before after = Tells (λ (names : List Name). outc
 abbrev pub ShowsPruned : Option Outcome → Status → Option (List ℕ) → Option (List ℕ) → Type 0
 ShowsPruned outcome status before after = Tells (λ (p : Pruned). outcome ≡ Some (Outcome.Pruned p.0 p.1)) pruned_lines status before after
 
+abbrev pub ShowsUpgraded : Option Outcome → Status → Option (List ℕ) → Option (List ℕ) → Type 0
+ShowsUpgraded outcome status before after = Tells (λ (done : ⊤). outcome ≡ Some Outcome.Upgraded) upgraded_lines status before after
+
 abbrev pub ShowsChecked : Option Outcome → Status → Option (List ℕ) → Option (List ℕ) → Type 0
 ShowsChecked outcome status before after =
     TellsEither (λ (c : Clean). outcome ≡ Some (Outcome.Clean c.0 c.1 c.2 c.3)) clean_lines (λ (found : List CheckFault). outcome ≡ Some (Outcome.Faults found)) fault_lines status before after
@@ -98,6 +105,9 @@ TellsForgotten caller choice retry coming left status before after = Tells (λ n
 
 abbrev pub TellsPruned : Caller → ℕ → Coming → Coming → Status → Option (List ℕ) → Option (List ℕ) → Type 0
 TellsPruned caller retry coming left status before after = Tells (λ (p : Pruned). Prunes caller p.0 p.1 retry coming left) pruned_lines status before after
+
+abbrev pub TellsUpgraded : Caller → ℕ → Coming → Coming → Status → Option (List ℕ) → Option (List ℕ) → Type 0
+TellsUpgraded caller retry coming left status before after = Tells (λ (done : ⊤). Upgrades caller retry coming left) upgraded_lines status before after
 
 abbrev pub TellsChecked : Caller → ℕ → Coming → Coming → Status → Option (List ℕ) → Option (List ℕ) → Type 0
 TellsChecked caller retry coming left status before after =

@@ -56,6 +56,10 @@ forgotten_lines names = flat_map forgotten_line names
 abbrev pub pruned_line : ℕ → ℕ → List ℕ
 pruned_line packs bytes = codes "pruned " ++ (decimal packs ++ (codes " " ++ (decimal bytes ++ codes "\n")))
 
+-- the line of an upgrade
+abbrev pub upgraded_line : List ℕ
+upgraded_line = codes "upgraded\n"
+
 -- all is well: so many snapshots, indexes and packs, and so many blobs that the snapshots need
 abbrev pub clean_line : ℕ → ℕ → ℕ → ℕ → List ℕ
 clean_line snapshots indexes packs blobs =

@@ -7,6 +7,7 @@ ghost use Rattle.repo_name.specs.Rows.{IsHost};
 ghost use Rattle.repo_wire.specs.Messages.{IsAsk, IsShortAsk, requests};
 ghost use Rattle.repo_wire.specs.Stream.{FitsFrame};
 ghost use Rattle.repo_session.specs.Askers.{asker};
+ghost use Rattle.repo_session.specs.declared.versions.Versions.{Versions};
 ghost use Rattle.repo_prog.specs.Asking.{request_of};
 
 use crate::making::random_instance;
@@ -61,7 +62,7 @@ impl Caller {
     /// The caller, under the name of a machine. It fails for memory alone.
     pub fn who(&self, alloc: Global, host: &str) -> Result<Who, AllocError>
         requires { IsHost host.now }
-        ensures { IfOk result (λ who. who ≡ asker self.now.instance host.now self.now.time) }
+        ensures { IfOk result (λ who. who ≡ asker self.now.instance host.now self.now.time Versions.Both) }
     {
         match Who::new(alloc, self.instance, host, self.time) {
             Ok(who) => Ok(who),

@@ -14,6 +14,7 @@ use crate::locking::{locks_command, refresh_command, unlock_command};
 use crate::pruning::prune_command;
 use crate::restoring::{restore_command, snapshots_command};
 use crate::status::{Status, failed};
+use crate::upgrading::upgrade_command;
 use repo_dial::{Address, Dial};
 use std::alloc::{AllocGlobal, Global};
 use std::fs::Files;
@@ -77,6 +78,7 @@ pub fn do_errand<T: Files + AllocGlobal + Clone + Drop, D: Dial, O: Write, F: Wr
             alloc, caller, choice, dial, retry, output, faults,
         ),
         Errand::Prune => prune_command(alloc, caller, dial, retry, output, faults),
+        Errand::Upgrade => upgrade_command(alloc, caller, dial, retry, output, faults),
         Errand::Check => check_command(alloc, caller, dial, retry, output, faults),
         Errand::Locks(errand) => ask_locks(alloc, caller, errand, dial, output, faults),
     }

@@ -4,7 +4,9 @@ ghost use Rattle.std.specs.Prelude.{◌≡◌, IfOk, codes};
 ghost use Rattle.repo_prog.specs.Commands.{IsErrand, errand_word};
 
 use crate::choosing::{choice_of, choice_words};
-use crate::help::{BACKUP, CHECK, FORGET, LOCKS, PRUNE, REFRESH, RESTORE, SNAPSHOTS, UNLOCK};
+use crate::help::{
+    BACKUP, CHECK, FORGET, LOCKS, PRUNE, REFRESH, RESTORE, SNAPSHOTS, UNLOCK, UPGRADE,
+};
 use crate::words::{WordsError, flag, needed, number, number_of, word_of};
 use clap::{ArgMatches, Command};
 use repo_name::{Name, Text, Token, is_host};
@@ -24,6 +26,8 @@ pub enum Errand {
     Forget(Choice),
     /// Remove what no snapshot needs.
     Prune,
+    /// Make the store's config one of version 2.
+    Upgrade,
     /// Check all of the store.
     Check,
     /// Ask about the locks.
@@ -89,6 +93,11 @@ fn prune_words<'a>(alloc: Global) -> Result<Command<'a>, AllocError> {
     retry_words(alloc, errand_words(alloc, "prune", about, PRUNE)?)
 }
 
+fn upgrade_words<'a>(alloc: Global) -> Result<Command<'a>, AllocError> {
+    let about = "Makes the store one of version 2";
+    retry_words(alloc, errand_words(alloc, "upgrade", about, UPGRADE)?)
+}
+
 fn check_words<'a>(alloc: Global) -> Result<Command<'a>, AllocError> {
     let about = "Tells whether all is well";
     retry_words(alloc, errand_words(alloc, "check", about, CHECK)?)
@@ -127,7 +136,8 @@ fn with_copies<'a>(alloc: Global, program: Command<'a>) -> Result<Command<'a>, A
 fn with_repairs<'a>(alloc: Global, program: Command<'a>) -> Result<Command<'a>, AllocError> {
     let program = with_command(program, forget_words(alloc))?;
     let program = with_command(program, prune_words(alloc))?;
-    with_command(program, check_words(alloc))
+    let program = with_command(program, check_words(alloc))?;
+    with_command(program, upgrade_words(alloc))
 }
 
 /// The commands of locks, added to those of the program.
@@ -191,6 +201,7 @@ pub fn errand_of(alloc: Global, command: &str, words: &ArgMatches) -> Result<Err
         "forget" => Ok(Errand::Forget(choice_of(alloc, words)?)),
         "prune" => Ok(Errand::Prune),
         "check" => Ok(Errand::Check),
+        "upgrade" => Ok(Errand::Upgrade),
         "locks" => Ok(Errand::Locks(LockErrand::List)),
         "refresh" => {
             let number = number_of(words, "TOKEN")?;

@@ -16,12 +16,14 @@ Each line of the input is one of:
   dir PATH, file PATH HEX       one more entry for the next backup; - stands for no bytes
   start backup HOST TIME        a client starts; clients are numbered from 0
   start restore K               of the snapshot that client K stored
-  start list, start prune, start check
+  start list, start prune, start check, start upgrade
   start forget K..              of the snapshots that these clients stored
   start keep LAST DAILY         a forget by a policy
+  old start ..                  the same of a client that knows version 1 alone
   step K, finish K              client K's pending request is answered, and the reply taken: once, or to its end
   until K WORD                  so it goes on until that request is a WORD: ticket, lock, config, list, get, range,
-                                put-pack, put-index, put-snapshot, delete-pack, delete-index, delete-snapshot, unlock
+                                put-pack, put-index, put-snapshot, delete-pack, delete-index, delete-snapshot, unlock,
+                                upgrade
   late K, replay                the last request of K, or each one so far, comes once more
   deliver I                     message I comes, counted from 0
   fault K applied               a step in which the device fails, after a change or, with unapplied, before it, or,
@@ -40,7 +42,7 @@ Exit status:
 
 /// Below the help of `vault loop`.
 pub const LOOP: &str = "\
-Lines are dir, file, start, finish and report, as for vault play. Each client has a connection on 127.0.0.1; a frame of
+Lines are dir, file, start, old start, finish and report, as for vault play. Each client has a connection on 127.0.0.1; a frame of
 more than 65,536 bytes ends it. What is printed is what vault play prints.
 
 Example:
@@ -53,6 +55,9 @@ Exit status:
 
 /// Below the help of `vault init`.
 pub const INIT: &str = "\
+With --format 2 it is of version 2, which is for what is to come: of this program every job but an upgrade ends with
+`version` at it.
+
 Example:
   vault init store
 
@@ -65,6 +70,9 @@ Exit status:
 pub const SERVE: &str = "\
 A connection on which nothing comes for so many seconds, or that takes nothing of what is written to it, is
 ended, and the next one is served. With 0 none is.
+
+With --at-once several connections are open, 256 at most, and one request of each is answered in turn; a slow or a
+silent one holds nobody up. Time in which another's long request is answered counts against no connection.
 
 With --append-only no object is ever deleted, whoever asks: a forget or a prune that has something to delete
 ends with refused 14.
@@ -181,6 +189,24 @@ Exit status:
   1  it ended before, and standard error says why
   2  the words make no command
   3  things are at fault, and each is printed";
+
+/// Below the help of `vault upgrade`.
+pub const UPGRADE: &str = "\
+Version 2 is for what is to come: directories of any size. It is for ever, and of this program no other command works at
+such a store yet: each job ends with `version`. So don't upgrade a store that you use. What is stored stays as it is.
+Nobody else can use the store while it runs; where it is of version 2 already, nothing changes.
+
+With --retry N it connects again where a connection ends or can't be had, N times at most and without a pause, and
+goes on where it stood. The error of the last try is told.
+
+Example:
+  vault upgrade 127.0.0.1:7070
+  vault upgrade 127.0.0.1:7070 --retry 3
+
+Exit status:
+  0  the store is of version 2, and `upgraded` is printed
+  1  it ended before it could say so, and standard error says why; at its very end the store may be of version 2
+  2  the words make no command";
 
 /// Below the help of `vault locks`.
 pub const LOCKS: &str = "\

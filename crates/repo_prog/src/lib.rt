@@ -5,7 +5,8 @@
 //! connections of the machine to itself. [`init_command`] makes a store, and [`serve_connections`] serves one.
 //!
 //! The others are a client's: [`backup_command`], [`snapshots_command`], [`restore_command`], [`forget_command`],
-//! [`prune_command`] and [`check_command`] bring a job to its end, over connections that are made one after another ([`Dial`]),
+//! [`prune_command`], [`upgrade_command`] and [`check_command`] bring a job to its end, over connections that are made one after
+//! another ([`Dial`]),
 //! by [`drive_again`]; [`locks_command`], [`refresh_command`] and [`unlock_command`] ask themselves, over one. [`run_errand`]
 //! connects, and [`run`] goes by the words.
 //!
@@ -45,6 +46,7 @@ mod restoring;
 mod status;
 mod talks;
 mod telling;
+mod upgrading;
 mod words;
 
 pub use backing::{backup_command, backup_entries, backup_found};
@@ -66,4 +68,5 @@ pub use repo_play::{PlayError, play};
 pub use restoring::{restore_command, restore_into, snapshots_command};
 pub use status::{Status, refuse_words};
 pub use telling::fault_word;
+pub use upgrading::upgrade_command;
 pub use words::{Making, Order, WordsError, order_of};

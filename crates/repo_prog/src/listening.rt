@@ -3,17 +3,22 @@
 ghost use Rattle.std.specs.Prelude.{◌≡◌, IsErr, IsOk};
 ghost use Rattle.std.specs.Io.KnownBytes.{Appends};
 ghost use Rattle.repo_store.specs.Serving.{Ran};
+ghost use Rattle.repo_hall.specs.Halls.{Hosted};
+ghost use Rattle.repo_hall.specs.Happenings.{Log};
 ghost use Rattle.repo_prog.specs.Commands.{listening_line, IsEnd};
 ghost use Rattle.repo_prog.specs.declared.status.Status.{Status};
 
 use crate::status::{Status, failed};
 use repo_files::{DirShelf, HoldFile};
+use repo_many::{Manner, Served, serve_many};
 use repo_store::{AppendOnly, Kept, ServeError, Shelf, serve, write_whole};
 use std::alloc::{AllocGlobal, Global};
 use std::fs::Files;
 use std::io;
 use std::io::{Read, Write};
 use std::net::{Net, OpenListener, OpenStream, TcpListener};
+use std::os::fd::AsRawFd;
+use std::rt::Clock;
 use std::time::Duration;
 
 /// The reading end of a connection. Where there is a time for `idle`, each read and each write of the connection
@@ -104,37 +109,89 @@ where
     status
 }
 
+/// Serves so many connections of a bound listener at once, one request of each in turn. A listener that can't be
+/// waited for is told as `wait failed`.
+fn serve_at_once<R: Net + Clock + AllocGlobal, L: OpenListener + AsRawFd, S: Shelf, F: Write>(
+    rt: &R,
+    listener: &L,
+    serving: Serving,
+    shelf: &mut S,
+    faults: &mut F,
+) -> Status
+where
+    L::Stream: Read + Write + OpenStream + AsRawFd,
+    ensures hosted { S.honest shelf.old → (log : Log) × Hosted (S.store shelf.old) (S.failed shelf.old) log (S.store shelf.new) (S.failed shelf.new) }
+    ensures honest { S.honest shelf.old → S.honest shelf.new }
+    ensures silent { result ≡ Status.Done → faults.new ≡ faults.old }
+    ensures status { IsEnd result }
+{
+    let manner = Manner {
+        connections: serving.connections,
+        at_once: serving.at_once,
+        idle: serving.idle,
+    };
+    match serve_many(rt, listener, manner, shelf, faults) {
+        Ok(Served::Well) => Status::Done,
+        Ok(Served::WithErrors) => Status::Failed,
+        Err(_) => failed(faults, &"wait failed"),
+    }
+}
+
+/// Serves connections of a bound listener as they are to be served: one after another, or several at once.
+fn serve_listener<R: Net + Clock + AllocGlobal, L: OpenListener + AsRawFd, S: Shelf, F: Write>(
+    rt: &R,
+    listener: &L,
+    serving: Serving,
+    shelf: &mut S,
+    faults: &mut F,
+) -> Status
+where
+    L::Stream: Read + Write + OpenStream + AsRawFd,
+    ensures honest { S.honest shelf.old → S.honest shelf.new }
+    ensures silent { result ≡ Status.Done → faults.new ≡ faults.old }
+    ensures status { IsEnd result }
+{
+    if serving.at_once > 1 {
+        return serve_at_once(rt, listener, serving, shelf, faults);
+    }
+    serve_connections(
+        rt.alloc(),
+        listener,
+        serving.connections,
+        serving.idle,
+        shelf,
+        faults,
+    )
+}
+
 /// Serves a shelf as it is to be served. What it has is remembered, so nobody else may write to it.
-fn serve_shelf<L: OpenListener, S: Shelf + Drop, F: Write>(
-    alloc: Global,
+fn serve_shelf<R: Net + Clock + AllocGlobal, L: OpenListener + AsRawFd, S: Shelf + Drop, F: Write>(
+    rt: &R,
     listener: &L,
     serving: Serving,
     shelf: S,
     faults: &mut F,
 ) -> Status
 where
-    L::Stream: Read + Write + OpenStream,
+    L::Stream: Read + Write + OpenStream + AsRawFd,
     ensures silent { result ≡ Status.Done → faults.new ≡ faults.old }
     ensures status { IsEnd result }
 {
-    let Serving {
-        connections,
-        idle,
-        ..
-    } = serving;
     if serving.append_only {
-        let mut shelf = Kept::new(alloc, AppendOnly::new(shelf));
-        return serve_connections(alloc, listener, connections, idle, &mut shelf, faults);
+        let mut shelf = Kept::new(rt.alloc(), AppendOnly::new(shelf));
+        return serve_listener(rt, listener, serving, &mut shelf, faults);
     }
-    let mut shelf = Kept::new(alloc, shelf);
-    serve_connections(alloc, listener, connections, idle, &mut shelf, faults)
+    let mut shelf = Kept::new(rt.alloc(), shelf);
+    serve_listener(rt, listener, serving, &mut shelf, faults)
 }
 
 /// How a store is served.
 #[derive(Clone, Copy, Debug, PartialEq)]
 pub struct Serving {
-    /// How many connections are served, one after another.
+    /// How many connections are served in all.
     pub connections: u64,
+    /// How many at once, 1 to 256: with 1 one after another, each from its first request to its end.
+    pub at_once: usize,
     /// A connection that is idle for longer than this ends; `None`: none does.
     pub idle: Option<Duration>,
     /// The store only appends: it refuses to delete any object.
@@ -142,12 +199,13 @@ pub struct Serving {
 }
 
 /// `vault serve`: opens the store in a folder, which it holds until it ends, binds the address, writes
-/// `listening` on a line, and serves so many connections, each of which ends once it is idle for so long.
+/// `listening` on a line, and serves so many connections, so many at once, each of which ends once it is idle for so
+/// long.
 /// What the folder has is read once and remembered, since nobody else writes there.
 /// A folder that can't be opened, is no store, or is held by another server is told as `shelf failed`, an
 /// address as `not reached`, a line that can't be written as `write failed`; then nothing is served. What
 /// writes that were cut off left is removed once the address is bound.
-pub fn serve_folder<R: Files + Net + AllocGlobal + Clone + Drop, W: Write, F: Write>(
+pub fn serve_folder<R: Files + Net + Clock + AllocGlobal + Clone + Drop, W: Write, F: Write>(
     rt: &R,
     folder: &str,
     address: &str,
@@ -171,5 +229,5 @@ where
     if write_whole(output, b"listening\n").is_err() || output.flush().is_err() {
         return failed(faults, &"write failed");
     }
-    serve_shelf(rt.alloc(), &listener, serving, shelf, faults)
+    serve_shelf(rt, &listener, serving, shelf, faults)
 }

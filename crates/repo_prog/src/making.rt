@@ -5,7 +5,8 @@ ghost use Rattle.std.specs.Io.KnownBytes.{Appends};
 ghost use Rattle.repo_name.specs.declared.names.Instance.{Instance};
 ghost use Rattle.repo_name.specs.Naming.{IsInstance};
 ghost use Rattle.repo_tree.specs.ConfigText.{IsTarget};
-ghost use Rattle.repo_prog.specs.Commands.{created_line, InitGives, IsCutShort, IsEnd};
+ghost use Rattle.repo_tree.specs.Versions.{greatest_version, IsKnownTo};
+ghost use Rattle.repo_prog.specs.Commands.{created_line, InitGives, IsCutShort, IsEnd, IsMaking};
 ghost use Rattle.repo_prog.specs.declared.status.Status.{Status};
 
 use crate::status::{Status, failed};
@@ -55,7 +56,7 @@ pub fn init_command<S: Shelf, W: Write, F: Write>(
     output: &mut W,
     faults: &mut F,
 ) -> Status
-    requires version { config.now.version ≡ 1 }
+    requires version { IsKnownTo greatest_version config.now.version }
     requires target { IsTarget config.now.target }
     ensures gives { S.honest shelf.old → InitGives config.now (S.store shelf.old) (W.contents output.old) result (S.store shelf.new) (W.contents output.new) }
     ensures honest { S.honest shelf.old → S.honest shelf.new }
@@ -79,10 +80,10 @@ pub fn init_command<S: Shelf, W: Write, F: Write>(
 
 /// The config of a store that is made so.
 fn config_of(making: &Making, id: Instance) -> Config
-    ensures { result ≡ record { version = 1; id = id; params = making.now.params; target = making.now.target } }
+    ensures { result ≡ record { version = making.now.version; id = id; params = making.now.params; target = making.now.target } }
 {
     Config {
-        version: 1,
+        version: making.version,
         id,
         params: making.params,
         target: making.target,
@@ -102,7 +103,7 @@ pub fn init_folder<R: Files + AllocGlobal + RandomSource + Clone + Drop, W: Writ
 ) -> Status
 where
     R::File: HoldFile,
-    requires { IsTarget making.now.target }
+    requires { IsMaking making.now }
     ensures silent { result ≡ Status.Done → faults.new ≡ faults.old }
     ensures status { IsEnd result }
     ensures written { result ≡ Status.Done → (id : Instance) × Appends (W.contents output.old) (W.contents output.new) (created_line id) }

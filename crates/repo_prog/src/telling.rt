@@ -2,7 +2,7 @@
 
 ghost use Rattle.std.specs.Prelude.{◌≡◌, ℕ, List, IfOk, string_bytes};
 ghost use Rattle.repo_prog.specs.Commands.{IsEnd};
-ghost use Rattle.repo_prog.specs.Tellings.{lock_word, lock_line, lock_lines, snapshot_line, snapshot_lines, stored_line, complete_line, forgotten_line, forgotten_lines, pruned_line, clean_line, fault_word, fault_line, fault_lines, removed_line, Shows};
+ghost use Rattle.repo_prog.specs.Tellings.{lock_word, lock_line, lock_lines, snapshot_line, snapshot_lines, stored_line, complete_line, forgotten_line, forgotten_lines, pruned_line, upgraded_line, clean_line, fault_word, fault_line, fault_lines, removed_line, Shows};
 ghost use Rattle.repo_prog.specs.declared.status.Status.{Status};
 
 use crate::printing::printed;
@@ -104,6 +104,13 @@ pub fn pruned_line(alloc: Global, packs: u64, bytes: u64) -> Result<String, Allo
     ensures { IfOk result (λ line. string_bytes line ≡ pruned_line packs bytes) }
 {
     format!(in alloc; "pruned {packs} {bytes}\n")
+}
+
+/// The line of an upgrade.
+pub fn upgraded_line(alloc: Global) -> Result<String, AllocError>
+    ensures { IfOk result (λ line. string_bytes line ≡ upgraded_line) }
+{
+    String::from_str(alloc, "upgraded\n")
 }
 
 /// The line of a check that found nothing at fault: so many snapshots, indexes and packs, and so many blobs that the

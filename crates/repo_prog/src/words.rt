@@ -2,9 +2,9 @@
 
 ghost use Rattle.std.specs.Prelude.{◌≡◌, ◌↔◌, ◌*◌, IfOk, IfSome, IsNone, IsSome};
 ghost use Rattle.std.specs.Duration.{as_nanos};
-ghost use Rattle.repo_chunk.specs.Parameters.{AreLawful};
 ghost use Rattle.repo_tree.specs.ConfigText.{IsTarget};
-ghost use Rattle.repo_prog.specs.Commands.{IsOrder};
+ghost use Rattle.repo_tree.specs.Versions.{greatest_version, IsKnownTo};
+ghost use Rattle.repo_prog.specs.Commands.{IsAtOnce, IsMaking, IsOrder};
 
 use crate::errands::{Errand, errand_of, retry_of, with_errands};
 use crate::help::{FRAMES, INIT, LOOP, PLAY, SERVE};
@@ -12,6 +12,7 @@ use crate::listening::Serving;
 use clap::{Arg, ArgAction, ArgMatches, Command};
 use repo_chunk::Params;
 use repo_name::{GREATEST_TARGET, LEAST_TARGET};
+use repo_tree::GREATEST_VERSION;
 use std::alloc::{AllocError, Global};
 use std::time::Duration;
 
@@ -22,6 +23,8 @@ pub struct Making {
     pub params: Params,
     /// How many bytes of blobs a pack has before the next one is begun, 1,024 to 16,777,216.
     pub target: u64,
+    /// The version of its formats, 1 or 2.
+    pub version: u64,
 }
 
 /// What the words ask for.
@@ -115,7 +118,8 @@ fn init_words<'a>(alloc: Global) -> Result<Command<'a>, AllocError> {
     let command = with_word(command, number(alloc, "min", "524288"))?;
     let command = with_word(command, number(alloc, "max", "8388608"))?;
     let command = with_word(command, number(alloc, "bits", "20"))?;
-    with_word(command, number(alloc, "target", "16777216"))
+    let command = with_word(command, number(alloc, "target", "16777216"))?;
+    with_word(command, number(alloc, "format", "1"))
 }
 
 /// How many seconds a connection may say nothing.
@@ -128,11 +132,12 @@ fn idle<'a>(alloc: Global) -> Result<Arg<'a>, AllocError> {
 
 fn serve_words<'a>(alloc: Global) -> Result<Command<'a>, AllocError> {
     let command = Command::new(alloc, "serve")
-        .about("Serves the store in a folder to one connection after another")
+        .about("Serves the store in a folder to connections, one after another or several at once")
         .after_help(SERVE);
     let command = with_word(command, Ok(needed(alloc, "DIR")))?;
     let command = with_word(command, Ok(needed(alloc, "ADDR")))?;
     let command = with_word(command, number(alloc, "connections", "1"))?;
+    let command = with_word(command, number(alloc, "at-once", "1"))?;
     let command = with_word(command, idle(alloc))?;
     with_word(command, Ok(flag(alloc, "append-only")))
 }
@@ -187,28 +192,36 @@ pub fn word_of(alloc: Global, matches: &ArgMatches, name: &str) -> Result<String
     }
 }
 
-/// How a store is made by these numbers: a chunk's least and greatest length, how many low bits end one, and the
-/// bytes of a pack. `None` where one of them is outside its limits.
-fn making_by(min: u64, max: u64, bits: u64, target: u64) -> Option<Making>
-    ensures some { IsSome result ↔ (AreLawful (record { min = min; max = max; bits = bits }) × IsTarget target) }
-    ensures value { IfSome result (λ making. making ≡ record { params = record { min = min; max = max; bits = bits }; target = target }) }
+/// How a store is made by these numbers: the rule by which files are cut, the bytes of a pack, and the version. `None` where one
+/// of the last two is outside its limits.
+fn making_by(params: Params, target: u64, version: u64) -> Option<Making>
+    ensures some { IsSome result ↔ (IsTarget target × IsKnownTo greatest_version version) }
+    ensures value { IfSome result (λ making. making ≡ record { params = params; target = target; version = version }) }
 {
-    let Ok(params) = Params::new(min, max, bits) else {
-        return None;
-    };
     if target < LEAST_TARGET || target > GREATEST_TARGET {
         return None;
     }
-    Some(Making { params, target })
+    if version < 1 || version > GREATEST_VERSION {
+        return None;
+    }
+    Some(Making {
+        params,
+        target,
+        version,
+    })
 }
 
 /// How the words say that a store is made.
 fn making_of(matches: &ArgMatches) -> Result<Making, WordsError>
-    ensures { IfOk result (λ making. IsTarget making.target) }
+    ensures { IfOk result IsMaking }
 {
     let (min, max) = (number_of(matches, "min")?, number_of(matches, "max")?);
     let (bits, target) = (number_of(matches, "bits")?, number_of(matches, "target")?);
-    match making_by(min, max, bits, target) {
+    let version = number_of(matches, "format")?;
+    let Ok(params) = Params::new(min, max, bits) else {
+        return Err(WordsError::BadArgument);
+    };
+    match making_by(params, target, version) {
         Some(making) => Ok(making),
         None => Err(WordsError::BadArgument),
     }
@@ -233,6 +246,20 @@ fn idle_of(seconds: u64) -> Option<Duration>
     Some(Duration::from_secs(seconds))
 }
 
+/// The most connections that may be served at once.
+const AT_ONCE: u64 = 256;
+
+/// How many connections are served at once, by a number. `None` where that is outside its limits.
+fn at_once_of(number: u64) -> Option<usize>
+    ensures some { IsSome result ↔ IsAtOnce number }
+    ensures value { IfSome result (λ count. count ≡ number) }
+{
+    if number < 1 || number > AT_ONCE {
+        return None;
+    }
+    Some(number as usize)
+}
+
 fn serve_order(alloc: Global, matches: &ArgMatches) -> Result<Order, WordsError>
     ensures { IfOk result IsOrder }
 {
@@ -242,10 +269,14 @@ fn serve_order(alloc: Global, matches: &ArgMatches) -> Result<Order, WordsError>
     if connections == 0 {
         return Err(WordsError::BadArgument);
     }
+    let Some(at_once) = at_once_of(number_of(matches, "at-once")?) else {
+        return Err(WordsError::BadArgument);
+    };
     let idle = idle_of(number_of(matches, "idle")?);
     let append_only = matches.get_flag("append-only");
     let serving = Serving {
         connections,
+        at_once,
         idle,
         append_only,
     };

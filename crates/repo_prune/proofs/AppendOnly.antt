@@ -21,7 +21,7 @@ use Rattle.repo_session.specs.Order.{Task, IsPermitted, Obeys}
 use Rattle.repo_session.specs.Talks.{Talk, trace_of}
 use Rattle.repo_session.specs.Told.{AskedToDelete}
 use Rattle.repo_session.specs.Traces.{Exchange, Trace, WasAsked, Lists, page_names}
-use Rattle.repo_session.proofs.Concluding.{EndsEither, calm_of, either, ends_either, exchanged_before, known}
+use Rattle.repo_session.proofs.Concluding.{EndsEither, calm_of, either, ends_either, exchanged_before, known, puts_none}
 use Rattle.repo_session.proofs.Growing.{Led, led, answered, no_done}
 use Rattle.repo_session.proofs.Spoken.{held_agree, was_asked}
 use Rattle.repo_writing.specs.Writing.{Listing, IsDone}
@@ -70,6 +70,7 @@ forgets_none choice es none (Outcome.Listed rows) own = absurd own
 forgets_none choice es none (Outcome.Pruned packs bytes) own = absurd own
 forgets_none choice es none (Outcome.Clean snapshots indexes packs blobs) own = absurd own
 forgets_none choice es none (Outcome.Faults faults) own = absurd own
+forgets_none choice es none Outcome.Upgraded own = absurd own
 forgets_none choice es none (Outcome.Ended end) own = absurd own
 
 forgets_nothing : (from : Store) (choice : Choice) (es : Trace) (outcome : Option Outcome) → NoneDone (before_unlock es) → EndsEither from (ForgetConcludes choice) es outcome → ForgetsNothing outcome
@@ -77,11 +78,11 @@ forgets_nothing from choice es None none h = h
 forgets_nothing from choice es (Some outcome) none h = ⊎_elim inl (λ other. inr (⊎_elim (λ barred. inl barred.0) (λ own. inr (forgets_none choice (before_unlock es) none outcome own)) other)) h
 
 pub forget_barred : ForgetOfAppendOnly
-forget_barred who choice from to failed talk outcome fit appends apart low ran few is =
+forget_barred who choice from to failed talk outcome fit versions appends apart low ran few is =
     let es : Trace = trace_of talk in
     let h = led from talk to ran.run in
     forgets_nothing from choice es outcome (λ k n d. none_done (forget_task who) (ForgetAllows choice) (ForgetGives choice) from fit appends talk to h is.obeys k n (d.0, exchanged_before es (Ask.Delete d.0 k n) Say.Done d.1))
-    (ends_either (forget_task who) (ForgetAllows choice) (ForgetGives choice) (ForgetConcludes choice) (λ fs ask o permitted reading. forgets.undeleted fs (forgets.read_first choice fs ask permitted reading)) from fit tt talk to outcome is h
+    (ends_either (forget_task who) (ForgetAllows choice) (ForgetGives choice) (ForgetConcludes choice) (λ fs ask o permitted reading. forgets.undeleted fs (forgets.read_first choice fs ask permitted reading)) from fit tt versions (puts_none (forget_task who) (ForgetAllows choice) (λ fs token n x p. p.0)) talk to outcome is h
     (forgets.throughout who choice from fit.sound apart talk is.obeys) (calm_of failed talk low ran.cause) few)
 
 -- ---- a prune
@@ -145,6 +146,7 @@ no_name (Ask.Get k n) none = refl
 no_name (Ask.Range pack offset len) none = refl
 no_name (Ask.Put token k n x) none = refl
 no_name Ask.Config none = refl
+no_name (Ask.Upgrade token) none = refl
 
 no_names : (es : Trace) → ((n : Name) → ¬ AskedToDelete es Kind.Pack n) → names_deleted Kind.Pack es ≡ []
 no_names [] none = refl
@@ -169,6 +171,7 @@ prunes_none who es o none (Outcome.Listed rows) well own = inl well
 prunes_none who es o none (Outcome.Forgotten names) well own = inl well
 prunes_none who es o none (Outcome.Clean snapshots indexes packs blobs) well own = inl well
 prunes_none who es o none (Outcome.Faults faults) well own = inl well
+prunes_none who es o none Outcome.Upgraded well own = inl well
 prunes_none who es o none (Outcome.Ended end) well own = inl well
 
 prunes_no_pack : (from : Store) (es : Trace) (outcome : Option Outcome) → ((o : Outcome) → PruneConcludes (before_unlock es) o → PrunesNoPack (Some o)) → EndsEither from PruneConcludes es outcome → PrunesNoPack outcome
@@ -176,11 +179,11 @@ prunes_no_pack from es None own h = h
 prunes_no_pack from es (Some outcome) own h = ⊎_elim inl (λ other. ⊎_elim (λ barred. inr (inl barred.0)) (own outcome) other) h
 
 pub prune_barred : PruneOfAppendOnly
-prune_barred who from to failed talk outcome fit appends apart low ran few is =
+prune_barred who from to failed talk outcome fit versions appends apart low ran few is =
     let es : Trace = trace_of talk in
     let h = led from talk to ran.run in
     let agree = held_agree from (IsSent es None) (λ x. ⊥) apart from.objects (λ k n x p. inl (n, p)) fit.sound.named in
     let none = none_done (prune_task who) PruneAllows PruneGives from fit appends talk to h is.obeys in
     prunes_no_pack from es outcome (λ other own. prunes_none who es is.obeys none other (own_before who from fit agree talk to is.obeys h other own) own)
-    (ends_either (prune_task who) PruneAllows PruneGives PruneConcludes (λ fs ask o permitted reading. forgets.undeleted fs (prune_reads_first fs ask permitted reading)) from fit tt talk to outcome is h
+    (ends_either (prune_task who) PruneAllows PruneGives PruneConcludes (λ fs ask o permitted reading. forgets.undeleted fs (prune_reads_first fs ask permitted reading)) from fit tt versions (puts_none (prune_task who) PruneAllows (λ fs token n x p. p)) talk to outcome is h
     (prunes.throughout who from fit.sound (IsSent es None) apart talk is.obeys (λ ask w. w)) (calm_of failed talk low ran.cause) few)

@@ -20,12 +20,14 @@ abbrev pub IsAside : Ask → Type 0
 IsAside (Ask.Range pack offset len) = ⊤
 IsAside (Ask.Put token k n x) = ⊤
 IsAside (Ask.Delete token k n) = ⊤
+IsAside (Ask.Upgrade token) = ⊤
 IsAside _ = ⊥
 
 no_page : (k : Kind) (ask : Ask) (say : Say) → IsAside ask → page_names k ask say ≡ []
 no_page k (Ask.Range pack offset len) say h = refl
 no_page k (Ask.Put token j n x) say h = refl
 no_page k (Ask.Delete token j n) say h = refl
+no_page k (Ask.Upgrade token) say h = refl
 no_page k (Ask.List j after) say h = absurd h
 no_page k (Ask.Get j n) say h = absurd h
 no_page k Ask.Ticket say h = absurd h
@@ -39,6 +41,7 @@ no_last : (k : Kind) (ask : Ask) (say : Say) → IsAside ask → is_last_page k 
 no_last k (Ask.Range pack offset len) say h = refl
 no_last k (Ask.Put token j n x) say h = refl
 no_last k (Ask.Delete token j n) say h = refl
+no_last k (Ask.Upgrade token) say h = refl
 no_last k (Ask.List j after) say h = absurd h
 no_last k (Ask.Get j n) say h = absurd h
 no_last k Ask.Ticket say h = absurd h

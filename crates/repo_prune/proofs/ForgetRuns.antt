@@ -19,7 +19,7 @@ use Rattle.repo_session.specs.Soundness.{IsSound}
 use Rattle.repo_session.specs.Talks.{Talk, trace_of}
 use Rattle.repo_session.specs.Traces.{Trace}
 use Rattle.repo_session.proofs.Changing.{removing_snapshot_keeps_sound}
-use Rattle.repo_session.proofs.Concluding.{IsSoundThroughout, IsUndeleted, calm_of, ends_well}
+use Rattle.repo_session.proofs.Concluding.{IsSoundThroughout, IsUndeleted, calm_of, ends_well, puts_none}
 use Rattle.repo_session.proofs.Growing.{Led, led, step_moves}
 use Rattle.repo_session.proofs.Rolling.{same_self}
 use Rattle.repo_session.proofs.Spoken.{held_agree}
@@ -61,6 +61,7 @@ read_first choice es (Ask.Unlock token) h r = absurd r
 read_first choice es Ask.Locks h r = absurd r
 read_first choice es (Ask.Put token k n x) h r = absurd r
 read_first choice es (Ask.Delete token k n) h r = absurd r
+read_first choice es (Ask.Upgrade token) h r = absurd r
 read_first choice es Ask.Config h r = absurd r
 
 -- ---- what a step leaves
@@ -127,6 +128,8 @@ forgotten_well choice es (Outcome.Clean snapshots indexes packs blobs) (inl h) =
 forgotten_well choice es (Outcome.Clean snapshots indexes packs blobs) (inr h) = absurd h
 forgotten_well choice es (Outcome.Faults faults) (inl h) = h
 forgotten_well choice es (Outcome.Faults faults) (inr h) = absurd h
+forgotten_well choice es Outcome.Upgraded (inl h) = h
+forgotten_well choice es Outcome.Upgraded (inr h) = absurd h
 forgotten_well choice es (Outcome.Ended end) (inl h) = h
 forgotten_well choice es (Outcome.Ended end) (inr h) = absurd h
 
@@ -135,7 +138,7 @@ forget_well choice es None h = h
 forget_well choice es (Some outcome) h = forgotten_well choice (before_unlock es) outcome h
 
 pub forget_ends : ForgetEndsWell
-forget_ends who choice from to failed talk outcome fit deletes apart low ran few is =
+forget_ends who choice from to failed talk outcome fit versions deletes apart low ran few is =
     forget_well choice (trace_of talk) outcome
-    (ends_well (forget_task who) (ForgetAllows choice) (ForgetGives choice) (ForgetConcludes choice) (λ es ask o permitted reading. undeleted es (read_first choice es ask permitted reading)) from fit tt (λ es token k n allowed. deletes) talk to outcome is (led from talk to ran.run)
+    (ends_well (forget_task who) (ForgetAllows choice) (ForgetGives choice) (ForgetConcludes choice) (λ es ask o permitted reading. undeleted es (read_first choice es ask permitted reading)) from fit tt versions (puts_none (forget_task who) (ForgetAllows choice) (λ es token n x h. h.0)) (λ es token k n allowed. deletes) talk to outcome is (led from talk to ran.run)
     (throughout who choice from fit.sound apart talk is.obeys) (calm_of failed talk low ran.cause) few)

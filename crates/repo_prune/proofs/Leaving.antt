@@ -49,6 +49,7 @@ unlock_or (Ask.Get k n) whole older = inl refl
 unlock_or (Ask.Range pack offset len) whole older = inl refl
 unlock_or (Ask.Put token k n x) whole older = inl refl
 unlock_or (Ask.Delete token k n) whole older = inl refl
+unlock_or (Ask.Upgrade token) whole older = inl refl
 unlock_or Ask.Config whole older = inl refl
 
 names_before : (k : Kind) (es : Trace) → names_in k (before_unlock es) ≡ names_in k es

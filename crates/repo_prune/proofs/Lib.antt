@@ -23,3 +23,5 @@ pub mod PruneDeletes
 pub mod Pairs
 pub mod PruneMoves
 pub mod PrunePacks
+pub mod UpgradeRuns
+pub mod UpgradeSteps

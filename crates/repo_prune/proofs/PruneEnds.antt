@@ -29,7 +29,7 @@ use Rattle.repo_session.specs.Talks.{Talk, trace_of}
 use Rattle.repo_session.specs.Told.{AskedToPut}
 use Rattle.repo_session.specs.Traces.{Trace, Object, WasAsked, Lists, ReadFact}
 use Rattle.repo_session.specs.Trees.{HasRoot, IsUnindexed}
-use Rattle.repo_session.proofs.Concluding.{calm_of, either, ends_well, known}
+use Rattle.repo_session.proofs.Concluding.{calm_of, either, ends_well, known, puts_none}
 use Rattle.repo_name.proofs.Containing.{none_contained}
 use Rattle.repo_session.proofs.Descending.{under_grows, needed_grows, broken_grows, needed_there, unbroken}
 use Rattle.repo_session.proofs.Enumerating.{listed_or_put}
@@ -53,6 +53,7 @@ prune_reads_first es (Ask.Unlock token) h r = absurd r
 prune_reads_first es Ask.Locks h r = absurd r
 prune_reads_first es (Ask.Put token k n x) h r = absurd r
 prune_reads_first es (Ask.Delete token k n) h r = absurd r
+prune_reads_first es (Ask.Upgrade token) h r = absurd r
 prune_reads_first es Ask.Config h r = absurd r
 
 module _ (who : Asker) (from : Store) (fit : IsFit from) (agree : Agree (IsHeld from.objects) (IsHeld from.objects)) (talk : Talk) (to : Store) (o : Obeys (prune_task who) PruneAllows PruneGives (trace_of talk)) (h : Led from talk to)
@@ -124,6 +125,7 @@ module _ (who : Asker) (from : Store) (fit : IsFit from) (agree : Agree (IsHeld 
   own_well talk to o h (Outcome.Forgotten names) own = absurd own
   own_well talk to o h (Outcome.Clean snapshots indexes packs blobs) own = absurd own
   own_well talk to o h (Outcome.Faults faults) own = absurd own
+  own_well talk to o h Outcome.Upgraded own = absurd own
   own_well talk to o h (Outcome.Ended (End.BadObject Thing.Tree tree)) own = absurd (no_bad_tree who from fit agree talk to o h own.0 tree own.1)
   own_well talk to o h (Outcome.Ended (End.BadObject Thing.Content name)) own = absurd own
   own_well talk to o h (Outcome.Ended (End.BadObject Thing.Pack name)) own = absurd own
@@ -136,6 +138,7 @@ module _ (who : Asker) (from : Store) (fit : IsFit from) (agree : Agree (IsHeld 
   own_well talk to o h (Outcome.Ended End.BadReply) own = absurd own
   own_well talk to o h (Outcome.Ended End.Version) own = absurd own
   own_well talk to o h (Outcome.Ended End.DirectoryTooLarge) own = absurd own
+  own_well talk to o h (Outcome.Ended End.FileTooLarge) own = absurd own
 
   pub own_before : (talk : Talk) (to : Store) → Obeys (prune_task who) PruneAllows PruneGives (trace_of talk) → Led from talk to → (outcome : Outcome) → PruneConcludes (before_unlock (trace_of talk)) outcome → IsPrunedOrMemory (Some outcome)
   own_before [] to o h outcome own = own_well [] to o h outcome own
@@ -148,9 +151,9 @@ prune_well es None own h = h
 prune_well es (Some outcome) own h = ⊎_elim (λ (q : outcome ≡ Outcome.Ended (End.Refused Code.NoMemory)). subst (λ x. IsPrunedOrMemory (Some x)) (sym q) refl) (own outcome) h
 
 pub prune_ends : PruneEndsWell
-prune_ends who from to failed talk outcome fit deletes apart low ran few is =
+prune_ends who from to failed talk outcome fit versions deletes apart low ran few is =
     let h = led from talk to ran.run in
     let agree = held_agree from (IsSent (trace_of talk) None) (λ x. ⊥) apart from.objects (λ k n x p. inl (n, p)) fit.sound.named in
     prune_well (trace_of talk) outcome (own_before who from fit agree talk to is.obeys h)
-    (ends_well (prune_task who) PruneAllows PruneGives PruneConcludes (λ es ask o permitted reading. undeleted es (prune_reads_first es ask permitted reading)) from fit tt (λ es token k n allowed. deletes) talk to outcome is h
+    (ends_well (prune_task who) PruneAllows PruneGives PruneConcludes (λ es ask o permitted reading. undeleted es (prune_reads_first es ask permitted reading)) from fit tt versions (puts_none (prune_task who) PruneAllows (λ es token n x p. p)) (λ es token k n allowed. deletes) talk to outcome is h
     (throughout who from fit.sound (IsSent (trace_of talk) None) apart talk is.obeys (λ ask w. w)) (calm_of failed talk low ran.cause) few)

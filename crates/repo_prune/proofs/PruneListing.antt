@@ -49,6 +49,7 @@ other_page j k (Ask.Get i n) (Say.Refused code) other h = refl
 other_page j k (Ask.Range pack offset len) say other h = absurd h
 other_page j k (Ask.Put t i n x) say other h = absurd h
 other_page j k (Ask.Delete t i n) say other h = absurd h
+other_page j k (Ask.Upgrade t) say other h = absurd h
 other_page j k Ask.Config say other h = absurd h
 
 other_last_page : (j k i : Kind) (after : Option Name) (more : Bool) (names : List Name) → same_kind j k ≡ false → i ≡ j → is_last_page k (Ask.List i after) (Say.Names more names) ≡ false
@@ -76,6 +77,7 @@ other_last j k (Ask.Get i n) (Say.Refused code) other h = refl
 other_last j k (Ask.Range pack offset len) say other h = absurd h
 other_last j k (Ask.Put t i n x) say other h = absurd h
 other_last j k (Ask.Delete t i n) say other h = absurd h
+other_last j k (Ask.Upgrade t) say other h = absurd h
 other_last j k Ask.Config say other h = absurd h
 
 other_object : (j k : Kind) (ask : Ask) (say : Say) → same_kind j k ≡ false → IsListingOf j ask → object_got k ask say ≡ []
@@ -99,6 +101,7 @@ other_object j k (Ask.Get i n) (Say.Refused code) other h = refl
 other_object j k (Ask.Range pack offset len) say other h = absurd h
 other_object j k (Ask.Put t i n x) say other h = absurd h
 other_object j k (Ask.Delete t i n) say other h = absurd h
+other_object j k (Ask.Upgrade t) say other h = absurd h
 other_object j k Ask.Config say other h = absurd h
 
 module _ (j k : Kind) (e : Exchange) (other : same_kind j k ≡ false) (listing : IsListingOf j e.ask) where
@@ -147,6 +150,7 @@ listing_same j (Ask.Get i n) h = record { puts = λ k. refl; deletes = λ k. ref
 listing_same j (Ask.Range pack offset len) h = absurd h
 listing_same j (Ask.Put t i n x) h = absurd h
 listing_same j (Ask.Delete t i n) h = absurd h
+listing_same j (Ask.Upgrade t) h = absurd h
 listing_same j Ask.Config h = absurd h
 
 pub listing_reads : (j : Kind) (ask : Ask) → IsListingOf j ask → (es : Trace) → NoneDeleted es → PruneAllows es ask
@@ -160,6 +164,7 @@ listing_reads j (Ask.Get i n) h = λ es none. (tt, none)
 listing_reads j (Ask.Range pack offset len) h = absurd h
 listing_reads j (Ask.Put t i n x) h = absurd h
 listing_reads j (Ask.Delete t i n) h = absurd h
+listing_reads j (Ask.Upgrade t) h = absurd h
 listing_reads j Ask.Config h = absurd h
 
 pub listing_untouched : (j : Kind) (e : Exchange) (es : Trace) → IsListingOf j e.ask → IsUntouched es → IsUntouched (e ∷ es)
@@ -176,6 +181,7 @@ roll_listing roll (Ask.Get i n) es h = h.0
 roll_listing roll (Ask.Range pack offset len) es h = absurd h
 roll_listing roll (Ask.Put t i n x) es h = absurd h
 roll_listing roll (Ask.Delete t i n) es h = absurd h
+roll_listing roll (Ask.Upgrade t) es h = absurd h
 roll_listing roll Ask.Config es h = absurd h
 
 pub index_listing : (c : Catalog) (ask : Ask) (es : Trace) → KnowsIndexes c ask es → IsListingOf Kind.Index ask
@@ -189,6 +195,7 @@ index_listing c (Ask.Get i n) es h = h.0
 index_listing c (Ask.Range pack offset len) es h = absurd h
 index_listing c (Ask.Put t i n x) es h = absurd h
 index_listing c (Ask.Delete t i n) es h = absurd h
+index_listing c (Ask.Upgrade t) es h = absurd h
 index_listing c Ask.Config es h = absurd h
 
 -- ---- what the job knows of it
@@ -208,6 +215,7 @@ snapshots_known j (Ask.Get Kind.Pack n) es is h = absurd (cc)
 snapshots_known j (Ask.Range pack offset len) es is h = absurd is
 snapshots_known j (Ask.Put t i n x) es is h = absurd is
 snapshots_known j (Ask.Delete t i n) es is h = absurd is
+snapshots_known j (Ask.Upgrade t) es is h = absurd is
 snapshots_known j Ask.Config es is h = absurd is
 
 pub snapshots_back : (j : PruneJob) (ask : Ask) (es : Trace) → IsListingOf Kind.Snapshot ask → ReadsSnapshots j ask es → KnowsPrune j ask es
@@ -225,6 +233,7 @@ snapshots_back j (Ask.Get Kind.Pack n) es is h = absurd (cc)
 snapshots_back j (Ask.Range pack offset len) es is h = absurd is
 snapshots_back j (Ask.Put t i n x) es is h = absurd is
 snapshots_back j (Ask.Delete t i n) es is h = absurd is
+snapshots_back j (Ask.Upgrade t) es is h = absurd is
 snapshots_back j Ask.Config es is h = absurd is
 
 pub indexes_known : (j : PruneJob) (ask : Ask) (es : Trace) → IsListingOf Kind.Index ask → KnowsPrune j ask es → ReadsIndexes j ask es
@@ -242,6 +251,7 @@ indexes_known j (Ask.Get Kind.Pack n) es is h = absurd (cc)
 indexes_known j (Ask.Range pack offset len) es is h = absurd is
 indexes_known j (Ask.Put t i n x) es is h = absurd is
 indexes_known j (Ask.Delete t i n) es is h = absurd is
+indexes_known j (Ask.Upgrade t) es is h = absurd is
 indexes_known j Ask.Config es is h = absurd is
 
 pub indexes_back : (j : PruneJob) (ask : Ask) (es : Trace) → IsListingOf Kind.Index ask → ReadsIndexes j ask es → KnowsPrune j ask es
@@ -259,6 +269,7 @@ indexes_back j (Ask.Get Kind.Pack n) es is h = absurd (cc)
 indexes_back j (Ask.Range pack offset len) es is h = absurd is
 indexes_back j (Ask.Put t i n x) es is h = absurd is
 indexes_back j (Ask.Delete t i n) es is h = absurd is
+indexes_back j (Ask.Upgrade t) es is h = absurd is
 indexes_back j Ask.Config es is h = absurd is
 
 pub packs_known : (j : PruneJob) (ask : Ask) (es : Trace) → IsListingOf Kind.Pack ask → KnowsPrune j ask es → ListsPacks j ask es
@@ -276,6 +287,7 @@ packs_known j (Ask.Get Kind.Pack n) es is h = h
 packs_known j (Ask.Range pack offset len) es is h = absurd is
 packs_known j (Ask.Put t i n x) es is h = absurd is
 packs_known j (Ask.Delete t i n) es is h = absurd is
+packs_known j (Ask.Upgrade t) es is h = absurd is
 packs_known j Ask.Config es is h = absurd is
 
 pub packs_back : (j : PruneJob) (ask : Ask) (es : Trace) → IsListingOf Kind.Pack ask → ListsPacks j ask es → KnowsPrune j ask es
@@ -293,6 +305,7 @@ packs_back j (Ask.Get Kind.Pack n) es is h = h
 packs_back j (Ask.Range pack offset len) es is h = absurd is
 packs_back j (Ask.Put t i n x) es is h = absurd is
 packs_back j (Ask.Delete t i n) es is h = absurd is
+packs_back j (Ask.Upgrade t) es is h = absurd is
 packs_back j Ask.Config es is h = absurd is
 
 -- ---- from a stage to the job
@@ -316,6 +329,7 @@ no_listing k (Stage.Deleting d) (Ask.Get i n) j es is h = h
 no_listing k stage (Ask.Range pack offset len) j es is h = is
 no_listing k stage (Ask.Put t i n x) j es is h = is
 no_listing k stage (Ask.Delete t i n) j es is h = is
+no_listing k stage (Ask.Upgrade t) j es is h = is
 no_listing k stage Ask.Config j es is h = is
 
 pub later_known : (j : PruneJob) (ask : Ask) (es : Trace) → KnowsStage (known_in j) j.stage ask es → KnowsPrune j ask es
@@ -333,6 +347,7 @@ later_known j (Ask.Get Kind.Pack n) es h = absurd (no_listing (known_in j) j.sta
 later_known j (Ask.Range pack offset len) es h = h
 later_known j (Ask.Put t i n x) es h = h
 later_known j (Ask.Delete t i n) es h = h
+later_known j (Ask.Upgrade t) es h = h
 later_known j Ask.Config es h = h
 
 -- the next step is one that the job may take

@@ -19,6 +19,8 @@ use Rattle.repo_tree.specs.Laws.{Grows}
 use Rattle.repo_tree.specs.Parts.{ListsBy, IsTree}
 use Rattle.repo_tree.specs.Spelling.{Reach}
 use Rattle.repo_tree.specs.declared.nodes.Node.{Node}
+use Rattle.repo_session.specs.Versions.{snapshot_version}
+use Rattle.repo_session.proofs.Faulting.{first_version}
 use Rattle.repo_session.specs.declared.outcomes.End.{End}
 use Rattle.repo_session.specs.declared.outcomes.Outcome.{Outcome}
 use Rattle.repo_session.specs.Askers.{Asker}
@@ -79,7 +81,7 @@ module _ (es : Trace) (rows : List Row) (l : IsSnapshotListing es rows) (row : R
   row_is = each_contained (IsReadRow es) rows row l.each among
 
   pub row_version : row.1.version ≡ 1
-  row_version = row_is.2.known
+  row_version = first_version row.1.version row_is.2.known row_is.3
 
   pub row_listed : Lists es Kind.Snapshot row.0
   row_listed = contained_has _ row.0 (subst (λ ns. Contains ns row.0) l.names (contains_map (λ (r : Row). r.0) rows row among))
@@ -154,6 +156,7 @@ module _ (k : Known) (es : Trace) (texts : List (List ℕ)) (roots : List Name) 
   cannot_go_on untouched End.BadReply h = absurd h
   cannot_go_on untouched End.Version h = absurd h
   cannot_go_on untouched End.DirectoryTooLarge h = absurd h
+  cannot_go_on untouched End.FileTooLarge h = absurd h
 
 -- what an index says is within range
 pub read_within : (es : Trace) (fact : Fact) → ReadFact es fact → IsWithin fact.place.offset fact.place.length
@@ -285,13 +288,13 @@ walk_more k texts trees new fact e es x over a is promised roots =
 
 -- the tree's bytes are bad, or it can't go on
 pub tree_ended : (k : Known) (texts : List (List ℕ)) (trees new : Trees) (fact : Fact) (e : Exchange) (es : Trace) (end : End) → IsWalkOver k texts trees es → Awaits k.facts texts trees fact → e.ask ≡ range_of fact
-    → new.roots ≡ trees.roots → TakesTree k.facts texts fact e.say new (Walked.Ended end) → Concludes PruneConcludes (e ∷ es) (Outcome.Ended end)
+    → new.roots ≡ trees.roots → TakesTree k.facts texts fact e.say new (Walked.Ended end) → Concludes snapshot_version PruneConcludes (e ∷ es) (Outcome.Ended end)
 tree_ended k texts trees new fact e es end over a is roots (inl (x, said, bad, same)) =
     let given = awaited_read k es texts trees fact over.read a in
     let kind : blob_thing fact.kind ≡ Thing.Tree = ap blob_thing a.next.0 in
     let at : IsBad (e ∷ es) (range_of fact) e.say (blob_thing fact.kind) fact.name = (x, fact, said, fact_stays e es fact given, refl, refl, refl, refl, refl, bad) in
     let there : IsBad (e ∷ es) e.ask e.say Thing.Tree fact.name = subst (λ t. IsBad (e ∷ es) e.ask e.say t fact.name) kind (subst (λ q. IsBad (e ∷ es) q e.say (blob_thing fact.kind) fact.name) (sym is) at) in
-    subst (λ z. Concludes PruneConcludes (e ∷ es) (Outcome.Ended z)) (sym same) (inl (inl there))
+    subst (λ z. Concludes snapshot_version PruneConcludes (e ∷ es) (Outcome.Ended z)) (sym same) (inl (inl there))
 tree_ended k texts trees new fact e es end over a is roots (inr (x, promised, why)) =
     let more = walk_more k texts trees new fact e es x over a is promised roots in
     inr (cannot_go_on k (e ∷ es) (texts ++ x ∷ []) new.roots.items more.read more.roots more.received more.untouched end why)

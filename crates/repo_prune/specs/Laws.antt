@@ -8,7 +8,8 @@ use Rattle.repo_store.specs.Laws.{greatest_count}
 use Rattle.repo_store.specs.Pages.{Has}
 use Rattle.repo_store.specs.Stores.{Store}
 use Rattle.repo_tree.specs.SnapshotText.{IsSnapshotText}
-use Rattle.repo_session.specs.Alone.{IsFit, IsSent, IsSpoken, NoClash}
+use Rattle.repo_session.specs.Versions.{upto}
+use Rattle.repo_session.specs.Alone.{IsFit, AreVersionsUpto, IsSent, IsSpoken, NoClash}
 use Rattle.repo_session.specs.Askers.{Asker}
 use Rattle.repo_session.specs.Clients.{IsObedient}
 use Rattle.repo_session.specs.Soundness.{IsSound}
@@ -48,7 +49,7 @@ IsForgottenOrMemory (Some outcome) = outcome ≡ Outcome.Ended (End.Refused Code
 
 abbrev pub ForgetEndsWell : Type 0
 ForgetEndsWell = (who : Asker) (choice : Choice) (from to : Store) (failed : ℕ) (talk : Talk) (outcome : Option Outcome)
-    → IsFit from → from.append_only ≡ false → AreStoredApart from → failed < greatest_count → TalkRan from failed talk to failed → length talk < 2 ^ 64 - 1 → IsForget who choice None outcome (trace_of talk) → IsForgottenOrMemory outcome
+    → IsFit from → AreVersionsUpto (upto (forget_task who).versions) from → from.append_only ≡ false → AreStoredApart from → failed < greatest_count → TalkRan from failed talk to failed → length talk < 2 ^ 64 - 1 → IsForget who choice None outcome (trace_of talk) → IsForgottenOrMemory outcome
 
 -- a forget alone with a store in which it finds all that it wants, which only appends, and whose device doesn't fail, forgets nothing: it is refused for that
 -- mode, or forgot no snapshot, or the store had no memory
@@ -58,7 +59,7 @@ ForgetsNothing (Some outcome) = (outcome ≡ Outcome.Ended (End.Refused Code.NoM
 
 abbrev pub ForgetOfAppendOnly : Type 0
 ForgetOfAppendOnly = (who : Asker) (choice : Choice) (from to : Store) (failed : ℕ) (talk : Talk) (outcome : Option Outcome)
-    → IsFit from → from.append_only ≡ true → AreStoredApart from → failed < greatest_count → TalkRan from failed talk to failed → length talk < 2 ^ 64 - 1 → IsForget who choice None outcome (trace_of talk) → ForgetsNothing outcome
+    → IsFit from → AreVersionsUpto (upto (forget_task who).versions) from → from.append_only ≡ true → AreStoredApart from → failed < greatest_count → TalkRan from failed talk to failed → length talk < 2 ^ 64 - 1 → IsForget who choice None outcome (trace_of talk) → ForgetsNothing outcome
 
 -- rows are those of a store's snapshots: each is what the store has under its name, and none is left out
 pub record AreSnapshotsOf (store : Store) (rows : List Row) : Type 0 where

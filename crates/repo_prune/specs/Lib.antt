@@ -12,4 +12,8 @@ pub mod Relisting
 pub mod PruneStates
 pub mod PruneObedience
 pub mod Laws
+pub mod Upgrading
+pub mod UpgradeStates
+pub mod UpgradeObedience
+pub mod UpgradeLaws
 pub mod inner

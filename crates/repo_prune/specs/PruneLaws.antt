@@ -14,7 +14,8 @@ use Rattle.repo_index.specs.declared.facts.Fact.{Fact}
 use Rattle.repo_tree.specs.SnapshotText.{IsSnapshotText}
 use Rattle.repo_tree.specs.Spelling.{Reach}
 use Rattle.repo_tree.specs.declared.snapshots.Snapshot.{Snapshot}
-use Rattle.repo_session.specs.Alone.{IsFit, IsSent, IsSpoken, NoClash}
+use Rattle.repo_session.specs.Versions.{upto}
+use Rattle.repo_session.specs.Alone.{IsFit, AreVersionsUpto, IsSent, IsSpoken, NoClash}
 use Rattle.repo_session.specs.Askers.{Asker}
 use Rattle.repo_session.specs.Clients.{IsObedient}
 use Rattle.repo_session.specs.Soundness.{IsHeld, IsSound}
@@ -50,7 +51,7 @@ IsPrunedOrMemory (Some outcome) = outcome ≡ Outcome.Ended (End.Refused Code.No
 
 abbrev pub PruneEndsWell : Type 0
 PruneEndsWell = (who : Asker) (from to : Store) (failed : ℕ) (talk : Talk) (outcome : Option Outcome)
-    → IsFit from → from.append_only ≡ false → AreApart from (trace_of talk) None → failed < greatest_count → TalkRan from failed talk to failed → length talk < 2 ^ 64 - 1 → IsPrune who None outcome (trace_of talk) → IsPrunedOrMemory outcome
+    → IsFit from → AreVersionsUpto (upto (prune_task who).versions) from → from.append_only ≡ false → AreApart from (trace_of talk) None → failed < greatest_count → TalkRan from failed talk to failed → length talk < 2 ^ 64 - 1 → IsPrune who None outcome (trace_of talk) → IsPrunedOrMemory outcome
 
 -- a prune alone with a store in which it finds all that it wants, which only appends, and whose device doesn't fail, prunes no pack: it is refused for that
 -- mode, or is done with no pack deleted, or the store had no memory
@@ -60,7 +61,7 @@ PrunesNoPack (Some outcome) = (outcome ≡ Outcome.Ended (End.Refused Code.NoMem
 
 abbrev pub PruneOfAppendOnly : Type 0
 PruneOfAppendOnly = (who : Asker) (from to : Store) (failed : ℕ) (talk : Talk) (outcome : Option Outcome)
-    → IsFit from → from.append_only ≡ true → AreApart from (trace_of talk) None → failed < greatest_count → TalkRan from failed talk to failed → length talk < 2 ^ 64 - 1 → IsPrune who None outcome (trace_of talk) → PrunesNoPack outcome
+    → IsFit from → AreVersionsUpto (upto (prune_task who).versions) from → from.append_only ≡ true → AreApart from (trace_of talk) None → failed < greatest_count → TalkRan from failed talk to failed → length talk < 2 ^ 64 - 1 → IsPrune who None outcome (trace_of talk) → PrunesNoPack outcome
 
 -- ---- what a prune leaves
 

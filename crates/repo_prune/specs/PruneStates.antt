@@ -11,6 +11,8 @@ use Rattle.repo_pack.specs.PackLayout.{Item}
 use Rattle.repo_index.specs.IndexText.{facts_in, IsIndexText}
 use Rattle.repo_index.specs.declared.facts.Fact.{Fact}
 use Rattle.repo_index.specs.declared.facts.PackFacts.{PackFacts}
+use Rattle.repo_session.specs.Versions.{upto}
+use Rattle.repo_session.specs.declared.versions.Versions.{Versions}
 use Rattle.repo_session.specs.declared.jobs.Step.{Step}
 use Rattle.repo_session.specs.declared.rolls.Roll.{Roll}
 use Rattle.repo_session.specs.Askers.{Asker}
@@ -304,7 +306,7 @@ KnowsPrune j ask es = KnowsStage (known_in j) j.stage ask es
 -- in a stage: this may be asked, and is known then; or it may end so
 abbrev pub IsNextStep : Known → Asker → Stage → Step → Trace → Type 0
 IsNextStep k who stage (Step.Ask ask) es = MayAsk prune_rule who (KnowsStage k stage) es ask
-IsNextStep k who stage (Step.Finish outcome) es = Concludes PruneConcludes es outcome
+IsNextStep k who stage (Step.Finish outcome) es = Concludes (upto Versions.One) PruneConcludes es outcome
 IsNextStep k who stage Step.Away es = ⊥
 
 -- after each trace of which this is known

@@ -18,7 +18,7 @@ use crate::picking::{chosen, names_of};
 use repo_name::{Kind, Name, Names, Thing, Token};
 use repo_session::{
     Client, Emission, End, Holder, Job, Outcome, Paging, Session, SnapshotReading, SnapshotRoll,
-    Step, Who,
+    Step, Versions, Who,
 };
 use repo_tree::Config;
 use repo_wire::{Ask, Reply, Request, Say};
@@ -197,8 +197,12 @@ impl Job for ForgetJob {
         true
     }
 
-    fn opened(&mut self, _holder: &Holder, _config: &Config) -> Ask {
-        self.snapshots.page_ask()
+    fn versions(&self) -> Versions {
+        Versions::One
+    }
+
+    fn opened(&mut self, _holder: &Holder, _config: &Config) -> Step {
+        Step::Ask(self.snapshots.page_ask())
     }
 
     fn reply(&mut self, holder: &Holder, ask: &Ask, say: &Say) -> Result<Step, AllocError> {

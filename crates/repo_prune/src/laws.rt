@@ -1,8 +1,9 @@
-//! What holds of a forget that is alone with its store, by the definitions alone. Each function is empty, and its
-//! contract is the law.
+//! What holds of a forget, of a prune and of an upgrade that are alone with their store, by the definitions alone. Each
+//! function is empty, and its contract is the law.
 
 ghost use Rattle.repo_prune.specs.Laws.{ForgetKeepsSound, ForgetEndsWell, ForgetOfAppendOnly, ForgetLeavesTheOthers};
 ghost use Rattle.repo_prune.specs.PruneLaws.{PruneKeepsSound, PruneEndsWell, PruneOfAppendOnly, PruneLeavesWhatIsNeeded};
+ghost use Rattle.repo_prune.specs.UpgradeLaws.{UpgradeChangesNoObject, UpgradeEndsWell};
 
 /// A forget alone with its store takes snapshots alone from it, and leaves a sound store sound: after every exchange,
 /// whatever the store answers, and also where the store is one step ahead of it. Premise: no two of the objects, and of
@@ -54,4 +55,16 @@ pub fn prune_of_append_only()
 /// indexes are of blobs that snapshots reach, each such blob has one fact, and so has each blob of each pack. Premise: as above.
 pub fn prune_leaves_what_is_needed()
     ensures { PruneLeavesWhatIsNeeded }
+{}
+
+/// An upgrade alone with its store changes no object: after every exchange, whatever the store answers, and also where the store
+/// is one step ahead.
+pub fn upgrade_changes_no_object()
+    ensures { UpgradeChangesNoObject }
+{}
+
+/// An upgrade alone with a store in which it finds all that it wants, whose versions it knows, and whose device doesn't fail, ends
+/// `Upgraded`, or the store had no memory; also where the store only appends.
+pub fn upgrade_ends_well()
+    ensures { UpgradeEndsWell }
 {}

@@ -4,7 +4,8 @@
 //! of the last days. A [`Forget`] is a client that deletes snapshots, those of the names given to it or those that a
 //! policy doesn't keep: a session of repo_session around a job of its own. A [`Prune`] is one that removes what no
 //! snapshot needs: it moves used blobs to new packs, lists the packs that stay in new indexes, and deletes the others.
-//! [`Plan`] says what a prune keeps of the packs and what it moves, by what the indexes say and which blobs are used.
+//! [`Plan`] says what a prune keeps of the packs and what it moves, by what the indexes say and which blobs are used. An
+//! [`Upgrade`] is a client that makes a store's config one of version 2.
 //!
 //! Promised: `keep` gives just the names of the rows that the policy keeps, whatever their order. A forget is a client
 //! of repo_session, so each request was one that the exchanges before it allow, whoever answers: it deletes a listed
@@ -15,14 +16,17 @@
 //! of the others; of each used blob that an index gives, the used copy is the one at the least place. A prune deletes
 //! nothing before all that it puts is done and gives each blob that a listed snapshot needs, and no pack before the old
 //! indexes; it reads nothing after its first delete, and ends `Pruned` once each old index and each pack that no new
-//! index lists is deleted; alone with a store that only appends it prunes no pack. Not promised: that a store answers.
+//! index lists is deleted; alone with a store that only appends it prunes no pack. An upgrade asks for one thing, once,
+//! where the config is of version 1, and is `Upgraded` only where the config is of version 2. Not promised: that a store
+//! answers.
 //!
 //! The definitions stand in `specs/`: `Keeping` (what a policy keeps), `Forgetting` (which snapshots a forget may
 //! delete, and how it may end); and what is known on the way: `Walks` (how the rows of a host are gone down), `Picking`,
 //! `ForgetStates` and `ForgetObedience`; `Laws` (a forget alone with its store); `Plans` (what a prune keeps and
 //! moves); `Reading`, `Unfound` and `Deciding` (its reading of trees, and what it decides by them); `Moving` (its new
 //! packs); `Indexing` and `Relisting` (its new indexes); `Deleting` (its deletes); `PruneStates` and `PruneObedience`
-//! (what is known in each of its stages); `Pruning` (what a prune may put and delete, and how it may end).
+//! (what is known in each of its stages); `Pruning` (what a prune may put and delete, and how it may end); `Upgrading`,
+//! `UpgradeStates` and `UpgradeObedience` (the same of an upgrade).
 #![tactic(auto)]
 
 mod advancing;
@@ -43,6 +47,7 @@ mod relisting;
 mod replies;
 mod standings;
 mod unfound;
+mod upgrades;
 
 pub use choices::{Choice, ForgetError};
 pub use forgets::Forget;
@@ -50,6 +55,8 @@ pub use keeping::{Policy, keep};
 pub use laws::{
     forget_ends_well, forget_keeps_sound, forget_leaves_the_others, forget_of_append_only,
     prune_ends_well, prune_keeps_sound, prune_leaves_what_is_needed, prune_of_append_only,
+    upgrade_changes_no_object, upgrade_ends_well,
 };
 pub use plans::Plan;
 pub use prunes::Prune;
+pub use upgrades::Upgrade;

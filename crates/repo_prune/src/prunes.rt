@@ -11,7 +11,8 @@ use repo_index::Fact;
 use repo_name::{GREATEST_TARGET, Kind, LEAST_TARGET, Token};
 use repo_reach::Trees;
 use repo_session::{
-    Catalog, Client, Emission, Holder, Job, Outcome, Roll, Session, SnapshotRoll, Step, Who,
+    Catalog, Client, Emission, Holder, Job, Outcome, Roll, Session, SnapshotRoll, Step, Versions,
+    Who,
 };
 use repo_tree::Config;
 use repo_wire::{Ask, Reply, Request, Say};
@@ -104,9 +105,13 @@ impl Job for PruneJob {
         true
     }
 
-    fn opened(&mut self, _holder: &Holder, config: &Config) -> Ask {
+    fn versions(&self) -> Versions {
+        Versions::One
+    }
+
+    fn opened(&mut self, _holder: &Holder, config: &Config) -> Step {
         self.target = Target::of(config.target.clamp(LEAST_TARGET, GREATEST_TARGET) as u32);
-        self.snapshots.page_ask()
+        Step::Ask(self.snapshots.page_ask())
     }
 
     fn reply(&mut self, holder: &Holder, ask: &Ask, say: &Say) -> Result<Step, AllocError> {

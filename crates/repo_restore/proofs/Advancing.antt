@@ -1,5 +1,5 @@
 -- What is known while a snapshot is restored.
-use Rattle.std.proofs.Common.{◌≡◌, ◌≢◌, ◌∷◌, ◌++◌, [], ℕ, Bool, true, false, List, length, Option, refl, sym, ap, subst, inl, inr, ◌⊎◌, ◌∙◌, ⊎_elim}
+use Rattle.std.proofs.Common.{◌≡◌, ◌≢◌, ◌≤◌, ◌∷◌, ◌++◌, [], ℕ, Bool, true, false, List, length, Option, refl, sym, ap, subst, inl, inr, ◌⊎◌, ◌∙◌, ⊎_elim}
 use Rattle.std.proofs.lemmas.List.{append-nil}
 use Rattle.repo_name.specs.Naming as naming
 use Rattle.repo_name.specs.declared.kinds.Kind.{Kind}
@@ -15,6 +15,7 @@ use Rattle.repo_tree.specs.declared.nodes.Node.{Node}
 use Rattle.repo_tree.specs.ConfigText.{IsConfigText}
 use Rattle.repo_tree.specs.Parts.{Blobs}
 use Rattle.repo_tree.specs.Spelling.{Spells}
+use Rattle.repo_session.specs.Versions.{snapshot_version}
 use Rattle.repo_session.specs.declared.catalogs.Catalog.{Catalog}
 use Rattle.repo_session.specs.declared.emissions.Emission.{Emission}
 use Rattle.repo_session.specs.declared.outcomes.End.{End}
@@ -22,7 +23,7 @@ use Rattle.repo_session.specs.declared.outcomes.Outcome.{Outcome}
 use Rattle.repo_session.specs.Askers.{Asker}
 use Rattle.repo_session.specs.Catalogs.{Catalogs, IsAll}
 use Rattle.repo_session.specs.Ends.{IsBad, IsBadBlob, Concludes, IsUnwelcome, blob_thing}
-use Rattle.repo_session.specs.Jobs.{task_under, MayAsk}
+use Rattle.repo_session.specs.Jobs.{task_under, known_under, MayAsk}
 use Rattle.repo_session.specs.Order.{opened}
 use Rattle.repo_session.specs.Rebuilding.{rebuilt, Follow}
 use Rattle.repo_session.specs.Traces.{Each, Exchange, Trace, emitted_in, page_names, is_last_page, object_got, ReadFact}
@@ -58,16 +59,17 @@ bad_tree c s root es tree h found b = record { version = 1; root = root; path = 
 
 -- a walk's end is one that a restore may have
 pub walk_concludes : (c : Catalog) (s root : Name) (es : Trace) (end : End) → Catalogs c true es → IsAll c → HasRoot es s 1 root → WalkEnds c.lookup (Received es) root end
-    → Concludes (RestoreConcludes s) es (Outcome.Ended end)
+    → Concludes snapshot_version (RestoreConcludes s) es (Outcome.Ended end)
 walk_concludes c s root es (End.Missing thing name) h all found e = inr (unindexed c es thing name h all s 1 root found e)
 walk_concludes c s root es (End.BadObject thing tree) h all found e =
-    subst (λ t. Concludes (RestoreConcludes s) es (Outcome.Ended (End.BadObject t tree))) (sym e.0) (inr (bad_tree c s root es tree h found e.1))
+    subst (λ t. Concludes snapshot_version (RestoreConcludes s) es (Outcome.Ended (End.BadObject t tree))) (sym e.0) (inr (bad_tree c s root es tree h found e.1))
 walk_concludes c s root es End.Busy h all found e = absurd e
 walk_concludes c s root es End.Fenced h all found e = absurd e
 walk_concludes c s root es (End.Refused code) h all found e = absurd e
 walk_concludes c s root es End.BadReply h all found e = absurd e
 walk_concludes c s root es End.Version h all found e = absurd e
 walk_concludes c s root es End.DirectoryTooLarge h all found e = absurd e
+walk_concludes c s root es End.FileTooLarge h all found e = absurd e
 
 -- nothing was given out yet
 pub before_on : (walk : Walk) (given : List Emission) (e : Exchange) (es : Trace) → e.emitted ≡ given → IsBefore walk given es → IsBefore walk given (e ∷ es)
@@ -93,16 +95,16 @@ range_on c e pack offset len whole es q h =
     catalog_on e c.roll.kind c.roll.names.items c.roll.read c.lookup whole es (ap (λ a. page_names Kind.Index a e.say) q) (ap (λ a. is_last_page Kind.Index a e.say) q) (ap (λ a. object_got Kind.Index a e.say) q) page none h
 
 -- the snapshot is asked for first
-pub first_ask : (j : RestoreJob) (who : Asker) (token : Token) (text : List ℕ) (config : Config) → IsNewRestore j → IsConfigText text config
+pub first_ask : (j : RestoreJob) (who : Asker) (token : Token) (text : List ℕ) (config : Config) → IsNewRestore j → IsConfigText text config → config.version ≤ known_under (restore_rule j.snapshot) who
     → MayAsk (restore_rule j.snapshot) who (KnowsRestore j) (opened (task_under (restore_rule j.snapshot) who) token text) (Ask.Get Kind.Snapshot j.snapshot)
-first_ask j who token text config new reads =
+first_ask j who token text config new reads known =
     let task = task_under (restore_rule j.snapshot) who in
     let ask = Ask.Get Kind.Snapshot j.snapshot in
     let es : Trace = opened task token text in
     let indexes = catalog_fresh task token text j.catalog.roll.kind j.catalog.roll.names.items j.catalog.roll.read j.catalog.lookup es new.of_indexes new.no_names new.none_read new.no_facts refl in
     let before : IsBefore j.walk j.given.items es = record { no_levels = new.no_levels; no_entries = new.no_entries; none_given = new.none_given; nothing = refl } in
     let S : Stage → Type 0 = λ stage. KnowsAtStage j stage ask es in
-    record { work = tt; may = ((token, opened_working task token text config reads), inr (refl, refl)); allowed = tt; knows = subst S (sym new.at_start) (refl, new.none_read, indexes, before) }
+    record { work = tt; may = ((token, opened_working task token text config reads known), inr (refl, refl)); allowed = tt; knows = subst S (sym new.at_start) (refl, new.none_read, indexes, before) }
 
 -- what comes next of a walk, over the trace
 pub turn_is : (facts : List Fact) (walk : Walk) (root : Name) (es : Trace) (old out : List Emission) (turn : Turn) (begun : Bool) → emitted_in es ≡ old ++ out → Turns facts (Received es) root walk old out turn

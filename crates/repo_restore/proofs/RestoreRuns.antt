@@ -29,7 +29,7 @@ use Rattle.repo_session.specs.Talks.{Talk, trace_of}
 use Rattle.repo_session.specs.Told.{AskedToPut}
 use Rattle.repo_session.specs.Traces.{Trace, Lists, ReadFact}
 use Rattle.repo_session.proofs.Causes.{range_length}
-use Rattle.repo_session.proofs.Concluding.{calm_of, either, ends_well, reads_first, suits_either}
+use Rattle.repo_session.proofs.Concluding.{calm_of, either, ends_well, puts_none, reads_first, suits_either}
 use Rattle.repo_session.proofs.Descending.{under_grows, needed_grows, broken_grows, root_spells_at, file_spelled, needed_there, unbroken}
 use Rattle.repo_session.proofs.Enumerating.{listed_or_put}
 use Rattle.repo_session.proofs.Growing.{Led, Shares, led}
@@ -75,6 +75,8 @@ listed_well who es (Outcome.Clean snapshots indexes packs blobs) (inl h) = h
 listed_well who es (Outcome.Clean snapshots indexes packs blobs) (inr h) = absurd h
 listed_well who es (Outcome.Faults faults) (inl h) = h
 listed_well who es (Outcome.Faults faults) (inr h) = absurd h
+listed_well who es Outcome.Upgraded (inl h) = h
+listed_well who es Outcome.Upgraded (inr h) = absurd h
 listed_well who es (Outcome.Ended end) (inl h) = h
 listed_well who es (Outcome.Ended end) (inr h) = absurd h
 
@@ -83,9 +85,9 @@ list_well who es None h = h
 list_well who es (Some outcome) h = listed_well who (before_unlock es) outcome h
 
 pub list_ends : ListEndsWell
-list_ends who from to failed talk outcome fit low ran few is =
+list_ends who from to failed talk outcome fit versions low ran few is =
     list_well who (trace_of talk) outcome
-    (ends_well (list_task who) (ListAllows who) (ListGives who) (ListConcludes who) (reads_first (list_task who) (ListAllows who) (ListGives who) (λ es t k n h. h)) from fit tt (suits_either (ListAllows who) from (λ es t k n h. h)) talk to outcome is (led from talk to ran.run)
+    (ends_well (list_task who) (ListAllows who) (ListGives who) (ListConcludes who) (reads_first (list_task who) (ListAllows who) (ListGives who) (λ es t k n h. h)) from fit tt versions (puts_none (list_task who) (ListAllows who) (λ es t n x h. h)) (suits_either (ListAllows who) from (λ es t k n h. h)) talk to outcome is (led from talk to ran.run)
     (sound_throughout (list_task who) (ListAllows who) (ListGives who) (list_never who) from talk fit.sound is.obeys) (calm_of failed talk low ran.cause) few)
 
 -- ---- how a restore ends
@@ -179,6 +181,7 @@ module _ (w : Wish) (from : Store) (sound : IsSound from.objects) (agree : Agree
   own_well (Outcome.Pruned packs bytes) own = absurd own
   own_well (Outcome.Clean snapshots indexes packs blobs) own = absurd own
   own_well (Outcome.Faults faults) own = absurd own
+  own_well Outcome.Upgraded own = absurd own
   own_well (Outcome.Ended (End.BadObject Thing.Tree tree)) own = absurd (no_bad_tree tree own)
   own_well (Outcome.Ended (End.BadObject Thing.Content name)) own = absurd own
   own_well (Outcome.Ended (End.BadObject Thing.Pack name)) own = absurd own
@@ -191,6 +194,7 @@ module _ (w : Wish) (from : Store) (sound : IsSound from.objects) (agree : Agree
   own_well (Outcome.Ended End.BadReply) own = absurd own
   own_well (Outcome.Ended End.Version) own = absurd own
   own_well (Outcome.Ended End.DirectoryTooLarge) own = absurd own
+  own_well (Outcome.Ended End.FileTooLarge) own = absurd own
 
 own_before : (w : Wish) (from : Store) → IsSound from.objects → Agree (IsHeld from.objects) (IsHeld from.objects) → (talk : Talk) (to : Store) → Obeys (restore_task w) (RestoreAllows w.snapshot) (RestoreGives w.snapshot) (trace_of talk) → Led from talk to
     → (outcome : Outcome) → RestoreConcludes w.snapshot (before_unlock (trace_of talk)) outcome → IsCompleteOrMemory (Some outcome)
@@ -207,9 +211,9 @@ restore_well w es None own h = h
 restore_well w es (Some outcome) own h = ⊎_elim (memory_well outcome) (own outcome) h
 
 pub restore_ends : RestoreEndsWell
-restore_ends w from to failed talk outcome text fit there low ran few clash is =
+restore_ends w from to failed talk outcome text fit versions there low ran few clash is =
     let h = led from talk to ran.run in
     let agree = held_agree from (λ ask. ⊥) (λ x. ⊥) clash from.objects (λ k n x p. inl (n, p)) fit.sound.named in
     restore_well w (trace_of talk) outcome (own_before w from fit.sound agree talk to is.obeys h)
-    (ends_well (restore_task w) (RestoreAllows w.snapshot) (RestoreGives w.snapshot) (RestoreConcludes w.snapshot) (reads_first (restore_task w) (RestoreAllows w.snapshot) (RestoreGives w.snapshot) (λ es t k n x. x)) from fit (text, there) (suits_either (RestoreAllows w.snapshot) from (λ es t k n x. x)) talk to outcome is h
+    (ends_well (restore_task w) (RestoreAllows w.snapshot) (RestoreGives w.snapshot) (RestoreConcludes w.snapshot) (reads_first (restore_task w) (RestoreAllows w.snapshot) (RestoreGives w.snapshot) (λ es t k n x. x)) from fit (text, there) versions (puts_none (restore_task w) (RestoreAllows w.snapshot) (λ es t n x h. h)) (suits_either (RestoreAllows w.snapshot) from (λ es t k n x. x)) talk to outcome is h
     (sound_throughout (restore_task w) (RestoreAllows w.snapshot) (RestoreGives w.snapshot) (restore_never w.snapshot) from talk fit.sound is.obeys) (calm_of failed talk low ran.cause) few)

@@ -5,7 +5,8 @@ use Rattle.repo_wire.specs.declared.messages.Code.{Code}
 use Rattle.repo_wire.specs.declared.messages.Request.{Request}
 use Rattle.repo_store.specs.Laws.{greatest_count}
 use Rattle.repo_store.specs.Stores.{Store}
-use Rattle.repo_session.specs.Alone.{IsFit, IsSent, IsSpoken, NoClash}
+use Rattle.repo_session.specs.Versions.{upto}
+use Rattle.repo_session.specs.Alone.{IsFit, AreVersionsUpto, IsSent, IsSpoken, NoClash}
 use Rattle.repo_session.specs.Askers.{Asker}
 use Rattle.repo_session.specs.Clients.{IsObedient}
 use Rattle.repo_session.specs.Talks.{Talk, trace_of, TalkRan, MayBeAhead}
@@ -40,7 +41,7 @@ IsListedOrMemory (Some outcome) = outcome ≡ Outcome.Ended (End.Refused Code.No
 
 abbrev pub ListEndsWell : Type 0
 ListEndsWell = (who : Asker) (from to : Store) (failed : ℕ) (talk : Talk) (outcome : Option Outcome)
-    → IsFit from → failed < greatest_count → TalkRan from failed talk to failed → length talk < 2 ^ 64 - 1 → IsList who None outcome (trace_of talk) → IsListedOrMemory outcome
+    → IsFit from → AreVersionsUpto (upto (list_task who).versions) from → failed < greatest_count → TalkRan from failed talk to failed → length talk < 2 ^ 64 - 1 → IsList who None outcome (trace_of talk) → IsListedOrMemory outcome
 
 -- a restore of a snapshot that is there, alone with such a store, is complete at its end, or the store had no memory
 abbrev pub IsCompleteOrMemory : Option Outcome → Type 0
@@ -50,5 +51,5 @@ IsCompleteOrMemory (Some outcome) = outcome ≡ Outcome.Ended (End.Refused Code.
 
 abbrev pub RestoreEndsWell : Type 0
 RestoreEndsWell = (w : Wish) (from to : Store) (failed : ℕ) (talk : Talk) (outcome : Option Outcome) (text : List ℕ)
-    → IsFit from → from.objects Kind.Snapshot w.snapshot ≡ Some text → failed < greatest_count → TalkRan from failed talk to failed → length talk < 2 ^ 64 - 1
+    → IsFit from → AreVersionsUpto (upto (restore_task w).versions) from → from.objects Kind.Snapshot w.snapshot ≡ Some text → failed < greatest_count → TalkRan from failed talk to failed → length talk < 2 ^ 64 - 1
     → NoClash (IsSpoken (λ x. ⊥) from (IsSent [] None)) → IsRestore w None outcome (trace_of talk) → IsCompleteOrMemory outcome

@@ -5,7 +5,8 @@ ghost use Rattle.repo_restore.specs.ListStates.{FitsList, IsFreshList, who_of};
 
 use repo_name::{Thing, Token};
 use repo_session::{
-    Client, Emission, End, Holder, Job, Outcome, Session, SnapshotReading, SnapshotRoll, Step, Who,
+    Client, Emission, End, Holder, Job, Outcome, Session, SnapshotReading, SnapshotRoll, Step,
+    Versions, Who,
 };
 use repo_tree::Config;
 use repo_wire::{Ask, Reply, Request, Say};
@@ -48,8 +49,12 @@ impl Job for ListJob {
         false
     }
 
-    fn opened(&mut self, _holder: &Holder, _config: &Config) -> Ask {
-        self.snapshots.page_ask()
+    fn versions(&self) -> Versions {
+        Versions::One
+    }
+
+    fn opened(&mut self, _holder: &Holder, _config: &Config) -> Step {
+        Step::Ask(self.snapshots.page_ask())
     }
 
     fn reply(&mut self, _holder: &Holder, ask: &Ask, say: &Say) -> Result<Step, AllocError> {

@@ -17,8 +17,8 @@ use crate::walks::{Turn, Walk};
 use repo_index::Fact;
 use repo_name::{Kind, Name, Thing, Token, name_of};
 use repo_session::{
-    Catalog, Client, Emission, End, Fetched, Holder, Job, Outcome, Reading, Session, Step, Who,
-    blob_of, blob_thing, get_ask, range_ask, snapshot_end,
+    Catalog, Client, Emission, End, Fetched, Holder, Job, Outcome, Reading, SNAPSHOT_VERSION,
+    Session, Step, Versions, Who, blob_of, blob_thing, get_ask, range_ask, snapshot_end,
 };
 use repo_tree::{Config, Snapshot};
 use repo_wire::{Ask, Reply, Request, Say};
@@ -104,7 +104,7 @@ impl RestoreJob {
             let end = End::BadObject(Thing::Snapshot, name);
             return Ok(Step::Finish(Outcome::Ended(end)));
         }
-        match Snapshot::read(self.alloc, bytes) {
+        match Snapshot::read_upto(self.alloc, bytes, SNAPSHOT_VERSION) {
             Ok(snapshot) => {
                 self.stage = Stage::Indexes(snapshot.tree);
                 Ok(Step::Ask(self.catalog.page_ask()))
@@ -207,8 +207,12 @@ impl Job for RestoreJob {
         false
     }
 
-    fn opened(&mut self, _holder: &Holder, _config: &Config) -> Ask {
-        get_ask(Kind::Snapshot, self.snapshot)
+    fn versions(&self) -> Versions {
+        Versions::One
+    }
+
+    fn opened(&mut self, _holder: &Holder, _config: &Config) -> Step {
+        Step::Ask(get_ask(Kind::Snapshot, self.snapshot))
     }
 
     fn reply(&mut self, _holder: &Holder, ask: &Ask, say: &Say) -> Result<Step, AllocError> {

@@ -1,5 +1,5 @@
 -- What each line of a script is.
-use Rattle.std.specs.Prelude.{◌≡◌, ◌≢◌, ⊤, ℕ, ◌&&◌, nat_le, if◌then◌else◌, [], ◌∷◌, List, length, All, codes, bytes_eq, IsUtf8, Option, Some, None, option_map, Result, Ok, Err}
+use Rattle.std.specs.Prelude.{◌≡◌, ◌≢◌, ⊤, ℕ, true, false, ◌&&◌, nat_le, if◌then◌else◌, [], ◌∷◌, List, length, All, codes, bytes_eq, IsUtf8, Option, Some, None, option_map, Result, Ok, Err}
 use Rattle.std.specs.Option.{option_and_then}
 use Rattle.std.specs.Result.{result_ok}
 use Rattle.hex.specs.Hex.{decode_of}
@@ -49,12 +49,18 @@ start_with Purpose.List left = alone Start.List left
 start_with Purpose.Prune left = alone Start.Prune left
 start_with Purpose.Check left = alone Start.Check left
 start_with Purpose.Forget left = option_map Start.Forget (clients left)
+start_with Purpose.Upgrade left = alone Start.Upgrade left
 start_with Purpose.Keep left = option_map (λ x. Start.Keep (record { last = x.0; daily = x.1 })) (two (number 32) (number 32) left)
 
 -- the start that some words are
 abbrev pub start_of : List (List ℕ) → Option Start
 start_of [] = None
 start_of (word ∷ left) = option_and_then (λ purpose. start_with purpose left) (word_in purposes word)
+
+-- the start of an old client that some words are, behind the one that says that it is old: the next one is `start`
+abbrev pub old_start_of : List (List ℕ) → Option Start
+old_start_of [] = None
+old_start_of (word ∷ left) = if bytes_eq word (codes "start") then start_of left else None
 
 -- the entry of a path
 abbrev pub entry : List ℕ → EntryKind → Line
@@ -80,7 +86,8 @@ event_with _ left = None
 abbrev pub line_with : Verb → List (List ℕ) → Option Line
 line_with Verb.Dir left = option_map (λ path. entry path EntryKind.Dir) (one Some left)
 line_with Verb.File left = option_map (λ x. entry x.0 (EntryKind.File x.1)) (two Some bytes left)
-line_with Verb.Start left = option_map Line.Start (start_of left)
+line_with Verb.Start left = option_map (λ start. Line.Start start false) (start_of left)
+line_with Verb.Old left = option_map (λ start. Line.Start start true) (old_start_of left)
 line_with verb left = event_with verb left
 
 -- the line that some words are

@@ -16,3 +16,4 @@ sort_of (Ask.Range pack offset len) = Some AskSort.Range
 sort_of (Ask.Put token kind name bytes) = Some (AskSort.Put kind)
 sort_of (Ask.Delete token kind name) = Some (AskSort.Delete kind)
 sort_of Ask.Config = Some AskSort.Config
+sort_of (Ask.Upgrade token) = Some AskSort.Upgrade

@@ -17,6 +17,7 @@ verbs =
     (codes "dir", Verb.Dir)
     ∷ (codes "file", Verb.File)
     ∷ (codes "start", Verb.Start)
+    ∷ (codes "old", Verb.Old)
     ∷ (codes "step", Verb.Step)
     ∷ (codes "finish", Verb.Finish)
     ∷ (codes "until", Verb.Until)
@@ -41,6 +42,7 @@ purposes =
     ∷ (codes "check", Purpose.Check)
     ∷ (codes "forget", Purpose.Forget)
     ∷ (codes "keep", Purpose.Keep)
+    ∷ (codes "upgrade", Purpose.Upgrade)
     ∷ []
 
 -- the sorts of requests
@@ -59,6 +61,7 @@ sorts =
     ∷ (codes "delete-index", AskSort.Delete Kind.Index)
     ∷ (codes "delete-snapshot", AskSort.Delete Kind.Snapshot)
     ∷ (codes "unlock", AskSort.Unlock)
+    ∷ (codes "upgrade", AskSort.Upgrade)
     ∷ []
 
 -- how a device fails: in writing, with the change made or not, or in reading

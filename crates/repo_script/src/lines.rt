@@ -44,8 +44,8 @@ impl Clients {
 pub enum Line {
     /// One more entry for the next backup. Its path is what stands between slashes, whether or not a path can be so.
     Entry(Entry),
-    /// A client starts.
-    Start(Start),
+    /// A client starts: an old one knows version 1 alone.
+    Start { start: Start, old: bool },
     /// This client's pending request is delivered, and then the reply to it.
     Step(usize),
     /// So it goes on until nothing is pending.
@@ -89,4 +89,6 @@ pub enum Start {
     Forget(Clients),
     /// It forgets the snapshots that this policy doesn't keep.
     Keep(Policy),
+    /// It makes the store's config one of version 2.
+    Upgrade,
 }

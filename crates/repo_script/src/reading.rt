@@ -12,7 +12,7 @@ use crate::arguments::{
 use crate::cuts::{are_words, path_of, words_of};
 use crate::faults::LineError;
 use crate::lines::Line;
-use crate::starts::start_of;
+use crate::starts::{old_start_of, start_of};
 use crate::tables::verb_of;
 use crate::verbs::Verb;
 use repo_name::Token;
@@ -77,7 +77,14 @@ fn line_with(alloc: Global, verb: Verb, left: &[&str]) -> Result<Line, LineError
     match verb {
         Verb::Dir => dir_line(alloc, left),
         Verb::File => file_line(alloc, left),
-        Verb::Start => Ok(Line::Start(start_of(alloc, left)?)),
+        Verb::Start => {
+            let start = start_of(alloc, left)?;
+            Ok(Line::Start { start, old: false })
+        }
+        Verb::Old => {
+            let start = old_start_of(alloc, left)?;
+            Ok(Line::Start { start, old: true })
+        }
         _ => event_with(verb, left).ok_or(LineError::NotUnderstood),
     }
 }

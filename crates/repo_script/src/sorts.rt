@@ -18,6 +18,7 @@ pub enum AskSort {
     Put(Kind),
     Delete(Kind),
     Unlock,
+    Upgrade,
 }
 
 impl AskSort {
@@ -35,6 +36,7 @@ impl AskSort {
             Ask::Put { kind, .. } => Some(AskSort::Put(*kind)),
             Ask::Delete { kind, .. } => Some(AskSort::Delete(*kind)),
             Ask::Config => Some(AskSort::Config),
+            Ask::Upgrade(_) => Some(AskSort::Upgrade),
             Ask::Refresh { .. } | Ask::Locks => None,
         }
     }

@@ -1,7 +1,7 @@
 //! What clients start for.
 
 ghost use Rattle.std.specs.Prelude.{◌≡◌, map};
-ghost use Rattle.repo_script.specs.Lines.{start_with, start_of, GivesLine};
+ghost use Rattle.repo_script.specs.Lines.{start_with, start_of, old_start_of, GivesLine};
 
 use crate::arguments::{clients_of, host_of, one_index, policy_of, two_words};
 use crate::faults::LineError;
@@ -37,6 +37,7 @@ fn start_with(alloc: Global, purpose: Purpose, left: &[&str]) -> Result<Start, L
         Purpose::List if left.is_empty() => Some(Start::List),
         Purpose::Prune if left.is_empty() => Some(Start::Prune),
         Purpose::Check if left.is_empty() => Some(Start::Check),
+        Purpose::Upgrade if left.is_empty() => Some(Start::Upgrade),
         _ => None,
     };
     start.ok_or(LineError::NotUnderstood)
@@ -53,4 +54,17 @@ pub fn start_of(alloc: Global, words: &[&str]) -> Result<Start, LineError>
         return Err(LineError::NotUnderstood);
     };
     start_with(alloc, purpose, left)
+}
+
+/// The start of an old client that some words are, behind the one that says that it is old.
+pub fn old_start_of(alloc: Global, words: &[&str]) -> Result<Start, LineError>
+    ensures { GivesLine (old_start_of (map (λ w. w.now) words.now)) result }
+{
+    let [word, left @ ..] = words else {
+        return Err(LineError::NotUnderstood);
+    };
+    if *word != "start" {
+        return Err(LineError::NotUnderstood);
+    }
+    start_of(alloc, left)
 }

@@ -16,6 +16,7 @@ pub fn verb_of(word: &str) -> Option<Verb>
         "dir" => Some(Verb::Dir),
         "file" => Some(Verb::File),
         "start" => Some(Verb::Start),
+        "old" => Some(Verb::Old),
         "step" => Some(Verb::Step),
         "finish" => Some(Verb::Finish),
         "until" => Some(Verb::Until),
@@ -44,6 +45,7 @@ pub fn purpose_of(word: &str) -> Option<Purpose>
         "check" => Some(Purpose::Check),
         "forget" => Some(Purpose::Forget),
         "keep" => Some(Purpose::Keep),
+        "upgrade" => Some(Purpose::Upgrade),
         _ => None,
     }
 }
@@ -66,6 +68,7 @@ pub fn sort_of(word: &str) -> Option<AskSort>
         "delete-index" => Some(AskSort::Delete(Kind::Index)),
         "delete-snapshot" => Some(AskSort::Delete(Kind::Snapshot)),
         "unlock" => Some(AskSort::Unlock),
+        "upgrade" => Some(AskSort::Upgrade),
         _ => None,
     }
 }

@@ -6,6 +6,7 @@ pub enum Verb {
     Dir,
     File,
     Start,
+    Old,
     Step,
     Finish,
     Until,
@@ -30,4 +31,5 @@ pub enum Purpose {
     Check,
     Forget,
     Keep,
+    Upgrade,
 }

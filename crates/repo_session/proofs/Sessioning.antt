@@ -18,7 +18,7 @@ use Rattle.repo_session.specs.Askers.{Asker, Holding, row_of}
 use Rattle.repo_session.specs.Clients.{IsSteady}
 use Rattle.repo_session.specs.Obedience.{beside_unlock}
 use Rattle.repo_session.specs.Ends.{CausedBy, Concludes, IsCause, NumbersAreSpent, IsUnwelcome, before_unlock, without_unlock}
-use Rattle.repo_session.specs.Jobs.{Rule, task_under, MayAsk, MayStep}
+use Rattle.repo_session.specs.Jobs.{Rule, task_under, known_under, MayAsk, MayBegin, MayStep}
 use Rattle.repo_session.specs.Lines.{IsSentOnLine, IsFinished, IsClosed, or_spent}
 use Rattle.repo_session.specs.Obedience.{still_whole, holds_whole}
 use Rattle.repo_session.specs.Order.{Task, ticketed, locked, lock_row, opened, Holds, IsWork, IsUnlock, IsWorking, May, IsPermitted, Obeys}
@@ -72,6 +72,7 @@ is_fenced (End.BadObject thing name) = inr (λ x. absurd (cc))
 is_fenced End.BadReply = inr (λ x. absurd (cc))
 is_fenced End.Version = inr (λ x. absurd (cc))
 is_fenced End.DirectoryTooLarge = inr (λ x. absurd (cc))
+is_fenced End.FileTooLarge = inr (λ x. absurd (cc))
 
 module _ (rule : Rule) (holding : Holding) (lock : Option LockRow) (Fresh : Type 0) (Knows : Ask → Trace → Type 0) where
   -- what is known where a request is pending
@@ -87,6 +88,7 @@ module _ (rule : Rule) (holding : Holding) (lock : Option LockRow) (Fresh : Type
   working_at outcome (Ask.Range pack offset len) es w k = k
   working_at outcome (Ask.Put t j n x) es w k = k
   working_at outcome (Ask.Delete t j n) es w k = k
+  working_at outcome (Ask.Upgrade t) es w k = k
   working_at outcome Ask.Ticket es w k = absurd w
   working_at outcome (Ask.Lock row) es w k = absurd w
   working_at outcome (Ask.Refresh t time) es w k = absurd w
@@ -101,6 +103,7 @@ module _ (rule : Rule) (holding : Holding) (lock : Option LockRow) (Fresh : Type
   at_work outcome (Ask.Range pack offset len) es w k = k
   at_work outcome (Ask.Put t j n x) es w k = k
   at_work outcome (Ask.Delete t j n) es w k = k
+  at_work outcome (Ask.Upgrade t) es w k = k
   at_work outcome Ask.Ticket es w k = absurd w
   at_work outcome (Ask.Lock row) es w k = absurd w
   at_work outcome (Ask.Refresh t time) es w k = absurd w
@@ -116,7 +119,7 @@ module _ (rule : Rule) (holding : Holding) (lock : Option LockRow) (Fresh : Type
 
   sent : (line now : Line) (ask : Ask) (es : Trace) → IsSentOnLine line ask now → line.instance ≡ holding.who.instance → line.sequence ≡ length es → Obeys (task_under rule holding.who) rule.allows rule.gives es
       → May (task_under rule holding.who) es ask → IsPermitted rule.allows es ask → KnowsAt rule holding lock Fresh Knows line.outcome ask es
-      → ((o : Outcome) → or_spent line.outcome ≡ Some o → NumbersAreSpent es → Concludes rule.concludes (before_unlock es) o) → SessionAt rule holding lock Fresh Knows now es
+      → ((o : Outcome) → or_spent line.outcome ≡ Some o → NumbersAreSpent es → Concludes (known_under rule holding.who) rule.concludes (before_unlock es) o) → SessionAt rule holding lock Fresh Knows now es
   sent line now ask es (inl p) i counted obeys may permitted knows ends = subst (λ l. SessionAt rule holding lock Fresh Knows l es) (sym p) (record {
     instance = i;
     obeys = obeys;
@@ -131,7 +134,7 @@ module _ (rule : Rule) (holding : Holding) (lock : Option LockRow) (Fresh : Type
         stands = record { outcome = o.0; there = o.1; concluded = ends o.0 o.1 many; released = λ t h. many };
       })
 
-  spent_cause : (es : Trace) → NumbersAreSpent es → IsCause es (End.Refused Code.Exhausted)
+  spent_cause : (es : Trace) → NumbersAreSpent es → IsCause (known_under rule holding.who) es (End.Refused Code.Exhausted)
   spent_cause [] h = absurd (omega (arith, h))
   spent_cause (e ∷ es) h = inr (refl, h)
 
@@ -142,20 +145,20 @@ module _ (rule : Rule) (holding : Holding) (lock : Option LockRow) (Fresh : Type
   goes_on line now ask es s i counted none whole obeys may permitted knows =
       sent line now ask es s i counted obeys may permitted knows (λ o p many.
       let is : Outcome.Ended (End.Refused Code.Exhausted) ≡ o = cc (p, none) in
-      subst (λ x. Concludes rule.concludes (before_unlock es) x) is (inl (subst (λ fs. IsCause fs (End.Refused Code.Exhausted)) (sym whole) (spent_cause es many))))
+      subst (λ x. Concludes (known_under rule holding.who) rule.concludes (before_unlock es) x) is (inl (subst (λ fs. IsCause (known_under rule holding.who) fs (End.Refused Code.Exhausted)) (sym whole) (spent_cause es many))))
 
   -- the job ends, with an unlock
   pub finishes : (line now : Line) (o : Outcome) (es : Trace) → IsFinished line o holding.token now → line.instance ≡ holding.who.instance → line.sequence ≡ length es
-      → Obeys (task_under rule holding.who) rule.allows rule.gives es → Holds (task_under rule holding.who) holding.token es → Concludes rule.concludes es o → SessionAt rule holding lock Fresh Knows now es
+      → Obeys (task_under rule holding.who) rule.allows rule.gives es → Holds (task_under rule holding.who) holding.token es → Concludes (known_under rule holding.who) rule.concludes es o → SessionAt rule holding lock Fresh Knows now es
   finishes line now o es s i counted obeys held concluded =
       let ended : Line = record { instance = line.instance; sequence = line.sequence; next = line.next; outcome = Some o } in
       let whole = holds_whole (task_under rule holding.who) holding.token es held in
       sent ended now (Ask.Unlock holding.token) es s i counted obeys held (λ w. absurd w) (o, refl, concluded) (λ x p many.
-      let is : o ≡ x = cc in subst (λ y. Concludes rule.concludes (before_unlock es) y) is (subst (λ fs. Concludes rule.concludes fs o) (sym whole) concluded))
+      let is : o ≡ x = cc in subst (λ y. Concludes (known_under rule holding.who) rule.concludes (before_unlock es) y) is (subst (λ fs. Concludes (known_under rule holding.who) rule.concludes fs o) (sym whole) concluded))
 
   -- the job ends without one
   pub closes : (line now : Line) (o : Outcome) (es : Trace) → IsClosed line o now → line.instance ≡ holding.who.instance → Obeys (task_under rule holding.who) rule.allows rule.gives es
-      → Concludes rule.concludes (before_unlock es) o → ((t : Token) → Holds (task_under rule holding.who) t es → NumbersAreSpent es) → SessionAt rule holding lock Fresh Knows now es
+      → Concludes (known_under rule holding.who) rule.concludes (before_unlock es) o → ((t : Token) → Holds (task_under rule holding.who) t es → NumbersAreSpent es) → SessionAt rule holding lock Fresh Knows now es
   closes line now o es c i obeys concluded released = subst (λ l. SessionAt rule holding lock Fresh Knows l es) (sym c) (record {
     instance = i;
     obeys = obeys;
@@ -164,12 +167,12 @@ module _ (rule : Rule) (holding : Holding) (lock : Option LockRow) (Fresh : Type
 
   -- it ends on the newest reply, which is a cause of that
   pub leaves : (old new : Head) (end : End) (e : Exchange) (es : Trace) → Leaves old end new → old.holder ≡ holding → old.line.instance ≡ holding.who.instance → old.line.sequence ≡ length es + 1
-      → Obeys (task_under rule holding.who) rule.allows rule.gives (e ∷ es) → ((t : Token) → e.ask ≢ Ask.Unlock t) → CausedBy (e ∷ es) e.ask e.say end → (e.say ≡ Say.Refused Code.Dead → end ≡ End.Fenced)
+      → Obeys (task_under rule holding.who) rule.allows rule.gives (e ∷ es) → ((t : Token) → e.ask ≢ Ask.Unlock t) → CausedBy (known_under rule holding.who) (e ∷ es) e.ask e.say end → (e.say ≡ Say.Refused Code.Dead → end ≡ End.Fenced)
       → (e.say ≢ Say.Refused Code.Dead → Holds (task_under rule holding.who) holding.token (e ∷ es)) → SessionAt rule holding lock Fresh Knows new.line (e ∷ es)
   leaves old new end e es left is i counted obeys plain caused dead held = elim (is_fenced end) [
     | inl fenced ↦
-        let say : e.say ≡ Say.Refused Code.Dead = subst (λ x. CausedBy (e ∷ es) e.ask e.say x) fenced caused in
-        closes old.line new.line (Outcome.Ended end) (e ∷ es) (left.fenced fenced) i obeys (subst (λ fs. Concludes rule.concludes fs (Outcome.Ended end)) (sym (still_whole e es plain)) (inl (inl caused)))
+        let say : e.say ≡ Say.Refused Code.Dead = subst (λ x. CausedBy (known_under rule holding.who) (e ∷ es) e.ask e.say x) fenced caused in
+        closes old.line new.line (Outcome.Ended end) (e ∷ es) (left.fenced fenced) i obeys (subst (λ fs. Concludes (known_under rule holding.who) rule.concludes fs (Outcome.Ended end)) (sym (still_whole e es plain)) (inl (inl caused)))
         (λ t h. absurd (dead_free (task_under rule holding.who) e es t say h))
     | inr other ↦
         let n : old.line.sequence ≡ length (e ∷ es) = omega (arith, counted) in
@@ -224,16 +227,16 @@ module _ (rule : Rule) (holding : Holding) (lock : Option LockRow) (Fresh : Type
 
     -- it ends on the reply, where no lock is held
     closed_now : (holding' : Holding) (lock' : Option LockRow) (end : End) (now : Line) → holding'.who ≡ holding.who → IsClosed line (Outcome.Ended end) now → ((t : Token) → r.ask ≢ Ask.Unlock t)
-        → CausedBy (e ∷ es) r.ask say end → ((t : Token) → Holds (task_under rule holding.who) t (e ∷ es) → ⊥) → SessionAt rule holding' lock' Fresh Knows now (e ∷ es)
+        → CausedBy (known_under rule holding.who) (e ∷ es) r.ask say end → ((t : Token) → Holds (task_under rule holding.who) t (e ∷ es) → ⊥) → SessionAt rule holding' lock' Fresh Knows now (e ∷ es)
     closed_now holding' lock' end now who c plain caused free =
         subst (λ (w : Asker). SessionAt rule (record { who = w; token = holding'.token }) lock' Fresh Knows now (e ∷ es)) (sym who)
         (closes rule (record { who = holding.who; token = holding'.token }) lock' Fresh Knows line now (Outcome.Ended end) (e ∷ es) c at.instance obeys_more
-        (subst (λ fs. Concludes rule.concludes fs (Outcome.Ended end)) (sym (still_whole e es plain)) (inl (inl caused))) (λ t h. absurd (free t h)))
+        (subst (λ fs. Concludes (known_under rule holding.who) rule.concludes fs (Outcome.Ended end)) (sym (still_whole e es plain)) (inl (inl caused))) (λ t h. absurd (free t h)))
 
     ticket_closed : (holding' : Holding) (lock' : Option LockRow) (end : End) (now : Line) → holding'.who ≡ holding.who → r.ask ≡ Ask.Ticket → ((t : Token) → say ≢ Say.Token t) → SessionEndsBy r.ask say end
         → IsClosed line (Outcome.Ended end) now → SessionAt rule holding' lock' Fresh Knows now (e ∷ es)
     ticket_closed holding' lock' end now who q other ends c =
-        closed_now holding' lock' end now who c (plain_by r.ask Ask.Ticket q ticket_plain) (ends.1 (subst (λ a. IsUnwelcome a say) (sym q) (unwelcome_ticket say other)) (e ∷ es))
+        closed_now holding' lock' end now who c (plain_by r.ask Ask.Ticket q ticket_plain) (ends.1 (subst (λ a. IsUnwelcome a say) (sym q) (unwelcome_ticket say other)) (known_under rule holding.who) (e ∷ es))
         (λ t h. unasked_free (task_under rule holding.who) e es t (may Ask.Ticket q) h)
 
     -- the reply to the lock
@@ -263,7 +266,7 @@ module _ (rule : Rule) (holding : Holding) (lock : Option LockRow) (Fresh : Type
         → SessionAt rule holding lock Fresh Knows now (e ∷ es)
     lock_closed row end now q other ends c =
         let k = known (Ask.Lock row) q in
-        closed_now holding lock end now refl c (plain_by r.ask (Ask.Lock row) q (lock_plain row)) (ends.1 (subst (λ a. IsUnwelcome a say) (sym q) (unwelcome_lock row say other)) (e ∷ es))
+        closed_now holding lock end now refl c (plain_by r.ask (Ask.Lock row) q (lock_plain row)) (ends.1 (subst (λ a. IsUnwelcome a say) (sym q) (unwelcome_lock row say other)) (known_under rule holding.who) (e ∷ es))
         (λ t h. ungranted_free (task_under rule holding.who) e es holding.token t other k.2 h)
 
     -- ---- the reply to the config
@@ -273,19 +276,42 @@ module _ (rule : Rule) (holding : Holding) (lock : Option LockRow) (Fresh : Type
         let k = known Ask.Config q in
         ap (λ a. silent a say ∷ es) q ∙ ap (λ s. silent Ask.Config s ∷ es) is ∙ ap (λ fs. silent Ask.Config (Say.Bytes text) ∷ fs) k.2
 
-    -- it is read, and the job begins
-    pub begun : (Fresh' : Type 0) (Knows' : Ask → Trace → Type 0) (text : List ℕ) (config : Config) (ask : Ask) (now : Line) → r.ask ≡ Ask.Config → say ≡ Say.Bytes text → IsConfigText text config → IsSentOnLine line ask now
+    -- it is read, of a version that is known, and the job asks for more
+    begun : (Fresh' : Type 0) (Knows' : Ask → Trace → Type 0) (text : List ℕ) (config : Config) (ask : Ask) (now : Line) → r.ask ≡ Ask.Config → say ≡ Say.Bytes text → IsConfigText text config
+        → config.version ≤ known_under rule holding.who → IsSentOnLine line ask now
         → (Fresh → MayAsk rule holding.who Knows' (opened (task_under rule holding.who) holding.token text) ask) → SessionAt rule holding lock Fresh' Knows' now (e ∷ es)
-    begun Fresh' Knows' text config ask now q is reads s begins =
+    begun Fresh' Knows' text config ask now q is reads known_to s begins =
         let k = known Ask.Config q in
         let all = config_working text config q is reads in
         let m : MayAsk rule holding.who Knows' (e ∷ es) ask = subst (λ fs. MayAsk rule holding.who Knows' fs ask) (sym all) (begins k.0) in
-        let working : IsWorking (task_under rule holding.who) holding.token (e ∷ es) = (config, record { later = []; text = text; since = all; reads = reads; held = record { unfenced = tt; unended = tt } }) in
+        let working : IsWorking (task_under rule holding.who) holding.token (e ∷ es) =
+        (config, record { later = []; text = text; since = all; reads = reads; known = known_to; held = record { unfenced = tt; unended = tt } }) in
         goes_on rule holding lock Fresh' Knows' line now ask (e ∷ es) s at.instance (more line.sequence e es waits.counted) k.1 (still_whole e es (plain_by r.ask Ask.Config q config_plain)) obeys_more m.may (λ w. m.allowed)
         (at_work rule holding lock Fresh' Knows' line.outcome ask (e ∷ es) m.work (working, k.1, m.knows))
 
+    -- or it ends at once
+    begun_over : (Fresh' : Type 0) (Knows' : Ask → Trace → Type 0) (text : List ℕ) (config : Config) (outcome : Outcome) (now : Line) → r.ask ≡ Ask.Config → say ≡ Say.Bytes text → IsConfigText text config
+        → IsFinished line outcome holding.token now → Concludes (known_under rule holding.who) rule.concludes (opened (task_under rule holding.who) holding.token text) outcome
+        → SessionAt rule holding lock Fresh' Knows' now (e ∷ es)
+    begun_over Fresh' Knows' text config outcome now q is reads s concluded =
+        let all = config_working text config q is reads in
+        finishes rule holding lock Fresh' Knows' line now outcome (e ∷ es) s at.instance (more line.sequence e es waits.counted) obeys_more
+        (record { later = silent Ask.Config (Say.Bytes text) ∷ []; since = all; held = record { unfenced = ((λ x. absurd (cc)), tt); unended = ((λ t x. absurd (cc)), tt) } })
+        (subst (λ fs. Concludes (known_under rule holding.who) rule.concludes fs outcome) (sym all) concluded)
+
+    -- the job begins
+    pub begins : (Fresh' : Type 0) (Knows' : Ask → Trace → Type 0) (text : List ℕ) (config : Config) (step : Step) (end : End) (old new : Head) → old.line ≡ line → old.holder ≡ holding → r.ask ≡ Ask.Config
+        → say ≡ Say.Bytes text → IsConfigText text config → config.version ≤ known_under rule holding.who → FollowsStep old step end new
+        → (Fresh → MayBegin rule holding.who Knows' (opened (task_under rule holding.who) holding.token text) step) → SessionAt rule holding lock Fresh' Knows' new.line (e ∷ es)
+    begins Fresh' Knows' text config (Step.Ask ask) end old new same is q said reads known_to s may =
+        begun Fresh' Knows' text config ask new.line q said reads known_to (subst (λ l. IsSentOnLine l ask new.line) same s) may
+    begins Fresh' Knows' text config (Step.Finish outcome) end old new same is q said reads known_to s may =
+        begun_over Fresh' Knows' text config outcome new.line q said reads
+        (subst (λ (h : Holding). IsFinished line outcome h.token new.line) is (subst (λ l. IsFinished l outcome old.holder.token new.line) same s)) (may (known Ask.Config q).0)
+    begins Fresh' Knows' text config Step.Away end old new same is q said reads known_to s may = absurd (may (known Ask.Config q).0)
+
     -- the session ends on it
-    pub config_left : (Fresh' : Type 0) (Knows' : Ask → Trace → Type 0) (end : End) (old new : Head) → old.line ≡ line → old.holder ≡ holding → r.ask ≡ Ask.Config → CausedBy (e ∷ es) r.ask say end
+    pub config_left : (Fresh' : Type 0) (Knows' : Ask → Trace → Type 0) (end : End) (old new : Head) → old.line ≡ line → old.holder ≡ holding → r.ask ≡ Ask.Config → CausedBy (known_under rule holding.who) (e ∷ es) r.ask say end
         → (say ≡ Say.Refused Code.Dead → end ≡ End.Fenced) → Leaves old end new → SessionAt rule holding lock Fresh' Knows' new.line (e ∷ es)
     config_left Fresh' Knows' end old new same is q caused dead left =
         let k = known Ask.Config q in
@@ -341,7 +367,7 @@ module _ (rule : Rule) (holding : Holding) (lock : Option LockRow) (Fresh : Type
     work_left say Fresh' Knows' end old new same is unwelcome ends left =
         let f : Exchange = silent r.ask say in
         leaves rule holding lock Fresh' Knows' old new end f es left is (ap (λ (l : Line). l.instance) same ∙ at.instance) (ap (λ (l : Line). l.sequence) same ∙ waits.counted) (obeys_more say) (work_no_unlock r.ask work)
-        (ends.1 unwelcome (f ∷ es)) ends.0 (λ live. holds_of (task_under rule holding.who) holding.token (f ∷ es) (working_on f refl live))
+        (ends.1 unwelcome (known_under rule holding.who) (f ∷ es)) ends.0 (λ live. holds_of (task_under rule holding.who) holding.token (f ∷ es) (working_on f refl live))
 
     -- the job goes on, or ends
     pub stepped : (Fresh' : Type 0) (Knows' : Ask → Trace → Type 0) (say : Say) (emitted : List Emission) (step : Step) (end : End) (old new : Head) → old.line ≡ line → old.holder ≡ holding → say ≢ Say.Refused Code.Dead
@@ -373,7 +399,7 @@ module _ (rule : Rule) (holding : Holding) (lock : Option LockRow) (Fresh : Type
   pub unlocked : (say : Say) (u : Token) → r.ask ≡ Ask.Unlock u
       → SessionAt rule holding lock Fresh Knows (record { instance = line.instance; sequence = line.sequence; next = None; outcome = line.outcome }) (silent r.ask say ∷ es)
   unlocked say u q =
-      let k : (o : Outcome) × (line.outcome ≡ Some o) × Concludes rule.concludes es o = known (Ask.Unlock u) q in
+      let k : (o : Outcome) × (line.outcome ≡ Some o) × Concludes (known_under rule holding.who) rule.concludes es o = known (Ask.Unlock u) q in
       let f : Exchange = silent r.ask say in
       let before : before_unlock (f ∷ es) ≡ es = ap (λ a. without_unlock a (f ∷ es) es) q in
       record {
@@ -382,7 +408,7 @@ module _ (rule : Rule) (holding : Holding) (lock : Option LockRow) (Fresh : Type
         stands = record {
           outcome = k.0;
           there = k.1;
-          concluded = subst (λ fs. Concludes rule.concludes fs k.0) (sym before) k.2;
+          concluded = subst (λ fs. Concludes (known_under rule holding.who) rule.concludes fs k.0) (sym before) k.2;
           released = λ t h. absurd (unlock_free (task_under rule holding.who) f es t u q h);
         };
       }
@@ -408,6 +434,7 @@ work_of task es (Ask.Get j n) m a b c d = tt
 work_of task es (Ask.Range pack offset len) m a b c d = tt
 work_of task es (Ask.Put t j n x) m a b c d = tt
 work_of task es (Ask.Delete t j n) m a b c d = tt
+work_of task es (Ask.Upgrade t) m a b c d = tt
 
 pub not_steady : (ask : Ask) → ask ≢ Ask.Ticket → ((row : LockRow) → ask ≢ Ask.Lock row) → ((t : Token) → ask ≢ Ask.Unlock t) → IsSteady ask → ⊥
 not_steady Ask.Ticket a b d s = a refl
@@ -421,6 +448,7 @@ not_steady (Ask.Get j n) a b d s = s
 not_steady (Ask.Range pack offset len) a b d s = s
 not_steady (Ask.Put t j n x) a b d s = s
 not_steady (Ask.Delete t j n) a b d s = s
+not_steady (Ask.Upgrade t) a b d s = s
 
 only_unlock : (ask : Ask) → ((t : Token) → ask ≢ Ask.Unlock t) → IsUnlock ask → ⊥
 only_unlock (Ask.Unlock t) d u = d t refl
@@ -434,6 +462,7 @@ only_unlock (Ask.Get j n) d u = u
 only_unlock (Ask.Range pack offset len) d u = u
 only_unlock (Ask.Put t j n x) d u = u
 only_unlock (Ask.Delete t j n) d u = u
+only_unlock (Ask.Upgrade t) d u = u
 
 -- where another request than the unlock is pending there is no outcome
 pub no_outcome : (rule : Rule) (holding : Holding) (lock : Option LockRow) (Fresh : Type 0) (Knows : Ask → Trace → Type 0) (line : Line) (r : Request) (o : Outcome) (es : Trace) → line.next ≡ Some r

@@ -164,6 +164,7 @@ answerable_ask (Ask.Get kind name) h = tt
 answerable_ask (Ask.Range pack offset len) h = tt
 answerable_ask (Ask.Put token kind name bytes) h = tt
 answerable_ask (Ask.Delete token kind name) h = tt
+answerable_ask (Ask.Upgrade token) h = tt
 answerable_ask Ask.Config h = tt
 
 pub answerable : (request : Request) → FitsFrame requests request → IsAnswerable request.ask

@@ -10,6 +10,7 @@ use Rattle.repo_session.specs.declared.outcomes.Outcome.{Outcome}
 use Rattle.repo_session.specs.Ends.{Concludes, NumbersAreSpent, before_unlock}
 use Rattle.repo_session.specs.Order.{Task, IsUnlock, Holds, May, IsPermitted, Obeys}
 use Rattle.repo_session.specs.Traces.{Exchange, Exchanged, Trace, giving}
+use Rattle.repo_session.specs.Versions.{upto}
 
 -- the reply is to this request
 abbrev pub IsReplyTo : Request → Reply → Type 0
@@ -39,7 +40,7 @@ pub record IsObedient (task : Task) (Allows : Trace → Ask → Type 0) (Gives :
   pub obeys : Obeys task Allows Gives es
   pub pending : (request : Request) → next ≡ Some request → IsNextRequest task Allows es request
   pub settled : next ≡ None → outcome ≢ None
-  pub concluded : (o : Outcome) → outcome ≡ Some o → Concludes Own (before_unlock es) o
+  pub concluded : (o : Outcome) → outcome ≡ Some o → Concludes (upto task.versions) Own (before_unlock es) o
   pub released : next ≡ None → outcome ≢ None → (token : Token) → Holds task token es → NumbersAreSpent es
   pub beside : (request : Request) → next ≡ Some request → outcome ≢ None → IsUnlock request.ask
   pub ending : (request : Request) → next ≡ Some request → IsUnlock request.ask → outcome ≢ None

@@ -1,5 +1,5 @@
 -- What a job owes the session around it.
-use Rattle.std.specs.Prelude.{◌≡◌, ◌⊎◌, ◌∷◌, [], ⊤, ℕ, Bool, List, Option}
+use Rattle.std.specs.Prelude.{◌≡◌, ◌≤◌, ◌⊎◌, ◌∷◌, [], ⊤, ℕ, Bool, List, Option}
 use Rattle.repo_name.specs.declared.names.Name.{Name}
 use Rattle.repo_wire.specs.declared.messages.Ask.{Ask}
 use Rattle.repo_wire.specs.Messages.{IsAsk, IsShortAsk}
@@ -11,20 +11,27 @@ use Rattle.repo_session.specs.Askers.{Asker, Holding}
 use Rattle.repo_session.specs.Ends.{Concludes, IsUnwelcome}
 use Rattle.repo_session.specs.Order.{Task, opened, IsWork, IsWorking, May, Obeys}
 use Rattle.repo_session.specs.Traces.{Exchange, Trace}
+use Rattle.repo_session.specs.Versions.{upto, shared}
+use Rattle.repo_session.specs.declared.versions.Versions.{Versions}
 
--- a job's own rule: whether it wants the lock alone, the snapshot that it may get without having listed it, whether it takes each refusal without
--- memory, and what it may ask, give out and conclude
+-- a job's own rule: whether it wants the lock alone, the snapshot that it may get without having listed it, which versions it knows, whether it takes each
+-- refusal without memory, and what it may ask, give out and conclude
 pub record Rule : Type 1 where
   pub exclusive : Bool
   pub snapshot : Option Name
+  pub versions : Versions
   pub calm : Type 0
   pub allows : Trace → Ask → Type 0
   pub gives : Trace → Exchange → Type 0
   pub concludes : Trace → Outcome → Type 0
 
--- who asks, under a rule
+-- who asks, under a rule; the versions that the job knows and who asks does
 abbrev pub task_under : Rule → Asker → Task
-task_under rule who = record { who = who; exclusive = rule.exclusive; snapshot = rule.snapshot }
+task_under rule who = record { who = who; exclusive = rule.exclusive; snapshot = rule.snapshot; versions = shared rule.versions who.versions }
+
+-- the greatest of these versions
+abbrev pub known_under : Rule → Asker → ℕ
+known_under rule who = upto (shared rule.versions who.versions)
 
 -- the request fits a frame
 abbrev pub IsShort : Ask → Type 0
@@ -44,14 +51,21 @@ GivesBy rule es e = (e.emitted ≡ []) ⊎ rule.gives es e
 -- what a job may do on an exchange after a trace: ask for more; end; or pass on a refusal, or a reply of the wrong sort
 abbrev pub MayStep : Rule → Asker → (Ask → Trace → Type 0) → Trace → Exchange → Step → Type 0
 MayStep rule who Knows es e (Step.Ask ask) = GivesBy rule es e × MayAsk rule who Knows (e ∷ es) ask
-MayStep rule who Knows es e (Step.Finish outcome) = GivesBy rule es e × Concludes rule.concludes (e ∷ es) outcome
+MayStep rule who Knows es e (Step.Finish outcome) = GivesBy rule es e × Concludes (known_under rule who) rule.concludes (e ∷ es) outcome
 MayStep rule who Knows es e Step.Away = IsUnwelcome e.ask e.say
 
 -- ---- what a job's calls owe
 
--- the first request, after each trace that only opened
-abbrev pub JobBegins : Rule → Holding → Type 0 → (Ask → Trace → Type 0) → Config → Ask → Type 0
-JobBegins rule holding Fresh Knows config ask = (text : List ℕ) → Fresh → IsConfigText text config → MayAsk rule holding.who Knows (opened (task_under rule holding.who) holding.token text) ask
+-- what a job may do where its config was just read: ask for more, or end
+abbrev pub MayBegin : Rule → Asker → (Ask → Trace → Type 0) → Trace → Step → Type 0
+MayBegin rule who Knows es (Step.Ask ask) = MayAsk rule who Knows es ask
+MayBegin rule who Knows es (Step.Finish outcome) = Concludes (known_under rule who) rule.concludes es outcome
+MayBegin rule who Knows es Step.Away = ⊥
+
+-- the first step, after each trace that only opened, by a config of a version that is known
+abbrev pub JobBegins : Rule → Holding → Type 0 → (Ask → Trace → Type 0) → Config → Step → Type 0
+JobBegins rule holding Fresh Knows config step = (text : List ℕ) → Fresh → IsConfigText text config → config.version ≤ known_under rule holding.who
+    → MayBegin rule holding.who Knows (opened (task_under rule holding.who) holding.token text) step
 
 -- the step on an exchange, after each trace at whose end the job's request was pending; the lock is held after the exchange
 abbrev pub StepsOn : Rule → Holding → (Ask → Trace → Type 0) → (Ask → Trace → Type 0) → Exchange → Step → Type 0

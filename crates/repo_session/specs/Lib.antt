@@ -7,6 +7,7 @@ pub mod Clients
 pub mod Rebuilding
 pub mod Received
 pub mod Trees
+pub mod Versions
 pub mod Soundness
 pub mod Talks
 pub mod Joined

@@ -11,7 +11,7 @@ use Rattle.repo_session.specs.declared.sessions.Session.{Session}
 use Rattle.repo_session.specs.Askers.{Holding}
 use Rattle.repo_session.specs.Clients.{IsNextRequest, IsObedient}
 use Rattle.repo_session.specs.Ends.{Concludes, NumbersAreSpent, without_unlock, before_unlock}
-use Rattle.repo_session.specs.Jobs.{Rule, task_under}
+use Rattle.repo_session.specs.Jobs.{Rule, task_under, known_under}
 use Rattle.repo_session.specs.Order.{Task, locked, IsNoUnlock, IsUnlock, Holds, May}
 use Rattle.repo_session.specs.Sessions.{KnowsAt, SessionStands, SessionAt, FitsSession}
 use Rattle.repo_session.specs.Traces.{Each, Exchange, Trace}
@@ -30,6 +30,7 @@ whole_of (Ask.Range pack offset len) whole older h = refl
 whole_of (Ask.Put token k n x) whole older h = refl
 whole_of (Ask.Delete token k n) whole older h = refl
 whole_of Ask.Config whole older h = refl
+whole_of (Ask.Upgrade token) whole older h = refl
 
 -- a trace whose newest exchange isn't an unlock is whole before the unlock
 pub still_whole : (e : Exchange) (es : Trace) → ((token : Token) → e.ask ≢ Ask.Unlock token) → before_unlock (e ∷ es) ≡ e ∷ es
@@ -59,11 +60,12 @@ module _ (rule : Rule) (holding : Holding) (lock : Option LockRow) (Fresh : Type
   beside_unlock (Ask.Range pack offset len) outcome es k n = absurd (n k.1)
   beside_unlock (Ask.Put t j m x) outcome es k n = absurd (n k.1)
   beside_unlock (Ask.Delete t j m) outcome es k n = absurd (n k.1)
+  beside_unlock (Ask.Upgrade t) outcome es k n = absurd (n k.1)
 
-  ends_beside : (ask : Ask) (o : Outcome) (es : Trace) → May (task_under rule holding.who) es ask → KnowsAt rule holding lock Fresh Knows (Some o) ask es → IsUnlock ask → Concludes rule.concludes (before_unlock es) o
+  ends_beside : (ask : Ask) (o : Outcome) (es : Trace) → May (task_under rule holding.who) es ask → KnowsAt rule holding lock Fresh Knows (Some o) ask es → IsUnlock ask → Concludes (known_under rule holding.who) rule.concludes (before_unlock es) o
   ends_beside (Ask.Unlock t) o es may k u =
       let same : k.0 ≡ o = let p = k.1 in cc in
-      subst (λ x. Concludes rule.concludes (before_unlock es) x) same (subst (λ fs. Concludes rule.concludes fs k.0) (sym (holds_whole (task_under rule holding.who) t es may)) k.2)
+      subst (λ x. Concludes (known_under rule holding.who) rule.concludes (before_unlock es) x) same (subst (λ fs. Concludes (known_under rule holding.who) rule.concludes fs k.0) (sym (holds_whole (task_under rule holding.who) t es may)) k.2)
   ends_beside Ask.Ticket o es may k u = absurd u
   ends_beside (Ask.Lock row) o es may k u = absurd u
   ends_beside (Ask.Refresh t time) o es may k u = absurd u
@@ -74,6 +76,7 @@ module _ (rule : Rule) (holding : Holding) (lock : Option LockRow) (Fresh : Type
   ends_beside (Ask.Range pack offset len) o es may k u = absurd u
   ends_beside (Ask.Put t j m x) o es may k u = absurd u
   ends_beside (Ask.Delete t j m) o es may k u = absurd u
+  ends_beside (Ask.Upgrade t) o es may k u = absurd u
 
   pending_is : (line : Line) (next : Option Request) (es : Trace) (r : Request) → SessionStands rule holding lock Fresh Knows line next es → next ≡ Some r → IsNextRequest (task_under rule holding.who) rule.allows es r
   pending_is line None es r s p = absurd (cc)
@@ -83,8 +86,8 @@ module _ (rule : Rule) (holding : Holding) (lock : Option LockRow) (Fresh : Type
   settles line None es s p none = let there = s.there in absurd (cc)
   settles line (Some q) es s p none = absurd (cc)
 
-  concludes_at : (line : Line) (next : Option Request) (es : Trace) (o : Outcome) → SessionStands rule holding lock Fresh Knows line next es → line.outcome ≡ Some o → Concludes rule.concludes (before_unlock es) o
-  concludes_at line None es o s p = let there = s.there in let same : s.outcome ≡ o = cc in subst (λ x. Concludes rule.concludes (before_unlock es) x) same s.concluded
+  concludes_at : (line : Line) (next : Option Request) (es : Trace) (o : Outcome) → SessionStands rule holding lock Fresh Knows line next es → line.outcome ≡ Some o → Concludes (known_under rule holding.who) rule.concludes (before_unlock es) o
+  concludes_at line None es o s p = let there = s.there in let same : s.outcome ≡ o = cc in subst (λ x. Concludes (known_under rule holding.who) rule.concludes (before_unlock es) x) same s.concluded
   concludes_at line (Some q) es o s p =
       let k = s.knows in
       ends_beside q.ask o es s.next.may (subst (λ x. KnowsAt rule holding lock Fresh Knows x q.ask es) p k) (beside_unlock q.ask line.outcome es k (λ none. absurd (cc)))
@@ -101,6 +104,7 @@ module _ (rule : Rule) (holding : Holding) (lock : Option LockRow) (Fresh : Type
   unlock_there (Ask.Range pack offset len) outcome es k u none = u
   unlock_there (Ask.Put t j m x) outcome es k u none = u
   unlock_there (Ask.Delete t j m) outcome es k u none = u
+  unlock_there (Ask.Upgrade t) outcome es k u none = u
 
   is_released : (line : Line) (next : Option Request) (es : Trace) → SessionStands rule holding lock Fresh Knows line next es → next ≡ None → (token : Token) → Holds (task_under rule holding.who) token es → NumbersAreSpent es
   is_released line None es s p token h = s.released token h

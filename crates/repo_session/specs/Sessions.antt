@@ -1,5 +1,5 @@
 -- Where a session stands, and what it does by itself.
-use Rattle.std.specs.Prelude.{◌≡◌, ◌≢◌, ◌+◌, [], Bool, true, false, cond, List, length, Option, Some, None, ◌∷◌}
+use Rattle.std.specs.Prelude.{◌≡◌, ◌≢◌, ◌+◌, [], ℕ, Bool, true, false, cond, List, length, Option, Some, None, ◌∷◌}
 use Rattle.repo_name.specs.declared.rows.LockRow.{LockRow}
 use Rattle.repo_name.specs.declared.tokens.Token.{Token}
 use Rattle.repo_wire.specs.declared.messages.Ask.{Ask}
@@ -16,7 +16,7 @@ use Rattle.repo_session.specs.declared.sessions.Session.{Session}
 use Rattle.repo_session.specs.Askers.{Asker, Holding}
 use Rattle.repo_session.specs.Clients.{IsNextRequest, exchange, IsReplyTo}
 use Rattle.repo_session.specs.Ends.{CausedBy, Concludes, NumbersAreSpent, IsUnwelcome, before_unlock}
-use Rattle.repo_session.specs.Jobs.{Rule, task_under}
+use Rattle.repo_session.specs.Jobs.{Rule, task_under, known_under}
 use Rattle.repo_session.specs.Lines.{IsSentOnLine, IsFinished, IsClosed}
 use Rattle.repo_session.specs.Order.{ticketed, locked, lock_row, Holds, IsWorking, Obeys, IsWork}
 use Rattle.repo_session.specs.Traces.{Trace, giving}
@@ -27,7 +27,7 @@ abbrev pub KnowsAt : Rule → Holding → Option LockRow → Type 0 → (Ask →
 KnowsAt rule holding lock Fresh Knows outcome Ask.Ticket es = Fresh × (outcome ≡ None) × (lock ≡ Some (lock_row (task_under rule holding.who) (record { 0 = 0 })))
 KnowsAt rule holding lock Fresh Knows outcome (Ask.Lock row) es = Fresh × (outcome ≡ None) × (es ≡ ticketed holding.token)
 KnowsAt rule holding lock Fresh Knows outcome Ask.Config es = Fresh × (outcome ≡ None) × (es ≡ locked (task_under rule holding.who) holding.token)
-KnowsAt rule holding lock Fresh Knows outcome (Ask.Unlock token) es = (o : Outcome) × (outcome ≡ Some o) × Concludes rule.concludes es o
+KnowsAt rule holding lock Fresh Knows outcome (Ask.Unlock token) es = (o : Outcome) × (outcome ≡ Some o) × Concludes (known_under rule holding.who) rule.concludes es o
 KnowsAt rule holding lock Fresh Knows outcome (Ask.Refresh token time) es = ⊥
 KnowsAt rule holding lock Fresh Knows outcome Ask.Locks es = ⊥
 KnowsAt rule holding lock Fresh Knows outcome ask es = IsWorking (task_under rule holding.who) holding.token es × (outcome ≡ None) × Knows ask es
@@ -42,7 +42,7 @@ pub record SessionWaits (rule : Rule) (holding : Holding) (lock : Option LockRow
 pub record SessionRests (rule : Rule) (holding : Holding) (line : Line) (es : Trace) : Type 0 where
   pub outcome : Outcome
   pub there : line.outcome ≡ Some outcome
-  pub concluded : Concludes rule.concludes (before_unlock es) outcome
+  pub concluded : Concludes (known_under rule holding.who) rule.concludes (before_unlock es) outcome
   pub released : (token : Token) → Holds (task_under rule holding.who) token es → NumbersAreSpent es
 
 -- by what is pending
@@ -58,7 +58,7 @@ pub record SessionAt (rule : Rule) (holding : Holding) (lock : Option LockRow) (
 
 -- where the reply is a refusal, or of the wrong sort, it is a cause of this end
 abbrev pub SessionEndsBy : Ask → Say → End → Type 0
-SessionEndsBy ask say end = (say ≡ Say.Refused Code.Dead → end ≡ End.Fenced) × (IsUnwelcome ask say → (es : Trace) → CausedBy es ask say end)
+SessionEndsBy ask say end = (say ≡ Say.Refused Code.Dead → end ≡ End.Fenced) × (IsUnwelcome ask say → (known : ℕ) (es : Trace) → CausedBy known es ask say end)
 
 -- ---- over the code's own types
 

@@ -70,6 +70,7 @@ module _ (rule : Rule) (holding : Holding) (lock : Option LockRow) (Fresh : Type
   given_beside (Ask.Range pack offset len) es token k p = let same : holding.token ≡ token = cc in subst (λ t. Exchanged es Ask.Ticket (Say.Token t)) same (given_working (task_under rule holding.who) holding.token es k.0)
   given_beside (Ask.Put t j n x) es token k p = let same : holding.token ≡ token = cc in subst (λ t. Exchanged es Ask.Ticket (Say.Token t)) same (given_working (task_under rule holding.who) holding.token es k.0)
   given_beside (Ask.Delete t j n) es token k p = let same : holding.token ≡ token = cc in subst (λ t. Exchanged es Ask.Ticket (Say.Token t)) same (given_working (task_under rule holding.who) holding.token es k.0)
+  given_beside (Ask.Upgrade t) es token k p = let same : holding.token ≡ token = cc in subst (λ t. Exchanged es Ask.Ticket (Say.Token t)) same (given_working (task_under rule holding.who) holding.token es k.0)
 
   tells_beside : (ask : Ask) (es : Trace) (token : Token) → Obeys (task_under rule holding.who) rule.allows rule.gives es → May (task_under rule holding.who) es ask
       → KnowsAt rule holding lock Fresh Knows None ask es → Exchanged es Ask.Ticket (Say.Token token) → token_beside holding.token ask ≡ Some token
@@ -91,6 +92,7 @@ module _ (rule : Rule) (holding : Holding) (lock : Option LockRow) (Fresh : Type
   tells_beside (Ask.Range pack offset len) es token obeys may k h = ap Some (sym (one_working (task_under rule holding.who) rule.allows rule.gives holding.token token es k.0 obeys h))
   tells_beside (Ask.Put t j n x) es token obeys may k h = ap Some (sym (one_working (task_under rule holding.who) rule.allows rule.gives holding.token token es k.0 obeys h))
   tells_beside (Ask.Delete t j n) es token obeys may k h = ap Some (sym (one_working (task_under rule holding.who) rule.allows rule.gives holding.token token es k.0 obeys h))
+  tells_beside (Ask.Upgrade t) es token obeys may k h = ap Some (sym (one_working (task_under rule holding.who) rule.allows rule.gives holding.token token es k.0 obeys h))
 
   given_told : (line : Line) (outcome : Option Outcome) (next : Option Request) (es : Trace) (token : Token) → line.outcome ≡ outcome → SessionStands rule holding lock Fresh Knows line next es
       → token_told holding.token outcome next ≡ Some token → Exchanged es Ask.Ticket (Say.Token token)

@@ -5,11 +5,12 @@ ghost use Rattle.repo_wire.specs.declared.messages.Ask.{Ask};
 ghost use Rattle.repo_wire.specs.declared.messages.Code.{Code};
 ghost use Rattle.repo_wire.specs.declared.messages.Say.{Say};
 ghost use Rattle.repo_session.specs.declared.emissions.Emission.{Emission};
-ghost use Rattle.repo_session.specs.Jobs.{Rule, JobBegins, StepsOn, IsShort, IsShortStep};
+ghost use Rattle.repo_session.specs.Jobs.{Rule, JobBegins, StepsOn, IsShortStep};
 ghost use Rattle.repo_session.specs.Traces.{Trace, giving};
 
 use crate::emissions::Emission;
 use crate::outcomes::Outcome;
+use crate::versions::Versions;
 use crate::who::Holder;
 use repo_tree::Config;
 use repo_wire::{Ask, Say};
@@ -26,7 +27,7 @@ pub enum Step {
     Away,
 }
 
-/// What a client does under its lock: which request comes first, what it makes of each reply, and how it ends.
+/// What a client does under its lock: which versions it knows, which request comes first, what it makes of each reply, and how it ends.
 ///
 /// The [`Session`](crate::Session) around it opens, sends its requests, and unlocks. A job never sees a reply that
 /// isn't to its own request, nor one that tells that its token is dead.
@@ -48,10 +49,14 @@ pub trait Job {
     fn is_exclusive(&self) -> bool
         ensures { result ≡ (rule (handed self.now)).exclusive };
 
-    /// Begins by the config, and gives the first request. It takes no memory.
-    fn opened(&mut self, holder: &Holder, config: &Config) -> Ask
+    /// Which versions it knows. It is begun by a config of one of them alone.
+    fn versions(&self) -> Versions
+        ensures { result ≡ (rule (handed self.now)).versions };
+
+    /// Begins by the config, and gives the first request, or ends. It takes no memory.
+    fn opened(&mut self, holder: &Holder, config: &Config) -> Step
         ensures begins { JobBegins (rule (handed self.old)) holder.now (fresh self.old) (knows self.new) config.now result }
-        ensures short { IsShort result }
+        ensures short { IsShortStep result }
         ensures handed { handed self.new ≡ handed self.old };
 
     /// Takes the reply to a request of its own. It fails for memory alone, and then it knows what it knew, and the

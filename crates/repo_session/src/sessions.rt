@@ -170,11 +170,12 @@ impl<J: Job + Drop> Session<J> {
             self.head.leave(end);
             return Ok(());
         };
-        match Config::read(self.alloc, bytes.as_slice()) {
+        let versions = self.job.versions().shared(self.head.holder.versions());
+        match Config::read_upto(self.alloc, bytes.as_slice(), versions.greatest()) {
             Ok(config) => {
-                let ask = self.job.opened(&self.head.holder, &config);
+                let step = self.job.opened(&self.head.holder, &config);
                 self.told = false;
-                self.head.line.send(ask);
+                self.head.follow(step, end);
                 Ok(())
             }
             Err(error) => {

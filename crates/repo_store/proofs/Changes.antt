@@ -7,7 +7,7 @@ use Rattle.repo_name.specs.declared.names.Name.{Name}
 use Rattle.repo_name.specs.Naming.{name_cmp}
 use Rattle.repo_name.proofs.NameMaps.{same_name}
 use Rattle.repo_locks.specs.TokenMachine.{Tokens}
-use Rattle.repo_store.specs.Stores.{Store, Objects, Added, Removed, PutsObject, RemovesObject, SavesTokens}
+use Rattle.repo_store.specs.Stores.{Store, Objects, Added, Removed, PutsObject, RemovesObject, SavesTokens, SavesConfig}
 
 abbrev is_kind : Kind → Kind → Bool
 is_kind Kind.Pack Kind.Pack = true
@@ -104,3 +104,6 @@ removes_can old kind name = let a = removed_can old.objects kind name in (record
 
 pub saves_can : (old : Store) (tokens : Tokens) → (new : Store) × SavesTokens tokens old new
 saves_can old tokens = (record old { tokens = tokens }, (refl, refl, refl, refl))
+
+pub config_can : (old : Store) (bytes : List ℕ) → (new : Store) × SavesConfig bytes old new
+config_can old bytes = (record old { config = Some bytes }, (refl, refl, refl, refl))

@@ -1,4 +1,4 @@
-use Rattle.std.proofs.Common.{ℕ, List, length, ◌≡◌, ◌≤◌, inl, inr, refl, sym, subst, ◌∙◌, Ok, Err, Option, Some, None, is_some, Bool, true, false}
+use Rattle.std.proofs.Common.{arith, Vec, Global, ℕ, List, length, ◌≡◌, ◌≤◌, inl, inr, refl, sym, ap, subst, ◌∙◌, Ok, Err, Option, Some, None, is_some, Bool, true, false}
 use Rattle.std.proofs.lemmas.Option.{none-some}
 use Rattle.repo_name.specs.declared.kinds.Kind.{Kind}
 use Rattle.repo_name.specs.declared.names.Name.{Name}
@@ -12,7 +12,12 @@ use Rattle.repo_locks.specs.TokenMachine.{Tokens, live_as, is_live, is_fresh_or_
 use Rattle.repo_store.specs.declared.shelves.ShelfError.{ShelfError}
 use Rattle.repo_store.specs.Laws.{Writes}
 use Rattle.repo_store.specs.StoreMachine.{object_limit, Answers, Looks, IsQuiet, Step, refusal}
-use Rattle.repo_store.specs.Stores.{Store, PutsObject, RemovesObject, SavesTokens}
+use Rattle.repo_store.specs.Stores.{Store, PutsObject, RemovesObject, SavesTokens, SavesConfig}
+use Rattle.repo_store.specs.Upgrades.{IsUpgradeOf, RaiseAnswer, IsDue}
+use Rattle.repo_store.specs.declared.upgrades.Due.{Due}
+use Rattle.repo_tree.specs.ConfigText.{IsConfigText}
+use Rattle.repo_tree.specs.declared.configs.Config.{Config}
+use Rattle.repo_tree.proofs.ConfigLemmas.{config_texts_one}
 
 -- a save that failed, where the tokens are those of an answer; mid is the store after the ledger was read
 pub save_failed : (old mid new : Store) (tokens : Tokens) (ask : Ask) (other : Say) (e : ShelfError)
@@ -47,12 +52,12 @@ module _ (old : Store) (read tokens : Tokens) (is : read ≡ old.tokens) where
       record { result = true; tokens = tokens; step = subst P is step; says = refl; saves = saved }
 
   -- a number that isn't live as it is asked for isn't held already
-  pub newly_locked : (row : LockRow) → LockStep read row.token row.exclusive row.time row.host (Ok Grant.New) tokens → ¬ IsQuiet old.tokens (Ask.Lock row)
+  pub newly_locked : (row : LockRow) → LockStep read row.token row.exclusive row.time row.host (Ok Grant.New) tokens → ¬ IsQuiet old (Ask.Lock row)
   newly_locked row step quiet =
       let none : live_as old.tokens row.token ≡ None = subst (λ l. live_as l row.token ≡ None) is step.0.0 in
       none-some row.exclusive (sym none ∙ quiet)
 
-  pub newly_unlocked : (token : Token) → UnlockStep read token true tokens → ¬ IsQuiet old.tokens (Ask.Unlock token)
+  pub newly_unlocked : (token : Token) → UnlockStep read token true tokens → ¬ IsQuiet old (Ask.Unlock token)
   newly_unlocked token step quiet =
       let was : is_fresh_or_live old.tokens token ≡ true = subst (λ l. is_fresh_or_live l token ≡ true) is step.0 in
       let c : true ≡ false = sym was ∙ quiet in absurd (cc)
@@ -72,6 +77,33 @@ pub removed_made : (old : Store) (read : Tokens) (token : Token) (kind : Kind) (
     → live_as read token ≡ Some true → (after : Store) → RemovesObject kind name old after → Answers old (Ask.Delete token kind name) Say.Done after
 removed_made old read token kind name is deletes live after removes =
     inr (deletes, inr (inr (subst (λ l. live_as l token ≡ Some true) is live, refl, removes)))
+
+-- the config read is raised
+pub raised_made : (old : Store) (read : Tokens) (token : Token) (text anew : List ℕ) → read ≡ old.tokens → live_as read token ≡ Some true
+    → old.config ≡ Some text → IsUpgradeOf text anew → (after : Store) → SavesConfig anew old after → Answers old (Ask.Upgrade token) Say.Done after
+raised_made old read token text anew is live config due after saves =
+    inr (inr (subst (λ l. live_as l token ≡ Some true) is live, subst (λ found. RaiseAnswer found old Say.Done after) (sym config) (inr (inr (refl, (anew, due, saves))))))
+
+-- it isn't of version 2
+pub newly_raised : (old : Store) (token : Token) (text anew : List ℕ) → old.config ≡ Some text → IsUpgradeOf text anew → ¬ IsQuiet old (Ask.Upgrade token)
+newly_raised old token text anew config due quiet =
+    let other = quiet.2.0 in
+    let same : quiet.0 ≡ text = let e : Some quiet.0 ≡ Some text = sym quiet.1 ∙ config in (cc) in
+    let one : due.config ≡ other = config_texts_one text due.config other due.reads (subst (λ x. IsConfigText x other) same quiet.2.1) in
+    let c : 1 ≡ 2 = sym due.first ∙ ap (λ (c : Config). c.version) one ∙ quiet.2.2 in absurd (omega (arith, c))
+
+-- what is due is due of a text that was read
+pub due_of : (found : Option (List ℕ)) (anew : Vec ℕ Global) → IsDue found (Due.Save anew) → (text : List ℕ) × (found ≡ Some text) × IsUpgradeOf text anew.items
+due_of None anew h = absurd (cc)
+due_of (Some text) anew h = (text, refl, h)
+
+-- a config that wasn't kept
+pub raise_failed : (old mid new : Store) (read : Tokens) (token : Token) (text anew : List ℕ) (e : ShelfError) → mid ≡ old → read ≡ old.tokens → live_as read token ≡ Some true → old.config ≡ Some text
+    → IsUpgradeOf text anew → Writes {T = Unit {0}} (SavesConfig anew) mid (Err e) new → Step old (Ask.Upgrade token) (refusal e) new
+raise_failed old mid new read token text anew ShelfError.Fault same is live config due (inl stays) = inr (tt, inl (refl, inl (stays ∙ same)))
+raise_failed old mid new read token text anew ShelfError.Fault same is live config due (inr saved) =
+    inr (tt, inl (refl, inr (Say.Done, raised_made old read token text anew is live config due new (subst (λ s. SavesConfig anew s new) same saved))))
+raise_failed old mid new read token text anew ShelfError.Memory same is live config due stays = inr (tt, inr (refl, stays ∙ same))
 
 pub ticket_failed : (old mid new : Store) (read tokens : Tokens) (token : Token) (e : ShelfError) → mid ≡ old → read ≡ old.tokens
     → TicketStep read (Ok token) tokens → Writes {T = Unit {0}} (SavesTokens tokens) mid (Err e) new → Step old Ask.Ticket (refusal e) new

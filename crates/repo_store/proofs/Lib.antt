@@ -9,3 +9,4 @@ pub mod PageLemmas
 pub mod Remembering
 pub mod RunLemmas
 pub mod ServiceLemmas
+pub mod Upgrading

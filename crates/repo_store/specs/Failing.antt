@@ -1,8 +1,9 @@
 -- What the store does in a step, with or without a failure of its device that was called for.
-use Rattle.std.specs.Prelude.{◌≡◌, ◌≢◌, ◌⊎◌, ◌<◌, ⊤, ℕ, cond}
+use Rattle.std.specs.Prelude.{◌≡◌, ◌≢◌, ◌⊎◌, ◌<◌, ⊤, ℕ, true, cond, Some}
 use Rattle.repo_wire.specs.declared.messages.Ask.{Ask}
 use Rattle.repo_wire.specs.declared.messages.Code.{Code}
 use Rattle.repo_wire.specs.declared.messages.Say.{Say}
+use Rattle.repo_locks.specs.TokenMachine.{live_as}
 use Rattle.repo_store.specs.declared.faults.Armed.{Armed}
 use Rattle.repo_store.specs.declared.faults.Fail.{Fail}
 use Rattle.repo_store.specs.Faults.{StillWaits}
@@ -27,18 +28,19 @@ IsRefused _ = ⊥
 
 -- the answer is made by a writing call of the device: it is no refusal, and the request isn't one for which nothing is written
 abbrev pub IsWritten : Store → Ask → Say → Type 0
-IsWritten old ask say = (¬ IsQuiet old.tokens ask) × (¬ IsRefused say)
+IsWritten old ask say = (¬ IsQuiet old ask) × (¬ IsRefused say)
 
 -- in place of an answer, the device's own failure is told, or the want of memory, and nothing changed
 abbrev pub FailsItself : Type 0 → Store → Ask → Say → Store → Type 0
 FailsItself Own old ask say new = Looks old ask × (new ≡ old) × (((say ≡ Say.Refused Code.Fault) × Own) ⊎ (say ≡ Say.Refused Code.NoMemory))
 
--- a request for which the device is always read; for any other what it was read for may be kept from before
-abbrev pub IsAlwaysRead : Ask → Type 0
-IsAlwaysRead (Ask.Get kind name) = ⊤
-IsAlwaysRead (Ask.Range pack offset len) = IsRangeLength len
-IsAlwaysRead Ask.Config = ⊤
-IsAlwaysRead _ = ⊥
+-- a request for which the device is always read, for an answer that is this; for any other what it was read for may be kept from before
+abbrev pub IsAlwaysRead : Store → Ask → Say → Type 0
+IsAlwaysRead old (Ask.Get kind name) say = ⊤
+IsAlwaysRead old (Ask.Range pack offset len) say = IsRangeLength len
+IsAlwaysRead old Ask.Config say = ⊤
+IsAlwaysRead old (Ask.Upgrade token) say = (live_as old.tokens token ≡ Some true) × (say ≢ Say.Refused Code.NoMemory)
+IsAlwaysRead old _ say = ⊥
 
 -- One step in which the device's next call of a sort fails. A writing call: where the answer is made by one, that is told, and the store is as after it or
 -- as before; where it is made by none, the step is as without. A reading call: where the device is read that is told, and nothing changed; where it
@@ -50,7 +52,7 @@ Failing Own (Fail.Write applied) old ask say new =
     ⊎ FailsItself Own old ask say new)
 Failing Own Fail.Read old ask say new =
     (Looks old ask × (new ≡ old) × (say ≡ Say.Refused Code.Fault))
-    ⊎ ((¬ IsAlwaysRead ask) × Plainly Own old ask say new)
+    ⊎ ((¬ IsAlwaysRead old ask say) × Plainly Own old ask say new)
 
 -- what is armed after a step: nothing, where it met its call; else it still waits, and a failure that is told is the device's own
 abbrev pub IsLeft : Type 0 → Armed → Say → Armed → Type 0

@@ -13,3 +13,4 @@ pub mod Serving
 pub mod Slices
 pub mod StoreMachine
 pub mod Stores
+pub mod Upgrades

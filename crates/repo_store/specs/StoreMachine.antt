@@ -20,6 +20,7 @@ use Rattle.repo_store.specs.Laws.{greatest_count}
 use Rattle.repo_store.specs.Pages.{IsPage}
 use Rattle.repo_store.specs.Slices.{IsSlice}
 use Rattle.repo_store.specs.Stores.{Store, PutsObject, RemovesObject, SavesTokens}
+use Rattle.repo_store.specs.Upgrades.{IsRaised, RaiseAnswer}
 use Rattle.repo_name.specs.Limits.{blob_limit, index_limit, pack_limit, text_limit}
 
 -- the most bytes of an object of each kind
@@ -53,6 +54,7 @@ IsAnswerable (Ask.Range pack offset len) = ⊤
 IsAnswerable (Ask.Put token kind name bytes) = ⊤
 IsAnswerable (Ask.Delete token kind name) = ⊤
 IsAnswerable Ask.Config = ⊤
+IsAnswerable (Ask.Upgrade token) = ⊤
 
 -- what is said of a ticket
 abbrev pub TicketSays : Result Token TicketError → Say → Type 0
@@ -157,6 +159,13 @@ DeleteAnswer old token kind name say new =
     ((old.append_only ≡ true) × (say ≡ Say.Refused Code.AppendOnly) × (new ≡ old))
     ⊎ ((old.append_only ≡ false) × RemoveAnswer old token kind name say new)
 
+-- the config is to be of version 2, under an exclusive lock; also where the store only appends
+abbrev pub UpgradeAnswer : Store → Token → Say → Store → Type 0
+UpgradeAnswer old token say new =
+    ((live_as old.tokens token ≡ None) × (say ≡ Say.Refused Code.Dead) × (new ≡ old))
+    ⊎ (((live_as old.tokens token ≡ Some false) × (say ≡ Say.Refused Code.NotExclusive) × (new ≡ old))
+    ⊎ ((live_as old.tokens token ≡ Some true) × RaiseAnswer old.config old say new))
+
 -- the answers of a store whose device doesn't fail
 abbrev pub Answers : Store → Ask → Say → Store → Type 0
 Answers old Ask.Ticket say new = TicketAnswer old say new
@@ -170,6 +179,7 @@ Answers old (Ask.Range pack offset len) say new = RangeAnswer old pack offset le
 Answers old (Ask.Put token kind name bytes) say new = PutAnswer old token kind name bytes say new
 Answers old (Ask.Delete token kind name) say new = DeleteAnswer old token kind name say new
 Answers old Ask.Config say new = ConfigAnswer old say new
+Answers old (Ask.Upgrade token) say new = UpgradeAnswer old token say new
 
 -- a request that isn't answered before the device is looked at
 abbrev pub Looks : Store → Ask → Type 0
@@ -184,6 +194,7 @@ Looks old (Ask.Range pack offset len) = IsRangeLength len
 Looks old (Ask.Put token kind name bytes) = length bytes ≤ object_limit kind
 Looks old (Ask.Delete token kind name) = old.append_only ≡ false
 Looks old Ask.Config = ⊤
+Looks old (Ask.Upgrade token) = ⊤
 
 -- in place of an answer: the device failed, before the answer's change or after it; or there was no memory, and nothing changed
 abbrev pub Fails : Store → (Say → Store → Type 0) → Say → Store → Type 0
@@ -199,19 +210,21 @@ Step old ask say new = Answers old ask say new ⊎ (Looks old ask × Fails old (
 abbrev pub SaysFault : ℕ → Say → ℕ → Type 0
 SaysFault old say new = (old ≤ new) × (say ≡ Say.Refused Code.Fault → (old < new) ⊎ (new ≡ greatest_count))
 
--- the device isn't asked to write for this: it is only read for; or a lock is live as it is asked for, or a number to be unlocked is neither fresh nor live
-abbrev pub IsQuiet : Tokens → Ask → Type 0
-IsQuiet tokens Ask.Ticket = ⊥
-IsQuiet tokens (Ask.Lock row) = live_as tokens row.token ≡ Some row.exclusive
-IsQuiet tokens (Ask.Refresh token time) = ⊥
-IsQuiet tokens (Ask.Unlock token) = is_fresh_or_live tokens token ≡ false
-IsQuiet tokens Ask.Locks = ⊤
-IsQuiet tokens (Ask.List kind after) = ⊤
-IsQuiet tokens (Ask.Get kind name) = ⊤
-IsQuiet tokens (Ask.Range pack offset len) = ⊤
-IsQuiet tokens (Ask.Put token kind name bytes) = ⊥
-IsQuiet tokens (Ask.Delete token kind name) = ⊥
-IsQuiet tokens Ask.Config = ⊤
+-- the device isn't asked to write for this: it is only read for; or a lock is live as it is asked for, or a number to be unlocked is neither fresh nor live,
+-- or the config that is to be of version 2 is so already
+abbrev pub IsQuiet : Store → Ask → Type 0
+IsQuiet old Ask.Ticket = ⊥
+IsQuiet old (Ask.Lock row) = live_as old.tokens row.token ≡ Some row.exclusive
+IsQuiet old (Ask.Refresh token time) = ⊥
+IsQuiet old (Ask.Unlock token) = is_fresh_or_live old.tokens token ≡ false
+IsQuiet old Ask.Locks = ⊤
+IsQuiet old (Ask.List kind after) = ⊤
+IsQuiet old (Ask.Get kind name) = ⊤
+IsQuiet old (Ask.Range pack offset len) = ⊤
+IsQuiet old (Ask.Put token kind name bytes) = ⊥
+IsQuiet old (Ask.Delete token kind name) = ⊥
+IsQuiet old Ask.Config = ⊤
+IsQuiet old (Ask.Upgrade token) = IsRaised old
 
 -- it is refused, and not for the device's failure or for want of memory
 abbrev pub IsRuledOut : Say → Type 0

@@ -15,6 +15,7 @@ use crate::object_answers::{
     answer_config, answer_delete, answer_get, answer_list, answer_put, answer_range,
 };
 use crate::shelves::{Shelf, ShelfError};
+use crate::upgrades::answer_upgrade;
 use repo_name::Instance;
 use repo_wire::{Ask, Code, Reply, Request, Say};
 use std::alloc::Global;
@@ -37,7 +38,7 @@ fn say_to<S: Shelf>(alloc: Global, shelf: &mut S, ask: &Ask) -> Say
     ensures armed { AnswersAsArmed S.honest S.armed S.own S.store shelf.old ask.now result shelf.new }
     ensures honest { S.honest shelf.old → S.honest shelf.new }
     ensures once { S.writes shelf.new ≤ S.writes shelf.old + 1 }
-    ensures quiet { S.honest shelf.old → IsQuiet (S.store shelf.old).tokens ask.now → S.writes shelf.new ≡ S.writes shelf.old }
+    ensures quiet { S.honest shelf.old → IsQuiet (S.store shelf.old) ask.now → S.writes shelf.new ≡ S.writes shelf.old }
     ensures ruled_out { IsRuledOut result → S.writes shelf.new ≡ S.writes shelf.old }
     ensures within { IsSay result × IsShortSay result }
 {
@@ -62,6 +63,7 @@ fn say_to<S: Shelf>(alloc: Global, shelf: &mut S, ask: &Ask) -> Say
         } => answer_put(shelf, *token, *kind, name, bytes.as_slice()),
         Ask::Delete { token, kind, name } => answer_delete(shelf, *token, *kind, name),
         Ask::Config => answer_config(shelf),
+        Ask::Upgrade(token) => answer_upgrade(alloc, shelf, *token),
     }
 }
 
@@ -86,7 +88,8 @@ fn reply_to(instance: Instance, sequence: u64, say: Say) -> Reply
 /// as before, or as after the answer that the request would have had. What a shelf was told to fail in fails in
 /// just that call, and then no more. After every other refusal the store is as before. A store that only appends
 /// keeps each object. The shelf is asked to write at most once; and not at all for a request that only reads, a
-/// lock that is held already, an unlock that changes nothing, and where the refusal is another than 10 and 11.
+/// lock that is held already, an unlock that changes nothing, an upgrade of a config that is of version 2
+/// already, and where the refusal is another than 10 and 11.
 pub fn answer<S: Shelf>(alloc: Global, shelf: &mut S, request: &Request) -> Reply
     requires { IsAnswerable request.now.ask }
     ensures replies { S.honest shelf.old → Replies (S.store shelf.old) request.now result (S.store shelf.new) }
@@ -95,7 +98,7 @@ pub fn answer<S: Shelf>(alloc: Global, shelf: &mut S, request: &Request) -> Repl
     ensures armed { AnswersAsArmed S.honest S.armed S.own S.store shelf.old request.now.ask result.say shelf.new }
     ensures honest { S.honest shelf.old → S.honest shelf.new }
     ensures once { S.writes shelf.new ≤ S.writes shelf.old + 1 }
-    ensures quiet { S.honest shelf.old → IsQuiet (S.store shelf.old).tokens request.now.ask → S.writes shelf.new ≡ S.writes shelf.old }
+    ensures quiet { S.honest shelf.old → IsQuiet (S.store shelf.old) request.now.ask → S.writes shelf.new ≡ S.writes shelf.old }
     ensures ruled_out { IsRuledOut result.say → S.writes shelf.new ≡ S.writes shelf.old }
     ensures fits { FitsFrame replies result }
     ensures repeats { (result.instance ≡ request.now.instance) × (result.sequence ≡ request.now.sequence) }

@@ -12,8 +12,9 @@
 //!
 //! The definitions stand in `specs/`: `Stores` (the machine's state and its changes), `Pages` and
 //! `Slices` (what a page of names and a part of a pack are), `Laws` (what a call of an honest shelf
-//! does), `StoreMachine` (the step for each request), `Runs` (steps one after another), `Serving` (what
-//! serving an input gives), `Making` (what making a store gives), `Faults` (the call that is armed).
+//! does), `StoreMachine` (the step for each request), `Upgrades` (what an upgrade does to the config),
+//! `Runs` (steps one after another), `Serving` (what serving an input gives), `Making` (what making a
+//! store gives), `Faults` (the call that is armed).
 #![tactic(auto)]
 
 mod answers;
@@ -32,6 +33,7 @@ mod pages;
 mod services;
 mod serving;
 mod shelves;
+mod upgrades;
 
 pub use answers::answer;
 pub use append_only::AppendOnly;

@@ -60,7 +60,7 @@ pub fn answer_lock<S: Shelf>(shelf: &mut S, row: &LockRow) -> Say
     ensures armed { AnswersAsArmed S.honest S.armed S.own S.store shelf.old (Ask.Lock row.now) result shelf.new }
     ensures honest { S.honest shelf.old → S.honest shelf.new }
     ensures once { S.writes shelf.new ≤ S.writes shelf.old + 1 }
-    ensures quiet { S.honest shelf.old → IsQuiet (S.store shelf.old).tokens (Ask.Lock row.now) → S.writes shelf.new ≡ S.writes shelf.old }
+    ensures quiet { S.honest shelf.old → IsQuiet (S.store shelf.old) (Ask.Lock row.now) → S.writes shelf.new ≡ S.writes shelf.old }
     ensures ruled_out { IsRuledOut result → S.writes shelf.new ≡ S.writes shelf.old }
     ensures within { IsSay result × IsShortSay result }
 {
@@ -110,7 +110,7 @@ pub fn answer_unlock<S: Shelf>(shelf: &mut S, token: Token) -> Say
     ensures armed { AnswersAsArmed S.honest S.armed S.own S.store shelf.old (Ask.Unlock token) result shelf.new }
     ensures honest { S.honest shelf.old → S.honest shelf.new }
     ensures once { S.writes shelf.new ≤ S.writes shelf.old + 1 }
-    ensures quiet { S.honest shelf.old → IsQuiet (S.store shelf.old).tokens (Ask.Unlock token) → S.writes shelf.new ≡ S.writes shelf.old }
+    ensures quiet { S.honest shelf.old → IsQuiet (S.store shelf.old) (Ask.Unlock token) → S.writes shelf.new ≡ S.writes shelf.old }
     ensures ruled_out { IsRuledOut result → S.writes shelf.new ≡ S.writes shelf.old }
     ensures within { IsSay result × IsShortSay result }
 {

@@ -2,6 +2,7 @@
 
 ghost use Rattle.std.specs.Prelude.{◌≡◌};
 ghost use Rattle.repo_tree.specs.ConfigText.{config_text, IsTarget};
+ghost use Rattle.repo_tree.specs.Versions.{greatest_version, IsKnownTo};
 ghost use Rattle.repo_store.specs.Making.{Makes, MakingHasCause, making_error};
 
 use crate::shelves::{Shelf, ShelfError};
@@ -33,12 +34,12 @@ fn making_error(error: ShelfError) -> InitError
     }
 }
 
-/// Keeps the config on a shelf that has none. The config's version has to be 1, and its target within
+/// Keeps the config on a shelf that has none. The config's version has to be one that there is, and its target within
 /// its limits.
 ///
 /// `Exists` comes first. `Fault` comes only where the shelf failed in this call.
 pub fn init<S: Shelf>(alloc: Global, shelf: &mut S, config: &Config) -> Result<(), InitError>
-    requires version { config.now.version ≡ 1 }
+    requires version { IsKnownTo greatest_version config.now.version }
     requires target { IsTarget config.now.target }
     ensures law { S.honest shelf.old → Makes (config_text config.now) (S.store shelf.old) result (S.store shelf.new) }
     ensures cause { S.honest shelf.old → MakingHasCause (S.failed shelf.old) result (S.failed shelf.new) }

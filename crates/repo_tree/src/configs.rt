@@ -8,11 +8,13 @@ ghost use Rattle.repo_name.specs.declared.names.Instance.{Instance};
 ghost use Rattle.repo_chunk.specs.Parameters.{AreLawful};
 ghost use Rattle.repo_json.specs.JsonText.{number_at, text_at};
 ghost use Rattle.repo_tree.specs.ConfigText.{HasConfig, IsTarget, AreAllowed, IsConfigText, config_data, config_text, ConfigFault, ConfigIsUnwritable};
+ghost use Rattle.repo_tree.specs.Versions.{greatest_version};
 ghost use Rattle.repo_tree.specs.declared.configs.Config.{Config};
 ghost use Rattle.repo_tree.specs.declared.faults.TextError.{TextError};
 
 use crate::faults::TextError;
-use crate::json::{known_version, parse};
+use crate::json::{parse, version_of};
+use crate::versions::{GREATEST_VERSION, is_known};
 use hex::FromHex;
 use repo_chunk::Params;
 use repo_name::{GREATEST_TARGET, Instance, LEAST_TARGET, TEXT_LIMIT};
@@ -65,13 +67,13 @@ fn is_target(target: u64) -> bool
 }
 
 /// The config whose members a value of a known version has.
-fn config_of(value: &Value) -> Result<Config, TextError>
-    requires { number_at (codes "version") (view value.now) ≡ Some 1 }
+fn config_of(value: &Value, version: u64) -> Result<Config, TextError>
+    requires { number_at (codes "version") (view value.now) ≡ Some version }
     ensures ok { IfOk result (HasConfig (view value.now)) }
-    ensures version { IfOk result (λ c. c.version ≡ 1) }
+    ensures version { IfOk result (λ c. c.version ≡ version) }
     ensures allowed { IfOk result AreAllowed }
     ensures shape { IsErrOf result TextError.Shape → (c : Config) → ¬ HasConfig (view value.now) c }
-    ensures params { IsErrOf result TextError.Params → (c : Config) × HasConfig (view value.now) c × (c.version ≡ 1) × ¬ AreAllowed c }
+    ensures params { IsErrOf result TextError.Params → (c : Config) × HasConfig (view value.now) c × (c.version ≡ version) × ¬ AreAllowed c }
     ensures only { IfErr result (λ e. e ≢ TextError.Shape → e ≡ TextError.Params) }
 {
     let Some(id) = value
@@ -100,7 +102,7 @@ fn config_of(value: &Value) -> Result<Config, TextError>
         return Err(TextError::Params);
     }
     Ok(Config {
-        version: 1,
+        version,
         id,
         params,
         target,
@@ -128,28 +130,36 @@ fn config_value(alloc: Global, config: &Config) -> Result<Value, AllocError>
 }
 
 impl Config {
-    /// The config of which this is the text. It asks for memory once it has seen that the text isn't too large.
-    pub fn read(alloc: Global, bytes: &[u8]) -> Result<Config, TextError>
-        ensures ok { IfOk result (IsConfigText bytes.now) }
-        ensures fault { IfErr result (ConfigFault bytes.now) }
-        ensures none { IfErr result (λ e. e ≢ TextError.Memory → (c : Config) → ¬ IsConfigText bytes.now c) }
+    /// The config of which this is the text, for a reader that knows the versions from 1 to `upto`: of any other it is `Version`.
+    /// It asks for memory once it has seen that the text isn't too large.
+    pub fn read_upto(alloc: Global, bytes: &[u8], upto: u64) -> Result<Config, TextError>
+        requires { upto ≤ greatest_version }
+        ensures ok { IfOk result (λ c. IsConfigText bytes.now c × (c.version ≤ upto)) }
+        ensures fault { IfErr result (ConfigFault upto bytes.now) }
+        ensures none { IfErr result (λ e. e ≢ TextError.Memory → (c : Config) → c.version ≤ upto → ¬ IsConfigText bytes.now c) }
     {
         let value = parse(alloc, bytes, TEXT_LIMIT)?;
-        match known_version(&value) {
-            None => Err(TextError::Shape),
-            Some(false) => Err(TextError::Version),
-            Some(true) => config_of(&value),
-        }
+        let version = version_of(&value, upto)?;
+        config_of(&value, version)
     }
 
-    /// The config's text. Its version has to be 1 and its target within its limits, else it is `Version` or
+    /// The config of which this is the text, of any version that there is. Its faults are those of [`read_upto`](Self::read_upto).
+    pub fn read(alloc: Global, bytes: &[u8]) -> Result<Config, TextError>
+        ensures ok { IfOk result (IsConfigText bytes.now) }
+        ensures fault { IfErr result (ConfigFault greatest_version bytes.now) }
+        ensures none { IfErr result (λ e. e ≢ TextError.Memory → (c : Config) → ¬ IsConfigText bytes.now c) }
+    {
+        Config::read_upto(alloc, bytes, GREATEST_VERSION)
+    }
+
+    /// The config's text. Its version has to be 1 or 2 and its target within its limits, else it is `Version` or
     /// `Params`; a text within these is never too large.
     pub fn write(&self, alloc: Global) -> Result<Vec<u8>, TextError>
         ensures text { IfOk result (λ text. text.items ≡ config_text self.now) }
         ensures reads { IfOk result (λ text. IsConfigText text.items self.now) }
         ensures fault { IfErr result (ConfigIsUnwritable self.now) }
     {
-        if self.version != 1 {
+        if !is_known(self.version, GREATEST_VERSION) {
             return Err(TextError::Version);
         }
         if !is_target(self.target) {

@@ -7,7 +7,11 @@ ghost use Rattle.repo_name.specs.Naming.{hex_of, IsName};
 ghost use Rattle.repo_name.specs.declared.names.Name.{Name};
 ghost use Rattle.repo_json.specs.JsonText.{number_at, text_at};
 ghost use Rattle.repo_tree.specs.ShortJson.{IsShortJson};
+ghost use Rattle.repo_tree.specs.Versions.{IsKnownTo};
+ghost use Rattle.repo_tree.specs.declared.faults.TextError.{TextError};
 
+use crate::faults::TextError;
+use crate::versions::is_known;
 use repo_json::{JsonError, hex_name};
 use repo_name::Name;
 use serde_json::Value;
@@ -51,13 +55,18 @@ pub(crate) fn name_at(value: &Value, key: &str) -> Option<Name>
     hex_name(text)
 }
 
-/// Whether the version that a value tells is the one that is known, which is 1. `None` where it tells none.
-pub(crate) fn known_version(value: &Value) -> Option<bool>
-    ensures told { IfSome result (λ known. (v : ℕ) × (number_at (codes "version") (view value.now) ≡ Some v) × (IsTrue known ↔ (v ≡ 1))) }
-    ensures none { IfNone result ((v : ℕ) → number_at (codes "version") (view value.now) ≢ Some v) }
+/// The version that a value tells, if it is one from 1 to `upto`: else `Version`, or `Shape` where the value tells none.
+pub(crate) fn version_of(value: &Value, upto: u64) -> Result<u64, TextError>
+    ensures ok { IfOk result (λ v. (number_at (codes "version") (view value.now) ≡ Some v) × IsKnownTo upto v) }
+    ensures version { IsErrOf result TextError.Version → (v : ℕ) × (number_at (codes "version") (view value.now) ≡ Some v) × ¬ IsKnownTo upto v }
+    ensures shape { IsErrOf result TextError.Shape → (v : ℕ) → number_at (codes "version") (view value.now) ≢ Some v }
+    ensures only { IfErr result (λ e. e ≢ TextError.Version → e ≡ TextError.Shape) }
 {
     let Some(version) = value.get("version").and_then(Value::as_u64) else {
-        return None;
+        return Err(TextError::Shape);
     };
-    Some(version == 1)
+    if !is_known(version, upto) {
+        return Err(TextError::Version);
+    }
+    Ok(version)
 }

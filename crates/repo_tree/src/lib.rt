@@ -10,8 +10,9 @@
 //! read asks for no more memory than it needs, and that a set of blobs has no clash of names.
 //!
 //! The definitions stand in `specs/`: `Components`, `ShortJson`, `TreeText` (which bytes are a tree's text, and the
-//! first fault of others), `TreeWriting`, `SnapshotText`, `ConfigText`, `Parts` (directories in one tree and in parts, by
-//! the version of a snapshot; the code reads and writes those in one tree alone), `Spelling`, `Laws`.
+//! first fault of others), `TreeWriting`, `Versions`, `SnapshotText`, `ConfigText`, `Parts` (directories in one tree and in
+//! parts, by the version of a snapshot), `PartReading`, `PartWriting` (the parts that the nodes of a directory get, and their
+//! texts), `PartSizes` (how long they are), `Spelling`, `Laws`.
 #![tactic(auto)]
 
 pub use components::is_component;
@@ -19,10 +20,14 @@ pub use configs::Config;
 pub use entries::{Entry, EntryKind};
 pub use faults::{TextError, TreeError};
 pub use nodes::{Node, NodeKind};
+pub use part_cutting::part_sizes;
+pub use part_reading::read_part;
+pub use part_writing::write_part;
 pub use paths::{Path, is_below, is_path};
 pub use snapshots::Snapshot;
 pub use tree_reading::read_tree;
 pub use tree_writing::write_tree;
+pub use versions::GREATEST_VERSION;
 
 mod components;
 mod configs;
@@ -31,7 +36,11 @@ mod faults;
 mod json;
 pub mod laws;
 mod nodes;
+mod part_cutting;
+mod part_reading;
+mod part_writing;
 mod paths;
 mod snapshots;
 mod tree_reading;
 mod tree_writing;
+mod versions;

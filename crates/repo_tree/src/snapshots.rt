@@ -1,16 +1,18 @@
 //! Snapshots, and their texts.
 
-ghost use Rattle.std.specs.Prelude.{◌≡◌, ◌≢◌, ◌<◌, ◌^◌, length, codes, Some, Err, IfOk, IfErr, IsErrOf};
+ghost use Rattle.std.specs.Prelude.{◌≡◌, ◌≢◌, ◌<◌, ◌≤◌, ◌^◌, length, codes, Some, Err, IfOk, IfErr, IsErrOf};
 ghost use Rattle.serde_json.specs.Data.{Data};
 ghost use Rattle.serde_json.specs.View.{view};
 ghost use Rattle.repo_name.specs.Naming.{IsName};
 ghost use Rattle.repo_json.specs.JsonText.{number_at};
 ghost use Rattle.repo_tree.specs.SnapshotText.{HasSnapshot, IsSnapshotText, snapshot_data, snapshot_text, SnapshotFault, SnapshotIsUnwritable};
+ghost use Rattle.repo_tree.specs.Versions.{greatest_version};
 ghost use Rattle.repo_tree.specs.declared.snapshots.Snapshot.{Snapshot};
 ghost use Rattle.repo_tree.specs.declared.faults.TextError.{TextError};
 
 use crate::faults::TextError;
-use crate::json::{known_version, name_at, parse};
+use crate::json::{name_at, parse, version_of};
+use crate::versions::{GREATEST_VERSION, is_known};
 use repo_name::{Name, TEXT_LIMIT, Text, Token, is_host};
 use serde_json::{Value, json};
 use std::alloc::{AllocError, Global};
@@ -26,15 +28,15 @@ pub struct Snapshot {
     pub token: Token,
     /// The name of the root's tree blob.
     pub tree: Name,
-    /// The version of the formats, which is 1.
+    /// The version of the formats, 1 or 2.
     pub version: u64,
 }
 
 /// The snapshot whose members a value of a known version has.
-fn snapshot_of(alloc: Global, value: &Value) -> Result<Snapshot, TextError>
-    requires { number_at (codes "version") (view value.now) ≡ Some 1 }
+fn snapshot_of(alloc: Global, value: &Value, version: u64) -> Result<Snapshot, TextError>
+    requires { number_at (codes "version") (view value.now) ≡ Some version }
     ensures ok { IfOk result (λ s. HasSnapshot (view value.now) s) }
-    ensures version { IfOk result (λ s. s.version ≡ 1) }
+    ensures version { IfOk result (λ s. s.version ≡ version) }
     ensures shape { IsErrOf result TextError.Shape → (s : Snapshot) → ¬ HasSnapshot (view value.now) s }
     ensures only { IfErr result (λ e. e ≢ TextError.Shape → e ≡ TextError.Memory) }
 {
@@ -60,7 +62,7 @@ fn snapshot_of(alloc: Global, value: &Value) -> Result<Snapshot, TextError>
         time,
         token,
         tree,
-        version: 1,
+        version,
     })
 }
 
@@ -81,28 +83,36 @@ fn snapshot_value(alloc: Global, snapshot: &Snapshot) -> Result<Value, AllocErro
 }
 
 impl Snapshot {
-    /// The snapshot of which this is the text. It asks for memory once it has seen that the text isn't too large.
-    pub fn read(alloc: Global, bytes: &[u8]) -> Result<Snapshot, TextError>
-        ensures ok { IfOk result (IsSnapshotText bytes.now) }
-        ensures fault { IfErr result (SnapshotFault bytes.now) }
-        ensures none { IfErr result (λ e. e ≢ TextError.Memory → (s : Snapshot) → ¬ IsSnapshotText bytes.now s) }
+    /// The snapshot of which this is the text, for a reader that knows the versions from 1 to `upto`: of any other it is `Version`.
+    /// It asks for memory once it has seen that the text isn't too large.
+    pub fn read_upto(alloc: Global, bytes: &[u8], upto: u64) -> Result<Snapshot, TextError>
+        requires { upto ≤ greatest_version }
+        ensures ok { IfOk result (λ s. IsSnapshotText bytes.now s × (s.version ≤ upto)) }
+        ensures fault { IfErr result (SnapshotFault upto bytes.now) }
+        ensures none { IfErr result (λ e. e ≢ TextError.Memory → (s : Snapshot) → s.version ≤ upto → ¬ IsSnapshotText bytes.now s) }
     {
         let value = parse(alloc, bytes, TEXT_LIMIT)?;
-        match known_version(&value) {
-            None => Err(TextError::Shape),
-            Some(false) => Err(TextError::Version),
-            Some(true) => snapshot_of(alloc, &value),
-        }
+        let version = version_of(&value, upto)?;
+        snapshot_of(alloc, &value, version)
     }
 
-    /// The snapshot's text. Its version has to be 1 and its host within its limits, else it is `Version` or `Shape`;
+    /// The snapshot of which this is the text, of any version that there is. Its faults are those of [`read_upto`](Self::read_upto).
+    pub fn read(alloc: Global, bytes: &[u8]) -> Result<Snapshot, TextError>
+        ensures ok { IfOk result (IsSnapshotText bytes.now) }
+        ensures fault { IfErr result (SnapshotFault greatest_version bytes.now) }
+        ensures none { IfErr result (λ e. e ≢ TextError.Memory → (s : Snapshot) → ¬ IsSnapshotText bytes.now s) }
+    {
+        Snapshot::read_upto(alloc, bytes, GREATEST_VERSION)
+    }
+
+    /// The snapshot's text. Its version has to be 1 or 2 and its host within its limits, else it is `Version` or `Shape`;
     /// a text within these is never too large.
     pub fn write(&self, alloc: Global) -> Result<Vec<u8>, TextError>
         ensures text { IfOk result (λ text. text.items ≡ snapshot_text self.now) }
         ensures reads { IfOk result (λ text. IsSnapshotText text.items self.now) }
         ensures fault { IfErr result (SnapshotIsUnwritable self.now) }
     {
-        if self.version != 1 {
+        if !is_known(self.version, GREATEST_VERSION) {
             return Err(TextError::Version);
         }
         if !is_host(self.host.as_str()) {

@@ -53,6 +53,21 @@ pub enum Ask {
     },
     /// The store's config.
     Config,
+    /// That the store's config be of version 2 from now on, under a live exclusive lock's token.
+    Upgrade(Token),
+}
+
+/// A put of the same bytes. It fails for memory alone.
+fn copied_put(token: Token, kind: Kind, name: Name, bytes: &Bytes) -> Result<Ask, AllocError>
+    ensures { IfOk result (λ put. put ≡ Ask.Put token kind name bytes.now) }
+{
+    let bytes = bytes.clone()?;
+    Ok(Ask::Put {
+        token,
+        kind,
+        name,
+        bytes,
+    })
 }
 
 impl Ask {
@@ -63,10 +78,10 @@ impl Ask {
         Ok(match self {
             Ask::Ticket => Ask::Ticket,
             Ask::Lock(row) => Ask::Lock(row.clone()?),
-            Ask::Refresh { token, time } => Ask::Refresh {
-                token: *token,
-                time: *time,
-            },
+            Ask::Refresh { token, time } => {
+                let (token, time) = (*token, *time);
+                Ask::Refresh { token, time }
+            }
             Ask::Unlock(token) => Ask::Unlock(*token),
             Ask::Locks => Ask::Locks,
             Ask::List { kind, after } => Ask::List {
@@ -91,18 +106,14 @@ impl Ask {
                 kind,
                 name,
                 bytes,
-            } => Ask::Put {
-                token: *token,
-                kind: *kind,
-                name: *name,
-                bytes: bytes.clone()?,
-            },
+            } => copied_put(*token, *kind, *name, bytes)?,
             Ask::Delete { token, kind, name } => Ask::Delete {
                 token: *token,
                 kind: *kind,
                 name: *name,
             },
             Ask::Config => Ask::Config,
+            Ask::Upgrade(token) => Ask::Upgrade(*token),
         })
     }
 }

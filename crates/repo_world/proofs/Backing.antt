@@ -27,6 +27,7 @@ use Rattle.repo_tree.specs.TreeWriting.{tree_text}
 use Rattle.repo_tree.proofs.SpellingLemmas.{empty_spelled}
 use Rattle.repo_store.specs.StoreMachine.{Step, object_limit}
 use Rattle.repo_store.specs.Stores.{Store, Objects, Added}
+use Rattle.repo_session.specs.declared.versions.Versions.{Versions}
 use Rattle.repo_session.specs.Askers.{asker}
 use Rattle.repo_session.specs.Catalogs.{AreIndexed}
 use Rattle.repo_session.specs.Ends as ends
@@ -108,10 +109,10 @@ put_no_unlock t k n x u h = absurd (cc)
 
 module _ (host : List ℕ) (time : ℕ) (config pack index snapshot : List ℕ) (limits : (time < 2 ^ 64) × IsHost host) (texts : AreTexts host time config pack index snapshot) where
   abbrev task : Task
-  task = task_of (Job.Backup []) (asker (instance_of 0) host time)
+  task = task_of (Job.Backup []) (asker (instance_of 0) host time Versions.Both)
 
   abbrev opening : Trace
-  opening = opened (task_of (Job.Backup []) (asker (instance_of 0) host time)) token config
+  opening = opened (task_of (Job.Backup []) (asker (instance_of 0) host time Versions.Both)) token config
 
   abbrev listing : Trace
   listing = silent (Ask.List Kind.Index None) (Say.Names false []) ∷ opening
@@ -131,7 +132,7 @@ module _ (host : List ℕ) (time : ℕ) (config pack index snapshot : List ℕ) 
   -- ---- it works
 
   works_0 : IsWorking task token opening
-  works_0 = opened_working task token config texts.read texts.configured
+  works_0 = opened_working task token config texts.read texts.configured (let first = texts.first in omega (arith, first))
 
   works_1 : IsWorking task token listing
   works_1 = working_more task token (silent (Ask.List Kind.Index None) (Say.Names false [])) opening works_0 (λ h. absurd (cc)) (λ t h. absurd (cc))
@@ -173,7 +174,7 @@ module _ (host : List ℕ) (time : ℕ) (config pack index snapshot : List ℕ) 
   -- ---- its puts
 
   made : (es : Trace) → Exchanged es Ask.Config (Say.Bytes config) → backing.IsMade [] es nothing
-  made es read = record { text = config; config = texts.read; read = read; reads = texts.configured; cut = record { holds = refl; cut = tt } }
+  made es read = record { text = config; config = texts.read; read = read; reads = texts.configured; known = (let first = texts.first in omega (arith, first)); cut = record { holds = refl; cut = tt } }
 
   pack_rule : backing.PackRule [] listing pack
   pack_rule = record {
@@ -236,6 +237,7 @@ module _ (host : List ℕ) (time : ℕ) (config pack index snapshot : List ℕ) 
   given item c = ⊎_elim (λ same. subst (λ (i : Item). IsGiven indexing i.kind i.name ⊎ IsIndexed indexing i.kind i.name) same (inr tree_given)) (λ none. absurd (none_contained item none)) (contained_or (tree_of nothing) [] item c)
 
   snapshot_rule : backing.SnapshotRule [] indexing token snapshot
+  unfolding made
   snapshot_rule = record {
     indexes = indexed_3;
     first = refl;
@@ -250,6 +252,7 @@ module _ (host : List ℕ) (time : ℕ) (config pack index snapshot : List ℕ) 
     time_is = refl;
     folder = nothing;
     cut = made indexing (inr (inr (inr (inl (refl, refl)))));
+    version_is = sym texts.first;
     spells = empty_spelled 1 (λ k y. Contains (blobs_of nothing) (item_of k y)) (naming.name (tree_text [])) [] (record { text = tree_text []; among = first_contained (tree_of nothing) []; named = refl; reads = texts.empty });
     given = given;
   }
@@ -300,7 +303,7 @@ module _ (host : List ℕ) (time : ℕ) (config pack index snapshot : List ℕ) 
     obeys = obeys;
     pending = λ r h. absurd (none-some r h);
     settled = λ e q. absurd (none-some (stored snapshot) (sym q));
-    concluded = λ o e. subst (λ x. ends.Concludes (JobConcludes (Job.Backup [])) storing x) (same_Some (stored snapshot) o e) is_stored;
+    concluded = λ o e. subst (λ x. ends.Concludes 1 (JobConcludes (Job.Backup [])) storing x) (same_Some (stored snapshot) o e) is_stored;
     released = λ e o t h. absurd (held_end task t h.later (silent (Ask.Unlock token) Say.Done) storing h.since h.held.unended tt);
     beside = λ r h o. absurd (none-some r h);
     ending = λ r h u. absurd (none-some r h);

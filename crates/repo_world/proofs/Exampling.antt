@@ -13,6 +13,7 @@ use Rattle.repo_locks.specs.declared.outcomes.Grant.{Grant}
 use Rattle.repo_locks.specs.TokenMachine.{start, issued, granted}
 use Rattle.repo_store.specs.declared.faults.Fail.{Fail}
 use Rattle.repo_store.specs.Stores.{empty}
+use Rattle.repo_session.specs.declared.versions.Versions.{Versions}
 use Rattle.repo_session.specs.Askers.{asker}
 use Rattle.repo_session.specs.Clients.{exchange, IsNextRequest}
 use Rattle.repo_session.specs.Ends as ends
@@ -36,13 +37,13 @@ host_within = (omega arith, (omega arith, omega arith, (97 ∷ [], (refl, refl))
 -- ---- the worlds on the way
 
 abbrev asking : Client
-asking = record { job = Job.Backup []; who = asker (instance_of 0) host 5; trace = exchange (first_of 0) given [] ∷ []; next = Some second; outcome = None; crashed = false }
+asking = record { job = Job.Backup []; who = asker (instance_of 0) host 5 Versions.Both; trace = exchange (first_of 0) given [] ∷ []; next = Some second; outcome = None; crashed = false }
 
 abbrev w1 : World
-w1 = record { store = empty; clients = started 0 (Job.Backup []) host 5 ∷ []; messages = Asked 0 (first_of 0) ∷ [] }
+w1 = record { store = empty; clients = started 0 (Job.Backup []) host 5 false ∷ []; messages = Asked 0 (first_of 0) ∷ [] }
 
 abbrev w2 : World
-w2 = record { store = with_tokens (issued start); clients = started 0 (Job.Backup []) host 5 ∷ []; messages = Asked 0 (first_of 0) ∷ Said 0 given ∷ [] }
+w2 = record { store = with_tokens (issued start); clients = started 0 (Job.Backup []) host 5 false ∷ []; messages = Asked 0 (first_of 0) ∷ Said 0 given ∷ [] }
 
 abbrev w3 : World
 w3 = record { store = with_tokens (issued start); clients = asking ∷ []; messages = Asked 0 (first_of 0) ∷ Said 0 given ∷ Asked 0 second ∷ [] }
@@ -86,7 +87,7 @@ not_held (x ∷ []) t e = absurd (cc)
 not_held (x ∷ y ∷ []) t e = absurd (cc)
 not_held (x ∷ y ∷ z ∷ later) t e = absurd (cc)
 
-caused : ends.Concludes (JobConcludes (Job.Backup [])) refused.trace (Outcome.Ended (End.Refused Code.Fault))
+caused : ends.Concludes 1 (JobConcludes (Job.Backup [])) refused.trace (Outcome.Ended (End.Refused Code.Fault))
 caused = inl (inl (refl, ((λ q. absurd (cc)), (λ q. absurd (cc)))))
 
 dutiful_2 : IsDutiful refused
@@ -94,7 +95,7 @@ dutiful_2 = record {
   obeys = ((token, refl, refl), (λ work. absurd work), inl refl, (refl, (λ work. absurd work), inl refl, tt));
   pending = λ r e. absurd (none-some r e);
   settled = λ e q. absurd (none-some (Outcome.Ended (End.Refused Code.Fault)) (sym q));
-  concluded = λ o e. subst (λ x. ends.Concludes (JobConcludes (Job.Backup [])) refused.trace x) (same_Some (Outcome.Ended (End.Refused Code.Fault)) o e) caused;
+  concluded = λ o e. subst (λ x. ends.Concludes 1 (JobConcludes (Job.Backup [])) refused.trace x) (same_Some (Outcome.Ended (End.Refused Code.Fault)) o e) caused;
   released = λ e o t h. absurd (not_held h.later t h.since);
   beside = λ r e o. absurd (none-some r e);
   ending = λ r e u. absurd (none-some r e);
@@ -102,7 +103,7 @@ dutiful_2 = record {
 
 -- ---- its steps
 
-step_1 : Happens ⊤ (beginning empty) (Event.Start (Job.Backup []) host 5) Applied.Done w1
+step_1 : Happens ⊤ (beginning empty) (Event.Start (Job.Backup []) host 5 false) Applied.Done w1
 step_1 = inl (refl, record { accepted = tt; limits = host_within; is = refl })
 
 step_2 : Happens ⊤ w1 (Event.Deliver 0) Applied.Done w2

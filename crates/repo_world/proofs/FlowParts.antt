@@ -1,5 +1,5 @@
 -- A flow, as an event changes one of its seats.
-use Rattle.std.proofs.Common.{Bor, ◌≡◌, ◌∙◌, inl, inr, ◌<◌, ◌-◌, ◌++◌, ◌∷◌, [], ℕ, true, false, List, length, map, slice_get, slice_set, slice_index_or, Option, Some, None, is_some, option_map, refl, sym, ap, subst, arith, append-nil, length-append, ◌^◌, lit≤}
+use Rattle.std.proofs.Common.{Bool, Bor, ◌≡◌, ◌∙◌, inl, inr, ◌<◌, ◌-◌, ◌++◌, ◌∷◌, [], ℕ, true, false, List, length, map, slice_get, slice_set, slice_index_or, Option, Some, None, is_some, option_map, refl, sym, ap, subst, arith, append-nil, length-append, ◌^◌, lit≤}
 use Rattle.std.proofs.lemmas.List.{get_or-set_same, length-map, map-append, map-set}
 use Rattle.std.proofs.lemmas.Option.{slice_get-map, slice_get_read}
 use Rattle.std.specs.Option.{IfSome, MatchOption, option_copied}
@@ -19,7 +19,7 @@ use Rattle.repo_world.specs.Flows.{EachIsThere, Flow, IsThere, messages_in, seat
 use Rattle.repo_world.specs.inner.Seating.{Answered, Crashed, StepsAsArmed, TookReply}
 use Rattle.repo_world.specs.Seats.{Seated, empty_seat, listed, nothing, silence}
 use Rattle.repo_world.specs.World as world
-use Rattle.repo_world.specs.World.{World, client_at, crashed_one, first_of, instance_of, sends, started}
+use Rattle.repo_world.specs.World.{versions_of, World, client_at, crashed_one, first_of, instance_of, sends, started}
 use Rattle.repo_world.specs.declared.any_clients.AnyClient.{AnyClient}
 use Rattle.repo_world.specs.declared.events.Applied.{Applied}
 use Rattle.repo_world.specs.declared.jobs.Job.{Job}
@@ -228,8 +228,8 @@ module _ (seats : List Seated) (messages : List Message) (k : ℕ) (there : Each
 
 -- ---- a client starts
 
-module _ (seats : List Seated) (messages : List Message) (there : EachIsThere seats messages) (c : AnyClient) (f : FitsAny c []) (job : Job) (host : List ℕ) (time : ℕ)
-    (given : given_to c ≡ record { who = asker (instance_of (length seats)) host time; handed = job }) where
+module _ (seats : List Seated) (messages : List Message) (there : EachIsThere seats messages) (c : AnyClient) (f : FitsAny c []) (job : Job) (host : List ℕ) (time : ℕ) (old : Bool)
+    (given : given_to c ≡ record { who = asker (instance_of (length seats)) host time (versions_of old); handed = job }) where
   abbrev number : ℕ
   number = length seats
 
@@ -240,7 +240,7 @@ module _ (seats : List Seated) (messages : List Message) (there : EachIsThere se
   pending : any_next c ≡ Some (first_of number)
   pending = ticket_pending c f ∙ ap (λ g. Some (record { instance = g.who.instance; sequence = 1; ask = Ask.Ticket })) given
 
-  client_is : first_seat.client ≡ started number job host time
+  client_is : first_seat.client ≡ started number job host time old
   client_is = λ i. record { job = (given i).handed; who = (given i).who; trace = []; next = pending i; outcome = no_outcome_yet c f i; crashed = false }
 
   abbrev now : List Seated
@@ -256,22 +256,22 @@ module _ (seats : List Seated) (messages : List Message) (there : EachIsThere se
   started_there = there_more seats now (grows_end seats first_seat) messages there (Message.Asked number 0) (subst (λ (l : List Request). 0 < length l) (sym requests_are) (lit≤ tt))
 
   module _ (store : Store) (accepted : Accepts job) (small : time < 2 ^ 64) (named : IsHost host) where
-    abbrev old : World
-    old = world_of store (record { seats = seats; messages = messages })
+    abbrev before : World
+    before = world_of store (record { seats = seats; messages = messages })
 
-    count : length old.clients ≡ number
+    count : length before.clients ≡ number
     count = length-map seats (λ (x : Seated). x.client)
 
-    pub starts : Starts (world_of store (record { seats = seats; messages = messages })) job host time
+    pub starts : Starts (world_of store (record { seats = seats; messages = messages })) job host time old
         (world_of store (record { seats = seats ++ first_seat ∷ []; messages = messages ++ Message.Asked (length seats) 0 ∷ [] }))
     starts = record {
       accepted = accepted;
       limits = (small, named);
       is = λ i. record {
         store = store;
-        clients = (map-append (λ (x : Seated). x.client) seats (first_seat ∷ []) ∙ (λ j. old.clients ++ client_is j ∷ []) ∙ ap (λ n. old.clients ++ started n job host time ∷ []) (sym count)) i;
+        clients = (map-append (λ (x : Seated). x.client) seats (first_seat ∷ []) ∙ (λ j. before.clients ++ client_is j ∷ []) ∙ ap (λ n. before.clients ++ started n job host time old ∷ []) (sym count)) i;
         messages = (messages_more seats now (grows_end seats first_seat) messages there (Message.Asked number 0) (world.Asked number (first_of number))
             (ap (λ (l : List Request). world.Asked number (slice_index_or l 0 nothing)) requests_are)
-            ∙ ap (λ n. old.messages ++ world.Asked n (first_of n) ∷ []) (sym count)) i;
+            ∙ ap (λ n. before.messages ++ world.Asked n (first_of n) ∷ []) (sym count)) i;
       };
     }

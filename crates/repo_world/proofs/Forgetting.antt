@@ -18,6 +18,7 @@ use Rattle.repo_index.specs.IndexText.{IsIndexText}
 use Rattle.repo_store.specs.Pages.{IsPage}
 use Rattle.repo_store.specs.StoreMachine.{object_limit, GetSays}
 use Rattle.repo_store.specs.Stores.{Store, Objects}
+use Rattle.repo_session.specs.declared.versions.Versions.{Versions}
 use Rattle.repo_session.specs.Askers.{asker}
 use Rattle.repo_session.specs.Catalogs.{AreIndexed}
 use Rattle.repo_session.specs.Ends as ends
@@ -124,7 +125,7 @@ module _ (host : List ℕ) (time : ℕ) (config pack index snapshot : List ℕ) 
 
   module _ (w : World) (same : w.store ≡ from) where
     abbrev task : Task
-    task = task_of (Job.Forget choice) (asker (instance_of (length w.clients)) host time)
+    task = task_of (Job.Forget choice) (asker (instance_of (length w.clients)) host time Versions.Both)
 
     abbrev f0 : Trace
     f0 = opened task token config
@@ -139,7 +140,7 @@ module _ (host : List ℕ) (time : ℕ) (config pack index snapshot : List ℕ) 
     forgetting = silent (Ask.Unlock token) Say.Done ∷ f2
 
     works_0 : IsWorking task token f0
-    works_0 = opened_working task token config texts.read texts.configured
+    works_0 = opened_working task token config texts.read texts.configured (let first = texts.first in omega (arith, first))
 
     works_1 : IsWorking task token f1
     works_1 = working_more task token (silent (Ask.List Kind.Snapshot None) (Say.Names false (ns ∷ []))) f0 works_0 (names_no_dead false (ns ∷ [])) (λ t h. absurd (cc))
@@ -195,7 +196,7 @@ module _ (host : List ℕ) (time : ℕ) (config pack index snapshot : List ℕ) 
       obeys = obeys;
       pending = λ r h. absurd (none-some r h);
       settled = λ e q. absurd (none-some (Outcome.Forgotten (ns ∷ [])) (sym q));
-      concluded = λ o e. subst (λ x. ends.Concludes (JobConcludes (Job.Forget choice)) f2 x) (same_Some (Outcome.Forgotten (ns ∷ [])) o e) is_forgotten;
+      concluded = λ o e. subst (λ x. ends.Concludes 1 (JobConcludes (Job.Forget choice)) f2 x) (same_Some (Outcome.Forgotten (ns ∷ [])) o e) is_forgotten;
       released = λ e o t h. absurd (held_end task t h.later (silent (Ask.Unlock token) Say.Done) f2 h.since h.held.unended tt);
       beside = λ r h o. absurd (none-some r h);
       ending = λ r h u. absurd (none-some r h);
@@ -246,7 +247,7 @@ module _ (host : List ℕ) (time : ℕ) (config pack index snapshot : List ℕ) 
 
     module _ (v : World) (next : v.store ≡ left) where
       abbrev work : Task
-      work = task_of Job.Prune (asker (instance_of (length v.clients)) host time)
+      work = task_of Job.Prune (asker (instance_of (length v.clients)) host time Versions.Both)
 
       abbrev p0 : Trace
       p0 = opened work third config
@@ -273,7 +274,7 @@ module _ (host : List ℕ) (time : ℕ) (config pack index snapshot : List ℕ) 
       pruning = silent (Ask.Unlock third) Say.Done ∷ p6
 
       at_0 : IsWorking work third p0
-      at_0 = opened_working work third config texts.read texts.configured
+      at_0 = opened_working work third config texts.read texts.configured (let first = texts.first in omega (arith, first))
 
       at_1 : IsWorking work third p1
       at_1 = working_more work third (silent (Ask.List Kind.Snapshot None) (Say.Names false [])) p0 at_0 (names_no_dead false []) (λ t h. absurd (cc))
@@ -436,7 +437,7 @@ module _ (host : List ℕ) (time : ℕ) (config pack index snapshot : List ℕ) 
         obeys = keeps_order;
         pending = λ r h. absurd (none-some r h);
         settled = λ e q. absurd (none-some (Outcome.Pruned 1 0) (sym q));
-        concluded = λ o e. subst (λ x. ends.Concludes (JobConcludes Job.Prune) p6 x) (same_Some (Outcome.Pruned 1 0) o e) is_pruned;
+        concluded = λ o e. subst (λ x. ends.Concludes 1 (JobConcludes Job.Prune) p6 x) (same_Some (Outcome.Pruned 1 0) o e) is_pruned;
         released = λ e o t h. absurd (held_end work t h.later (silent (Ask.Unlock third) Say.Done) p6 h.since h.held.unended tt);
         beside = λ r h o. absurd (none-some r h);
         ending = λ r h u. absurd (none-some r h);

@@ -28,6 +28,7 @@ use Rattle.repo_store.specs.declared.shelves.Slice.{Slice}
 use Rattle.repo_store.specs.Pages.{IsPage}
 use Rattle.repo_store.specs.StoreMachine.{Step, object_limit, GetSays}
 use Rattle.repo_store.specs.Stores.{Store, Objects}
+use Rattle.repo_session.specs.declared.versions.Versions.{Versions}
 use Rattle.repo_session.specs.Askers.{asker}
 use Rattle.repo_session.specs.Ends as ends
 use Rattle.repo_session.specs.Order.{Task, IsWorking, Obeys, opened, lock_row}
@@ -88,7 +89,7 @@ module _ (host : List ℕ) (time : ℕ) (config pack index snapshot : List ℕ) 
 
   module _ (w : World) (same : w.store ≡ from) where
     abbrev task : Task
-    task = task_of (Job.Restore ns) (asker (instance_of (length w.clients)) host time)
+    task = task_of (Job.Restore ns) (asker (instance_of (length w.clients)) host time Versions.Both)
 
     abbrev opening : Trace
     opening = opened task token config
@@ -109,7 +110,7 @@ module _ (host : List ℕ) (time : ℕ) (config pack index snapshot : List ℕ) 
     all = silent (Ask.Unlock token) Say.Done ∷ walking
 
     works_0 : IsWorking task token opening
-    works_0 = opened_working task token config texts.read texts.configured
+    works_0 = opened_working task token config texts.read texts.configured (let first = texts.first in omega (arith, first))
 
     works_1 : IsWorking task token getting
     works_1 = working_more task token (silent (Ask.Get Kind.Snapshot ns) (Say.Bytes snapshot)) opening works_0 (bytes_no_dead snapshot) (λ t h. absurd (cc))
@@ -183,7 +184,7 @@ module _ (host : List ℕ) (time : ℕ) (config pack index snapshot : List ℕ) 
       obeys = obeys;
       pending = λ r h. absurd (none-some r h);
       settled = λ e q. absurd (none-some (Outcome.Complete 0) (sym q));
-      concluded = λ o e. subst (λ x. ends.Concludes (JobConcludes (Job.Restore ns)) walking x) (same_Some (Outcome.Complete 0) o e) restored;
+      concluded = λ o e. subst (λ x. ends.Concludes 1 (JobConcludes (Job.Restore ns)) walking x) (same_Some (Outcome.Complete 0) o e) restored;
       released = λ e o t h. absurd (held_end task t h.later (silent (Ask.Unlock token) Say.Done) walking h.since h.held.unended tt);
       beside = λ r h o. absurd (none-some r h);
       ending = λ r h u. absurd (none-some r h);

@@ -10,6 +10,8 @@ use Rattle.repo_wire.specs.declared.messages.Request.{Request}
 use Rattle.repo_wire.specs.declared.messages.Say.{Say}
 use Rattle.repo_store.specs.StoreMachine.{Step}
 use Rattle.repo_store.specs.Stores.{Store}
+use Rattle.repo_session.specs.Versions.{upto}
+use Rattle.repo_session.specs.declared.versions.Versions.{Versions}
 use Rattle.repo_session.specs.declared.outcomes.Outcome.{Outcome}
 use Rattle.repo_session.specs.Askers.{Asker, asker}
 use Rattle.repo_session.specs.Clients.{IsNextRequest, exchange}
@@ -70,6 +72,7 @@ no_unlock_head e none u = is_one e.ask (λ t q. none t q) u
     is_one (Ask.Range p offset len) never v = v
     is_one (Ask.Put t k n x) never v = v
     is_one (Ask.Delete t k n) never v = v
+    is_one (Ask.Upgrade t) never v = v
     is_one Ask.Config never v = v
 
 abbrev first_ask : Trace → Ask
@@ -96,6 +99,7 @@ no_more task e es (Ask.Get k n) m u = working_end task m.0.0 e es m.0.1 u
 no_more task e es (Ask.Range p offset len) m u = working_end task m.0.0 e es m.0.1 u
 no_more task e es (Ask.Put t k n x) m u = working_end task t e es m.0 u
 no_more task e es (Ask.Delete t k n) m u = working_end task t e es m.0 u
+no_more task e es (Ask.Upgrade t) m u = working_end task t e es m.0 u
 no_more task e es (Ask.Unlock t) m u = held_end task t m.later e es m.since m.held.unended u
 no_more task e es (Ask.Refresh t time) m u = m
 no_more task e es Ask.Locks m u = m
@@ -121,6 +125,7 @@ first_ticket task (Ask.Get k n) m = absurd (none_yet task m.0.0 m.0.1)
 first_ticket task (Ask.Range p offset len) m = absurd (none_yet task m.0.0 m.0.1)
 first_ticket task (Ask.Put t k n x) m = absurd (none_yet task t m.0)
 first_ticket task (Ask.Delete t k n) m = absurd (none_yet task t m.0)
+first_ticket task (Ask.Upgrade t) m = absurd (none_yet task t m.0)
 first_ticket task (Ask.Unlock t) m = absurd (not_locked task t m.later m.since)
 first_ticket task (Ask.Refresh t time) m = absurd m
 first_ticket task Ask.Locks m = absurd m
@@ -144,10 +149,10 @@ module _ (w : World) (job : Job) (host : List ℕ) (time : ℕ) (accepted : Acce
   k = length w.clients
 
   abbrev who : Asker
-  who = asker (instance_of (length w.clients)) host time
+  who = asker (instance_of (length w.clients)) host time Versions.Both
 
   abbrev talking : Trace → Option Request → Option Outcome → Client
-  talking es next o = record { job = job; who = asker (instance_of (length w.clients)) host time; trace = es; next = next; outcome = o; crashed = false }
+  talking es next o = record { job = job; who = asker (instance_of (length w.clients)) host time Versions.Both; trace = es; next = next; outcome = o; crashed = false }
 
   abbrev sent : Trace → List Message
   sent es = w.messages ++ posts (length w.clients) es
@@ -213,7 +218,7 @@ module _ (w : World) (job : Job) (host : List ℕ) (time : ℕ) (accepted : Acce
 
   -- what is shown while this is pending: an outcome beside the end of the lock, else none
   abbrev Shows : Option Outcome → Ask → Trace → Type 0
-  Shows o a es = ((¬ IsUnlock a) × (o ≡ None)) ⊎ (IsUnlock a × ((x : Outcome) × (o ≡ Some x) × ends.Concludes (JobConcludes job) es x))
+  Shows o a es = ((¬ IsUnlock a) × (o ≡ None)) ⊎ (IsUnlock a × ((x : Outcome) × (o ≡ Some x) × ends.Concludes (upto (task_of job who).versions) (JobConcludes job) es x))
 
   -- the store's steps over these exchanges
   abbrev pub Stepped : Store → Trace → Store → Type 0
@@ -238,11 +243,11 @@ module _ (w : World) (job : Job) (host : List ℕ) (time : ℕ) (accepted : Acce
     ending = λ r q u. ending (subst (λ (z : Request). IsUnlock z.ask) (sym (same_Some (asked_of (length w.clients) es a) r q)) u) shows;
   }
     where
-      concluded : (x : Outcome) → o ≡ Some x → Shows o a es → ends.Concludes (JobConcludes job) (ends.before_unlock es) x
+      concluded : (x : Outcome) → o ≡ Some x → Shows o a es → ends.Concludes (upto (task_of job who).versions) (JobConcludes job) (ends.before_unlock es) x
       concluded x q (inl none) = absurd (none-some x (sym none.1 ∙ q))
       concluded x q (inr s) =
           let same : s.1.0 ≡ x = same_Some s.1.0 x (sym s.1.1 ∙ q) in
-          subst (λ y. ends.Concludes (JobConcludes job) (ends.before_unlock es) y) same (subst (λ fs. ends.Concludes (JobConcludes job) fs s.1.0) (sym (whole a may s.0)) s.1.2)
+          subst (λ y. ends.Concludes (upto (task_of job who).versions) (JobConcludes job) (ends.before_unlock es) y) same (subst (λ fs. ends.Concludes (upto (task_of job who).versions) (JobConcludes job) fs s.1.0) (sym (whole a may s.0)) s.1.2)
         where
           whole : (b : Ask) → May (task_of job who) es b → IsUnlock b → ends.before_unlock es ≡ es
           whole (Ask.Unlock t) m u = holds_whole (task_of job who) t es m
@@ -255,6 +260,7 @@ module _ (w : World) (job : Job) (host : List ℕ) (time : ℕ) (accepted : Acce
           whole (Ask.Range p offset len) m u = absurd u
           whole (Ask.Put t j n x) m u = absurd u
           whole (Ask.Delete t j n) m u = absurd u
+          whole (Ask.Upgrade t) m u = absurd u
           whole Ask.Config m u = absurd u
 
       beside : o ≢ None → Shows o a es → IsUnlock a
@@ -268,7 +274,7 @@ module _ (w : World) (job : Job) (host : List ℕ) (time : ℕ) (accepted : Acce
   -- the client starts
   starts : (a : Ask) (o : Option Outcome) → a ≡ Ask.Ticket → Shows o a [] → (events : List Event) × Run w events (at [] (Some (asked_of (length w.clients) [] a)) o w.store)
   starts a o q shows = (
-    Event.Start job host time ∷ [],
+    Event.Start job host time false ∷ [],
     (at [] (Some (asked_of (length w.clients) [] a)) o w.store, (Applied.Done, inl (refl, record { accepted = accepted; limits = limits; is = is })), refl),
   )
     where
@@ -276,9 +282,9 @@ module _ (w : World) (job : Job) (host : List ℕ) (time : ℕ) (accepted : Acce
       none = ⊎_elim (λ s. s.1) (λ s. absurd (subst IsUnlock q s.0)) shows
 
       is : at [] (Some (asked_of (length w.clients) [] a)) o w.store
-          ≡ record { store = w.store; clients = w.clients ++ started (length w.clients) job host time ∷ []; messages = w.messages ++ Asked (length w.clients) (first_of (length w.clients)) ∷ [] }
+          ≡ record { store = w.store; clients = w.clients ++ started (length w.clients) job host time false ∷ []; messages = w.messages ++ Asked (length w.clients) (first_of (length w.clients)) ∷ [] }
       is = ap (λ (b : Ask). at [] (Some (asked_of (length w.clients) [] b)) o w.store) q ∙ (ap (λ (p : Option Outcome). at [] (Some (first_of (length w.clients))) p w.store) none
-          ∙ ap (λ (ms : List Message). record { store = w.store; clients = w.clients ++ started (length w.clients) job host time ∷ []; messages = ms ++ Asked (length w.clients) (first_of (length w.clients)) ∷ [] }) (append-nil w.messages))
+          ∙ ap (λ (ms : List Message). record { store = w.store; clients = w.clients ++ started (length w.clients) job host time false ∷ []; messages = ms ++ Asked (length w.clients) (first_of (length w.clients)) ∷ [] }) (append-nil w.messages))
 
   -- it comes to where a request is pending
   comes : (es : Trace) (mid : Store) (a : Ask) (o : Option Outcome) → Stepped w.store es mid → Obeys (task_of job who) (JobAllows job) (JobGives job) es → May (task_of job who) es a → IsPermitted (JobAllows job) es a → Shows o a es
@@ -320,6 +326,7 @@ module _ (w : World) (job : Job) (host : List ℕ) (time : ℕ) (accepted : Acce
       is_unlock (Ask.Range p offset len) = inl (λ u. u)
       is_unlock (Ask.Put t j n x) = inl (λ u. u)
       is_unlock (Ask.Delete t j n) = inl (λ u. u)
+      is_unlock (Ask.Upgrade t) = inl (λ u. u)
       is_unlock Ask.Config = inl (λ u. u)
 
       older : (a : Ask) → IsUnlock a → ends.without_unlock a (e ∷ es) es ≡ es
@@ -333,6 +340,7 @@ module _ (w : World) (job : Job) (host : List ℕ) (time : ℕ) (accepted : Acce
       older (Ask.Range p offset len) u = absurd u
       older (Ask.Put t j n x) u = absurd u
       older (Ask.Delete t j n) u = absurd u
+      older (Ask.Upgrade t) u = absurd u
       older Ask.Config u = absurd u
 
       by_end : (¬ IsUnlock e.ask) ⊎ IsUnlock e.ask → (events : List Event) × Run w events (at (e ∷ es) None outcome to)
@@ -340,7 +348,7 @@ module _ (w : World) (job : Job) (host : List ℕ) (time : ℕ) (accepted : Acce
       by_end (inr u) =
           let there = some_of outcome (dutiful.settled refl) in
           let concluded = dutiful.concluded there.0 there.1 in
-          ends_so e es to outcome outcome steps dutiful (inr (u, (there.0, there.1, subst (λ fs. ends.Concludes (JobConcludes job) fs there.0) (older e.ask u) concluded))) (λ x q. q)
+          ends_so e es to outcome outcome steps dutiful (inr (u, (there.0, there.1, subst (λ fs. ends.Concludes (upto (task_of job who).versions) (JobConcludes job) fs there.0) (older e.ask u) concluded))) (λ x q. q)
 
 -- ---- a talk
 

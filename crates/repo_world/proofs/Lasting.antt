@@ -32,8 +32,8 @@ module _ (Lasts : Store → Store → Type 0) (stays : (a b : Store) → b.objec
     delivered w (Some (Said k reply)) r v (inr (inr h)) = same w v h.2
 
   happened : (w : World) (e : Event) (r : Applied) (v : World) → Happens ⊤ w e r v → Lasts w.store v.store
-  happened w (Event.Start job host time) r v (inl (a, s)) = same_store w.store v.store (ap (λ (u : World). u.store) s.is)
-  happened w (Event.Start job host time) r v (inr h) = same w v h.3
+  happened w (Event.Start job host time old) r v (inl (a, s)) = same_store w.store v.store (ap (λ (u : World). u.store) s.is)
+  happened w (Event.Start job host time old) r v (inr h) = same w v h.3
   happened w (Event.Deliver i) r v h = delivered (Plainly ⊤) (λ s a y t p. p.0) w (slice_get w.messages i) r v h
   happened w (Event.Fault i f) r v h = delivered (Failing ⊤ f) (failing_step ⊤ f) w (slice_get w.messages i) r v h
   happened w (Event.Unlock t) r v (a, inl u) = then_on w.store u.store v.store (stays w.store u.store u.saves.1 u.saves.3) (same_store u.store v.store (ap (λ (x : World). x.store) u.is))

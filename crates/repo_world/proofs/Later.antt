@@ -5,7 +5,7 @@ use Rattle.repo_name.specs.declared.names.Name.{Name}
 use Rattle.repo_wire.specs.declared.messages.Ask.{Ask}
 use Rattle.repo_wire.specs.declared.messages.Say.{Say}
 use Rattle.repo_session.specs.Traces.{Trace, Exchanged}
-use Rattle.repo_world.specs.Bag.{AskedAt, AskedIn, with_next, HasPut, HasDeleted}
+use Rattle.repo_world.specs.Bag.{AskedAt, AskedIn, with_next, HasPut, HasDeleted, HasUpgraded}
 use Rattle.repo_world.specs.Clients.{MadeOf, Client}
 use Rattle.repo_world.specs.Safe.{IsPutBy, IsAsked, IsSpoken, by_put, by_reply, IsKnown, known_spoken, known_part, known_made, HasNoClash}
 use Rattle.repo_world.specs.World.{World, client, Message, IsOneOf, Asked, Said}
@@ -27,12 +27,13 @@ pub record Later (w v : World) : Type 0 where
 pub made_more : (b : Job) (es fs : Trace) → Within es fs → (x : List ℕ) → MadeOf b es x → MadeOf b fs x
 made_more (Job.Backup entries) es fs within x m =
     let c = m.cut in
-    record { folder = m.folder; kind = m.kind; cut = record { text = c.text; config = c.config; read = within Ask.Config (Say.Bytes c.text) c.read; reads = c.reads; cut = c.cut }; among = m.among }
+    record { folder = m.folder; kind = m.kind; cut = record { text = c.text; config = c.config; read = within Ask.Config (Say.Bytes c.text) c.read; reads = c.reads; known = c.known; cut = c.cut }; among = m.among }
 made_more (Job.Restore s) es fs within x m = m
 made_more Job.List es fs within x m = m
 made_more (Job.Forget choice) es fs within x m = m
 made_more Job.Prune es fs within x m = m
 made_more Job.Check es fs within x m = m
+made_more Job.Upgrade es fs within x m = m
 
 -- a client of the same job that took more
 pub grows_with : (c d : Client) → d.job ≡ c.job → Within c.trace d.trace → ((q : ℕ) (a : Ask) → AskedAt c q a → AskedAt d q a) → Grows c d
@@ -49,6 +50,9 @@ later_asked w v l s h = record { by = h.by; request = h.request; token = h.token
 
 pub later_has_put : (w v : World) → Later w v → (k : ℕ) (j : Kind) (n : Name) → HasPut w k j n → HasPut v k j n
 later_has_put w v l k j n h = (h.0, h.1, h.2, (l.grows k).asked h.0 (Ask.Put h.1 j n h.2) h.3)
+
+pub later_has_upgraded : (w v : World) → Later w v → (k : ℕ) → HasUpgraded w k → HasUpgraded v k
+later_has_upgraded w v l k h = (h.0, h.1, (l.grows k).asked h.0 (Ask.Upgrade h.1) h.2)
 
 pub later_has_deleted : (w v : World) → Later w v → (k : ℕ) (j : Kind) (n : Name) → HasDeleted w k j n → HasDeleted v k j n
 later_has_deleted w v l k j n h = (h.0, h.1, (l.grows k).asked h.0 (Ask.Delete h.1 j n) h.2)

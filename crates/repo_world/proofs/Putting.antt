@@ -47,6 +47,7 @@ decided (Ask.List k after) = inl (λ h. let e : Ask.List k after ≡ Ask.Delete 
 decided (Ask.Get k n) = inl (λ h. let e : Ask.Get k n ≡ Ask.Delete h.0 Kind.Index h.1 = h.2 in absurd (cc))
 decided (Ask.Range p offset len) = inl (λ h. let e : Ask.Range p offset len ≡ Ask.Delete h.0 Kind.Index h.1 = h.2 in absurd (cc))
 decided (Ask.Put token k n x) = inl (λ h. let e : Ask.Put token k n x ≡ Ask.Delete h.0 Kind.Index h.1 = h.2 in absurd (cc))
+decided (Ask.Upgrade token) = inl (λ h. let e : Ask.Upgrade token ≡ Ask.Delete h.0 Kind.Index h.1 = h.2 in absurd (cc))
 decided Ask.Config = inl (λ h. let e : Ask.Config ≡ Ask.Delete h.0 Kind.Index h.1 = h.2 in absurd (cc))
 
 abbrev HasIndexDelete : Trace → Type 0
@@ -85,7 +86,7 @@ module _ (w : World) (bag : HasBag w) (clash : HasNoClash w) (k : ℕ) (t : Toke
     made_known es within y m = known_made k (subst (λ (b : Job). MadeOf b (client w k).trace y) (sym job) (record {
       folder = m.folder;
       kind = m.kind;
-      cut = record { text = m.cut.text; config = m.cut.config; read = within Ask.Config (Say.Bytes m.cut.text) m.cut.read; reads = m.cut.reads; cut = m.cut.cut };
+      cut = record { text = m.cut.text; config = m.cut.config; read = within Ask.Config (Say.Bytes m.cut.text) m.cut.read; reads = m.cut.reads; known = m.cut.known; cut = m.cut.cut };
       among = m.among;
     }))
 
@@ -138,6 +139,7 @@ module _ (w : World) (bag : HasBag w) (clash : HasNoClash w) (k : ℕ) (t : Toke
   object_ok Job.Prune e Kind.Snapshot q h = absurd ((sent_as w bag k q (Ask.Put t Kind.Snapshot n x) Job.Prune e h).permitted tt)
   object_ok (Job.Restore s) e j q h = absurd ((sent_as w bag k q (Ask.Put t j n x) (Job.Restore s) e h).permitted tt)
   object_ok Job.List e j q h = absurd ((sent_as w bag k q (Ask.Put t j n x) Job.List e h).permitted tt)
+  object_ok Job.Upgrade e j q h = absurd ((sent_as w bag k q (Ask.Put t j n x) Job.Upgrade e h).permitted tt)
   object_ok Job.Check e j q h = absurd ((sent_as w bag k q (Ask.Put t j n x) Job.Check e h).permitted tt)
   object_ok (Job.Forget choice) e j q h = absurd ((sent_as w bag k q (Ask.Put t j n x) (Job.Forget choice) e h).permitted tt).0
 

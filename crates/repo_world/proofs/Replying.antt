@@ -8,7 +8,8 @@ use Rattle.repo_locks.specs.declared.outcomes.LockError.{LockError}
 use Rattle.repo_locks.specs.Lawful.{IsLedger}
 use Rattle.repo_locks.proofs.Ascending.{kind_beyond}
 use Rattle.repo_locks.proofs.Numbers.{locked_live}
-use Rattle.repo_world.specs.Bag.{WasUsed}
+use Rattle.repo_world.specs.Bag.{WasUsed, IsOfVersion}
+use Rattle.repo_tree.specs.ConfigText.{upgraded}
 use Rattle.repo_world.proofs.Moving.{bool_false}
 use Rattle.repo_name.specs.declared.kinds.Kind.{Kind}
 use Rattle.repo_name.specs.declared.names.Name.{Name}
@@ -20,8 +21,9 @@ use Rattle.repo_wire.specs.Messages.{page_limit}
 use Rattle.repo_locks.specs.declared.outcomes.TicketError.{TicketError}
 use Rattle.repo_locks.specs.TokenMachine.{Tokens, TicketStep, LockStep, live_as, is_fresh}
 use Rattle.repo_store.specs.Pages.{IsPage}
-use Rattle.repo_store.specs.StoreMachine.{Step, Answers, PutAnswer, DeleteAnswer, GetSays, TicketSays, TicketAnswer, LockAnswer, LockSays, RangeAnswer, SliceSays, object_limit}
+use Rattle.repo_store.specs.StoreMachine.{Step, Answers, PutAnswer, DeleteAnswer, UpgradeAnswer, GetSays, TicketSays, TicketAnswer, LockAnswer, LockSays, RangeAnswer, SliceSays, object_limit}
 use Rattle.repo_store.specs.Stores.{Store}
+use Rattle.repo_store.specs.Upgrades.{RaiseAnswer}
 use Rattle.repo_session.proofs.Growing.{answered, no_done}
 use Rattle.repo_name.specs.Limits.{text_limit}
 
@@ -59,6 +61,22 @@ got limit (Some y) x (inr h) = absurd (no_bytes x Code.TooLarge h.1)
 
 pub get_told : (old : Store) (k : Kind) (n : Name) (x : List ℕ) (new : Store) → Step old (Ask.Get k n) (Say.Bytes x) new → (old.objects k n ≡ Some x) × (new ≡ old)
 get_told old k n x new s = let a = answered old (Ask.Get k n) (Say.Bytes x) new (no_bytes x) s in (got (object_limit k) (old.objects k n) x a.0, a.1)
+
+pub config_told : (old : Store) (x : List ℕ) (new : Store) → Step old Ask.Config (Say.Bytes x) new → (old.config ≡ Some x) × (new ≡ old)
+config_told old x new s = let a = answered old Ask.Config (Say.Bytes x) new (no_bytes x) s in (got text_limit old.config x a.0, a.1)
+
+raise_said : (old : Store) (c : Option (List ℕ)) (new : Store) → old.config ≡ c → RaiseAnswer c old Say.Done new → IsOfVersion new 2
+raise_said old None new e h = absurd (no_done Say.Done refl Code.Missing h.0)
+raise_said old (Some text) new e (inl h) = absurd (no_done Say.Done refl Code.Malformed h.1)
+raise_said old (Some text) new e (inr (inl h)) = record { text = text; config = h.0.0; configured = ap (λ (s : Store). s.config) h.2 ∙ e; reads = h.0.1; of_version = h.0.2 }
+raise_said old (Some text) new e (inr (inr h)) = record { text = h.1.0; config = upgraded h.1.1.config; configured = h.1.2.0; reads = h.1.1.again; of_version = refl }
+
+pub upgrade_told : (old : Store) (t : Token) (new : Store) → Step old (Ask.Upgrade t) Say.Done new → IsOfVersion new 2
+upgrade_told old t new s = go (answered old (Ask.Upgrade t) Say.Done new (no_done Say.Done refl) s) where
+  go : UpgradeAnswer old t Say.Done new → IsOfVersion new 2
+  go (inl h) = absurd (no_done Say.Done refl Code.Dead h.1)
+  go (inr (inl h)) = absurd (no_done Say.Done refl Code.NotExclusive h.1)
+  go (inr (inr h)) = raise_said old old.config new refl h.1
 
 pub list_told : (old : Store) (k : Kind) (a : Option Name) (more : Bool) (names : List Name) (new : Store) → Step old (Ask.List k a) (Say.Names more names) new → IsPage old.objects k a page_limit names more × (new ≡ old)
 list_told old k a more names new s =
@@ -116,6 +134,17 @@ refresh_no_token : (r : Result (Unit {0}) Rattle.repo_locks.specs.declared.outco
 refresh_no_token (Ok d) t h = let e : Say.Token t ≡ Say.Done = h in absurd (cc)
 refresh_no_token (Err Rattle.repo_locks.specs.declared.outcomes.RefreshError.RefreshError.Dead) t h = absurd (no_token t Code.Dead h)
 
+raise_no_token : (old : Store) (c : Option (List ℕ)) (t : Token) (new : Store) → RaiseAnswer c old (Say.Token t) new → ⊥
+raise_no_token old None t new h = no_token t Code.Missing h.0
+raise_no_token old (Some text) t new (inl h) = no_token t Code.Malformed h.1
+raise_no_token old (Some text) t new (inr (inl h)) = let e : Say.Token t ≡ Say.Done = h.1 in absurd (cc)
+raise_no_token old (Some text) t new (inr (inr h)) = let e : Say.Token t ≡ Say.Done = h.0 in absurd (cc)
+
+upgrade_no_token : (old : Store) (u t : Token) (new : Store) → UpgradeAnswer old u (Say.Token t) new → ⊥
+upgrade_no_token old u t new (inl h) = no_token t Code.Dead h.1
+upgrade_no_token old u t new (inr (inl h)) = no_token t Code.NotExclusive h.1
+upgrade_no_token old u t new (inr (inr h)) = raise_no_token old old.config t new h.1
+
 -- a token is given for a ticket alone, and is the next number
 token_answer : (old : Store) (ask : Ask) (t : Token) (new : Store) → Answers old ask (Say.Token t) new → (t.0 ≡ old.tokens.next) × (new.tokens.next ≡ old.tokens.next + 1)
 token_answer old Ask.Ticket t new a = ticket_told old t new a.result a.tokens a.step a.says a.saves.2
@@ -136,6 +165,7 @@ token_answer old (Ask.Delete u k n) t new (inr (only, inl a)) = absurd (no_token
 token_answer old (Ask.Delete u k n) t new (inr (only, inr (inl a))) = absurd (no_token t Code.NotExclusive a.1)
 token_answer old (Ask.Delete u k n) t new (inr (only, inr (inr a))) = let e : Say.Token t ≡ Say.Done = a.1 in absurd (cc)
 token_answer old Ask.Config t new a = absurd (bytes_no_token text_limit old.config t a.0)
+token_answer old (Ask.Upgrade u) t new a = absurd (upgrade_no_token old u t new a)
 
 pub token_told : (old : Store) (ask : Ask) (t : Token) (new : Store) → Step old ask (Say.Token t) new → (t.0 ≡ old.tokens.next) × (new.tokens.next ≡ old.tokens.next + 1)
 token_told old ask t new s = token_answer old ask t new (answered old ask (Say.Token t) new (no_token t) s)

@@ -1,13 +1,21 @@
 -- What a store at rest has, to which a run led: a client alone finds all that it wants.
-use Rattle.std.proofs.Common.{◌≡◌, ◌⊎◌, ◌≤◌, [], ℕ, List, Some, None, length, inl, inr, ⊎_elim, sym, subst, ◌∙◌}
+use Rattle.std.proofs.Common.{arith, ap, ◌≡◌, ◌⊎◌, ◌≤◌, [], ℕ, List, Some, None, length, inl, inr, ⊎_elim, sym, subst, ◌∙◌}
 use Rattle.repo_name.specs.declared.kinds.Kind.{Kind}
 use Rattle.repo_name.specs.declared.names.Name.{Name}
 use Rattle.repo_wire.specs.declared.messages.Ask.{Ask}
 use Rattle.repo_wire.specs.declared.messages.Say.{Say}
 use Rattle.repo_store.specs.StoreMachine.{Step, object_limit}
 use Rattle.repo_store.specs.Stores.{Objects, Store}
-use Rattle.repo_session.specs.Alone.{IsFit, IsSent, IsSpoken, NoClash, TakesPart, WasThere}
+use Rattle.repo_session.specs.Alone.{IsFit, AreVersionsUpto, IsSent, IsSpoken, NoClash, TakesPart, WasThere}
 use Rattle.repo_session.proofs.Growing.{Moves, step_moves}
+use Rattle.std.proofs.lemmas.Option.{same_Some}
+use Rattle.repo_tree.specs.ConfigText.{IsConfigText}
+use Rattle.repo_tree.specs.declared.configs.Config.{Config}
+use Rattle.repo_tree.specs.declared.snapshots.Snapshot.{Snapshot}
+use Rattle.repo_tree.proofs.ConfigLemmas.{config_texts_one}
+use Rattle.repo_tree.proofs.SnapshotLemmas.{snapshot_texts_one}
+use Rattle.repo_session.specs.Versions.{upto}
+use Rattle.repo_restore.specs.Restoring.{restore_task}
 use Rattle.repo_restore.proofs.RestoreRuns.{restore_ends}
 use Rattle.repo_world.specs.Bag.{HasBag}
 use Rattle.repo_world.specs.Events.{Run}
@@ -71,6 +79,24 @@ module _ (store : Store) (empty : IsEmpty store) (events more : List Event) (w l
     numbers = at.numbers;
   }
 
+  -- its versions go up to its config's
+  versions : (at : IsAtRest w.store) (known : ℕ) → at.config.version ≤ known → AreVersionsUpto known w.store
+  unfolding bag
+  versions at known low = record {
+    config = λ x c there reads.
+        let text : at.text ≡ x = same_Some at.text x (sym at.configured ∙ there) in
+        let one : at.config ≡ c = config_texts_one x at.config c (subst (λ y. IsConfigText y at.config) text at.reads) reads in
+        subst (λ (d : Config). d.version ≤ known) one low;
+    snapshots = λ n x s there reads.
+        let v = bag.versions n x there in
+        let text : at.text ≡ v.text = same_Some at.text v.text (sym at.configured ∙ v.configured) in
+        let one : at.config ≡ v.config = config_texts_one v.text at.config v.config (subst (λ y. IsConfigText y at.config) text at.reads) v.reads in
+        let of_config : at.config.version ≡ v.config.version = ap (λ (c : Config). c.version) one in
+        let of_snapshot : v.snapshot.version ≡ s.version = ap (λ (z : Snapshot). z.version) (snapshot_texts_one x v.snapshot s v.is reads) in
+        let within : v.snapshot.version ≤ v.config.version = v.within in
+        omega (arith, of_config, of_snapshot, within, low);
+  }
+
   -- an object that is there was put
   there_spoken : (k : Kind) (x : List ℕ) → WasThere w.store (IsSent [] None) k x → safe.IsSpoken w x
   unfolding bag
@@ -100,5 +126,6 @@ pub every_store_is_fit : EveryStoreIsFit
 every_store_is_fit store empty events more w last run rest clash at = fit store empty events more w last run rest clash at
 
 pub every_snapshot_is_restored : EverySnapshotIsRestored
-every_snapshot_is_restored store empty events more w last run rest clash at wish text there to failed talk outcome few ran short is =
-    restore_ends wish w.store to failed talk outcome text (fit store empty events more w last run rest clash at) there few ran short (apart store empty events more w last run rest clash) is
+every_snapshot_is_restored store empty events more w last run rest clash at wish low text there to failed talk outcome few ran short is =
+    restore_ends wish w.store to failed talk outcome text (fit store empty events more w last run rest clash at)
+    (versions store empty events more w last run rest clash at (upto (restore_task wish).versions) low) there few ran short (apart store empty events more w last run rest clash) is

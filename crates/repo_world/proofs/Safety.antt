@@ -67,6 +67,7 @@ module _ (task : Task) (s : Name) where
   given_by (Ask.Put token k n x) e es q g = refl
   given_by (Ask.Delete token k n) e es q g = refl
   given_by Ask.Config e es q g = refl
+  given_by (Ask.Upgrade token) e es q g = refl
 
   given_before : (es : Trace) → Obeys task (RestoreAllows s) (RestoreGives s) es → emitted_in (before_unlock es) ≡ emitted_in es
   given_before [] o = refl
@@ -87,7 +88,7 @@ module _ (w : World) (bag : HasBag w) (clash : HasNoClash w) where
         reads = r.reads;
         took = subst (Took w k) (sym r.token_is) took;
         folder = r.folder;
-        made = record { text = r.cut.text; config = r.cut.config; read = s.within Ask.Config (Say.Bytes r.cut.text) r.cut.read; reads = r.cut.reads; cut = r.cut.cut };
+        made = record { text = r.cut.text; config = r.cut.config; read = s.within Ask.Config (Say.Bytes r.cut.text) r.cut.read; reads = r.cut.reads; known = r.cut.known; cut = r.cut.cut };
         spells = r.spells;
       }
 
@@ -96,6 +97,7 @@ module _ (w : World) (bag : HasBag w) (clash : HasNoClash w) where
   made_by x n k q t Job.Prune e h = absurd ((sent_as w bag k q (Ask.Put t Kind.Snapshot n x) Job.Prune e h).permitted tt)
   made_by x n k q t (Job.Restore s) e h = absurd ((sent_as w bag k q (Ask.Put t Kind.Snapshot n x) (Job.Restore s) e h).permitted tt)
   made_by x n k q t Job.List e h = absurd ((sent_as w bag k q (Ask.Put t Kind.Snapshot n x) Job.List e h).permitted tt)
+  made_by x n k q t Job.Upgrade e h = absurd ((sent_as w bag k q (Ask.Put t Kind.Snapshot n x) Job.Upgrade e h).permitted tt)
   made_by x n k q t Job.Check e h = absurd ((sent_as w bag k q (Ask.Put t Kind.Snapshot n x) Job.Check e h).permitted tt)
   made_by x n k q t (Job.Forget choice) e h = absurd ((sent_as w bag k q (Ask.Put t Kind.Snapshot n x) (Job.Forget choice) e h).permitted tt).0
 
@@ -149,6 +151,7 @@ module _ (w : World) (bag : HasBag w) (clash : HasNoClash w) where
   stored_by k s blobs bytes (Job.Forget choice) r = absurd r
   stored_by k s blobs bytes Job.Prune r = absurd r
   stored_by k s blobs bytes Job.Check r = absurd r
+  stored_by k s blobs bytes Job.Upgrade r = absurd r
 
   spelled_in : (s : Name) (x : List ℕ) (snapshot : Snapshot) → w.store.objects Kind.Snapshot s ≡ Some x → IsSnapshotText x snapshot → (entries : List Entry) × Handed w s entries × Spells snapshot.version (IsHeld w.store.objects) snapshot.tree [] entries
   spelled_in s x snapshot here reads =
@@ -183,6 +186,7 @@ module _ (w : World) (bag : HasBag w) (clash : HasNoClash w) where
   own_of k s blobs bytes (Job.Forget choice) entries job same r = absurd r
   own_of k s blobs bytes Job.Prune entries job same r = absurd r
   own_of k s blobs bytes Job.Check entries job same r = absurd r
+  own_of k s blobs bytes Job.Upgrade entries job same r = absurd r
 
   stored_own : (k : ℕ) (s : Name) (blobs bytes : ℕ) (entries : List Entry) → handed_to (client w k).job ≡ Some entries → (client w k).outcome ≡ Some (Outcome.Stored s blobs bytes) → Handed w s entries
   stored_own k s blobs bytes entries same outcome = own_of k s blobs bytes (client w k).job entries refl same ((ruled (client w k) (bag.behave k)).concluded (Outcome.Stored s blobs bytes) outcome)
@@ -194,6 +198,7 @@ module _ (w : World) (bag : HasBag w) (clash : HasNoClash w) where
   asked_by s a Job.Prune e h = absurd ((sent_as w bag a.by a.request.sequence (Ask.Delete a.token Kind.Snapshot s) Job.Prune e h).permitted tt)
   asked_by s a (Job.Restore n) e h = absurd ((sent_as w bag a.by a.request.sequence (Ask.Delete a.token Kind.Snapshot s) (Job.Restore n) e h).permitted tt)
   asked_by s a Job.List e h = absurd ((sent_as w bag a.by a.request.sequence (Ask.Delete a.token Kind.Snapshot s) Job.List e h).permitted tt)
+  asked_by s a Job.Upgrade e h = absurd ((sent_as w bag a.by a.request.sequence (Ask.Delete a.token Kind.Snapshot s) Job.Upgrade e h).permitted tt)
   asked_by s a Job.Check e h = absurd ((sent_as w bag a.by a.request.sequence (Ask.Delete a.token Kind.Snapshot s) Job.Check e h).permitted tt)
   asked_by s a (Job.Forget choice) e h = (choice, refl)
 

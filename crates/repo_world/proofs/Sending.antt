@@ -7,6 +7,7 @@ use Rattle.repo_name.specs.declared.tokens.Token.{Token}
 use Rattle.repo_wire.specs.declared.messages.Ask.{Ask}
 use Rattle.repo_wire.specs.declared.messages.Request.{Request}
 use Rattle.repo_wire.specs.declared.messages.Say.{Say}
+use Rattle.repo_session.specs.Versions.{upto}
 use Rattle.repo_session.specs.declared.outcomes.Outcome.{Outcome}
 use Rattle.repo_session.specs.Askers.{Asker}
 use Rattle.repo_session.specs.Clients.{IsNextRequest}
@@ -74,6 +75,12 @@ working_locked task token es h =
     let o = h.1 in
     subst (λ fs. Exchanged fs (Ask.Lock (lock_row task token)) Say.Done) (sym o.since) (exchanged_later o.later (opened task token o.text) (Ask.Lock (lock_row task token)) Say.Done (inr (inl (refl, refl))))
 
+-- and its config was read
+pub opened_read : (task : Task) (token : Token) (es : Trace) → (h : IsWorking task token es) → Exchanged es Ask.Config (Say.Bytes h.1.text)
+opened_read task token es h =
+    let o = h.1 in
+    subst (λ fs. Exchanged fs Ask.Config (Say.Bytes o.text)) (sym o.since) (exchanged_later o.later (opened task token o.text) Ask.Config (Say.Bytes o.text) (inl (refl, refl)))
+
 -- a client takes one ticket
 pub one_token : (task : Task) (JobAllows : Trace → Ask → Type 0) (JobGives : Trace → Exchange → Type 0) (es : Trace) (t u : Token) → Obeys task JobAllows JobGives es → Exchanged es Ask.Ticket (Say.Token t) → Exchanged es Ask.Ticket (Say.Token u) → t ≡ u
 one_token task JobAllows JobGives [] t u o x y = absurd x
@@ -88,7 +95,7 @@ one_token task JobAllows JobGives (e ∷ es) t u o (inr x) (inr y) = one_token t
 pub record IsRuled (b : Job) (c : Client) : Type 0 where
   pub obeys : Obeys (task_of b c.who) (JobAllows b) (JobGives b) c.trace
   pub pending : (r : Request) → c.next ≡ Some r → IsNextRequest (task_of b c.who) (JobAllows b) c.trace r
-  pub concluded : (o : Outcome) → c.outcome ≡ Some o → ends.Concludes (JobConcludes b) (ends.before_unlock c.trace) o
+  pub concluded : (o : Outcome) → c.outcome ≡ Some o → ends.Concludes (upto (task_of b c.who).versions) (JobConcludes b) (ends.before_unlock c.trace) o
 
 nobody_ruled : IsRuled nobody.job nobody
 nobody_ruled = record { obeys = tt; pending = λ r h. absurd (none-some r h); concluded = λ o h. absurd (none-some o h) }

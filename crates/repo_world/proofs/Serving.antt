@@ -10,14 +10,78 @@ use Rattle.repo_wire.specs.declared.messages.Say.{Say}
 use Rattle.repo_store.specs.StoreMachine.{Step}
 use Rattle.repo_store.specs.Stores.{Store, Objects}
 use Rattle.repo_world.specs.World.{World, client, IsOneOf, Asked, Said}
-use Rattle.repo_world.specs.Safe.{IsPutBy, HasNoClash}
-use Rattle.repo_world.specs.Bag.{AskedAt, StillSays, HasBag}
+use Rattle.repo_world.specs.Safe.{IsPutBy, Took, HasNoClash}
+use Rattle.repo_world.specs.Bag.{AskedAt, IsLive, IsOfVersion, IsVersioned, StillSays, HasBag}
 use Rattle.repo_world.proofs.Later.{Later, grows_same, later_put, has_left, has_split}
 use Rattle.repo_world.proofs.Changing.{move_keeps_sound}
-use Rattle.repo_world.proofs.Staying.{Move, served, still_served, says_now}
-use Rattle.repo_world.proofs.Moving.{StoreMoves, step_moves, ObjectsMove}
+use Rattle.repo_world.proofs.Staying.{Move, turn_of, served, still_served, says_now}
+use Rattle.repo_world.proofs.Moving.{StoreMoves, step_moves, ObjectsMove, ConfigMoves}
+use Rattle.repo_world.proofs.Knowing.{sent_as, put_took}
+use Rattle.repo_store.proofs.Upgrading.{Raises}
+use Rattle.repo_backup.specs.Rules as backing
+use Rattle.repo_tree.specs.declared.configs.Config.{Config}
+use Rattle.repo_tree.specs.declared.snapshots.Snapshot.{Snapshot}
+use Rattle.repo_tree.specs.ConfigText.{IsConfigText, config_text, upgraded}
+use Rattle.repo_tree.specs.SnapshotText.{IsSnapshotText}
+use Rattle.repo_tree.proofs.ConfigLemmas.{config_texts_one}
+use Rattle.repo_tree.proofs.SnapshotLemmas.{snapshot_texts_one}
+use Rattle.std.proofs.lemmas.Option.{same_Some}
+use Rattle.repo_world.specs.declared.jobs.Job.{Job}
 use Rattle.repo_world.proofs.Replying.{token_told}
 use Rattle.repo_world.proofs.Sending.{sent_as_asked}
+
+-- ---- versions
+
+pub versioned_same : (old new : Store) (x : List ℕ) → new.config ≡ old.config → IsVersioned old x → IsVersioned new x
+versioned_same old new x e v = record { text = v.text; config = v.config; configured = e ∙ v.configured; reads = v.reads; snapshot = v.snapshot; is = v.is; within = v.within }
+
+versioned_raised : (old new : Store) (x : List ℕ) → Raises old new → IsVersioned old x → IsVersioned new x
+versioned_raised old new x r v =
+    let same : r.text ≡ v.text = same_Some r.text v.text (sym r.was ∙ v.configured) in
+    let one : r.config ≡ v.config = config_texts_one v.text r.config v.config (subst (λ y. IsConfigText y r.config) same r.reads) v.reads in
+    let e : r.config.version ≡ v.config.version = ap (λ (c : Config). c.version) one in
+    let first : r.config.version ≡ 1 = r.first in
+    let low : v.snapshot.version ≤ v.config.version = v.within in
+    record { text = config_text (upgraded r.config); config = upgraded r.config; configured = r.saves.0; reads = r.anew; snapshot = v.snapshot; is = v.is; within = omega (arith, e, first, low) }
+
+versioned_after : (old : Store) (ask : Ask) (new : Store) (x : List ℕ) → ConfigMoves old ask new → IsVersioned old x → IsVersioned new x
+versioned_after old ask new x (ConfigMoves.rests e) v = versioned_same old new x e v
+versioned_after old ask new x (ConfigMoves.raises t e live r) v = versioned_raised old new x r v
+
+module _ (w : World) (bag : HasBag w) where
+  -- a snapshot that is put under a live token is of the version of the config there
+  source_versioned : (k q : ℕ) (t : Token) (n : Name) (x : List ℕ) (b : Job) → (client w k).job ≡ b → AskedAt (client w k) q (Ask.Put t Kind.Snapshot n x) → Took w k t → IsLive w t
+      → (text : List ℕ) × (config : Config) × (snapshot : Snapshot) × (w.store.config ≡ Some text) × IsConfigText text config × IsSnapshotText x snapshot × (snapshot.version ≡ config.version)
+  source_versioned k q t n x (Job.Backup entries) e h took live =
+      let s = sent_as w bag k q (Ask.Put t Kind.Snapshot n x) (Job.Backup entries) e h in
+      let r : backing.SnapshotRule entries s.older t x = s.permitted tt in
+      let there = (bag.told k Ask.Config (Say.Bytes r.cut.text) (s.within Ask.Config (Say.Bytes r.cut.text) r.cut.read)).0.configured r.cut.text refl refl t took live in
+      (r.cut.text, r.cut.config, r.snapshot, ⊎_elim (λ u. absurd ((sent_as w bag k u.0 (Ask.Upgrade u.1) (Job.Backup entries) e u.2).permitted tt)) (λ c. c) there, r.cut.reads, r.reads, r.version_is)
+  source_versioned k q t n x Job.Prune e h took live = absurd ((sent_as w bag k q (Ask.Put t Kind.Snapshot n x) Job.Prune e h).permitted tt)
+  source_versioned k q t n x (Job.Restore s) e h took live = absurd ((sent_as w bag k q (Ask.Put t Kind.Snapshot n x) (Job.Restore s) e h).permitted tt)
+  source_versioned k q t n x Job.List e h took live = absurd ((sent_as w bag k q (Ask.Put t Kind.Snapshot n x) Job.List e h).permitted tt)
+  source_versioned k q t n x Job.Check e h took live = absurd ((sent_as w bag k q (Ask.Put t Kind.Snapshot n x) Job.Check e h).permitted tt)
+  source_versioned k q t n x Job.Upgrade e h took live = absurd ((sent_as w bag k q (Ask.Put t Kind.Snapshot n x) Job.Upgrade e h).permitted tt)
+  source_versioned k q t n x (Job.Forget choice) e h took live = absurd ((sent_as w bag k q (Ask.Put t Kind.Snapshot n x) (Job.Forget choice) e h).permitted tt).0
+
+  pub put_versioned : (k q : ℕ) (t : Token) (n : Name) (x : List ℕ) (snapshot : Snapshot) → AskedAt (client w k) q (Ask.Put t Kind.Snapshot n x) → IsLive w t → IsSnapshotText x snapshot → IsOfVersion w.store snapshot.version
+  put_versioned k q t n x snapshot h live reads =
+      let s = source_versioned k q t n x (client w k).job refl h (put_took w bag k q t Kind.Snapshot n x h) live in
+      record { text = s.0; config = s.1; configured = s.3; reads = s.4; of_version = sym s.6 ∙ ap (λ (z : Snapshot). z.version) (snapshot_texts_one x s.2 snapshot s.5 reads) }
+
+  snapshot_put : (k q : ℕ) (t : Token) (n : Name) (x : List ℕ) → AskedAt (client w k) q (Ask.Put t Kind.Snapshot n x) → IsLive w t → IsVersioned w.store x
+  snapshot_put k q t n x h live =
+      let s = source_versioned k q t n x (client w k).job refl h (put_took w bag k q t Kind.Snapshot n x h) live in
+      let v : s.2.version ≡ s.1.version = s.6 in
+      record { text = s.0; config = s.1; configured = s.3; reads = s.4; snapshot = s.2; is = s.5; within = omega (arith, v) }
+
+  versions_moved : (k : ℕ) (request : Request) → IsOneOf w.messages (Asked k request) → (O : Objects) → ObjectsMove w.store.tokens w.store.objects request.ask O → (n : Name) (x : List ℕ) → O Kind.Snapshot n ≡ Some x → IsVersioned w.store x
+  versions_moved k request m O (ObjectsMove.stays e) n x h = bag.versions n x (ap (λ (P : Objects). P Kind.Snapshot n) (sym e) ∙ h)
+  versions_moved k request m O (ObjectsMove.removes t c o e live removed) n x h = bag.versions n x (removed.only Kind.Snapshot n x h)
+  versions_moved k request m O (ObjectsMove.adds t c o y e live added) n x h = ⊎_elim (bag.versions n x)
+      (λ g. (let asked = subst (λ a. AskedAt (client w k) request.sequence a) (e ∙ ap (λ j. Ask.Put t j o y) (sym g.0)) (bag.asked k request m) in
+      subst (λ z. IsVersioned w.store z) (sym g.2) (snapshot_put k request.sequence t o y asked live)))
+      (added.only Kind.Snapshot n x h)
 
 module _ (w : World) (bag : HasBag w) (clash : HasNoClash w) (k : ℕ) (request : Request) (m : IsOneOf w.messages (Asked k request)) (reply : Reply) (store : Store) (instance : reply.instance ≡ request.instance) (sequence : reply.sequence ≡ request.sequence) (step : Step w.store request.ask reply.say store) where
   pub later : Later w (served w store (w.messages ++ Said k reply ∷ []))
@@ -33,7 +97,7 @@ module _ (w : World) (bag : HasBag w) (clash : HasNoClash w) (k : ℕ) (request 
   here = bag.asked k request m
 
   kept : (j q : ℕ) (a : Ask) (s : Say) → AskedAt (client w j) q a → StillSays w j a s → StillSays (served w store (w.messages ++ Said k reply ∷ [])) j a s
-  kept j q a s h g = still_served w bag store (w.messages ++ Said k reply ∷ []) later moves.tokens move j q a s h g
+  kept j q a s h g = still_served w bag store (w.messages ++ Said k reply ∷ []) later moves.tokens move (turn_of w k request store m moves.config) j q a s h g
 
   fresh : StillSays (served w store (w.messages ++ Said k reply ∷ [])) k request.ask reply.say
   fresh = says_now w bag store (w.messages ++ Said k reply ∷ []) later moves.tokens.ok k request.ask reply.say step
@@ -62,6 +126,7 @@ module _ (w : World) (bag : HasBag w) (clash : HasNoClash w) (k : ℕ) (request 
   keeps_serve = record {
     sound = move_keeps_sound w bag clash k request m store.objects moves.objects;
     ledger = moves.tokens.ok;
+    versions = λ n x h. versioned_after w.store request.ask store x moves.config (versions_moved w bag k request m store.objects moves.objects n x h);
     behave = bag.behave;
     within = bag.within;
     told = λ j a s h.

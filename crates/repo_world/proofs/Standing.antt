@@ -99,7 +99,7 @@ module _ (Own : Type 0) where
   failing_any Fail.Read old ask say new (inr h) = inr (h.0, plainly_any old ask say new h.1)
 
   pub happens_any : (w : World) (e : Event) (a : Applied) (v : World) → Happens Own w e a v → Happens ⊤ w e a v
-  happens_any w (Event.Start job host time) a v h = h
+  happens_any w (Event.Start job host time old) a v h = h
   happens_any w (Event.Deliver i) a v h = delivers_so (Plainly Own) (Plainly ⊤) plainly_any w (slice_get w.messages i) a v h
   happens_any w (Event.Fault i fail) a v h = delivers_so (Failing Own fail) (Failing ⊤ fail) (failing_any fail) w (slice_get w.messages i) a v h
   happens_any w (Event.Unlock t) a v (d, inl u) = (d, inl u)

@@ -1,11 +1,12 @@
 -- A client that has no exchange behind it waits for its ticket.
-use Rattle.std.proofs.Common.{◌∙◌, ◌≡◌, inl, inr, ◌++◌, ◌∷◌, [], List, Option, Some, None, true, false, refl}
+use Rattle.std.proofs.Common.{ℕ, ◌∙◌, ◌≡◌, inl, inr, ◌++◌, ◌∷◌, [], List, Option, Some, None, true, false, refl}
 use Rattle.repo_wire.specs.declared.messages.Ask.{Ask}
 use Rattle.repo_wire.specs.declared.messages.Request.{Request}
 use Rattle.repo_name.specs.declared.kinds.Thing.{Thing}
 use Rattle.repo_name.specs.declared.kinds.Kind.{Kind}
 use Rattle.repo_name.specs.declared.names.Name.{Name}
 use Rattle.repo_tree.specs.declared.entries.Entry.{Entry}
+use Rattle.repo_session.specs.Versions.{upto}
 use Rattle.repo_session.specs.Clients.{IsObedient}
 use Rattle.repo_session.specs.Order.{May, Task}
 use Rattle.repo_session.specs.Traces.{Trace, is_complete}
@@ -37,6 +38,7 @@ restore_ends snapshot (End.Refused code) h = h
 restore_ends snapshot End.BadReply h = h
 restore_ends snapshot End.Version h = h
 restore_ends snapshot End.DirectoryTooLarge h = h
+restore_ends snapshot End.FileTooLarge h = h
 
 prune_ends : (end : End) → JobConcludes Job.Prune [] (Outcome.Ended end) → ⊥
 prune_ends (End.Missing thing name) h = h.1.1
@@ -51,9 +53,11 @@ prune_ends (End.Refused code) h = h
 prune_ends End.BadReply h = h
 prune_ends End.Version h = h
 prune_ends End.DirectoryTooLarge h = h
+prune_ends End.FileTooLarge h = h
 
 backup_ends : (entries : List Entry) (end : End) → JobConcludes (Job.Backup entries) [] (Outcome.Ended end) → ⊥
 backup_ends entries End.DirectoryTooLarge h = h.cut.read
+backup_ends entries End.FileTooLarge h = h
 backup_ends entries (End.Missing thing name) h = h
 backup_ends entries (End.BadObject thing name) h = h
 backup_ends entries End.Busy h = h
@@ -70,6 +74,7 @@ no_end Job.List end h = h
 no_end (Job.Forget choice) end h = h
 no_end Job.Prune end h = prune_ends end h
 no_end Job.Check end h = h
+no_end Job.Upgrade end h = h
 
 forgot_listed : (choice : Choice) (es : Trace) (names : List Name) → IsForgotten choice es names → is_complete Kind.Snapshot es ≡ true
 forgot_listed choice es names h = go choice h.chosen.decided where
@@ -86,23 +91,27 @@ no_outcome (Job.Forget choice) (Outcome.Forgotten names) h = unlisted (forgot_li
 no_outcome Job.Prune (Outcome.Pruned packs bytes) h = unlisted h.all.complete
 no_outcome Job.Check (Outcome.Clean snapshots indexes packs blobs) h = unlisted (h.received.objects Kind.Snapshot).listed.complete
 no_outcome Job.Check (Outcome.Faults faults) h = unlisted (h.received.objects Kind.Snapshot).listed.complete
+no_outcome Job.Upgrade Outcome.Upgraded (inl h) = h.read
+no_outcome Job.Upgrade Outcome.Upgraded (inr h) = h.1
 no_outcome (Job.Backup entries) _ h = h
 no_outcome (Job.Restore snapshot) _ h = h
 no_outcome Job.List _ h = h
 no_outcome (Job.Forget choice) _ h = h
 no_outcome Job.Prune _ h = h
 no_outcome Job.Check _ h = h
+no_outcome Job.Upgrade _ h = h
 
-not_concluded : (job : Job) (o : Outcome) → ends.Concludes (JobConcludes job) [] o → ⊥
-not_concluded job (Outcome.Ended end) (inl h) = h
-not_concluded job (Outcome.Ended end) (inr h) = no_end job end h
-not_concluded job (Outcome.Stored name blobs bytes) h = no_outcome job (Outcome.Stored name blobs bytes) h
-not_concluded job (Outcome.Complete entries) h = no_outcome job (Outcome.Complete entries) h
-not_concluded job (Outcome.Listed rows) h = no_outcome job (Outcome.Listed rows) h
-not_concluded job (Outcome.Forgotten names) h = no_outcome job (Outcome.Forgotten names) h
-not_concluded job (Outcome.Pruned packs bytes) h = no_outcome job (Outcome.Pruned packs bytes) h
-not_concluded job (Outcome.Clean snapshots indexes packs blobs) h = no_outcome job (Outcome.Clean snapshots indexes packs blobs) h
-not_concluded job (Outcome.Faults faults) h = no_outcome job (Outcome.Faults faults) h
+not_concluded : (known : ℕ) (job : Job) (o : Outcome) → ends.Concludes known (JobConcludes job) [] o → ⊥
+not_concluded known job (Outcome.Ended end) (inl h) = h
+not_concluded known job (Outcome.Ended end) (inr h) = no_end job end h
+not_concluded known job (Outcome.Stored name blobs bytes) h = no_outcome job (Outcome.Stored name blobs bytes) h
+not_concluded known job (Outcome.Complete entries) h = no_outcome job (Outcome.Complete entries) h
+not_concluded known job (Outcome.Listed rows) h = no_outcome job (Outcome.Listed rows) h
+not_concluded known job (Outcome.Forgotten names) h = no_outcome job (Outcome.Forgotten names) h
+not_concluded known job (Outcome.Pruned packs bytes) h = no_outcome job (Outcome.Pruned packs bytes) h
+not_concluded known job (Outcome.Clean snapshots indexes packs blobs) h = no_outcome job (Outcome.Clean snapshots indexes packs blobs) h
+not_concluded known job (Outcome.Faults faults) h = no_outcome job (Outcome.Faults faults) h
+not_concluded known job Outcome.Upgraded h = no_outcome job Outcome.Upgraded h
 
 -- ---- and what is pending is the ticket
 
@@ -119,6 +128,7 @@ only_ticket task (Ask.Get k n) h = absurd (nothing_after h.0.1.1.later _ _ h.0.1
 only_ticket task (Ask.Range pack offset len) h = absurd (nothing_after h.0.1.1.later _ _ h.0.1.1.since)
 only_ticket task (Ask.Put token k n x) h = absurd (nothing_after h.0.1.later _ _ h.0.1.since)
 only_ticket task (Ask.Delete token k n) h = absurd (nothing_after h.0.1.later _ _ h.0.1.since)
+only_ticket task (Ask.Upgrade token) h = absurd (nothing_after h.0.1.later _ _ h.0.1.since)
 only_ticket task (Ask.Unlock token) h = absurd (nothing_after h.later _ _ h.since)
 only_ticket task (Ask.Refresh token time) h = absurd h
 only_ticket task Ask.Locks h = absurd h
@@ -131,7 +141,7 @@ module _ (c : AnyClient) (f : FitsAny c []) where
   no_outcome_yet = go (any_ended c) refl where
     go : (o : Option Outcome) → any_ended c ≡ o → any_ended c ≡ None
     go None e = e
-    go (Some o) e = absurd (not_concluded (given_to c).handed o (owes.concluded o e))
+    go (Some o) e = absurd (not_concluded (upto (task_of (given_to c).handed (given_to c).who).versions) (given_to c).handed o (owes.concluded o e))
 
   pub ticket_pending : any_next c ≡ Some (record { instance = (given_to c).who.instance; sequence = 1; ask = Ask.Ticket })
   ticket_pending = go (any_next c) refl where

@@ -34,6 +34,7 @@ use Rattle.repo_store.specs.declared.shelves.Slice.{Slice}
 use Rattle.repo_store.specs.Pages.{IsPage}
 use Rattle.repo_store.specs.StoreMachine.{Step, object_limit, GetSays}
 use Rattle.repo_store.specs.Stores.{Store, Objects}
+use Rattle.repo_session.specs.declared.versions.Versions.{Versions}
 use Rattle.repo_session.specs.Askers.{asker}
 use Rattle.repo_session.specs.Catalogs.{AreIndexed}
 use Rattle.repo_session.specs.Ends as ends
@@ -138,7 +139,7 @@ module _ (host : List ℕ) (time : ℕ) (config pack index snapshot : List ℕ) 
 
   module _ (w : World) (same : w.store ≡ from) where
     abbrev task : Task
-    task = task_of Job.Prune (asker (instance_of (length w.clients)) host time)
+    task = task_of Job.Prune (asker (instance_of (length w.clients)) host time Versions.Both)
 
     abbrev t0 : Trace
     t0 = opened task token config
@@ -168,7 +169,7 @@ module _ (host : List ℕ) (time : ℕ) (config pack index snapshot : List ℕ) 
     all = silent (Ask.Unlock token) Say.Done ∷ t7
 
     works_0 : IsWorking task token t0
-    works_0 = opened_working task token config texts.read texts.configured
+    works_0 = opened_working task token config texts.read texts.configured (let first = texts.first in omega (arith, first))
 
     works_1 : IsWorking task token t1
     works_1 = working_more task token (silent (Ask.List Kind.Snapshot None) (Say.Names false (ns ∷ []))) t0 works_0 (names_no_dead false (ns ∷ [])) (λ t h. absurd (cc))
@@ -301,7 +302,7 @@ module _ (host : List ℕ) (time : ℕ) (config pack index snapshot : List ℕ) 
     listing = record {
       listed = record { complete = refl; rise = record { ascend = (tt, tt); moves = no_page Kind.Snapshot } };
       names = refl;
-      each = ((snapshot, (inr (inr (inr (inr (inr (inl (refl, refl)))))), refl), texts.reads), tt);
+      each = ((snapshot, (inr (inr (inr (inr (inr (inl (refl, refl)))))), refl), texts.reads, omega arith), tt);
     }
 
     tree_received : (x : List ℕ) → Contains (tree_text [] ∷ []) x → Received t7 Tree x
@@ -363,7 +364,7 @@ module _ (host : List ℕ) (time : ℕ) (config pack index snapshot : List ℕ) 
       obeys = obeys;
       pending = λ r h. absurd (none-some r h);
       settled = λ e q. absurd (none-some (Outcome.Pruned 0 0) (sym q));
-      concluded = λ o e. subst (λ x. ends.Concludes (JobConcludes Job.Prune) t7 x) (same_Some (Outcome.Pruned 0 0) o e) pruned;
+      concluded = λ o e. subst (λ x. ends.Concludes 1 (JobConcludes Job.Prune) t7 x) (same_Some (Outcome.Pruned 0 0) o e) pruned;
       released = λ e o t h. absurd (held_end task t h.later (silent (Ask.Unlock token) Say.Done) t7 h.since h.held.unended tt);
       beside = λ r h o. absurd (none-some r h);
       ending = λ r h u. absurd (none-some r h);

@@ -20,6 +20,8 @@ use Rattle.repo_prune.specs.ForgetStates as forgets
 use Rattle.repo_prune.specs.ForgetStates.{FitsForget, choice_of}
 use Rattle.repo_prune.specs.PruneObedience.{prune_obeys, prune_tells}
 use Rattle.repo_prune.specs.PruneStates.{FitsPrune, pruner_of}
+use Rattle.repo_prune.specs.UpgradeObedience.{upgrade_obeys, upgrade_tells}
+use Rattle.repo_prune.specs.UpgradeStates.{FitsUpgrade, who_of_upgrade}
 use Rattle.repo_check.specs.CheckObedience.{check_obeys, check_tells}
 use Rattle.repo_check.specs.CheckStates.{FitsCheck, checker_of}
 use Rattle.repo_world.specs.Clients.{JobAllows, Client, JobConcludes, JobGives, task_of}
@@ -34,6 +36,7 @@ given_to (AnyClient.List c) = record { who = lists.who_of c; handed = Job.List }
 given_to (AnyClient.Forget c) = record { who = forgets.who_of c; handed = Job.Forget (choice_of c) }
 given_to (AnyClient.Prune c) = record { who = pruner_of c; handed = Job.Prune }
 given_to (AnyClient.Check c) = record { who = checker_of c; handed = Job.Check }
+given_to (AnyClient.Upgrade c) = record { who = who_of_upgrade c; handed = Job.Upgrade }
 
 -- it stands where the trace leaves it
 abbrev pub FitsAny : AnyClient → Trace → Type 0
@@ -43,6 +46,7 @@ FitsAny (AnyClient.List c) es = FitsList c es
 FitsAny (AnyClient.Forget c) es = FitsForget c es
 FitsAny (AnyClient.Prune c) es = FitsPrune c es
 FitsAny (AnyClient.Check c) es = FitsCheck c es
+FitsAny (AnyClient.Upgrade c) es = FitsUpgrade c es
 
 -- what is pending
 abbrev pub any_next : AnyClient → Option Request
@@ -52,6 +56,7 @@ any_next (AnyClient.List c) = next_in c.session
 any_next (AnyClient.Forget c) = next_in c.session
 any_next (AnyClient.Prune c) = next_in c.session
 any_next (AnyClient.Check c) = next_in c.session
+any_next (AnyClient.Upgrade c) = next_in c.session
 
 -- how it ended
 abbrev pub any_ended : AnyClient → Option Outcome
@@ -61,6 +66,7 @@ any_ended (AnyClient.List c) = ended_in c.session
 any_ended (AnyClient.Forget c) = ended_in c.session
 any_ended (AnyClient.Prune c) = ended_in c.session
 any_ended (AnyClient.Check c) = ended_in c.session
+any_ended (AnyClient.Upgrade c) = ended_in c.session
 
 -- what it gave out last
 abbrev pub any_given : AnyClient → List Emission
@@ -70,6 +76,7 @@ any_given (AnyClient.List c) = given_by (λ j. []) c.session
 any_given (AnyClient.Forget c) = given_by (λ j. []) c.session
 any_given (AnyClient.Prune c) = given_by (λ j. []) c.session
 any_given (AnyClient.Check c) = given_by (λ j. []) c.session
+any_given (AnyClient.Upgrade c) = given_by (λ j. []) c.session
 
 -- the token that it tells
 abbrev pub any_token : AnyClient → Option Token
@@ -79,6 +86,7 @@ any_token (AnyClient.List c) = token_in c.session
 any_token (AnyClient.Forget c) = token_in c.session
 any_token (AnyClient.Prune c) = token_in c.session
 any_token (AnyClient.Check c) = token_in c.session
+any_token (AnyClient.Upgrade c) = token_in c.session
 
 -- it owes what its job owes
 pub any_obeys : (c : AnyClient) (es : Trace) → FitsAny c es → IsObedient (task_of (given_to c).handed (given_to c).who) (JobAllows (given_to c).handed) (JobGives (given_to c).handed)
@@ -89,6 +97,7 @@ any_obeys (AnyClient.List c) es f = list_obeys c es f
 any_obeys (AnyClient.Forget c) es f = forget_obeys c es f
 any_obeys (AnyClient.Prune c) es f = prune_obeys c es f
 any_obeys (AnyClient.Check c) es f = check_obeys c es f
+any_obeys (AnyClient.Upgrade c) es f = upgrade_obeys c es f
 
 pub any_tells : (c : AnyClient) (es : Trace) → FitsAny c es → TellsToken (any_token c) (any_ended c) es
 any_tells (AnyClient.Backup c) es f = backup_tells c es f
@@ -97,6 +106,7 @@ any_tells (AnyClient.List c) es f = list_tells c es f
 any_tells (AnyClient.Forget c) es f = forget_tells c es f
 any_tells (AnyClient.Prune c) es f = prune_tells c es f
 any_tells (AnyClient.Check c) es f = check_tells c es f
+any_tells (AnyClient.Upgrade c) es f = upgrade_tells c es f
 
 -- what a client of the world is that stands so, after these exchanges
 abbrev pub client_of : AnyClient → Trace → Bool → Client

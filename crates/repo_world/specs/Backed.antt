@@ -35,10 +35,11 @@ configured config = record { config = Some config; objects = λ k n. None; token
 abbrev pub snapshot_of : List ℕ → ℕ → Snapshot
 snapshot_of host time = record { version = 1; host = host; time = time; token = record { 0 = 1 }; tree = naming.name (tree_text []) }
 
--- texts as they are written: the store's config; the empty tree; a pack of it, and an index of that pack; the snapshot. Each is within its limit.
+-- texts as they are written: the store's config, of version 1; the empty tree; a pack of it, and an index of that pack; the snapshot. Each is within its limit.
 pub record AreTexts (host : List ℕ) (time : ℕ) (config pack index snapshot : List ℕ) : Type 0 where
   pub read : Config
   pub configured : IsConfigText config read
+  pub first : read.version ≡ 1
   pub config_short : length config ≤ config_limit
   pub empty : IsTreeText (tree_text []) []
   pub packed : IsTruePack pack (tree_of nothing ∷ [])

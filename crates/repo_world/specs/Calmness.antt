@@ -15,5 +15,5 @@ IsCalm w (Event.Deliver i) = IsIgnored w (slice_get w.messages i)
 IsCalm w (Event.Fault i fail) = IsIgnored w (slice_get w.messages i)
 IsCalm w (Event.Crash k) = ⊤
 IsCalm w Event.Restart = ⊤
-IsCalm w (Event.Start job host time) = ⊥
+IsCalm w (Event.Start job host time old) = ⊥
 IsCalm w (Event.Unlock token) = ⊥

@@ -17,6 +17,7 @@ use Rattle.repo_restore.specs.Listing.{list_rule}
 use Rattle.repo_restore.specs.Restoring.{restore_rule}
 use Rattle.repo_prune.specs.Forgetting.{IsNoPolicy, forget_rule}
 use Rattle.repo_prune.specs.Pruning.{prune_rule}
+use Rattle.repo_prune.specs.Upgrading.{upgrade_rule}
 use Rattle.repo_check.specs.Checking.{check_rule}
 use Rattle.repo_world.specs.declared.jobs.Job.{Job}
 use Rattle.repo_world.specs.declared.jobs.Refusal.{Refusal}
@@ -31,6 +32,7 @@ rule_of Job.List = list_rule
 rule_of (Job.Forget choice) = forget_rule choice
 rule_of Job.Prune = prune_rule
 rule_of Job.Check = check_rule
+rule_of Job.Upgrade = upgrade_rule
 
 -- the entries that it was handed, if it is a backup
 abbrev pub handed_to : Job → Option (List Entry)

@@ -11,6 +11,7 @@ use Rattle.repo_wire.specs.declared.messages.Say.{Say}
 use Rattle.repo_locks.specs.TokenMachine.{Tokens, start, issued, granted, unlocked}
 use Rattle.repo_store.specs.declared.faults.Fail.{Fail}
 use Rattle.repo_store.specs.Stores.{Store, empty}
+use Rattle.repo_session.specs.declared.versions.Versions.{Versions}
 use Rattle.repo_session.specs.Askers.{asker, row_of}
 use Rattle.repo_session.specs.Clients.{exchange}
 use Rattle.repo_session.specs.declared.outcomes.End.{End}
@@ -53,7 +54,7 @@ with_tokens tokens = record { config = None; objects = λ k n. None; tokens = to
 abbrev pub refused : Client
 refused = record {
   job = Job.Backup [];
-  who = asker (instance_of 0) host 5;
+  who = asker (instance_of 0) host 5 Versions.Both;
   trace = exchange second failed [] ∷ exchange (first_of 0) given [] ∷ [];
   next = None;
   outcome = Some (Outcome.Ended (End.Refused Code.Fault));
@@ -65,7 +66,7 @@ abbrev pub last : World
 last = record { store = with_tokens (unlocked (granted (issued start) row) token); clients = refused ∷ []; messages = Asked 0 (first_of 0) ∷ Said 0 given ∷ Asked 0 second ∷ Said 0 failed ∷ Said 0 done ∷ [] }
 
 abbrev pub events : List Event
-events = Event.Start (Job.Backup []) host 5 ∷ Event.Deliver 0 ∷ Event.Deliver 1 ∷ Event.Fault 2 (Fail.Write true) ∷ Event.Deliver 2 ∷ Event.Deliver 3 ∷ Event.Unlock token ∷ Event.Restart ∷ []
+events = Event.Start (Job.Backup []) host 5 false ∷ Event.Deliver 0 ∷ Event.Deliver 1 ∷ Event.Fault 2 (Fail.Write true) ∷ Event.Deliver 2 ∷ Event.Deliver 3 ∷ Event.Unlock token ∷ Event.Restart ∷ []
 
 -- these events are a run from an empty store to this world, in which nothing clashes
 abbrev pub ExampleIsARun : Type 0

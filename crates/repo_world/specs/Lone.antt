@@ -2,6 +2,7 @@
 use Rattle.std.specs.Prelude.{◌≡◌, ◌<◌, ◌^◌, ◌++◌, ◌∷◌, [], ℕ, false, List, length, Option, None}
 use Rattle.repo_name.specs.Rows.{IsHost}
 use Rattle.repo_store.specs.Stores.{Store}
+use Rattle.repo_session.specs.declared.versions.Versions.{Versions}
 use Rattle.repo_session.specs.Askers.{asker}
 use Rattle.repo_session.specs.Talks.{Turn, Talk, trace_of, TalkRan}
 use Rattle.repo_session.specs.Traces.{Trace}
@@ -14,7 +15,7 @@ use Rattle.repo_world.specs.declared.events.Event.{Event}
 
 -- a client that is at its end
 abbrev pub ended : ℕ → Job → List ℕ → ℕ → Trace → Option Outcome → Client
-ended k job host time es outcome = record { job = job; who = asker (instance_of k) host time; trace = es; next = None; outcome = outcome; crashed = false }
+ended k job host time es outcome = record { job = job; who = asker (instance_of k) host time Versions.Both; trace = es; next = None; outcome = outcome; crashed = false }
 
 -- some events lead from a world to one with this store, where this client has joined, and the others are as they were
 pub record JoinsWorld (w : World) (store : Store) (c : Client) : Type 0 where

@@ -21,6 +21,7 @@ role_of Job.List = Role.List
 role_of (Job.Forget choice) = Role.Forget
 role_of Job.Prune = Role.Prune
 role_of Job.Check = Role.Check
+role_of Job.Upgrade = Role.Upgrade
 
 -- what it is called
 abbrev pub role_word : Role → List ℕ
@@ -30,6 +31,7 @@ role_word Role.List = codes "list"
 role_word Role.Forget = codes "forget"
 role_word Role.Prune = codes "prune"
 role_word Role.Check = codes "check"
+role_word Role.Upgrade = codes "upgrade"
 
 -- the line of a client: its number, what it is, and how its job ended
 abbrev pub client_line : ℕ → Role → Option Outcome → Bool → List ℕ

@@ -1,5 +1,5 @@
 -- The world: a store, its clients, and all messages that were ever sent.
-use Rattle.std.specs.Prelude.{◌≡◌, ◌⊎◌, ◌∷◌, [], ℕ, true, false, List, slice_index_or, cond, Option, Some, None}
+use Rattle.std.specs.Prelude.{◌≡◌, ◌⊎◌, ◌∷◌, [], ℕ, Bool, true, false, List, slice_index_or, cond, Option, Some, None}
 use Rattle.std.specs.Int.{to_be_bytes, w128}
 use Rattle.repo_name.specs.declared.names.Instance.{Instance}
 use Rattle.repo_wire.specs.declared.messages.Ask.{Ask}
@@ -7,6 +7,7 @@ use Rattle.repo_wire.specs.declared.messages.Reply.{Reply}
 use Rattle.repo_wire.specs.declared.messages.Request.{Request}
 use Rattle.repo_store.specs.Stores.{Store}
 use Rattle.repo_session.specs.Askers.{asker}
+use Rattle.repo_session.specs.declared.versions.Versions.{Versions}
 use Rattle.repo_world.specs.Clients.{Client}
 use Rattle.repo_world.specs.declared.jobs.Job.{Job}
 
@@ -33,9 +34,14 @@ instance_of k = record { 0 = to_be_bytes w128 k }
 abbrev pub first_of : ℕ → Request
 first_of k = record { instance = instance_of k; sequence = 1; ask = Ask.Ticket }
 
--- a client that has just started
-abbrev pub started : ℕ → Job → List ℕ → ℕ → Client
-started k job host time = record { job = job; who = asker (instance_of k) host time; trace = []; next = Some (first_of k); outcome = None; crashed = false }
+-- the versions that a client knows: an old one version 1 alone
+abbrev pub versions_of : Bool → Versions
+versions_of true = Versions.One
+versions_of false = Versions.Both
+
+-- a client that has just started, an old one or not
+abbrev pub started : ℕ → Job → List ℕ → ℕ → Bool → Client
+started k job host time old = record { job = job; who = asker (instance_of k) host time (versions_of old); trace = []; next = Some (first_of k); outcome = None; crashed = false }
 
 -- a client that stopped for good
 abbrev pub crashed_one : Client → Client
@@ -43,7 +49,7 @@ crashed_one c = record { job = c.job; who = c.who; trace = c.trace; next = c.nex
 
 -- what stands for a client that never started
 abbrev pub nobody : Client
-nobody = record { job = Job.List; who = asker (instance_of 0) [] 0; trace = []; next = None; outcome = None; crashed = true }
+nobody = record { job = Job.List; who = asker (instance_of 0) [] 0 Versions.Both; trace = []; next = None; outcome = None; crashed = true }
 
 -- the client of a number among some
 abbrev pub client_at : List Client → ℕ → Client

@@ -14,7 +14,7 @@ use crate::reports::Role;
 use repo_backup::{Backup, BackupError};
 use repo_check::Check;
 use repo_name::Token;
-use repo_prune::{Forget, ForgetError, Prune};
+use repo_prune::{Forget, ForgetError, Prune, Upgrade};
 use repo_restore::{Restore, SnapshotList};
 use repo_session::{Client, Emission, Outcome, Who};
 use repo_wire::{Reply, Request};
@@ -29,6 +29,7 @@ pub enum AnyClient {
     Forget(Forget),
     Prune(Prune),
     Check(Check),
+    Upgrade(Upgrade),
 }
 
 /// Why a client isn't begun: it is refused, or there is no memory.
@@ -72,6 +73,7 @@ impl AnyClient {
             },
             Job::Prune => Ok(AnyClient::Prune(Prune::new(alloc, who))),
             Job::Check => Ok(AnyClient::Check(Check::new(alloc, who))),
+            Job::Upgrade => Ok(AnyClient::Upgrade(Upgrade::new(alloc, who))),
         }
     }
 
@@ -86,6 +88,7 @@ impl AnyClient {
             AnyClient::Forget(_) => Role::Forget,
             AnyClient::Prune(_) => Role::Prune,
             AnyClient::Check(_) => Role::Check,
+            AnyClient::Upgrade(_) => Role::Upgrade,
         }
     }
 }
@@ -132,6 +135,7 @@ impl Client for AnyClient {
             AnyClient::Forget(client) => client.pending(),
             AnyClient::Prune(client) => client.pending(),
             AnyClient::Check(client) => client.pending(),
+            AnyClient::Upgrade(client) => client.pending(),
         }
     }
 
@@ -143,6 +147,7 @@ impl Client for AnyClient {
             AnyClient::Forget(client) => client.take(reply),
             AnyClient::Prune(client) => client.take(reply),
             AnyClient::Check(client) => client.take(reply),
+            AnyClient::Upgrade(client) => client.take(reply),
         }
     }
 
@@ -154,6 +159,7 @@ impl Client for AnyClient {
             AnyClient::Forget(client) => client.outcome(),
             AnyClient::Prune(client) => client.outcome(),
             AnyClient::Check(client) => client.outcome(),
+            AnyClient::Upgrade(client) => client.outcome(),
         }
     }
 
@@ -165,6 +171,7 @@ impl Client for AnyClient {
             AnyClient::Forget(client) => client.emitted(),
             AnyClient::Prune(client) => client.emitted(),
             AnyClient::Check(client) => client.emitted(),
+            AnyClient::Upgrade(client) => client.emitted(),
         }
     }
 
@@ -176,6 +183,7 @@ impl Client for AnyClient {
             AnyClient::Forget(client) => client.token(),
             AnyClient::Prune(client) => client.token(),
             AnyClient::Check(client) => client.token(),
+            AnyClient::Upgrade(client) => client.token(),
         }
     }
 }

@@ -1,7 +1,7 @@
 //! Why every run is safe, by the definitions alone: what keeps the bag of messages in order, and what that gives. Each
 //! function is empty, and its contract is the law.
 
-ghost use Rattle.repo_world.specs.BagLaws.{BagGivesSafety, BeginningHasBag, CrashesKeepBag, DeadKeepBag, DeleteKeepsBag, EachEventKeepsBag, LocksKeepBag, PutKeepsBag, ReadsKeepBag, RemovedLocksKeepBag, RepliesKeepBag, StartsKeepBag};
+ghost use Rattle.repo_world.specs.BagLaws.{BagGivesSafety, BeginningHasBag, CrashesKeepBag, DeadKeepBag, DeleteKeepsBag, EachEventKeepsBag, EachUpgradeHolds, EverySnapshotIsVersioned, LocksKeepBag, OldClientsAreFenced, PutKeepsBag, PutsAreOfVersion, ReadsKeepBag, RemovedLocksKeepBag, RepliesKeepBag, StartsKeepBag, UpgradeKeepsBag, UpgradedIsOfVersion};
 
 /// Where nothing was sent, and the store has no objects, the bag is in order.
 pub fn beginning_has_bag()
@@ -18,8 +18,8 @@ pub fn delete_keeps_bag()
     ensures { DeleteKeepsBag }
 {}
 
-/// So does a put under a token that isn't live, or a delete under one that isn't live and exclusive; and it changes no
-/// object.
+/// So does a put under a token that isn't live, or a delete or an upgrade under one that isn't live and exclusive; and it changes
+/// no object, and not the config.
 pub fn dead_tokens_keep_bag()
     ensures { DeadKeepBag }
 {}
@@ -62,4 +62,35 @@ pub fn each_event_keeps_bag()
 /// A world whose bag is in order is safe, and what was handed to a snapshot's backup is one list.
 pub fn bag_gives_safety()
     ensures { BagGivesSafety }
+{}
+
+/// An upgrade that is delivered while its token is live and exclusive keeps the bag in order, and changes no object.
+pub fn upgrade_keeps_bag()
+    ensures { UpgradeKeepsBag }
+{}
+
+/// A snapshot that is put under a live token is of the version that the store's config has then.
+pub fn puts_are_of_version()
+    ensures { PutsAreOfVersion }
+{}
+
+/// While a client works that knows version 1 alone, and its token is live, the store's config is of version 1, unless
+/// the client sent an upgrade itself.
+pub fn old_clients_are_fenced()
+    ensures { OldClientsAreFenced }
+{}
+
+/// Where a client reports an upgrade the store's config is of version 2.
+pub fn upgraded_is_of_version()
+    ensures { UpgradedIsOfVersion }
+{}
+
+/// After any events each snapshot there is of a version that the store's config has, or of a lower one.
+pub fn every_snapshot_is_versioned()
+    ensures { EverySnapshotIsVersioned }
+{}
+
+/// Once a client reported an upgrade the store's config is of version 2, at every later time.
+pub fn each_upgrade_holds()
+    ensures { EachUpgradeHolds }
 {}

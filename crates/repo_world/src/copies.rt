@@ -60,6 +60,7 @@ fn copy_of_job(alloc: Global, job: &Job) -> Result<Job, AllocError>
         Job::Forget(choice) => Ok(Job::Forget(copy_of_choice(choice)?)),
         Job::Prune => Ok(Job::Prune),
         Job::Check => Ok(Job::Check),
+        Job::Upgrade => Ok(Job::Upgrade),
     }
 }
 
@@ -68,10 +69,16 @@ pub fn copy_of_event(alloc: Global, event: &Event) -> Result<Event, AllocError>
     ensures { IfOk result (λ copy. copy ≡ event.now) }
 {
     match event {
-        Event::Start { job, host, time } => Ok(Event::Start {
+        Event::Start {
+            job,
+            host,
+            time,
+            old,
+        } => Ok(Event::Start {
             job: copy_of_job(alloc, job)?,
             host: host.copy()?,
             time: *time,
+            old: *old,
         }),
         Event::Deliver(message) => Ok(Event::Deliver(*message)),
         Event::Fault { message, fail } => Ok(Event::Fault {

@@ -7,13 +7,21 @@ use repo_store::Fail;
 /// What may happen in a world. Clients and messages are numbered from 0 on, as they come.
 #[derive(Debug, Drop)]
 pub enum Event {
-    /// A client starts, under the name of its machine and at a moment, in seconds since 1970, and asks for its
-    /// ticket.
-    Start { job: Job, host: Host, time: u64 },
+    /// A client starts, under the name of its machine and at a moment, in seconds since 1970, and asks for its ticket.
+    /// An old one knows version 1 alone.
+    Start {
+        job: Job,
+        host: Host,
+        time: u64,
+        old: bool,
+    },
     /// The message of this number is delivered.
     Deliver(usize),
     /// It is delivered, and the store's device fails in a call of this sort, where it is asked for one.
-    Fault { message: usize, fail: Fail },
+    Fault {
+        message: usize,
+        fail: Fail,
+    },
     /// Somebody removes the lock of this token.
     Unlock(Token),
     /// The client of this number stops for good.

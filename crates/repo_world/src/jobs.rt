@@ -64,6 +64,8 @@ pub enum Job {
     Prune,
     /// It tells what is at fault in the store.
     Check,
+    /// It makes the store's config one of version 2.
+    Upgrade,
 }
 
 /// Why a client isn't begun.

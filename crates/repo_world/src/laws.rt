@@ -44,8 +44,8 @@ pub fn every_store_is_fit()
     ensures { EveryStoreIsFit }
 {}
 
-/// And then each snapshot that is there can be had: a restore of it alone with that store, whose device doesn't fail, is complete
-/// at its end, or the store had no memory.
+/// And then each snapshot that is there can be had: a restore of it by a client that knows the config's version, alone with that
+/// store, whose device doesn't fail, is complete at its end, or the store had no memory.
 pub fn every_snapshot_is_restored()
     ensures { EverySnapshotIsRestored }
 {}

@@ -44,8 +44,10 @@ mod wrong_rules;
 pub use any_clients::{AnyClient, NotBegun};
 pub use bag_laws::{
     bag_gives_safety, beginning_has_bag, crashes_keep_bag, dead_tokens_keep_bag, delete_keeps_bag,
-    each_event_keeps_bag, locks_keep_bag, put_keeps_bag, reads_keep_bag, removed_locks_keep_bag,
-    replies_keep_bag, starts_keep_bag,
+    each_event_keeps_bag, each_upgrade_holds, every_snapshot_is_versioned, locks_keep_bag,
+    old_clients_are_fenced, put_keeps_bag, puts_are_of_version, reads_keep_bag,
+    removed_locks_keep_bag, replies_keep_bag, starts_keep_bag, upgrade_keeps_bag,
+    upgraded_is_of_version,
 };
 pub use events::{Applied, Event};
 pub use jobs::{Entries, Host, HostError, Job, Refusal};

@@ -20,6 +20,7 @@ pub enum Role {
     Forget,
     Prune,
     Check,
+    Upgrade,
 }
 
 impl Role {
@@ -34,6 +35,7 @@ impl Role {
             Role::Forget => "forget",
             Role::Prune => "prune",
             Role::Check => "check",
+            Role::Upgrade => "upgrade",
         }
     }
 }

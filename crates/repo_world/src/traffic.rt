@@ -11,7 +11,7 @@ ghost use Rattle.repo_world.specs.Events.{BeginsJob, Stops};
 ghost use Rattle.repo_world.specs.Flows.{clients_in, messages_in, seat_at, world_of};
 ghost use Rattle.repo_world.specs.Reports.{client_lines};
 ghost use Rattle.repo_world.specs.inner.Seating.{StepsAsArmed};
-ghost use Rattle.repo_world.specs.World.{instance_of, client};
+ghost use Rattle.repo_world.specs.World.{instance_of, client, versions_of};
 ghost use Rattle.repo_world.specs.Calmness.{IsIgnored};
 ghost use Rattle.repo_world.specs.declared.events.Applied.{Applied};
 ghost use Rattle.repo_world.specs.inner.Flowing.{FlowServes, ReplyArrives, FlowDelivers};
@@ -46,14 +46,20 @@ impl Model for Traffic {
     ghost invariant = { λ t. EachIsThere t.seats.items t.messages.items };
 }
 
-/// Who the client of a number is. It fails for memory alone.
-fn who_of(alloc: Global, number: usize, host: &Host, time: u64) -> Result<Who, AllocError>
-    ensures who { IfOk result (λ who. who ≡ asker (instance_of number) host.now time) }
+/// Who the client of a number is, an old one or not. It fails for memory alone.
+fn who_of(
+    alloc: Global,
+    number: usize,
+    host: &Host,
+    time: u64,
+    old: bool,
+) -> Result<Who, AllocError>
+    ensures who { IfOk result (λ who. who ≡ asker (instance_of number) host.now time (versions_of old)) }
     ensures host { IsHost host.now }
 {
     let instance = Instance((number as u128).to_be_bytes());
     match Who::new(alloc, instance, host.as_str(), time) {
-        Ok(who) => Ok(who),
+        Ok(who) => Ok(if old { who.as_version_1() } else { who }),
         Err(WhoError::Host) => unreachable!(),
         Err(WhoError::Memory) => Err(AllocError),
     }
@@ -104,16 +110,22 @@ impl Traffic {
         Ok(text)
     }
 
-    /// A client starts, as the one of the next number, and asks for its ticket; or it isn't begun. It fails for memory
-    /// alone, and then nothing changed.
-    pub fn start(&mut self, job: Job, host: &Host, time: u64) -> Result<Applied, AllocError>
-        ensures begins { (store : Store) → IfOk result (λ applied. BeginsJob (world_of store self.old) job host.now time applied (world_of store self.new)) }
+    /// A client, an old one or not, starts, as the one of the next number, and asks for its ticket; or it isn't begun.
+    /// It fails for memory alone, and then nothing changed.
+    pub fn start(
+        &mut self,
+        job: Job,
+        host: &Host,
+        time: u64,
+        old: bool,
+    ) -> Result<Applied, AllocError>
+        ensures begins { (store : Store) → IfOk result (λ applied. BeginsJob (world_of store self.old) job host.now time old applied (world_of store self.new)) }
         ensures err { OnErr result (self.new ≡ self.old) }
     {
         self.seats.reserve(1)?;
         self.messages.reserve(1)?;
         let number = self.seats.len();
-        let who = who_of(self.alloc, number, host, time)?;
+        let who = who_of(self.alloc, number, host, time, old)?;
         match AnyClient::new(self.alloc, who, job) {
             Ok(client) => {
                 self.seats.push(Seat::new(self.alloc, client))?;

@@ -120,11 +120,11 @@ impl<S: Shelf + Drop> World<S> {
     }
 
     /// A client starts, or isn't begun.
-    fn start(&mut self, job: Job, host: &Host, time: u64) -> Result<Applied, AllocError>
-        ensures happens { IfOk result (λ applied. Leads S.store S.failed self.old (Event.Start job host.now time) applied self.new) }
+    fn start(&mut self, job: Job, host: &Host, time: u64, old: bool) -> Result<Applied, AllocError>
+        ensures happens { IfOk result (λ applied. Leads S.store S.failed self.old (Event.Start job host.now time old) applied self.new) }
         ensures err { OnErr result (self.new ≡ self.old) }
     {
-        self.flow.start(job, host, time)
+        self.flow.start(job, host, time, old)
     }
 
     /// A client stops for good, if it runs.
@@ -184,7 +184,12 @@ impl<S: Shelf + Drop> World<S> {
         ensures calm { IsCalm (seen S.store self.old) event → IsOk result }
     {
         let applied = match event {
-            Event::Start { job, host, time } => self.start(job, &host, time),
+            Event::Start {
+                job,
+                host,
+                time,
+                old,
+            } => self.start(job, &host, time, old),
             Event::Deliver(message) => self.deliver(message),
             Event::Fault { message, fail } => self.fault(message, fail),
             Event::Unlock(token) => self.unlock(token),

@@ -29,6 +29,12 @@ fn words_that_are_unknown_or_too_many(rt: HostRuntime) {
     trial.refuses(b"append-only 1");
     trial.refuses(b"start");
     trial.refuses(b"start list 1");
+    trial.refuses(b"start upgrade 1");
+    trial.refuses(b"old");
+    trial.refuses(b"old start");
+    trial.refuses(b"old report");
+    trial.refuses(b"old list");
+    trial.refuses(b"old old start list");
     trial.refuses(b"start forget");
     trial.refuses(b"start pieces a 1");
     trial.refuses(b"start backup a");

@@ -7,7 +7,7 @@ impl Trial {
     /// The start that these bytes are. Where they are none that counts.
     fn start(&mut self, bytes: &[u8]) -> Option<Start> {
         match self.read(bytes) {
-            Ok(Some(Line::Start(start))) => Some(start),
+            Ok(Some(Line::Start { start, .. })) => Some(start),
             _ => {
                 self.count(false);
                 None
@@ -57,15 +57,31 @@ fn starts_of_backups(rt: HostRuntime) {
 #[test]
 fn starts_of_the_others(rt: HostRuntime) {
     let mut trial = Trial::new(rt.alloc());
-    trial.reads(b"start restore 0", "Start(Restore(0))");
-    trial.reads(b"start list", "Start(List)");
-    trial.reads(b"start prune", "Start(Prune)");
-    trial.reads(b"start check", "Start(Check)");
+    trial.reads(
+        b"start restore 0",
+        "Start { start: Restore(0), old: false }",
+    );
+    trial.reads(b"start list", "Start { start: List, old: false }");
+    trial.reads(b"start prune", "Start { start: Prune, old: false }");
+    trial.reads(b"start check", "Start { start: Check, old: false }");
     trial.reads(
         b"start keep 2 4294967295",
-        "Start(Keep(Policy { last: 2, daily: 4294967295 }))",
+        "Start { start: Keep(Policy { last: 2, daily: 4294967295 }), old: false }",
     );
     trial.starts_forget(b"start forget 0", &[0]);
     trial.starts_forget(b"start forget 3 0 3", &[3, 0, 3]);
+    trial.end(&rt);
+}
+
+#[test]
+fn starts_of_old_clients(rt: HostRuntime) {
+    let mut trial = Trial::new(rt.alloc());
+    trial.reads(b"start upgrade", "Start { start: Upgrade, old: false }");
+    trial.reads(b"old start upgrade", "Start { start: Upgrade, old: true }");
+    trial.reads(
+        b"old start restore 7",
+        "Start { start: Restore(7), old: true }",
+    );
+    trial.starts_backup(b"old start backup a 5", "a", 5);
     trial.end(&rt);
 }

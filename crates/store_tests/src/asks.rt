@@ -10,7 +10,7 @@ use repo_store::{MemShelf, Shelf, answer};
 use repo_wire::{Ask, Request, Say};
 use std::alloc::{AllocError, Global};
 
-/// What is asked, of a store that keeps a config, a live lock 1, a fresh number 2 and, where the ask wants it so, the
+/// What is asked, of a store that keeps a config (one that an upgrade reads, where the ask is one), a live lock 1, a fresh number 2 and, where the ask wants it so, the
 /// pack `abc`.
 #[derive(Clone, Copy)]
 pub enum Case {
@@ -27,9 +27,11 @@ pub enum Case {
     Get,
     Range,
     Config,
+    UpgradeOfVersion1,
+    UpgradeOfVersion2,
 }
 
-pub const CASES: [Case; 13] = [
+pub const CASES: [Case; 15] = [
     Case::Ticket,
     Case::Lock,
     Case::Refresh,
@@ -43,7 +45,17 @@ pub const CASES: [Case; 13] = [
     Case::Get,
     Case::Range,
     Case::Config,
+    Case::UpgradeOfVersion1,
+    Case::UpgradeOfVersion2,
 ];
+
+/// The text of a config of small chunks and packs, of version 1.
+pub const VERSION_1: &[u8] = b"{\"chunk_bits\":6,\"chunk_max\":128,\"chunk_min\":64,\
+                    \"id\":\"00000000000000000000000000000000\",\"pack_target\":1024,\"version\":1}";
+
+/// The same of version 2.
+pub const VERSION_2: &[u8] = b"{\"chunk_bits\":6,\"chunk_max\":128,\"chunk_min\":64,\
+                    \"id\":\"00000000000000000000000000000000\",\"pack_target\":1024,\"version\":2}";
 
 impl Case {
     /// Whether the store has the pack `abc` before the ask.
@@ -51,16 +63,35 @@ impl Case {
         !matches!(self, Case::PutOfANewName | Case::DeleteOfNothing)
     }
 
-    /// Whether the live lock is exclusive, which a deletion wants.
+    /// Whether it is an upgrade.
+    pub fn upgrades(self) -> bool {
+        matches!(self, Case::UpgradeOfVersion1 | Case::UpgradeOfVersion2)
+    }
+
+    /// Whether the live lock is exclusive, which a deletion and an upgrade want.
     pub fn is_exclusive(self) -> bool {
-        matches!(self, Case::DeleteOfWhatIsThere | Case::DeleteOfNothing)
+        matches!(self, Case::DeleteOfWhatIsThere | Case::DeleteOfNothing) || self.upgrades()
+    }
+
+    /// The config that the store keeps before the ask.
+    pub fn config(self) -> &'static [u8] {
+        match self {
+            Case::UpgradeOfVersion1 => VERSION_1,
+            Case::UpgradeOfVersion2 => VERSION_2,
+            _ => b"{}",
+        }
     }
 
     /// Whether the ask makes a writing call; each of them makes a reading call too.
     pub fn writes(self) -> bool {
         !matches!(
             self,
-            Case::Locks | Case::List | Case::Get | Case::Range | Case::Config
+            Case::Locks
+                | Case::List
+                | Case::Get
+                | Case::Range
+                | Case::Config
+                | Case::UpgradeOfVersion2
         )
     }
 }
@@ -117,6 +148,7 @@ pub fn ask_of(alloc: Global, case: Case) -> Result<Ask, AllocError>
             length: 1,
         },
         Case::Config => Ask::Config,
+        Case::UpgradeOfVersion1 | Case::UpgradeOfVersion2 => Ask::Upgrade(token),
     })
 }
 
@@ -202,6 +234,6 @@ pub fn ready(alloc: Global, case: Case) -> Result<MemShelf, AllocError> {
     let mut shelf = MemShelf::new(alloc);
     kept(shelf.save_ledger(&ledger(alloc, case)?))?;
     put_the_pack(&mut shelf, case)?;
-    kept(shelf.save_config(b"{}"))?;
+    kept(shelf.save_config(case.config()))?;
     Ok(shelf)
 }

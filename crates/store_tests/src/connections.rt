@@ -16,8 +16,15 @@ const TOKEN: [u8; 37] = [
     0, 0, 0, 0, 0, 1,
 ];
 
+/// The frame that gives this token to it.
+pub fn token(number: u8) -> [u8; 37] {
+    let mut frame = TOKEN;
+    frame[36] = number;
+    frame
+}
+
 /// A length that no frame has.
-const TOO_SHORT: [u8; 4] = [0, 0, 0, 24];
+pub const TOO_SHORT: [u8; 4] = [0, 0, 0, 24];
 
 /// Gives one byte at a read of two pieces, and at their end nothing, or a failure.
 #[derive(Drop)]

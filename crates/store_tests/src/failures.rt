@@ -3,7 +3,7 @@
 ghost use Rattle.std.specs.Prelude.{◌≡◌};
 ghost use Rattle.repo_tree.specs.ConfigText.{IsTarget};
 
-use crate::asks::{CASES, Case, ask_of, ready, said};
+use crate::asks::{CASES, Case, VERSION_1, VERSION_2, ask_of, ready, said};
 use repo_chunk::Params;
 use repo_name::{Instance, Kind, name_of};
 use repo_store::{Fail, FaultShelf, InitError, MemShelf, Shelf, ShelfError, init};
@@ -49,6 +49,14 @@ pub fn due_pack(case: Case, is_made: bool) -> bool {
         Case::PutOfANewName => is_made,
         Case::DeleteOfWhatIsThere => !is_made,
         _ => case.has_the_pack(),
+    }
+}
+
+/// The config that has to be there after an ask, where its writing call made its change or not.
+fn due_config(case: Case, is_made: bool) -> &'static [u8] {
+    match (case, is_made) {
+        (Case::UpgradeOfVersion1, true) => VERSION_2,
+        _ => case.config(),
     }
 }
 
@@ -135,7 +143,7 @@ impl Trial {
         self.shelf.disarm();
         self.has_the_pack(due_pack(case, is_made));
         self.has_the_ledger(due_ledger(case, is_made));
-        self.has_the_config(b"{}");
+        self.has_the_config(due_config(case, is_made));
     }
 
     /// A put of the pack gives this.
@@ -194,9 +202,6 @@ pub fn made<S: Shelf>(alloc: Global, shelf: &mut S) -> Result<(), InitError> {
     }
 }
 
-pub const CONFIG_TEXT: &[u8] = b"{\"chunk_bits\":6,\"chunk_max\":128,\"chunk_min\":64,\
-                    \"id\":\"00000000000000000000000000000000\",\"pack_target\":1024,\"version\":1}";
-
 #[test]
 fn each_ask_meets_each_failure(rt: HostRuntime) {
     let mut trial = Trial::new(rt.alloc());
@@ -219,7 +224,7 @@ fn a_new_store_meets_each_failure(rt: HostRuntime) {
     trial.has_the_config(b"");
     trial.shelf.arm(Fail::Write(true));
     trial.begins(Err(InitError::Fault));
-    trial.has_the_config(CONFIG_TEXT);
+    trial.has_the_config(VERSION_1);
     trial.begins(Err(InitError::Exists));
     assert_eq!(rt; trial.differ, 0);
 }

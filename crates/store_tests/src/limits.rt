@@ -2,8 +2,8 @@
 
 ghost use Rattle.repo_store.specs.StoreMachine.{IsAnswerable};
 
-use crate::asks::said;
-use crate::failures::{CONFIG_TEXT, made};
+use crate::asks::{VERSION_1, said};
+use crate::failures::made;
 use repo_name::{Kind, Name, name_of};
 use repo_store::{InitError, MemShelf, Shelf, Slice};
 use repo_wire::{Ask, Code, Say};
@@ -130,6 +130,6 @@ fn a_config_is_kept_once(rt: HostRuntime) {
     let mut trial = Trial::new(rt.alloc());
     trial.begins(Ok(()));
     trial.begins(Err(InitError::Exists));
-    trial.says_the_config(CONFIG_TEXT);
+    trial.says_the_config(VERSION_1);
     assert_eq!(rt; trial.differ, 0);
 }

@@ -50,7 +50,10 @@ fn is_told(
 /// Whether a failure meets an ask: a reading one meets what is read, and the ledger and the names aren't where they are known.
 fn is_met(case: Case, fail: Fail, is_known: bool) -> bool {
     match fail {
-        Fail::Read => !is_known || matches!(case, Case::Get | Case::Range | Case::Config),
+        Fail::Read => {
+            let is_read = matches!(case, Case::Get | Case::Range | Case::Config);
+            !is_known || is_read || case.upgrades()
+        }
         Fail::Write(_) => case.writes(),
     }
 }

@@ -49,7 +49,12 @@ pub fn backup_of(alloc: Global, name: &str) -> Result<Job, AllocError> {
 /// A client of the host `a` starts at the time 5.
 pub fn start(alloc: Global, job: Job) -> Result<Event, AllocError> {
     let host = kept(Host::new(alloc, "a"))?;
-    Ok(Event::Start { job, host, time: 5 })
+    Ok(Event::Start {
+        job,
+        host,
+        time: 5,
+        old: false,
+    })
 }
 
 /// A world that is tried.

@@ -13,7 +13,7 @@ returns-in-Absent c = absent Kind.Snapshot c.args.name c.args.say.now c.in-Absen
 pub returns-in-Ok : goal.returns-in-Ok
 returns-in-Ok c =
     let x = c.in-Named.bytes.now in
-    (with_bytes c.args.name x, is_answer c.args.name x c.args.say.now c.in-Named.ensures.0, (x, c.in-Ok.snapshot, (refl, c.in-Named.ensures.1), c.in-Ok.ensures.ok, refl))
+    (with_bytes c.args.name x, is_answer c.args.name x c.args.say.now c.in-Named.ensures.0, (x, c.in-Ok.snapshot, (refl, c.in-Named.ensures.1), c.in-Ok.ensures.ok.0, refl, c.in-Ok.ensures.ok.1))
 
 pub returns-in-Err : goal.returns-in-Err
 returns-in-Err c =

@@ -16,12 +16,12 @@ returns-clause-comes g c =
     let from = g.S.Shelf.store c.args.shelf.now in
     let to = g.S.Shelf.store c.lockstep.new.shelf in
     let failed = g.S.Shelf.failed c.args.shelf.now in
-    if_ok_with _ _ c.lockstep.result (λ n e fit never.
+    if_ok_with _ _ c.lockstep.result (λ n e fit versions never.
     let d = e.1 in
     let ran : TalkRan from failed d.talk to failed = subst (λ (i : ℕ). TalkRan from failed d.talk to i) never.same d.ran in
     let job = c.lockstep.ensures.job in
     let is : IsBackup (who_in new.session) (handed_to new.session.job) None (ended_in new.session) (trace_of d.talk) = subst (λ (r : Option Request). IsBackup (who_in new.session) (handed_to new.session.job) r (ended_in new.session) (trace_of d.talk)) d.rests (backup_obeys new (trace_of d.talk) d.fits) in
-    backs_up (who_in new.session) (handed_to old.session.job) from to failed d.talk (ended_in new.session) fit never.low ran d.few
+    backs_up (who_in new.session) (handed_to old.session.job) from to failed d.talk (ended_in new.session) fit versions never.low ran d.few
     (subst (λ es. IsBackup (who_in new.session) es None (ended_in new.session) (trace_of d.talk)) (λ i. (job i).entries) is))
     (at_end _ FitsBackup (λ (b : Backup). next_in b.session) old new c.lockstep.result from to failed (g.S.Shelf.failed c.lockstep.new.shelf) _ _ c.requires.fresh (c.lockstep.ensures.steps c.requires.honest) c.lockstep.ensures.few)
 

@@ -16,11 +16,11 @@ returns-clause-comes g c =
     let from = g.S.Shelf.store c.args.shelf.now in
     let to = g.S.Shelf.store c.lockstep.new.shelf in
     let failed = g.S.Shelf.failed c.args.shelf.now in
-    if_ok_with _ _ c.lockstep.result (λ n e fit never.
+    if_ok_with _ _ c.lockstep.result (λ n e fit versions never.
     let d = e.1 in
     let ran : TalkRan from failed d.talk to failed = subst (λ (i : ℕ). TalkRan from failed d.talk to i) never.same d.ran in
     let is : IsList (who_of new) None (ended_in new.session) (trace_of d.talk) = subst (λ (r : Option Request). IsList (who_of new) r (ended_in new.session) (trace_of d.talk)) d.rests (list_obeys new (trace_of d.talk) d.fits) in
-    lists (who_of new) from to failed d.talk (ended_in new.session) fit never.low ran d.few is)
+    lists (who_of new) from to failed d.talk (ended_in new.session) fit versions never.low ran d.few is)
     (at_end _ FitsList (λ (l : SnapshotList). next_in l.session) old new c.lockstep.result from to failed (g.S.Shelf.failed c.lockstep.new.shelf) _ _ c.requires.fresh (c.lockstep.ensures.steps c.requires.honest) c.lockstep.ensures.few)
 
 pub returns-clause-went : goal.returns-clause-went

@@ -19,11 +19,11 @@ returns-clause-comes g c =
     let from = g.S.Shelf.store c.args.shelf.now in
     let to = g.S.Shelf.store c.lockstep.new.shelf in
     let failed = g.S.Shelf.failed c.args.shelf.now in
-    if_ok_with _ _ c.lockstep.result (λ n e fit asked never.
+    if_ok_with _ _ c.lockstep.result (λ n e fit versions asked never.
     let d = e.1 in
     let ran : TalkRan from failed d.talk to failed = subst (λ (i : ℕ). TalkRan from failed d.talk to i) never.same d.ran in
     let is : IsRestore (wish_of new) None (ended_in new.session) (trace_of d.talk) = subst (λ (r : Option Request). IsRestore (wish_of new) r (ended_in new.session) (trace_of d.talk)) d.rests (restore_obeys new (trace_of d.talk) d.fits) in
-    restores (wish_of old) from to failed d.talk (ended_in new.session) asked.0 fit asked.1 never.low ran d.few
+    restores (wish_of old) from to failed d.talk (ended_in new.session) asked.0 fit versions asked.1 never.low ran d.few
     (subst (λ (w : Wish). IsRestore w None (ended_in new.session) (trace_of d.talk)) c.lockstep.ensures.job is))
     (at_end _ FitsRestore (λ (r : Restore). next_in r.session) old new c.lockstep.result from to failed (g.S.Shelf.failed c.lockstep.new.shelf) _ _ c.requires.fresh (c.lockstep.ensures.steps c.requires.honest) c.lockstep.ensures.few)
 

@@ -12,3 +12,8 @@ pub returns-in-Unlock-clause-step : goal.returns-in-Unlock-clause-step
 returns-in-Unlock-clause-step g c h =
     let P : Ask → Type 0 = λ ask. Step (g.S.Shelf.store c.args.shelf.now) ask c.answer_unlock.result (g.S.Shelf.store c.answer_unlock.new.shelf) in
     subst P (sym c.in-Unlock.is) (c.answer_unlock.ensures.step h)
+
+pub returns-in-Upgrade-clause-step : goal.returns-in-Upgrade-clause-step
+returns-in-Upgrade-clause-step g c h =
+    let P : Ask → Type 0 = λ ask. Step (g.S.Shelf.store c.args.shelf.now) ask c.answer_upgrade.result (g.S.Shelf.store c.answer_upgrade.new.shelf) in
+    subst P (sym c.in-Upgrade.is) (c.answer_upgrade.ensures.step h)

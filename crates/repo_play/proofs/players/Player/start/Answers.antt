@@ -15,7 +15,7 @@ returns-clause-starts g c =
       job = c.in_ok-job.job;
       is_job = c.in_ok-job.ensures.job;
       applied = c.in_ok-applied.applied;
-      happens = started w u c.in_ok-job.job (host_of start) c.in_ok-host.host (time_of start) c.time_of-time.result c.in_ok-applied.applied v
+      happens = started w u c.in_ok-job.job (host_of start) c.in_ok-host.host (time_of start) c.time_of-time.result c.args.old c.in_ok-applied.applied v
           (ap (seen store) c.job_of.ensures.same) c.in_ok-host.ensures.host c.time_of-time.ensures c.in_ok-applied.ensures;
       told = c.in_ok-start_line.ensures;
       left = c.in_ok-job.ensures.left;

@@ -8,11 +8,11 @@ use Rattle.repo_prune.proofs.Choosing.{may_read}
 use Rattle.repo_prune.proofs.forgets.ForgetJobJob.opened.Goals as goal
 
 pub returns-clause-begins : goal.returns-clause-begins
-returns-clause-begins c = λ text fresh reads.
+returns-clause-begins c = λ text fresh reads known.
     let f = c.args.self.now in
     let holding = c.args._holder.now in
     let task = task_under (forget_rule f.choice) holding.who in
     let es = opened task holding.token text in
-    let working = opened_working task holding.token text c.args._config.now reads in
+    let working = opened_working task holding.token text c.args._config.now reads known in
     let due = c.page_ask.ensures.due task holding.token es working fresh.none_read (opened_snapshots f.snapshots task holding.token text fresh) in
     may_read f holding.who es c.page_ask.result (none_deleted_at_first task holding.token text) due

@@ -15,12 +15,12 @@ use Rattle.repo_prune.proofs.PruneListing.{snapshots_back, roll_listing, listing
 use Rattle.repo_prune.proofs.prunes.PruneJobJob.opened.Goals as goal
 
 pub returns-clause-begins : goal.returns-clause-begins
-returns-clause-begins c = λ text fresh reads.
+returns-clause-begins c = λ text fresh reads known.
     let old = c.args.self.now in
     let holding = c.args._holder.now in
     let task = task_under prune_rule holding.who in
     let es = opened task holding.token text in
-    let working = opened_working task holding.token text c.args.config.now reads in
+    let working = opened_working task holding.token text c.args.config.now reads known in
     let due = c.page_ask.ensures.due task holding.token es working fresh.snapshots.none_read (opened_snapshots old.snapshots task holding.token text fresh.snapshots) in
     let untouched : IsUntouched es = record { none_put = λ k. refl; none_deleted = none_deleted_at_first task holding.token text } in
     let next = c.page_ask.result in

@@ -7,6 +7,8 @@ use Rattle.repo_tree.specs.SnapshotText.{IsSnapshotText}
 use Rattle.repo_session.specs.Ends.{CausedBy, IsUnwelcome}
 use Rattle.repo_session.specs.Jobs.{task_under}
 use Rattle.repo_session.specs.Traces.{Exchange, giving}
+use Rattle.repo_session.specs.Versions.{snapshot_version}
+use Rattle.repo_session.proofs.Faulting.{first_version}
 use Rattle.repo_session.proofs.Receiving.{unwelcome_get, bad_object}
 use Rattle.repo_restore.specs.declared.restores.Stage.{Stage}
 use Rattle.repo_session.specs.Trees.{HasRoot}
@@ -47,10 +49,10 @@ returns-in-Ok-clause-ok c = λ ask holding es w obeys asked.
     let N : List ℕ → Type 0 = λ y. naming.name y ≡ n in
     let X : List ℕ → Type 0 = λ y. IsSnapshotText y c.in-Ok.snapshot in
     let named = subst N c.as_slice-bytes.ensures (c.is_named.ensures.0 c.if-not-is_named.false) in
-    let text = subst X c.as_slice-bytes.ensures c.in-Ok.ensures.ok in
+    let text = subst X c.as_slice-bytes.ensures c.in-Ok.ensures.ok.0 in
     let indexes = snapshot_on j.catalog e n x false es known.0 c.in-Bytes.is known.2 in
     let due = c.page_ask.ensures.due (task_under (restore_rule n) holding.who) holding.token (e ∷ es) w known.1 indexes in
-    let found : HasRoot (e ∷ es) n 1 c.in-Ok.snapshot.tree = (x, c.in-Ok.snapshot, (inl (known.0, c.in-Bytes.is), named), text, text.known, refl) in
+    let found : HasRoot (e ∷ es) n 1 c.in-Ok.snapshot.tree = (x, c.in-Ok.snapshot, (inl (known.0, c.in-Bytes.is), named), text, first_version c.in-Ok.snapshot.version text.known c.in-Ok.ensures.ok.1, refl) in
     (inl known.3.none_given, record { work = due.work; may = due.may; allowed = due.reads; knows = (due.knows, found, before_on j.walk j.given.items e es refl known.3) })
 
 pub returns-in_ok-end-in-Err-clause-ok : goal.returns-in_ok-end-in-Err-clause-ok
@@ -61,9 +63,9 @@ returns-in_ok-end-in-Err-clause-ok c = λ ask holding es w obeys asked.
     let known = subst S c.requires asked.knows in
     let n = j.snapshot in
     let end = c.in_ok-end-in-Err.end in
-    let C : List ℕ → Type 0 = λ y. CausedBy (e ∷ es) (Ask.Get Kind.Snapshot n) (Say.Bytes y) end in
-    let D : Say → Type 0 = λ y. CausedBy (e ∷ es) (Ask.Get Kind.Snapshot n) y end in
-    let E : Ask → Type 0 = λ a. CausedBy (e ∷ es) a e.say end in
+    let C : List ℕ → Type 0 = λ y. CausedBy snapshot_version (e ∷ es) (Ask.Get Kind.Snapshot n) (Say.Bytes y) end in
+    let D : Say → Type 0 = λ y. CausedBy snapshot_version (e ∷ es) (Ask.Get Kind.Snapshot n) y end in
+    let E : Ask → Type 0 = λ a. CausedBy snapshot_version (e ∷ es) a e.say end in
     let named = c.is_named.ensures.0 c.if-not-is_named.false in
     let cause = subst C c.as_slice-bytes.ensures (c.in_ok-end-in-Err.ensures c.as_slice-bytes.result.now (e ∷ es) named c.in-Err.ensures.fault) in
     (inl known.3.none_given, inl (inl (subst E (sym known.0) (subst D (sym c.in-Bytes.is) cause))))

@@ -1,13 +1,15 @@
-use Rattle.std.proofs.Common.{◌≡◌, ◌∷◌, ℕ, List, refl, sym, subst}
+use Rattle.std.proofs.Common.{rules, ◌≡◌, ◌≤◌, ◌∷◌, ℕ, List, refl, sym, subst}
 use Rattle.repo_wire.specs.declared.messages.Ask.{Ask}
 use Rattle.repo_wire.specs.declared.messages.Code.{Code}
 use Rattle.repo_wire.specs.declared.messages.Say.{Say}
 use Rattle.repo_tree.specs.ConfigText.{IsConfigText, ConfigFault}
 use Rattle.repo_session.specs.declared.outcomes.End.{End}
 use Rattle.repo_session.specs.Ends.{CausedBy}
+use Rattle.repo_session.specs.Jobs.{known_under}
 use Rattle.repo_session.specs.Traces.{Trace, silent}
+use Rattle.repo_session.specs.Versions.{shared}
 use Rattle.repo_session.proofs.Holding.{unwelcome_config}
-use Rattle.repo_session.proofs.Sessioning.{begun, config_left, session_as}
+use Rattle.repo_session.proofs.Sessioning.{begins, config_left, session_as}
 use Rattle.repo_session.proofs.sessions.Session.take_config.Goals as goal
 
 bytes_live : (x : List ℕ) (say : Say) (end : End) → say ≡ Say.Bytes x → say ≡ Say.Refused Code.Dead → end ≡ End.Fenced
@@ -21,7 +23,8 @@ returns-in_default g c = record {
       let h = g.J.Job.handed s.job in
       let new = c.leave.new.self in
       let fs : Trace = silent r.ask say ∷ es in
-      let caused : CausedBy fs r.ask say c.args.end = subst (λ a. CausedBy fs a say c.args.end) (sym q) (ends.1 (unwelcome_config say c.in_default.not-Bytes) fs) in
+      let known = known_under (g.J.Job.rule h) s.head.holder.who in
+      let caused : CausedBy known fs r.ask say c.args.end = subst (λ a. CausedBy known fs a say c.args.end) (sym q) (ends.1 (unwelcome_config say c.in_default.not-Bytes) known fs) in
       session_as g.J.Job.rule h h s.head.holder new.holder s.head.lock new.lock (g.J.Job.fresh s.job) (g.J.Job.knows s.job) new.line fs refl c.leave.ensures.kept.holder c.leave.ensures.kept.lock
       (config_left (g.J.Job.rule h) s.head.holder s.head.lock (g.J.Job.fresh s.job) (g.J.Job.knows s.job) s.head.line r es p f say (g.J.Job.fresh s.job) (g.J.Job.knows s.job) c.args.end s.head new refl refl q caused ends.0 c.leave.ensures.leaves);
   err = tt;
@@ -35,14 +38,17 @@ returns-in-Ok-clause-taken g c = λ r es p q ends f.
     let s = c.args.self.now in
     let say = c.args.say.now in
     let h = g.J.Job.handed s.job in
-    let job = c.opened-ask.new.self in
+    let job = c.opened-step.new.self in
+    let new = c.follow.new.self in
     let text = c.in-Bytes.bytes in
     let fs : Trace = silent r.ask say ∷ es in
     let P : List ℕ → Type 0 = λ x. IsConfigText x c.in-Ok.config in
-    let reads = subst P c.as_slice.ensures c.in-Ok.ensures.ok in
-    session_as g.J.Job.rule h (g.J.Job.handed job) s.head.holder s.head.holder s.head.lock s.head.lock (g.J.Job.fresh job) (g.J.Job.knows job) c.send.new.self fs c.opened-ask.ensures.handed refl refl
-    (begun (g.J.Job.rule h) s.head.holder s.head.lock (g.J.Job.fresh s.job) (g.J.Job.knows s.job) s.head.line r es p f say (g.J.Job.fresh job) (g.J.Job.knows job) text c.in-Ok.config c.opened-ask.result c.send.new.self q c.in-Bytes.is reads
-    c.send.ensures (λ fresh. c.opened-ask.ensures.begins text fresh reads))
+    let read = c.in-Ok.ensures.ok in
+    let reads = subst P c.as_slice.ensures read.0 in
+    let known : c.in-Ok.config.version ≤ known_under (g.J.Job.rule h) s.head.holder.who = search rules in
+    session_as g.J.Job.rule h (g.J.Job.handed job) s.head.holder new.holder s.head.lock new.lock (g.J.Job.fresh job) (g.J.Job.knows job) new.line fs c.opened-step.ensures.handed c.follow.ensures.kept.holder c.follow.ensures.kept.lock
+    (begins (g.J.Job.rule h) s.head.holder s.head.lock (g.J.Job.fresh s.job) (g.J.Job.knows s.job) s.head.line r es p f say (g.J.Job.fresh job) (g.J.Job.knows job) text c.in-Ok.config c.opened-step.result c.args.end s.head new refl refl
+    q c.in-Bytes.is reads known c.follow.ensures.follows (λ fresh. c.opened-step.ensures.begins text fresh reads known))
 
 pub returns-in_ok-end-in-Err-clause-taken : goal.returns-in_ok-end-in-Err-clause-taken
 returns-in_ok-end-in-Err-clause-taken g c = λ r es p q ends f.
@@ -53,8 +59,11 @@ returns-in_ok-end-in-Err-clause-taken g c = λ r es p q ends f.
     let end = c.in_ok-end-in-Err.end in
     let text = c.in-Bytes.bytes in
     let fs : Trace = silent r.ask say ∷ es in
-    let F : List ℕ → Type 0 = λ x. ConfigFault x c.in-Err.error in
-    let cause : CausedBy fs Ask.Config say end = subst (λ z. CausedBy fs Ask.Config z end) (sym c.in-Bytes.is) (c.in_ok-end-in-Err.ensures text fs (subst F c.as_slice.ensures c.in-Err.ensures.fault)) in
+    let versions = shared (g.J.Job.rule h).versions s.head.holder.who.versions in
+    let known = known_under (g.J.Job.rule h) s.head.holder.who in
+    let F : List ℕ → Type 0 = λ x. ConfigFault known x c.in-Err.error in
+    let fault : ConfigFault known c.as_slice.result.now c.in-Err.error = search rules in
+    let cause : CausedBy known fs Ask.Config say end = subst (λ z. CausedBy known fs Ask.Config z end) (sym c.in-Bytes.is) (c.in_ok-end-in-Err.ensures versions text fs (subst F c.as_slice.ensures fault)) in
     session_as g.J.Job.rule h h s.head.holder new.holder s.head.lock new.lock (g.J.Job.fresh s.job) (g.J.Job.knows s.job) new.line fs refl c.leave-in-Err.ensures.kept.holder c.leave-in-Err.ensures.kept.lock
     (config_left (g.J.Job.rule h) s.head.holder s.head.lock (g.J.Job.fresh s.job) (g.J.Job.knows s.job) s.head.line r es p f say (g.J.Job.fresh s.job) (g.J.Job.knows s.job) end s.head new refl refl q
-    (subst (λ a. CausedBy fs a say end) (sym q) cause) (bytes_live text say end c.in-Bytes.is) c.leave-in-Err.ensures.leaves)
+    (subst (λ a. CausedBy known fs a say end) (sym q) cause) (bytes_live text say end c.in-Bytes.is) c.leave-in-Err.ensures.leaves)

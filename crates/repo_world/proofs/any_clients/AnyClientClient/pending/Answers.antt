@@ -19,3 +19,6 @@ returns-in-Prune-clause-frame c = λ request h. c.pending-in-Prune.ensures.frame
 
 pub returns-in-Check-clause-frame : goal.returns-in-Check-clause-frame
 returns-in-Check-clause-frame c = λ request h. c.pending-in-Check.ensures.frame request (sym (ap any_next c.in-Check.is) ∙ h)
+
+pub returns-in-Upgrade-clause-frame : goal.returns-in-Upgrade-clause-frame
+returns-in-Upgrade-clause-frame c = λ request h. c.pending-in-Upgrade.ensures.frame request (sym (ap any_next c.in-Upgrade.is) ∙ h)

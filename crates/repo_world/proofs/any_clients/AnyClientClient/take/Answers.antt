@@ -17,3 +17,9 @@ returns-in-Prune-clause-taken c = rw c.in-Prune.is c.take-in-Prune.ensures.taken
 
 pub returns-in-Check-clause-taken : goal.returns-in-Check-clause-taken
 returns-in-Check-clause-taken c = rw c.in-Check.is c.take-in-Check.ensures.taken
+
+pub returns-in-Upgrade-clause-taken : goal.returns-in-Upgrade-clause-taken
+returns-in-Upgrade-clause-taken c = rw c.in-Upgrade.is c.take-in-Upgrade.ensures.taken
+
+pub returns-in-Upgrade-clause-stays : goal.returns-in-Upgrade-clause-stays
+returns-in-Upgrade-clause-stays c = rw c.in-Upgrade.is c.take-in-Upgrade.ensures.stays

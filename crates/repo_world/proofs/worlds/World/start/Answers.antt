@@ -20,7 +20,7 @@ invariant_of-self g c =
       honest = stands.honest;
       agrees = stands.agrees;
       disarmed = stands.disarmed;
-      reached = reached_by S store g.S.Shelf.failed c.start.result old (Event.Start c.args.job c.args.host.now c.args.time) new stands.reached (c.start.ensures.begins (store device)) same;
+      reached = reached_by S store g.S.Shelf.failed c.start.result old (Event.Start c.args.job c.args.host.now c.args.time c.args.old) new stands.reached (c.start.ensures.begins (store device)) same;
     }
 
 pub returns-clause-happens : goal.returns-clause-happens
@@ -29,4 +29,4 @@ returns-clause-happens g c =
     let store = g.S.Shelf.store in
     let device = c.self.inside.shelf.inner.inner in
     let new : Stage S = record { device = device; flow = c.start.new.self } in
-    subst (λ (stage : Stage S). IfOk c.start.result (λ applied. Leads store g.S.Shelf.failed stage (Event.Start c.args.job c.args.host.now c.args.time) applied new)) c.self.view_is (c.start.ensures.begins (store device))
+    subst (λ (stage : Stage S). IfOk c.start.result (λ applied. Leads store g.S.Shelf.failed stage (Event.Start c.args.job c.args.host.now c.args.time c.args.old) applied new)) c.self.view_is (c.start.ensures.begins (store device))

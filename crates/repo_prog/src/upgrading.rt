@@ -1,0 +1,55 @@
+//! `vault upgrade`.
+
+ghost use Rattle.std.specs.Prelude.{◌≡◌, option_map};
+ghost use Rattle.repo_prog.specs.declared.status.Status.{Status};
+ghost use Rattle.repo_prog.specs.Shown.{ShowsUpgraded, TellsUpgraded};
+ghost use Rattle.repo_prog.specs.Jobs.{UpgradeObeyed};
+
+use crate::callers::{Caller, HOST};
+use crate::status::{Status, failed};
+use crate::telling::{show_made, unfinished, upgraded_line};
+use repo_dial::{Dial, drive_again};
+use repo_prune::Upgrade;
+use repo_session::{Client, DriveError, Outcome};
+use std::alloc::Global;
+use std::io::Write;
+
+/// Writes the line of an upgrade that is done, or tells how else the job ended.
+fn show_upgraded<O: Write, F: Write>(
+    alloc: Global,
+    outcome: Option<&Outcome>,
+    output: &mut O,
+    faults: &mut F,
+) -> Status
+    ensures shows { ShowsUpgraded (option_map (λ o. o.now) outcome.entry) result (O.contents output.old) (O.contents output.new) }
+    ensures silent { result ≡ Status.Done → faults.new ≡ faults.old }
+{
+    let Some(Outcome::Upgraded) = outcome else {
+        return unfinished(alloc, outcome, faults);
+    };
+    show_made(upgraded_line(alloc), output, faults)
+}
+
+/// `vault upgrade`: makes the store's config one of version 2, and tells that it is. After the first connection `retry` more are
+/// made at most. Where it ends before, the config is as it was, or of version 2.
+pub fn upgrade_command<D: Dial, O: Write, F: Write>(
+    alloc: Global,
+    caller: &Caller,
+    dial: &mut D,
+    retry: u64,
+    output: &mut O,
+    faults: &mut F,
+) -> Status
+    ensures obeyed { UpgradeObeyed caller.now retry (D.coming dial.old) (D.coming dial.new) }
+    ensures tells { TellsUpgraded caller.now retry (D.coming dial.old) (D.coming dial.new) result (O.contents output.old) (O.contents output.new) }
+    ensures silent { result ≡ Status.Done → faults.new ≡ faults.old }
+{
+    let Ok(who) = caller.who(alloc, HOST) else {
+        return failed(faults, &DriveError::Memory);
+    };
+    let mut upgrade = Upgrade::new(alloc, who);
+    match drive_again(alloc, &mut upgrade, dial, retry, |_| true) {
+        Ok(_) => show_upgraded(alloc, upgrade.outcome(), output, faults),
+        Err(error) => failed(faults, &error),
+    }
+}

@@ -1,0 +1,8 @@
+use Rattle.std.proofs.Common.{◌≢◌, ⊎_elim, inl, inr, refl, sym, subst}
+use Rattle.repo_wire.specs.declared.messages.Code.{Code}
+use Rattle.repo_store.specs.Upgrades.{IsDue}
+use Rattle.repo_store.specs.declared.upgrades.Due.{Due}
+use Rattle.repo_store.proofs.upgrades.work_due.Goals as goal
+
+pub returns-in-Err : goal.returns-in-Err
+returns-in-Err c = rw c.in-Some.is (⊎_elim inl (λ other. inr (other.0, λ config. rw c.as_slice.ensures at (c.in-Err.ensures.none other.1 config))) c.unread.ensures)
