@@ -153,5 +153,13 @@ def token(value):
     return frame(129, number(value)).hex()
 
 
+def lock(server, is_exclusive=False, moment=0, host=b"a"):
+    """A client takes a lock and keeps it: its token."""
+    value = int(server.asked(frame(1).hex())[58:], 16)
+    reply = server.asked(frame(2, number(value), bytes([is_exclusive]), number(moment), bytes([len(host)]), host, sequence=2).hex())
+    same(reply, frame(130, sequence=2).hex(), "lock")
+    return value
+
+
 def has_status(got, status, what=""):
     same(got.split("|")[0], str(status), f"{what} {got!r}")

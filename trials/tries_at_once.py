@@ -10,7 +10,7 @@ from connections import Watched
 from program import TICKET, Server, frame, has_status, matches, number, read_frame, refused, rest_of, token, told
 from tries_hostile import files, memory
 from trying import WAIT, awaits, holds, same, trial
-from yards import Yard, entries, filled, gives_back, in_store, is_clean, restores, stored
+from yards import LARGE_OBJECT, Yard, entries, filled, gives_back, in_store, is_clean, large_gets, restores, stored
 
 PUT = 9
 # A put under a token that was never issued, in a frame of two million bytes.
@@ -136,10 +136,9 @@ def no_more_are_served_than_were_to_be_at_once(yard):
 @in_store
 def silent_ones_are_ended_and_the_others_are_not(yard):
     """One says nothing, one stops inside a frame, one reads nothing; who asks is answered all the while."""
-    name = hashlib.sha256(bytes(4_000_000)).digest()
-    yard.at(f"index/{name.hex()}").write_bytes(bytes(4_000_000))
+    gets = large_gets(yard)
     with Server(yard.root, "--at-once", 4, "--idle", 1, connections=4) as server:
-        unread = server.connected(b"".join(frame(7, b"\x01", name, sequence=it) for it in range(16)))
+        unread = server.connected(gets)
         silent = [server.connected(sent) for sent in (b"", bytes([0, 0, 0, 25, 1]))]
         ended = threading.Event()
 
@@ -163,11 +162,9 @@ def silent_ones_are_ended_and_the_others_are_not(yard):
 def a_backup_goes_on_while_clients_sleep(yard):
     """One stopped in the middle of a large frame, one in a small one, one takes nothing; each wakes, and is answered."""
     first, _ = folders(yard)
-    name = hashlib.sha256(bytes(4_000_000)).digest()
-    yard.at(f"data/{name.hex()[:2]}/{name.hex()}").write_bytes(bytes(4_000_000))
-    gets = [frame(7, b"\0", name, sequence=it) for it in range(16)]
+    gets = large_gets(yard)
     with Server(yard.root, "--at-once", 8, connections=99) as server:
-        sleeps, small, unread = server.connected(LARGE[:1_900_000]), server.connected(bytes.fromhex(TICKET)[:9]), server.connected(b"".join(gets))
+        sleeps, small, unread = server.connected(LARGE[:1_900_000]), server.connected(bytes.fromhex(TICKET)[:9]), server.connected(gets)
         name = stored(server.address, first)
         restores(server.address, name, yard.top / "to", entries(first))
         sleeps.sendall(LARGE[1_900_000:])
@@ -175,9 +172,7 @@ def a_backup_goes_on_while_clients_sleep(yard):
         small.sendall(bytes.fromhex(TICKET)[9:])
         same(read_frame(small).hex()[:10], "0000002181")
         for at in range(16):
-            reply = read_frame(unread)
-            same((reply[4], int.from_bytes(reply[21:29], "big"), len(reply)), (132, at, len(reply)))
-            holds(reply.endswith(bytes(4_000_000)), "other bytes")
+            holds(read_frame(unread) == frame(132, LARGE_OBJECT, sequence=at), f"reply {at}")
         for client in (sleeps, small, unread):
             client.close()
 
@@ -237,7 +232,7 @@ def who_is_connected_and_idle_costs_little(yard):
 def many_large_frames_take_what_two_take(yard):
     """Twelve send a frame of twenty-five million bytes each, and each is answered."""
     most = frame(PUT, number(9), b"\0", bytes(32), bytes(25_000_000))
-    with Server(yard.root, "--at-once", 16, connections=12) as server:
+    with Server(yard.root, "--at-once", 16, connections=13) as server:
         before = memory(server, "VmHWM:")
 
         def puts():
@@ -246,6 +241,7 @@ def many_large_frames_take_what_two_take(yard):
         same([waits() for waits in [meanwhile(puts) for _ in range(12)]], [134] * 12)
         most = memory(server, "VmHWM:")
         holds(most < before + 200 * 1024, f"it had {most} KiB at most, and {before} before")
+        same(server.asked(TICKET), token(1))
         has_status(server.end(), 0)
 
 

@@ -7,7 +7,7 @@ import shutil
 from connections import Answering, Said, Watched
 from program import DEVICE, TICKET, Server, frame, matches, number, refused, token, told
 from trying import chosen, holds, same, trial
-from yards import SMALL, Yard, entries, filled, in_store, is_clean, restores, stored
+from yards import SMALL, Yard, entries, filled, in_store, is_clean, large_gets, restores, stored
 
 JOBS = "backup snapshots restore forget prune check".split()
 
@@ -253,11 +253,10 @@ def a_server_whose_replies_are_of_others():
 @in_store
 def a_client_that_is_gone_before_its_reply(yard):
     """The server says so, and serves the next."""
-    name = hashlib.sha256(bytes(4_000_000)).digest()
-    yard.at(f"index/{name.hex()}").write_bytes(bytes(4_000_000))
+    gets = large_gets(yard)
     with Server(yard.root, connections=2) as server:
         with server.paused():
-            client = server.connected(b"".join(frame(7, b"\1", name, sequence=it) for it in range(16)))
+            client = server.connected(gets)
             client.close()
         same(server.asked(TICKET), token(1))
         matches(server.end(), r"1\|\|(write|read) failed\n")

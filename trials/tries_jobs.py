@@ -5,19 +5,11 @@ import re
 import shutil
 import time
 
-from program import Server, frame, matches, number, told
+from program import Server, lock, matches, told
 from trying import holds, same, trial
 from yards import SMALL, STORED, Yard, entries, filled, gives_back, in_store, is_clean, restores, stored
 
 DAY = 86_400
-
-
-def lock(server, is_exclusive=False, moment=0, host=b"a"):
-    """A client takes a lock and keeps it: its token."""
-    value = int(server.asked(frame(1).hex())[58:], 16)
-    reply = server.asked(frame(2, number(value), bytes([is_exclusive]), number(moment), bytes([len(host)]), host, sequence=2).hex())
-    same(reply, frame(130, sequence=2).hex(), "lock")
-    return value
 
 
 def rows_of(got):

@@ -1,12 +1,11 @@
 """`vault serve`: folders that are served and those that aren't, who holds one, and connections that make no sense or say nothing."""
 import fcntl
-import hashlib
 import os
 import socket
 
 from program import DEVICE, TICKET, Server, frame, number, refused, rest_of, token, told
 from trying import same
-from yards import FAILED, in_folder, in_store
+from yards import FAILED, in_folder, in_store, large_gets
 
 DELETION = frame(10, number(9), b"\0", bytes([7] * 32)).hex()
 NOWHERE = "127.0.0.1:0"
@@ -102,12 +101,10 @@ def silent_clients_are_ended_and_the_next_is_served(yard):
 
 @in_store
 def a_client_that_takes_nothing_is_ended(yard):
-    """Sixteen replies of four million bytes are more than what the system keeps for who doesn't read."""
-    name = hashlib.sha256(bytes(4_000_000)).digest()
-    yard.at(f"index/{name.hex()}").write_bytes(bytes(4_000_000))
+    gets = large_gets(yard)
     with Server(yard.root, "--idle", 1, connections=2) as server:
         with server.paused():
-            client = server.connected(b"".join(frame(7, b"\x01", name, sequence=it) for it in range(16)))
+            client = server.connected(gets)
         with client:
             same(server.asked(TICKET), token(1))
         same(server.end(), "1||write failed\n")

@@ -2,7 +2,7 @@
 import json
 
 from connections import Watched
-from program import Server, frame, number, refused, told
+from program import Server, frame, lock, number, refused, told
 from trying import holds, same, trial
 from yards import SMALL, Yard, filled, in_store, stored
 
@@ -43,8 +43,7 @@ def an_upgrade_is_done_once_and_for_all(yard):
 def an_upgrade_waits_for_every_lock(yard):
     """A shared lock is enough; a store that only appends is upgraded, too."""
     with Server(yard.root, "--append-only", connections=99) as server:
-        server.asked(frame(1).hex())
-        server.asked(frame(2, number(1), bytes([0]), number(5), bytes([1]), b"a", sequence=2).hex())
+        lock(server)
         same(told("upgrade", server.address), "1||busy\n")
         same(version_of(yard), 1)
         same(told("unlock", server.address, "--remove-all"), "0|removed 1\n|")
@@ -68,10 +67,9 @@ def a_store_is_made_of_either_version():
 def an_upgrade_under_a_token_of_its_own(yard):
     """As a client of any sort asks for it; and once its lock was removed it is refused, however late it comes."""
     with Server(yard.root, connections=99) as server:
-        server.asked(frame(1).hex())
-        server.asked(frame(2, number(1), bytes([1]), number(5), bytes([1]), b"a", sequence=2).hex())
+        value = lock(server, is_exclusive=True)
         same(told("unlock", server.address, "--remove-all"), "0|removed 1\n|")
-        same(server.asked(frame(12, number(1), sequence=3).hex()), refused(2, sequence=3))
+        same(server.asked(frame(12, number(value), sequence=3).hex()), refused(2, sequence=3))
         same(version_of(yard), 1)
 
 

@@ -1,7 +1,7 @@
 """The words of each command, its help, and what `frames`, `play` and `loop` tell of their input."""
 import re
 
-from program import TICKET, Server, frame, has_status, matches, refused, token, told
+from program import TICKET, Server, frame, has_status, lock, matches, refused, token, told
 from trying import holds, same, trial
 from yards import Yard, filled, in_store
 
@@ -132,9 +132,8 @@ def results_that_cannot_be_written():
                           ["prune", server.address], ["forget", server.address, name]):
                 same(told(*words, stdout=full), "1||write failed\n", words)
             same(told("snapshots", server.address), "0||")
-            lock = int(server.asked(frame(1).hex())[58:], 16)
-            server.asked(frame(2, lock.to_bytes(8, "big"), b"\0", bytes(8), b"\1a", sequence=2).hex())
-            for words in (["locks", server.address], ["refresh", server.address, lock], ["unlock", server.address, "--remove-all"]):
+            value = lock(server)
+            for words in (["locks", server.address], ["refresh", server.address, value], ["unlock", server.address, "--remove-all"]):
                 same(told(*words, stdout=full), "1||write failed\n", words)
             same(told("locks", server.address), "0||")
         for command, given in (("frames", TICKET), ("play", "report\n"), ("loop", "report\n")):

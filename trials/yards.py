@@ -1,15 +1,19 @@
 """Folders in which something is tried: a yard, with a store or with anything else in it, and what stands in a folder."""
+import hashlib
 import os
 import shutil
 from pathlib import Path
 
-from program import Server, matches, told
+from program import Server, frame, matches, told
 from trying import new_folder, same, trial
 
 SMALL = "--min 64 --max 128 --bits 6 --target 1024".split()
 FAILED = "1||shelf failed\n"
 CREATED = r"0\|created ([0-9a-f]{32})\n\|"
 STORED = r"0\|stored ([0-9a-f]{64}) (\d+) (\d+)\n\|"
+
+# The bytes of a large object.
+LARGE_OBJECT = bytes(4_000_000)
 
 
 class Yard:
@@ -118,3 +122,10 @@ def gives_back(address, folder, to):
 def is_clean(address):
     """A check finds no fault; what it counts."""
     return matches(told("check", address), r"0\|clean (\d+) (\d+) (\d+) (\d+)\n\|", "check")
+
+
+def large_gets(yard):
+    """A large pack is in the store: sixteen requests for it, whose replies are more than what the system keeps for who doesn't read."""
+    name = hashlib.sha256(LARGE_OBJECT).digest()
+    yard.at(f"data/{name.hex()[:2]}/{name.hex()}").write_bytes(LARGE_OBJECT)
+    return b"".join(frame(7, b"\0", name, sequence=it) for it in range(16))
