@@ -35,11 +35,11 @@ use Rattle.repo_name.specs.Limits.{facts_limit}
 
 -- a backup is made under a shared lock
 abbrev pub backup_task : Asker → Task
-backup_task who = record { who = who; exclusive = false; snapshot = None; versions = Versions.One }
+backup_task who = record { who = who; exclusive = false; snapshot = None; versions = Versions.One; notes = false }
 
 -- what a backup of these entries may ask, give out and conclude; a refusal takes it no memory
 abbrev pub backup_rule : List Entry → Rule
-backup_rule entries = record { exclusive = false; snapshot = None; versions = Versions.One; calm = ⊤; allows = BackupAllows entries; gives = BackupGives entries; concludes = BackupConcludes entries }
+backup_rule entries = record { exclusive = false; snapshot = None; versions = Versions.One; notes = false; calm = ⊤; allows = BackupAllows entries; gives = BackupGives entries; concludes = BackupConcludes entries }
 
 -- nothing was listed, and the steps of a folder are planned
 pub record IsNewBackup (c : Catalog) (stage : Stage) : Type 0 where

@@ -17,13 +17,14 @@ use Rattle.repo_session.specs.declared.sessions.Head.{Head}
 use Rattle.repo_session.specs.Askers.{Asker, Holding, row_of}
 use Rattle.repo_session.specs.Clients.{IsSteady}
 use Rattle.repo_session.specs.Obedience.{beside_unlock}
-use Rattle.repo_session.specs.Ends.{CausedBy, Concludes, IsCause, NumbersAreSpent, IsUnwelcome, before_unlock, without_unlock}
+use Rattle.repo_session.specs.Ends.{CausedBy, GoesOnAtFaults, IsCause, IsUnwelcome, MayConclude, MayLeaveOn, NumbersAreSpent, before_unlock, without_unlock}
 use Rattle.repo_session.specs.Jobs.{Rule, task_under, known_under, MayAsk, MayBegin, MayStep}
 use Rattle.repo_session.specs.Lines.{IsSentOnLine, IsFinished, IsClosed, or_spent}
 use Rattle.repo_session.specs.Obedience.{still_whole, holds_whole}
 use Rattle.repo_session.specs.Order.{Task, ticketed, locked, lock_row, opened, Holds, IsWork, IsUnlock, IsWorking, May, IsPermitted, Obeys}
 use Rattle.repo_session.specs.Sessions.{KnowsAt, SessionWaits, SessionStands, SessionAt, SessionEndsBy, Leaves, FollowsStep, took}
 use Rattle.repo_session.specs.Traces.{Each, Exchange, Trace, giving, silent}
+use Rattle.repo_session.proofs.GoingOn.{left_goes_on, own_goes_on, spent_goes_on}
 use Rattle.repo_session.proofs.Holding.{holds_of, unwelcome_ticket, unwelcome_lock, work_no_unlock, working_more}
 
 -- ---- when no lock is held
@@ -119,7 +120,7 @@ module _ (rule : Rule) (holding : Holding) (lock : Option LockRow) (Fresh : Type
 
   sent : (line now : Line) (ask : Ask) (es : Trace) → IsSentOnLine line ask now → line.instance ≡ holding.who.instance → line.sequence ≡ length es → Obeys (task_under rule holding.who) rule.allows rule.gives es
       → May (task_under rule holding.who) es ask → IsPermitted rule.allows es ask → KnowsAt rule holding lock Fresh Knows line.outcome ask es
-      → ((o : Outcome) → or_spent line.outcome ≡ Some o → NumbersAreSpent es → Concludes (known_under rule holding.who) rule.concludes (before_unlock es) o) → SessionAt rule holding lock Fresh Knows now es
+      → ((o : Outcome) → or_spent line.outcome ≡ Some o → NumbersAreSpent es → MayConclude (known_under rule holding.who) rule.notes rule.concludes (before_unlock es) o) → SessionAt rule holding lock Fresh Knows now es
   sent line now ask es (inl p) i counted obeys may permitted knows ends = subst (λ l. SessionAt rule holding lock Fresh Knows l es) (sym p) (record {
     instance = i;
     obeys = obeys;
@@ -145,20 +146,21 @@ module _ (rule : Rule) (holding : Holding) (lock : Option LockRow) (Fresh : Type
   goes_on line now ask es s i counted none whole obeys may permitted knows =
       sent line now ask es s i counted obeys may permitted knows (λ o p many.
       let is : Outcome.Ended (End.Refused Code.Exhausted) ≡ o = cc (p, none) in
-      subst (λ x. Concludes (known_under rule holding.who) rule.concludes (before_unlock es) x) is (inl (subst (λ fs. IsCause (known_under rule holding.who) fs (End.Refused Code.Exhausted)) (sym whole) (spent_cause es many))))
+      subst (λ x. MayConclude (known_under rule holding.who) rule.notes rule.concludes (before_unlock es) x) is
+      (inl (subst (λ fs. IsCause (known_under rule holding.who) fs (End.Refused Code.Exhausted)) (sym whole) (spent_cause es many)), spent_goes_on rule.notes (before_unlock es)))
 
   -- the job ends, with an unlock
   pub finishes : (line now : Line) (o : Outcome) (es : Trace) → IsFinished line o holding.token now → line.instance ≡ holding.who.instance → line.sequence ≡ length es
-      → Obeys (task_under rule holding.who) rule.allows rule.gives es → Holds (task_under rule holding.who) holding.token es → Concludes (known_under rule holding.who) rule.concludes es o → SessionAt rule holding lock Fresh Knows now es
+      → Obeys (task_under rule holding.who) rule.allows rule.gives es → Holds (task_under rule holding.who) holding.token es → MayConclude (known_under rule holding.who) rule.notes rule.concludes es o → SessionAt rule holding lock Fresh Knows now es
   finishes line now o es s i counted obeys held concluded =
       let ended : Line = record { instance = line.instance; sequence = line.sequence; next = line.next; outcome = Some o } in
       let whole = holds_whole (task_under rule holding.who) holding.token es held in
       sent ended now (Ask.Unlock holding.token) es s i counted obeys held (λ w. absurd w) (o, refl, concluded) (λ x p many.
-      let is : o ≡ x = cc in subst (λ y. Concludes (known_under rule holding.who) rule.concludes (before_unlock es) y) is (subst (λ fs. Concludes (known_under rule holding.who) rule.concludes fs o) (sym whole) concluded))
+      let is : o ≡ x = cc in subst (λ y. MayConclude (known_under rule holding.who) rule.notes rule.concludes (before_unlock es) y) is (subst (λ fs. MayConclude (known_under rule holding.who) rule.notes rule.concludes fs o) (sym whole) concluded))
 
   -- the job ends without one
   pub closes : (line now : Line) (o : Outcome) (es : Trace) → IsClosed line o now → line.instance ≡ holding.who.instance → Obeys (task_under rule holding.who) rule.allows rule.gives es
-      → Concludes (known_under rule holding.who) rule.concludes (before_unlock es) o → ((t : Token) → Holds (task_under rule holding.who) t es → NumbersAreSpent es) → SessionAt rule holding lock Fresh Knows now es
+      → MayConclude (known_under rule holding.who) rule.notes rule.concludes (before_unlock es) o → ((t : Token) → Holds (task_under rule holding.who) t es → NumbersAreSpent es) → SessionAt rule holding lock Fresh Knows now es
   closes line now o es c i obeys concluded released = subst (λ l. SessionAt rule holding lock Fresh Knows l es) (sym c) (record {
     instance = i;
     obeys = obeys;
@@ -167,16 +169,16 @@ module _ (rule : Rule) (holding : Holding) (lock : Option LockRow) (Fresh : Type
 
   -- it ends on the newest reply, which is a cause of that
   pub leaves : (old new : Head) (end : End) (e : Exchange) (es : Trace) → Leaves old end new → old.holder ≡ holding → old.line.instance ≡ holding.who.instance → old.line.sequence ≡ length es + 1
-      → Obeys (task_under rule holding.who) rule.allows rule.gives (e ∷ es) → ((t : Token) → e.ask ≢ Ask.Unlock t) → CausedBy (known_under rule holding.who) (e ∷ es) e.ask e.say end → (e.say ≡ Say.Refused Code.Dead → end ≡ End.Fenced)
-      → (e.say ≢ Say.Refused Code.Dead → Holds (task_under rule holding.who) holding.token (e ∷ es)) → SessionAt rule holding lock Fresh Knows new.line (e ∷ es)
-  leaves old new end e es left is i counted obeys plain caused dead held = elim (is_fenced end) [
+      → Obeys (task_under rule holding.who) rule.allows rule.gives (e ∷ es) → ((t : Token) → e.ask ≢ Ask.Unlock t) → CausedBy (known_under rule holding.who) (e ∷ es) e.ask e.say end → GoesOnAtFaults rule.notes (e ∷ es) (Outcome.Ended end)
+      → (e.say ≡ Say.Refused Code.Dead → end ≡ End.Fenced) → (e.say ≢ Say.Refused Code.Dead → Holds (task_under rule holding.who) holding.token (e ∷ es)) → SessionAt rule holding lock Fresh Knows new.line (e ∷ es)
+  leaves old new end e es left is i counted obeys plain caused goes dead held = elim (is_fenced end) [
     | inl fenced ↦
         let say : e.say ≡ Say.Refused Code.Dead = subst (λ x. CausedBy (known_under rule holding.who) (e ∷ es) e.ask e.say x) fenced caused in
-        closes old.line new.line (Outcome.Ended end) (e ∷ es) (left.fenced fenced) i obeys (subst (λ fs. Concludes (known_under rule holding.who) rule.concludes fs (Outcome.Ended end)) (sym (still_whole e es plain)) (inl (inl caused)))
+        closes old.line new.line (Outcome.Ended end) (e ∷ es) (left.fenced fenced) i obeys (subst (λ fs. MayConclude (known_under rule holding.who) rule.notes rule.concludes fs (Outcome.Ended end)) (sym (still_whole e es plain)) (inl (inl caused), goes))
         (λ t h. absurd (dead_free (task_under rule holding.who) e es t say h))
     | inr other ↦
         let n : old.line.sequence ≡ length (e ∷ es) = omega (arith, counted) in
-        finishes old.line new.line (Outcome.Ended end) (e ∷ es) (subst (λ (h : Holding). IsFinished old.line (Outcome.Ended end) h.token new.line) is (left.other other)) i n obeys (held (λ x. other (dead x))) (inl (inl caused))
+        finishes old.line new.line (Outcome.Ended end) (e ∷ es) (subst (λ (h : Holding). IsFinished old.line (Outcome.Ended end) h.token new.line) is (left.other other)) i n obeys (held (λ x. other (dead x))) (inl (inl caused), goes)
   ]
 
 -- ---- the replies to the ticket and the lock
@@ -227,17 +229,18 @@ module _ (rule : Rule) (holding : Holding) (lock : Option LockRow) (Fresh : Type
 
     -- it ends on the reply, where no lock is held
     closed_now : (holding' : Holding) (lock' : Option LockRow) (end : End) (now : Line) → holding'.who ≡ holding.who → IsClosed line (Outcome.Ended end) now → ((t : Token) → r.ask ≢ Ask.Unlock t)
-        → CausedBy (known_under rule holding.who) (e ∷ es) r.ask say end → ((t : Token) → Holds (task_under rule holding.who) t (e ∷ es) → ⊥) → SessionAt rule holding' lock' Fresh Knows now (e ∷ es)
-    closed_now holding' lock' end now who c plain caused free =
+        → CausedBy (known_under rule holding.who) (e ∷ es) r.ask say end → ¬ IsWork r.ask → ((t : Token) → Holds (task_under rule holding.who) t (e ∷ es) → ⊥) → SessionAt rule holding' lock' Fresh Knows now (e ∷ es)
+    closed_now holding' lock' end now who c plain caused own free =
         subst (λ (w : Asker). SessionAt rule (record { who = w; token = holding'.token }) lock' Fresh Knows now (e ∷ es)) (sym who)
         (closes rule (record { who = holding.who; token = holding'.token }) lock' Fresh Knows line now (Outcome.Ended end) (e ∷ es) c at.instance obeys_more
-        (subst (λ fs. Concludes (known_under rule holding.who) rule.concludes fs (Outcome.Ended end)) (sym (still_whole e es plain)) (inl (inl caused))) (λ t h. absurd (free t h)))
+        (subst (λ fs. MayConclude (known_under rule holding.who) rule.notes rule.concludes fs (Outcome.Ended end)) (sym (still_whole e es plain))
+        (inl (inl caused), own_goes_on rule.notes (known_under rule holding.who) e es end own caused)) (λ t h. absurd (free t h)))
 
     ticket_closed : (holding' : Holding) (lock' : Option LockRow) (end : End) (now : Line) → holding'.who ≡ holding.who → r.ask ≡ Ask.Ticket → ((t : Token) → say ≢ Say.Token t) → SessionEndsBy r.ask say end
         → IsClosed line (Outcome.Ended end) now → SessionAt rule holding' lock' Fresh Knows now (e ∷ es)
     ticket_closed holding' lock' end now who q other ends c =
         closed_now holding' lock' end now who c (plain_by r.ask Ask.Ticket q ticket_plain) (ends.1 (subst (λ a. IsUnwelcome a say) (sym q) (unwelcome_ticket say other)) (known_under rule holding.who) (e ∷ es))
-        (λ t h. unasked_free (task_under rule holding.who) e es t (may Ask.Ticket q) h)
+        (subst (λ a. ¬ IsWork a) (sym q) (λ w. w)) (λ t h. unasked_free (task_under rule holding.who) e es t (may Ask.Ticket q) h)
 
     -- the reply to the lock
     locked_now : (row : LockRow) (now : Line) → r.ask ≡ Ask.Lock row → say ≡ Say.Done → IsSentOnLine line Ask.Config now → SessionAt rule holding lock Fresh Knows now (e ∷ es)
@@ -267,7 +270,7 @@ module _ (rule : Rule) (holding : Holding) (lock : Option LockRow) (Fresh : Type
     lock_closed row end now q other ends c =
         let k = known (Ask.Lock row) q in
         closed_now holding lock end now refl c (plain_by r.ask (Ask.Lock row) q (lock_plain row)) (ends.1 (subst (λ a. IsUnwelcome a say) (sym q) (unwelcome_lock row say other)) (known_under rule holding.who) (e ∷ es))
-        (λ t h. ungranted_free (task_under rule holding.who) e es holding.token t other k.2 h)
+        (subst (λ a. ¬ IsWork a) (sym q) (λ w. w)) (λ t h. ungranted_free (task_under rule holding.who) e es holding.token t other k.2 h)
 
     -- ---- the reply to the config
 
@@ -291,13 +294,13 @@ module _ (rule : Rule) (holding : Holding) (lock : Option LockRow) (Fresh : Type
 
     -- or it ends at once
     begun_over : (Fresh' : Type 0) (Knows' : Ask → Trace → Type 0) (text : List ℕ) (config : Config) (outcome : Outcome) (now : Line) → r.ask ≡ Ask.Config → say ≡ Say.Bytes text → IsConfigText text config
-        → IsFinished line outcome holding.token now → Concludes (known_under rule holding.who) rule.concludes (opened (task_under rule holding.who) holding.token text) outcome
+        → IsFinished line outcome holding.token now → MayConclude (known_under rule holding.who) rule.notes rule.concludes (opened (task_under rule holding.who) holding.token text) outcome
         → SessionAt rule holding lock Fresh' Knows' now (e ∷ es)
     begun_over Fresh' Knows' text config outcome now q is reads s concluded =
         let all = config_working text config q is reads in
         finishes rule holding lock Fresh' Knows' line now outcome (e ∷ es) s at.instance (more line.sequence e es waits.counted) obeys_more
         (record { later = silent Ask.Config (Say.Bytes text) ∷ []; since = all; held = record { unfenced = ((λ x. absurd (cc)), tt); unended = ((λ t x. absurd (cc)), tt) } })
-        (subst (λ fs. Concludes (known_under rule holding.who) rule.concludes fs outcome) (sym all) concluded)
+        (subst (λ fs. MayConclude (known_under rule holding.who) rule.notes rule.concludes fs outcome) (sym all) concluded)
 
     -- the job begins
     pub begins : (Fresh' : Type 0) (Knows' : Ask → Trace → Type 0) (text : List ℕ) (config : Config) (step : Step) (end : End) (old new : Head) → old.line ≡ line → old.holder ≡ holding → r.ask ≡ Ask.Config
@@ -316,8 +319,8 @@ module _ (rule : Rule) (holding : Holding) (lock : Option LockRow) (Fresh : Type
     config_left Fresh' Knows' end old new same is q caused dead left =
         let k = known Ask.Config q in
         let plain = plain_by r.ask Ask.Config q config_plain in
-        leaves rule holding lock Fresh' Knows' old new end e es left is (ap (λ (l : Line). l.instance) same ∙ at.instance) (ap (λ (l : Line). l.sequence) same ∙ waits.counted) obeys_more plain caused dead
-        (λ live. record { later = e ∷ []; since = ap (λ fs. e ∷ fs) k.2; held = record { unfenced = (live, tt); unended = (plain, tt) } })
+        leaves rule holding lock Fresh' Knows' old new end e es left is (ap (λ (l : Line). l.instance) same ∙ at.instance) (ap (λ (l : Line). l.sequence) same ∙ waits.counted) obeys_more plain caused
+        (own_goes_on rule.notes (known_under rule holding.who) e es end (subst (λ a. ¬ IsWork a) (sym q) (λ w. w)) caused) dead (λ live. record { later = e ∷ []; since = ap (λ fs. e ∷ fs) k.2; held = record { unfenced = (live, tt); unended = (plain, tt) } })
 
   -- what a ticket's reply makes of the session
   pub ticket_taken : (say : Say) (holding' : Holding) (lock' : Option LockRow) (end : End) (now : Line) → holding'.who ≡ holding.who → r.ask ≡ Ask.Ticket → SessionEndsBy r.ask say end
@@ -362,12 +365,13 @@ module _ (rule : Rule) (holding : Holding) (lock : Option LockRow) (Fresh : Type
     working_on f is live = working_more (task_under rule holding.who) holding.token f es working.0 live (plain_by f.ask r.ask is (work_no_unlock r.ask work))
 
     -- the session ends on the reply
-    pub work_left : (say : Say) (Fresh' : Type 0) (Knows' : Ask → Trace → Type 0) (end : End) (old new : Head) → old.line ≡ line → old.holder ≡ holding → IsUnwelcome r.ask say → SessionEndsBy r.ask say end
-        → Leaves old end new → SessionAt rule holding lock Fresh' Knows' new.line (silent r.ask say ∷ es)
-    work_left say Fresh' Knows' end old new same is unwelcome ends left =
+    pub work_left : (say : Say) (Fresh' : Type 0) (Knows' : Ask → Trace → Type 0) (end : End) (old new : Head) → old.line ≡ line → old.holder ≡ holding → IsUnwelcome r.ask say → MayLeaveOn rule.notes r.ask say
+        → SessionEndsBy r.ask say end → Leaves old end new → SessionAt rule holding lock Fresh' Knows' new.line (silent r.ask say ∷ es)
+    work_left say Fresh' Knows' end old new same is unwelcome may ends left =
         let f : Exchange = silent r.ask say in
+        let caused = ends.1 unwelcome (known_under rule holding.who) (f ∷ es) in
         leaves rule holding lock Fresh' Knows' old new end f es left is (ap (λ (l : Line). l.instance) same ∙ at.instance) (ap (λ (l : Line). l.sequence) same ∙ waits.counted) (obeys_more say) (work_no_unlock r.ask work)
-        (ends.1 unwelcome (known_under rule holding.who) (f ∷ es)) ends.0 (λ live. holds_of (task_under rule holding.who) holding.token (f ∷ es) (working_on f refl live))
+        caused (left_goes_on rule.notes (known_under rule holding.who) f es end unwelcome may caused) ends.0 (λ live. holds_of (task_under rule holding.who) holding.token (f ∷ es) (working_on f refl live))
 
     -- the job goes on, or ends
     pub stepped : (Fresh' : Type 0) (Knows' : Ask → Trace → Type 0) (say : Say) (emitted : List Emission) (step : Step) (end : End) (old new : Head) → old.line ≡ line → old.holder ≡ holding → say ≢ Say.Refused Code.Dead
@@ -381,7 +385,7 @@ module _ (rule : Rule) (holding : Holding) (lock : Option LockRow) (Fresh : Type
         let f : Exchange = giving r.ask say emitted in
         finishes rule holding lock Fresh' Knows' line new.line o (f ∷ es) (subst (λ (h : Holding). IsFinished line o h.token new.line) is (subst (λ l. IsFinished l o old.holder.token new.line) same s)) at.instance
         (more line.sequence f es waits.counted) (waits.next.may, waits.next.permitted, m.0, at.obeys) (holds_of (task_under rule holding.who) holding.token (f ∷ es) (working_on f refl live)) m.1
-    stepped Fresh' Knows' say emitted Step.Away end old new same is live m ends s = work_left say Fresh' Knows' end old new same is m ends s
+    stepped Fresh' Knows' say emitted Step.Away end old new same is live m ends s = work_left say Fresh' Knows' end old new same is m.0 m.1 ends s
 
     -- nothing was taken, and what the job knew it knows
     pub knows_still : (Fresh' : Type 0) (Knows' : Ask → Trace → Type 0) → ((fs : Trace) → Knows r.ask fs → Knows' r.ask fs) → SessionAt rule holding lock Fresh' Knows' line es
@@ -399,7 +403,7 @@ module _ (rule : Rule) (holding : Holding) (lock : Option LockRow) (Fresh : Type
   pub unlocked : (say : Say) (u : Token) → r.ask ≡ Ask.Unlock u
       → SessionAt rule holding lock Fresh Knows (record { instance = line.instance; sequence = line.sequence; next = None; outcome = line.outcome }) (silent r.ask say ∷ es)
   unlocked say u q =
-      let k : (o : Outcome) × (line.outcome ≡ Some o) × Concludes (known_under rule holding.who) rule.concludes es o = known (Ask.Unlock u) q in
+      let k : (o : Outcome) × (line.outcome ≡ Some o) × MayConclude (known_under rule holding.who) rule.notes rule.concludes es o = known (Ask.Unlock u) q in
       let f : Exchange = silent r.ask say in
       let before : before_unlock (f ∷ es) ≡ es = ap (λ a. without_unlock a (f ∷ es) es) q in
       record {
@@ -408,7 +412,7 @@ module _ (rule : Rule) (holding : Holding) (lock : Option LockRow) (Fresh : Type
         stands = record {
           outcome = k.0;
           there = k.1;
-          concluded = subst (λ fs. Concludes (known_under rule holding.who) rule.concludes fs k.0) (sym before) k.2;
+          concluded = subst (λ fs. MayConclude (known_under rule holding.who) rule.notes rule.concludes fs k.0) (sym before) k.2;
           released = λ t h. absurd (unlock_free (task_under rule holding.who) f es t u q h);
         };
       }

@@ -10,7 +10,7 @@ use Rattle.repo_session.specs.declared.outcomes.Outcome.{Outcome}
 use Rattle.repo_session.specs.declared.sessions.Session.{Session}
 use Rattle.repo_session.specs.Askers.{Holding}
 use Rattle.repo_session.specs.Clients.{IsNextRequest, IsObedient}
-use Rattle.repo_session.specs.Ends.{Concludes, NumbersAreSpent, without_unlock, before_unlock}
+use Rattle.repo_session.specs.Ends.{MayConclude, NumbersAreSpent, without_unlock, before_unlock}
 use Rattle.repo_session.specs.Jobs.{Rule, task_under, known_under}
 use Rattle.repo_session.specs.Order.{Task, locked, IsNoUnlock, IsUnlock, Holds, May}
 use Rattle.repo_session.specs.Sessions.{KnowsAt, SessionStands, SessionAt, FitsSession}
@@ -62,10 +62,10 @@ module _ (rule : Rule) (holding : Holding) (lock : Option LockRow) (Fresh : Type
   beside_unlock (Ask.Delete t j m) outcome es k n = absurd (n k.1)
   beside_unlock (Ask.Upgrade t) outcome es k n = absurd (n k.1)
 
-  ends_beside : (ask : Ask) (o : Outcome) (es : Trace) → May (task_under rule holding.who) es ask → KnowsAt rule holding lock Fresh Knows (Some o) ask es → IsUnlock ask → Concludes (known_under rule holding.who) rule.concludes (before_unlock es) o
+  ends_beside : (ask : Ask) (o : Outcome) (es : Trace) → May (task_under rule holding.who) es ask → KnowsAt rule holding lock Fresh Knows (Some o) ask es → IsUnlock ask → MayConclude (known_under rule holding.who) rule.notes rule.concludes (before_unlock es) o
   ends_beside (Ask.Unlock t) o es may k u =
       let same : k.0 ≡ o = let p = k.1 in cc in
-      subst (λ x. Concludes (known_under rule holding.who) rule.concludes (before_unlock es) x) same (subst (λ fs. Concludes (known_under rule holding.who) rule.concludes fs k.0) (sym (holds_whole (task_under rule holding.who) t es may)) k.2)
+      subst (λ x. MayConclude (known_under rule holding.who) rule.notes rule.concludes (before_unlock es) x) same (subst (λ fs. MayConclude (known_under rule holding.who) rule.notes rule.concludes fs k.0) (sym (holds_whole (task_under rule holding.who) t es may)) k.2)
   ends_beside Ask.Ticket o es may k u = absurd u
   ends_beside (Ask.Lock row) o es may k u = absurd u
   ends_beside (Ask.Refresh t time) o es may k u = absurd u
@@ -86,8 +86,8 @@ module _ (rule : Rule) (holding : Holding) (lock : Option LockRow) (Fresh : Type
   settles line None es s p none = let there = s.there in absurd (cc)
   settles line (Some q) es s p none = absurd (cc)
 
-  concludes_at : (line : Line) (next : Option Request) (es : Trace) (o : Outcome) → SessionStands rule holding lock Fresh Knows line next es → line.outcome ≡ Some o → Concludes (known_under rule holding.who) rule.concludes (before_unlock es) o
-  concludes_at line None es o s p = let there = s.there in let same : s.outcome ≡ o = cc in subst (λ x. Concludes (known_under rule holding.who) rule.concludes (before_unlock es) x) same s.concluded
+  concludes_at : (line : Line) (next : Option Request) (es : Trace) (o : Outcome) → SessionStands rule holding lock Fresh Knows line next es → line.outcome ≡ Some o → MayConclude (known_under rule holding.who) rule.notes rule.concludes (before_unlock es) o
+  concludes_at line None es o s p = let there = s.there in let same : s.outcome ≡ o = cc in subst (λ x. MayConclude (known_under rule holding.who) rule.notes rule.concludes (before_unlock es) x) same s.concluded
   concludes_at line (Some q) es o s p =
       let k = s.knows in
       ends_beside q.ask o es s.next.may (subst (λ x. KnowsAt rule holding lock Fresh Knows x q.ask es) p k) (beside_unlock q.ask line.outcome es k (λ none. absurd (cc)))
@@ -123,7 +123,8 @@ module _ (rule : Rule) (holding : Holding) (lock : Option LockRow) (Fresh : Type
     obeys = s.obeys;
     pending = λ r p. pending_is line line.next es r s.stands p;
     settled = settles line line.next es s.stands;
-    concluded = λ o p. concludes_at line line.next es o s.stands p;
+    concluded = λ o p. (concludes_at line line.next es o s.stands p).0;
+    goes_on = λ o p. (concludes_at line line.next es o s.stands p).1;
     released = λ p n token h. is_released line line.next es s.stands p token h;
     beside = λ r p n. stands_beside line line.next es r s.stands p n;
     ending = λ r p u. is_ending line line.next es r s.stands p u;

@@ -15,7 +15,7 @@ use Rattle.repo_session.specs.declared.sessions.Head.{Head}
 use Rattle.repo_session.specs.declared.sessions.Session.{Session}
 use Rattle.repo_session.specs.Askers.{Asker, Holding}
 use Rattle.repo_session.specs.Clients.{IsNextRequest, exchange, IsReplyTo}
-use Rattle.repo_session.specs.Ends.{CausedBy, Concludes, NumbersAreSpent, IsUnwelcome, before_unlock}
+use Rattle.repo_session.specs.Ends.{CausedBy, MayConclude, NumbersAreSpent, IsUnwelcome, before_unlock}
 use Rattle.repo_session.specs.Jobs.{Rule, task_under, known_under}
 use Rattle.repo_session.specs.Lines.{IsSentOnLine, IsFinished, IsClosed}
 use Rattle.repo_session.specs.Order.{ticketed, locked, lock_row, Holds, IsWorking, Obeys, IsWork}
@@ -27,7 +27,7 @@ abbrev pub KnowsAt : Rule → Holding → Option LockRow → Type 0 → (Ask →
 KnowsAt rule holding lock Fresh Knows outcome Ask.Ticket es = Fresh × (outcome ≡ None) × (lock ≡ Some (lock_row (task_under rule holding.who) (record { 0 = 0 })))
 KnowsAt rule holding lock Fresh Knows outcome (Ask.Lock row) es = Fresh × (outcome ≡ None) × (es ≡ ticketed holding.token)
 KnowsAt rule holding lock Fresh Knows outcome Ask.Config es = Fresh × (outcome ≡ None) × (es ≡ locked (task_under rule holding.who) holding.token)
-KnowsAt rule holding lock Fresh Knows outcome (Ask.Unlock token) es = (o : Outcome) × (outcome ≡ Some o) × Concludes (known_under rule holding.who) rule.concludes es o
+KnowsAt rule holding lock Fresh Knows outcome (Ask.Unlock token) es = (o : Outcome) × (outcome ≡ Some o) × MayConclude (known_under rule holding.who) rule.notes rule.concludes es o
 KnowsAt rule holding lock Fresh Knows outcome (Ask.Refresh token time) es = ⊥
 KnowsAt rule holding lock Fresh Knows outcome Ask.Locks es = ⊥
 KnowsAt rule holding lock Fresh Knows outcome ask es = IsWorking (task_under rule holding.who) holding.token es × (outcome ≡ None) × Knows ask es
@@ -42,7 +42,7 @@ pub record SessionWaits (rule : Rule) (holding : Holding) (lock : Option LockRow
 pub record SessionRests (rule : Rule) (holding : Holding) (line : Line) (es : Trace) : Type 0 where
   pub outcome : Outcome
   pub there : line.outcome ≡ Some outcome
-  pub concluded : Concludes (known_under rule holding.who) rule.concludes (before_unlock es) outcome
+  pub concluded : MayConclude (known_under rule holding.who) rule.notes rule.concludes (before_unlock es) outcome
   pub released : (token : Token) → Holds (task_under rule holding.who) token es → NumbersAreSpent es
 
 -- by what is pending

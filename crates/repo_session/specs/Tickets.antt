@@ -1,5 +1,5 @@
 -- The token that a session tells is the one of its ticket.
-use Rattle.std.specs.Prelude.{◌≡◌, ◌≢◌, ◌⊎◌, ◌++◌, ◌∷◌, [], ℕ, List, Option, Some, None}
+use Rattle.std.specs.Prelude.{◌≡◌, ◌≢◌, ◌++◌, ◌∷◌, [], ℕ, List, Option, Some, None}
 use Rattle.std.proofs.Common.{refl, sym, ap, subst, inl, inr}
 use Rattle.repo_name.specs.declared.rows.LockRow.{LockRow}
 use Rattle.repo_name.specs.declared.tokens.Token.{Token}
@@ -12,7 +12,7 @@ use Rattle.repo_session.specs.declared.sessions.Session.{Session}
 use Rattle.repo_session.specs.Askers.{Holding}
 use Rattle.repo_session.specs.Clients.{TellsToken}
 use Rattle.repo_session.specs.Jobs.{Rule, task_under}
-use Rattle.repo_session.specs.Order.{Task, ticketed, locked, opened, IsWorking, May, Obeys}
+use Rattle.repo_session.specs.Order.{Task, opened, IsWorking, May, Obeys}
 use Rattle.repo_session.specs.Sessions.{KnowsAt, SessionStands, SessionAt, FitsSession, token_beside, token_told}
 use Rattle.repo_session.specs.Traces.{Exchange, Exchanged, Trace}
 
