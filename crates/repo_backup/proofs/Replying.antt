@@ -27,7 +27,8 @@ use Rattle.repo_backup.proofs.Phases.{begun_later, begun_goes, pack_stays, index
 pub may_step : (entries : List Entry) (who : Asker) (Knows : Ask → Trace → Type 0) (e : Exchange) (es : Trace) (step : Step) → e.emitted ≡ [] → IsNextStep entries who Knows step (e ∷ es)
     → MayStep (backup_rule entries) who Knows es e step
 may_step entries who Knows e es (Step.Ask ask) none h = (inl none, h)
-may_step entries who Knows e es (Step.Finish outcome) none h = (inl none, (h, tt))
+may_step entries who Knows e es (Step.Finish outcome) none h = (inl none, h)
+may_step entries who Knows e es Step.Want none h = absurd h
 may_step entries who Knows e es Step.Away none h = absurd h
 
 -- a backup gives nothing out, told or not

@@ -40,4 +40,4 @@ UpgradeConcludes es _ = ⊥
 
 -- its rule, as a job's
 abbrev pub upgrade_rule : Rule
-upgrade_rule = record { exclusive = true; snapshot = None; versions = Versions.Both; notes = false; calm = ⊤; allows = UpgradeAllows; gives = UpgradeGives; concludes = UpgradeConcludes }
+upgrade_rule = record { exclusive = true; snapshot = None; versions = Versions.Both; notes = false; calm = ⊤; allows = UpgradeAllows; gives = UpgradeGives; concludes = UpgradeConcludes; wanting = λ es. ⊥ }

@@ -1,5 +1,5 @@
 -- At which ends a job that notes what is wrong goes on: it ends by none of them.
-use Rattle.std.proofs.Common.{◌≡◌, ◌∷◌, ◌∙◌, ℕ, Bool, true, false, sym, ap, subst}
+use Rattle.std.proofs.Common.{◌≡◌, ◌∷◌, ◌∙◌, ℕ, Bool, true, false, sym, ap, subst, inl}
 use Rattle.repo_name.specs.declared.kinds.Thing.{Thing}
 use Rattle.repo_name.specs.declared.names.Name.{Name}
 use Rattle.repo_wire.specs.declared.messages.Ask.{Ask}
@@ -7,7 +7,7 @@ use Rattle.repo_wire.specs.declared.messages.Code.{Code}
 use Rattle.repo_wire.specs.declared.messages.Say.{Say}
 use Rattle.repo_session.specs.declared.outcomes.End.{End}
 use Rattle.repo_session.specs.declared.outcomes.Outcome.{Outcome}
-use Rattle.repo_session.specs.Ends.{AsksFor, AsksPart, CausedBy, GoesOnAtFaults, IsBad, IsUnwelcome, MayLeaveOn, TellsFault}
+use Rattle.repo_session.specs.Ends.{AsksFor, AsksPart, CausedBy, Concludes, IsBad, IsNoFaultsEnd, IsUnwelcome, MayConclude, MayPassOn, TellsFault}
 use Rattle.repo_session.specs.Order.{IsWork}
 use Rattle.repo_session.specs.Traces.{Exchange, Trace}
 
@@ -114,40 +114,57 @@ dead_tells (Ask.Unlock token) t = t
 dead_tells Ask.Locks t = t
 dead_tells Ask.Config t = t
 
--- ---- the ends of a session
+-- ---- how a session may end
+
+-- what is no end at a fault may be one, whichever job it is
+pub may_conclude : (notes : Bool) (known : ℕ) (Own : Trace → Outcome → Type 0) (es : Trace) (outcome : Outcome) → Concludes known Own es outcome → IsNoFaultsEnd es outcome → MayConclude known notes Own es outcome
+may_conclude false known Own es outcome c none = c
+may_conclude true known Own es outcome c none = (c, none)
+
+-- and each way to end is one of those that every job has
+pub concluded_of : (notes : Bool) (known : ℕ) (Own : Trace → Outcome → Type 0) (es : Trace) (outcome : Outcome) → MayConclude known notes Own es outcome → Concludes known Own es outcome
+concluded_of false known Own es outcome c = c
+concluded_of true known Own es outcome c = c.0
 
 -- the numbers are spent
-pub spent_goes_on : (notes : Bool) (es : Trace) → GoesOnAtFaults notes es (Outcome.Ended (End.Refused Code.Exhausted))
-spent_goes_on false es = tt
-spent_goes_on true es = λ is. absurd (cc)
+pub spent_end : (es : Trace) → IsNoFaultsEnd es (Outcome.Ended (End.Refused Code.Exhausted))
+spent_end es = λ is. absurd (cc)
 
--- on the reply to a request of its own
-pub own_goes_on : (notes : Bool) (known : ℕ) (e : Exchange) (es : Trace) (end : End) → ¬ IsWork e.ask → CausedBy known (e ∷ es) e.ask e.say end → GoesOnAtFaults notes (e ∷ es) (Outcome.Ended end)
-own_goes_on false known e es end own caused = tt
-own_goes_on true known e es (End.Missing thing name) own caused = absurd (own (asks_work e.ask thing name caused.0))
-own_goes_on true known e es (End.BadObject thing name) own caused = absurd (own (bad_work (e ∷ es) e.ask e.say thing name caused))
-own_goes_on true known e es (End.Refused code) own caused = λ is part. own (part_work e.ask part)
-own_goes_on true known e es End.Busy own caused = tt
-own_goes_on true known e es End.Fenced own caused = tt
-own_goes_on true known e es End.BadReply own caused = tt
-own_goes_on true known e es End.Version own caused = tt
-own_goes_on true known e es End.DirectoryTooLarge own caused = tt
-own_goes_on true known e es End.FileTooLarge own caused = tt
+-- it ends on the reply to a request of its own
+pub own_end : (known : ℕ) (e : Exchange) (es : Trace) (end : End) → ¬ IsWork e.ask → CausedBy known (e ∷ es) e.ask e.say end → IsNoFaultsEnd (e ∷ es) (Outcome.Ended end)
+own_end known e es (End.Missing thing name) own caused = absurd (own (asks_work e.ask thing name caused.0))
+own_end known e es (End.BadObject thing name) own caused = absurd (own (bad_work (e ∷ es) e.ask e.say thing name caused))
+own_end known e es (End.Refused code) own caused = λ is part. own (part_work e.ask part)
+own_end known e es End.Busy own caused = tt
+own_end known e es End.Fenced own caused = tt
+own_end known e es End.BadReply own caused = tt
+own_end known e es End.Version own caused = tt
+own_end known e es End.DirectoryTooLarge own caused = tt
+own_end known e es End.FileTooLarge own caused = tt
 
--- on a reply that the job passes on
-pub left_goes_on : (notes : Bool) (known : ℕ) (e : Exchange) (es : Trace) (end : End) → IsUnwelcome e.ask e.say → MayLeaveOn notes e.ask e.say → CausedBy known (e ∷ es) e.ask e.say end → GoesOnAtFaults notes (e ∷ es) (Outcome.Ended end)
-left_goes_on false known e es end unwelcome may caused = tt
-left_goes_on true known e es (End.Missing thing name) unwelcome may caused = absurd (may (missing_tells e.ask e.say thing name caused.0 caused.1))
-left_goes_on true known e es (End.BadObject thing name) unwelcome may caused = absurd (bad_came (e ∷ es) e.ask e.say thing name caused unwelcome)
-left_goes_on true known e es (End.Refused code) unwelcome may caused = λ is part. may (part_tells e.ask e.say part (caused.0 ∙ ap Say.Refused is))
-left_goes_on true known e es End.Busy unwelcome may caused = tt
-left_goes_on true known e es End.Fenced unwelcome may caused = tt
-left_goes_on true known e es End.BadReply unwelcome may caused = tt
-left_goes_on true known e es End.Version unwelcome may caused = tt
-left_goes_on true known e es End.DirectoryTooLarge unwelcome may caused = tt
-left_goes_on true known e es End.FileTooLarge unwelcome may caused = tt
+no_fault : (known : ℕ) (e : Exchange) (es : Trace) (end : End) → IsUnwelcome e.ask e.say → ¬ TellsFault e.ask e.say → CausedBy known (e ∷ es) e.ask e.say end → IsNoFaultsEnd (e ∷ es) (Outcome.Ended end)
+no_fault known e es (End.Missing thing name) unwelcome untold caused = absurd (untold (missing_tells e.ask e.say thing name caused.0 caused.1))
+no_fault known e es (End.BadObject thing name) unwelcome untold caused = absurd (bad_came (e ∷ es) e.ask e.say thing name caused unwelcome)
+no_fault known e es (End.Refused code) unwelcome untold caused = λ is part. untold (part_tells e.ask e.say part (caused.0 ∙ ap Say.Refused is))
+no_fault known e es End.Busy unwelcome untold caused = tt
+no_fault known e es End.Fenced unwelcome untold caused = tt
+no_fault known e es End.BadReply unwelcome untold caused = tt
+no_fault known e es End.Version unwelcome untold caused = tt
+no_fault known e es End.DirectoryTooLarge unwelcome untold caused = tt
+no_fault known e es End.FileTooLarge unwelcome untold caused = tt
 
--- any job leaves on the word that its token is dead
-pub dead_leaves : (notes : Bool) (ask : Ask) (say : Say) → say ≡ Say.Refused Code.Dead → MayLeaveOn notes ask say
-dead_leaves false ask say dead = tt
-dead_leaves true ask say dead = λ tells. dead_tells ask (subst (TellsFault ask) dead tells)
+-- it ends on a reply that the job passed on
+pub passed_on : (notes : Bool) (known : ℕ) (Own : Trace → Outcome → Type 0) (e : Exchange) (es : Trace) (end : End) → MayPassOn notes e.ask e.say → CausedBy known (e ∷ es) e.ask e.say end
+    → MayConclude known notes Own (e ∷ es) (Outcome.Ended end)
+passed_on false known Own e es end may caused = inl (inl caused)
+passed_on true known Own e es end may caused = (inl (inl caused), no_fault known e es end may.0 may.1 caused)
+
+-- what is passed on isn't wanted
+pub unwelcome_of : (notes : Bool) (ask : Ask) (say : Say) → MayPassOn notes ask say → IsUnwelcome ask say
+unwelcome_of false ask say may = may
+unwelcome_of true ask say may = may.0
+
+-- the word that the token is dead
+pub dead_passes : (notes : Bool) (ask : Ask) (say : Say) → say ≡ Say.Refused Code.Dead → IsUnwelcome ask say → MayPassOn notes ask say
+dead_passes false ask say dead unwelcome = unwelcome
+dead_passes true ask say dead unwelcome = (unwelcome, λ tells. dead_tells ask (subst (TellsFault ask) dead tells))

@@ -304,7 +304,6 @@ module _ (host : List ℕ) (time : ℕ) (config pack index snapshot : List ℕ) 
     pending = λ r h. absurd (none-some r h);
     settled = λ e q. absurd (none-some (stored snapshot) (sym q));
     concluded = λ o e. subst (λ x. ends.Concludes 1 (JobConcludes (Job.Backup [])) storing x) (same_Some (stored snapshot) o e) is_stored;
-    goes_on = λ o e. tt;
     released = λ e o t h. absurd (held_end task t h.later (silent (Ask.Unlock token) Say.Done) storing h.since h.held.unended tt);
     beside = λ r h o. absurd (none-some r h);
     ending = λ r h u. absurd (none-some r h);

@@ -197,7 +197,6 @@ module _ (host : List ℕ) (time : ℕ) (config pack index snapshot : List ℕ) 
       pending = λ r h. absurd (none-some r h);
       settled = λ e q. absurd (none-some (Outcome.Forgotten (ns ∷ [])) (sym q));
       concluded = λ o e. subst (λ x. ends.Concludes 1 (JobConcludes (Job.Forget choice)) f2 x) (same_Some (Outcome.Forgotten (ns ∷ [])) o e) is_forgotten;
-      goes_on = λ o e. tt;
       released = λ e o t h. absurd (held_end task t h.later (silent (Ask.Unlock token) Say.Done) f2 h.since h.held.unended tt);
       beside = λ r h o. absurd (none-some r h);
       ending = λ r h u. absurd (none-some r h);
@@ -439,7 +438,6 @@ module _ (host : List ℕ) (time : ℕ) (config pack index snapshot : List ℕ) 
         pending = λ r h. absurd (none-some r h);
         settled = λ e q. absurd (none-some (Outcome.Pruned 1 0) (sym q));
         concluded = λ o e. subst (λ x. ends.Concludes 1 (JobConcludes Job.Prune) p6 x) (same_Some (Outcome.Pruned 1 0) o e) is_pruned;
-        goes_on = λ o e. tt;
         released = λ e o t h. absurd (held_end work t h.later (silent (Ask.Unlock third) Say.Done) p6 h.since h.held.unended tt);
         beside = λ r h o. absurd (none-some r h);
         ending = λ r h u. absurd (none-some r h);

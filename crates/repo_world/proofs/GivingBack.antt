@@ -185,7 +185,6 @@ module _ (host : List ℕ) (time : ℕ) (config pack index snapshot : List ℕ) 
       pending = λ r h. absurd (none-some r h);
       settled = λ e q. absurd (none-some (Outcome.Complete 0) (sym q));
       concluded = λ o e. subst (λ x. ends.Concludes 1 (JobConcludes (Job.Restore ns)) walking x) (same_Some (Outcome.Complete 0) o e) restored;
-      goes_on = λ o e. tt;
       released = λ e o t h. absurd (held_end task t h.later (silent (Ask.Unlock token) Say.Done) walking h.since h.held.unended tt);
       beside = λ r h o. absurd (none-some r h);
       ending = λ r h u. absurd (none-some r h);

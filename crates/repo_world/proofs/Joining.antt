@@ -237,8 +237,7 @@ module _ (w : World) (job : Job) (host : List ℕ) (time : ℕ) (accepted : Acce
     obeys = obeys;
     pending = λ r q. subst (λ (z : Request). IsNextRequest (task_of job who) (JobAllows job) es z) (same_Some (asked_of (length w.clients) es a) r q) (record { instance = refl; sequence = refl; may = may; permitted = permitted });
     settled = λ q. absurd (some_none (asked_of (length w.clients) es a) q);
-    concluded = λ x q. (concluded x q shows).0;
-    goes_on = λ x q. (concluded x q shows).1;
+    concluded = λ x q. concluded x q shows;
     released = λ q. absurd (some_none (asked_of (length w.clients) es a) q);
     beside = λ r q there. subst (λ (z : Request). IsUnlock z.ask) (same_Some (asked_of (length w.clients) es a) r q) (beside there shows);
     ending = λ r q u. ending (subst (λ (z : Request). IsUnlock z.ask) (sym (same_Some (asked_of (length w.clients) es a) r q)) u) shows;
@@ -348,7 +347,7 @@ module _ (w : World) (job : Job) (host : List ℕ) (time : ℕ) (accepted : Acce
       by_end (inl other) = ends_so e es to outcome None steps dutiful (inl (other, refl)) (λ x q. absurd (none-some x q))
       by_end (inr u) =
           let there = some_of outcome (dutiful.settled refl) in
-          let concluded = (dutiful.concluded there.0 there.1, dutiful.goes_on there.0 there.1) in
+          let concluded = dutiful.concluded there.0 there.1 in
           ends_so e es to outcome outcome steps dutiful (inr (u, (there.0, there.1, subst (λ fs. ends.MayConclude (upto (task_of job who).versions) (task_of job who).notes (JobConcludes job) fs there.0) (older e.ask u) concluded))) (λ x q. q)
 
 -- ---- a talk

@@ -365,7 +365,6 @@ module _ (host : List ℕ) (time : ℕ) (config pack index snapshot : List ℕ) 
       pending = λ r h. absurd (none-some r h);
       settled = λ e q. absurd (none-some (Outcome.Pruned 0 0) (sym q));
       concluded = λ o e. subst (λ x. ends.Concludes 1 (JobConcludes Job.Prune) t7 x) (same_Some (Outcome.Pruned 0 0) o e) pruned;
-      goes_on = λ o e. tt;
       released = λ e o t h. absurd (held_end task t h.later (silent (Ask.Unlock token) Say.Done) t7 h.since h.held.unended tt);
       beside = λ r h o. absurd (none-some r h);
       ending = λ r h u. absurd (none-some r h);
