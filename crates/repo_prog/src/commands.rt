@@ -128,5 +128,6 @@ where
         Err(WordsError::Clap(error)) => show(&error, output, faults),
         Err(WordsError::BadArgument) => refuse_words(faults),
         Err(WordsError::NamesAndPolicy) => refuse_both(faults),
+        Err(WordsError::Memory) => failed(faults, &"out of memory"),
     }
 }

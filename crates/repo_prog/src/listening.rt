@@ -8,7 +8,7 @@ ghost use Rattle.repo_prog.specs.Commands.{listening_line, IsEnd};
 ghost use Rattle.repo_prog.specs.Serving.{AreServed};
 ghost use Rattle.repo_prog.specs.declared.status.Status.{Status};
 
-use crate::status::{Status, failed};
+use crate::status::{Status, failed, failed_by};
 use repo_files::{DirShelf, HoldFile};
 use repo_many::{Manner, Served, serve_many};
 use repo_store::{AppendOnly, Kept, ServeError, Shelf, serve, write_whole};
@@ -203,7 +203,7 @@ pub struct Serving {
 /// long.
 /// What the folder has is read once and remembered, since nobody else writes there.
 /// A folder that can't be opened, is no store, or is held by another server is told as `shelf failed`, an
-/// address as `not reached`, a line that can't be written as `write failed`; then nothing is served. What
+/// address as `not reached`, a line that can't be written as `write failed`, want of memory as such; then nothing is served. What
 /// writes that were cut off left is removed once the address is bound.
 pub fn serve_folder<R: Files + Net + Clock + AllocGlobal + Clone + Drop, W: Write, F: Write>(
     rt: &R,
@@ -219,11 +219,13 @@ where
     ensures status { IsEnd result }
     ensures written { result ≡ Status.Done → Appends (W.contents output.old) (W.contents output.new) listening_line }
 {
-    let Ok(mut shelf) = DirShelf::open(rt, folder) else {
-        return failed(faults, &"shelf failed");
+    let mut shelf = match DirShelf::open(rt, folder) {
+        Ok(shelf) => shelf,
+        Err(error) => return failed_by(faults, &error, "shelf failed"),
     };
-    let Ok(listener) = TcpListener::bind(rt, address) else {
-        return failed(faults, &"not reached");
+    let listener = match TcpListener::bind(rt, address) {
+        Ok(listener) => listener,
+        Err(error) => return failed_by(faults, &error, "not reached"),
     };
     shelf.clean();
     if write_whole(output, b"listening\n").is_err() || output.flush().is_err() {

@@ -9,7 +9,7 @@ ghost use Rattle.repo_tree.specs.Versions.{greatest_version, IsKnownTo};
 ghost use Rattle.repo_prog.specs.Commands.{created_line, InitGives, IsCutShort, IsEnd, IsMaking};
 ghost use Rattle.repo_prog.specs.declared.status.Status.{Status};
 
-use crate::status::{Status, failed};
+use crate::status::{Status, failed, failed_by};
 use crate::words::Making;
 use rand::rngs::SysRng;
 use rand_core::TryRng;
@@ -92,7 +92,7 @@ fn config_of(making: &Making, id: Instance) -> Config
 
 /// `vault init`: makes a store in a folder, which is made where it isn't there. What is in it stays as it is:
 /// where it has a config that is told as `exists`, and where something else has one of a store's own names, or
-/// another program holds the folder, as `shelf failed`. That the folder keeps the store is a premise about the
+/// another program holds the folder, as `shelf failed`; want of memory as `out of memory`. That the folder keeps the store is a premise about the
 /// machine.
 pub fn init_folder<R: Files + AllocGlobal + RandomSource + Clone + Drop, W: Write, F: Write>(
     rt: &R,
@@ -116,9 +116,9 @@ where
     if let Ok(true) = has_config(rt, folder) {
         return failed(faults, &InitError::Exists);
     }
-    let Ok(mut shelf) = DirShelf::create(rt, folder) else {
-        return failed(faults, &"shelf failed");
-    };
     let config = config_of(making, id);
-    init_command(rt.alloc(), &mut shelf, &config, output, faults)
+    match DirShelf::create(rt, folder) {
+        Ok(mut shelf) => init_command(rt.alloc(), &mut shelf, &config, output, faults),
+        Err(error) => failed_by(faults, &error, "shelf failed"),
+    }
 }

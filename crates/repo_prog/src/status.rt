@@ -5,7 +5,8 @@ ghost use Rattle.repo_prog.specs.Commands.{status_code};
 ghost use Rattle.repo_prog.specs.declared.status.Status.{Status};
 
 use std::fmt::Display;
-use std::io::Write;
+use std::io;
+use std::io::{ErrorKind, Write};
 
 /// How the program ends.
 #[derive(Clone, Copy, Debug, PartialEq, Eq)]
@@ -57,6 +58,16 @@ pub fn failed<F: Write, T: Display>(faults: &mut F, text: &T) -> Status
 {
     tell(faults, text);
     Status::Failed
+}
+
+/// Tells why a folder, a socket or a listener failed: want of memory as such, all else by this text.
+pub fn failed_by<F: Write>(faults: &mut F, error: &io::Error, text: &str) -> Status
+    ensures { result ≡ Status.Failed }
+{
+    if error.kind() == ErrorKind::OutOfMemory {
+        return failed(faults, &"out of memory");
+    }
+    failed(faults, &text)
 }
 
 /// Tells that a word isn't as it should be, where `clap` itself has no text for it.

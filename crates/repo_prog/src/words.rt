@@ -9,7 +9,7 @@ ghost use Rattle.repo_prog.specs.Commands.{IsAtOnce, IsMaking, IsOrder};
 use crate::errands::{Errand, errand_of, retry_of, with_errands};
 use crate::help::{FRAMES, INIT, LOOP, PLAY, SERVE};
 use crate::listening::Serving;
-use clap::{Arg, ArgAction, ArgMatches, Command};
+use clap::{Arg, ArgAction, ArgMatches, Command, error::ErrorKind};
 use repo_chunk::Params;
 use repo_name::{GREATEST_TARGET, LEAST_TARGET};
 use repo_tree::GREATEST_VERSION;
@@ -64,17 +64,34 @@ pub enum WordsError {
     BadArgument,
     /// Names are given, and a policy too.
     NamesAndPolicy,
+    /// There was no memory to read them.
+    Memory,
 }
 
 impl From<clap::Error> for WordsError {
+    ghost use Rattle.std.specs.Prelude.{◌≡◌};
+    ghost use Rattle.clap.specs.Words.{kind_of};
+    ghost use Rattle.clap.specs.declared.error.kind.ErrorKind.TheVariants.{OutOfMemory};
+    ghost use Rattle.repo_prog.specs.declared.words.WordsError.{WordsError};
+
+    ghost from_gives = { λ e r. kind_of e ≡ OutOfMemory → r ≡ WordsError.Memory };
+
     fn from(error: clap::Error) -> WordsError {
-        WordsError::Clap(error)
+        match error.kind() {
+            ErrorKind::OutOfMemory => WordsError::Memory,
+            _ => WordsError::Clap(error),
+        }
     }
 }
 
 impl From<AllocError> for WordsError {
-    fn from(error: AllocError) -> WordsError {
-        WordsError::Clap(clap::Error::from(error))
+    ghost use Rattle.std.specs.Prelude.{◌≡◌};
+    ghost use Rattle.repo_prog.specs.declared.words.WordsError.{WordsError};
+
+    ghost from_gives = { λ e r. r ≡ WordsError.Memory };
+
+    fn from(_: AllocError) -> WordsError {
+        WordsError::Memory
     }
 }
 
