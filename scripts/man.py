@@ -3,10 +3,10 @@
 
 Usage: scripts/man.py [--check]
 
-They are made of what the program's help says: its texts (help.rt of repo_prog) and the words of each command (words.rt,
-errands.rt, choosing.rt). What a word means is said here, since the help doesn't. With --check nothing is written: it prints a
-line for each page that isn't as it would be written, for each word without a text, and for each command whose options
-examples/completion/vault.bash doesn't have. Exit status 1 where it printed something.
+They are made of what the program's help says: its texts (help.rt of repo_prog), the words of each command (words.rt, errands.rt,
+choosing.rt) and what these mean (meanings.rt). So are the completions for fish and zsh in examples/completion/. With --check
+nothing is written: it prints a line for each file that isn't as it would be written, for each word without a text, and for each
+command whose options examples/completion/vault.bash doesn't have. Exit status 1 where it printed something.
 """
 import re
 import sys
@@ -15,34 +15,9 @@ from pathlib import Path
 ROOT = Path(__file__).resolve().parents[1]
 SOURCES = [(ROOT / "crates/repo_prog/src" / name).read_text() for name in ("words.rt", "errands.rt", "choosing.rt")]
 HELP = (ROOT / "crates/repo_prog/src/help.rt").read_text()
-PAGES, COMPLETION = ROOT / "docs/man", ROOT / "examples/completion/vault.bash"
-
-# What the words mean: of one command, or of each that has no text of its own.
-WORDS = {
-    "init DIR": "The store's folder. It is made where it isn't there.",
-    "serve DIR": "The store's folder.",
-    "serve ADDR": "Where to listen: the address or the name of a host, a colon, and a port.",
-    "restore DIR": "The folder to restore into. It is made where it isn't there, and has to be empty.",
-    "ADDR": "The server: the address or the name of a host, a colon, and a port.",
-    "HOST": "The name of this machine, 1 to 255 bytes.",
-    "PATH": "The folder that is backed up, with all that is in it. Links below it aren't followed.",
-    "NAME": "The name of a snapshot, 64 lower-case digits.",
-    "TOKEN": "The token of a lock, a number.",
-    "--min": "The least length of a chunk in bytes, 64 or more.",
-    "--max": "The greatest length of a chunk in bytes, at most 8388608.",
-    "--bits": "How many low bits of the fingerprint are zero where a chunk ends, 1 to 32.",
-    "--target": "How many bytes of blobs a pack has before the next one is begun, 1024 to 16777216.",
-    "--format": "The version of the store's formats, 1 or 2.",
-    "--connections": "How many connections are served in all, 1 or more.",
-    "--at-once": "How many connections are open at once, 1 to 256. With 1 they are served one after another.",
-    "--idle": "How long a connection may be idle. With 0 there is no limit.",
-    "--append-only": "No object is deleted, whoever asks for it. Locks are taken and removed as without.",
-    "--keep-last": "How many of the last snapshots of each host are kept.",
-    "--keep-daily": "How many days, of those that have a snapshot, keep their last one of each host.",
-    "--remove-all": "Removes all locks, and not the stale ones alone.",
-    "--retry": "How often it connects again at most, where a connection ends or can't be had.",
-}
-
+MEANINGS = dict(re.findall(r'^pub const (\w+): &str = "([^"]*)";', (ROOT / "crates/repo_prog/src/meanings.rt").read_text(), re.M))
+PAGES, COMPLETIONS = ROOT / "docs/man", ROOT / "examples/completion"
+BASH = COMPLETIONS / "vault.bash"
 
 class Word:
     """A word of a command: one that stands at its place, or an option."""
@@ -55,7 +30,12 @@ class Word:
         self.default = default.group(1) if default else ""
         self.option = bool(default) or ".long(" in text or "flag(" in text
         self.many = ".num_args(0..)" in text
+        meant = re.search(r'\w+\(alloc, "[\w-]+",(?: "\d+",)? ([A-Z_]+)\)|\.help\(([A-Z_]+)\)', text)
+        self.text = MEANINGS.get(meant.group(1) or meant.group(2), "") if meant else ""
         self.name = "--" * self.option + self.name
+
+    def is_folder(self):
+        return self.name in ("DIR", "PATH")
 
     def shown(self):
         name = bold(self.name) if self.option else italic(self.name)
@@ -83,13 +63,14 @@ class Function:
         self.values = dict(re.findall(r"let (\w+) = (.*?);", body))
         added = [within(body, at.end() - 1).strip() for at in re.finditer(r"\.arg\(", body)]
         added += [within(body, at.end() - 1).split(",", 1)[1].strip() for at in re.finditer(r"with_word\(", body)]
-        self.words = [Word(self.value_of(text.rstrip("?"))) for text in added]
+        self.words = [Word(self.value_of(re.sub(r"^Ok\((.*)\)$", r"\1", text.rstrip("?")))) for text in added]
 
     def value_of(self, text):
         """A value by its name, or the text itself; of a word that another function makes, what stands in that one."""
-        made = re.fullmatch(r'(\w+)\(alloc(?:, ("[\w-]+"))?\)', text)
+        made = re.fullmatch(r'(\w+)\(alloc(?:, ("[\w-]+"))?(?:, ([A-Z_]+))?\)', text)
         if made and made.group(1) in self.makers:
-            return re.sub(r"\bname\b", lambda _: made.group(2) or "name", self.makers[made.group(1)])
+            given = {"name": made.group(2), "meaning": made.group(3)}
+            return re.sub(r"\b(name|meaning)\b", lambda it: given[it.group(1)] or it.group(1), self.makers[made.group(1)])
         return self.values.get(text, text)
 
     def commands(self):
@@ -168,9 +149,8 @@ def statuses(text):
     return [part for number, meaning in re.findall(r"^  (\d)  (.*)$", text, re.M) for part in item(bold(number), meaning)]
 
 
-def meaning(command, word):
-    text = WORDS.get(f"{command} {word.name}") or WORDS.get(word.name, "")
-    return text + (f" Without it {word.default}." if word.default not in ("", "0") else "")
+def meaning(word):
+    return word.text + "." * bool(word.text) + (f" Without it {word.default}." if word.default not in ("", "0") else "")
 
 
 def page(name, about, *sections):
@@ -185,7 +165,7 @@ def command_page(name, about, text, words):
     parts = re.split(r"(?:^|\n\n)(Example|Exit status):\n", text)
     parts = {"Text": parts[0], **dict(zip(parts[1::2], parts[2::2]))}
     synopsis = " ".join([bold(f"vault {name}"), *(word.in_synopsis() for word in words)])
-    given = [part for word in words for part in item(word.shown(), meaning(name, word))]
+    given = [part for word in words for part in item(word.shown(), meaning(word))]
     return page(f"vault-{name}", about, ("SYNOPSIS", [synopsis]), ("DESCRIPTION", [prose(about + "."), *block("\n" * bool(parts["Text"]) + parts["Text"])]),
                 ("ARGUMENTS", given), ("EXAMPLES", block(parts["Example"])), ("EXIT STATUS", statuses(parts["Exit status"])),
                 ("SEE ALSO", [bold("vault") + "(1), and docs/MANUAL.md of the sources."]))
@@ -204,37 +184,83 @@ def version():
     return re.search(r'const VERSION: &str = "([\d.]+)"', SOURCES[0]).group(1)
 
 
-def pages(commands):
-    made = {f"vault-{name}.1": command_page(name, *command) for name, command in commands.items() if name != "vault"}
-    about = commands["vault"][0]
-    return {"vault.1": program_page(about, {name: it for name, it in commands.items() if name != "vault"}), **made}
+def pages(about, commands):
+    """The pages of the program, which is about this, and of its commands."""
+    return {"vault.1": program_page(about, commands)} | {f"vault-{name}.1": command_page(name, *it) for name, it in commands.items()}
+
+
+MADE_BY = "made by scripts/man.py of what the program's help says"
+
+
+def quoted(text):
+    """A text between single quotes, for a shell."""
+    return "'" + text.replace("'", "'\\''") + "'"
+
+
+def fish(commands):
+    """The completion for fish."""
+    lines = [f"# Completion of vault's words in fish, {MADE_BY}.", "#",
+             "# Usage: put a copy into ~/.config/fish/completions, or source it.", "complete -c vault -f"]
+    for name, (about, _, words) in commands.items():
+        lines.append(f"complete -c vault -n __fish_use_subcommand -a {name} -d {quoted(about)}")
+        inside = f"complete -c vault -n '__fish_seen_subcommand_from {name}'"
+        for word in words:
+            if word.option:
+                lines.append(f"{inside} -l {word.name[2:]}{' -x' * bool(word.value)} -d {quoted(word.text)}")
+            elif word.is_folder():
+                lines.append(f"{inside} -a '(__fish_complete_directories)'")
+    return "\n".join(lines) + "\n"
+
+
+def zsh_word(place, word):
+    """A word as `_arguments` of zsh wants it: an option, or what stands at a place."""
+    text = re.sub(r"([\[\]:])", r"\\\1", word.text)
+    if word.option:
+        return quoted(f"{word.name}{'=' * bool(word.value)}[{text}]" + f":{word.value}:" * bool(word.value))
+    return quoted(f"{'*' if word.many else place}:{word.name}:" + "_files -/" * word.is_folder())
+
+
+def zsh(commands):
+    """The completion for zsh."""
+    lines = ["#compdef vault", f"# Completion of vault's words in zsh, {MADE_BY}.", "#",
+             "# Usage: put a copy named _vault into a folder of $fpath, before compinit.", "local -a commands", "commands=("]
+    lines += [f"    {quoted(name + ':' + about.replace(':', chr(92) + ':'))}" for name, (about, _, _) in commands.items()]
+    lines += [")", "if (( CURRENT == 2 )); then", "    _describe command commands", "    return", "fi", "local command=$words[2]",
+              "shift words", "(( CURRENT-- ))", "case $command in"]
+    for name, (_, _, words) in commands.items():
+        places = [word for word in words if not word.option]
+        given = [zsh_word(places.index(word) + 1 if word in places else 0, word) for word in words]
+        lines.append(f"    {name}) _arguments {' '.join([*given, quoted('--help[Print help]')])} ;;")
+    return "\n".join([*lines, "esac"]) + "\n"
 
 
 def complaints(commands, made):
     """What doesn't agree, a line each."""
-    there = {path.name: path.read_text() for path in PAGES.glob("*.1")}
-    for name in sorted({*there, *made}):
-        if there.get(name) != made.get(name):
-            yield f"docs/man/{name} isn't as scripts/man.py would write it"
-    completed = dict(re.findall(r'^ +([\w-]+)\) options="([^"]*)"', COMPLETION.read_text(), re.M))
+    there = {path: path.read_text() for path in [*PAGES.glob("*.1"), *COMPLETIONS.iterdir()] if path != BASH}
+    for path in sorted({*there, *made}):
+        if there.get(path) != made.get(path):
+            yield f"{path.relative_to(ROOT)} isn't as scripts/man.py would write it"
+    completed = dict(re.findall(r'^ +([\w-]+)\) options="([^"]*)"', BASH.read_text(), re.M))
     for name, (_, _, words) in commands.items():
         options = " ".join(word.name for word in words if word.option)
-        if name != "vault" and completed.pop(name, None) != options:
-            yield f'{COMPLETION.relative_to(ROOT)}: {name}) options="{options}"'
-    yield from (f"{COMPLETION.relative_to(ROOT)}: {name} is no command" for name in completed)
+        if completed.pop(name, None) != options:
+            yield f'{BASH.relative_to(ROOT)}: {name}) options="{options}"'
+    yield from (f"{BASH.relative_to(ROOT)}: {name} is no command" for name in completed)
 
 
 def main():
     commands = read_commands()
-    made = pages(commands)
+    about = commands.pop("vault")[0]
+    made = {PAGES / name: text for name, text in pages(about, commands).items()}
+    made |= {COMPLETIONS / "vault.fish": fish(commands), COMPLETIONS / "_vault": zsh(commands)}
     wordless = [f"scripts/man.py has no text for {word.name} of {name}" for name, (_, _, words) in commands.items()
-                for word in words if not meaning(name, word).strip()]
+                for word in words if not word.text]
     if "--check" not in sys.argv[1:]:
         PAGES.mkdir(exist_ok=True)
         for path in PAGES.glob("*.1"):
             path.unlink()
-        for name, text in made.items():
-            (PAGES / name).write_text(text)
+        for path, text in made.items():
+            path.write_text(text)
     told = [*wordless, *complaints(commands, made)]
     print(*told, sep="\n", end="\n" * bool(told))
     return 1 if told else 0

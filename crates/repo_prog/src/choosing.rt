@@ -3,15 +3,16 @@
 ghost use Rattle.std.specs.Prelude.{◌≡◌, ◌≢◌, ◌⊎◌, ◌↔◌, [], IfOk, IsErr};
 ghost use Rattle.repo_prune.specs.declared.choices.Choice.{Choice};
 
+use crate::meanings::{FORGOTTEN, KEEP_DAILY, KEEP_LAST};
 use crate::words::{WordsError, number, with_word};
 use clap::{Arg, ArgMatches, Command};
 use repo_name::{Name, Names};
 use repo_prune::{Choice, Policy};
 use std::alloc::{AllocError, Global};
 
-/// An option whose word is a count.
-fn count<'a>(alloc: Global, name: &'a str) -> Result<Arg<'a>, AllocError> {
-    match number(alloc, name, "0") {
+/// An option whose word is a count, and what it means.
+fn count<'a>(alloc: Global, name: &'a str, meaning: &'a str) -> Result<Arg<'a>, AllocError> {
+    match number(alloc, name, "0", meaning) {
         Ok(word) => Ok(word.value_parser(clap::value_parser!(u32))),
         Err(error) => Err(error),
     }
@@ -19,9 +20,10 @@ fn count<'a>(alloc: Global, name: &'a str) -> Result<Arg<'a>, AllocError> {
 
 /// The words of a choice, added to those of a command.
 pub fn choice_words<'a>(alloc: Global, command: Command<'a>) -> Result<Command<'a>, AllocError> {
-    let command = with_word(command, count(alloc, "keep-last"))?;
-    let command = with_word(command, count(alloc, "keep-daily"))?;
-    with_word(command, Ok(Arg::new(alloc, "NAME").num_args(0..)))
+    let command = with_word(command, count(alloc, "keep-last", KEEP_LAST))?;
+    let command = with_word(command, count(alloc, "keep-daily", KEEP_DAILY))?;
+    let names = Arg::new(alloc, "NAME").num_args(0..).help(FORGOTTEN);
+    with_word(command, Ok(names))
 }
 
 /// A count that `clap` has read.

@@ -7,7 +7,8 @@ use crate::choosing::{choice_of, choice_words};
 use crate::help::{
     BACKUP, CHECK, FORGET, LOCKS, PRUNE, REFRESH, RESTORE, SNAPSHOTS, UNLOCK, UPGRADE,
 };
-use crate::words::{WordsError, flag, needed, number, number_of, word_of};
+use crate::meanings::{HOST, REMOVE_ALL, RESTORED, RETRY, SERVER, SNAPSHOT, SOURCE, TOKEN};
+use crate::words::{WordsError, flag, needed, number, number_of, with_word, word_of};
 use clap::{ArgMatches, Command};
 use repo_name::{Name, Text, Token, is_host};
 use repo_prune::Choice;
@@ -52,22 +53,20 @@ fn errand_words<'a>(
     about: &'a str,
     help: &'a str,
 ) -> Result<Command<'a>, AllocError> {
-    Command::new(alloc, name)
-        .about(about)
-        .after_help(help)
-        .arg(needed(alloc, "ADDR"))
+    let command = Command::new(alloc, name).about(about).after_help(help);
+    with_word(command, Ok(needed(alloc, "ADDR", SERVER)))
 }
 
 /// The word that says how often it is connected again, added to those of a command.
 fn retry_words<'a>(alloc: Global, command: Command<'a>) -> Result<Command<'a>, AllocError> {
-    command.arg(number(alloc, "retry", "0")?)
+    with_word(command, number(alloc, "retry", "0", RETRY))
 }
 
 fn backup_words<'a>(alloc: Global) -> Result<Command<'a>, AllocError> {
     let about = "Stores what a folder holds as a snapshot";
-    retry_words(alloc, errand_words(alloc, "backup", about, BACKUP)?)?
-        .arg(needed(alloc, "HOST"))?
-        .arg(needed(alloc, "PATH"))
+    let command = retry_words(alloc, errand_words(alloc, "backup", about, BACKUP)?)?;
+    let command = with_word(command, Ok(needed(alloc, "HOST", HOST)))?;
+    with_word(command, Ok(needed(alloc, "PATH", SOURCE)))
 }
 
 fn snapshots_words<'a>(alloc: Global) -> Result<Command<'a>, AllocError> {
@@ -77,9 +76,9 @@ fn snapshots_words<'a>(alloc: Global) -> Result<Command<'a>, AllocError> {
 
 fn restore_words<'a>(alloc: Global) -> Result<Command<'a>, AllocError> {
     let about = "Restores a snapshot into an empty folder";
-    retry_words(alloc, errand_words(alloc, "restore", about, RESTORE)?)?
-        .arg(needed(alloc, "NAME"))?
-        .arg(needed(alloc, "DIR"))
+    let command = retry_words(alloc, errand_words(alloc, "restore", about, RESTORE)?)?;
+    let command = with_word(command, Ok(needed(alloc, "NAME", SNAPSHOT)))?;
+    with_word(command, Ok(needed(alloc, "DIR", RESTORED)))
 }
 
 fn forget_words<'a>(alloc: Global) -> Result<Command<'a>, AllocError> {
@@ -105,17 +104,19 @@ fn check_words<'a>(alloc: Global) -> Result<Command<'a>, AllocError> {
 
 fn refresh_words<'a>(alloc: Global) -> Result<Command<'a>, AllocError> {
     let about = "Gives a live lock this moment as its time";
-    let token = needed(alloc, "TOKEN").value_parser(clap::value_parser!(u64));
-    errand_words(alloc, "refresh", about, REFRESH)?.arg(token)
+    let token = needed(alloc, "TOKEN", TOKEN).value_parser(clap::value_parser!(u64));
+    let command = errand_words(alloc, "refresh", about, REFRESH)?;
+    with_word(command, Ok(token))
 }
 
 fn unlock_words<'a>(alloc: Global) -> Result<Command<'a>, AllocError> {
     let about = "Removes stale locks, or all";
-    errand_words(alloc, "unlock", about, UNLOCK)?.arg(flag(alloc, "remove-all"))
+    let command = errand_words(alloc, "unlock", about, UNLOCK)?;
+    with_word(command, Ok(flag(alloc, "remove-all", REMOVE_ALL)))
 }
 
 /// The words of one more command, added to those of the program.
-fn with_command<'a>(
+pub fn with_command<'a>(
     program: Command<'a>,
     words: Result<Command<'a>, AllocError>,
 ) -> Result<Command<'a>, AllocError> {

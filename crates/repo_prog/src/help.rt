@@ -1,58 +1,5 @@
 //! What the help of each command says below its words.
 
-/// Below the help of `vault frames`.
-pub const FRAMES: &str = "\
-Example:
-  echo 0000001901010101010101010101010101010101010000000000000001 | vault frames
-
-Exit status:
-  0  every request was answered
-  1  it ended with a fault, whose text is on standard error
-  2  the words make no command";
-
-/// Below the help of `vault play`.
-pub const PLAY: &str = "\
-Each line of the input is one of:
-  dir PATH, file PATH HEX       one more entry for the next backup; - stands for no bytes
-  start backup HOST TIME        a client starts; clients are numbered from 0
-  start restore K               of the snapshot that client K stored
-  start list, start prune, start check, start upgrade
-  start forget K..              of the snapshots that these clients stored
-  start keep LAST DAILY         a forget by a policy
-  old start ..                  the same of a client that knows version 1 alone
-  step K, finish K              client K's pending request is answered, and the reply taken: once, or to its end
-  until K WORD                  so it goes on until that request is a WORD: ticket, lock, config, list, get, range,
-                                put-pack, put-index, put-snapshot, delete-pack, delete-index, delete-snapshot, unlock,
-                                upgrade
-  late K, replay                the last request of K, or each one so far, comes once more
-  deliver I                     message I comes, counted from 0
-  fault K applied               a step in which the device fails, after a change or, with unapplied, before it, or,
-                                with read, where it reads
-  unlock T, crash K, restart    token T's lock is removed; client K stops; the store is closed and opened
-  append-only                   as the first line: the store deletes nothing
-  report                        how all clients stand, and what the store has
-
-Example:
-  printf 'file a 00\\nstart backup laptop 5\\nfinish 0\\nreport\\n' | vault play
-
-Exit status:
-  0  every line was run
-  1  it ended with a fault, whose text is on standard error; what earlier lines print stands
-  2  the words make no command";
-
-/// Below the help of `vault loop`.
-pub const LOOP: &str = "\
-Lines are dir, file, start, old start, finish and report, as for vault play. Each client has a connection on 127.0.0.1; a frame of
-more than 65,536 bytes ends it. What is printed is what vault play prints.
-
-Example:
-  printf 'file a 00\\nstart backup laptop 5\\nfinish 0\\nreport\\n' | vault loop
-
-Exit status:
-  0  every line was run
-  1  it ended with a fault, whose text is on standard error; what earlier lines print stands
-  2  the words make no command";
-
 /// Below the help of `vault init`.
 pub const INIT: &str = "\
 With --format 2 it is of version 2, which is for what is to come: of this program every job but an upgrade ends with
@@ -239,4 +186,57 @@ Example:
 Exit status:
   0  each of these locks is removed, and its token printed
   1  one couldn't be, and standard error says why
+  2  the words make no command";
+
+/// Below the help of `vault frames`.
+pub const FRAMES: &str = "\
+Example:
+  echo 0000001901010101010101010101010101010101010000000000000001 | vault frames
+
+Exit status:
+  0  every request was answered
+  1  it ended with a fault, whose text is on standard error
+  2  the words make no command";
+
+/// Below the help of `vault play`.
+pub const PLAY: &str = "\
+Each line of the input is one of:
+  dir PATH, file PATH HEX       one more entry for the next backup; - stands for no bytes
+  start backup HOST TIME        a client starts; clients are numbered from 0
+  start restore K               of the snapshot that client K stored
+  start list, start prune, start check, start upgrade
+  start forget K..              of the snapshots that these clients stored
+  start keep LAST DAILY         a forget by a policy
+  old start ..                  the same of a client that knows version 1 alone
+  step K, finish K              client K's pending request is answered, and the reply taken: once, or to its end
+  until K WORD                  so it goes on until that request is a WORD: ticket, lock, config, list, get, range,
+                                put-pack, put-index, put-snapshot, delete-pack, delete-index, delete-snapshot, unlock,
+                                upgrade
+  late K, replay                the last request of K, or each one so far, comes once more
+  deliver I                     message I comes, counted from 0
+  fault K applied               a step in which the device fails, after a change or, with unapplied, before it, or,
+                                with read, where it reads
+  unlock T, crash K, restart    token T's lock is removed; client K stops; the store is closed and opened
+  append-only                   as the first line: the store deletes nothing
+  report                        how all clients stand, and what the store has
+
+Example:
+  printf 'file a 00\\nstart backup laptop 5\\nfinish 0\\nreport\\n' | vault play
+
+Exit status:
+  0  every line was run
+  1  it ended with a fault, whose text is on standard error; what earlier lines print stands
+  2  the words make no command";
+
+/// Below the help of `vault loop`.
+pub const LOOP: &str = "\
+Lines are dir, file, start, old start, finish and report, as for vault play. Each client has a connection on 127.0.0.1; a frame of
+more than 65,536 bytes ends it. What is printed is what vault play prints.
+
+Example:
+  printf 'file a 00\\nstart backup laptop 5\\nfinish 0\\nreport\\n' | vault loop
+
+Exit status:
+  0  every line was run
+  1  it ended with a fault, whose text is on standard error; what earlier lines print stands
   2  the words make no command";

@@ -38,6 +38,7 @@ mod help;
 mod listening;
 mod locking;
 mod making;
+mod meanings;
 mod output;
 mod playing;
 mod printing;

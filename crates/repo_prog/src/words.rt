@@ -6,9 +6,13 @@ ghost use Rattle.repo_tree.specs.ConfigText.{IsTarget};
 ghost use Rattle.repo_tree.specs.Versions.{greatest_version, IsKnownTo};
 ghost use Rattle.repo_prog.specs.Commands.{IsAtOnce, IsMaking, IsOrder};
 
-use crate::errands::{Errand, errand_of, retry_of, with_errands};
+use crate::errands::{Errand, errand_of, retry_of, with_command, with_errands};
 use crate::help::{FRAMES, INIT, LOOP, PLAY, SERVE};
 use crate::listening::Serving;
+use crate::meanings::{
+    APPEND_ONLY, AT_ONCE, BITS, CONNECTIONS, FORMAT, IDLE, LISTENER, MAX, MIN,
+    NEW_STORE, STORE, TARGET,
+};
 use clap::{Arg, ArgAction, ArgMatches, Command, error::ErrorKind};
 use repo_chunk::Params;
 use repo_name::{GREATEST_TARGET, LEAST_TARGET};
@@ -95,25 +99,37 @@ impl From<AllocError> for WordsError {
     }
 }
 
-/// An option whose word is a number, and the number where it is left out.
-pub fn number<'a>(alloc: Global, name: &'a str, default: &'a str) -> Result<Arg<'a>, AllocError> {
+/// An option whose word is a number, the number where it is left out, and what it means.
+pub fn number<'a>(
+    alloc: Global,
+    name: &'a str,
+    default: &'a str,
+    meaning: &'a str,
+) -> Result<Arg<'a>, AllocError> {
     Ok(
         Arg::new(alloc, name)
             .long(name)
             .value_name("N")
             .value_parser(clap::value_parser!(u64))
-            .default_value(default),
+            .default_value(default)
+            .help(meaning),
     )
 }
 
-/// An option without a word.
-pub fn flag<'a>(alloc: Global, name: &'a str) -> Arg<'a> {
-    Arg::new(alloc, name).long(name).action(ArgAction::SetTrue)
+/// An option without a word, and what it means.
+pub fn flag<'a>(alloc: Global, name: &'a str, meaning: &'a str) -> Arg<'a> {
+    Arg::new(alloc, name)
+        .long(name)
+        .action(ArgAction::SetTrue)
+        .help(meaning)
 }
 
-/// A word that has to be there.
-pub fn needed<'a>(alloc: Global, name: &'a str) -> Arg<'a> {
-    Arg::new(alloc, name).required(true).action(ArgAction::Set)
+/// A word that has to be there, and what it means.
+pub fn needed<'a>(alloc: Global, name: &'a str, meaning: &'a str) -> Arg<'a> {
+    Arg::new(alloc, name)
+        .required(true)
+        .action(ArgAction::Set)
+        .help(meaning)
 }
 
 /// One more word of a command, where there was memory for it.
@@ -131,17 +147,17 @@ fn init_words<'a>(alloc: Global) -> Result<Command<'a>, AllocError> {
     let command = Command::new(alloc, "init")
         .about("Makes a store in a folder")
         .after_help(INIT);
-    let command = with_word(command, Ok(needed(alloc, "DIR")))?;
-    let command = with_word(command, number(alloc, "min", "524288"))?;
-    let command = with_word(command, number(alloc, "max", "8388608"))?;
-    let command = with_word(command, number(alloc, "bits", "20"))?;
-    let command = with_word(command, number(alloc, "target", "16777216"))?;
-    with_word(command, number(alloc, "format", "1"))
+    let command = with_word(command, Ok(needed(alloc, "DIR", NEW_STORE)))?;
+    let command = with_word(command, number(alloc, "min", "524288", MIN))?;
+    let command = with_word(command, number(alloc, "max", "8388608", MAX))?;
+    let command = with_word(command, number(alloc, "bits", "20", BITS))?;
+    let command = with_word(command, number(alloc, "target", "16777216", TARGET))?;
+    with_word(command, number(alloc, "format", "1", FORMAT))
 }
 
 /// How many seconds a connection may say nothing.
 fn idle<'a>(alloc: Global) -> Result<Arg<'a>, AllocError> {
-    match number(alloc, "idle", "21600") {
+    match number(alloc, "idle", "21600", IDLE) {
         Ok(word) => Ok(word.value_name("SECONDS")),
         Err(error) => Err(error),
     }
@@ -151,12 +167,12 @@ fn serve_words<'a>(alloc: Global) -> Result<Command<'a>, AllocError> {
     let command = Command::new(alloc, "serve")
         .about("Serves the store in a folder to connections, one after another or several at once")
         .after_help(SERVE);
-    let command = with_word(command, Ok(needed(alloc, "DIR")))?;
-    let command = with_word(command, Ok(needed(alloc, "ADDR")))?;
-    let command = with_word(command, number(alloc, "connections", "1"))?;
-    let command = with_word(command, number(alloc, "at-once", "1"))?;
+    let command = with_word(command, Ok(needed(alloc, "DIR", STORE)))?;
+    let command = with_word(command, Ok(needed(alloc, "ADDR", LISTENER)))?;
+    let command = with_word(command, number(alloc, "connections", "1", CONNECTIONS))?;
+    let command = with_word(command, number(alloc, "at-once", "1", AT_ONCE))?;
     let command = with_word(command, idle(alloc))?;
-    with_word(command, Ok(flag(alloc, "append-only")))
+    with_word(command, Ok(flag(alloc, "append-only", APPEND_ONLY)))
 }
 
 /// What `vault --version` tells.
@@ -179,18 +195,18 @@ fn loop_words<'a>(alloc: Global) -> Command<'a> {
     Command::new(alloc, "loop").about(about).after_help(LOOP)
 }
 
-/// The commands and their words.
+/// The commands and their words: those that make and serve a store, those that go to a server, and those of scripts.
 fn commands<'a>(alloc: Global) -> Result<Command<'a>, AllocError> {
     let program = Command::new(alloc, "vault")
         .about("A shared, deduplicating backup repository")
         .version(VERSION)
-        .subcommand_required(true)
-        .subcommand(frames_words(alloc))?
-        .subcommand(play_words(alloc))?
-        .subcommand(loop_words(alloc))?
-        .subcommand(init_words(alloc)?)?
-        .subcommand(serve_words(alloc)?)?;
-    with_errands(alloc, program)
+        .subcommand_required(true);
+    let program = with_command(program, init_words(alloc))?;
+    let program = with_command(program, serve_words(alloc))?;
+    let program = with_errands(alloc, program)?;
+    let program = with_command(program, Ok(frames_words(alloc)))?;
+    let program = with_command(program, Ok(play_words(alloc)))?;
+    with_command(program, Ok(loop_words(alloc)))
 }
 
 /// A number that `clap` has read.
@@ -264,14 +280,14 @@ fn idle_of(seconds: u64) -> Option<Duration>
 }
 
 /// The most connections that may be served at once.
-const AT_ONCE: u64 = 256;
+const GREATEST_AT_ONCE: u64 = 256;
 
 /// How many connections are served at once, by a number. `None` where that is outside its limits.
 fn at_once_of(number: u64) -> Option<usize>
     ensures some { IsSome result ↔ IsAtOnce number }
     ensures value { IfSome result (λ count. count ≡ number) }
 {
-    if number < 1 || number > AT_ONCE {
+    if number < 1 || number > GREATEST_AT_ONCE {
         return None;
     }
     Some(number as usize)
