@@ -1,10 +1,11 @@
 #!/usr/bin/env python3
-"""Writes the man pages of vault and of its commands to docs/man/.
+"""Writes the man pages of vault, of its commands and of what it tells to docs/man/.
 
 Usage: scripts/man.py [--check]
 
 They are made of what the program's help says: its texts (help.rt of repo_prog), the words of each command (words.rt, errands.rt,
-choosing.rt) and what these mean (meanings.rt). So are the completions for fish and zsh in examples/completion/. With --check
+choosing.rt) and what these mean (meanings.rt); what the program tells stands in the tables of docs/MANUAL.md. So are the
+completions for fish and zsh in examples/completion/ made of the help. With --check
 nothing is written: it prints a line for each file that isn't as it would be written, for each word without a text, and for each
 command whose options examples/completion/vault.bash doesn't have. Exit status 1 where it printed something.
 """
@@ -16,8 +17,19 @@ ROOT = Path(__file__).resolve().parents[1]
 SOURCES = [(ROOT / "crates/repo_prog/src" / name).read_text() for name in ("words.rt", "errands.rt", "choosing.rt")]
 HELP = (ROOT / "crates/repo_prog/src/help.rt").read_text()
 MEANINGS = dict(re.findall(r'^pub const (\w+): &str = "([^"]*)";', (ROOT / "crates/repo_prog/src/meanings.rt").read_text(), re.M))
+MANUAL = (ROOT / "docs/MANUAL.md").read_text()
 PAGES, COMPLETIONS = ROOT / "docs/man", ROOT / "examples/completion"
 BASH = COMPLETIONS / "vault.bash"
+
+# What stands in a store's folder, for the pages of the commands that have one.
+FILES = {
+    "config": "The store's instance, its version, and the numbers by which files are cut and packed.",
+    "ledger": "Which locks are live, and which tokens were given.",
+    "lock": "Held by the program that makes or serves the store.",
+    "data, index, snapshots": "The packs, the indexes and the snapshots, each under its name.",
+    "tmp": "What is being written; what a write that was cut off left there is removed.",
+}
+
 
 class Word:
     """A word of a command: one that stands at its place, or an option."""
@@ -153,8 +165,8 @@ def meaning(word):
     return word.text + "." * bool(word.text) + (f" Without it {word.default}." if word.default not in ("", "0") else "")
 
 
-def page(name, about, *sections):
-    title = f'.TH {name.upper()} 1 "" "vault {version()}" "Jibrekt"'
+def page(name, about, *sections, number=1):
+    title = f'.TH {name.upper()} {number} "" "vault {version()}" "Jibrekt"'
     lines = [title, ".SH NAME", f"{plain(name)} \\- {plain(about[0].lower() + about[1:])}"]
     for heading, body in sections:
         lines += [f'.SH "{heading}"', *body] if body else []
@@ -168,7 +180,32 @@ def command_page(name, about, text, words):
     given = [part for word in words for part in item(word.shown(), meaning(word))]
     return page(f"vault-{name}", about, ("SYNOPSIS", [synopsis]), ("DESCRIPTION", [prose(about + "."), *block("\n" * bool(parts["Text"]) + parts["Text"])]),
                 ("ARGUMENTS", given), ("EXAMPLES", block(parts["Example"])), ("EXIT STATUS", statuses(parts["Exit status"])),
-                ("SEE ALSO", [bold("vault") + "(1), and docs/MANUAL.md of the sources."]))
+                ("FILES", [part for at, text in FILES.items() for part in item(bold(at), text)] if name in ("init", "serve") else []),
+                ("SEE ALSO", [f"{bold('vault')}(1), {bold('vault-texts')}(7), and docs/MANUAL.md of the sources."]))
+
+
+def table(head):
+    """The rows of a table of the manual, by the line of its head."""
+    lines = MANUAL[MANUAL.index(head):].splitlines()
+    rows = [line for line in lines[:next(at for at, line in enumerate([*lines, ""]) if not line.startswith("|"))]][2:]
+    return [[re.sub(r"\[([^]]*)\]\([^)]*\)", r"\1", cell.strip()) for cell in row.strip("|").split(" | ")] for row in rows]
+
+
+def sentences(*parts):
+    """Each of these as a sentence of its own, where it says something."""
+    return " ".join(text[0].upper() + text[1:].rstrip(".") + "." for text in (part.strip(" |") for part in parts) if text)
+
+
+def texts_page():
+    """What the program tells, what it means, and what to do."""
+    about = "What vault tells, what it means, and what to do"
+    told = [part for commands, text, status, means, deed in table("| Command | Text | Status |")
+            for part in item(prose(text), sentences(f"({commands}; status {status}) {means}", deed))]
+    codes = [part for code, means, deed in table("| C | The store says |") for part in item(bold(f"refused {code}"), sentences(means, deed))]
+    said = [prose("The texts that go to standard error, with the commands that tell them, and their exit statuses. `client` is each command "
+                  "that goes to a server, `job` each of these but `locks`, `refresh` and `unlock`.")]
+    return page("vault-texts", about, ("DESCRIPTION", said), ("TEXTS", told), ("REASONS OF A REFUSAL", codes),
+                ("SEE ALSO", [bold("vault") + "(1), and docs/MANUAL.md of the sources."]), number=7)
 
 
 def program_page(about, commands):
@@ -177,7 +214,7 @@ def program_page(about, commands):
                 ".br", bold("vault --version")]
     said = [prose(about + ". Results go to standard output, one line each, and what went wrong to standard error.")]
     return page("vault", about, ("SYNOPSIS", synopsis), ("DESCRIPTION", said), ("COMMANDS", listed),
-                ("SEE ALSO", ["docs/MANUAL.md of the sources, which goes by tasks and tells what each text means."]))
+                ("SEE ALSO", [bold("vault-texts") + "(7), and docs/MANUAL.md of the sources, which goes by tasks."]))
 
 
 def version():
@@ -186,7 +223,8 @@ def version():
 
 def pages(about, commands):
     """The pages of the program, which is about this, and of its commands."""
-    return {"vault.1": program_page(about, commands)} | {f"vault-{name}.1": command_page(name, *it) for name, it in commands.items()}
+    made = {f"vault-{name}.1": command_page(name, *it) for name, it in commands.items()}
+    return {"vault.1": program_page(about, commands), "vault-texts.7": texts_page()} | made
 
 
 MADE_BY = "made by scripts/man.py of what the program's help says"
@@ -236,7 +274,7 @@ def zsh(commands):
 
 def complaints(commands, made):
     """What doesn't agree, a line each."""
-    there = {path: path.read_text() for path in [*PAGES.glob("*.1"), *COMPLETIONS.iterdir()] if path != BASH}
+    there = {path: path.read_text() for path in [*PAGES.iterdir(), *COMPLETIONS.iterdir()] if path != BASH}
     for path in sorted({*there, *made}):
         if there.get(path) != made.get(path):
             yield f"{path.relative_to(ROOT)} isn't as scripts/man.py would write it"
@@ -257,7 +295,7 @@ def main():
                 for word in words if not word.text]
     if "--check" not in sys.argv[1:]:
         PAGES.mkdir(exist_ok=True)
-        for path in PAGES.glob("*.1"):
+        for path in PAGES.iterdir():
             path.unlink()
         for path, text in made.items():
             path.write_text(text)

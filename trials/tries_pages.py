@@ -1,4 +1,4 @@
-"""What stands around the program: man pages, completion for bash, units for systemd, and the cases that are written by another one."""
+"""What stands around the program: its help, man pages, completions, units for systemd, and the cases that are written by another one."""
 import re
 import shlex
 import shutil
@@ -40,6 +40,40 @@ def man_pages_say_what_the_program_says():
 def plain(text):
     """A man page without its marks."""
     return " ".join(re.sub(r"\\f.|\\&", "", text).replace("\\(aq", "'").replace("\\-", "-").replace("\\e", "\\").split())
+
+
+@trial
+def help_says_what_each_word_means():
+    """In the built program's help each word and each option of a command has a text beside it."""
+    for command in set(re.findall(r"^  ([a-z]+)  ", told("--help"), re.M)) - {"help"}:
+        given = told(command, "--help").split("Example:")[0]
+        for word in re.findall(r"^ +(?:-h, )?([<\[-]\S+.*)$", given.partition("\n\n")[2], re.M):
+            holds(len(word.split()) > 3, f"{command}: {word} has no text")
+
+
+def literals(pattern, *crates):
+    """What stands in the sources of these crates where the pattern has its group."""
+    return {text for crate in crates for path in (ROOT / "crates" / crate / "src").glob("*.rt") for text in re.findall(pattern, path.read_text())}
+
+
+@trial
+def the_page_of_texts_has_each_text():
+    """What the sources tell where a command fails, and how an outcome that is none of success is told."""
+    page = plain((ROOT / "docs/man/vault-texts.7").read_text())
+    texts = literals(r'failed(?:_by)?\(faults, (?:&error, |&)"([^"]*)"\)', "repo_prog") | literals(r'End::\w+ => String::from_str\(alloc, "([^"]*)"\)', "repo_session")
+    holds(len(texts) > 12, texts)
+    for text in sorted(texts - {"file too large", "abandoned"}):
+        holds(text.rstrip("1234") in page, f"the page of texts has no {text!r}")
+    for code in range(1, 15):
+        holds(f"refused {code} " in page, f"the page of texts has no refusal {code}")
+
+
+@trial
+def completions_of_other_shells_are_read():
+    needs("zsh")
+    needs("fish")
+    says_nothing("zsh", "-n", COMPLETION.with_name("_vault"))
+    says_nothing("fish", "-n", COMPLETION.with_name("vault.fish"))
 
 
 @trial
