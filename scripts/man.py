@@ -79,10 +79,12 @@ class Function:
 
     def value_of(self, text):
         """A value by its name, or the text itself; of a word that another function makes, what stands in that one."""
-        made = re.fullmatch(r'(\w+)\(alloc(?:, ("[\w-]+"))?(?:, ([A-Z_]+))?\)', text)
-        if made and made.group(1) in self.makers:
-            given = {"name": made.group(2), "meaning": made.group(3)}
-            return re.sub(r"\b(name|meaning)\b", lambda it: given[it.group(1)] or it.group(1), self.makers[made.group(1)])
+        made = re.fullmatch(r"(\w+)\(alloc(.*)\)", text)
+        body = self.makers.get(made.group(1)) if made else None
+        wanted = re.findall(r"(\w+): &'a str", body or "")
+        given = re.findall(r'"[^"]*"|[A-Z_]+', made.group(2)) if made else []
+        if body and made.group(1) != "number":
+            return re.sub(r"\b\w+\b(?!: )", lambda it: dict(zip(wanted, given)).get(it.group(), it.group()), body)
         return self.values.get(text, text)
 
     def commands(self):

@@ -1,5 +1,6 @@
 """Jobs over connections that end, and that go on over the next ones (`--retry`)."""
 import re
+import socket
 
 from connections import ALL, Cutter, Said
 from program import Closed, Server, told
@@ -118,3 +119,12 @@ def a_job_with_its_own_end_is_not_tried_again():
     same(line.taken, 3, "connections")
     for value in ("-1", "soon", "18446744073709551616"):
         same(told("check", "127.0.0.1:1", "--retry", value)[:3], "2||", value)
+
+
+@trial
+def a_server_that_says_nothing_is_given_up():
+    """It takes connections, and never a word over them; with `--retry` the next one comes to the same."""
+    with socket.create_server(("127.0.0.1", 0)) as silent:
+        address = f"127.0.0.1:{silent.getsockname()[1]}"
+        for words in (["snapshots", address], ["locks", address], ["check", address, "--retry", 1]):
+            same(told(*words, "--idle", 1), "1||read failed\n", words)

@@ -17,16 +17,16 @@ _vault() {
         loop) options="" ;;
         init) options="--min --max --bits --target --format" folder=1 ;;
         serve) options="--connections --at-once --idle --append-only" folder=1 ;;
-        backup) options="--retry" folder=3 ;;
-        snapshots) options="--retry" ;;
-        restore) options="--retry" folder=3 ;;
-        forget) options="--retry --keep-last --keep-daily" ;;
-        prune) options="--retry" ;;
-        check) options="--retry" ;;
-        upgrade) options="--retry" ;;
-        locks) options="" ;;
-        refresh) options="" ;;
-        unlock) options="--remove-all" ;;
+        backup) options="--idle --retry" folder=3 ;;
+        snapshots) options="--idle --retry" ;;
+        restore) options="--idle --retry" folder=3 ;;
+        forget) options="--idle --retry --keep-last --keep-daily" ;;
+        prune) options="--idle --retry" ;;
+        check) options="--idle --retry" ;;
+        upgrade) options="--idle --retry" ;;
+        locks) options="--idle" ;;
+        refresh) options="--idle" ;;
+        unlock) options="--idle --remove-all" ;;
         *) return ;;
     esac
     # At which place this word stands among those that are no options. A word goes on behind a colon, at which bash parts it.

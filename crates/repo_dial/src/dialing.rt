@@ -3,8 +3,10 @@
 ghost use Rattle.std.specs.Prelude.{◌≡◌, ◌≤◌, ◌↔◌, ◌∷◌, [], Some, IfSome, IsSome, option_map};
 ghost use Rattle.repo_dial.specs.Dialing.{Coming, coming_once, ends, Dials};
 
+use std::io;
 use std::io::{Read, Write};
 use std::net::{Net, OpenStream, TcpStream};
+use std::time::Duration;
 
 /// A way to connect to a server, which may be asked for one connection after another.
 pub trait Dial {
@@ -25,26 +27,43 @@ pub trait Dial {
 pub struct Address<'a, T: Net> {
     rt: &'a T,
     address: &'a str,
+    idle: Option<Duration>,
     ready: Option<(T::Stream, T::Stream)>,
 }
 
+/// The reading end of a connection. Where there is a time for `idle`, each read and each write of the connection
+/// fails that waits for longer.
+pub fn reader_of<T: OpenStream>(stream: &T, idle: Option<Duration>) -> io::Result<T> {
+    if idle.is_some() {
+        stream.set_read_timeout(idle)?;
+        stream.set_write_timeout(idle)?;
+    }
+    stream.try_clone()
+}
+
 /// Connects to an address: the reading and the writing end.
-fn connect<T: Net>(rt: &T, address: &str) -> Option<(T::Stream, T::Stream)> {
+fn connect<T: Net>(
+    rt: &T,
+    address: &str,
+    idle: Option<Duration>,
+) -> Option<(T::Stream, T::Stream)> {
     let Ok(writer) = TcpStream::connect(rt, address) else {
         return None;
     };
-    match writer.try_clone() {
+    match reader_of(&writer, idle) {
         Ok(reader) => Some((reader, writer)),
         Err(_) => None,
     }
 }
 
 impl<'a, T: Net> Address<'a, T> {
-    /// An address, to which nothing is connected yet.
-    pub fn new(rt: &'a T, address: &'a str) -> Address<'a, T> {
+    /// An address, to which nothing is connected yet. With a time for `idle` each read and each write of its connections
+    /// fails that waits for longer.
+    pub fn new(rt: &'a T, address: &'a str, idle: Option<Duration>) -> Address<'a, T> {
         Address {
             rt,
             address,
+            idle,
             ready: None,
         }
     }
@@ -55,12 +74,12 @@ impl<'a, T: Net> Address<'a, T> {
         ensures left { IfSome result (λ left. left ≤ retry) }
         ensures ready { IsSome result ↔ IsSome self.new.ready }
     {
-        self.ready = connect(self.rt, self.address);
+        self.ready = connect(self.rt, self.address, self.idle);
         for tried in 0..retry {
             if self.ready.is_some() {
                 return Some(retry - tried);
             }
-            self.ready = connect(self.rt, self.address);
+            self.ready = connect(self.rt, self.address, self.idle);
         }
         if self.ready.is_some() { Some(0) } else { None }
     }
@@ -78,7 +97,7 @@ impl<T: Net> Dial for Address<'_, T> {
     fn dial(&mut self) -> Option<(T::Stream, T::Stream)> {
         match self.ready.take() {
             Some(ends) => Some(ends),
-            None => connect(self.rt, self.address),
+            None => connect(self.rt, self.address, self.idle),
         }
     }
 }

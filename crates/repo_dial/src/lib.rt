@@ -20,4 +20,4 @@ mod farewells;
 mod peers;
 
 pub use again::{TryError, drive_again};
-pub use dialing::{Address, Dial, Once};
+pub use dialing::{Address, Dial, Once, reader_of};

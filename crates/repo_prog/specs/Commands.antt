@@ -90,7 +90,7 @@ IsOrder Order.Play = ⊤
 IsOrder Order.Loop = ⊤
 IsOrder (Order.Init folder making) = IsMaking making
 IsOrder (Order.Serve folder address serving) = (1 ≤ serving.connections) × IsAtOnce serving.at_once × IsIdle serving.idle
-IsOrder (Order.Client address errand retry) = IsErrand errand
+IsOrder (Order.Client address errand retry idle) = IsErrand errand
 
 -- an order that reads the input
 abbrev pub ReadsInput : Order → Type 0
@@ -99,7 +99,7 @@ ReadsInput Order.Play = ⊤
 ReadsInput Order.Loop = ⊤
 ReadsInput (Order.Init folder making) = ⊥
 ReadsInput (Order.Serve folder address serving) = ⊥
-ReadsInput (Order.Client address errand retry) = ⊥
+ReadsInput (Order.Client address errand retry idle) = ⊥
 
 -- what the command gives for this input: all that was asked, or what one of the errors leaves
 abbrev pub FramesGives : List ℕ → Option (List ℕ) → Status → Option (List ℕ) → Type 0

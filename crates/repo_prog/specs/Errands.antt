@@ -64,5 +64,5 @@ AddressGives errand retry start status contents = ((status ≡ Status.Failed) ×
 abbrev pub OrderGives : Order → Option (List ℕ) → Status → Option (List ℕ) → Type 0
 OrderGives (Order.Init folder making) start status contents = IsEnd status × (status ≡ Status.Done → (id : Instance) × Appends start contents (created_line id))
 OrderGives (Order.Serve folder address serving) start status contents = IsEnd status × (status ≡ Status.Done → Appends start contents listening_line)
-OrderGives (Order.Client address errand retry) start status contents = AddressGives errand retry start status contents
+OrderGives (Order.Client address errand retry idle) start status contents = AddressGives errand retry start status contents
 OrderGives _ start status contents = ⊤

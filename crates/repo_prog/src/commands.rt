@@ -106,7 +106,16 @@ where
             address,
             errand,
             retry,
-        } => run_errand(rt, address.as_str(), errand, retry, output, faults),
+            idle,
+        } => run_errand(
+            rt,
+            address.as_str(),
+            errand,
+            retry,
+            idle,
+            output,
+            faults,
+        ),
     }
 }
 

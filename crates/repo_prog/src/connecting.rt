@@ -22,6 +22,7 @@ use std::io::Write;
 use std::net::Net;
 use std::random::RandomSource;
 use std::rt::Clock;
+use std::time::Duration;
 
 /// Asks about the locks, over the next connection.
 fn ask_locks<D: Dial, O: Write, F: Write>(
@@ -85,18 +86,27 @@ pub fn do_errand<T: Files + AllocGlobal + Clone + Drop, D: Dial, O: Write, F: Wr
 }
 
 /// Connects to an address, and does an errand there. It connects again so many times at most; an address that can't be
-/// connected to is told as `not reached`.
+/// connected to is told as `not reached`. With a time for `idle` each read and each write of a connection fails that waits
+/// for longer.
 pub fn run_errand<
     T: Files + Net + AllocGlobal + RandomSource + Clock + Clone + Drop,
     O: Write,
     F: Write,
->(rt: &T, address: &str, errand: Errand, retry: u64, output: &mut O, faults: &mut F) -> Status
+>(
+    rt: &T,
+    address: &str,
+    errand: Errand,
+    retry: u64,
+    idle: Option<Duration>,
+    output: &mut O,
+    faults: &mut F,
+) -> Status
     requires { IsErrand errand }
     ensures gives { AddressGives errand retry (O.contents output.old) result (O.contents output.new) }
     ensures silent { result ≡ Status.Done → faults.new ≡ faults.old }
     ensures status { result ≢ Status.Usage }
 {
-    let mut dial = Address::new(rt, address);
+    let mut dial = Address::new(rt, address, idle);
     let Some(left) = dial.reach(retry) else {
         return failed(faults, &"not reached");
     };

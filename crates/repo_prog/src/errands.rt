@@ -8,7 +8,7 @@ use crate::help::{
     BACKUP, CHECK, FORGET, LOCKS, PRUNE, REFRESH, RESTORE, SNAPSHOTS, UNLOCK, UPGRADE,
 };
 use crate::meanings::{HOST, REMOVE_ALL, RESTORED, RETRY, SERVER, SNAPSHOT, SOURCE, TOKEN};
-use crate::words::{WordsError, flag, needed, number, number_of, with_word, word_of};
+use crate::words::{WordsError, flag, idle, needed, number, number_of, with_word, word_of};
 use clap::{ArgMatches, Command};
 use repo_name::{Name, Text, Token, is_host};
 use repo_prune::Choice;
@@ -54,7 +54,8 @@ fn errand_words<'a>(
     help: &'a str,
 ) -> Result<Command<'a>, AllocError> {
     let command = Command::new(alloc, name).about(about).after_help(help);
-    with_word(command, Ok(needed(alloc, "ADDR", SERVER)))
+    let command = with_word(command, Ok(needed(alloc, "ADDR", SERVER)))?;
+    with_word(command, idle(alloc, "0"))
 }
 
 /// The word that says how often it is connected again, added to those of a command.

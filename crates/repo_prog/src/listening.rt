@@ -9,27 +9,17 @@ ghost use Rattle.repo_prog.specs.Serving.{AreServed};
 ghost use Rattle.repo_prog.specs.declared.status.Status.{Status};
 
 use crate::status::{Status, failed, failed_by};
+use repo_dial::reader_of;
 use repo_files::{DirShelf, HoldFile};
 use repo_many::{Manner, Served, serve_many};
 use repo_store::{AppendOnly, Kept, ServeError, Shelf, serve, write_whole};
 use std::alloc::{AllocGlobal, Global};
 use std::fs::Files;
-use std::io;
 use std::io::{Read, Write};
 use std::net::{Net, OpenListener, OpenStream, TcpListener};
 use std::os::fd::AsRawFd;
 use std::rt::Clock;
 use std::time::Duration;
-
-/// The reading end of a connection. Where there is a time for `idle`, each read and each write of the connection
-/// fails that waits for longer.
-fn reader_of<T: OpenStream + Drop>(stream: &T, idle: Option<Duration>) -> io::Result<T> {
-    if idle.is_some() {
-        stream.set_read_timeout(idle)?;
-        stream.set_write_timeout(idle)?;
-    }
-    stream.try_clone()
-}
 
 /// Serves one connection, from its first request to its end.
 fn serve_stream<T: Read + Write + OpenStream + Drop, S: Shelf>(

@@ -51,11 +51,13 @@ pub enum Order {
         address: String,
         serving: Serving,
     },
-    /// Do an errand at a server's address, and connect again so many times at most.
+    /// Do an errand at a server's address, and connect again so many times at most; a connection that is idle for longer
+    /// than this ends; `None`: none does.
     Client {
         address: String,
         errand: Errand,
         retry: u64,
+        idle: Option<Duration>,
     },
 }
 
@@ -155,9 +157,9 @@ fn init_words<'a>(alloc: Global) -> Result<Command<'a>, AllocError> {
     with_word(command, number(alloc, "format", "1", FORMAT))
 }
 
-/// How many seconds a connection may say nothing.
-fn idle<'a>(alloc: Global) -> Result<Arg<'a>, AllocError> {
-    match number(alloc, "idle", "21600", IDLE) {
+/// How many seconds a connection may say nothing, and how many where that is left out.
+pub fn idle<'a>(alloc: Global, default: &'a str) -> Result<Arg<'a>, AllocError> {
+    match number(alloc, "idle", default, IDLE) {
         Ok(word) => Ok(word.value_name("SECONDS")),
         Err(error) => Err(error),
     }
@@ -171,7 +173,7 @@ fn serve_words<'a>(alloc: Global) -> Result<Command<'a>, AllocError> {
     let command = with_word(command, Ok(needed(alloc, "ADDR", LISTENER)))?;
     let command = with_word(command, number(alloc, "connections", "1", CONNECTIONS))?;
     let command = with_word(command, number(alloc, "at-once", "1", AT_ONCE))?;
-    let command = with_word(command, idle(alloc))?;
+    let command = with_word(command, idle(alloc, "21600"))?;
     with_word(command, Ok(flag(alloc, "append-only", APPEND_ONLY)))
 }
 
@@ -327,10 +329,12 @@ fn client_order(alloc: Global, command: &str, words: &ArgMatches) -> Result<Orde
     let errand = errand_of(alloc, command, words)?;
     let address = word_of(alloc, words, "ADDR")?;
     let retry = retry_of(words);
+    let idle = idle_of(number_of(words, "idle")?);
     Ok(Order::Client {
         address,
         errand,
         retry,
+        idle,
     })
 }
 
