@@ -1,0 +1,12 @@
+mod Requests
+mod Outcomes
+mod Lasting
+mod Appending
+mod Resting
+mod Joining
+mod Exampling
+mod WrongRules
+mod Backing
+mod GivingBack
+mod Tidying
+mod Forgetting
