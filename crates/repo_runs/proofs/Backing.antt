@@ -47,7 +47,8 @@ use Rattle.repo_runs.specs.Backed.{configured, snapshot_of, AreTexts, stored, Is
 use Rattle.repo_world.specs.Clients.{task_of, JobAllows, JobGives, JobConcludes, IsDutiful}
 use Rattle.repo_runs.specs.Lone.{ended}
 use Rattle.repo_world.specs.World.{beginning, instance_of}
-use Rattle.repo_runs.proofs.Joining.{Stepped, finished, held_end}
+use Rattle.repo_runs.proofs.Calming.{ExchangesFew, IsQuiet, quiet_first, quiet_more, backs_nothing, few_config, few_pack, few_index, few_snapshot, calm}
+use Rattle.repo_runs.proofs.Joining.{Stepped, finished, held_end, posts}
 use Rattle.repo_world.specs.declared.jobs.Job.{Job}
 
 -- ---- objects that are put where nothing was
@@ -369,10 +370,19 @@ module _ (host : List ℕ) (time : ℕ) (config pack index snapshot : List ℕ) 
     inl (record { result = true; tokens = unlocked tokens token; step = (refl, refl); says = refl; saves = (refl, refl, refl, refl) }),
   )
 
-  pub is_backed_up : IsBackedUp config snapshot
+  pub all_few : ExchangesFew config pack index snapshot all
+  all_few =
+      let few = few_config config pack index snapshot in
+      (tt, tt, (few_snapshot config pack index snapshot, tt, (few_index config pack index snapshot, tt, (few_pack config pack index snapshot, tt, (tt, tt, (tt, few, (tt, tt, (tt, tt, tt))))))))
+
+  pub quiet : IsQuiet config pack index snapshot (record { store = last_store; clients = ended 0 (Job.Backup []) host time all (Some (stored snapshot)) ∷ []; messages = posts 0 all ++ [] })
+  quiet = quiet_more config pack index snapshot (beginning (configured config)) (ended 0 (Job.Backup []) host time all (Some (stored snapshot))) all last_store (quiet_first config pack index snapshot (beginning (configured config)) refl refl) all_few
+      (backs_nothing config pack index snapshot (ended 0 (Job.Backup []) host time all (Some (stored snapshot))) refl)
+
+  pub is_backed_up : IsBackedUp config pack index snapshot
   is_backed_up =
       let found = finished (beginning (configured config)) (Job.Backup []) host time tt limits (silent (Ask.Unlock token) Say.Done) storing last_store (Some (stored snapshot)) steps dutiful in
-      record { events = found.0; last = _; run = found.1; reported = refl; there = there_now with_index Kind.Snapshot (naming.name snapshot) snapshot }
+      record { events = found.0; last = _; run = found.1; reported = refl; there = there_now with_index Kind.Snapshot (naming.name snapshot) snapshot; calm = λ apart. calm config pack index snapshot host time texts apart _ quiet }
 
 pub backup_is_a_run : BackupIsARun
 backup_is_a_run host time config pack index snapshot limits texts = is_backed_up host time config pack index snapshot limits texts

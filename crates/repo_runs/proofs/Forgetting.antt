@@ -38,6 +38,7 @@ use Rattle.repo_world.specs.World.{World, client_at, beginning, instance_of}
 use Rattle.repo_runs.proofs.Backing as backup
 use Rattle.repo_runs.proofs.Backing.{there_now}
 use Rattle.repo_runs.proofs.GivingBack.{bytes_no_dead, names_no_dead, token}
+use Rattle.repo_runs.proofs.Calming.{ExchangesFew, IsQuiet, quiet_more, few_config, few_index, calm}
 use Rattle.repo_runs.proofs.Joining.{Stepped, finished, held_end, run_more}
 use Rattle.std.proofs.Common.{◌⊎◌}
 use Rattle.repo_name.specs.declared.tokens.Token.{Token}
@@ -501,9 +502,15 @@ module _ (host : List ℕ) (time : ℕ) (config pack index snapshot : List ℕ) 
   abbrev backer : Client
   backer = ended 0 (Job.Backup []) host time (backup.all host time config pack index snapshot limits texts) (Some (stored snapshot))
 
+  forgetting_few : (w : World) (same : w.store ≡ from) → ExchangesFew config pack index snapshot (forgetting w same)
+  forgetting_few w same = (tt, tt, (tt, tt, (tt, tt, (tt, few_config config pack index snapshot, (tt, tt, (tt, tt, tt))))))
+
+  pruning_few : (w : World) (same : w.store ≡ from) (v : World) (next : v.store ≡ left w same) → ExchangesFew config pack index snapshot (pruning w same v next)
+  pruning_few w same v next = (tt, tt, (tt, tt, (tt, tt, (tt, tt, (tt, few_index config pack index snapshot, (tt, tt, (tt, tt, (tt, few_config config pack index snapshot, (tt, tt, (tt, tt, tt))))))))))
+
   after_forget : (w v : World) (events : List Event) → Run (beginning (configured config)) events v → (same : w.store ≡ from) → (next : v.store ≡ left w same)
-      → v.clients ≡ backer ∷ ended (length w.clients) (Job.Forget choice) host time (forgetting w same) (Some (Outcome.Forgotten (ns ∷ []))) ∷ [] → IsForgottenInRun names config snapshot
-  after_forget w v events run same next two =
+      → v.clients ≡ backer ∷ ended (length w.clients) (Job.Forget choice) host time (forgetting w same) (Some (Outcome.Forgotten (ns ∷ []))) ∷ [] → IsQuiet config pack index snapshot v → IsForgottenInRun names config pack index snapshot
+  after_forget w v events run same next two quiet =
       let done = finished v Job.Prune host time tt limits (silent (Ask.Unlock third) Say.Done) (p6 w same v next) (store_of w same (without_pack w same) (unlocked (last_tokens w same v next) third)) (Some (Outcome.Pruned 1 0)) (prune_steps w same v next) (prunes_well w same v next) in
       record {
         events = events ++ done.0;
@@ -514,19 +521,22 @@ module _ (host : List ℕ) (time : ℕ) (config pack index snapshot : List ℕ) 
         prunes = ap (λ (cs : List Client). (client_at (cs ++ ended (length v.clients) Job.Prune host time (pruning w same v next) (Some (Outcome.Pruned 1 0)) ∷ []) 2).job) two;
         pruned = ap (λ (cs : List Client). (client_at (cs ++ ended (length v.clients) Job.Prune host time (pruning w same v next) (Some (Outcome.Pruned 1 0)) ∷ []) 2).outcome) two;
         none_left = none_left;
+        calm = λ apart. calm config pack index snapshot host time texts apart _ (quiet_more config pack index snapshot v (ended (length v.clients) Job.Prune host time (pruning w same v next) (Some (Outcome.Pruned 1 0))) (pruning w same v next)
+            (store_of w same (without_pack w same) (unlocked (last_tokens w same v next) third)) quiet (pruning_few w same v next) (λ x none. absurd none));
       }
 
-  after_backup : (w : World) (events : List Event) → Run (beginning (configured config)) events w → (same : w.store ≡ from) → w.clients ≡ backer ∷ [] → IsForgottenInRun names config snapshot
-  after_backup w events run same one =
+  after_backup : (w : World) (events : List Event) → Run (beginning (configured config)) events w → (same : w.store ≡ from) → w.clients ≡ backer ∷ [] → IsQuiet config pack index snapshot w → IsForgottenInRun names config pack index snapshot
+  after_backup w events run same one quiet =
       let done = finished w (Job.Forget choice) host time (λ none. none) limits (silent (Ask.Unlock token) Say.Done) (f2 w same) (left w same) (Some (Outcome.Forgotten (ns ∷ []))) (steps w same) (dutiful w same) in
       after_forget w _ (events ++ done.0) (run_more (beginning (configured config)) events done.0 w _ run done.1) same refl
       (ap (λ (cs : List Client). cs ++ ended (length w.clients) (Job.Forget choice) host time (forgetting w same) (Some (Outcome.Forgotten (ns ∷ []))) ∷ []) one)
+      (quiet_more config pack index snapshot w (ended (length w.clients) (Job.Forget choice) host time (forgetting w same) (Some (Outcome.Forgotten (ns ∷ [])))) (forgetting w same) (left w same) quiet (forgetting_few w same) (λ x none. absurd none))
 
-  all_forgotten : IsForgottenInRun names config snapshot
+  all_forgotten : IsForgottenInRun names config pack index snapshot
   all_forgotten =
       let first = finished (beginning (configured config)) (Job.Backup []) host time tt limits (silent (Ask.Unlock backup.token) Say.Done) (backup.storing host time config pack index snapshot limits texts) from (Some (stored snapshot))
       (backup.steps host time config pack index snapshot limits texts) (backup.dutiful host time config pack index snapshot limits texts) in
-      after_backup _ first.0 first.1 refl refl
+      after_backup _ first.0 first.1 refl refl (backup.quiet host time config pack index snapshot limits texts)
 
 pub forget_is_a_run : ForgetIsARun
 forget_is_a_run host time config pack index snapshot names limits texts chosen = all_forgotten host time config pack index snapshot names limits texts chosen

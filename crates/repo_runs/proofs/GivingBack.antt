@@ -46,6 +46,7 @@ use Rattle.repo_runs.specs.Lone.{ended}
 use Rattle.repo_world.specs.World.{World, client_at, beginning, instance_of}
 use Rattle.repo_runs.proofs.Backing as backup
 use Rattle.repo_runs.proofs.Backing.{is_here, with_object, there_now}
+use Rattle.repo_runs.proofs.Calming.{ExchangesFew, IsQuiet, quiet_more, few_config, few_index, few_snapshot, few_tree, calm}
 use Rattle.repo_runs.proofs.Joining.{Stepped, finished, held_end, run_more}
 use Rattle.repo_world.specs.declared.jobs.Job.{Job}
 use Rattle.repo_world.specs.declared.events.Event.{Event}
@@ -271,8 +272,13 @@ module _ (host : List ℕ) (time : ℕ) (config pack index snapshot : List ℕ) 
   abbrev backer : Client
   backer = ended 0 (Job.Backup []) host time (backup.all host time config pack index snapshot limits texts) (Some (stored snapshot))
 
-  after : (w : World) (events : List Event) → Run (beginning (configured config)) events w → (same : w.store ≡ from) → w.clients ≡ backer ∷ [] → IsGivenBack config snapshot
-  after w events run same one =
+  all_few : (w : World) (same : w.store ≡ from) → ExchangesFew config pack index snapshot (all w same)
+  all_few w same =
+      let few = few_config config pack index snapshot in
+      (tt, tt, (tt, few_tree config pack index snapshot, (tt, few_index config pack index snapshot, (tt, tt, (tt, few_snapshot config pack index snapshot, (tt, few, (tt, tt, (tt, tt, tt))))))))
+
+  after : (w : World) (events : List Event) → Run (beginning (configured config)) events w → (same : w.store ≡ from) → w.clients ≡ backer ∷ [] → IsQuiet config pack index snapshot w → IsGivenBack config pack index snapshot
+  after w events run same one quiet =
       let second = finished w (Job.Restore ns) host time tt limits (silent (Ask.Unlock token) Say.Done) (walking w same) (store_of w same (unlocked (tokens w same) token)) (Some (Outcome.Complete 0)) (steps w same) (dutiful w same) in
       record {
         events = events ++ second.0;
@@ -281,13 +287,14 @@ module _ (host : List ℕ) (time : ℕ) (config pack index snapshot : List ℕ) 
         reported = ap (λ (cs : List Client). (client_at (cs ++ restorer w same ∷ []) 0).outcome) one;
         restores = ap (λ (cs : List Client). (client_at (cs ++ restorer w same ∷ []) 1).job) one;
         complete = ap (λ (cs : List Client). (client_at (cs ++ restorer w same ∷ []) 1).outcome) one;
+        calm = λ apart. calm config pack index snapshot host time texts apart _ (quiet_more config pack index snapshot w (restorer w same) (all w same) (store_of w same (unlocked (tokens w same) token)) quiet (all_few w same) (λ x none. absurd none));
       }
 
-  given_back : IsGivenBack config snapshot
+  given_back : IsGivenBack config pack index snapshot
   given_back =
       let first = finished (beginning (configured config)) (Job.Backup []) host time tt limits (silent (Ask.Unlock backup.token) Say.Done) (backup.storing host time config pack index snapshot limits texts) from (Some (stored snapshot))
       (backup.steps host time config pack index snapshot limits texts) (backup.dutiful host time config pack index snapshot limits texts) in
-      after _ first.0 first.1 refl refl
+      after _ first.0 first.1 refl refl (backup.quiet host time config pack index snapshot limits texts)
 
 pub restore_is_a_run : RestoreIsARun
 restore_is_a_run host time config pack index snapshot limits texts = given_back host time config pack index snapshot limits texts

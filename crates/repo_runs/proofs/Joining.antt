@@ -140,7 +140,7 @@ abbrev answered_of : ℕ → Trace → Say → Reply
 answered_of k es s = record { instance = instance_of k; sequence = length es + 1; say = s }
 
 -- the messages of these exchanges
-abbrev posts : ℕ → Trace → List Message
+abbrev pub posts : ℕ → Trace → List Message
 posts k [] = []
 posts k (e ∷ es) = posts k es ++ Asked k (asked_of k es e.ask) ∷ Said k (answered_of k es e.say) ∷ []
 

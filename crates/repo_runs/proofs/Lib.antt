@@ -6,7 +6,9 @@ mod Resting
 mod Joining
 mod Exampling
 mod WrongRules
+mod Calming
 mod Backing
 mod GivingBack
 mod Tidying
 mod Forgetting
+mod Apart

@@ -8,7 +8,7 @@ use Rattle.repo_name.specs.declared.names.Name.{Name}
 use Rattle.repo_pack.specs.PackLayout.{IsTruePack}
 use Rattle.repo_index.specs.declared.facts.Fact.{Fact}
 use Rattle.repo_index.specs.Exactness.{AreFactsAt}
-use Rattle.repo_index.specs.IndexText.{IsIndexText}
+use Rattle.repo_index.specs.IndexText.{IsIndexText, Says}
 use Rattle.repo_locks.specs.TokenMachine.{start}
 use Rattle.repo_tree.specs.declared.configs.Config.{Config}
 use Rattle.repo_tree.specs.declared.snapshots.Snapshot.{Snapshot}
@@ -18,11 +18,13 @@ use Rattle.repo_tree.specs.TreeText.{IsTreeText}
 use Rattle.repo_tree.specs.TreeWriting.{tree_text}
 use Rattle.repo_store.specs.StoreMachine.{object_limit, config_limit}
 use Rattle.repo_store.specs.Stores.{Store}
+use Rattle.repo_session.specs.Alone.{NoClash}
 use Rattle.repo_session.specs.declared.outcomes.Outcome.{Outcome}
 use Rattle.repo_backup.specs.Folders.{nothing, tree_of}
 use Rattle.repo_writing.specs.Writing.{bytes_of}
 use Rattle.repo_prune.specs.declared.choices.Choice.{Choice}
 use Rattle.repo_world.specs.Events.{Run}
+use Rattle.repo_world.specs.Safe.{HasNoClash}
 use Rattle.repo_world.specs.World.{World, client, beginning}
 use Rattle.repo_world.specs.declared.jobs.Job.{Job}
 use Rattle.repo_world.specs.declared.events.Event.{Event}
@@ -51,50 +53,62 @@ pub record AreTexts (host : List ℕ) (time : ℕ) (config pack index snapshot :
   pub reads : IsSnapshotText snapshot (snapshot_of host time)
   pub snapshot_short : length snapshot ≤ object_limit Kind.Snapshot
 
+-- the byte lists of which the runs below speak: those, and the tree in the pack
+abbrev pub lists_of : (config pack index snapshot : List ℕ) → List (List ℕ)
+lists_of config pack index snapshot = config ∷ pack ∷ index ∷ snapshot ∷ tree_text [] ∷ []
+
+-- no two of them have one name; and none but the index reads as an index that says a fact
+pub record AreApart (config pack index snapshot : List ℕ) : Type 0 where
+  pub names : NoClash (λ x. Contains (lists_of config pack index snapshot) x)
+  pub one : (x : List ℕ) (fact : Fact) → Contains (lists_of config pack index snapshot) x → Says x fact → x ≡ index
+
 -- its outcome: its snapshot is stored, with one blob
 abbrev pub stored : List ℕ → Outcome
 stored snapshot = Outcome.Stored (naming.name snapshot) 1 (min (bytes_of (tree_of nothing ∷ [])) (2 ^ 64 - 1))
 
--- some events lead to a world in which the first client reports its snapshot as stored, and it is there
-pub record IsBackedUp (config snapshot : List ℕ) : Type 0 where
+-- some events lead to a world in which the first client reports its snapshot as stored, and it is there; and nothing clashes in it, where those lists are apart
+pub record IsBackedUp (config pack index snapshot : List ℕ) : Type 0 where
   pub events : List Event
   pub last : World
   pub run : Run (beginning (configured config)) events last
   pub reported : (client last 0).outcome ≡ Some (stored snapshot)
   pub there : last.store.objects Kind.Snapshot (naming.name snapshot) ≡ Some snapshot
+  pub calm : AreApart config pack index snapshot → HasNoClash last
 
 -- with any such texts there is such a run
 abbrev pub BackupIsARun : Type 0
-BackupIsARun = (host : List ℕ) (time : ℕ) (config pack index snapshot : List ℕ) → (time < 2 ^ 64) × IsHost host → AreTexts host time config pack index snapshot → IsBackedUp config snapshot
+BackupIsARun = (host : List ℕ) (time : ℕ) (config pack index snapshot : List ℕ) → (time < 2 ^ 64) × IsHost host → AreTexts host time config pack index snapshot → IsBackedUp config pack index snapshot
 
 -- the same, and then a second client, a restore of the snapshot, is complete: the folder has no entry, as what was backed up
-pub record IsGivenBack (config snapshot : List ℕ) : Type 0 where
+pub record IsGivenBack (config pack index snapshot : List ℕ) : Type 0 where
   pub events : List Event
   pub last : World
   pub run : Run (beginning (configured config)) events last
   pub reported : (client last 0).outcome ≡ Some (stored snapshot)
   pub restores : (client last 1).job ≡ Job.Restore (naming.name snapshot)
   pub complete : (client last 1).outcome ≡ Some (Outcome.Complete 0)
+  pub calm : AreApart config pack index snapshot → HasNoClash last
 
 -- with any such texts there is such a run
 abbrev pub RestoreIsARun : Type 0
-RestoreIsARun = (host : List ℕ) (time : ℕ) (config pack index snapshot : List ℕ) → (time < 2 ^ 64) × IsHost host → AreTexts host time config pack index snapshot → IsGivenBack config snapshot
+RestoreIsARun = (host : List ℕ) (time : ℕ) (config pack index snapshot : List ℕ) → (time < 2 ^ 64) × IsHost host → AreTexts host time config pack index snapshot → IsGivenBack config pack index snapshot
 
 -- the same, and then a second client, a prune, is done: it keeps the pack, and puts its index again
-pub record IsTidied (config snapshot : List ℕ) : Type 0 where
+pub record IsTidied (config pack index snapshot : List ℕ) : Type 0 where
   pub events : List Event
   pub last : World
   pub run : Run (beginning (configured config)) events last
   pub reported : (client last 0).outcome ≡ Some (stored snapshot)
   pub prunes : (client last 1).job ≡ Job.Prune
   pub pruned : (client last 1).outcome ≡ Some (Outcome.Pruned 0 0)
+  pub calm : AreApart config pack index snapshot → HasNoClash last
 
 -- with any such texts there is such a run
 abbrev pub PruneIsARun : Type 0
-PruneIsARun = (host : List ℕ) (time : ℕ) (config pack index snapshot : List ℕ) → (time < 2 ^ 64) × IsHost host → AreTexts host time config pack index snapshot → IsTidied config snapshot
+PruneIsARun = (host : List ℕ) (time : ℕ) (config pack index snapshot : List ℕ) → (time < 2 ^ 64) × IsHost host → AreTexts host time config pack index snapshot → IsTidied config pack index snapshot
 
 -- the same; then a second client, a forget of names, forgets the snapshot; then a third, a prune, deletes the index and the pack, and no object is left
-pub record IsForgottenInRun (names : List Name) (config snapshot : List ℕ) : Type 0 where
+pub record IsForgottenInRun (names : List Name) (config pack index snapshot : List ℕ) : Type 0 where
   pub events : List Event
   pub last : World
   pub run : Run (beginning (configured config)) events last
@@ -103,8 +117,9 @@ pub record IsForgottenInRun (names : List Name) (config snapshot : List ℕ) : T
   pub prunes : (client last 2).job ≡ Job.Prune
   pub pruned : (client last 2).outcome ≡ Some (Outcome.Pruned 1 0)
   pub none_left : (k : Kind) (n : Name) → last.store.objects k n ≡ None
+  pub calm : AreApart config pack index snapshot → HasNoClash last
 
 -- with any such texts, and any names that the snapshot's is among, there is such a run
 abbrev pub ForgetIsARun : Type 0
 ForgetIsARun = (host : List ℕ) (time : ℕ) (config pack index snapshot : List ℕ) (names : List Name) → (time < 2 ^ 64) × IsHost host → AreTexts host time config pack index snapshot → Contains names (naming.name snapshot)
-    → IsForgottenInRun names config snapshot
+    → IsForgottenInRun names config pack index snapshot

@@ -4,6 +4,7 @@ pub mod BagLaws
 pub mod Lone
 pub mod Example
 pub mod Backed
+pub mod SomeTexts
 pub mod WrongDeletes
 pub mod WrongLocks
 pub mod WrongPacksFirst

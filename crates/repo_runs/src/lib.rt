@@ -8,7 +8,8 @@
 //!
 //! And that the rules can be met: what a client does that is alone with its store is a part of a run ([`lone_talk_is_a_run`]); a run
 //! in which a call of the device fails, a message is delivered late and a lock is removed ([`example_is_a_run`]); runs of a backup, a
-//! restore, a forget and prunes to their ends ([`backup_is_a_run`]). And wrong rules, with what they break.
+//! restore, a forget and prunes to their ends ([`backup_is_a_run`]), in whose last worlds nothing clashes
+//! ([`nothing_clashes_in_runs`]). And wrong rules, with what they break.
 //!
 //! Premise of the laws that begin with a store without objects: no two byte lists clash in the last world.
 //!
@@ -16,7 +17,7 @@
 //! law of that crate.
 //!
 //! The definitions of the world stand in `repo_world`. Those of the laws stand in `specs/`: `Laws`, `BagLaws`; for how the rules are met,
-//! `Lone`, `Example`, `Backed`; and wrong rules, a file each.
+//! `Lone`, `Example`, `Backed`, `SomeTexts`; and wrong rules, a file each.
 #![tactic(auto)]
 
 mod bag_laws;
@@ -31,8 +32,8 @@ pub use bag_laws::{
     upgrade_keeps_bag, upgraded_is_of_version,
 };
 pub use examples::{
-    backup_is_a_run, example_is_a_run, forget_is_a_run, lone_talk_is_a_run, prune_is_a_run,
-    restore_is_a_run,
+    backup_is_a_run, example_is_a_run, forget_is_a_run, lone_talk_is_a_run,
+    nothing_clashes_in_runs, prune_is_a_run, restore_is_a_run, some_texts_are_apart,
 };
 pub use laws::{
     each_event_keeps_reports, each_report_holds, events_only_append, every_snapshot_is_restored,
