@@ -28,6 +28,7 @@ pub may_step : (entries : List Entry) (who : Asker) (Knows : Ask → Trace → T
     → MayStep (backup_rule entries) who Knows es e step
 may_step entries who Knows e es (Step.Ask ask) none h = (inl none, h)
 may_step entries who Knows e es (Step.Finish outcome) none h = (inl none, h)
+may_step entries who Knows e es Step.Want none h = absurd h
 may_step entries who Knows e es Step.Away none h = absurd h
 
 -- a backup gives nothing out, told or not

@@ -35,11 +35,11 @@ use Rattle.repo_name.specs.Limits.{facts_limit}
 
 -- a backup is made under a shared lock
 abbrev pub backup_task : Asker → Task
-backup_task who = record { who = who; exclusive = false; snapshot = None; versions = Versions.One }
+backup_task who = record { who = who; exclusive = false; snapshot = None; versions = Versions.One; notes = false }
 
 -- what a backup of these entries may ask, give out and conclude; a refusal takes it no memory
 abbrev pub backup_rule : List Entry → Rule
-backup_rule entries = record { exclusive = false; snapshot = None; versions = Versions.One; calm = ⊤; allows = BackupAllows entries; gives = BackupGives entries; concludes = BackupConcludes entries }
+backup_rule entries = record { exclusive = false; snapshot = None; versions = Versions.One; notes = false; calm = ⊤; allows = BackupAllows entries; gives = BackupGives entries; concludes = BackupConcludes entries; wanting = λ es. ⊥ }
 
 -- nothing was listed, and the steps of a folder are planned
 pub record IsNewBackup (c : Catalog) (stage : Stage) : Type 0 where
@@ -112,6 +112,7 @@ KnowsBackup entries c stage ask es = KnowsReading entries c stage ask es ⊎ Kno
 abbrev pub IsNextStep : List Entry → Asker → (Ask → Trace → Type 0) → Step → Trace → Type 0
 IsNextStep entries who Knows (Step.Ask ask) es = MayAsk (backup_rule entries) who Knows es ask
 IsNextStep entries who Knows (Step.Finish outcome) es = Concludes (upto Versions.One) (BackupConcludes entries) es outcome
+IsNextStep entries who Knows Step.Want es = ⊥
 IsNextStep entries who Knows Step.Away es = ⊥
 
 -- ---- what is sent next

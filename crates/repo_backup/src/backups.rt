@@ -62,6 +62,8 @@ impl Client for Backup {
 
     ghost calm = { λ j. ⊤ };
 
+    ghost wanting = { λ j es. ⊥ };
+
     ghost allows = { λ j. BackupAllows j.entries };
 
     ghost gives = { λ j. BackupGives j.entries };

@@ -153,6 +153,8 @@ impl Job for BackupJob {
 
     ghost knows = { Knows };
 
+    ghost wants = { λ j es. ⊥ };
+
     ghost given = { λ j. [] };
 
     fn is_exclusive(&self) -> bool {

@@ -10,7 +10,7 @@ use Rattle.repo_tree.specs.SnapshotText.{SnapshotFault}
 use Rattle.repo_tree.specs.declared.faults.TextError.{TextError}
 use Rattle.repo_session.specs.Versions.{snapshot_version}
 use Rattle.repo_session.proofs.Faulting.{snapshot_fault}
-use Rattle.repo_session.specs.Ends.{IsOfOtherVersion}
+use Rattle.repo_session.specs.Ends.{IsOfOtherVersion, TellsFault}
 use Rattle.repo_wire.specs.declared.messages.Ask.{Ask}
 use Rattle.repo_wire.specs.declared.messages.Code.{Code}
 use Rattle.repo_wire.specs.declared.messages.Say.{Say}
@@ -71,3 +71,46 @@ snapshot_misread n x say error SnapshotLook.Unwelcome h named fault is = absurd 
 pub ok_then : {T E : Type 0} (P Q : T → Type 0) (r : Result T E) → ((x : T) → P x → Q x) → IfOk r P → IfOk r Q
 ok_then P Q (Ok x) f h = f x h
 ok_then P Q (Err e) f h = h
+
+-- a reply tells no fault but by these refusals
+pub object_untold : (k : Kind) (n : Name) (say : Say) → say ≢ Say.Refused Code.Missing → TellsFault (Ask.Get k n) say → ⊥
+object_untold k n (Say.Refused Code.Malformed) missing tells = tells
+object_untold k n (Say.Refused Code.Dead) missing tells = tells
+object_untold k n (Say.Refused Code.Busy) missing tells = tells
+object_untold k n (Say.Refused Code.NotExclusive) missing tells = tells
+object_untold k n (Say.Refused Code.Missing) missing tells = missing refl
+object_untold k n (Say.Refused Code.NameMismatch) missing tells = tells
+object_untold k n (Say.Refused Code.TooLarge) missing tells = tells
+object_untold k n (Say.Refused Code.Range) missing tells = tells
+object_untold k n (Say.Refused Code.OtherKind) missing tells = tells
+object_untold k n (Say.Refused Code.Fault) missing tells = tells
+object_untold k n (Say.Refused Code.NoMemory) missing tells = tells
+object_untold k n (Say.Refused Code.Full) missing tells = tells
+object_untold k n (Say.Refused Code.Exhausted) missing tells = tells
+object_untold k n (Say.Refused Code.AppendOnly) missing tells = tells
+object_untold k n (Say.Token token) missing tells = tells
+object_untold k n Say.Done missing tells = tells
+object_untold k n (Say.Names more names) missing tells = tells
+object_untold k n (Say.Bytes x) missing tells = tells
+object_untold k n (Say.LockList rows) missing tells = tells
+
+pub part_untold : (pack : Name) (offset len : ℕ) (say : Say) → say ≢ Say.Refused Code.Missing → say ≢ Say.Refused Code.Range → TellsFault (Ask.Range pack offset len) say → ⊥
+part_untold pack offset len (Say.Refused Code.Malformed) missing range tells = tells
+part_untold pack offset len (Say.Refused Code.Dead) missing range tells = tells
+part_untold pack offset len (Say.Refused Code.Busy) missing range tells = tells
+part_untold pack offset len (Say.Refused Code.NotExclusive) missing range tells = tells
+part_untold pack offset len (Say.Refused Code.Missing) missing range tells = missing refl
+part_untold pack offset len (Say.Refused Code.NameMismatch) missing range tells = tells
+part_untold pack offset len (Say.Refused Code.TooLarge) missing range tells = tells
+part_untold pack offset len (Say.Refused Code.Range) missing range tells = range refl
+part_untold pack offset len (Say.Refused Code.OtherKind) missing range tells = tells
+part_untold pack offset len (Say.Refused Code.Fault) missing range tells = tells
+part_untold pack offset len (Say.Refused Code.NoMemory) missing range tells = tells
+part_untold pack offset len (Say.Refused Code.Full) missing range tells = tells
+part_untold pack offset len (Say.Refused Code.Exhausted) missing range tells = tells
+part_untold pack offset len (Say.Refused Code.AppendOnly) missing range tells = tells
+part_untold pack offset len (Say.Token token) missing range tells = tells
+part_untold pack offset len Say.Done missing range tells = tells
+part_untold pack offset len (Say.Names more names) missing range tells = tells
+part_untold pack offset len (Say.Bytes x) missing range tells = tells
+part_untold pack offset len (Say.LockList rows) missing range tells = tells

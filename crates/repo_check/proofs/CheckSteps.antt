@@ -5,7 +5,7 @@ use Rattle.std.proofs.lemmas.Bool.{eqb-false, eqb-true}
 use Rattle.repo_wire.specs.declared.messages.Ask.{Ask}
 use Rattle.repo_session.specs.Versions.{snapshot_version}
 use Rattle.repo_session.specs.Askers.{Asker}
-use Rattle.repo_session.specs.Ends.{Concludes}
+use Rattle.repo_session.specs.Ends.{MayConclude}
 use Rattle.repo_session.specs.Jobs.{MayAsk}
 use Rattle.repo_session.specs.Order.{IsReading, IsWork, May}
 use Rattle.repo_session.specs.Traces.{Trace}
@@ -59,10 +59,10 @@ may_ask j who es ask may knows =
     let reads = survey_reads _ _ ask es knows in
     record { work = reads_works ask reads; may = may; allowed = reads; knows = knows }
 
--- an outcome by the rule alone
-pub concludes : (es : Trace) (outcome : Outcome) → CheckConcludes es outcome → Concludes snapshot_version CheckConcludes es outcome
-concludes es (Outcome.Clean snapshots indexes packs blobs) h = h
-concludes es (Outcome.Faults faults) h = h
+-- an outcome by the rule alone, which is no fault
+pub concludes : (es : Trace) (outcome : Outcome) → CheckConcludes es outcome → MayConclude snapshot_version true CheckConcludes es outcome
+concludes es (Outcome.Clean snapshots indexes packs blobs) h = (h, tt)
+concludes es (Outcome.Faults faults) h = (h, tt)
 concludes es Outcome.Upgraded h = absurd h
 concludes es (Outcome.Stored name blobs bytes) h = absurd h
 concludes es (Outcome.Complete entries) h = absurd h

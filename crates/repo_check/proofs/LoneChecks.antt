@@ -237,7 +237,7 @@ module _ (who : Asker) (from : Store) where
 
 pub clean_is_of_sound : CleanIsOfSound
 clean_is_of_sound who from to failed failing talk next snapshots indexes packs blobs apart ran is =
-    clean_before who from talk to is.obeys (led from talk to ran.run) apart snapshots indexes packs blobs (is.concluded (Outcome.Clean snapshots indexes packs blobs) refl)
+    clean_before who from talk to is.obeys (led from talk to ran.run) apart snapshots indexes packs blobs (is.concluded (Outcome.Clean snapshots indexes packs blobs) refl).0
 
 -- ---- how a check ends
 

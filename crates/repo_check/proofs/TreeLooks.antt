@@ -13,7 +13,7 @@ use Rattle.repo_check.specs.Answers.{Answer}
 use Rattle.repo_check.specs.Findings.{IsTreeAt}
 use Rattle.repo_check.specs.Measures.{IsFaultyTree, IsTreeAnswer, LooksAtTree, LooksAtNone}
 use Rattle.repo_check.specs.declared.trees.TreeLook.{TreeLook}
-use Rattle.repo_check.proofs.Arriving.{with_bytes}
+use Rattle.repo_check.proofs.Arriving.{part_untold, with_bytes}
 
 tree_answer : (n : Name) (x : List ℕ) (say : Say) → say ≡ Say.Bytes x → IsTreeAnswer n say (with_bytes n x)
 tree_answer n x say h = subst (λ s. IsTreeAnswer n s (with_bytes n x)) (sym h) (refl, refl)
@@ -40,4 +40,4 @@ tree_none facts fact say (TreeLook.Read links right) unwelcome h = absurd h
 tree_none facts fact say (TreeLook.Fault what) unwelcome h =
     let a : Answer = record { name = fact.name; bytes = None } in
     subst (λ w. TreeFaultOf fact say w) (sym h.0) (a, absent fact.name say h.1, refl)
-tree_none facts fact say TreeLook.Unwelcome unwelcome h = (unwelcome, h)
+tree_none facts fact say TreeLook.Unwelcome unwelcome h = (unwelcome, part_untold fact.place.pack fact.place.offset fact.place.length say h.0 h.1)

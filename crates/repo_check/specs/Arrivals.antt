@@ -16,7 +16,7 @@ use Rattle.repo_tree.specs.SnapshotText.{IsSnapshotText}
 use Rattle.repo_tree.specs.declared.faults.TextError.{TextError}
 use Rattle.repo_tree.specs.declared.snapshots.Snapshot.{Snapshot}
 use Rattle.repo_session.specs.Versions.{snapshot_version}
-use Rattle.repo_session.specs.Ends.{IsOfOtherVersion, IsUnwelcome}
+use Rattle.repo_session.specs.Ends.{IsOfOtherVersion, IsUnwelcome, TellsFault}
 use Rattle.repo_session.specs.declared.outcomes.FaultKind.{FaultKind}
 use Rattle.repo_check.specs.Answers.{Answer, Gathered}
 use Rattle.repo_check.specs.Findings.{ObjectIs}
@@ -31,12 +31,16 @@ IsAnswer n (Say.Bytes x) a = (a.name ≡ n) × (a.bytes ≡ Some x)
 IsAnswer n (Say.Refused Code.Missing) a = (a.name ≡ n) × (a.bytes ≡ None)
 IsAnswer n _ a = ⊥
 
+-- a refusal, or a reply of another sort, that tells nothing of what was asked for
+abbrev pub TellsNothing : Ask → Say → Type 0
+TellsNothing ask say = IsUnwelcome ask say × ¬ TellsFault ask say
+
 -- bytes of the name; others; none, as it isn't there; or the reply is another refusal, or of another sort
 abbrev pub ArrivesAs : Kind → Name → Say → Arrival → Type 0
 ArrivesAs k n say (Arrival.Named bytes) = (say ≡ Say.Bytes bytes.now) × (naming.name bytes.now ≡ n)
 ArrivesAs k n say Arrival.Misnamed = (x : List ℕ) × (say ≡ Say.Bytes x) × (naming.name x ≢ n)
 ArrivesAs k n say Arrival.Absent = say ≡ Say.Refused Code.Missing
-ArrivesAs k n say Arrival.Unwelcome = IsUnwelcome (Ask.Get k n) say × (say ≢ Say.Refused Code.Missing)
+ArrivesAs k n say Arrival.Unwelcome = TellsNothing (Ask.Get k n) say
 
 -- the answer's bytes have its name
 abbrev pub AnswersBytes : Answer → List ℕ → Type 0
@@ -68,7 +72,7 @@ abbrev pub LooksAtSnapshot : Name → Say → SnapshotLook → Type 0
 LooksAtSnapshot n say (SnapshotLook.Root root) = (a : Answer) × IsAnswer n say a × IsRootOf a root
 LooksAtSnapshot n say (SnapshotLook.Fault what) = (a : Answer) × IsAnswer n say a × IsFaulty Kind.Snapshot a what
 LooksAtSnapshot n say SnapshotLook.Version = IsOfOtherVersion snapshot_version (Ask.Get Kind.Snapshot n) say
-LooksAtSnapshot n say SnapshotLook.Unwelcome = IsUnwelcome (Ask.Get Kind.Snapshot n) say × (say ≢ Say.Refused Code.Missing)
+LooksAtSnapshot n say SnapshotLook.Unwelcome = TellsNothing (Ask.Get Kind.Snapshot n) say
 
 -- why a snapshot can't be read, and what is told of it then
 abbrev pub MisreadAs : TextError → SnapshotLook → Type 0
@@ -80,10 +84,10 @@ MisreadAs error _ = ⊥
 abbrev pub LooksAtIndex : Name → Say → IndexLook → Type 0
 LooksAtIndex n say (IndexLook.Read packs) = (a : Answer) × IsAnswer n say a × IsIndexOf a packs
 LooksAtIndex n say (IndexLook.Fault what) = (a : Answer) × IsAnswer n say a × IsFaulty Kind.Index a what
-LooksAtIndex n say IndexLook.Unwelcome = IsUnwelcome (Ask.Get Kind.Index n) say × (say ≢ Say.Refused Code.Missing)
+LooksAtIndex n say IndexLook.Unwelcome = TellsNothing (Ask.Get Kind.Index n) say
 
 -- of a pack
 abbrev pub LooksAtPack : Name → Say → PackLook → Type 0
 LooksAtPack n say (PackLook.Read facts) = (a : Answer) × IsAnswer n say a × IsPackOf a facts
 LooksAtPack n say (PackLook.Fault what) = (a : Answer) × IsAnswer n say a × IsFaulty Kind.Pack a what
-LooksAtPack n say PackLook.Unwelcome = IsUnwelcome (Ask.Get Kind.Pack n) say × (say ≢ Say.Refused Code.Missing)
+LooksAtPack n say PackLook.Unwelcome = TellsNothing (Ask.Get Kind.Pack n) say

@@ -81,7 +81,7 @@ IsFaultyTree place a FaultKind.Unindexed = ⊥
 abbrev pub LooksAtTree : List Fact → Fact → Say → TreeLook → Type 0
 LooksAtTree facts fact say (TreeLook.Read links right) = (a : Answer) × IsTreeAnswer fact.name say a × IsReadAs facts fact.place a links right
 LooksAtTree facts fact say (TreeLook.Fault what) = (a : Answer) × IsTreeAnswer fact.name say a × IsFaultyTree fact.place a what
-LooksAtTree facts fact say TreeLook.Unwelcome = IsUnwelcome (range_of fact) say × ((say ≢ Say.Refused Code.Missing) × (say ≢ Say.Refused Code.Range))
+LooksAtTree facts fact say TreeLook.Unwelcome = TellsNothing (range_of fact) say
 
 -- of one that brings no bytes
 abbrev pub LooksAtNone : Say → TreeLook → Type 0

@@ -6,13 +6,13 @@ use Rattle.repo_name.specs.declared.tokens.Token.{Token}
 use Rattle.repo_wire.specs.declared.messages.Ask.{Ask}
 use Rattle.repo_wire.specs.declared.messages.Say.{Say}
 use Rattle.repo_session.specs.Versions.{snapshot_version}
-use Rattle.repo_session.specs.Ends.{IsOfOtherVersion, IsSenseless, IsUnwelcome}
+use Rattle.repo_session.specs.Ends.{IsOfOtherVersion, IsSenseless}
 use Rattle.repo_session.specs.Jobs.{IsShort}
 use Rattle.repo_session.specs.Order.{Task, IsWorking, May}
 use Rattle.repo_session.specs.Rolls.{IsPaged, IsRolled}
 use Rattle.repo_session.specs.Traces.{Each, Exchange, Trace, silent}
 use Rattle.repo_check.specs.Answers.{Answer}
-use Rattle.repo_check.specs.Arrivals.{IsFaulty}
+use Rattle.repo_check.specs.Arrivals.{IsFaulty, TellsNothing}
 use Rattle.repo_check.specs.Checking.{CameFor}
 use Rattle.repo_check.specs.declared.rounds.Note.{Note}
 use Rattle.repo_check.specs.declared.rounds.Round.{Round}
@@ -81,7 +81,7 @@ TurnsOn task k round (Turn.Ask ask) e es = KnowsRound k round ask (e ∷ es) × 
 TurnsOn task k round Turn.All e es = IsWholeRound k round (e ∷ es)
 TurnsOn task k round Turn.Senseless e es = IsSenseless e.ask e.say
 TurnsOn task k round Turn.Version e es = IsOfOtherVersion snapshot_version e.ask e.say
-TurnsOn task k round Turn.Away e es = IsUnwelcome e.ask e.say
+TurnsOn task k round Turn.Away e es = TellsNothing e.ask e.say
 
 -- what a page comes to, after each trace at whose end it was asked for
 abbrev pub PagesRound : {T : Type 0} → RoundView T → Say → Turn → RoundView T → Type 0

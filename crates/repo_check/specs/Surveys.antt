@@ -14,14 +14,14 @@ use Rattle.repo_session.specs.Versions.{snapshot_version, upto}
 use Rattle.repo_session.specs.declared.outcomes.CheckFault.{CheckFault}
 use Rattle.repo_session.specs.declared.outcomes.FaultKind.{FaultKind}
 use Rattle.repo_session.specs.Blobs.{range_of}
-use Rattle.repo_session.specs.Ends.{IsOfOtherVersion, IsSenseless, IsUnwelcome}
+use Rattle.repo_session.specs.Ends.{IsOfOtherVersion, IsSenseless}
 use Rattle.repo_session.specs.Jobs.{IsShort}
 use Rattle.repo_session.specs.Order.{Task, IsWorking, May, last_of, opened}
 use Rattle.repo_session.specs.Traces.{Exchange, Trace, silent}
 use Rattle.repo_reach.specs.declared.links.Links.{Links}
 use Rattle.repo_tree.specs.Spelling.{greatest_depth}
 use Rattle.repo_check.specs.Answers.{Answer, Gathered, IsDeepest, IsReachedBlob}
-use Rattle.repo_check.specs.Arrivals.{IsIndexOf, IsPackOf, IsRootOf}
+use Rattle.repo_check.specs.Arrivals.{IsIndexOf, IsPackOf, IsRootOf, TellsNothing}
 use Rattle.repo_check.specs.Checking.{AreAnswers, IsFaultOf}
 use Rattle.repo_check.specs.Findings.{BlobIs}
 use Rattle.repo_check.specs.Gathering.{AreNamesOnce, facts_noted, fault_noted, root_noted}
@@ -114,7 +114,7 @@ SurveysOn task rounds walk (Next.Ask ask) e es = Surveys rounds walk ask (e ∷ 
 SurveysOn task rounds walk Next.Over e es = IsSurveyed rounds walk (e ∷ es)
 SurveysOn task rounds walk Next.Senseless e es = IsSenseless e.ask e.say
 SurveysOn task rounds walk Next.Version e es = IsOfOtherVersion snapshot_version e.ask e.say
-SurveysOn task rounds walk Next.Away e es = IsUnwelcome e.ask e.say
+SurveysOn task rounds walk Next.Away e es = TellsNothing e.ask e.say
 
 -- what is asked next fits a frame
 abbrev pub IsShortNext : Next → Type 0

@@ -11,10 +11,10 @@ use Rattle.repo_index.specs.declared.facts.Fact.{Fact}
 use Rattle.repo_reach.specs.declared.links.Links.{Links}
 use Rattle.repo_session.specs.Blobs.{range_of}
 use Rattle.repo_session.specs.Catalogs.{IsBlobNowhere}
-use Rattle.repo_session.specs.Ends.{IsUnwelcome}
 use Rattle.repo_session.specs.Traces.{Trace}
 use Rattle.repo_session.specs.declared.outcomes.FaultKind.{FaultKind}
 use Rattle.repo_check.specs.Answers.{Answer}
+use Rattle.repo_check.specs.Arrivals.{TellsNothing}
 use Rattle.repo_check.specs.Checking.{IsRanged}
 use Rattle.repo_check.specs.Levels.{LinksOfTrees, AreBelow}
 use Rattle.repo_check.specs.Measures.{IsFaultyTree, IsReadAs, IsTreeAnswer}
@@ -173,7 +173,7 @@ pub record WalkReads (walk : WalkView) (answers : List Answer) (es : Trace) : Ty
 -- what is told of a reply to the request for the tree of a fact; or it tells nothing
 abbrev pub NotesTree : List Fact → Fact → Say → Option TreeNote → Type 0
 NotesTree facts fact say (Some note) = (a : Answer) × IsTreeAnswer fact.name say a × IsTold facts fact.place a note.links note.fault
-NotesTree facts fact say None = IsUnwelcome (range_of fact) say
+NotesTree facts fact say None = TellsNothing (range_of fact) say
 
 -- a note says something: that the tree reads, or what is at fault of it
 abbrev pub IsSomething : TreeNote → Type 0

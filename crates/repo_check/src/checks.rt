@@ -62,6 +62,8 @@ impl Job for CheckJob {
 
     ghost knows = { KnowsCheck };
 
+    ghost wants = { λ j es. ⊥ };
+
     ghost given = { λ j. [] };
 
     fn is_exclusive(&self) -> bool {
@@ -135,6 +137,8 @@ impl Client for Check {
     ghost concludes = { λ j. CheckConcludes };
 
     ghost calm = { λ j. ⊥ };
+
+    ghost wanting = { λ j es. ⊥ };
 
     ghost fits = { FitsCheck };
 

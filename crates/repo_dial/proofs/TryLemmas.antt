@@ -7,7 +7,7 @@ use Rattle.repo_wire.specs.declared.messages.Request.{Request}
 use Rattle.repo_wire.specs.declared.messages.Say.{Say}
 use Rattle.repo_session.specs.declared.driving.DriveError.{DriveError}
 use Rattle.repo_session.specs.declared.outcomes.Outcome.{Outcome}
-use Rattle.repo_session.specs.Clients.{IsObedient, TellsToken}
+use Rattle.repo_session.specs.Clients.{IsObedientWith, TellsToken}
 use Rattle.repo_session.specs.Order.{Task, locked, May}
 use Rattle.repo_session.specs.Traces.{Exchange, Exchanged, Trace}
 use Rattle.repo_dial.specs.Dialing.{Asking, Call, Coming, ConnectionEnds, Driven, DrivenOver, Try, Turned, Carried, Dials, EndsOwnLock, HasMet, IsFarewell, TakesLeave, TryGives, as_try, dialed_in, ends_met, farewell_of, token_to_end, unlock_in_place}
@@ -48,8 +48,9 @@ token_given task es (Ask.Delete t k n) ended told token may tells is = tells.giv
 token_given task es (Ask.Upgrade t) ended told token may tells is = tells.given token is
 token_given task es Ask.Config ended told token may tells is = tells.given token is
 
-module _ {C : Type 0} (Fits : C → Trace → Type 0) (client : C) (task : Task) (Allows : Trace → Ask → Type 0) (Gives : Trace → Exchange → Type 0) (Own : Trace → Outcome → Type 0) where
-  ends_next : (request : Request) (ended : Option Outcome) (told : Option Token) → ((es : Trace) → Fits client es → IsObedient task Allows Gives Own (Some request) ended es)
+module _ {C : Type 0} (Fits : C → Trace → Type 0) (client : C) (task : Task) (Allows : Trace → Ask → Type 0) (Gives : Trace → Exchange → Type 0) (Own : Trace → Outcome → Type 0)
+    (Wanting : Trace → Type 0) where
+  ends_next : (request : Request) (ended : Option Outcome) (told : Option Token) → ((es : Trace) → Fits client es → IsObedientWith task Allows Gives Own Wanting (Some request) ended es)
       → ((es : Trace) → Fits client es → TellsToken told ended es) → (left : ConnectionEnds) (asking : Asking) (o : Option Token) → token_to_end request.ask told ≡ o
       → IsFarewell (option_map (λ token. unlock_in_place request token) o) left (Some asking) → EndsOwnLock Fits client (Some asking)
   ends_next request ended told obeys tells left asking None is h = absurd (cc)
@@ -57,7 +58,7 @@ module _ {C : Type 0} (Fits : C → Trace → Type 0) (client : C) (task : Task)
       (token, ap (λ (r : Request). r.ask) h.1, λ es fits. token_given task es request.ask ended told token ((obeys es fits).pending request refl).may (tells es fits) is)
 
   -- what is asked for is the end of the client's own lock
-  pub ends_own : (next : Option Request) (ended : Option Outcome) (told : Option Token) → ((es : Trace) → Fits client es → IsObedient task Allows Gives Own next ended es)
+  pub ends_own : (next : Option Request) (ended : Option Outcome) (told : Option Token) → ((es : Trace) → Fits client es → IsObedientWith task Allows Gives Own Wanting next ended es)
       → ((es : Trace) → Fits client es → TellsToken told ended es) → (left : ConnectionEnds) (farewell : Option Asking) → IsFarewell (farewell_of next told) left farewell → EndsOwnLock Fits client farewell
   ends_own next ended told obeys tells left None h = tt
   ends_own None ended told obeys tells left (Some asking) h = absurd (cc)

@@ -8,7 +8,7 @@ use Rattle.repo_wire.specs.declared.messages.Request.{Request}
 use Rattle.repo_wire.specs.declared.messages.Say.{Say}
 use Rattle.repo_session.specs.declared.outcomes.Outcome.{Outcome}
 use Rattle.repo_session.specs.Askers.{Asker}
-use Rattle.repo_session.specs.Clients.{IsObedient}
+use Rattle.repo_session.specs.Clients.{IsObedientWith}
 use Rattle.repo_session.specs.Jobs.{Rule, task_under}
 use Rattle.repo_session.specs.Talks.{Talk, IsTurn, AreNumbered, IsHeard, WritesPart, first_carried, sent_in, trace_of}
 use Rattle.repo_session.specs.Traces.{Each, Exchanged, Trace}
@@ -16,7 +16,7 @@ use Rattle.repo_dial.specs.Dialing.{Asking, Call, Coming, Try, Missed, Turned, C
 
 -- a client stands at a trace by its job's rule
 abbrev pub IsObedientBy : Rule → Asker → Option Request → Option Outcome → Trace → Type 0
-IsObedientBy rule who next outcome es = IsObedient (task_under rule who) rule.allows rule.gives rule.concludes next outcome es
+IsObedientBy rule who next outcome es = IsObedientWith (task_under rule who) rule.allows rule.gives rule.concludes rule.wanting next outcome es
 
 -- what is asked for behind a job is the end of the lock of its own ticket
 abbrev pub EndsLockOf : Trace → Option Asking → Type 0

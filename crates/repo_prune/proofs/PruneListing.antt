@@ -354,6 +354,7 @@ later_known j Ask.Config es h = h
 pub may_step : (j : PruneJob) (who : Asker) (e : Exchange) (es : Trace) (step : Step) → e.emitted ≡ [] → IsNextStep (known_in j) who j.stage step (e ∷ es) → MayStep prune_rule who (KnowsPrune j) es e step
 may_step j who e es (Step.Ask ask) none h = (inl none, record { work = h.work; may = h.may; allowed = h.allowed; knows = later_known j ask (e ∷ es) h.knows })
 may_step j who e es (Step.Finish outcome) none h = (inl none, h)
+may_step j who e es Step.Want none h = absurd h
 may_step j who e es Step.Away none h = absurd h
 
 -- the stage and the step of what comes next

@@ -307,6 +307,7 @@ KnowsPrune j ask es = KnowsStage (known_in j) j.stage ask es
 abbrev pub IsNextStep : Known → Asker → Stage → Step → Trace → Type 0
 IsNextStep k who stage (Step.Ask ask) es = MayAsk prune_rule who (KnowsStage k stage) es ask
 IsNextStep k who stage (Step.Finish outcome) es = Concludes (upto Versions.One) PruneConcludes es outcome
+IsNextStep k who stage Step.Want es = ⊥
 IsNextStep k who stage Step.Away es = ⊥
 
 -- after each trace of which this is known

@@ -22,7 +22,7 @@ pub record HasReadVersion (es : Trace) (version : ℕ) : Type 0 where
 
 -- it is done under a lock of its own
 abbrev pub upgrade_task : Asker → Task
-upgrade_task who = record { who = who; exclusive = true; snapshot = None; versions = who.versions }
+upgrade_task who = record { who = who; exclusive = true; snapshot = None; versions = who.versions; notes = false }
 
 -- it asks for one thing, once: that the config be of version 2, where the one that it read is of version 1
 abbrev pub UpgradeAllows : Trace → Ask → Type 0
@@ -40,4 +40,4 @@ UpgradeConcludes es _ = ⊥
 
 -- its rule, as a job's
 abbrev pub upgrade_rule : Rule
-upgrade_rule = record { exclusive = true; snapshot = None; versions = Versions.Both; calm = ⊤; allows = UpgradeAllows; gives = UpgradeGives; concludes = UpgradeConcludes }
+upgrade_rule = record { exclusive = true; snapshot = None; versions = Versions.Both; notes = false; calm = ⊤; allows = UpgradeAllows; gives = UpgradeGives; concludes = UpgradeConcludes; wanting = λ es. ⊥ }

@@ -191,6 +191,8 @@ impl Job for ForgetJob {
 
     ghost knows = { KnowsForget };
 
+    ghost wants = { λ j es. ⊥ };
+
     ghost given = { λ f. [] };
 
     fn is_exclusive(&self) -> bool {
@@ -270,6 +272,8 @@ impl Client for Forget {
     ghost concludes = { λ j. ForgetConcludes j.handed };
 
     ghost calm = { λ j. ⊤ };
+
+    ghost wanting = { λ j es. ⊥ };
 
     ghost fits = { FitsForget };
 

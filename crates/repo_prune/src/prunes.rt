@@ -99,6 +99,8 @@ impl Job for PruneJob {
 
     ghost knows = { KnowsPrune };
 
+    ghost wants = { λ j es. ⊥ };
+
     ghost given = { λ j. [] };
 
     fn is_exclusive(&self) -> bool {
@@ -171,6 +173,8 @@ impl Client for Prune {
     ghost concludes = { λ j. PruneConcludes };
 
     ghost calm = { λ j. ⊤ };
+
+    ghost wanting = { λ j es. ⊥ };
 
     ghost fits = { FitsPrune };
 

@@ -27,6 +27,8 @@ impl Job for UpgradeJob {
 
     ghost knows = { KnowsUpgrade };
 
+    ghost wants = { λ j es. ⊥ };
+
     ghost given = { λ u. [] };
 
     fn is_exclusive(&self) -> bool {
@@ -99,6 +101,8 @@ impl Client for Upgrade {
     ghost concludes = { λ who. UpgradeConcludes };
 
     ghost calm = { λ who. ⊤ };
+
+    ghost wanting = { λ j es. ⊥ };
 
     ghost fits = { FitsUpgrade };
 

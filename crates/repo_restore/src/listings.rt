@@ -43,6 +43,8 @@ impl Job for ListJob {
 
     ghost knows = { KnowsList };
 
+    ghost wants = { λ j es. ⊥ };
+
     ghost given = { λ l. [] };
 
     fn is_exclusive(&self) -> bool {
@@ -119,6 +121,8 @@ impl Client for SnapshotList {
     ghost concludes = { ListConcludes };
 
     ghost calm = { λ job. ⊤ };
+
+    ghost wanting = { λ j es. ⊥ };
 
     ghost fits = { FitsList };
 

@@ -201,6 +201,8 @@ impl Job for RestoreJob {
 
     ghost knows = { KnowsRestore };
 
+    ghost wants = { λ j es. ⊥ };
+
     ghost given = { λ j. j.given.items };
 
     fn is_exclusive(&self) -> bool {
@@ -273,6 +275,8 @@ impl Client for Restore {
     ghost concludes = { λ w. RestoreConcludes w.snapshot };
 
     ghost calm = { λ job. ⊤ };
+
+    ghost wanting = { λ j es. ⊥ };
 
     ghost fits = { FitsRestore };
 

@@ -218,7 +218,7 @@ module _ (w : World) (job : Job) (host : List ℕ) (time : ℕ) (accepted : Acce
 
   -- what is shown while this is pending: an outcome beside the end of the lock, else none
   abbrev Shows : Option Outcome → Ask → Trace → Type 0
-  Shows o a es = ((¬ IsUnlock a) × (o ≡ None)) ⊎ (IsUnlock a × ((x : Outcome) × (o ≡ Some x) × ends.Concludes (upto (task_of job who).versions) (JobConcludes job) es x))
+  Shows o a es = ((¬ IsUnlock a) × (o ≡ None)) ⊎ (IsUnlock a × ((x : Outcome) × (o ≡ Some x) × ends.MayConclude (upto (task_of job who).versions) (task_of job who).notes (JobConcludes job) es x))
 
   -- the store's steps over these exchanges
   abbrev pub Stepped : Store → Trace → Store → Type 0
@@ -243,11 +243,11 @@ module _ (w : World) (job : Job) (host : List ℕ) (time : ℕ) (accepted : Acce
     ending = λ r q u. ending (subst (λ (z : Request). IsUnlock z.ask) (sym (same_Some (asked_of (length w.clients) es a) r q)) u) shows;
   }
     where
-      concluded : (x : Outcome) → o ≡ Some x → Shows o a es → ends.Concludes (upto (task_of job who).versions) (JobConcludes job) (ends.before_unlock es) x
+      concluded : (x : Outcome) → o ≡ Some x → Shows o a es → ends.MayConclude (upto (task_of job who).versions) (task_of job who).notes (JobConcludes job) (ends.before_unlock es) x
       concluded x q (inl none) = absurd (none-some x (sym none.1 ∙ q))
       concluded x q (inr s) =
           let same : s.1.0 ≡ x = same_Some s.1.0 x (sym s.1.1 ∙ q) in
-          subst (λ y. ends.Concludes (upto (task_of job who).versions) (JobConcludes job) (ends.before_unlock es) y) same (subst (λ fs. ends.Concludes (upto (task_of job who).versions) (JobConcludes job) fs s.1.0) (sym (whole a may s.0)) s.1.2)
+          subst (λ y. ends.MayConclude (upto (task_of job who).versions) (task_of job who).notes (JobConcludes job) (ends.before_unlock es) y) same (subst (λ fs. ends.MayConclude (upto (task_of job who).versions) (task_of job who).notes (JobConcludes job) fs s.1.0) (sym (whole a may s.0)) s.1.2)
         where
           whole : (b : Ask) → May (task_of job who) es b → IsUnlock b → ends.before_unlock es ≡ es
           whole (Ask.Unlock t) m u = holds_whole (task_of job who) t es m
@@ -348,7 +348,7 @@ module _ (w : World) (job : Job) (host : List ℕ) (time : ℕ) (accepted : Acce
       by_end (inr u) =
           let there = some_of outcome (dutiful.settled refl) in
           let concluded = dutiful.concluded there.0 there.1 in
-          ends_so e es to outcome outcome steps dutiful (inr (u, (there.0, there.1, subst (λ fs. ends.Concludes (upto (task_of job who).versions) (JobConcludes job) fs there.0) (older e.ask u) concluded))) (λ x q. q)
+          ends_so e es to outcome outcome steps dutiful (inr (u, (there.0, there.1, subst (λ fs. ends.MayConclude (upto (task_of job who).versions) (task_of job who).notes (JobConcludes job) fs there.0) (older e.ask u) concluded))) (λ x q. q)
 
 -- ---- a talk
 

@@ -17,13 +17,14 @@ use Rattle.repo_session.specs.declared.sessions.Head.{Head}
 use Rattle.repo_session.specs.Askers.{Asker, Holding, row_of}
 use Rattle.repo_session.specs.Clients.{IsSteady}
 use Rattle.repo_session.specs.Obedience.{beside_unlock}
-use Rattle.repo_session.specs.Ends.{CausedBy, Concludes, IsCause, NumbersAreSpent, IsUnwelcome, before_unlock, without_unlock}
-use Rattle.repo_session.specs.Jobs.{Rule, task_under, known_under, MayAsk, MayBegin, MayStep}
-use Rattle.repo_session.specs.Lines.{IsSentOnLine, IsFinished, IsClosed, or_spent}
+use Rattle.repo_session.specs.Ends.{CausedBy, IsCause, IsUnwelcome, MayConclude, MayPassOn, NumbersAreSpent, before_unlock, without_unlock}
+use Rattle.repo_session.specs.Jobs.{Rule, task_under, known_under, MayAsk, MayBegin, MayTurn, MayGoOn}
+use Rattle.repo_session.specs.Lines.{IsSentOnLine, IsFinished, IsClosed, IsIdle, or_spent}
 use Rattle.repo_session.specs.Obedience.{still_whole, holds_whole}
 use Rattle.repo_session.specs.Order.{Task, ticketed, locked, lock_row, opened, Holds, IsWork, IsUnlock, IsWorking, May, IsPermitted, Obeys}
-use Rattle.repo_session.specs.Sessions.{KnowsAt, SessionWaits, SessionStands, SessionAt, SessionEndsBy, Leaves, FollowsStep, took}
+use Rattle.repo_session.specs.Sessions.{KnowsAt, SessionWaits, SessionWants, SessionRests, SessionStands, SessionAt, SessionEndsBy, Leaves, FollowsStep, took}
 use Rattle.repo_session.specs.Traces.{Each, Exchange, Trace, giving, silent}
+use Rattle.repo_session.proofs.GoingOn.{may_conclude, own_end, passed_on, spent_end, unwelcome_of}
 use Rattle.repo_session.proofs.Holding.{holds_of, unwelcome_ticket, unwelcome_lock, work_no_unlock, working_more}
 
 -- ---- when no lock is held
@@ -74,10 +75,10 @@ is_fenced End.Version = inr (λ x. absurd (cc))
 is_fenced End.DirectoryTooLarge = inr (λ x. absurd (cc))
 is_fenced End.FileTooLarge = inr (λ x. absurd (cc))
 
-module _ (rule : Rule) (holding : Holding) (lock : Option LockRow) (Fresh : Type 0) (Knows : Ask → Trace → Type 0) where
+module _ (rule : Rule) (holding : Holding) (lock : Option LockRow) (Fresh : Type 0) (Knows : Ask → Trace → Type 0) (Wants : Trace → Type 0) where
   -- what is known where a request is pending
-  pub waits_of : (line : Line) (r : Request) (es : Trace) → line.next ≡ Some r → SessionAt rule holding lock Fresh Knows line es → SessionWaits rule holding lock Fresh Knows line r es
-  waits_of line r es p s = subst (λ n. SessionStands rule holding lock Fresh Knows line n es) p s.stands
+  pub waits_of : (line : Line) (r : Request) (es : Trace) → line.next ≡ Some r → SessionAt rule holding lock Fresh Knows Wants line es → SessionWaits rule holding lock Fresh Knows line r es
+  waits_of line r es p s = subst (λ n. SessionStands rule holding lock Fresh Knows Wants line n es) p s.stands
 
   -- ---- what is known of a request of the job
 
@@ -119,8 +120,8 @@ module _ (rule : Rule) (holding : Holding) (lock : Option LockRow) (Fresh : Type
 
   sent : (line now : Line) (ask : Ask) (es : Trace) → IsSentOnLine line ask now → line.instance ≡ holding.who.instance → line.sequence ≡ length es → Obeys (task_under rule holding.who) rule.allows rule.gives es
       → May (task_under rule holding.who) es ask → IsPermitted rule.allows es ask → KnowsAt rule holding lock Fresh Knows line.outcome ask es
-      → ((o : Outcome) → or_spent line.outcome ≡ Some o → NumbersAreSpent es → Concludes (known_under rule holding.who) rule.concludes (before_unlock es) o) → SessionAt rule holding lock Fresh Knows now es
-  sent line now ask es (inl p) i counted obeys may permitted knows ends = subst (λ l. SessionAt rule holding lock Fresh Knows l es) (sym p) (record {
+      → ((o : Outcome) → or_spent line.outcome ≡ Some o → NumbersAreSpent es → MayConclude (known_under rule holding.who) rule.notes rule.concludes (before_unlock es) o) → SessionAt rule holding lock Fresh Knows Wants now es
+  sent line now ask es (inl p) i counted obeys may permitted knows ends = subst (λ l. SessionAt rule holding lock Fresh Knows Wants l es) (sym p) (record {
     instance = i;
     obeys = obeys;
     stands = record { next = record { instance = i; sequence = ap (λ n. n + 1) counted; may = may; permitted = permitted }; counted = ap (λ n. n + 1) counted; knows = knows };
@@ -128,10 +129,10 @@ module _ (rule : Rule) (holding : Holding) (lock : Option LockRow) (Fresh : Type
   sent line now ask es (inr p) i counted obeys may permitted knows ends =
       let o = spent_is line.outcome in
       let many : NumbersAreSpent es = subst (λ n. 2 ^ 64 - 1 ≤ n) counted p.0 in
-      subst (λ l. SessionAt rule holding lock Fresh Knows l es) (sym p.1) (record {
+      subst (λ l. SessionAt rule holding lock Fresh Knows Wants l es) (sym p.1) (record {
         instance = i;
         obeys = obeys;
-        stands = record { outcome = o.0; there = o.1; concluded = ends o.0 o.1 many; released = λ t h. many };
+        stands = inl (record { outcome = o.0; there = o.1; concluded = ends o.0 o.1 many; released = λ t h. many });
       })
 
   spent_cause : (es : Trace) → NumbersAreSpent es → IsCause (known_under rule holding.who) es (End.Refused Code.Exhausted)
@@ -141,42 +142,53 @@ module _ (rule : Rule) (holding : Holding) (lock : Option LockRow) (Fresh : Type
   -- where there is no outcome yet
   pub goes_on : (line now : Line) (ask : Ask) (es : Trace) → IsSentOnLine line ask now → line.instance ≡ holding.who.instance → line.sequence ≡ length es → line.outcome ≡ None → before_unlock es ≡ es
       → Obeys (task_under rule holding.who) rule.allows rule.gives es → May (task_under rule holding.who) es ask → IsPermitted rule.allows es ask → KnowsAt rule holding lock Fresh Knows line.outcome ask es
-      → SessionAt rule holding lock Fresh Knows now es
+      → SessionAt rule holding lock Fresh Knows Wants now es
   goes_on line now ask es s i counted none whole obeys may permitted knows =
       sent line now ask es s i counted obeys may permitted knows (λ o p many.
       let is : Outcome.Ended (End.Refused Code.Exhausted) ≡ o = cc (p, none) in
-      subst (λ x. Concludes (known_under rule holding.who) rule.concludes (before_unlock es) x) is (inl (subst (λ fs. IsCause (known_under rule holding.who) fs (End.Refused Code.Exhausted)) (sym whole) (spent_cause es many))))
+      subst (λ x. MayConclude (known_under rule holding.who) rule.notes rule.concludes (before_unlock es) x) is
+      (may_conclude rule.notes (known_under rule holding.who) rule.concludes (before_unlock es) (Outcome.Ended (End.Refused Code.Exhausted))
+      (inl (subst (λ fs. IsCause (known_under rule holding.who) fs (End.Refused Code.Exhausted)) (sym whole) (spent_cause es many))) (spent_end (before_unlock es))))
+
+  -- the job wants input
+  pub idles : (line now : Line) (es : Trace) → IsIdle line now → line.instance ≡ holding.who.instance → line.sequence ≡ length es → line.outcome ≡ None → Obeys (task_under rule holding.who) rule.allows rule.gives es
+      → IsWorking (task_under rule holding.who) holding.token es → rule.wanting es → Wants es → SessionAt rule holding lock Fresh Knows Wants now es
+  idles line now es idle i counted none obeys working may knows = subst (λ l. SessionAt rule holding lock Fresh Knows Wants l es) (sym idle) (record {
+    instance = i;
+    obeys = obeys;
+    stands = inr (record { working = working; none = none; counted = counted; may = may; knows = knows });
+  })
 
   -- the job ends, with an unlock
   pub finishes : (line now : Line) (o : Outcome) (es : Trace) → IsFinished line o holding.token now → line.instance ≡ holding.who.instance → line.sequence ≡ length es
-      → Obeys (task_under rule holding.who) rule.allows rule.gives es → Holds (task_under rule holding.who) holding.token es → Concludes (known_under rule holding.who) rule.concludes es o → SessionAt rule holding lock Fresh Knows now es
+      → Obeys (task_under rule holding.who) rule.allows rule.gives es → Holds (task_under rule holding.who) holding.token es → MayConclude (known_under rule holding.who) rule.notes rule.concludes es o → SessionAt rule holding lock Fresh Knows Wants now es
   finishes line now o es s i counted obeys held concluded =
       let ended : Line = record { instance = line.instance; sequence = line.sequence; next = line.next; outcome = Some o } in
       let whole = holds_whole (task_under rule holding.who) holding.token es held in
       sent ended now (Ask.Unlock holding.token) es s i counted obeys held (λ w. absurd w) (o, refl, concluded) (λ x p many.
-      let is : o ≡ x = cc in subst (λ y. Concludes (known_under rule holding.who) rule.concludes (before_unlock es) y) is (subst (λ fs. Concludes (known_under rule holding.who) rule.concludes fs o) (sym whole) concluded))
+      let is : o ≡ x = cc in subst (λ y. MayConclude (known_under rule holding.who) rule.notes rule.concludes (before_unlock es) y) is (subst (λ fs. MayConclude (known_under rule holding.who) rule.notes rule.concludes fs o) (sym whole) concluded))
 
   -- the job ends without one
   pub closes : (line now : Line) (o : Outcome) (es : Trace) → IsClosed line o now → line.instance ≡ holding.who.instance → Obeys (task_under rule holding.who) rule.allows rule.gives es
-      → Concludes (known_under rule holding.who) rule.concludes (before_unlock es) o → ((t : Token) → Holds (task_under rule holding.who) t es → NumbersAreSpent es) → SessionAt rule holding lock Fresh Knows now es
-  closes line now o es c i obeys concluded released = subst (λ l. SessionAt rule holding lock Fresh Knows l es) (sym c) (record {
+      → MayConclude (known_under rule holding.who) rule.notes rule.concludes (before_unlock es) o → ((t : Token) → Holds (task_under rule holding.who) t es → NumbersAreSpent es) → SessionAt rule holding lock Fresh Knows Wants now es
+  closes line now o es c i obeys concluded released = subst (λ l. SessionAt rule holding lock Fresh Knows Wants l es) (sym c) (record {
     instance = i;
     obeys = obeys;
-    stands = record { outcome = o; there = refl; concluded = concluded; released = released };
+    stands = inl (record { outcome = o; there = refl; concluded = concluded; released = released });
   })
 
   -- it ends on the newest reply, which is a cause of that
   pub leaves : (old new : Head) (end : End) (e : Exchange) (es : Trace) → Leaves old end new → old.holder ≡ holding → old.line.instance ≡ holding.who.instance → old.line.sequence ≡ length es + 1
-      → Obeys (task_under rule holding.who) rule.allows rule.gives (e ∷ es) → ((t : Token) → e.ask ≢ Ask.Unlock t) → CausedBy (known_under rule holding.who) (e ∷ es) e.ask e.say end → (e.say ≡ Say.Refused Code.Dead → end ≡ End.Fenced)
-      → (e.say ≢ Say.Refused Code.Dead → Holds (task_under rule holding.who) holding.token (e ∷ es)) → SessionAt rule holding lock Fresh Knows new.line (e ∷ es)
-  leaves old new end e es left is i counted obeys plain caused dead held = elim (is_fenced end) [
+      → Obeys (task_under rule holding.who) rule.allows rule.gives (e ∷ es) → ((t : Token) → e.ask ≢ Ask.Unlock t) → CausedBy (known_under rule holding.who) (e ∷ es) e.ask e.say end → MayConclude (known_under rule holding.who) rule.notes rule.concludes (e ∷ es) (Outcome.Ended end)
+      → (e.say ≡ Say.Refused Code.Dead → end ≡ End.Fenced) → (e.say ≢ Say.Refused Code.Dead → Holds (task_under rule holding.who) holding.token (e ∷ es)) → SessionAt rule holding lock Fresh Knows Wants new.line (e ∷ es)
+  leaves old new end e es left is i counted obeys plain caused goes dead held = elim (is_fenced end) [
     | inl fenced ↦
         let say : e.say ≡ Say.Refused Code.Dead = subst (λ x. CausedBy (known_under rule holding.who) (e ∷ es) e.ask e.say x) fenced caused in
-        closes old.line new.line (Outcome.Ended end) (e ∷ es) (left.fenced fenced) i obeys (subst (λ fs. Concludes (known_under rule holding.who) rule.concludes fs (Outcome.Ended end)) (sym (still_whole e es plain)) (inl (inl caused)))
+        closes old.line new.line (Outcome.Ended end) (e ∷ es) (left.fenced fenced) i obeys (subst (λ fs. MayConclude (known_under rule holding.who) rule.notes rule.concludes fs (Outcome.Ended end)) (sym (still_whole e es plain)) goes)
         (λ t h. absurd (dead_free (task_under rule holding.who) e es t say h))
     | inr other ↦
         let n : old.line.sequence ≡ length (e ∷ es) = omega (arith, counted) in
-        finishes old.line new.line (Outcome.Ended end) (e ∷ es) (subst (λ (h : Holding). IsFinished old.line (Outcome.Ended end) h.token new.line) is (left.other other)) i n obeys (held (λ x. other (dead x))) (inl (inl caused))
+        finishes old.line new.line (Outcome.Ended end) (e ∷ es) (subst (λ (h : Holding). IsFinished old.line (Outcome.Ended end) h.token new.line) is (left.other other)) i n obeys (held (λ x. other (dead x))) goes
   ]
 
 -- ---- the replies to the ticket and the lock
@@ -196,10 +208,10 @@ lock_plain row t x = absurd (cc)
 config_plain : (t : Token) → Ask.Config ≢ Ask.Unlock t
 config_plain t x = absurd (cc)
 
-module _ (rule : Rule) (holding : Holding) (lock : Option LockRow) (Fresh : Type 0) (Knows : Ask → Trace → Type 0) (line : Line) (r : Request) (es : Trace) (next : line.next ≡ Some r)
-    (at : SessionAt rule holding lock Fresh Knows line es) where
+module _ (rule : Rule) (holding : Holding) (lock : Option LockRow) (Fresh : Type 0) (Knows : Ask → Trace → Type 0) (Wants : Trace → Type 0) (line : Line) (r : Request) (es : Trace) (next : line.next ≡ Some r)
+    (at : SessionAt rule holding lock Fresh Knows Wants line es) where
   waits : SessionWaits rule holding lock Fresh Knows line r es
-  waits = waits_of rule holding lock Fresh Knows line r es next at
+  waits = waits_of rule holding lock Fresh Knows Wants line r es next at
 
   known : (a : Ask) → r.ask ≡ a → KnowsAt rule holding lock Fresh Knows line.outcome a es
   known a q = subst (λ x. KnowsAt rule holding lock Fresh Knows line.outcome x es) q waits.knows
@@ -216,31 +228,32 @@ module _ (rule : Rule) (holding : Holding) (lock : Option LockRow) (Fresh : Type
 
     -- the reply to the ticket
     ticketed_now : (t : Token) (lock' : Option LockRow) (now : Line) → r.ask ≡ Ask.Ticket → say ≡ Say.Token t → IsSentOnLine line (Ask.Lock (lock_row (task_under rule holding.who) t)) now
-        → SessionAt rule (record { who = holding.who; token = t }) lock' Fresh Knows now (e ∷ es)
+        → SessionAt rule (record { who = holding.who; token = t }) lock' Fresh Knows Wants now (e ∷ es)
     ticketed_now t lock' now q is s =
         let k = known Ask.Ticket q in
         let none : es ≡ [] = may Ask.Ticket q in
         let all : e ∷ es ≡ ticketed t = ap (λ a. silent a say ∷ es) q ∙ ap (λ x. silent Ask.Ticket x ∷ es) is
         ∙ ap (λ fs. silent Ask.Ticket (Say.Token t) ∷ fs) none in
-        goes_on rule (record { who = holding.who; token = t }) lock' Fresh Knows line now (Ask.Lock (lock_row (task_under rule holding.who) t)) (e ∷ es) s at.instance (more line.sequence e es waits.counted) k.1
+        goes_on rule (record { who = holding.who; token = t }) lock' Fresh Knows Wants line now (Ask.Lock (lock_row (task_under rule holding.who) t)) (e ∷ es) s at.instance (more line.sequence e es waits.counted) k.1
         (still_whole e es (plain_by r.ask Ask.Ticket q ticket_plain)) obeys_more (t, all, refl) (λ w. absurd w) (k.0, k.1, all)
 
     -- it ends on the reply, where no lock is held
     closed_now : (holding' : Holding) (lock' : Option LockRow) (end : End) (now : Line) → holding'.who ≡ holding.who → IsClosed line (Outcome.Ended end) now → ((t : Token) → r.ask ≢ Ask.Unlock t)
-        → CausedBy (known_under rule holding.who) (e ∷ es) r.ask say end → ((t : Token) → Holds (task_under rule holding.who) t (e ∷ es) → ⊥) → SessionAt rule holding' lock' Fresh Knows now (e ∷ es)
-    closed_now holding' lock' end now who c plain caused free =
-        subst (λ (w : Asker). SessionAt rule (record { who = w; token = holding'.token }) lock' Fresh Knows now (e ∷ es)) (sym who)
-        (closes rule (record { who = holding.who; token = holding'.token }) lock' Fresh Knows line now (Outcome.Ended end) (e ∷ es) c at.instance obeys_more
-        (subst (λ fs. Concludes (known_under rule holding.who) rule.concludes fs (Outcome.Ended end)) (sym (still_whole e es plain)) (inl (inl caused))) (λ t h. absurd (free t h)))
+        → CausedBy (known_under rule holding.who) (e ∷ es) r.ask say end → ¬ IsWork r.ask → ((t : Token) → Holds (task_under rule holding.who) t (e ∷ es) → ⊥) → SessionAt rule holding' lock' Fresh Knows Wants now (e ∷ es)
+    closed_now holding' lock' end now who c plain caused own free =
+        subst (λ (w : Asker). SessionAt rule (record { who = w; token = holding'.token }) lock' Fresh Knows Wants now (e ∷ es)) (sym who)
+        (closes rule (record { who = holding.who; token = holding'.token }) lock' Fresh Knows Wants line now (Outcome.Ended end) (e ∷ es) c at.instance obeys_more
+        (subst (λ fs. MayConclude (known_under rule holding.who) rule.notes rule.concludes fs (Outcome.Ended end)) (sym (still_whole e es plain))
+        (may_conclude rule.notes (known_under rule holding.who) rule.concludes (e ∷ es) (Outcome.Ended end) (inl (inl caused)) (own_end (known_under rule holding.who) e es end own caused))) (λ t h. absurd (free t h)))
 
     ticket_closed : (holding' : Holding) (lock' : Option LockRow) (end : End) (now : Line) → holding'.who ≡ holding.who → r.ask ≡ Ask.Ticket → ((t : Token) → say ≢ Say.Token t) → SessionEndsBy r.ask say end
-        → IsClosed line (Outcome.Ended end) now → SessionAt rule holding' lock' Fresh Knows now (e ∷ es)
+        → IsClosed line (Outcome.Ended end) now → SessionAt rule holding' lock' Fresh Knows Wants now (e ∷ es)
     ticket_closed holding' lock' end now who q other ends c =
         closed_now holding' lock' end now who c (plain_by r.ask Ask.Ticket q ticket_plain) (ends.1 (subst (λ a. IsUnwelcome a say) (sym q) (unwelcome_ticket say other)) (known_under rule holding.who) (e ∷ es))
-        (λ t h. unasked_free (task_under rule holding.who) e es t (may Ask.Ticket q) h)
+        (subst (λ a. ¬ IsWork a) (sym q) (λ w. w)) (λ t h. unasked_free (task_under rule holding.who) e es t (may Ask.Ticket q) h)
 
     -- the reply to the lock
-    locked_now : (row : LockRow) (now : Line) → r.ask ≡ Ask.Lock row → say ≡ Say.Done → IsSentOnLine line Ask.Config now → SessionAt rule holding lock Fresh Knows now (e ∷ es)
+    locked_now : (row : LockRow) (now : Line) → r.ask ≡ Ask.Lock row → say ≡ Say.Done → IsSentOnLine line Ask.Config now → SessionAt rule holding lock Fresh Knows Wants now (e ∷ es)
     locked_now row now q is s =
         let k = known (Ask.Lock row) q in
         let m : (token : Token) × (es ≡ ticketed token) × (row ≡ lock_row (task_under rule holding.who) token) = may (Ask.Lock row) q in
@@ -248,7 +261,7 @@ module _ (rule : Rule) (holding : Holding) (lock : Option LockRow) (Fresh : Type
         let all : e ∷ es ≡ locked (task_under rule holding.who) holding.token = ap (λ a. silent a say ∷ es) (q ∙ ap (λ x. Ask.Lock x) (m.2 ∙ ap (λ t. lock_row (task_under rule holding.who) t) same))
         ∙ ap (λ x. silent (Ask.Lock (lock_row (task_under rule holding.who) holding.token)) x ∷ es) is
         ∙ ap (λ fs. silent (Ask.Lock (lock_row (task_under rule holding.who) holding.token)) Say.Done ∷ fs) k.2 in
-        goes_on rule holding lock Fresh Knows line now Ask.Config (e ∷ es) s at.instance (more line.sequence e es waits.counted) k.1 (still_whole e es (plain_by r.ask (Ask.Lock row) q (lock_plain row))) obeys_more
+        goes_on rule holding lock Fresh Knows Wants line now Ask.Config (e ∷ es) s at.instance (more line.sequence e es waits.counted) k.1 (still_whole e es (plain_by r.ask (Ask.Lock row) q (lock_plain row))) obeys_more
         (holding.token, all) (λ w. absurd w) (k.0, k.1, all)
       where
         token_in : Say → Token
@@ -263,11 +276,11 @@ module _ (rule : Rule) (holding : Holding) (lock : Option LockRow) (Fresh : Type
         one_ticket t u h = ap (λ fs. token_in (newest fs)) h
 
     lock_closed : (row : LockRow) (end : End) (now : Line) → r.ask ≡ Ask.Lock row → say ≢ Say.Done → SessionEndsBy r.ask say end → IsClosed line (Outcome.Ended end) now
-        → SessionAt rule holding lock Fresh Knows now (e ∷ es)
+        → SessionAt rule holding lock Fresh Knows Wants now (e ∷ es)
     lock_closed row end now q other ends c =
         let k = known (Ask.Lock row) q in
         closed_now holding lock end now refl c (plain_by r.ask (Ask.Lock row) q (lock_plain row)) (ends.1 (subst (λ a. IsUnwelcome a say) (sym q) (unwelcome_lock row say other)) (known_under rule holding.who) (e ∷ es))
-        (λ t h. ungranted_free (task_under rule holding.who) e es holding.token t other k.2 h)
+        (subst (λ a. ¬ IsWork a) (sym q) (λ w. w)) (λ t h. ungranted_free (task_under rule holding.who) e es holding.token t other k.2 h)
 
     -- ---- the reply to the config
 
@@ -277,55 +290,56 @@ module _ (rule : Rule) (holding : Holding) (lock : Option LockRow) (Fresh : Type
         ap (λ a. silent a say ∷ es) q ∙ ap (λ s. silent Ask.Config s ∷ es) is ∙ ap (λ fs. silent Ask.Config (Say.Bytes text) ∷ fs) k.2
 
     -- it is read, of a version that is known, and the job asks for more
-    begun : (Fresh' : Type 0) (Knows' : Ask → Trace → Type 0) (text : List ℕ) (config : Config) (ask : Ask) (now : Line) → r.ask ≡ Ask.Config → say ≡ Say.Bytes text → IsConfigText text config
+    begun : (Fresh' : Type 0) (Knows' : Ask → Trace → Type 0) (Wants' : Trace → Type 0) (text : List ℕ) (config : Config) (ask : Ask) (now : Line) → r.ask ≡ Ask.Config → say ≡ Say.Bytes text → IsConfigText text config
         → config.version ≤ known_under rule holding.who → IsSentOnLine line ask now
-        → (Fresh → MayAsk rule holding.who Knows' (opened (task_under rule holding.who) holding.token text) ask) → SessionAt rule holding lock Fresh' Knows' now (e ∷ es)
-    begun Fresh' Knows' text config ask now q is reads known_to s begins =
+        → (Fresh → MayAsk rule holding.who Knows' (opened (task_under rule holding.who) holding.token text) ask) → SessionAt rule holding lock Fresh' Knows' Wants' now (e ∷ es)
+    begun Fresh' Knows' Wants' text config ask now q is reads known_to s begins =
         let k = known Ask.Config q in
         let all = config_working text config q is reads in
         let m : MayAsk rule holding.who Knows' (e ∷ es) ask = subst (λ fs. MayAsk rule holding.who Knows' fs ask) (sym all) (begins k.0) in
         let working : IsWorking (task_under rule holding.who) holding.token (e ∷ es) =
         (config, record { later = []; text = text; since = all; reads = reads; known = known_to; held = record { unfenced = tt; unended = tt } }) in
-        goes_on rule holding lock Fresh' Knows' line now ask (e ∷ es) s at.instance (more line.sequence e es waits.counted) k.1 (still_whole e es (plain_by r.ask Ask.Config q config_plain)) obeys_more m.may (λ w. m.allowed)
-        (at_work rule holding lock Fresh' Knows' line.outcome ask (e ∷ es) m.work (working, k.1, m.knows))
+        goes_on rule holding lock Fresh' Knows' Wants' line now ask (e ∷ es) s at.instance (more line.sequence e es waits.counted) k.1 (still_whole e es (plain_by r.ask Ask.Config q config_plain)) obeys_more m.may (λ w. m.allowed)
+        (at_work rule holding lock Fresh' Knows' Wants' line.outcome ask (e ∷ es) m.work (working, k.1, m.knows))
 
     -- or it ends at once
-    begun_over : (Fresh' : Type 0) (Knows' : Ask → Trace → Type 0) (text : List ℕ) (config : Config) (outcome : Outcome) (now : Line) → r.ask ≡ Ask.Config → say ≡ Say.Bytes text → IsConfigText text config
-        → IsFinished line outcome holding.token now → Concludes (known_under rule holding.who) rule.concludes (opened (task_under rule holding.who) holding.token text) outcome
-        → SessionAt rule holding lock Fresh' Knows' now (e ∷ es)
-    begun_over Fresh' Knows' text config outcome now q is reads s concluded =
+    begun_over : (Fresh' : Type 0) (Knows' : Ask → Trace → Type 0) (Wants' : Trace → Type 0) (text : List ℕ) (config : Config) (outcome : Outcome) (now : Line) → r.ask ≡ Ask.Config → say ≡ Say.Bytes text → IsConfigText text config
+        → IsFinished line outcome holding.token now → MayConclude (known_under rule holding.who) rule.notes rule.concludes (opened (task_under rule holding.who) holding.token text) outcome
+        → SessionAt rule holding lock Fresh' Knows' Wants' now (e ∷ es)
+    begun_over Fresh' Knows' Wants' text config outcome now q is reads s concluded =
         let all = config_working text config q is reads in
-        finishes rule holding lock Fresh' Knows' line now outcome (e ∷ es) s at.instance (more line.sequence e es waits.counted) obeys_more
+        finishes rule holding lock Fresh' Knows' Wants' line now outcome (e ∷ es) s at.instance (more line.sequence e es waits.counted) obeys_more
         (record { later = silent Ask.Config (Say.Bytes text) ∷ []; since = all; held = record { unfenced = ((λ x. absurd (cc)), tt); unended = ((λ t x. absurd (cc)), tt) } })
-        (subst (λ fs. Concludes (known_under rule holding.who) rule.concludes fs outcome) (sym all) concluded)
+        (subst (λ fs. MayConclude (known_under rule holding.who) rule.notes rule.concludes fs outcome) (sym all) concluded)
 
     -- the job begins
-    pub begins : (Fresh' : Type 0) (Knows' : Ask → Trace → Type 0) (text : List ℕ) (config : Config) (step : Step) (end : End) (old new : Head) → old.line ≡ line → old.holder ≡ holding → r.ask ≡ Ask.Config
+    pub begins : (Fresh' : Type 0) (Knows' : Ask → Trace → Type 0) (Wants' : Trace → Type 0) (text : List ℕ) (config : Config) (step : Step) (end : End) (old new : Head) → old.line ≡ line → old.holder ≡ holding → r.ask ≡ Ask.Config
         → say ≡ Say.Bytes text → IsConfigText text config → config.version ≤ known_under rule holding.who → FollowsStep old step end new
-        → (Fresh → MayBegin rule holding.who Knows' (opened (task_under rule holding.who) holding.token text) step) → SessionAt rule holding lock Fresh' Knows' new.line (e ∷ es)
-    begins Fresh' Knows' text config (Step.Ask ask) end old new same is q said reads known_to s may =
-        begun Fresh' Knows' text config ask new.line q said reads known_to (subst (λ l. IsSentOnLine l ask new.line) same s) may
-    begins Fresh' Knows' text config (Step.Finish outcome) end old new same is q said reads known_to s may =
-        begun_over Fresh' Knows' text config outcome new.line q said reads
+        → (Fresh → MayBegin rule holding.who Knows' (opened (task_under rule holding.who) holding.token text) step) → SessionAt rule holding lock Fresh' Knows' Wants' new.line (e ∷ es)
+    begins Fresh' Knows' Wants' text config (Step.Ask ask) end old new same is q said reads known_to s may =
+        begun Fresh' Knows' Wants' text config ask new.line q said reads known_to (subst (λ l. IsSentOnLine l ask new.line) same s) may
+    begins Fresh' Knows' Wants' text config (Step.Finish outcome) end old new same is q said reads known_to s may =
+        begun_over Fresh' Knows' Wants' text config outcome new.line q said reads
         (subst (λ (h : Holding). IsFinished line outcome h.token new.line) is (subst (λ l. IsFinished l outcome old.holder.token new.line) same s)) (may (known Ask.Config q).0)
-    begins Fresh' Knows' text config Step.Away end old new same is q said reads known_to s may = absurd (may (known Ask.Config q).0)
+    begins Fresh' Knows' Wants' text config Step.Want end old new same is q said reads known_to s may = absurd (may (known Ask.Config q).0)
+    begins Fresh' Knows' Wants' text config Step.Away end old new same is q said reads known_to s may = absurd (may (known Ask.Config q).0)
 
     -- the session ends on it
-    pub config_left : (Fresh' : Type 0) (Knows' : Ask → Trace → Type 0) (end : End) (old new : Head) → old.line ≡ line → old.holder ≡ holding → r.ask ≡ Ask.Config → CausedBy (known_under rule holding.who) (e ∷ es) r.ask say end
-        → (say ≡ Say.Refused Code.Dead → end ≡ End.Fenced) → Leaves old end new → SessionAt rule holding lock Fresh' Knows' new.line (e ∷ es)
-    config_left Fresh' Knows' end old new same is q caused dead left =
+    pub config_left : (Fresh' : Type 0) (Knows' : Ask → Trace → Type 0) (Wants' : Trace → Type 0) (end : End) (old new : Head) → old.line ≡ line → old.holder ≡ holding → r.ask ≡ Ask.Config → CausedBy (known_under rule holding.who) (e ∷ es) r.ask say end
+        → (say ≡ Say.Refused Code.Dead → end ≡ End.Fenced) → Leaves old end new → SessionAt rule holding lock Fresh' Knows' Wants' new.line (e ∷ es)
+    config_left Fresh' Knows' Wants' end old new same is q caused dead left =
         let k = known Ask.Config q in
         let plain = plain_by r.ask Ask.Config q config_plain in
-        leaves rule holding lock Fresh' Knows' old new end e es left is (ap (λ (l : Line). l.instance) same ∙ at.instance) (ap (λ (l : Line). l.sequence) same ∙ waits.counted) obeys_more plain caused dead
-        (λ live. record { later = e ∷ []; since = ap (λ fs. e ∷ fs) k.2; held = record { unfenced = (live, tt); unended = (plain, tt) } })
+        leaves rule holding lock Fresh' Knows' Wants' old new end e es left is (ap (λ (l : Line). l.instance) same ∙ at.instance) (ap (λ (l : Line). l.sequence) same ∙ waits.counted) obeys_more plain caused
+        (may_conclude rule.notes (known_under rule holding.who) rule.concludes (e ∷ es) (Outcome.Ended end) (inl (inl caused)) (own_end (known_under rule holding.who) e es end (subst (λ a. ¬ IsWork a) (sym q) (λ w. w)) caused)) dead (λ live. record { later = e ∷ []; since = ap (λ fs. e ∷ fs) k.2; held = record { unfenced = (live, tt); unended = (plain, tt) } })
 
   -- what a ticket's reply makes of the session
   pub ticket_taken : (say : Say) (holding' : Holding) (lock' : Option LockRow) (end : End) (now : Line) → holding'.who ≡ holding.who → r.ask ≡ Ask.Ticket → SessionEndsBy r.ask say end
       → ((t : Token) (row : LockRow) → say ≡ Say.Token t → lock ≡ Some row → (holding'.token ≡ t) × IsSentOnLine line (Ask.Lock (row_of t row.exclusive row.time row.host)) now)
-      → (((t : Token) → say ≢ Say.Token t) → IsClosed line (Outcome.Ended end) now) → SessionAt rule holding' lock' Fresh Knows now (silent r.ask say ∷ es)
+      → (((t : Token) → say ≢ Say.Token t) → IsClosed line (Outcome.Ended end) now) → SessionAt rule holding' lock' Fresh Knows Wants now (silent r.ask say ∷ es)
   ticket_taken (Say.Token t) holding' lock' end now who q ends given other =
       let g = given t (lock_row (task_under rule holding.who) (record { 0 = 0 })) refl (known Ask.Ticket q).2 in
-      subst (λ (h : Holding). SessionAt rule h lock' Fresh Knows now (silent r.ask (Say.Token t) ∷ es)) (held holding' t who g.0) (ticketed_now (Say.Token t) t lock' now q refl g.1)
+      subst (λ (h : Holding). SessionAt rule h lock' Fresh Knows Wants now (silent r.ask (Say.Token t) ∷ es)) (held holding' t who g.0) (ticketed_now (Say.Token t) t lock' now q refl g.1)
     where
       held : (h : Holding) (t : Token) → h.who ≡ holding.who → h.token ≡ t → record { who = holding.who; token = t } ≡ h
       held h t p q = subst (λ w. record { who = w; token = t } ≡ h) p (subst (λ u. record { who = h.who; token = u } ≡ h) q refl)
@@ -340,7 +354,7 @@ module _ (rule : Rule) (holding : Holding) (lock : Option LockRow) (Fresh : Type
 
   -- and a lock's
   pub lock_taken : (say : Say) (row : LockRow) (end : End) (now : Line) → r.ask ≡ Ask.Lock row → SessionEndsBy r.ask say end → (say ≡ Say.Done → IsSentOnLine line Ask.Config now)
-      → (say ≢ Say.Done → IsClosed line (Outcome.Ended end) now) → SessionAt rule holding lock Fresh Knows now (silent r.ask say ∷ es)
+      → (say ≢ Say.Done → IsClosed line (Outcome.Ended end) now) → SessionAt rule holding lock Fresh Knows Wants now (silent r.ask say ∷ es)
   lock_taken Say.Done row end now q ends given other = locked_now Say.Done row now q refl (given refl)
   lock_taken (Say.Token t) row end now q ends given other = let n : Say.Token t ≢ Say.Done = λ x. absurd (cc) in lock_closed (Say.Token t) row end now q n ends (other n)
   lock_taken (Say.Names b names) row end now q ends given other = let n : Say.Names b names ≢ Say.Done = λ x. absurd (cc) in lock_closed (Say.Names b names) row end now q n ends (other n)
@@ -352,7 +366,7 @@ module _ (rule : Rule) (holding : Holding) (lock : Option LockRow) (Fresh : Type
 
   module _ (work : IsWork r.ask) where
     pub working : IsWorking (task_under rule holding.who) holding.token es × (line.outcome ≡ None) × Knows r.ask es
-    working = working_at rule holding lock Fresh Knows line.outcome r.ask es work waits.knows
+    working = working_at rule holding lock Fresh Knows Wants line.outcome r.ask es work waits.knows
 
     -- what the job may be told: the request is one that it may have asked
     pub asked_before : MayAsk rule holding.who Knows es r.ask
@@ -362,62 +376,90 @@ module _ (rule : Rule) (holding : Holding) (lock : Option LockRow) (Fresh : Type
     working_on f is live = working_more (task_under rule holding.who) holding.token f es working.0 live (plain_by f.ask r.ask is (work_no_unlock r.ask work))
 
     -- the session ends on the reply
-    pub work_left : (say : Say) (Fresh' : Type 0) (Knows' : Ask → Trace → Type 0) (end : End) (old new : Head) → old.line ≡ line → old.holder ≡ holding → IsUnwelcome r.ask say → SessionEndsBy r.ask say end
-        → Leaves old end new → SessionAt rule holding lock Fresh' Knows' new.line (silent r.ask say ∷ es)
-    work_left say Fresh' Knows' end old new same is unwelcome ends left =
+    pub work_left : (say : Say) (Fresh' : Type 0) (Knows' : Ask → Trace → Type 0) (Wants' : Trace → Type 0) (end : End) (old new : Head) → old.line ≡ line → old.holder ≡ holding → MayPassOn rule.notes r.ask say
+        → SessionEndsBy r.ask say end → Leaves old end new → SessionAt rule holding lock Fresh' Knows' Wants' new.line (silent r.ask say ∷ es)
+    work_left say Fresh' Knows' Wants' end old new same is may ends left =
         let f : Exchange = silent r.ask say in
-        leaves rule holding lock Fresh' Knows' old new end f es left is (ap (λ (l : Line). l.instance) same ∙ at.instance) (ap (λ (l : Line). l.sequence) same ∙ waits.counted) (obeys_more say) (work_no_unlock r.ask work)
-        (ends.1 unwelcome (known_under rule holding.who) (f ∷ es)) ends.0 (λ live. holds_of (task_under rule holding.who) holding.token (f ∷ es) (working_on f refl live))
+        let caused = ends.1 (unwelcome_of rule.notes r.ask say may) (known_under rule holding.who) (f ∷ es) in
+        leaves rule holding lock Fresh' Knows' Wants' old new end f es left is (ap (λ (l : Line). l.instance) same ∙ at.instance) (ap (λ (l : Line). l.sequence) same ∙ waits.counted) (obeys_more say) (work_no_unlock r.ask work)
+        caused (passed_on rule.notes (known_under rule holding.who) rule.concludes f es end may caused) ends.0 (λ live. holds_of (task_under rule holding.who) holding.token (f ∷ es) (working_on f refl live))
 
     -- the job goes on, or ends
-    pub stepped : (Fresh' : Type 0) (Knows' : Ask → Trace → Type 0) (say : Say) (emitted : List Emission) (step : Step) (end : End) (old new : Head) → old.line ≡ line → old.holder ≡ holding → say ≢ Say.Refused Code.Dead
-        → MayStep rule holding.who Knows' es (giving r.ask say emitted) step → SessionEndsBy r.ask say end → FollowsStep old step end new
-        → SessionAt rule holding lock Fresh' Knows' new.line (giving r.ask say (cond (took step) emitted []) ∷ es)
-    stepped Fresh' Knows' say emitted (Step.Ask ask) end old new same is live m ends s =
+    pub stepped : (Fresh' : Type 0) (Knows' : Ask → Trace → Type 0) (Wants' : Trace → Type 0) (say : Say) (emitted : List Emission) (step : Step) (end : End) (old new : Head) → old.line ≡ line → old.holder ≡ holding → say ≢ Say.Refused Code.Dead
+        → MayTurn rule holding.who Knows' Wants' es (giving r.ask say emitted) step → SessionEndsBy r.ask say end → FollowsStep old step end new
+        → SessionAt rule holding lock Fresh' Knows' Wants' new.line (giving r.ask say (cond (took step) emitted []) ∷ es)
+    stepped Fresh' Knows' Wants' say emitted (Step.Ask ask) end old new same is live m ends s =
         let f : Exchange = giving r.ask say emitted in
-        goes_on rule holding lock Fresh' Knows' line new.line ask (f ∷ es) (subst (λ l. IsSentOnLine l ask new.line) same s) at.instance (more line.sequence f es waits.counted) working.1 (still_whole f es (work_no_unlock r.ask work))
-        (waits.next.may, waits.next.permitted, m.0, at.obeys) m.1.may (λ w. m.1.allowed) (at_work rule holding lock Fresh' Knows' line.outcome ask (f ∷ es) m.1.work (working_on f refl live, working.1, m.1.knows))
-    stepped Fresh' Knows' say emitted (Step.Finish o) end old new same is live m ends s =
+        goes_on rule holding lock Fresh' Knows' Wants' line new.line ask (f ∷ es) (subst (λ l. IsSentOnLine l ask new.line) same s) at.instance (more line.sequence f es waits.counted) working.1 (still_whole f es (work_no_unlock r.ask work))
+        (waits.next.may, waits.next.permitted, m.0, at.obeys) m.1.may (λ w. m.1.allowed) (at_work rule holding lock Fresh' Knows' Wants' line.outcome ask (f ∷ es) m.1.work (working_on f refl live, working.1, m.1.knows))
+    stepped Fresh' Knows' Wants' say emitted (Step.Finish o) end old new same is live m ends s =
         let f : Exchange = giving r.ask say emitted in
-        finishes rule holding lock Fresh' Knows' line new.line o (f ∷ es) (subst (λ (h : Holding). IsFinished line o h.token new.line) is (subst (λ l. IsFinished l o old.holder.token new.line) same s)) at.instance
+        finishes rule holding lock Fresh' Knows' Wants' line new.line o (f ∷ es) (subst (λ (h : Holding). IsFinished line o h.token new.line) is (subst (λ l. IsFinished l o old.holder.token new.line) same s)) at.instance
         (more line.sequence f es waits.counted) (waits.next.may, waits.next.permitted, m.0, at.obeys) (holds_of (task_under rule holding.who) holding.token (f ∷ es) (working_on f refl live)) m.1
-    stepped Fresh' Knows' say emitted Step.Away end old new same is live m ends s = work_left say Fresh' Knows' end old new same is m ends s
+    stepped Fresh' Knows' Wants' say emitted Step.Want end old new same is live m ends s =
+        let f : Exchange = giving r.ask say emitted in
+        idles rule holding lock Fresh' Knows' Wants' line new.line (f ∷ es) (subst (λ l. IsIdle l new.line) same s) at.instance (more line.sequence f es waits.counted) working.1
+        (waits.next.may, waits.next.permitted, m.0, at.obeys) (working_on f refl live) m.1 m.2
+    stepped Fresh' Knows' Wants' say emitted Step.Away end old new same is live m ends s = work_left say Fresh' Knows' Wants' end old new same is m ends s
 
     -- nothing was taken, and what the job knew it knows
-    pub knows_still : (Fresh' : Type 0) (Knows' : Ask → Trace → Type 0) → ((fs : Trace) → Knows r.ask fs → Knows' r.ask fs) → SessionAt rule holding lock Fresh' Knows' line es
-    knows_still Fresh' Knows' still = record {
+    pub knows_still : (Fresh' : Type 0) (Knows' : Ask → Trace → Type 0) (Wants' : Trace → Type 0) → ((fs : Trace) → Knows r.ask fs → Knows' r.ask fs) → SessionAt rule holding lock Fresh' Knows' Wants' line es
+    knows_still Fresh' Knows' Wants' still = record {
       instance = at.instance;
       obeys = at.obeys;
-      stands = subst (λ n. SessionStands rule holding lock Fresh' Knows' line n es) (sym next) (record {
+      stands = subst (λ n. SessionStands rule holding lock Fresh' Knows' Wants' line n es) (sym next) (record {
         next = waits.next;
         counted = waits.counted;
-        knows = at_work rule holding lock Fresh' Knows' line.outcome r.ask es work (working.0, working.1, still es working.2);
+        knows = at_work rule holding lock Fresh' Knows' Wants' line.outcome r.ask es work (working.0, working.1, still es working.2);
       });
     }
 
   -- the reply to the unlock
   pub unlocked : (say : Say) (u : Token) → r.ask ≡ Ask.Unlock u
-      → SessionAt rule holding lock Fresh Knows (record { instance = line.instance; sequence = line.sequence; next = None; outcome = line.outcome }) (silent r.ask say ∷ es)
+      → SessionAt rule holding lock Fresh Knows Wants (record { instance = line.instance; sequence = line.sequence; next = None; outcome = line.outcome }) (silent r.ask say ∷ es)
   unlocked say u q =
-      let k : (o : Outcome) × (line.outcome ≡ Some o) × Concludes (known_under rule holding.who) rule.concludes es o = known (Ask.Unlock u) q in
+      let k : (o : Outcome) × (line.outcome ≡ Some o) × MayConclude (known_under rule holding.who) rule.notes rule.concludes es o = known (Ask.Unlock u) q in
       let f : Exchange = silent r.ask say in
       let before : before_unlock (f ∷ es) ≡ es = ap (λ a. without_unlock a (f ∷ es) es) q in
       record {
         instance = at.instance;
         obeys = obeys_more say;
-        stands = record {
+        stands = inl (record {
           outcome = k.0;
           there = k.1;
-          concluded = subst (λ fs. Concludes (known_under rule holding.who) rule.concludes fs k.0) (sym before) k.2;
+          concluded = subst (λ fs. MayConclude (known_under rule holding.who) rule.notes rule.concludes fs k.0) (sym before) k.2;
           released = λ t h. absurd (unlock_free (task_under rule holding.who) f es t u q h);
-        };
+        });
       }
 
+-- ---- input
+
+-- what is known where input is wanted
+pub wants_of : (rule : Rule) (holding : Holding) (lock : Option LockRow) (Fresh : Type 0) (Knows : Ask → Trace → Type 0) (Wants : Trace → Type 0) (line : Line) (es : Trace) → line.next ≡ None → line.outcome ≡ None
+    → SessionAt rule holding lock Fresh Knows Wants line es → SessionWants rule holding Wants line es
+wants_of rule holding lock Fresh Knows Wants line es n o s = by (subst (λ m. SessionStands rule holding lock Fresh Knows Wants line m es) n s.stands)
+  where
+    by : SessionRests rule holding line es ⊎ SessionWants rule holding Wants line es → SessionWants rule holding Wants line es
+    by (inl r) = let there = r.there in absurd (cc)
+    by (inr w) = w
+
+-- the job goes on from an item: at the trace with it, of the same length
+pub input_taken : (rule : Rule) (holding : Holding) (lock : Option LockRow) (Fresh : Type 0) (Knows : Ask → Trace → Type 0) (Wants : Trace → Type 0) (step : Step) (end : End) (old new : Head) (es : Trace) → old.holder ≡ holding
+    → old.line.instance ≡ holding.who.instance → old.line.outcome ≡ None → old.line.sequence ≡ length es → Obeys (task_under rule holding.who) rule.allows rule.gives es → IsWorking (task_under rule holding.who) holding.token es
+    → MayGoOn rule holding.who Knows Wants es step → FollowsStep old step end new → SessionAt rule holding lock Fresh Knows Wants new.line es
+input_taken rule holding lock Fresh Knows Wants (Step.Ask ask) end old new es is i none counted obeys held m s =
+    goes_on rule holding lock Fresh Knows Wants old.line new.line ask es s i counted none (holds_whole (task_under rule holding.who) holding.token es (holds_of (task_under rule holding.who) holding.token es held)) obeys m.may (λ w. m.allowed)
+    (at_work rule holding lock Fresh Knows Wants old.line.outcome ask es m.work (held, none, m.knows))
+input_taken rule holding lock Fresh Knows Wants (Step.Finish o) end old new es is i none counted obeys held m s =
+    finishes rule holding lock Fresh Knows Wants old.line new.line o es (subst (λ (h : Holding). IsFinished old.line o h.token new.line) is s) i counted obeys (holds_of (task_under rule holding.who) holding.token es held) m
+input_taken rule holding lock Fresh Knows Wants Step.Want end old new es is i none counted obeys held m s = idles rule holding lock Fresh Knows Wants old.line new.line es s i counted none obeys held m.0 m.1
+input_taken rule holding lock Fresh Knows Wants Step.Away end old new es is i none counted obeys held m s = absurd m
+
 -- a session of the same rule, holder and lock
-pub session_as : {H : Type 0} (rule : H → Rule) (h h' : H) (holding holding' : Holding) (lock lock' : Option LockRow) (Fresh : Type 0) (Knows : Ask → Trace → Type 0) (line : Line) (es : Trace) → h' ≡ h → holding' ≡ holding
-    → lock' ≡ lock → SessionAt (rule h) holding lock Fresh Knows line es → SessionAt (rule h') holding' lock' Fresh Knows line es
-session_as rule h h' holding holding' lock lock' Fresh Knows line es p q l s =
-    subst (λ x. SessionAt (rule x) holding' lock' Fresh Knows line es) (sym p) (subst (λ x. SessionAt (rule h) x lock' Fresh Knows line es) (sym q) (subst (λ x. SessionAt (rule h) holding x Fresh Knows line es) (sym l) s))
+pub session_as : {H : Type 0} (rule : H → Rule) (h h' : H) (holding holding' : Holding) (lock lock' : Option LockRow) (Fresh : Type 0) (Knows : Ask → Trace → Type 0) (Wants : Trace → Type 0) (line : Line) (es : Trace) → h' ≡ h → holding' ≡ holding
+    → lock' ≡ lock → SessionAt (rule h) holding lock Fresh Knows Wants line es → SessionAt (rule h') holding' lock' Fresh Knows Wants line es
+session_as rule h h' holding holding' lock lock' Fresh Knows Wants line es p q l s =
+    subst (λ x. SessionAt (rule x) holding' lock' Fresh Knows Wants line es) (sym p) (subst (λ x. SessionAt (rule h) x lock' Fresh Knows Wants line es) (sym q) (subst (λ x. SessionAt (rule h) holding x Fresh Knows Wants line es) (sym l) s))
 
 -- ---- which request it is
 
@@ -465,7 +507,7 @@ only_unlock (Ask.Delete t j n) d u = u
 only_unlock (Ask.Upgrade t) d u = u
 
 -- where another request than the unlock is pending there is no outcome
-pub no_outcome : (rule : Rule) (holding : Holding) (lock : Option LockRow) (Fresh : Type 0) (Knows : Ask → Trace → Type 0) (line : Line) (r : Request) (o : Outcome) (es : Trace) → line.next ≡ Some r
-    → line.outcome ≡ Some o → ((t : Token) → r.ask ≢ Ask.Unlock t) → SessionAt rule holding lock Fresh Knows line es → ⊥
-no_outcome rule holding lock Fresh Knows line r o es p q d s =
-    only_unlock r.ask d (beside_unlock rule holding lock Fresh Knows r.ask line.outcome es (waits_of rule holding lock Fresh Knows line r es p s).knows (λ n. absurd (cc)))
+pub no_outcome : (rule : Rule) (holding : Holding) (lock : Option LockRow) (Fresh : Type 0) (Knows : Ask → Trace → Type 0) (Wants : Trace → Type 0) (line : Line) (r : Request) (o : Outcome) (es : Trace) → line.next ≡ Some r
+    → line.outcome ≡ Some o → ((t : Token) → r.ask ≢ Ask.Unlock t) → SessionAt rule holding lock Fresh Knows Wants line es → ⊥
+no_outcome rule holding lock Fresh Knows Wants line r o es p q d s =
+    only_unlock r.ask d (beside_unlock rule holding lock Fresh Knows Wants r.ask line.outcome es (waits_of rule holding lock Fresh Knows Wants line r es p s).knows (λ n. absurd (cc)))

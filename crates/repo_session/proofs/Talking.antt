@@ -20,7 +20,7 @@ use Rattle.repo_session.specs.declared.connections.Connection.{Connection}
 use Rattle.repo_session.specs.declared.driving.DriveError.{DriveError}
 use Rattle.repo_session.specs.declared.emissions.Emission.{Emission}
 use Rattle.repo_session.specs.declared.outcomes.Outcome.{Outcome}
-use Rattle.repo_session.specs.Clients.{IsReplyTo, IsObedient, exchange}
+use Rattle.repo_session.specs.Clients.{IsReplyTo, IsObedientWith, exchange}
 use Rattle.repo_session.specs.Order.{Task}
 use Rattle.repo_session.specs.Connections.{BeginsWithReplies, Asks}
 use Rattle.repo_session.specs.Talks.{Turn, Talk, IsTurn, first_carried, trace_of, sent_in, taken_in, read_in, frames_of, Went, Said, IsHeard, WritesPart, ArePassed, DriveCause, TalkRan, MayBeAhead, AskGives}
@@ -66,10 +66,10 @@ abbrev pub IsNumbered : Instance → Trace → Request → Type 0
 IsNumbered instance es request = (request.instance ≡ instance) × (request.sequence ≡ length es + 1)
 
 -- so is each that is pending of an obedient client
-pub numbered_next : (task : Task) (Allows : Trace → Ask → Type 0) (Gives : Trace → Exchange → Type 0) (Own : Trace → Outcome → Type 0) (next : Option Request) (outcome : Option Outcome)
-    (es : Trace) (instance : Instance) (request : Request) → IsObedient task Allows Gives Own next outcome es → next ≡ Some request → task.who.instance ≡ instance
+pub numbered_next : (task : Task) (Allows : Trace → Ask → Type 0) (Gives : Trace → Exchange → Type 0) (Own : Trace → Outcome → Type 0) (Wanting : Trace → Type 0) (next : Option Request) (outcome : Option Outcome)
+    (es : Trace) (instance : Instance) (request : Request) → IsObedientWith task Allows Gives Own Wanting next outcome es → next ≡ Some request → task.who.instance ≡ instance
     → IsNumbered instance es request
-numbered_next task Allows Gives Own next outcome es instance request o is same = let n = o.pending request is in (n.instance ∙ same, n.sequence)
+numbered_next task Allows Gives Own Wanting next outcome es instance request o is same = let n = o.pending request is in (n.instance ∙ same, n.sequence)
 
 -- no turn
 pub went_nowhere : {C : Type 0} (instance : Instance) (Fits : C → Trace → Type 0) (client : C) → Went instance Fits client [] client

@@ -7,7 +7,7 @@ use Rattle.repo_wire.specs.declared.messages.Request.{Request}
 use Rattle.repo_wire.specs.declared.messages.Say.{Say}
 use Rattle.repo_session.specs.declared.emissions.Emission.{Emission}
 use Rattle.repo_session.specs.declared.outcomes.Outcome.{Outcome}
-use Rattle.repo_session.specs.Ends.{Concludes, NumbersAreSpent, before_unlock}
+use Rattle.repo_session.specs.Ends.{MayConclude, NumbersAreSpent, before_unlock}
 use Rattle.repo_session.specs.Order.{Task, IsUnlock, Holds, May, IsPermitted, Obeys}
 use Rattle.repo_session.specs.Traces.{Exchange, Exchanged, Trace, giving}
 use Rattle.repo_session.specs.Versions.{upto}
@@ -34,16 +34,20 @@ pub record IsNextRequest (task : Task) (Allows : Trace → Ask → Type 0) (es :
 
 -- a client that stands where a trace leaves it: the trace obeys the order and the job's rule, and so does what is pending; where nothing is, there
 -- is an outcome, and no lock is held unless the numbers are spent; an outcome comes only where it may, and stands beside no pending request but the
--- unlock, which has one beside it
-pub record IsObedient (task : Task) (Allows : Trace → Ask → Type 0) (Gives : Trace → Exchange → Type 0) (Own : Trace → Outcome → Type 0)
-    (next : Option Request) (outcome : Option Outcome) (es : Trace) : Type 0 where
+-- unlock, which has one beside it. Where nothing is pending and there is no outcome, it may want input.
+pub record IsObedientWith (task : Task) (Allows : Trace → Ask → Type 0) (Gives : Trace → Exchange → Type 0) (Own : Trace → Outcome → Type 0)
+    (Wanting : Trace → Type 0) (next : Option Request) (outcome : Option Outcome) (es : Trace) : Type 0 where
   pub obeys : Obeys task Allows Gives es
   pub pending : (request : Request) → next ≡ Some request → IsNextRequest task Allows es request
-  pub settled : next ≡ None → outcome ≢ None
-  pub concluded : (o : Outcome) → outcome ≡ Some o → Concludes (upto task.versions) Own (before_unlock es) o
+  pub settled : next ≡ None → outcome ≡ None → Wanting es
+  pub concluded : (o : Outcome) → outcome ≡ Some o → MayConclude (upto task.versions) task.notes Own (before_unlock es) o
   pub released : next ≡ None → outcome ≢ None → (token : Token) → Holds task token es → NumbersAreSpent es
   pub beside : (request : Request) → next ≡ Some request → outcome ≢ None → IsUnlock request.ask
   pub ending : (request : Request) → next ≡ Some request → IsUnlock request.ask → outcome ≢ None
+
+-- a client that never wants input
+abbrev pub IsObedient : Task → (Trace → Ask → Type 0) → (Trace → Exchange → Type 0) → (Trace → Outcome → Type 0) → Option Request → Option Outcome → Trace → Type 0
+IsObedient task Allows Gives Own next outcome es = IsObedientWith task Allows Gives Own (λ fs. ⊥) next outcome es
 
 -- a token that a client tells is that of its ticket; and where it was given one, and has no outcome yet, it tells it
 pub record TellsToken (told : Option Token) (outcome : Option Outcome) (es : Trace) : Type 0 where

@@ -8,26 +8,28 @@ use Rattle.repo_tree.specs.ConfigText.{IsConfigText}
 use Rattle.repo_session.specs.declared.jobs.Step.{Step}
 use Rattle.repo_session.specs.declared.outcomes.Outcome.{Outcome}
 use Rattle.repo_session.specs.Askers.{Asker, Holding}
-use Rattle.repo_session.specs.Ends.{Concludes, IsUnwelcome}
+use Rattle.repo_session.specs.Ends.{MayConclude, MayPassOn}
 use Rattle.repo_session.specs.Order.{Task, opened, IsWork, IsWorking, May, Obeys}
 use Rattle.repo_session.specs.Traces.{Exchange, Trace}
 use Rattle.repo_session.specs.Versions.{upto, shared}
 use Rattle.repo_session.specs.declared.versions.Versions.{Versions}
 
--- a job's own rule: whether it wants the lock alone, the snapshot that it may get without having listed it, which versions it knows, whether it takes each
--- refusal without memory, and what it may ask, give out and conclude
+-- a job's own rule: whether it wants the lock alone, the snapshot that it may get without having listed it, which versions it knows, whether it notes what is
+-- wrong in the store and goes on, whether it takes each refusal without memory, what it may ask, give out and conclude, and after what it may want input
 pub record Rule : Type 1 where
   pub exclusive : Bool
   pub snapshot : Option Name
   pub versions : Versions
+  pub notes : Bool
   pub calm : Type 0
   pub allows : Trace → Ask → Type 0
   pub gives : Trace → Exchange → Type 0
   pub concludes : Trace → Outcome → Type 0
+  pub wanting : Trace → Type 0
 
 -- who asks, under a rule; the versions that the job knows and who asks does
 abbrev pub task_under : Rule → Asker → Task
-task_under rule who = record { who = who; exclusive = rule.exclusive; snapshot = rule.snapshot; versions = shared rule.versions who.versions }
+task_under rule who = record { who = who; exclusive = rule.exclusive; snapshot = rule.snapshot; versions = shared rule.versions who.versions; notes = rule.notes }
 
 -- the greatest of these versions
 abbrev pub known_under : Rule → Asker → ℕ
@@ -48,18 +50,31 @@ pub record MayAsk (rule : Rule) (who : Asker) (Knows : Ask → Trace → Type 0)
 abbrev pub GivesBy : Rule → Trace → Exchange → Type 0
 GivesBy rule es e = (e.emitted ≡ []) ⊎ rule.gives es e
 
--- what a job may do on an exchange after a trace: ask for more; end; or pass on a refusal, or a reply of the wrong sort
+-- what a job may do on an exchange after a trace: ask for more; end; or pass on a refusal, or a reply of the wrong sort, that it doesn't note
+abbrev pub MayTurn : Rule → Asker → (Ask → Trace → Type 0) → (Trace → Type 0) → Trace → Exchange → Step → Type 0
+MayTurn rule who Knows Wants es e (Step.Ask ask) = GivesBy rule es e × MayAsk rule who Knows (e ∷ es) ask
+MayTurn rule who Knows Wants es e (Step.Finish outcome) = GivesBy rule es e × MayConclude (known_under rule who) rule.notes rule.concludes (e ∷ es) outcome
+MayTurn rule who Knows Wants es e Step.Want = GivesBy rule es e × rule.wanting (e ∷ es) × Wants (e ∷ es)
+MayTurn rule who Knows Wants es e Step.Away = MayPassOn rule.notes e.ask e.say
+
+-- a job that never wants input
 abbrev pub MayStep : Rule → Asker → (Ask → Trace → Type 0) → Trace → Exchange → Step → Type 0
-MayStep rule who Knows es e (Step.Ask ask) = GivesBy rule es e × MayAsk rule who Knows (e ∷ es) ask
-MayStep rule who Knows es e (Step.Finish outcome) = GivesBy rule es e × Concludes (known_under rule who) rule.concludes (e ∷ es) outcome
-MayStep rule who Knows es e Step.Away = IsUnwelcome e.ask e.say
+MayStep rule who Knows es e step = MayTurn rule who Knows (λ fs. ⊥) es e step
+
+-- what a job may do on an item, after the trace with it
+abbrev pub MayGoOn : Rule → Asker → (Ask → Trace → Type 0) → (Trace → Type 0) → Trace → Step → Type 0
+MayGoOn rule who Knows Wants es (Step.Ask ask) = MayAsk rule who Knows es ask
+MayGoOn rule who Knows Wants es (Step.Finish outcome) = MayConclude (known_under rule who) rule.notes rule.concludes es outcome
+MayGoOn rule who Knows Wants es Step.Want = rule.wanting es × Wants es
+MayGoOn rule who Knows Wants es Step.Away = ⊥
 
 -- ---- what a job's calls owe
 
 -- what a job may do where its config was just read: ask for more, or end
 abbrev pub MayBegin : Rule → Asker → (Ask → Trace → Type 0) → Trace → Step → Type 0
 MayBegin rule who Knows es (Step.Ask ask) = MayAsk rule who Knows es ask
-MayBegin rule who Knows es (Step.Finish outcome) = Concludes (known_under rule who) rule.concludes es outcome
+MayBegin rule who Knows es (Step.Finish outcome) = MayConclude (known_under rule who) rule.notes rule.concludes es outcome
+MayBegin rule who Knows es Step.Want = ⊥
 MayBegin rule who Knows es Step.Away = ⊥
 
 -- the first step, after each trace that only opened, by a config of a version that is known
@@ -68,9 +83,12 @@ JobBegins rule holding Fresh Knows config step = (text : List ℕ) → Fresh →
     → MayBegin rule holding.who Knows (opened (task_under rule holding.who) holding.token text) step
 
 -- the step on an exchange, after each trace at whose end the job's request was pending; the lock is held after the exchange
+abbrev pub TurnsOn : Rule → Holding → (Ask → Trace → Type 0) → (Ask → Trace → Type 0) → (Trace → Type 0) → Exchange → Step → Type 0
+TurnsOn rule holding Knew Knows Wants e step = (es : Trace) → IsWorking (task_under rule holding.who) holding.token (e ∷ es) → Obeys (task_under rule holding.who) rule.allows rule.gives es
+    → MayAsk rule holding.who Knew es e.ask → MayTurn rule holding.who Knows Wants es e step
+
 abbrev pub StepsOn : Rule → Holding → (Ask → Trace → Type 0) → (Ask → Trace → Type 0) → Exchange → Step → Type 0
-StepsOn rule holding Knew Knows e step = (es : Trace) → IsWorking (task_under rule holding.who) holding.token (e ∷ es) → Obeys (task_under rule holding.who) rule.allows rule.gives es
-    → MayAsk rule holding.who Knew es e.ask → MayStep rule holding.who Knows es e step
+StepsOn rule holding Knew Knows e step = TurnsOn rule holding Knew Knows (λ fs. ⊥) e step
 
 -- what is asked next fits a frame
 abbrev pub IsShortStep : Step → Type 0

@@ -1,5 +1,6 @@
 -- The definitions that the contracts of this crate cite.
 pub mod Askers
+pub mod Feeds
 pub mod Traces
 pub mod Order
 pub mod Ends

@@ -1,6 +1,6 @@
 -- A session owes what a client owes.
 use Rattle.std.specs.Prelude.{◌≡◌, ◌≢◌, ◌∷◌, ◌++◌, [], Option, Some, None}
-use Rattle.std.proofs.Common.{refl, sym, subst}
+use Rattle.std.proofs.Common.{refl, sym, subst, inl, inr}
 use Rattle.repo_name.specs.declared.rows.LockRow.{LockRow}
 use Rattle.repo_name.specs.declared.tokens.Token.{Token}
 use Rattle.repo_wire.specs.declared.messages.Ask.{Ask}
@@ -9,11 +9,11 @@ use Rattle.repo_session.specs.declared.lines.Line.{Line}
 use Rattle.repo_session.specs.declared.outcomes.Outcome.{Outcome}
 use Rattle.repo_session.specs.declared.sessions.Session.{Session}
 use Rattle.repo_session.specs.Askers.{Holding}
-use Rattle.repo_session.specs.Clients.{IsNextRequest, IsObedient}
-use Rattle.repo_session.specs.Ends.{Concludes, NumbersAreSpent, without_unlock, before_unlock}
+use Rattle.repo_session.specs.Clients.{IsNextRequest, IsObedientWith}
+use Rattle.repo_session.specs.Ends.{MayConclude, NumbersAreSpent, without_unlock, before_unlock}
 use Rattle.repo_session.specs.Jobs.{Rule, task_under, known_under}
 use Rattle.repo_session.specs.Order.{Task, locked, IsNoUnlock, IsUnlock, Holds, May}
-use Rattle.repo_session.specs.Sessions.{KnowsAt, SessionStands, SessionAt, FitsSession}
+use Rattle.repo_session.specs.Sessions.{KnowsAt, SessionStands, SessionAt, FitsWanting}
 use Rattle.repo_session.specs.Traces.{Each, Exchange, Trace}
 
 -- ---- traces without the end of the lock
@@ -46,7 +46,7 @@ holds_whole task token es h = subst (λ fs. before_unlock fs ≡ fs) (sym h.sinc
 
 -- ---- where a session stands
 
-module _ (rule : Rule) (holding : Holding) (lock : Option LockRow) (Fresh : Type 0) (Knows : Ask → Trace → Type 0) where
+module _ (rule : Rule) (holding : Holding) (lock : Option LockRow) (Fresh : Type 0) (Knows : Ask → Trace → Type 0) (Wants : Trace → Type 0) where
   -- an outcome stands beside a pending unlock, and beside no other request
   pub beside_unlock : (ask : Ask) (outcome : Option Outcome) (es : Trace) → KnowsAt rule holding lock Fresh Knows outcome ask es → outcome ≢ None → IsUnlock ask
   beside_unlock (Ask.Unlock t) outcome es k n = tt
@@ -62,10 +62,10 @@ module _ (rule : Rule) (holding : Holding) (lock : Option LockRow) (Fresh : Type
   beside_unlock (Ask.Delete t j m) outcome es k n = absurd (n k.1)
   beside_unlock (Ask.Upgrade t) outcome es k n = absurd (n k.1)
 
-  ends_beside : (ask : Ask) (o : Outcome) (es : Trace) → May (task_under rule holding.who) es ask → KnowsAt rule holding lock Fresh Knows (Some o) ask es → IsUnlock ask → Concludes (known_under rule holding.who) rule.concludes (before_unlock es) o
+  ends_beside : (ask : Ask) (o : Outcome) (es : Trace) → May (task_under rule holding.who) es ask → KnowsAt rule holding lock Fresh Knows (Some o) ask es → IsUnlock ask → MayConclude (known_under rule holding.who) rule.notes rule.concludes (before_unlock es) o
   ends_beside (Ask.Unlock t) o es may k u =
       let same : k.0 ≡ o = let p = k.1 in cc in
-      subst (λ x. Concludes (known_under rule holding.who) rule.concludes (before_unlock es) x) same (subst (λ fs. Concludes (known_under rule holding.who) rule.concludes fs k.0) (sym (holds_whole (task_under rule holding.who) t es may)) k.2)
+      subst (λ x. MayConclude (known_under rule holding.who) rule.notes rule.concludes (before_unlock es) x) same (subst (λ fs. MayConclude (known_under rule holding.who) rule.notes rule.concludes fs k.0) (sym (holds_whole (task_under rule holding.who) t es may)) k.2)
   ends_beside Ask.Ticket o es may k u = absurd u
   ends_beside (Ask.Lock row) o es may k u = absurd u
   ends_beside (Ask.Refresh t time) o es may k u = absurd u
@@ -78,16 +78,18 @@ module _ (rule : Rule) (holding : Holding) (lock : Option LockRow) (Fresh : Type
   ends_beside (Ask.Delete t j m) o es may k u = absurd u
   ends_beside (Ask.Upgrade t) o es may k u = absurd u
 
-  pending_is : (line : Line) (next : Option Request) (es : Trace) (r : Request) → SessionStands rule holding lock Fresh Knows line next es → next ≡ Some r → IsNextRequest (task_under rule holding.who) rule.allows es r
+  pending_is : (line : Line) (next : Option Request) (es : Trace) (r : Request) → SessionStands rule holding lock Fresh Knows Wants line next es → next ≡ Some r → IsNextRequest (task_under rule holding.who) rule.allows es r
   pending_is line None es r s p = absurd (cc)
   pending_is line (Some q) es r s p = let same : q ≡ r = cc in subst (λ x. IsNextRequest (task_under rule holding.who) rule.allows es x) same s.next
 
-  settles : (line : Line) (next : Option Request) (es : Trace) → SessionStands rule holding lock Fresh Knows line next es → next ≡ None → line.outcome ≢ None
-  settles line None es s p none = let there = s.there in absurd (cc)
+  settles : (line : Line) (next : Option Request) (es : Trace) → SessionStands rule holding lock Fresh Knows Wants line next es → next ≡ None → line.outcome ≡ None → rule.wanting es
+  settles line None es (inl s) p none = let there = s.there in absurd (cc)
+  settles line None es (inr s) p none = s.may
   settles line (Some q) es s p none = absurd (cc)
 
-  concludes_at : (line : Line) (next : Option Request) (es : Trace) (o : Outcome) → SessionStands rule holding lock Fresh Knows line next es → line.outcome ≡ Some o → Concludes (known_under rule holding.who) rule.concludes (before_unlock es) o
-  concludes_at line None es o s p = let there = s.there in let same : s.outcome ≡ o = cc in subst (λ x. Concludes (known_under rule holding.who) rule.concludes (before_unlock es) x) same s.concluded
+  concludes_at : (line : Line) (next : Option Request) (es : Trace) (o : Outcome) → SessionStands rule holding lock Fresh Knows Wants line next es → line.outcome ≡ Some o → MayConclude (known_under rule holding.who) rule.notes rule.concludes (before_unlock es) o
+  concludes_at line None es o (inr s) p = let none = s.none in absurd (cc)
+  concludes_at line None es o (inl s) p = let there = s.there in let same : s.outcome ≡ o = cc in subst (λ x. MayConclude (known_under rule holding.who) rule.notes rule.concludes (before_unlock es) x) same s.concluded
   concludes_at line (Some q) es o s p =
       let k = s.knows in
       ends_beside q.ask o es s.next.may (subst (λ x. KnowsAt rule holding lock Fresh Knows x q.ask es) p k) (beside_unlock q.ask line.outcome es k (λ none. absurd (cc)))
@@ -106,29 +108,30 @@ module _ (rule : Rule) (holding : Holding) (lock : Option LockRow) (Fresh : Type
   unlock_there (Ask.Delete t j m) outcome es k u none = u
   unlock_there (Ask.Upgrade t) outcome es k u none = u
 
-  is_released : (line : Line) (next : Option Request) (es : Trace) → SessionStands rule holding lock Fresh Knows line next es → next ≡ None → (token : Token) → Holds (task_under rule holding.who) token es → NumbersAreSpent es
-  is_released line None es s p token h = s.released token h
-  is_released line (Some q) es s p token h = absurd (cc)
+  is_released : (line : Line) (next : Option Request) (es : Trace) → SessionStands rule holding lock Fresh Knows Wants line next es → next ≡ None → line.outcome ≢ None → (token : Token) → Holds (task_under rule holding.who) token es → NumbersAreSpent es
+  is_released line None es (inl s) p n token h = s.released token h
+  is_released line None es (inr s) p n token h = absurd (n s.none)
+  is_released line (Some q) es s p n token h = absurd (cc)
 
-  stands_beside : (line : Line) (next : Option Request) (es : Trace) (r : Request) → SessionStands rule holding lock Fresh Knows line next es → next ≡ Some r → line.outcome ≢ None → IsUnlock r.ask
+  stands_beside : (line : Line) (next : Option Request) (es : Trace) (r : Request) → SessionStands rule holding lock Fresh Knows Wants line next es → next ≡ Some r → line.outcome ≢ None → IsUnlock r.ask
   stands_beside line None es r s p n = absurd (cc)
   stands_beside line (Some q) es r s p n = let same : q ≡ r = cc in subst (λ x. IsUnlock x.ask) same (beside_unlock q.ask line.outcome es s.knows n)
 
-  is_ending : (line : Line) (next : Option Request) (es : Trace) (r : Request) → SessionStands rule holding lock Fresh Knows line next es → next ≡ Some r → IsUnlock r.ask → line.outcome ≢ None
+  is_ending : (line : Line) (next : Option Request) (es : Trace) (r : Request) → SessionStands rule holding lock Fresh Knows Wants line next es → next ≡ Some r → IsUnlock r.ask → line.outcome ≢ None
   is_ending line None es r s p u = absurd (cc)
   is_ending line (Some q) es r s p u = let same : r ≡ q = cc in unlock_there q.ask line.outcome es s.knows (subst (λ x. IsUnlock x.ask) same u)
 
-  pub obeys_at : (line : Line) (es : Trace) → SessionAt rule holding lock Fresh Knows line es → IsObedient (task_under rule holding.who) rule.allows rule.gives rule.concludes line.next line.outcome es
+  pub obeys_at : (line : Line) (es : Trace) → SessionAt rule holding lock Fresh Knows Wants line es → IsObedientWith (task_under rule holding.who) rule.allows rule.gives rule.concludes rule.wanting line.next line.outcome es
   obeys_at line es s = record {
     obeys = s.obeys;
     pending = λ r p. pending_is line line.next es r s.stands p;
     settled = settles line line.next es s.stands;
     concluded = λ o p. concludes_at line line.next es o s.stands p;
-    released = λ p n token h. is_released line line.next es s.stands p token h;
+    released = λ p n token h. is_released line line.next es s.stands p n token h;
     beside = λ r p n. stands_beside line line.next es r s.stands p n;
     ending = λ r p u. is_ending line line.next es r s.stands p u;
   }
 
-pub session_obeys : {J H : Type 0} (handed : J → H) (rule : H → Rule) (fresh : J → Type 0) (knows : J → Ask → Trace → Type 0) (s : Session J) (es : Trace) → FitsSession handed rule fresh knows s es
-    → IsObedient (task_under (rule (handed s.job)) s.head.holder.who) (rule (handed s.job)).allows (rule (handed s.job)).gives (rule (handed s.job)).concludes s.head.line.next s.head.line.outcome es
-session_obeys handed rule fresh knows s es f = obeys_at (rule (handed s.job)) s.head.holder s.head.lock (fresh s.job) (knows s.job) s.head.line es f
+pub session_obeys : {J H : Type 0} (handed : J → H) (rule : H → Rule) (fresh : J → Type 0) (knows : J → Ask → Trace → Type 0) (wants : J → Trace → Type 0) (s : Session J) (es : Trace) → FitsWanting handed rule fresh knows wants s es
+    → IsObedientWith (task_under (rule (handed s.job)) s.head.holder.who) (rule (handed s.job)).allows (rule (handed s.job)).gives (rule (handed s.job)).concludes (rule (handed s.job)).wanting s.head.line.next s.head.line.outcome es
+session_obeys handed rule fresh knows wants s es f = obeys_at (rule (handed s.job)) s.head.holder s.head.lock (fresh s.job) (knows s.job) (wants s.job) s.head.line es f

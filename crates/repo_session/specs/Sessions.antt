@@ -1,5 +1,5 @@
 -- Where a session stands, and what it does by itself.
-use Rattle.std.specs.Prelude.{◌≡◌, ◌≢◌, ◌+◌, [], ℕ, Bool, true, false, cond, List, length, Option, Some, None, ◌∷◌}
+use Rattle.std.specs.Prelude.{◌≡◌, ◌≢◌, ◌⊎◌, ◌+◌, [], ℕ, Bool, true, false, cond, List, length, Option, Some, None, ◌∷◌}
 use Rattle.repo_name.specs.declared.rows.LockRow.{LockRow}
 use Rattle.repo_name.specs.declared.tokens.Token.{Token}
 use Rattle.repo_wire.specs.declared.messages.Ask.{Ask}
@@ -15,9 +15,9 @@ use Rattle.repo_session.specs.declared.sessions.Head.{Head}
 use Rattle.repo_session.specs.declared.sessions.Session.{Session}
 use Rattle.repo_session.specs.Askers.{Asker, Holding}
 use Rattle.repo_session.specs.Clients.{IsNextRequest, exchange, IsReplyTo}
-use Rattle.repo_session.specs.Ends.{CausedBy, Concludes, NumbersAreSpent, IsUnwelcome, before_unlock}
+use Rattle.repo_session.specs.Ends.{CausedBy, MayConclude, NumbersAreSpent, IsUnwelcome, before_unlock}
 use Rattle.repo_session.specs.Jobs.{Rule, task_under, known_under}
-use Rattle.repo_session.specs.Lines.{IsSentOnLine, IsFinished, IsClosed}
+use Rattle.repo_session.specs.Lines.{IsSentOnLine, IsFinished, IsClosed, IsIdle}
 use Rattle.repo_session.specs.Order.{ticketed, locked, lock_row, Holds, IsWorking, Obeys, IsWork}
 use Rattle.repo_session.specs.Traces.{Trace, giving}
 use Rattle.repo_wire.specs.declared.messages.Reply.{Reply}
@@ -27,7 +27,7 @@ abbrev pub KnowsAt : Rule → Holding → Option LockRow → Type 0 → (Ask →
 KnowsAt rule holding lock Fresh Knows outcome Ask.Ticket es = Fresh × (outcome ≡ None) × (lock ≡ Some (lock_row (task_under rule holding.who) (record { 0 = 0 })))
 KnowsAt rule holding lock Fresh Knows outcome (Ask.Lock row) es = Fresh × (outcome ≡ None) × (es ≡ ticketed holding.token)
 KnowsAt rule holding lock Fresh Knows outcome Ask.Config es = Fresh × (outcome ≡ None) × (es ≡ locked (task_under rule holding.who) holding.token)
-KnowsAt rule holding lock Fresh Knows outcome (Ask.Unlock token) es = (o : Outcome) × (outcome ≡ Some o) × Concludes (known_under rule holding.who) rule.concludes es o
+KnowsAt rule holding lock Fresh Knows outcome (Ask.Unlock token) es = (o : Outcome) × (outcome ≡ Some o) × MayConclude (known_under rule holding.who) rule.notes rule.concludes es o
 KnowsAt rule holding lock Fresh Knows outcome (Ask.Refresh token time) es = ⊥
 KnowsAt rule holding lock Fresh Knows outcome Ask.Locks es = ⊥
 KnowsAt rule holding lock Fresh Knows outcome ask es = IsWorking (task_under rule holding.who) holding.token es × (outcome ≡ None) × Knows ask es
@@ -42,19 +42,27 @@ pub record SessionWaits (rule : Rule) (holding : Holding) (lock : Option LockRow
 pub record SessionRests (rule : Rule) (holding : Holding) (line : Line) (es : Trace) : Type 0 where
   pub outcome : Outcome
   pub there : line.outcome ≡ Some outcome
-  pub concluded : Concludes (known_under rule holding.who) rule.concludes (before_unlock es) outcome
+  pub concluded : MayConclude (known_under rule holding.who) rule.notes rule.concludes (before_unlock es) outcome
   pub released : (token : Token) → Holds (task_under rule holding.who) token es → NumbersAreSpent es
 
+-- nothing is pending, and the job wants input: the lock is held
+pub record SessionWants (rule : Rule) (holding : Holding) (Wants : Trace → Type 0) (line : Line) (es : Trace) : Type 0 where
+  pub working : IsWorking (task_under rule holding.who) holding.token es
+  pub none : line.outcome ≡ None
+  pub counted : line.sequence ≡ length es
+  pub may : rule.wanting es
+  pub knows : Wants es
+
 -- by what is pending
-abbrev pub SessionStands : Rule → Holding → Option LockRow → Type 0 → (Ask → Trace → Type 0) → Line → Option Request → Trace → Type 0
-SessionStands rule holding lock Fresh Knows line (Some request) es = SessionWaits rule holding lock Fresh Knows line request es
-SessionStands rule holding lock Fresh Knows line None es = SessionRests rule holding line es
+abbrev pub SessionStands : Rule → Holding → Option LockRow → Type 0 → (Ask → Trace → Type 0) → (Trace → Type 0) → Line → Option Request → Trace → Type 0
+SessionStands rule holding lock Fresh Knows Wants line (Some request) es = SessionWaits rule holding lock Fresh Knows line request es
+SessionStands rule holding lock Fresh Knows Wants line None es = SessionRests rule holding line es ⊎ SessionWants rule holding Wants line es
 
 -- a session that stands where a trace leaves it
-pub record SessionAt (rule : Rule) (holding : Holding) (lock : Option LockRow) (Fresh : Type 0) (Knows : Ask → Trace → Type 0) (line : Line) (es : Trace) : Type 0 where
+pub record SessionAt (rule : Rule) (holding : Holding) (lock : Option LockRow) (Fresh : Type 0) (Knows : Ask → Trace → Type 0) (Wants : Trace → Type 0) (line : Line) (es : Trace) : Type 0 where
   pub instance : line.instance ≡ holding.who.instance
   pub obeys : Obeys (task_under rule holding.who) rule.allows rule.gives es
-  pub stands : SessionStands rule holding lock Fresh Knows line line.next es
+  pub stands : SessionStands rule holding lock Fresh Knows Wants line line.next es
 
 -- where the reply is a refusal, or of the wrong sort, it is a cause of this end
 abbrev pub SessionEndsBy : Ask → Say → End → Type 0
@@ -72,8 +80,12 @@ abbrev pub given_by : {J : Type 0} → (J → List Emission) → Session J → L
 given_by given s = cond s.told (given s.job) []
 
 -- the code's session stands where the trace leaves it
+abbrev pub FitsWanting : {J H : Type 0} → (J → H) → (H → Rule) → (J → Type 0) → (J → Ask → Trace → Type 0) → (J → Trace → Type 0) → Session J → Trace → Type 0
+FitsWanting handed rule fresh knows wants s es = SessionAt (rule (handed s.job)) s.head.holder s.head.lock (fresh s.job) (knows s.job) (wants s.job) s.head.line es
+
+-- where its job never wants input
 abbrev pub FitsSession : {J H : Type 0} → (J → H) → (H → Rule) → (J → Type 0) → (J → Ask → Trace → Type 0) → Session J → Trace → Type 0
-FitsSession handed rule fresh knows s es = SessionAt (rule (handed s.job)) s.head.holder s.head.lock (fresh s.job) (knows s.job) s.head.line es
+FitsSession handed rule fresh knows s es = FitsWanting handed rule fresh knows (λ j fs. ⊥) s es
 
 -- all but the line stays
 pub record KeepsLock (old new : Head) : Type 0 where
@@ -89,6 +101,7 @@ pub record Leaves (old : Head) (end : End) (new : Head) : Type 0 where
 abbrev pub FollowsStep : Head → Step → End → Head → Type 0
 FollowsStep old (Step.Ask ask) end new = IsSentOnLine old.line ask new.line
 FollowsStep old (Step.Finish outcome) end new = IsFinished old.line outcome old.holder.token new.line
+FollowsStep old Step.Want end new = IsIdle old.line new.line
 FollowsStep old Step.Away end new = Leaves old end new
 
 -- whether the job took the reply
@@ -112,10 +125,10 @@ abbrev pub token_beside : Token → Ask → Option Token
 token_beside token Ask.Ticket = None
 token_beside token _ = Some token
 
--- the token that a session tells: that of its ticket, until it has an outcome
+-- the token that a session tells: that of its ticket, until it has an outcome; where nothing is pending, it wants input
 abbrev pub token_told : Token → Option Outcome → Option Request → Option Token
 token_told token (Some outcome) next = None
-token_told token None None = None
+token_told token None None = Some token
 token_told token None (Some request) = token_beside token request.ask
 
 abbrev pub token_in : {J : Type 0} → Session J → Option Token
@@ -124,28 +137,28 @@ token_in s = token_told s.head.holder.token s.head.line.outcome s.head.line.next
 -- ---- how a session takes a reply: where it fitted a trace, it fits that with one exchange more
 
 -- what was said to the request for the config
-abbrev pub TakesConfig : {J H : Type 0} → (J → H) → (H → Rule) → (J → Type 0) → (J → Ask → Trace → Type 0) → (J → List Emission) → Session J → Say → End → Session J → Type 0
-TakesConfig handed rule fresh knows given old say end new = (request : Request) (es : Trace) → old.head.line.next ≡ Some request → request.ask ≡ Ask.Config
-    → SessionEndsBy Ask.Config say end → FitsSession handed rule fresh knows old es → FitsSession handed rule fresh knows new (giving request.ask say (given_by given new) ∷ es)
+abbrev pub TakesConfig : {J H : Type 0} → (J → H) → (H → Rule) → (J → Type 0) → (J → Ask → Trace → Type 0) → (J → Trace → Type 0) → (J → List Emission) → Session J → Say → End → Session J → Type 0
+TakesConfig handed rule fresh knows wants given old say end new = (request : Request) (es : Trace) → old.head.line.next ≡ Some request → request.ask ≡ Ask.Config
+    → SessionEndsBy Ask.Config say end → FitsWanting handed rule fresh knows wants old es → FitsWanting handed rule fresh knows wants new (giving request.ask say (given_by given new) ∷ es)
 
 -- what was said to a request of its work
-abbrev pub TakesWork : {J H : Type 0} → (J → H) → (H → Rule) → (J → Type 0) → (J → Ask → Trace → Type 0) → (J → List Emission) → Session J → Say → End → Session J → Type 0
-TakesWork handed rule fresh knows given old say end new = (request : Request) (es : Trace) → old.head.line.next ≡ Some request → IsWork request.ask
-    → SessionEndsBy request.ask say end → FitsSession handed rule fresh knows old es → FitsSession handed rule fresh knows new (giving request.ask say (given_by given new) ∷ es)
+abbrev pub TakesWork : {J H : Type 0} → (J → H) → (H → Rule) → (J → Type 0) → (J → Ask → Trace → Type 0) → (J → Trace → Type 0) → (J → List Emission) → Session J → Say → End → Session J → Type 0
+TakesWork handed rule fresh knows wants given old say end new = (request : Request) (es : Trace) → old.head.line.next ≡ Some request → IsWork request.ask
+    → SessionEndsBy request.ask say end → FitsWanting handed rule fresh knows wants old es → FitsWanting handed rule fresh knows wants new (giving request.ask say (given_by given new) ∷ es)
 
 -- a reply to the request that is pending
-abbrev pub TakesReply : {J H : Type 0} → (J → H) → (H → Rule) → (J → Type 0) → (J → Ask → Trace → Type 0) → (J → List Emission) → Session J → Reply → Session J → Type 0
-TakesReply handed rule fresh knows given old reply new = (request : Request) → old.head.line.next ≡ Some request → IsReplyTo request reply
-    → (es : Trace) → FitsSession handed rule fresh knows old es → FitsSession handed rule fresh knows new (exchange request reply (given_by given new) ∷ es)
+abbrev pub TakesReply : {J H : Type 0} → (J → H) → (H → Rule) → (J → Type 0) → (J → Ask → Trace → Type 0) → (J → Trace → Type 0) → (J → List Emission) → Session J → Reply → Session J → Type 0
+TakesReply handed rule fresh knows wants given old reply new = (request : Request) → old.head.line.next ≡ Some request → IsReplyTo request reply
+    → (es : Trace) → FitsWanting handed rule fresh knows wants old es → FitsWanting handed rule fresh knows wants new (exchange request reply (given_by given new) ∷ es)
 
 -- it fits each trace that it fitted
-abbrev pub StaysFitting : {J H : Type 0} → (J → H) → (H → Rule) → (J → Type 0) → (J → Ask → Trace → Type 0) → Session J → Session J → Type 0
-StaysFitting handed rule fresh knows old new = (es : Trace) → FitsSession handed rule fresh knows old es → FitsSession handed rule fresh knows new es
+abbrev pub StaysFitting : {J H : Type 0} → (J → H) → (H → Rule) → (J → Type 0) → (J → Ask → Trace → Type 0) → (J → Trace → Type 0) → Session J → Session J → Type 0
+StaysFitting handed rule fresh knows wants old new = (es : Trace) → FitsWanting handed rule fresh knows wants old es → FitsWanting handed rule fresh knows wants new es
 
 -- it does so while a request of its work is pending
-abbrev pub StaysAtWork : {J H : Type 0} → (J → H) → (H → Rule) → (J → Type 0) → (J → Ask → Trace → Type 0) → Session J → Session J → Type 0
-StaysAtWork handed rule fresh knows old new = (request : Request) (es : Trace) → old.head.line.next ≡ Some request → IsWork request.ask → FitsSession handed rule fresh knows old es → FitsSession handed rule fresh knows new es
+abbrev pub StaysAtWork : {J H : Type 0} → (J → H) → (H → Rule) → (J → Type 0) → (J → Ask → Trace → Type 0) → (J → Trace → Type 0) → Session J → Session J → Type 0
+StaysAtWork handed rule fresh knows wants old new = (request : Request) (es : Trace) → old.head.line.next ≡ Some request → IsWork request.ask → FitsWanting handed rule fresh knows wants old es → FitsWanting handed rule fresh knows wants new es
 
 -- an outcome stays
-abbrev pub StaysEnded : {J H : Type 0} → (J → H) → (H → Rule) → (J → Type 0) → (J → Ask → Trace → Type 0) → Session J → Session J → Type 0
-StaysEnded handed rule fresh knows old new = (es : Trace) (outcome : Outcome) → FitsSession handed rule fresh knows old es → old.head.line.outcome ≡ Some outcome → new.head.line.outcome ≡ Some outcome
+abbrev pub StaysEnded : {J H : Type 0} → (J → H) → (H → Rule) → (J → Type 0) → (J → Ask → Trace → Type 0) → (J → Trace → Type 0) → Session J → Session J → Type 0
+StaysEnded handed rule fresh knows wants old new = (es : Trace) (outcome : Outcome) → FitsWanting handed rule fresh knows wants old es → old.head.line.outcome ≡ Some outcome → new.head.line.outcome ≡ Some outcome

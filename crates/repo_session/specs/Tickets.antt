@@ -1,5 +1,5 @@
 -- The token that a session tells is the one of its ticket.
-use Rattle.std.specs.Prelude.{◌≡◌, ◌≢◌, ◌⊎◌, ◌++◌, ◌∷◌, [], ℕ, List, Option, Some, None}
+use Rattle.std.specs.Prelude.{◌≡◌, ◌≢◌, ◌++◌, ◌∷◌, [], ℕ, List, Option, Some, None}
 use Rattle.std.proofs.Common.{refl, sym, ap, subst, inl, inr}
 use Rattle.repo_name.specs.declared.rows.LockRow.{LockRow}
 use Rattle.repo_name.specs.declared.tokens.Token.{Token}
@@ -12,8 +12,8 @@ use Rattle.repo_session.specs.declared.sessions.Session.{Session}
 use Rattle.repo_session.specs.Askers.{Holding}
 use Rattle.repo_session.specs.Clients.{TellsToken}
 use Rattle.repo_session.specs.Jobs.{Rule, task_under}
-use Rattle.repo_session.specs.Order.{Task, ticketed, locked, opened, IsWorking, May, Obeys}
-use Rattle.repo_session.specs.Sessions.{KnowsAt, SessionStands, SessionAt, FitsSession, token_beside, token_told}
+use Rattle.repo_session.specs.Order.{Task, opened, IsWorking, May, Obeys}
+use Rattle.repo_session.specs.Sessions.{KnowsAt, SessionStands, SessionAt, FitsWanting, token_beside, token_told}
 use Rattle.repo_session.specs.Traces.{Exchange, Exchanged, Trace}
 
 -- ---- the one ticket of a trace
@@ -53,7 +53,7 @@ one_working task A G token other es (config, h) obeys x =
 
 -- ---- where a session stands
 
-module _ (rule : Rule) (holding : Holding) (lock : Option LockRow) (Fresh : Type 0) (Knows : Ask → Trace → Type 0) where
+module _ (rule : Rule) (holding : Holding) (lock : Option LockRow) (Fresh : Type 0) (Knows : Ask → Trace → Type 0) (Wants : Trace → Type 0) where
   given_beside : (ask : Ask) (es : Trace) (token : Token) → KnowsAt rule holding lock Fresh Knows None ask es → token_beside holding.token ask ≡ Some token → Exchanged es Ask.Ticket (Say.Token token)
   given_beside Ask.Ticket es token k p = absurd (cc)
   given_beside (Ask.Lock row) es token k p =
@@ -94,25 +94,29 @@ module _ (rule : Rule) (holding : Holding) (lock : Option LockRow) (Fresh : Type
   tells_beside (Ask.Delete t j n) es token obeys may k h = ap Some (sym (one_working (task_under rule holding.who) rule.allows rule.gives holding.token token es k.0 obeys h))
   tells_beside (Ask.Upgrade t) es token obeys may k h = ap Some (sym (one_working (task_under rule holding.who) rule.allows rule.gives holding.token token es k.0 obeys h))
 
-  given_told : (line : Line) (outcome : Option Outcome) (next : Option Request) (es : Trace) (token : Token) → line.outcome ≡ outcome → SessionStands rule holding lock Fresh Knows line next es
+  given_told : (line : Line) (outcome : Option Outcome) (next : Option Request) (es : Trace) (token : Token) → line.outcome ≡ outcome → SessionStands rule holding lock Fresh Knows Wants line next es
       → token_told holding.token outcome next ≡ Some token → Exchanged es Ask.Ticket (Say.Token token)
   given_told line (Some o) next es token is s p = absurd (cc)
-  given_told line None None es token is s p = absurd (cc)
+  given_told line None None es token is (inl s) p = let there = s.there in absurd (cc)
+  given_told line None None es token is (inr s) p =
+      let same : holding.token ≡ token = cc in
+      subst (λ t. Exchanged es Ask.Ticket (Say.Token t)) same (given_working (task_under rule holding.who) holding.token es s.working)
   given_told line None (Some request) es token is s p = given_beside request.ask es token (subst (λ o. KnowsAt rule holding lock Fresh Knows o request.ask es) is s.knows) p
 
   tells_told : (line : Line) (outcome : Option Outcome) (next : Option Request) (es : Trace) (token : Token) → line.outcome ≡ outcome → Obeys (task_under rule holding.who) rule.allows rule.gives es
-      → SessionStands rule holding lock Fresh Knows line next es → outcome ≡ None → Exchanged es Ask.Ticket (Say.Token token) → token_told holding.token outcome next ≡ Some token
+      → SessionStands rule holding lock Fresh Knows Wants line next es → outcome ≡ None → Exchanged es Ask.Ticket (Say.Token token) → token_told holding.token outcome next ≡ Some token
   tells_told line (Some o) next es token is obeys s none h = absurd (cc)
-  tells_told line None None es token is obeys s none h = let there = s.there in absurd (cc)
+  tells_told line None None es token is obeys (inl s) none h = let there = s.there in absurd (cc)
+  tells_told line None None es token is obeys (inr s) none h = ap Some (sym (one_working (task_under rule holding.who) rule.allows rule.gives holding.token token es s.working obeys h))
   tells_told line None (Some request) es token is obeys s none h =
       tells_beside request.ask es token obeys s.next.may (subst (λ o. KnowsAt rule holding lock Fresh Knows o request.ask es) is s.knows) h
 
-  pub tells_at : (line : Line) (es : Trace) → SessionAt rule holding lock Fresh Knows line es → TellsToken (token_told holding.token line.outcome line.next) line.outcome es
+  pub tells_at : (line : Line) (es : Trace) → SessionAt rule holding lock Fresh Knows Wants line es → TellsToken (token_told holding.token line.outcome line.next) line.outcome es
   tells_at line es s = record {
     given = λ token p. given_told line line.outcome line.next es token refl s.stands p;
     tells = λ token none h. tells_told line line.outcome line.next es token refl s.obeys s.stands none h;
   }
 
-pub session_tells : {J H : Type 0} (handed : J → H) (rule : H → Rule) (fresh : J → Type 0) (knows : J → Ask → Trace → Type 0) (s : Session J) (es : Trace) → FitsSession handed rule fresh knows s es
+pub session_tells : {J H : Type 0} (handed : J → H) (rule : H → Rule) (fresh : J → Type 0) (knows : J → Ask → Trace → Type 0) (wants : J → Trace → Type 0) (s : Session J) (es : Trace) → FitsWanting handed rule fresh knows wants s es
     → TellsToken (token_told s.head.holder.token s.head.line.outcome s.head.line.next) s.head.line.outcome es
-session_tells handed rule fresh knows s es f = tells_at (rule (handed s.job)) s.head.holder s.head.lock (fresh s.job) (knows s.job) s.head.line es f
+session_tells handed rule fresh knows wants s es f = tells_at (rule (handed s.job)) s.head.holder s.head.lock (fresh s.job) (knows s.job) (wants s.job) s.head.line es f

@@ -10,7 +10,7 @@ ghost use Rattle.repo_wire.specs.Messages.{requests};
 ghost use Rattle.repo_wire.specs.Stream.{FitsFrame};
 ghost use Rattle.repo_session.specs.declared.emissions.Emission.{Emission};
 ghost use Rattle.repo_session.specs.declared.outcomes.Outcome.{Outcome};
-ghost use Rattle.repo_session.specs.Clients.{IsReplyTo, AnswersNext, exchange, IsObedient, IsSteady, TellsToken};
+ghost use Rattle.repo_session.specs.Clients.{IsReplyTo, AnswersNext, exchange, IsObedientWith, IsSteady, TellsToken};
 ghost use Rattle.repo_session.specs.Order.{Task};
 ghost use Rattle.repo_session.specs.Traces.{Exchange, Trace};
 
@@ -39,6 +39,8 @@ pub trait Client {
     ghost gives: { Job → Trace → Exchange → Type 0 };
     /// The outcomes that the job's own rule allows after a trace.
     ghost concludes: { Job → Trace → Outcome → Type 0 };
+    /// After these traces it may want input.
+    ghost wanting: { Job → Trace → Type 0 };
     /// It takes each refusal without memory.
     ghost calm: { Job → Type 0 };
     /// The client stands where this trace leaves it.
@@ -52,7 +54,7 @@ pub trait Client {
     /// The token that it tells.
     ghost token_of: { Self → Option Token };
 
-    /// The request that is pending: `None` once the job is at its end. It fits a frame.
+    /// The request that is pending: `None` once the job is at its end, or while it wants input. It fits a frame.
     fn pending(&self) -> Option<&Request>
         ensures next { option_map (λ request. request.now) result ≡ next self.now }
         ensures frame { (request : Request) → next self.now ≡ Some request → FitsFrame requests request };
@@ -90,9 +92,10 @@ pub trait Client {
         ensures { result ≡ token_of self.now };
 
     /// A trace at whose end the client stands obeys the common order and the job's rule; so does what is
-    /// pending; where nothing is, there is an outcome, and the lock was ended; and an outcome comes only where it may.
+    /// pending; where nothing is, there is an outcome, and the lock was ended, or it wants input, where it may; and an outcome comes only
+    /// where it may.
     ghost obedient: { (client : Self) (es : Trace) → fits client es
-        → IsObedient (task (job client)) (allows (job client)) (gives (job client)) (concludes (job client)) (next client) (ended client) es };
+        → IsObedientWith (task (job client)) (allows (job client)) (gives (job client)) (concludes (job client)) (wanting (job client)) (next client) (ended client) es };
     /// The token that it tells is the one that it was given.
     ghost ticketed: { (client : Self) (es : Trace) → fits client es → TellsToken (token_of client) (ended client) es };
 }

@@ -5,7 +5,7 @@ ghost use Rattle.repo_wire.specs.declared.messages.Ask.{Ask};
 ghost use Rattle.repo_wire.specs.declared.messages.Code.{Code};
 ghost use Rattle.repo_wire.specs.declared.messages.Say.{Say};
 ghost use Rattle.repo_session.specs.declared.emissions.Emission.{Emission};
-ghost use Rattle.repo_session.specs.Jobs.{Rule, JobBegins, StepsOn, IsShortStep};
+ghost use Rattle.repo_session.specs.Jobs.{Rule, JobBegins, TurnsOn, IsShortStep};
 ghost use Rattle.repo_session.specs.Traces.{Trace, giving};
 
 use crate::emissions::Emission;
@@ -23,6 +23,8 @@ pub enum Step {
     Ask(Ask),
     /// The job ends so.
     Finish(Outcome),
+    /// The job wants input.
+    Want,
     /// The reply is a refusal, or of another sort than the request wants: the session ends as that gives.
     Away,
 }
@@ -42,6 +44,8 @@ pub trait Job {
     ghost fresh: { Self → Type 0 };
     /// What it knows of the trace while a request of its own is pending.
     ghost knows: { Self → Ask → Trace → Type 0 };
+    /// What it knows of the trace while it wants input.
+    ghost wants: { Self → Trace → Type 0 };
     /// What the last reply that it took gave out.
     ghost given: { Self → List Emission };
 
@@ -62,7 +66,7 @@ pub trait Job {
     /// Takes the reply to a request of its own. It fails for memory alone, and then it knows what it knew, and the
     /// reply may be taken again.
     fn reply(&mut self, holder: &Holder, ask: &Ask, say: &Say) -> Result<Step, AllocError>
-        ensures steps { IfOk result (StepsOn (rule (handed self.old)) holder.now (knows self.old) (knows self.new) (giving ask.now say.now (given self.new))) }
+        ensures steps { IfOk result (TurnsOn (rule (handed self.old)) holder.now (knows self.old) (knows self.new) (wants self.new) (giving ask.now say.now (given self.new))) }
         ensures short { IfOk result IsShortStep }
         ensures calm { (code : Code) → say.now ≡ Say.Refused code → (rule (handed self.old)).calm → IsOk result }
         ensures knows { OnErr result ((es : Trace) → knows self.old ask.now es → knows self.new ask.now es) }

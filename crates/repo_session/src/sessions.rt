@@ -13,7 +13,7 @@ ghost use Rattle.repo_session.specs.Askers.{row_of};
 ghost use Rattle.repo_session.specs.Clients.{AnswersNext, IsSteady};
 ghost use Rattle.repo_session.specs.Jobs.{IsShortStep};
 ghost use Rattle.repo_session.specs.Lines.{IsSentOnLine, IsClosed};
-ghost use Rattle.repo_session.specs.Sessions.{FitsSession, KeepsLock, Leaves, FollowsStep, given_by, took, who_in, TakesConfig, TakesWork, TakesReply, StaysFitting, StaysAtWork, StaysEnded};
+ghost use Rattle.repo_session.specs.Sessions.{FitsWanting, KeepsLock, Leaves, FollowsStep, given_by, took, who_in, TakesConfig, TakesWork, TakesReply, StaysFitting, StaysAtWork, StaysEnded};
 
 use crate::clients::Client;
 use crate::connections::answers;
@@ -31,10 +31,10 @@ use std::alloc::{AllocError, Global};
 /// All of a session but its job: who holds the lock, the lock to be asked for until the ticket is there, and what is
 /// pending.
 #[derive(Drop)]
-struct Head {
-    holder: Holder,
-    lock: Option<Claim>,
-    line: Line,
+pub struct Head {
+    pub holder: Holder,
+    pub lock: Option<Claim>,
+    pub line: Line,
 }
 
 impl Head {
@@ -81,7 +81,7 @@ impl Head {
     }
 
     /// Does what a job wants on a reply, of which this would be the end.
-    fn follow(&mut self, step: Step, end: End)
+    pub fn follow(&mut self, step: Step, end: End)
         requires { IsShortStep step }
         ensures follows { FollowsStep self.old step end self.new }
         ensures kept { KeepsLock self.old self.new }
@@ -89,6 +89,7 @@ impl Head {
         match step {
             Step::Ask(ask) => self.line.send(ask),
             Step::Finish(outcome) => self.line.finish(outcome, self.holder.token()),
+            Step::Want => self.line.idle(),
             Step::Away => self.leave(end),
         }
     }
@@ -121,10 +122,10 @@ fn is_taken(step: &Step) -> bool
 /// spent. Where it rests, the lock that it held was ended.
 #[derive(Drop)]
 pub struct Session<J> {
-    job: J,
-    head: Head,
+    pub job: J,
+    pub head: Head,
     /// Whether the job took the last reply.
-    told: bool,
+    pub told: bool,
     alloc: Global,
 }
 
@@ -132,7 +133,7 @@ impl<J: Job + Drop> Session<J> {
     /// A session whose ticket is pending. It takes no memory.
     pub fn new(alloc: Global, who: Who, job: J) -> Session<J>
         requires { J.fresh job }
-        ensures fits { FitsSession J.handed J.rule J.fresh J.knows result [] }
+        ensures fits { FitsWanting J.handed J.rule J.fresh J.knows J.wants result [] }
         ensures job { result.job ≡ job }
         ensures who { who_in result ≡ who }
     {
@@ -159,7 +160,7 @@ impl<J: Job + Drop> Session<J> {
 
     /// Takes the reply to the config. It fails for memory alone, and then nothing changed.
     fn take_config(&mut self, say: &Say, end: End) -> Result<(), AllocError>
-        ensures taken { OnOk result (TakesConfig J.handed J.rule J.fresh J.knows J.given self.old say.now end self.new) }
+        ensures taken { OnOk result (TakesConfig J.handed J.rule J.fresh J.knows J.wants J.given self.old say.now end self.new) }
         ensures err { OnErr result (self.new ≡ self.old) }
         ensures calm { (code : Code) → say.now ≡ Say.Refused code → IsOk result }
         ensures handed { J.handed self.new.job ≡ J.handed self.old.job }
@@ -189,9 +190,9 @@ impl<J: Job + Drop> Session<J> {
 
     /// Takes the reply to a request of the job. It fails for memory alone, and then what fitted fits.
     fn take_work(&mut self, say: &Say, end: End) -> Result<(), AllocError>
-        ensures taken { OnOk result (TakesWork J.handed J.rule J.fresh J.knows J.given self.old say.now end self.new) }
+        ensures taken { OnOk result (TakesWork J.handed J.rule J.fresh J.knows J.wants J.given self.old say.now end self.new) }
         ensures calm { (code : Code) → say.now ≡ Say.Refused code → (J.rule (J.handed self.old.job)).calm → IsOk result }
-        ensures fits { OnErr result (StaysAtWork J.handed J.rule J.fresh J.knows self.old self.new) }
+        ensures fits { OnErr result (StaysAtWork J.handed J.rule J.fresh J.knows J.wants self.old self.new) }
         ensures head { OnErr result (self.new.head ≡ self.old.head) }
         ensures given { OnErr result (given_by J.given self.new ≡ given_by J.given self.old) }
         ensures handed { J.handed self.new.job ≡ J.handed self.old.job }
@@ -215,15 +216,15 @@ impl<J: Job + Drop> Session<J> {
 
     /// Takes a reply. One that isn't to the pending request changes nothing. It fails for memory alone.
     fn take_reply(&mut self, reply: &Reply) -> Result<(), AllocError>
-        ensures taken { OnOk result (TakesReply J.handed J.rule J.fresh J.knows J.given self.old reply.now self.new) }
+        ensures taken { OnOk result (TakesReply J.handed J.rule J.fresh J.knows J.wants J.given self.old reply.now self.new) }
         ensures other { ¬ AnswersNext self.old.head.line.next reply.now → self.new ≡ self.old }
         ensures steady { ¬ AnswersNext self.old.head.line.next reply.now → IsOk result }
         ensures sure { (request : Request) → self.old.head.line.next ≡ Some request → IsSteady request.ask → IsOk result }
         ensures calm { (code : Code) → reply.now.say ≡ Say.Refused code → (J.rule (J.handed self.old.job)).calm → IsOk result }
-        ensures fits { OnErr result (StaysFitting J.handed J.rule J.fresh J.knows self.old self.new) }
+        ensures fits { OnErr result (StaysFitting J.handed J.rule J.fresh J.knows J.wants self.old self.new) }
         ensures head { OnErr result (self.new.head ≡ self.old.head) }
         ensures given { OnErr result (given_by J.given self.new ≡ given_by J.given self.old) }
-        ensures stays { StaysEnded J.handed J.rule J.fresh J.knows self.old self.new }
+        ensures stays { StaysEnded J.handed J.rule J.fresh J.knows J.wants self.old self.new }
         ensures handed { J.handed self.new.job ≡ J.handed self.old.job }
         ensures who { self.new.head.holder.who ≡ self.old.head.holder.who }
     {
@@ -259,7 +260,7 @@ impl<J: Job + Drop> Session<J> {
 
 impl<J: Job + Drop> Client for Session<J> {
     ghost use Rattle.repo_session.specs.Jobs.{task_under};
-    ghost use Rattle.repo_session.specs.Sessions.{Given, FitsSession, given_by, who_in, next_in, ended_in, token_in};
+    ghost use Rattle.repo_session.specs.Sessions.{Given, FitsWanting, given_by, who_in, next_in, ended_in, token_in};
     ghost use Rattle.repo_session.specs.Obedience.{session_obeys};
     ghost use Rattle.repo_session.specs.Tickets.{session_tells};
 
@@ -277,7 +278,9 @@ impl<J: Job + Drop> Client for Session<J> {
 
     ghost calm = { λ j. (J.rule j.handed).calm };
 
-    ghost fits = { λ s es. FitsSession J.handed J.rule J.fresh J.knows s es };
+    ghost wanting = { λ j. (J.rule j.handed).wanting };
+
+    ghost fits = { λ s es. FitsWanting J.handed J.rule J.fresh J.knows J.wants s es };
 
     ghost next = { λ s. next_in s };
 
@@ -287,9 +290,9 @@ impl<J: Job + Drop> Client for Session<J> {
 
     ghost token_of = { λ s. token_in s };
 
-    ghost obedient = { λ s es f. session_obeys J.handed J.rule J.fresh J.knows s es f };
+    ghost obedient = { λ s es f. session_obeys J.handed J.rule J.fresh J.knows J.wants s es f };
 
-    ghost ticketed = { λ s es f. session_tells J.handed J.rule J.fresh J.knows s es f };
+    ghost ticketed = { λ s es f. session_tells J.handed J.rule J.fresh J.knows J.wants s es f };
 
     fn pending(&self) -> Option<&Request> {
         match &self.head.line.next {
@@ -311,8 +314,11 @@ impl<J: Job + Drop> Client for Session<J> {
     }
 
     fn token(&self) -> Option<Token> {
-        let (None, Some(letter)) = (&self.head.line.outcome, &self.head.line.next) else {
+        if self.head.line.outcome.is_some() {
             return None;
+        }
+        let Some(letter) = &self.head.line.next else {
+            return Some(self.head.holder.token());
         };
         match &letter.request().ask {
             Ask::Ticket => None,

@@ -19,6 +19,7 @@ use Rattle.repo_session.proofs.Concluding.{IsUndeleted}
 use Rattle.repo_session.proofs.Spoken.{was_asked}
 use Rattle.repo_prune.specs.Pruning.{PruneAllows}
 use Rattle.repo_prune.proofs.ForgetRuns.{undeleted}
+use Rattle.repo_session.proofs.GoingOn.{concluded_of}
 use Rattle.repo_world.specs.Bag.{AskedIn, AskedAt, with_next}
 use Rattle.repo_world.specs.Clients.{task_of, JobAllows, JobGives, JobConcludes, Client}
 use Rattle.repo_world.specs.Laws.{Behaves}
@@ -96,7 +97,11 @@ nobody_ruled = record { obeys = tt; pending = λ r h. absurd (none-some r h); co
 
 pub ruled : (c : Client) → Behaves c → IsRuled c.job c
 ruled c (inl e) = subst (λ (d : Client). IsRuled d.job d) (sym e) nobody_ruled
-ruled c (inr d) = record { obeys = d.obeys; pending = d.pending; concluded = d.concluded }
+ruled c (inr d) = record {
+  obeys = d.obeys;
+  pending = d.pending;
+  concluded = λ o h. concluded_of (task_of c.job c.who).notes (upto (task_of c.job c.who).versions) (JobConcludes c.job) (ends.before_unlock c.trace) o (d.concluded o h);
+}
 
 pub ruled_as : (c : Client) (b : Job) → c.job ≡ b → Behaves c → IsRuled b c
 ruled_as c b e h = subst (λ (j : Job). IsRuled j c) e (ruled c h)

@@ -15,6 +15,7 @@ use Rattle.repo_session.specs.declared.outcomes.Outcome.{Outcome}
 use Rattle.repo_session.specs.Ends as ends
 use Rattle.repo_prune.specs.Forgetting.{IsForgotten, IsDecided}
 use Rattle.repo_prune.specs.declared.choices.Choice.{Choice}
+use Rattle.repo_session.proofs.GoingOn.{concluded_of}
 use Rattle.repo_world.specs.AnyClients.{FitsAny, any_ended, any_next, any_obeys, given_to}
 use Rattle.repo_world.specs.Clients.{JobAllows, JobConcludes, JobGives, task_of}
 use Rattle.repo_world.specs.declared.any_clients.AnyClient.{AnyClient}
@@ -141,7 +142,8 @@ module _ (c : AnyClient) (f : FitsAny c []) where
   no_outcome_yet = go (any_ended c) refl where
     go : (o : Option Outcome) → any_ended c ≡ o → any_ended c ≡ None
     go None e = e
-    go (Some o) e = absurd (not_concluded (upto (task_of (given_to c).handed (given_to c).who).versions) (given_to c).handed o (owes.concluded o e))
+    go (Some o) e = absurd (not_concluded (upto (task_of (given_to c).handed (given_to c).who).versions) (given_to c).handed o
+        (concluded_of (task_of (given_to c).handed (given_to c).who).notes (upto (task_of (given_to c).handed (given_to c).who).versions) (JobConcludes (given_to c).handed) [] o (owes.concluded o e)))
 
   pub ticket_pending : any_next c ≡ Some (record { instance = (given_to c).who.instance; sequence = 1; ask = Ask.Ticket })
   ticket_pending = go (any_next c) refl where

@@ -113,6 +113,8 @@ impl Client for AnyClient {
 
     ghost calm = { λ j. (rule_of j.handed).calm };
 
+    ghost wanting = { λ j es. ⊥ };
+
     ghost fits = { FitsAny };
 
     ghost next = { any_next };

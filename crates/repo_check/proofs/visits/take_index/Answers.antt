@@ -22,4 +22,4 @@ returns-in-Fault-clause-takes c =
 pub returns-in-Unwelcome-clause-takes : goal.returns-in-Unwelcome-clause-takes
 returns-in-Unwelcome-clause-takes c =
     let look = rw c.in-Unwelcome.is at c.in_ok-text.ensures in
-    ended Kind.Index IsIndexOf (round_of c.args.round.now) c.args.name c.args.say.now Turn.Away (λ task es. look.0)
+    ended Kind.Index IsIndexOf (round_of c.args.round.now) c.args.name c.args.say.now Turn.Away (λ task es. look)

@@ -21,7 +21,7 @@ returns-then-eq g c =
         same = c.drive-driven.ensures.job;
         leaves = subst (λ r. TakesLeave r (g.C.Client.next client) (g.C.Client.token_of client) call) (sym is) f.1;
         ends = ends_own g.C.Client.fits client (g.C.Client.task (g.C.Client.job client)) (g.C.Client.allows (g.C.Client.job client)) (g.C.Client.gives (g.C.Client.job client)) (g.C.Client.concludes (g.C.Client.job client))
-            (g.C.Client.next client) (g.C.Client.ended client) (g.C.Client.token_of client) (λ es h. g.met.C.Client.obedient client es h) (λ es h. g.met.C.Client.ticketed client es h) left f.0 f.1;
+            (g.C.Client.wanting (g.C.Client.job client)) (g.C.Client.next client) (g.C.Client.ended client) (g.C.Client.token_of client) (λ es h. g.met.C.Client.obedient client es h) (λ es h. g.met.C.Client.ticketed client es h) left f.0 f.1;
       },
     )
 

@@ -34,12 +34,12 @@ returns-in-Over-clause-knows c = on_err_weaker c.conclude.result (λ h es knows.
 pub returns-in-Senseless-clause-steps : goal.returns-in-Senseless-clause-steps
 returns-in-Senseless-clause-steps c = λ es w obeys asked.
     let takes = rw c.in-Senseless.is at c.in_ok-next.ensures.takes in
-    (inl refl, inl (inl (takes (check_task c.args._holder.now.who) c.args._holder.now.token es w asked.may asked.knows)))
+    (inl refl, (inl (inl (takes (check_task c.args._holder.now.who) c.args._holder.now.token es w asked.may asked.knows)), tt))
 
 pub returns-in-Version-clause-steps : goal.returns-in-Version-clause-steps
 returns-in-Version-clause-steps c = λ es w obeys asked.
     let takes = rw c.in-Version.is at c.in_ok-next.ensures.takes in
-    (inl refl, inl (inl (takes (check_task c.args._holder.now.who) c.args._holder.now.token es w asked.may asked.knows)))
+    (inl refl, (inl (inl (takes (check_task c.args._holder.now.who) c.args._holder.now.token es w asked.may asked.knows)), tt))
 
 pub returns-in-Away-clause-steps : goal.returns-in-Away-clause-steps
 returns-in-Away-clause-steps c = λ es w obeys asked.

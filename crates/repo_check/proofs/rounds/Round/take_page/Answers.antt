@@ -34,4 +34,4 @@ returns-in-Senseless-clause-pages g c = λ task token k after es w may listing.
 pub returns-in-Unwelcome-clause-pages : goal.returns-in-Unwelcome-clause-pages
 returns-in-Unwelcome-clause-pages g c = λ task token k after es w may listing.
     let pages = rw c.in-Unwelcome.is at c.in_ok-ask.ensures.pages in
-    pages task token k after [] es w may (listing_rolls k c.args.self.now after es listing)
+    (pages task token k after [] es w may (listing_rolls k c.args.self.now after es listing), λ tells. tells)

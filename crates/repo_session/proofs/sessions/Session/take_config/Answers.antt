@@ -25,8 +25,8 @@ returns-in_default g c = record {
       let fs : Trace = silent r.ask say ∷ es in
       let known = known_under (g.J.Job.rule h) s.head.holder.who in
       let caused : CausedBy known fs r.ask say c.args.end = subst (λ a. CausedBy known fs a say c.args.end) (sym q) (ends.1 (unwelcome_config say c.in_default.not-Bytes) known fs) in
-      session_as g.J.Job.rule h h s.head.holder new.holder s.head.lock new.lock (g.J.Job.fresh s.job) (g.J.Job.knows s.job) new.line fs refl c.leave.ensures.kept.holder c.leave.ensures.kept.lock
-      (config_left (g.J.Job.rule h) s.head.holder s.head.lock (g.J.Job.fresh s.job) (g.J.Job.knows s.job) s.head.line r es p f say (g.J.Job.fresh s.job) (g.J.Job.knows s.job) c.args.end s.head new refl refl q caused ends.0 c.leave.ensures.leaves);
+      session_as g.J.Job.rule h h s.head.holder new.holder s.head.lock new.lock (g.J.Job.fresh s.job) (g.J.Job.knows s.job) (g.J.Job.wants s.job) new.line fs refl c.leave.ensures.kept.holder c.leave.ensures.kept.lock
+      (config_left (g.J.Job.rule h) s.head.holder s.head.lock (g.J.Job.fresh s.job) (g.J.Job.knows s.job) (g.J.Job.wants s.job) s.head.line r es p f say (g.J.Job.fresh s.job) (g.J.Job.knows s.job) (g.J.Job.wants s.job) c.args.end s.head new refl refl q caused ends.0 c.leave.ensures.leaves);
   err = tt;
   calm = λ code p. refl;
   handed = refl;
@@ -46,8 +46,8 @@ returns-in-Ok-clause-taken g c = λ r es p q ends f.
     let read = c.in-Ok.ensures.ok in
     let reads = subst P c.as_slice.ensures read.0 in
     let known : c.in-Ok.config.version ≤ known_under (g.J.Job.rule h) s.head.holder.who = search rules in
-    session_as g.J.Job.rule h (g.J.Job.handed job) s.head.holder new.holder s.head.lock new.lock (g.J.Job.fresh job) (g.J.Job.knows job) new.line fs c.opened-step.ensures.handed c.follow.ensures.kept.holder c.follow.ensures.kept.lock
-    (begins (g.J.Job.rule h) s.head.holder s.head.lock (g.J.Job.fresh s.job) (g.J.Job.knows s.job) s.head.line r es p f say (g.J.Job.fresh job) (g.J.Job.knows job) text c.in-Ok.config c.opened-step.result c.args.end s.head new refl refl
+    session_as g.J.Job.rule h (g.J.Job.handed job) s.head.holder new.holder s.head.lock new.lock (g.J.Job.fresh job) (g.J.Job.knows job) (g.J.Job.wants job) new.line fs c.opened-step.ensures.handed c.follow.ensures.kept.holder c.follow.ensures.kept.lock
+    (begins (g.J.Job.rule h) s.head.holder s.head.lock (g.J.Job.fresh s.job) (g.J.Job.knows s.job) (g.J.Job.wants s.job) s.head.line r es p f say (g.J.Job.fresh job) (g.J.Job.knows job) (g.J.Job.wants job) text c.in-Ok.config c.opened-step.result c.args.end s.head new refl refl
     q c.in-Bytes.is reads known c.follow.ensures.follows (λ fresh. c.opened-step.ensures.begins text fresh reads known))
 
 pub returns-in_ok-end-in-Err-clause-taken : goal.returns-in_ok-end-in-Err-clause-taken
@@ -64,6 +64,6 @@ returns-in_ok-end-in-Err-clause-taken g c = λ r es p q ends f.
     let F : List ℕ → Type 0 = λ x. ConfigFault known x c.in-Err.error in
     let fault : ConfigFault known c.as_slice.result.now c.in-Err.error = search rules in
     let cause : CausedBy known fs Ask.Config say end = subst (λ z. CausedBy known fs Ask.Config z end) (sym c.in-Bytes.is) (c.in_ok-end-in-Err.ensures versions text fs (subst F c.as_slice.ensures fault)) in
-    session_as g.J.Job.rule h h s.head.holder new.holder s.head.lock new.lock (g.J.Job.fresh s.job) (g.J.Job.knows s.job) new.line fs refl c.leave-in-Err.ensures.kept.holder c.leave-in-Err.ensures.kept.lock
-    (config_left (g.J.Job.rule h) s.head.holder s.head.lock (g.J.Job.fresh s.job) (g.J.Job.knows s.job) s.head.line r es p f say (g.J.Job.fresh s.job) (g.J.Job.knows s.job) end s.head new refl refl q
+    session_as g.J.Job.rule h h s.head.holder new.holder s.head.lock new.lock (g.J.Job.fresh s.job) (g.J.Job.knows s.job) (g.J.Job.wants s.job) new.line fs refl c.leave-in-Err.ensures.kept.holder c.leave-in-Err.ensures.kept.lock
+    (config_left (g.J.Job.rule h) s.head.holder s.head.lock (g.J.Job.fresh s.job) (g.J.Job.knows s.job) (g.J.Job.wants s.job) s.head.line r es p f say (g.J.Job.fresh s.job) (g.J.Job.knows s.job) (g.J.Job.wants s.job) end s.head new refl refl q
     (subst (λ a. CausedBy known fs a say end) (sym q) cause) (bytes_live text say end c.in-Bytes.is) c.leave-in-Err.ensures.leaves)
