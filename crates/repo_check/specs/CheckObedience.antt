@@ -10,7 +10,7 @@ use Rattle.repo_check.specs.Checking.{check_task, check_rule, CheckAllows, Check
 use Rattle.repo_check.specs.CheckStates.{FitsCheck, IsFreshCheck, KnowsCheck, checker_of}
 
 pub check_obeys : (c : Check) (es : Trace) → FitsCheck c es → IsObedient (check_task (checker_of c)) CheckAllows CheckGives CheckConcludes (next_in c.session) (ended_in c.session) es
-check_obeys c es fits = session_obeys (λ (j : CheckJob). tt {0}) (λ h. check_rule) IsFreshCheck KnowsCheck (λ j fs. ⊥) (λ j fs. ⊥) c.session es fits
+check_obeys c es fits = session_obeys (λ (j : CheckJob). tt {0}) (λ h. check_rule) IsFreshCheck KnowsCheck (λ j fs. ⊥) c.session es fits
 
 pub check_tells : (c : Check) (es : Trace) → FitsCheck c es → TellsToken (token_in c.session) (ended_in c.session) es
-check_tells c es fits = session_tells (λ (j : CheckJob). tt {0}) (λ h. check_rule) IsFreshCheck KnowsCheck (λ j fs. ⊥) (λ j fs. ⊥) c.session es fits
+check_tells c es fits = session_tells (λ (j : CheckJob). tt {0}) (λ h. check_rule) IsFreshCheck KnowsCheck (λ j fs. ⊥) c.session es fits

@@ -139,6 +139,7 @@ module _ (who : Asker) (from : Store) (fit : IsFit from) (agree : Agree (IsHeld 
   own_well talk to o h (Outcome.Ended End.Version) own = absurd own
   own_well talk to o h (Outcome.Ended End.DirectoryTooLarge) own = absurd own
   own_well talk to o h (Outcome.Ended End.FileTooLarge) own = absurd own
+  own_well talk to o h (Outcome.Ended End.Abandoned) own = absurd own
 
   pub own_before : (talk : Talk) (to : Store) → Obeys (prune_task who) PruneAllows PruneGives (trace_of talk) → Led from talk to → (outcome : Outcome) → PruneConcludes (before_unlock (trace_of talk)) outcome → IsPrunedOrMemory (Some outcome)
   own_before [] to o h outcome own = own_well [] to o h outcome own

@@ -157,6 +157,7 @@ module _ (k : Known) (es : Trace) (texts : List (List ℕ)) (roots : List Name) 
   cannot_go_on untouched End.Version h = absurd h
   cannot_go_on untouched End.DirectoryTooLarge h = absurd h
   cannot_go_on untouched End.FileTooLarge h = absurd h
+  cannot_go_on untouched End.Abandoned h = absurd h
 
 -- what an index says is within range
 pub read_within : (es : Trace) (fact : Fact) → ReadFact es fact → IsWithin fact.place.offset fact.place.length

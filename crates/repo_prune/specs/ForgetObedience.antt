@@ -10,7 +10,7 @@ use Rattle.repo_prune.specs.ForgetStates.{FitsForget, IsFreshForget, KnowsForget
 
 pub forget_obeys : (f : Forget) (es : Trace) → FitsForget f es
     → IsObedient (forget_task (who_of f)) (ForgetAllows (choice_of f)) (ForgetGives (choice_of f)) (ForgetConcludes (choice_of f)) (next_in f.session) (ended_in f.session) es
-forget_obeys f es fits = session_obeys choice_in forget_rule IsFreshForget KnowsForget (λ j fs. ⊥) (λ j fs. ⊥) f.session es fits
+forget_obeys f es fits = session_obeys choice_in forget_rule IsFreshForget KnowsForget (λ j fs. ⊥) f.session es fits
 
 pub forget_tells : (f : Forget) (es : Trace) → FitsForget f es → TellsToken (token_in f.session) (ended_in f.session) es
-forget_tells f es fits = session_tells choice_in forget_rule IsFreshForget KnowsForget (λ j fs. ⊥) (λ j fs. ⊥) f.session es fits
+forget_tells f es fits = session_tells choice_in forget_rule IsFreshForget KnowsForget (λ j fs. ⊥) f.session es fits

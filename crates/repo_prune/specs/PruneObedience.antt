@@ -10,7 +10,7 @@ use Rattle.repo_prune.specs.Pruning.{prune_task, prune_rule, PruneAllows, PruneG
 use Rattle.repo_prune.specs.PruneStates.{FitsPrune, IsFreshPrune, KnowsPrune, pruner_of}
 
 pub prune_obeys : (p : Prune) (es : Trace) → FitsPrune p es → IsObedient (prune_task (pruner_of p)) PruneAllows PruneGives PruneConcludes (next_in p.session) (ended_in p.session) es
-prune_obeys p es fits = session_obeys (λ (j : PruneJob). tt {0}) (λ h. prune_rule) IsFreshPrune KnowsPrune (λ j fs. ⊥) (λ j fs. ⊥) p.session es fits
+prune_obeys p es fits = session_obeys (λ (j : PruneJob). tt {0}) (λ h. prune_rule) IsFreshPrune KnowsPrune (λ j fs. ⊥) p.session es fits
 
 pub prune_tells : (p : Prune) (es : Trace) → FitsPrune p es → TellsToken (token_in p.session) (ended_in p.session) es
-prune_tells p es fits = session_tells (λ (j : PruneJob). tt {0}) (λ h. prune_rule) IsFreshPrune KnowsPrune (λ j fs. ⊥) (λ j fs. ⊥) p.session es fits
+prune_tells p es fits = session_tells (λ (j : PruneJob). tt {0}) (λ h. prune_rule) IsFreshPrune KnowsPrune (λ j fs. ⊥) p.session es fits

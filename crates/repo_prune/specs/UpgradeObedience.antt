@@ -10,7 +10,7 @@ use Rattle.repo_prune.specs.UpgradeStates.{FitsUpgrade, IsFreshUpgrade, KnowsUpg
 
 pub upgrade_obeys : (u : Upgrade) (es : Trace) → FitsUpgrade u es
     → IsObedient (upgrade_task (who_of_upgrade u)) UpgradeAllows UpgradeGives UpgradeConcludes (next_in u.session) (ended_in u.session) es
-upgrade_obeys u es fits = session_obeys nothing_in rule_of_upgrade IsFreshUpgrade KnowsUpgrade (λ j fs. ⊥) (λ j fs. ⊥) u.session es fits
+upgrade_obeys u es fits = session_obeys nothing_in rule_of_upgrade IsFreshUpgrade KnowsUpgrade (λ j fs. ⊥) u.session es fits
 
 pub upgrade_tells : (u : Upgrade) (es : Trace) → FitsUpgrade u es → TellsToken (token_in u.session) (ended_in u.session) es
-upgrade_tells u es fits = session_tells nothing_in rule_of_upgrade IsFreshUpgrade KnowsUpgrade (λ j fs. ⊥) (λ j fs. ⊥) u.session es fits
+upgrade_tells u es fits = session_tells nothing_in rule_of_upgrade IsFreshUpgrade KnowsUpgrade (λ j fs. ⊥) u.session es fits

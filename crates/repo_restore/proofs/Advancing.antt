@@ -70,6 +70,7 @@ walk_concludes c s root es End.BadReply h all found e = absurd e
 walk_concludes c s root es End.Version h all found e = absurd e
 walk_concludes c s root es End.DirectoryTooLarge h all found e = absurd e
 walk_concludes c s root es End.FileTooLarge h all found e = absurd e
+walk_concludes c s root es End.Abandoned h all found e = absurd e
 
 -- nothing was given out yet
 pub before_on : (walk : Walk) (given : List Emission) (e : Exchange) (es : Trace) → e.emitted ≡ given → IsBefore walk given es → IsBefore walk given (e ∷ es)

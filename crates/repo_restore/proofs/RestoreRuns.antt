@@ -195,6 +195,7 @@ module _ (w : Wish) (from : Store) (sound : IsSound from.objects) (agree : Agree
   own_well (Outcome.Ended End.Version) own = absurd own
   own_well (Outcome.Ended End.DirectoryTooLarge) own = absurd own
   own_well (Outcome.Ended End.FileTooLarge) own = absurd own
+  own_well (Outcome.Ended End.Abandoned) own = absurd own
 
 own_before : (w : Wish) (from : Store) → IsSound from.objects → Agree (IsHeld from.objects) (IsHeld from.objects) → (talk : Talk) (to : Store) → Obeys (restore_task w) (RestoreAllows w.snapshot) (RestoreGives w.snapshot) (trace_of talk) → Led from talk to
     → (outcome : Outcome) → RestoreConcludes w.snapshot (before_unlock (trace_of talk)) outcome → IsCompleteOrMemory (Some outcome)

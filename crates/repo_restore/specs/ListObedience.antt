@@ -11,7 +11,7 @@ use Rattle.repo_restore.specs.ListStates.{FitsList, IsFreshList, KnowsList, who_
 
 pub list_obeys : (l : SnapshotList) (es : Trace) → FitsList l es
     → IsObedient (list_task (who_of l)) (ListAllows (who_of l)) (ListGives (who_of l)) (ListConcludes (who_of l)) (next_in l.session) (ended_in l.session) es
-list_obeys l es f = session_obeys (λ (j : ListJob). tt {0}) (λ h. list_rule) IsFreshList KnowsList (λ j fs. ⊥) (λ j fs. ⊥) l.session es f
+list_obeys l es f = session_obeys (λ (j : ListJob). tt {0}) (λ h. list_rule) IsFreshList KnowsList (λ j fs. ⊥) l.session es f
 
 pub list_tells : (l : SnapshotList) (es : Trace) → FitsList l es → TellsToken (token_in l.session) (ended_in l.session) es
-list_tells l es fits = session_tells (λ (j : ListJob). tt {0}) (λ h. list_rule) IsFreshList KnowsList (λ j fs. ⊥) (λ j fs. ⊥) l.session es fits
+list_tells l es fits = session_tells (λ (j : ListJob). tt {0}) (λ h. list_rule) IsFreshList KnowsList (λ j fs. ⊥) l.session es fits

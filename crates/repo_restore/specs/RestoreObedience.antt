@@ -15,7 +15,7 @@ wish_of c = record { who = who_in c.session; snapshot = c.session.job.snapshot }
 
 pub restore_obeys : (c : Restore) (es : Trace) → FitsRestore c es
     → IsObedient (restore_task (wish_of c)) (RestoreAllows (wish_of c).snapshot) (RestoreGives (wish_of c).snapshot) (RestoreConcludes (wish_of c).snapshot) (next_in c.session) (ended_in c.session) es
-restore_obeys c es f = session_obeys (λ (j : RestoreJob). j.snapshot) restore_rule IsNewRestore KnowsRestore (λ j fs. ⊥) (λ j fs. ⊥) c.session es f
+restore_obeys c es f = session_obeys (λ (j : RestoreJob). j.snapshot) restore_rule IsNewRestore KnowsRestore (λ j fs. ⊥) c.session es f
 
 pub restore_tells : (c : Restore) (es : Trace) → FitsRestore c es → TellsToken (token_in c.session) (ended_in c.session) es
-restore_tells c es fits = session_tells (λ (j : RestoreJob). j.snapshot) restore_rule IsNewRestore KnowsRestore (λ j fs. ⊥) (λ j fs. ⊥) c.session es fits
+restore_tells c es fits = session_tells (λ (j : RestoreJob). j.snapshot) restore_rule IsNewRestore KnowsRestore (λ j fs. ⊥) c.session es fits

@@ -141,6 +141,7 @@ own_end known e es End.BadReply own caused = tt
 own_end known e es End.Version own caused = tt
 own_end known e es End.DirectoryTooLarge own caused = tt
 own_end known e es End.FileTooLarge own caused = tt
+own_end known e es End.Abandoned own caused = tt
 
 no_fault : (known : ℕ) (e : Exchange) (es : Trace) (end : End) → IsUnwelcome e.ask e.say → ¬ TellsFault e.ask e.say → CausedBy known (e ∷ es) e.ask e.say end → IsNoFaultsEnd (e ∷ es) (Outcome.Ended end)
 no_fault known e es (End.Missing thing name) unwelcome untold caused = absurd (untold (missing_tells e.ask e.say thing name caused.0 caused.1))
@@ -152,6 +153,7 @@ no_fault known e es End.BadReply unwelcome untold caused = tt
 no_fault known e es End.Version unwelcome untold caused = tt
 no_fault known e es End.DirectoryTooLarge unwelcome untold caused = tt
 no_fault known e es End.FileTooLarge unwelcome untold caused = tt
+no_fault known e es End.Abandoned unwelcome untold caused = tt
 
 -- it ends on a reply that the job passed on
 pub passed_on : (notes : Bool) (known : ℕ) (Own : Trace → Outcome → Type 0) (e : Exchange) (es : Trace) (end : End) → MayPassOn notes e.ask e.say → CausedBy known (e ∷ es) e.ask e.say end

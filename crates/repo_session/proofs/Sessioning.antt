@@ -74,6 +74,7 @@ is_fenced End.BadReply = inr (λ x. absurd (cc))
 is_fenced End.Version = inr (λ x. absurd (cc))
 is_fenced End.DirectoryTooLarge = inr (λ x. absurd (cc))
 is_fenced End.FileTooLarge = inr (λ x. absurd (cc))
+is_fenced End.Abandoned = inr (λ x. absurd (cc))
 
 module _ (rule : Rule) (holding : Holding) (lock : Option LockRow) (Fresh : Type 0) (Knows : Ask → Trace → Type 0) (Wants : Trace → Type 0) where
   -- what is known where a request is pending

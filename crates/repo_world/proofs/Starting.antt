@@ -40,6 +40,7 @@ restore_ends snapshot End.BadReply h = h
 restore_ends snapshot End.Version h = h
 restore_ends snapshot End.DirectoryTooLarge h = h
 restore_ends snapshot End.FileTooLarge h = h
+restore_ends snapshot End.Abandoned h = h
 
 prune_ends : (end : End) → JobConcludes Job.Prune [] (Outcome.Ended end) → ⊥
 prune_ends (End.Missing thing name) h = h.1.1
@@ -55,10 +56,12 @@ prune_ends End.BadReply h = h
 prune_ends End.Version h = h
 prune_ends End.DirectoryTooLarge h = h
 prune_ends End.FileTooLarge h = h
+prune_ends End.Abandoned h = h
 
 backup_ends : (entries : List Entry) (end : End) → JobConcludes (Job.Backup entries) [] (Outcome.Ended end) → ⊥
 backup_ends entries End.DirectoryTooLarge h = h.cut.read
 backup_ends entries End.FileTooLarge h = h
+backup_ends entries End.Abandoned h = h
 backup_ends entries (End.Missing thing name) h = h
 backup_ends entries (End.BadObject thing name) h = h
 backup_ends entries End.Busy h = h
