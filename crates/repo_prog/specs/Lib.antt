@@ -8,3 +8,4 @@ pub mod Tellings
 pub mod Jobs
 pub mod Shown
 pub mod Errands
+pub mod Serving

@@ -1,11 +1,11 @@
 //! `vault serve`.
 
-ghost use Rattle.std.specs.Prelude.{◌≡◌, IsErr, IsOk};
+ghost use Rattle.std.specs.Prelude.{◌≡◌, ◌≤◌, ◌<◌, List, length, IsErr, IsOk};
 ghost use Rattle.std.specs.Io.KnownBytes.{Appends};
-ghost use Rattle.repo_store.specs.Serving.{Ran};
 ghost use Rattle.repo_hall.specs.Halls.{Hosted};
 ghost use Rattle.repo_hall.specs.Happenings.{Log};
 ghost use Rattle.repo_prog.specs.Commands.{listening_line, IsEnd};
+ghost use Rattle.repo_prog.specs.Serving.{AreServed};
 ghost use Rattle.repo_prog.specs.declared.status.Status.{Status};
 
 use crate::status::{Status, failed};
@@ -38,7 +38,7 @@ fn serve_stream<T: Read + Write + OpenStream + Drop, S: Shelf>(
     idle: Option<Duration>,
     shelf: &mut S,
 ) -> Result<u64, ServeError>
-    ensures runs { S.honest shelf.old → Ran (S.store shelf.old) (S.failed shelf.old) (S.store shelf.new) (S.failed shelf.new) }
+    ensures served { S.honest shelf.old → (readers : List T) × (length readers ≤ 1) × AreServed T.remaining readers (S.store shelf.old) (S.failed shelf.old) (S.store shelf.new) (S.failed shelf.new) }
     ensures honest { S.honest shelf.old → S.honest shelf.new }
 {
     let Ok(mut reader) = reader_of(&stream, idle) else {
@@ -56,7 +56,7 @@ fn serve_next<L: OpenListener, S: Shelf>(
 ) -> Result<u64, ServeError>
 where
     L::Stream: Read + Write + OpenStream,
-    ensures runs { S.honest shelf.old → Ran (S.store shelf.old) (S.failed shelf.old) (S.store shelf.new) (S.failed shelf.new) }
+    ensures served { S.honest shelf.old → (readers : List L.Stream) × (length readers ≤ 1) × AreServed L.Stream.remaining readers (S.store shelf.old) (S.failed shelf.old) (S.store shelf.new) (S.failed shelf.new) }
     ensures honest { S.honest shelf.old → S.honest shelf.new }
 {
     match listener.accept() {
@@ -84,8 +84,8 @@ fn status_after<F: Write>(status: Status, served: Result<u64, ServeError>, fault
 /// nothing comes for so long ends with `read failed`, and one that takes nothing of what is written for so long
 /// with `write failed`.
 ///
-/// Whatever the connections bring, the shelf is where a run of the machine leads. That as many are taken
-/// as was said is no clause, since a listener tells no contract what it took.
+/// Whatever the connections bring, the shelf is where their own requests lead, connection after connection, and
+/// nothing else. That as many are taken as was said is no clause, since a listener tells no contract what it took.
 pub fn serve_connections<L: OpenListener, S: Shelf, F: Write>(
     alloc: Global,
     listener: &L,
@@ -96,7 +96,7 @@ pub fn serve_connections<L: OpenListener, S: Shelf, F: Write>(
 ) -> Status
 where
     L::Stream: Read + Write + OpenStream,
-    ensures runs { S.honest shelf.old → Ran (S.store shelf.old) (S.failed shelf.old) (S.store shelf.new) (S.failed shelf.new) }
+    ensures served { S.honest shelf.old → (readers : List L.Stream) × (length readers ≤ connections) × AreServed L.Stream.remaining readers (S.store shelf.old) (S.failed shelf.old) (S.store shelf.new) (S.failed shelf.new) }
     ensures honest { S.honest shelf.old → S.honest shelf.new }
     ensures silent { result ≡ Status.Done → faults.new ≡ faults.old }
     ensures status { IsEnd result }
