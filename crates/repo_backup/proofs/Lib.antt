@@ -18,3 +18,9 @@ pub mod Phases
 pub mod Replying
 pub mod Lone
 pub mod LoneRuns
+pub mod Lengthening
+pub mod Leading
+pub mod Feeding
+pub mod Spelling
+pub mod Forbidding
+pub mod SpelledExample

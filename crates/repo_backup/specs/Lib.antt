@@ -13,3 +13,6 @@ pub mod Backups
 pub mod BackupObedience
 pub mod Laws
 pub mod inner
+pub mod Items
+pub mod Standings
+pub mod ItemLaws

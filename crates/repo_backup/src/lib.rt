@@ -16,6 +16,9 @@
 //! (what is sent next), `Backing` (what is known of the trace), `Stages`, `BackupStates`, `Backups` and
 //! `BackupObedience` (where the job and the client stand). What any job knows that puts packs and indexes stands in
 //! repo_writing.
+//!
+//! Entries may also be spelled by items, one after another: `Items` (where items lead, which may be taken, and the first
+//! fault of others), `Standings` (the same in chunks, and what is made so far) and `ItemLaws`. No client takes items yet.
 #![tactic(auto)]
 
 mod added;
@@ -24,6 +27,8 @@ mod backups;
 mod checks;
 mod chunks;
 mod faults;
+mod item_laws;
+mod items;
 mod jobs;
 mod laws;
 mod packing;
@@ -36,4 +41,9 @@ mod works;
 
 pub use backups::Backup;
 pub use faults::BackupError;
+pub use item_laws::{
+    end_is_last, example_is_spelled, faults_forbid, items_lead, made_grows, made_of_all,
+    spelled_are_handed, whole_is_spelled,
+};
+pub use items::FeedError;
 pub use laws::{backup_ends_well, backup_keeps_sound};

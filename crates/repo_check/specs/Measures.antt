@@ -14,10 +14,9 @@ use Rattle.repo_reach.specs.declared.links.Links.{Links}
 use Rattle.repo_tree.specs.declared.nodes.Node.{Node}
 use Rattle.repo_tree.specs.declared.nodes.NodeKind.{NodeKind}
 use Rattle.repo_session.specs.Blobs.{range_of}
-use Rattle.repo_session.specs.Ends.{IsUnwelcome}
 use Rattle.repo_session.specs.declared.outcomes.FaultKind.{FaultKind}
 use Rattle.repo_check.specs.Answers.{Answer, Gathered, GivesFact}
-use Rattle.repo_check.specs.Arrivals.{AnswersBytes}
+use Rattle.repo_check.specs.Arrivals.{AnswersBytes, TellsNothing}
 use Rattle.repo_check.specs.Findings.{IsMeasured, IsMismeasured, IsTreeAt}
 use Rattle.repo_check.specs.declared.trees.TreeLook.{TreeLook}
 
