@@ -1,7 +1,6 @@
 -- What a client gave out on each of its exchanges, from where its seat keeps it.
-use Rattle.std.proofs.Common.{◌≡◌, ◌∙◌, ◌<◌, ◌≤◌, ◌++◌, ◌∷◌, [], ℕ, zero, suc, List, Option, Some, None, length, reverse, refl, sym, ap, arith, slice_get}
+use Rattle.std.proofs.Common.{◌≡◌, ◌∙◌, ◌<◌, ◌≤◌, ◌++◌, ◌∷◌, [], ℕ, zero, suc, List, Option, Some, None, length, reverse, refl, sym, ap, arith, slice_get, slice_index_or}
 use Rattle.std.proofs.lemmas.List.{reverse-append}
-use Rattle.std.proofs.lemmas.Option.{none-some, same_Some}
 use Rattle.repo_wire.specs.declared.messages.Reply.{Reply}
 use Rattle.repo_session.specs.declared.emissions.Emission.{Emission}
 use Rattle.repo_world.specs.Seats.{trace_back, trace_of}
@@ -52,18 +51,24 @@ given_none given (p ∷ q ∷ rest) (suc n) h = given_none given (q ∷ rest) n 
     below : length (p ∷ q ∷ rest) ≤ suc n → length (q ∷ rest) ≤ n
     below l = omega (arith, l)
 
-pub given_next : (given : List Emission) (pasts : List Past) (n : ℕ) (next : Past) → slice_get pasts (suc n) ≡ Some next → given_at given pasts n ≡ Some next.before.items
-given_next given [] n next e = absurd (none-some next e)
-given_next given (p ∷ []) n next e = absurd (none-some next e)
-given_next given (p ∷ q ∷ rest) zero next e = ap (λ (x : Past). Some x.before.items) (same_Some q next e)
-given_next given (p ∷ q ∷ rest) (suc n) next e = given_next given (q ∷ rest) n next e
+pub given_next : (given : List Emission) (pasts : List Past) (n : ℕ) (d : Past) → suc n < length pasts → given_at given pasts n ≡ Some (slice_index_or pasts (suc n) d).before.items
+given_next given [] n d h = absurd (omega (arith, h))
+given_next given (p ∷ []) n d h = absurd (omega (arith, h))
+given_next given (p ∷ q ∷ rest) zero d h = refl
+given_next given (p ∷ q ∷ rest) (suc n) d h = given_next given (q ∷ rest) n d (below h)
+  where
+    below : suc (suc n) < length (p ∷ q ∷ rest) → suc n < length (q ∷ rest)
+    below l = omega (arith, l)
 
-pub given_last : (given : List Emission) (pasts : List Past) (n : ℕ) → n < length pasts → slice_get pasts (suc n) ≡ None → given_at given pasts n ≡ Some given
+pub given_last : (given : List Emission) (pasts : List Past) (n : ℕ) → n < length pasts → length pasts ≤ suc n → given_at given pasts n ≡ Some given
 given_last given [] n h e = absurd (omega (arith, h))
 given_last given (p ∷ []) zero h e = refl
 given_last given (p ∷ []) (suc n) h e = absurd (omega (arith, h))
-given_last given (p ∷ q ∷ rest) zero h e = absurd (none-some q (sym e))
-given_last given (p ∷ q ∷ rest) (suc n) h e = given_last given (q ∷ rest) n (below h) e
+given_last given (p ∷ q ∷ rest) zero h e = absurd (omega (arith, e))
+given_last given (p ∷ q ∷ rest) (suc n) h e = given_last given (q ∷ rest) n (below h) (above e)
   where
     below : suc n < length (p ∷ q ∷ rest) → n < length (q ∷ rest)
     below l = omega (arith, l)
+
+    above : length (p ∷ q ∷ rest) ≤ suc (suc n) → length (q ∷ rest) ≤ suc n
+    above l = omega (arith, l)
