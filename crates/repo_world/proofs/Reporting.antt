@@ -4,16 +4,6 @@ use Rattle.repo_world.specs.Clients.{Client}
 use Rattle.repo_world.specs.Reports.{client_lines, line_of}
 use Rattle.repo_world.specs.Seats.{Seated}
 
--- one client more
-pub lines_more : (n : ℕ) (clients : List Client) (c : Client) → client_lines n (clients ++ c ∷ []) ≡ client_lines n clients ++ line_of (n + length clients) c
-lines_more n [] c = append-nil (line_of n c) ∙ ap (λ m. line_of m c) (by_arith n) where
-  by_arith : (m : ℕ) → m ≡ m + 0
-  by_arith m = omega arith
-lines_more n (x ∷ clients) c = ap (λ l. line_of n x ++ l) (lines_more (n + 1) clients c ∙ ap (λ m. client_lines (n + 1) clients ++ line_of m c) (by_arith n (length clients)))
-    ∙ sym (append_assoc (line_of n x) (client_lines (n + 1) clients) (line_of (n + length (x ∷ clients)) c)) where
-      by_arith : (m k : ℕ) → m + 1 + k ≡ m + suc k
-      by_arith m k = omega arith
-
 -- one seat more, of those whose lines stand there
 next_from : (m : ℕ) (seats : List Seated) (n : ℕ) (d : Seated) → n < length seats
     → client_lines m (take (suc n) (map (λ (x : Seated). x.client) seats)) ≡ client_lines m (take n (map (λ (x : Seated). x.client) seats)) ++ line_of (m + n) (slice_index_or seats n d).client

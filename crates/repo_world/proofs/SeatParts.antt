@@ -25,20 +25,6 @@ module _ (c : AnyClient) (pasts : List Past) (replies : List Reply) (crashed : B
   pub replied_seated : IsSeated c pasts (replies ++ reply ∷ [])
   replied_seated = record { fits = subst (FitsAny c) (sym same_trace) s.fits; there = there_grows replies (reply ∷ []) pasts s.there }
 
--- ---- the client is as it was, as far as it shows
-
-module _ (old new : AnyClient) (pasts : List Past) (replies : List Reply) (crashed : Bool) (next : any_next new ≡ any_next old) (ended : any_ended new ≡ any_ended old)
-    (given : any_given new ≡ any_given old) (job : given_to new ≡ given_to old) where
-  pub unchanged_is : seated new pasts replies crashed ≡ seated old pasts replies crashed
-  unchanged_is = λ i. record {
-    client = record { job = (job i).handed; who = (job i).who; trace = trace_of replies (given i) pasts; next = next i; outcome = ended i; crashed = crashed };
-    requests = map (λ (p : Past). p.letter) pasts ++ listed (next i);
-    replies = replies;
-  }
-
-  pub unchanged_seated : IsSeated old pasts replies → ((es : Trace) → FitsAny old es → FitsAny new es) → IsSeated new pasts replies
-  unchanged_seated s fits = record { fits = subst (λ g. FitsAny new (trace_of replies g pasts)) (sym given) (fits _ s.fits); there = s.there }
-
 -- ---- the client took a reply
 
 module _ (old new : AnyClient) (pasts : List Past) (p : Past) (replies : List Reply) (s : IsSeated old pasts replies) (request : Request) (reply : Reply)

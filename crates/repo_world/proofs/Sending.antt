@@ -60,7 +60,7 @@ sent_as_asked c a s h =
     let q = exchange_asked c.trace a (was_asked c.trace a s h) in
     (q.0, trace_asked c.next c.trace q.0 a q.1)
 
-exchanged_later : (later es : Trace) (a : Ask) (s : Say) → Exchanged es a s → Exchanged (later ++ es) a s
+pub exchanged_later : (later es : Trace) (a : Ask) (s : Say) → Exchanged es a s → Exchanged (later ++ es) a s
 exchanged_later [] es a s h = h
 exchanged_later (e ∷ later) es a s h = inr (exchanged_later later es a s h)
 
@@ -75,12 +75,6 @@ pub working_locked : (task : Task) (token : Token) (es : Trace) → IsWorking ta
 working_locked task token es h =
     let o = h.1 in
     subst (λ fs. Exchanged fs (Ask.Lock (lock_row task token)) Say.Done) (sym o.since) (exchanged_later o.later (opened task token o.text) (Ask.Lock (lock_row task token)) Say.Done (inr (inl (refl, refl))))
-
--- and its config was read
-pub opened_read : (task : Task) (token : Token) (es : Trace) → (h : IsWorking task token es) → Exchanged es Ask.Config (Say.Bytes h.1.text)
-opened_read task token es h =
-    let o = h.1 in
-    subst (λ fs. Exchanged fs Ask.Config (Say.Bytes o.text)) (sym o.since) (exchanged_later o.later (opened task token o.text) Ask.Config (Say.Bytes o.text) (inl (refl, refl)))
 
 -- a client takes one ticket
 pub one_token : (task : Task) (JobAllows : Trace → Ask → Type 0) (JobGives : Trace → Exchange → Type 0) (es : Trace) (t u : Token) → Obeys task JobAllows JobGives es → Exchanged es Ask.Ticket (Say.Token t) → Exchanged es Ask.Ticket (Say.Token u) → t ≡ u

@@ -75,12 +75,6 @@ unlocks_plainly own owned left w t say new s other = let p = steps_plainly own o
     go (inr (l, inl (e, inr (told, a)))) own_fault = inl (unlocks w t told new a)
     go (inr (l, inr (e, same))) own_fault = absurd (other e)
 
--- there was none
-pub unlock_unmade : (old : Store) (t : Token) (say : Say) (new : Store) → Step old (Ask.Unlock t) say new → say ≡ Say.Refused Code.NoMemory → new ≡ old
-unlock_unmade old t say new (inl a) e = let done = a.says in absurd (cc)
-unlock_unmade old t say new (inr (l, inl (fault, h))) e = absurd (cc)
-unlock_unmade old t say new (inr (l, inr (memory, same))) e = same
-
 -- ---- in a run the device may have failed
 
 module _ (Own : Type 0) where
@@ -187,10 +181,6 @@ module _ (S : Type 0) (store : S → Store) (failed : S → ℕ) where
   reached_by (Err x) old e new reached leads same = subst IsReachable (sym same) reached
 
 -- ---- a call that failed, or didn't
-
-pub if_well : {T E : Type 0} (r : Result T E) (P : Type 0) → is_err r ≡ false → OnOk r P → P
-if_well (Ok x) P e h = h
-if_well (Err x) P e h = absurd (cc)
 
 pub if_failed : {T E : Type 0} (r : Result T E) (P : Type 0) → is_err r ≡ true → OnErr r P → P
 if_failed (Ok x) P e h = absurd (cc)

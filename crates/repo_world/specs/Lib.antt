@@ -13,13 +13,4 @@ pub mod Stages
 pub mod Reports
 pub mod Bag
 pub mod BagLaws
-pub mod Lone
-pub mod Example
-pub mod Backed
-pub mod WrongDeletes
-pub mod WrongLocks
-pub mod WrongPacksFirst
-pub mod WrongListedPacks
-pub mod WrongSnapshots
-pub mod WrongReplies
 pub mod inner

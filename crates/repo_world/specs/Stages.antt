@@ -1,7 +1,8 @@
 -- What a world in code is made of, and the world for which it stands.
-use Rattle.std.specs.Prelude.{◌≡◌, ◌∷◌, [], ℕ, List, None}
+use Rattle.std.specs.Prelude.{◌≡◌, ◌<◌, ◌⊎◌, ◌∷◌, [], ℕ, List, None}
 use Rattle.repo_store.specs.Failing.{HasFailed}
 use Rattle.repo_store.specs.Kept.{Agrees}
+use Rattle.repo_store.specs.Laws.{greatest_count}
 use Rattle.repo_store.specs.Stores.{Store, SavesConfig}
 use Rattle.repo_store.specs.declared.faults.Armed.{Armed}
 use Rattle.repo_store.specs.declared.faults.FaultShelf.{FaultShelf}
@@ -57,6 +58,10 @@ pub record WorldStands {S : Type 0} (Honest : S → Type 0) (store : S → Store
 -- without a clash the world is safe, and what was handed to a snapshot's backup is one list
 abbrev pub IsSafely : World → Type 0
 IsSafely w = HasNoClash w → IsSafe w × HandedIsOne w
+
+-- a device that was this one failed: its count of failures rose, or stands at its greatest
+abbrev pub HasFailedSince : {S : Type 0} → (S → ℕ) → S → Type 0
+HasFailedSince {S} failed old = (device : S) × ((failed old < failed device) ⊎ (failed device ≡ greatest_count))
 
 -- nothing was sent, and the store is the old one with a config, where none was
 abbrev pub BeginsWithConfig : List ℕ → Store → World → Type 0

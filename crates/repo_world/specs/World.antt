@@ -7,6 +7,8 @@ use Rattle.repo_wire.specs.declared.messages.Reply.{Reply}
 use Rattle.repo_wire.specs.declared.messages.Request.{Request}
 use Rattle.repo_store.specs.Stores.{Store}
 use Rattle.repo_session.specs.Askers.{asker}
+use Rattle.repo_session.specs.Traces.{Trace, gathered}
+use Rattle.repo_session.specs.declared.emissions.Emission.{Emission}
 use Rattle.repo_session.specs.declared.versions.Versions.{Versions}
 use Rattle.repo_world.specs.Clients.{Client}
 use Rattle.repo_world.specs.declared.jobs.Job.{Job}
@@ -62,6 +64,10 @@ client w k = client_at w.clients k
 -- the request that a client waits for, until it stopped for good
 abbrev pub awaited : Client → Option Request
 awaited c = cond c.crashed None c.next
+
+-- what a client gave out on each of its exchanges, from the oldest on
+abbrev pub given_out : Trace → List (List Emission)
+given_out es = gathered (λ e. e.emitted ∷ []) es
 
 -- it is one of these
 abbrev pub IsOneOf : {A : Type 0} → List A → A → Type 0

@@ -1,60 +1,14 @@
 //! Why every run is safe, by the definitions alone: what keeps the bag of messages in order, and what that gives. Each
 //! function is empty, and its contract is the law.
 
-ghost use Rattle.repo_world.specs.BagLaws.{BagGivesSafety, BeginningHasBag, CrashesKeepBag, DeadKeepBag, DeleteKeepsBag, EachEventKeepsBag, EachUpgradeHolds, EverySnapshotIsVersioned, LocksKeepBag, OldClientsAreFenced, PutKeepsBag, PutsAreOfVersion, ReadsKeepBag, RemovedLocksKeepBag, RepliesKeepBag, StartsKeepBag, UpgradeKeepsBag, UpgradedIsOfVersion};
+ghost use Rattle.repo_world.specs.BagLaws.{BagGivesSafety, BeginningHasBag, EachEventKeepsBag};
 
 /// Where nothing was sent, and the store has no objects, the bag is in order.
 pub fn beginning_has_bag()
     ensures { BeginningHasBag }
 {}
 
-/// A put that is delivered while its token is live keeps it so.
-pub fn put_keeps_bag()
-    ensures { PutKeepsBag }
-{}
-
-/// So does a delete that is delivered while its token is live and exclusive.
-pub fn delete_keeps_bag()
-    ensures { DeleteKeepsBag }
-{}
-
-/// So does a put under a token that isn't live, or a delete or an upgrade under one that isn't live and exclusive; and it changes
-/// no object, and not the config.
-pub fn dead_tokens_keep_bag()
-    ensures { DeadKeepBag }
-{}
-
-/// So does a request that reads; and it changes nothing in the store.
-pub fn reads_keep_bag()
-    ensures { ReadsKeepBag }
-{}
-
-/// So does a request on tickets and locks; and it changes no object.
-pub fn locks_keep_bag()
-    ensures { LocksKeepBag }
-{}
-
-/// So does a client that takes the reply which it awaits.
-pub fn replies_keep_bag()
-    ensures { RepliesKeepBag }
-{}
-
-/// So does a client that starts.
-pub fn starts_keep_bag()
-    ensures { StartsKeepBag }
-{}
-
-/// So does a client that stops for good.
-pub fn crashes_keep_bag()
-    ensures { CrashesKeepBag }
-{}
-
-/// So does a lock that is removed.
-pub fn removed_locks_keep_bag()
-    ensures { RemovedLocksKeepBag }
-{}
-
-/// So does any event.
+/// Any event keeps it so.
 pub fn each_event_keeps_bag()
     ensures { EachEventKeepsBag }
 {}
@@ -62,35 +16,4 @@ pub fn each_event_keeps_bag()
 /// A world whose bag is in order is safe, and what was handed to a snapshot's backup is one list.
 pub fn bag_gives_safety()
     ensures { BagGivesSafety }
-{}
-
-/// An upgrade that is delivered while its token is live and exclusive keeps the bag in order, and changes no object.
-pub fn upgrade_keeps_bag()
-    ensures { UpgradeKeepsBag }
-{}
-
-/// A snapshot that is put under a live token is of the version that the store's config has then.
-pub fn puts_are_of_version()
-    ensures { PutsAreOfVersion }
-{}
-
-/// While a client works that knows version 1 alone, and its token is live, the store's config is of version 1, unless
-/// the client sent an upgrade itself.
-pub fn old_clients_are_fenced()
-    ensures { OldClientsAreFenced }
-{}
-
-/// Where a client reports an upgrade the store's config is of version 2.
-pub fn upgraded_is_of_version()
-    ensures { UpgradedIsOfVersion }
-{}
-
-/// After any events each snapshot there is of a version that the store's config has, or of a lower one.
-pub fn every_snapshot_is_versioned()
-    ensures { EverySnapshotIsVersioned }
-{}
-
-/// Once a client reported an upgrade the store's config is of version 2, at every later time.
-pub fn each_upgrade_holds()
-    ensures { EachUpgradeHolds }
 {}

@@ -21,10 +21,8 @@
 //!
 //! The definitions stand in `specs/`, in the order in which they are read: `Clients`, `World`, `Events` (with the store's `Failing`), `Safe`,
 //! `Laws`; `Stages` with `Flows` and `Seats`, for what a [`World`] stands for, `Calmness` (which events take no memory) and `Reports`; what
-//! becomes of a seat (`Seating`), clients of any job (`AnyClients`, `Starting`); then, for why the laws hold, `Bag` and `BagLaws`. That they can be met: what a client does that is alone with its
-//! store is a part of a run (`Lone`); a run in which a call of the device fails, a message is delivered late and a lock is removed
-//! (`Example`); runs of a backup, a restore, a forget and prunes to their ends (`Backed`). And wrong rules, a file each, with what they
-//! break.
+//! becomes of a seat (`Seating`), clients of any job (`AnyClients`, `Starting`); then, for why every run is safe, `Bag` and `BagLaws`. More
+//! laws of all runs, and that the definitions can be met, stand in `repo_runs`.
 #![tactic(auto)]
 
 mod any_clients;
@@ -39,28 +37,12 @@ mod reports;
 mod seats;
 mod traffic;
 mod worlds;
-mod wrong_rules;
 
 pub use any_clients::{AnyClient, NotBegun};
-pub use bag_laws::{
-    bag_gives_safety, beginning_has_bag, crashes_keep_bag, dead_tokens_keep_bag, delete_keeps_bag,
-    each_event_keeps_bag, each_upgrade_holds, every_snapshot_is_versioned, locks_keep_bag,
-    old_clients_are_fenced, put_keeps_bag, puts_are_of_version, reads_keep_bag,
-    removed_locks_keep_bag, replies_keep_bag, starts_keep_bag, upgrade_keeps_bag,
-    upgraded_is_of_version,
-};
+pub use bag_laws::{bag_gives_safety, beginning_has_bag, each_event_keeps_bag};
 pub use events::{Applied, Event};
 pub use jobs::{Entries, Host, HostError, Job, Refusal};
-pub use laws::{
-    backup_is_a_run, each_event_keeps_reports, each_report_holds, events_only_append,
-    every_run_is_safe, every_snapshot_is_restored, every_store_is_fit, example_is_a_run,
-    failing_is_a_step, forget_is_a_run, lone_talk_is_a_run, no_clash_goes_back, prune_is_a_run,
-    restore_is_a_run,
-};
+pub use laws::{every_run_is_safe, no_clash_goes_back};
 pub use messages::Message;
 pub use reports::{Role, client_line, store_line};
 pub use worlds::{RunError, World};
-pub use wrong_rules::{
-    deletes_for_ever_break_bag, grants_again_break_bag, packs_first_break_sound,
-    snapshot_first_breaks_sound, takes_any_break_bag, unkept_break_sound,
-};

@@ -9,12 +9,13 @@ ghost use Rattle.repo_session.specs.declared.outcomes.Outcome.{Outcome};
 ghost use Rattle.repo_world.specs.AnyClients.{FitsAny, any_next, client_of};
 ghost use Rattle.repo_world.specs.Reports.{line_of};
 ghost use Rattle.repo_world.specs.Seats.{Seated, listed};
+ghost use Rattle.repo_world.specs.World.{given_out};
 ghost use Rattle.repo_world.specs.inner.Seating.{Answered, Crashed, Replied, SeatTook};
 
 use crate::any_clients::AnyClient;
 use crate::pasts::Past;
 use crate::reports::client_line;
-use repo_session::{Client, Letter, Outcome, answers, keep};
+use repo_session::{Client, Emission, Letter, Outcome, answers, keep};
 use repo_store::{Shelf, answer};
 use repo_wire::{Reply, Request};
 use std::alloc::{AllocError, Global};
@@ -114,6 +115,19 @@ impl Seat {
         ensures { option_map (λ outcome. outcome.now) result ≡ self.now.client.outcome }
     {
         self.client.outcome()
+    }
+
+    /// What the client gave out on its exchange of a place, counted from 0.
+    pub fn emitted(&self, place: usize) -> Option<&[Emission]>
+        ensures { option_map (λ given. given.now) result ≡ slice_get (given_out self.now.client.trace) place }
+    {
+        if place >= self.pasts.len() {
+            return None;
+        }
+        match self.pasts.as_slice().get(place + 1) {
+            Some(next) => Some(next.before.as_slice()),
+            None => Some(self.client.emitted()),
+        }
     }
 
     /// Whether the client stopped for good.

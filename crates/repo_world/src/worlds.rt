@@ -13,10 +13,10 @@ ghost use Rattle.repo_store.specs.Memory.{store_of};
 ghost use Rattle.repo_store.specs.Stores.{empty};
 ghost use Rattle.repo_world.specs.Laws.{IsEmpty};
 ghost use Rattle.repo_world.specs.Reports.{IsReport};
-ghost use Rattle.repo_world.specs.Stages.{BeginsWithConfig, IsSafely, Leads, LeadsOn, StopsAfter, seen};
+ghost use Rattle.repo_world.specs.Stages.{BeginsWithConfig, HasFailedSince, IsSafely, Leads, LeadsOn, StopsAfter, seen};
 ghost use Rattle.repo_world.specs.Flows.{seat_at};
 ghost use Rattle.repo_world.specs.World as world;
-ghost use Rattle.repo_world.specs.World.{awaited};
+ghost use Rattle.repo_world.specs.World.{awaited, given_out};
 ghost use Rattle.repo_world.specs.declared.events.Applied.{Applied};
 ghost use Rattle.repo_world.specs.declared.events.Event.{Event};
 
@@ -26,8 +26,8 @@ use crate::jobs::{Host, Job};
 use crate::messages::Message;
 use crate::reports::store_line;
 use crate::traffic::Traffic;
-use repo_name::{Instance, Token};
-use repo_session::Outcome;
+use repo_name::{Bytes, Instance, Kind, Name, Token};
+use repo_session::{Emission, Outcome};
 use repo_store::{Fail, FaultShelf, InitError, Kept, MemShelf, Shelf, ShelfError, answer, init};
 use repo_tree::Config;
 use repo_wire::{Ask, Code, Reply, Request, Say};
@@ -90,7 +90,8 @@ impl World<MemShelf> {
     {
         match World::new(alloc, MemShelf::new(alloc), config) {
             Ok(world) => Ok(world),
-            Err(_) => Err(AllocError),
+            Err(InitError::Memory) => Err(AllocError),
+            Err(InitError::Exists | InitError::Fault) => unreachable!(),
         }
     }
 }
@@ -99,7 +100,7 @@ impl<S: Shelf + Drop> World<S> {
     /// A world over a device that is honest, has no object, and gave no ticket, with this config. The config's version has
     /// to be 1, and its target within its limits.
     ///
-    /// `Exists` comes first, where the device has a config.
+    /// `Exists` comes first, where the device has a config. `Fault` comes only where the device failed.
     pub fn new(alloc: Global, shelf: S, config: &Config) -> Result<World<S>, InitError>
         requires honest { S.honest shelf }
         requires empty { IsEmpty (S.store shelf) }
@@ -107,13 +108,13 @@ impl<S: Shelf + Drop> World<S> {
         requires target { IsTarget config.now.target }
         ensures begins { IfOk result (λ w. BeginsWithConfig (config_text config.now) (S.store shelf) (seen S.store w)) }
         ensures exists { IsErrOf result InitError.Exists → (S.store shelf).config ≢ None }
+        ensures cause { IsErrOf result InitError.Fault → HasFailedSince S.failed shelf }
         ensures safe { IfOk result (λ w. IsSafely (seen S.store w)) }
     {
-        let mut shelf = Kept::new(alloc, FaultShelf::new(shelf));
-        init(alloc, &mut shelf, config)?;
-        shelf.disarm();
+        let mut device = shelf;
+        init(alloc, &mut device, config)?;
         Ok(World {
-            shelf,
+            shelf: Kept::new(alloc, FaultShelf::new(device)),
             flow: Traffic::new(alloc),
             alloc,
         })
@@ -284,6 +285,23 @@ impl<S: Shelf + Drop> World<S> {
         ensures { option_map (λ outcome. outcome.now) result ≡ (world.client (seen S.store self.now) client).outcome }
     {
         self.flow.seat(client)?.outcome()
+    }
+
+    /// What a client gave out on its exchange of a place, counted from 0: as it took the reply to its request of that place.
+    pub fn emitted(&self, client: usize, place: usize) -> Option<&[Emission]>
+        ensures { option_map (λ given. given.now) result ≡ slice_get (given_out (world.client (seen S.store self.now) client).trace) place }
+    {
+        self.flow.seat(client)?.emitted(place)
+    }
+
+    /// An object's bytes, whole, if it is there. It changes nothing but the count of the device's failures. `Fault` comes only
+    /// where the device failed.
+    pub fn object(&mut self, kind: Kind, name: &Name) -> Result<Option<Bytes>, ShelfError>
+        ensures object { IfOk result (λ found. found ≡ (seen S.store self.old).store.objects kind name.now) }
+        ensures same { seen S.store self.new ≡ seen S.store self.old }
+        ensures cause { HasCause (S.failed self.old.device) result (S.failed self.new.device) }
+    {
+        self.shelf.get(kind, name)
     }
 
     /// How many clients started.

@@ -1,0 +1,14 @@
+mod Requests
+mod Outcomes
+mod Lasting
+mod Appending
+mod Resting
+mod Joining
+mod Exampling
+mod WrongRules
+mod Calming
+mod Backing
+mod GivingBack
+mod Tidying
+mod Forgetting
+mod Apart

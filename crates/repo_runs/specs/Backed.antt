@@ -1,0 +1,125 @@
+-- A backup, a restore and a prune, as examples: an empty folder is backed up to a store without objects, and its snapshot is reported as stored; then it is
+-- restored, or the store is pruned, or it is forgotten and the store pruned.
+use Rattle.std.specs.Prelude.{false, ◌≡◌, ◌≤◌, ◌<◌, ◌^◌, ◌-◌, ◌∷◌, [], ℕ, List, length, min, Some, None, Contains}
+use Rattle.repo_name.specs.Naming as naming
+use Rattle.repo_name.specs.Rows.{IsHost}
+use Rattle.repo_name.specs.declared.kinds.Kind.{Kind}
+use Rattle.repo_name.specs.declared.names.Name.{Name}
+use Rattle.repo_pack.specs.PackLayout.{IsTruePack}
+use Rattle.repo_index.specs.declared.facts.Fact.{Fact}
+use Rattle.repo_index.specs.Exactness.{AreFactsAt}
+use Rattle.repo_index.specs.IndexText.{IsIndexText, Says}
+use Rattle.repo_locks.specs.TokenMachine.{start}
+use Rattle.repo_tree.specs.declared.configs.Config.{Config}
+use Rattle.repo_tree.specs.declared.snapshots.Snapshot.{Snapshot}
+use Rattle.repo_tree.specs.ConfigText.{IsConfigText}
+use Rattle.repo_tree.specs.SnapshotText.{IsSnapshotText}
+use Rattle.repo_tree.specs.TreeText.{IsTreeText}
+use Rattle.repo_tree.specs.TreeWriting.{tree_text}
+use Rattle.repo_store.specs.StoreMachine.{object_limit, config_limit}
+use Rattle.repo_store.specs.Stores.{Store}
+use Rattle.repo_session.specs.Alone.{NoClash}
+use Rattle.repo_session.specs.declared.outcomes.Outcome.{Outcome}
+use Rattle.repo_backup.specs.Folders.{nothing, tree_of}
+use Rattle.repo_writing.specs.Writing.{bytes_of}
+use Rattle.repo_prune.specs.declared.choices.Choice.{Choice}
+use Rattle.repo_world.specs.Events.{Run}
+use Rattle.repo_world.specs.Safe.{HasNoClash}
+use Rattle.repo_world.specs.World.{World, client, beginning}
+use Rattle.repo_world.specs.declared.jobs.Job.{Job}
+use Rattle.repo_world.specs.declared.events.Event.{Event}
+
+-- the store: this config, and nothing else
+abbrev pub configured : List ℕ → Store
+configured config = record { config = Some config; objects = λ k n. None; tokens = start; append_only = false }
+
+-- what its machine's host and moment make of its snapshot: the token is the first one, and the tree that of an empty directory
+abbrev pub snapshot_of : List ℕ → ℕ → Snapshot
+snapshot_of host time = record { version = 1; host = host; time = time; token = record { 0 = 1 }; tree = naming.name (tree_text []) }
+
+-- texts as they are written: the store's config, of version 1; the empty tree; a pack of it, and an index of that pack; the snapshot. Each is within its limit.
+pub record AreTexts (host : List ℕ) (time : ℕ) (config pack index snapshot : List ℕ) : Type 0 where
+  pub read : Config
+  pub configured : IsConfigText config read
+  pub first : read.version ≡ 1
+  pub config_short : length config ≤ config_limit
+  pub empty : IsTreeText (tree_text []) []
+  pub packed : IsTruePack pack (tree_of nothing ∷ [])
+  pub pack_short : length pack ≤ object_limit Kind.Pack
+  pub facts : List Fact
+  pub exact : AreFactsAt (naming.name pack) (tree_of nothing ∷ []) facts
+  pub indexed : IsIndexText index (record { pack = naming.name pack; facts = facts } ∷ [])
+  pub index_short : length index ≤ object_limit Kind.Index
+  pub reads : IsSnapshotText snapshot (snapshot_of host time)
+  pub snapshot_short : length snapshot ≤ object_limit Kind.Snapshot
+
+-- the byte lists of which the runs below speak: those, and the tree in the pack
+abbrev pub lists_of : (config pack index snapshot : List ℕ) → List (List ℕ)
+lists_of config pack index snapshot = config ∷ pack ∷ index ∷ snapshot ∷ tree_text [] ∷ []
+
+-- no two of them have one name; and none but the index reads as an index that says a fact
+pub record AreApart (config pack index snapshot : List ℕ) : Type 0 where
+  pub names : NoClash (λ x. Contains (lists_of config pack index snapshot) x)
+  pub one : (x : List ℕ) (fact : Fact) → Contains (lists_of config pack index snapshot) x → Says x fact → x ≡ index
+
+-- its outcome: its snapshot is stored, with one blob
+abbrev pub stored : List ℕ → Outcome
+stored snapshot = Outcome.Stored (naming.name snapshot) 1 (min (bytes_of (tree_of nothing ∷ [])) (2 ^ 64 - 1))
+
+-- some events lead to a world in which the first client reports its snapshot as stored, and it is there; and nothing clashes in it, where those lists are apart
+pub record IsBackedUp (config pack index snapshot : List ℕ) : Type 0 where
+  pub events : List Event
+  pub last : World
+  pub run : Run (beginning (configured config)) events last
+  pub reported : (client last 0).outcome ≡ Some (stored snapshot)
+  pub there : last.store.objects Kind.Snapshot (naming.name snapshot) ≡ Some snapshot
+  pub calm : AreApart config pack index snapshot → HasNoClash last
+
+-- with any such texts there is such a run
+abbrev pub BackupIsARun : Type 0
+BackupIsARun = (host : List ℕ) (time : ℕ) (config pack index snapshot : List ℕ) → (time < 2 ^ 64) × IsHost host → AreTexts host time config pack index snapshot → IsBackedUp config pack index snapshot
+
+-- the same, and then a second client, a restore of the snapshot, is complete: the folder has no entry, as what was backed up
+pub record IsGivenBack (config pack index snapshot : List ℕ) : Type 0 where
+  pub events : List Event
+  pub last : World
+  pub run : Run (beginning (configured config)) events last
+  pub reported : (client last 0).outcome ≡ Some (stored snapshot)
+  pub restores : (client last 1).job ≡ Job.Restore (naming.name snapshot)
+  pub complete : (client last 1).outcome ≡ Some (Outcome.Complete 0)
+  pub calm : AreApart config pack index snapshot → HasNoClash last
+
+-- with any such texts there is such a run
+abbrev pub RestoreIsARun : Type 0
+RestoreIsARun = (host : List ℕ) (time : ℕ) (config pack index snapshot : List ℕ) → (time < 2 ^ 64) × IsHost host → AreTexts host time config pack index snapshot → IsGivenBack config pack index snapshot
+
+-- the same, and then a second client, a prune, is done: it keeps the pack, and puts its index again
+pub record IsTidied (config pack index snapshot : List ℕ) : Type 0 where
+  pub events : List Event
+  pub last : World
+  pub run : Run (beginning (configured config)) events last
+  pub reported : (client last 0).outcome ≡ Some (stored snapshot)
+  pub prunes : (client last 1).job ≡ Job.Prune
+  pub pruned : (client last 1).outcome ≡ Some (Outcome.Pruned 0 0)
+  pub calm : AreApart config pack index snapshot → HasNoClash last
+
+-- with any such texts there is such a run
+abbrev pub PruneIsARun : Type 0
+PruneIsARun = (host : List ℕ) (time : ℕ) (config pack index snapshot : List ℕ) → (time < 2 ^ 64) × IsHost host → AreTexts host time config pack index snapshot → IsTidied config pack index snapshot
+
+-- the same; then a second client, a forget of names, forgets the snapshot; then a third, a prune, deletes the index and the pack, and no object is left
+pub record IsForgottenInRun (names : List Name) (config pack index snapshot : List ℕ) : Type 0 where
+  pub events : List Event
+  pub last : World
+  pub run : Run (beginning (configured config)) events last
+  pub forgets : (client last 1).job ≡ Job.Forget (Choice.Names names)
+  pub forgotten : (client last 1).outcome ≡ Some (Outcome.Forgotten (naming.name snapshot ∷ []))
+  pub prunes : (client last 2).job ≡ Job.Prune
+  pub pruned : (client last 2).outcome ≡ Some (Outcome.Pruned 1 0)
+  pub none_left : (k : Kind) (n : Name) → last.store.objects k n ≡ None
+  pub calm : AreApart config pack index snapshot → HasNoClash last
+
+-- with any such texts, and any names that the snapshot's is among, there is such a run
+abbrev pub ForgetIsARun : Type 0
+ForgetIsARun = (host : List ℕ) (time : ℕ) (config pack index snapshot : List ℕ) (names : List Name) → (time < 2 ^ 64) × IsHost host → AreTexts host time config pack index snapshot → Contains names (naming.name snapshot)
+    → IsForgottenInRun names config pack index snapshot

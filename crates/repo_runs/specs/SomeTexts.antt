@@ -1,0 +1,53 @@
+-- Some texts as they are written, and what the runs come to with them: nothing clashes in their last worlds. So the premise of the laws of all runs can be met
+-- where a snapshot is stored, where it is restored, where the store is pruned, and where the snapshot is forgotten.
+use Rattle.std.specs.Prelude.{◌∷◌, [], ℕ, List, replicate}
+use Rattle.repo_name.specs.Naming as naming
+use Rattle.repo_pack.specs.PackLayout.{pack_bytes}
+use Rattle.repo_index.specs.declared.facts.PackFacts.{PackFacts}
+use Rattle.repo_index.specs.Exactness.{fact_at}
+use Rattle.repo_index.specs.IndexWriting.{index_text}
+use Rattle.repo_tree.specs.declared.configs.Config.{Config}
+use Rattle.repo_tree.specs.ConfigText.{config_text}
+use Rattle.repo_tree.specs.SnapshotText.{snapshot_text}
+use Rattle.repo_backup.specs.Folders.{nothing, tree_of}
+use Rattle.repo_world.specs.Safe.{HasNoClash}
+use Rattle.repo_runs.specs.Backed.{snapshot_of, AreTexts, AreApart, IsBackedUp, IsGivenBack, IsTidied, IsForgottenInRun}
+
+-- the host of the clients, and the moment
+abbrev pub host : List ℕ
+host = 97 ∷ []
+
+abbrev pub time : ℕ
+time = 5
+
+-- a config, and its text
+abbrev pub read : Config
+read = record { version = 1; id = record { 0 = replicate 16 0 }; params = record { min = 524288; max = 8388608; bits = 20 }; target = 16777216 }
+
+abbrev pub config : List ℕ
+config = config_text read
+
+-- the pack of the empty tree
+abbrev pub pack : List ℕ
+pack = pack_bytes (tree_of nothing ∷ [])
+
+-- the index of that pack
+abbrev pub listed : PackFacts
+listed = record { pack = naming.name pack; facts = fact_at (naming.name pack) (tree_of nothing ∷ []) 0 (tree_of nothing) ∷ [] }
+
+abbrev pub index : List ℕ
+index = index_text (listed ∷ [])
+
+-- the snapshot
+abbrev pub snapshot : List ℕ
+snapshot = snapshot_text (snapshot_of host time)
+
+-- they are texts as they are written, no two of them have one name, and the index alone says a fact
+abbrev pub TextsAreApart : Type 0
+TextsAreApart = AreTexts host time config pack index snapshot × AreApart config pack index snapshot
+
+-- with them there are a backup that is stored, a restore that is complete, a prune that is done, and a forget with the prune after it, and nothing clashes in
+-- the last world of each
+abbrev pub NothingClashesInRuns : Type 0
+NothingClashesInRuns = ((b : IsBackedUp config pack index snapshot) × HasNoClash b.last) × ((r : IsGivenBack config pack index snapshot) × HasNoClash r.last)
+    × ((p : IsTidied config pack index snapshot) × HasNoClash p.last) × ((f : IsForgottenInRun (naming.name snapshot ∷ []) config pack index snapshot) × HasNoClash f.last)

@@ -1,0 +1,55 @@
+//! That the definitions can be met, by the definitions alone. Each function is empty, and its contract is the law.
+
+ghost use Rattle.repo_runs.specs.Backed.{BackupIsARun, ForgetIsARun, PruneIsARun, RestoreIsARun};
+ghost use Rattle.repo_runs.specs.Example.{ExampleIsARun};
+ghost use Rattle.repo_runs.specs.Lone.{LoneTalkIsARun};
+ghost use Rattle.repo_runs.specs.SomeTexts.{NothingClashesInRuns, TextsAreApart};
+
+/// A client that talks alone with the world's store, from its ticket to its end, as it owes it, is a part of a run: so a run
+/// may come to all that jobs come to one after another, each alone with the store that the one before it left.
+pub fn lone_talk_is_a_run()
+    ensures { LoneTalkIsARun }
+{}
+
+/// The definitions can be met: eight events are a run, in which a call of the store's device fails, a message is delivered late,
+/// a lock is removed and the store is opened anew, and no two byte lists clash in its last world.
+pub fn example_is_a_run()
+    ensures { ExampleIsARun }
+{}
+
+/// The rule of a backup can be met to its end: with any texts as they are written, a run leads to a world in which a backup of an
+/// empty folder is reported as stored, and its snapshot is there. Nothing clashes in that world, nor in those of the next three
+/// laws, where no two of these texts and the tree have one name, and none but the index reads as an index that says a fact.
+pub fn backup_is_a_run()
+    ensures { BackupIsARun }
+{}
+
+/// So can that of a restore: after the backup, a restore of its snapshot by a second client is complete.
+pub fn restore_is_a_run()
+    ensures { RestoreIsARun }
+{}
+
+/// So can that of a prune: after the backup, a prune by a second client, under a lock of its own, is done. It keeps the pack, whose tree
+/// the snapshot needs, and puts its index again.
+pub fn prune_is_a_run()
+    ensures { PruneIsARun }
+{}
+
+/// So can those of a forget and of a prune that deletes: after the backup, a second client forgets the snapshot, and a third
+/// prunes the store, until no object is left.
+pub fn forget_is_a_run()
+    ensures { ForgetIsARun }
+{}
+
+/// There are such texts: a config, a pack of the empty tree, its index and a snapshot, as they are written, are within their limits,
+/// no two of them and the tree have one name, and none but the index says a fact. The proof computes their digests.
+pub fn some_texts_are_apart()
+    ensures { TextsAreApart }
+{}
+
+/// So nothing clashes in the last world of a run in which that snapshot is stored, of one in which a restore of it is complete then,
+/// of one in which a prune is done then, and of one in which it is forgotten and the store pruned: the premise of the laws of all
+/// runs can be met there.
+pub fn nothing_clashes_in_runs()
+    ensures { NothingClashesInRuns }
+{}

@@ -1,5 +1,0 @@
-use Rattle.repo_world.proofs.Backing as lemmas
-use Rattle.repo_world.proofs.laws.backup_is_a_run.Goals as goal
-
-pub returns : goal.returns
-returns c = lemmas.backup_is_a_run

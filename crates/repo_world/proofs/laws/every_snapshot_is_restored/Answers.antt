@@ -1,5 +1,0 @@
-use Rattle.repo_world.proofs.Resting as lemmas
-use Rattle.repo_world.proofs.laws.every_snapshot_is_restored.Goals as goal
-
-pub returns : goal.returns
-returns c = lemmas.every_snapshot_is_restored

@@ -1,5 +1,0 @@
-use Rattle.repo_world.proofs.Resting as lemmas
-use Rattle.repo_world.proofs.laws.every_store_is_fit.Goals as goal
-
-pub returns : goal.returns
-returns c = lemmas.every_store_is_fit

@@ -1,5 +1,0 @@
-use Rattle.repo_world.proofs.Exampling as lemmas
-use Rattle.repo_world.proofs.laws.example_is_a_run.Goals as goal
-
-pub returns : goal.returns
-returns c = lemmas.example_is_run

@@ -1,5 +1,0 @@
-use Rattle.repo_world.proofs.GivingBack as lemmas
-use Rattle.repo_world.proofs.laws.restore_is_a_run.Goals as goal
-
-pub returns : goal.returns
-returns c = lemmas.restore_is_a_run

@@ -1,5 +1,0 @@
-use Rattle.repo_world.proofs.WrongRules as lemmas
-use Rattle.repo_world.proofs.wrong_rules.takes_any_break_bag.Goals as goal
-
-pub returns : goal.returns
-returns c = lemmas.takes_any_break
