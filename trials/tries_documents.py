@@ -102,6 +102,7 @@ def commands_that_are_named_are_there():
 NOT_RUN = {
     "scripts/vault.sh": "it proves everything: an hour",
     "examples/a-week.sh": "it is tried by itself, and the gate is what runs the trials",
+    "scripts/deb.sh": "it is tried by itself",
     "sudo install crates": "it makes a user and services on this machine",
     "sudo cp examples": "it makes services on this machine",
     "laptop$ sudo install": "it wants another machine",
@@ -134,7 +135,7 @@ class Desk:
 
     def __init__(self, yard):
         self.top = filled(yard.top / "desk", {"photos/2026/one": b"the sea" * 99, "photos/two": b"abc", "crates/vault/out/": b"", "bin/": b""})
-        for name in ("docs", "examples"):
+        for name in ("docs", "examples", "scripts", "README.md", "CHANGES.md", "LICENSE"):
             (self.top / name).symlink_to(ROOT / name)
         for name in ("bin/vault", "crates/vault/out/vault"):
             (self.top / name).write_text(f"#!/bin/sh\nexec {shlex.quote(OPTIONS.program)} \"$@\"\n")
@@ -175,7 +176,7 @@ def tries_block(desk, block):
     elif script.startswith(IN_STORE):
         script = re.sub(r"^lost=.*$", f"lost={pack_in(desk.store)}", script, flags=re.M)
         printed = desk.runs(script, "", "" if script.startswith("cd ") else "store")
-    elif script.startswith(("prefix=", "vault init", "cp -a", "cat late.txt")):
+    elif script.startswith(("scripts/install.sh", "vault init", "cp -a", "cat late.txt")):
         printed = desk.runs(script, "")
     else:
         printed = desk.served(script)

@@ -3,3 +3,4 @@ pub mod TalkLemmas
 pub mod AskLemmas
 pub mod JobLemmas
 pub mod TellLemmas
+pub mod ServedLemmas
