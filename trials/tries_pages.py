@@ -24,6 +24,11 @@ def man_pages_are_those_of_the_help():
 
 
 @trial
+def pictures_are_those_of_the_pages():
+    says_nothing(sys.executable, "-B", "scripts/diagrams.py", "--check")
+
+
+@trial
 def man_pages_say_what_the_program_says():
     """Each command has a page, with its options, its example and its exit statuses as the built program's help has them."""
     for command in re.findall(r"^  ([a-z]+)  ", told("--help"), re.M):
