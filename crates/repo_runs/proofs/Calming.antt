@@ -81,7 +81,7 @@ module _ (config pack index snapshot : List ℕ) where
 
   posts_few : (k : ℕ) (es : Trace) → ExchangesFew es → Each SaysFew (posts k es)
   posts_few k [] h = tt
-  posts_few k (e ∷ es) h = each_joined SaysFew (posts k es) _ (posts_few k es h.2) (h.0, h.1, tt)
+  posts_few k (e ∷ es) h = each_joined SaysFew (posts k es) _ (posts_few k es h.2) (h.0, (h.1, tt))
 
   -- what clients made
   abbrev pub MakesFew : Client → Type 0
@@ -112,7 +112,7 @@ module _ (config pack index snapshot : List ℕ) where
   one_says [] h m e = absurd e
 
   one_makes : (cs : List Client) → Each MakesFew cs → (k : ℕ) → MakesFew (client_at cs k)
-  one_makes [] h k x made = absurd made
+  one_makes [] h k = λ x made. absurd made
   one_makes (c ∷ cs) h zero = h.0
   one_makes (c ∷ cs) h (suc k) = one_makes cs h.1 k
 
