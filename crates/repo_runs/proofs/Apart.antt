@@ -1,16 +1,15 @@
 -- The example texts are as they are written, no two have one name (their digests are computed), and so nothing clashes in the runs with them.
-use Rattle.std.proofs.Common.{◌<◌, ◌^◌, ◌&&◌, Bool, false, true, ◌≤◌, ◌⊎◌, inl, inr, ⊎_elim, ◌∙◌, sym, ap, subst, cond, ◌==◌, zero, suc, Contains, arith, ◌≡◌, ◌∷◌, ◌++◌, [], List, ℕ, refl, Some, None, codes, length, replicate, lit≤, slice_index_or, slice_get}
+use Rattle.std.proofs.Common.{◌<◌, ◌^◌, ◌&&◌, Bool, false, true, ◌≤◌, ◌⊎◌, inl, inr, ⊎_elim, ◌∙◌, sym, ap, subst, cond, ◌==◌, zero, suc, Contains, arith, ◌≡◌, ◌∷◌, [], List, ℕ, refl, Some, None, codes, length, replicate, lit≤, slice_index_or, slice_get}
 use Rattle.std.specs.Prelude.{IsUtf8}
 use Rattle.std.proofs.Math.Dec.{ltb}
 use Rattle.std.proofs.lemmas.Bool.{ltb-true}
 use Rattle.std.proofs.lemmas.List.Elements.{All-cons, All-nil}
 use Rattle.std.proofs.lemmas.Option.{none-some, same_Some}
-use Rattle.sha2.proofs.Facts256.{length-sha256}
 use Rattle.hex.specs.Hex.{IsBytes}
 use Rattle.serde_json.specs.Data.{Data}
 use Rattle.repo_json.specs.JsonText.{items_at}
 use Rattle.repo_name.proofs.Containing.{contained_or, none_contained, first_contained}
-use Rattle.repo_pack.specs.PackLayout.{IsItem, IsNamed, IsPack, IsTruePack, offset_of, header_of}
+use Rattle.repo_pack.specs.PackLayout.{IsItem, IsNamed, IsTruePack}
 use Rattle.repo_index.specs.declared.facts.Fact.{Fact}
 use Rattle.repo_index.specs.Exactness.{AreFactsAt}
 use Rattle.repo_index.specs.IndexText.{IsIndexText, IsFact, Says}
@@ -27,7 +26,7 @@ use Rattle.std.specs.Fmt.{digits}
 use Rattle.std.specs.Float.Numeral.{scan_numeral}
 use Rattle.sha2.specs.Sha256.{compress, digest_bytes, first_words, hash_after, rounds, schedule, sha256}
 use Rattle.serde_json.specs.Read.{read, number_of}
-use Rattle.json.specs.Json.{value, items, members}
+use Rattle.json.specs.Json.{value}
 use Rattle.json.specs.Lex.{lex, punctuate}
 use Rattle.json.specs.Text.{content}
 use Rattle.json.specs.Word.{word, after_number}
@@ -36,12 +35,12 @@ use Rattle.hex.specs.Hex.{encode_with}
 use Rattle.repo_name.specs.Naming as naming
 use Rattle.repo_name.specs.declared.names.Name.{Name}
 use Rattle.std.specs.List.{All}
-use Rattle.repo_pack.specs.PackLayout.{Item, item_of, pack_bytes}
+use Rattle.repo_pack.specs.PackLayout.{Item}
 use Rattle.repo_index.specs.declared.facts.PackFacts.{PackFacts}
 use Rattle.repo_index.specs.Exactness.{fact_at}
-use Rattle.repo_index.specs.IndexWriting.{index_text, index_data}
-use Rattle.repo_tree.specs.ConfigText.{config_text, config_data}
-use Rattle.repo_tree.specs.SnapshotText.{snapshot_text, snapshot_data}
+use Rattle.repo_index.specs.IndexWriting.{index_data}
+use Rattle.repo_tree.specs.ConfigText.{config_data}
+use Rattle.repo_tree.specs.SnapshotText.{snapshot_data}
 use Rattle.repo_tree.specs.TreeWriting.{tree_text, tree_data}
 use Rattle.repo_name.specs.Rows.{IsHost}
 use Rattle.repo_name.specs.declared.kinds.Kind.{Kind}

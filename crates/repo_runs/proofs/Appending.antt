@@ -1,5 +1,5 @@
 -- In a world whose store only appends no event takes an object away.
-use Rattle.std.proofs.Common.{◌≡◌, ◌∙◌, Some, ap}
+use Rattle.std.proofs.Common.{◌≡◌, ◌∙◌, ap}
 use Rattle.repo_store.specs.AppendOnly.{OnlyAppends}
 use Rattle.repo_store.specs.Stores.{Store}
 use Rattle.repo_store.proofs.Appending.{steps_only_append}

@@ -1,5 +1,5 @@
 -- A backup of an empty folder is a run.
-use Rattle.std.proofs.Common.{◌≡◌, ◌⊎◌, ◌<◌, ◌≤◌, ◌^◌, ◌-◌, ◌&&◌, lit≤, min, inl, inr, ⊎_elim, ℕ, Bool, true, false, cond, ◌∷◌, [], List, length, refl, sym, ◌∙◌, ap, subst, Option, Some, None, arith, Ok, Contains}
+use Rattle.std.proofs.Common.{◌≡◌, ◌⊎◌, ◌<◌, ◌≤◌, ◌^◌, ◌-◌, ◌&&◌, lit≤, min, inl, inr, ⊎_elim, ℕ, Bool, true, false, cond, ◌∷◌, ◌++◌, [], List, length, refl, sym, ◌∙◌, ap, subst, Option, Some, None, arith, Ok, Contains}
 use Rattle.std.specs.declared.cmp.Ordering.{Ordering}
 use Rattle.std.specs.declared.cmp.Ordering.TheVariants.{Less, Equal, Greater}
 use Rattle.std.specs.Cmp.Lexicographic.{nat_list_cmp_total}
@@ -48,7 +48,7 @@ use Rattle.repo_world.specs.Clients.{task_of, JobAllows, JobGives, JobConcludes,
 use Rattle.repo_runs.specs.Lone.{ended}
 use Rattle.repo_world.specs.World.{beginning, instance_of}
 use Rattle.repo_runs.proofs.Calming.{ExchangesFew, IsQuiet, quiet_first, quiet_more, backs_nothing, few_config, few_pack, few_index, few_snapshot, calm}
-use Rattle.repo_runs.proofs.Joining.{Stepped, finished, held_end, posts}
+use Rattle.repo_runs.proofs.Joining.{AreUnfed, Stepped, finished, held_end, posts}
 use Rattle.repo_world.specs.declared.jobs.Job.{Job}
 
 -- ---- objects that are put where nothing was
@@ -370,6 +370,9 @@ module _ (host : List ℕ) (time : ℕ) (config pack index snapshot : List ℕ) 
     inl (record { result = true; tokens = unlocked tokens token; step = (refl, refl); says = refl; saves = (refl, refl, refl, refl) }),
   )
 
+  pub all_unfed : AreUnfed all
+  all_unfed = (refl, (refl, (refl, (refl, (refl, (refl, (refl, (refl, tt))))))))
+
   pub all_few : ExchangesFew config pack index snapshot all
   all_few =
       let few = few_config config pack index snapshot in
@@ -381,7 +384,7 @@ module _ (host : List ℕ) (time : ℕ) (config pack index snapshot : List ℕ) 
 
   pub is_backed_up : IsBackedUp config pack index snapshot
   is_backed_up =
-      let found = finished (beginning (configured config)) (Job.Backup []) host time tt limits (silent (Ask.Unlock token) Say.Done) storing last_store (Some (stored snapshot)) steps dutiful in
+      let found = finished (beginning (configured config)) (Job.Backup []) host time tt limits (silent (Ask.Unlock token) Say.Done) storing last_store (Some (stored snapshot)) steps all_unfed dutiful in
       record { events = found.0; last = _; run = found.1; reported = refl; there = there_now with_index Kind.Snapshot (naming.name snapshot) snapshot; calm = λ apart. calm config pack index snapshot host time texts apart _ quiet }
 
 pub backup_is_a_run : BackupIsARun

@@ -1,6 +1,6 @@
 -- Where the messages of a world say just a few byte lists, of which no two have one name, nothing clashes in it.
 use Rattle.std.specs.Prelude.{⊤}
-use Rattle.std.proofs.Common.{◌≡◌, ◌⊎◌, ◌++◌, ◌∷◌, [], inl, inr, ⊎_elim, ℕ, zero, suc, List, length, refl, sym, ◌∙◌, ap, subst, Some, Contains, slice_get}
+use Rattle.std.proofs.Common.{◌≡◌, ◌++◌, ◌∷◌, [], inl, inr, ⊎_elim, ℕ, zero, suc, List, length, refl, sym, ◌∙◌, ap, subst, Some, Contains, slice_get}
 use Rattle.std.proofs.lemmas.Option.{none-some, same_Some}
 use Rattle.repo_name.specs.Naming as naming
 use Rattle.repo_name.specs.Ranges.{range}
@@ -21,7 +21,7 @@ use Rattle.repo_store.specs.Stores.{Store}
 use Rattle.repo_backup.specs.Folders.{Folder, nothing, file_then, dir_then, tree_of, blobs_of, entries_of}
 use Rattle.repo_backup.specs.Laws.{IsMadeOf}
 use Rattle.repo_world.specs.Clients.{Client, MadeOf}
-use Rattle.repo_world.specs.Safe.{IsPutBy, IsSpoken, by_put, by_reply, IsPartOf, IsKnown, known_spoken, known_part, known_made, HasNoClash}
+use Rattle.repo_world.specs.Safe.{IsSpoken, by_put, by_reply, IsPartOf, IsKnown, known_spoken, known_part, known_made, HasNoClash}
 use Rattle.repo_world.specs.World.{World, Message, Asked, Said, IsOneOf, client_at}
 use Rattle.repo_world.specs.declared.jobs.Job.{Job}
 use Rattle.repo_runs.specs.Backed.{AreTexts, AreApart, lists_of}
@@ -81,7 +81,7 @@ module _ (config pack index snapshot : List ℕ) where
 
   posts_few : (k : ℕ) (es : Trace) → ExchangesFew es → Each SaysFew (posts k es)
   posts_few k [] h = tt
-  posts_few k (e ∷ es) h = each_joined SaysFew (posts k es) _ (posts_few k es h.2) (h.0, h.1, tt)
+  posts_few k (e ∷ es) h = each_joined SaysFew (posts k es) _ (posts_few k es h.2) (h.0, (h.1, tt))
 
   -- what clients made
   abbrev pub MakesFew : Client → Type 0
@@ -112,7 +112,7 @@ module _ (config pack index snapshot : List ℕ) where
   one_says [] h m e = absurd e
 
   one_makes : (cs : List Client) → Each MakesFew cs → (k : ℕ) → MakesFew (client_at cs k)
-  one_makes [] h k x made = absurd made
+  one_makes [] h k = λ x made. absurd made
   one_makes (c ∷ cs) h zero = h.0
   one_makes (c ∷ cs) h (suc k) = one_makes cs h.1 k
 

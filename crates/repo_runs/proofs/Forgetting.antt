@@ -511,7 +511,7 @@ module _ (host : List ℕ) (time : ℕ) (config pack index snapshot : List ℕ) 
   after_forget : (w v : World) (events : List Event) → Run (beginning (configured config)) events v → (same : w.store ≡ from) → (next : v.store ≡ left w same)
       → v.clients ≡ backer ∷ ended (length w.clients) (Job.Forget choice) host time (forgetting w same) (Some (Outcome.Forgotten (ns ∷ []))) ∷ [] → IsQuiet config pack index snapshot v → IsForgottenInRun names config pack index snapshot
   after_forget w v events run same next two quiet =
-      let done = finished v Job.Prune host time tt limits (silent (Ask.Unlock third) Say.Done) (p6 w same v next) (store_of w same (without_pack w same) (unlocked (last_tokens w same v next) third)) (Some (Outcome.Pruned 1 0)) (prune_steps w same v next) (prunes_well w same v next) in
+      let done = finished v Job.Prune host time tt limits (silent (Ask.Unlock third) Say.Done) (p6 w same v next) (store_of w same (without_pack w same) (unlocked (last_tokens w same v next) third)) (Some (Outcome.Pruned 1 0)) (prune_steps w same v next) (refl, (refl, (refl, (refl, (refl, (refl, (refl, (refl, (refl, (refl, tt)))))))))) (prunes_well w same v next) in
       record {
         events = events ++ done.0;
         last = _;
@@ -527,7 +527,7 @@ module _ (host : List ℕ) (time : ℕ) (config pack index snapshot : List ℕ) 
 
   after_backup : (w : World) (events : List Event) → Run (beginning (configured config)) events w → (same : w.store ≡ from) → w.clients ≡ backer ∷ [] → IsQuiet config pack index snapshot w → IsForgottenInRun names config pack index snapshot
   after_backup w events run same one quiet =
-      let done = finished w (Job.Forget choice) host time (λ none. none) limits (silent (Ask.Unlock token) Say.Done) (f2 w same) (left w same) (Some (Outcome.Forgotten (ns ∷ []))) (steps w same) (dutiful w same) in
+      let done = finished w (Job.Forget choice) host time (λ none. none) limits (silent (Ask.Unlock token) Say.Done) (f2 w same) (left w same) (Some (Outcome.Forgotten (ns ∷ []))) (steps w same) (refl, (refl, (refl, (refl, (refl, (refl, tt)))))) (dutiful w same) in
       after_forget w _ (events ++ done.0) (run_more (beginning (configured config)) events done.0 w _ run done.1) same refl
       (ap (λ (cs : List Client). cs ++ ended (length w.clients) (Job.Forget choice) host time (forgetting w same) (Some (Outcome.Forgotten (ns ∷ []))) ∷ []) one)
       (quiet_more config pack index snapshot w (ended (length w.clients) (Job.Forget choice) host time (forgetting w same) (Some (Outcome.Forgotten (ns ∷ [])))) (forgetting w same) (left w same) quiet (forgetting_few w same) (λ x none. absurd none))
@@ -535,7 +535,7 @@ module _ (host : List ℕ) (time : ℕ) (config pack index snapshot : List ℕ) 
   all_forgotten : IsForgottenInRun names config pack index snapshot
   all_forgotten =
       let first = finished (beginning (configured config)) (Job.Backup []) host time tt limits (silent (Ask.Unlock backup.token) Say.Done) (backup.storing host time config pack index snapshot limits texts) from (Some (stored snapshot))
-      (backup.steps host time config pack index snapshot limits texts) (backup.dutiful host time config pack index snapshot limits texts) in
+      (backup.steps host time config pack index snapshot limits texts) (backup.all_unfed host time config pack index snapshot limits texts) (backup.dutiful host time config pack index snapshot limits texts) in
       after_backup _ first.0 first.1 refl refl (backup.quiet host time config pack index snapshot limits texts)
 
 pub forget_is_a_run : ForgetIsARun

@@ -19,7 +19,8 @@ use Rattle.repo_session.specs.Obedience.{holds_whole}
 use Rattle.repo_session.specs.Ends as ends
 use Rattle.repo_session.specs.Order.{Task, May, IsPermitted, IsUnlock, IsNoUnlock, IsWorking, Obeys, opened, locked, ticketed}
 use Rattle.repo_session.specs.Talks.{Talk, trace_of}
-use Rattle.repo_session.specs.Traces.{Each, Exchange, Trace}
+use Rattle.repo_session.specs.Feeds.{Fed}
+use Rattle.repo_session.specs.Traces.{Each, Exchange, Trace, giving}
 use Rattle.repo_session.proofs.Growing.{Led, led}
 use Rattle.repo_world.specs.Clients.{Accepts, task_of, JobAllows, JobGives, JobConcludes, Client, IsDutiful}
 use Rattle.repo_world.specs.Events.{Delivers, Takes, Happens, Run}
@@ -132,6 +133,10 @@ first_ticket task Ask.Locks m = absurd m
 
 -- ---- the world while a client talks
 
+-- nothing was fed on any exchange
+abbrev pub AreUnfed : Trace → Type 0
+AreUnfed es = Each (λ e. e.fed ≡ []) es
+
 -- a client's request, as the one after these exchanges
 abbrev asked_of : ℕ → Trace → Ask → Request
 asked_of k es a = record { instance = instance_of k; sequence = length es + 1; ask = a }
@@ -161,7 +166,7 @@ module _ (w : World) (job : Job) (host : List ℕ) (time : ℕ) (accepted : Acce
   at es next o store = record { store = store; clients = w.clients ++ talking es next o ∷ []; messages = sent es ++ sends (length w.clients) next }
 
   -- one turn: the request is delivered, and its reply
-  module _ (es : Trace) (e : Exchange) (mid to : Store) (o p : Option Outcome) (next : Option Request) (step : Step mid e.ask e.say to) (dutiful : IsDutiful (talking (e ∷ es) next p)) (stays : (x : Outcome) → o ≡ Some x → p ≡ Some x) where
+  module _ (es : Trace) (e : Exchange) (mid to : Store) (o p : Option Outcome) (next : Option Request) (unfed : e.fed ≡ []) (step : Step mid e.ask e.say to) (dutiful : IsDutiful (talking (e ∷ es) next p)) (stays : (x : Outcome) → o ≡ Some x → p ≡ Some x) where
     abbrev request : Request
     request = asked_of (length w.clients) es e.ask
 
@@ -199,7 +204,7 @@ module _ (w : World) (job : Job) (host : List ℕ) (time : ℕ) (accepted : Acce
       new = talking (e ∷ es) next p;
       job = sym (ap (λ (c : Client). c.job) here);
       who = sym (ap (λ (c : Client). c.who) here);
-      trace = ap (λ (c : Client). e ∷ c.trace) (sym here);
+      trace = ap (λ (fed : List Fed). record { ask = e.ask; say = e.say; emitted = e.emitted; fed = fed } ∷ es) unfed ∙ ap (λ (c : Client). giving e.ask e.say e.emitted ∷ c.trace) (sym here);
       up = refl;
       dutiful = dutiful;
       stays = λ x q. stays x (sym (ap (λ (c : Client). c.outcome) here) ∙ q);
@@ -287,29 +292,29 @@ module _ (w : World) (job : Job) (host : List ℕ) (time : ℕ) (accepted : Acce
           ∙ ap (λ (ms : List Message). record { store = w.store; clients = w.clients ++ started (length w.clients) job host time false ∷ []; messages = ms ++ Asked (length w.clients) (first_of (length w.clients)) ∷ [] }) (append-nil w.messages))
 
   -- it comes to where a request is pending
-  comes : (es : Trace) (mid : Store) (a : Ask) (o : Option Outcome) → Stepped w.store es mid → Obeys (task_of job who) (JobAllows job) (JobGives job) es → May (task_of job who) es a → IsPermitted (JobAllows job) es a → Shows o a es
+  comes : (es : Trace) (mid : Store) (a : Ask) (o : Option Outcome) → Stepped w.store es mid → AreUnfed es → Obeys (task_of job who) (JobAllows job) (JobGives job) es → May (task_of job who) es a → IsPermitted (JobAllows job) es a → Shows o a es
       → (events : List Event) × Run w events (at es (Some (asked_of (length w.clients) es a)) o mid)
-  comes [] mid a o steps obeys may permitted shows =
+  comes [] mid a o steps unfed obeys may permitted shows =
       subst (λ (s : Store). (events : List Event) × Run w events (at [] (Some (asked_of (length w.clients) [] a)) o s)) (sym steps) (starts a o (first_ticket (task_of job who) a may) shows)
-  comes (e ∷ es) mid a o steps obeys may permitted shows =
-      let before = comes es steps.0 e.ask None steps.1 obeys.3 obeys.0 obeys.1 (inl ((λ u. no_more (task_of job who) e es a may u), refl)) in
-      let next = one_turn es e steps.0 mid None o (Some (asked_of (length w.clients) (e ∷ es) a)) steps.2 (waits (e ∷ es) a o obeys may permitted shows) (λ x q. absurd (none-some x q)) in (
+  comes (e ∷ es) mid a o steps unfed obeys may permitted shows =
+      let before = comes es steps.0 e.ask None steps.1 unfed.1 obeys.3 obeys.0 obeys.1 (inl ((λ u. no_more (task_of job who) e es a may u), refl)) in
+      let next = one_turn es e steps.0 mid None o (Some (asked_of (length w.clients) (e ∷ es) a)) unfed.0 steps.2 (waits (e ∷ es) a o obeys may permitted shows) (λ x q. absurd (none-some x q)) in (
         before.0 ++ next.0,
         run_more w before.0 next.0 (at es (Some (asked_of (length w.clients) es e.ask)) None steps.0) (at (e ∷ es) (Some (asked_of (length w.clients) (e ∷ es) a)) o mid) before.1 next.1,
       )
 
   -- and to its end
-  ends_so : (e : Exchange) (es : Trace) (to : Store) (outcome p : Option Outcome) → Stepped w.store (e ∷ es) to → IsDutiful (talking (e ∷ es) None outcome) → Shows p e.ask es → ((x : Outcome) → p ≡ Some x → outcome ≡ Some x) → (events : List Event) × Run w events (at (e ∷ es) None outcome to)
-  ends_so e es to outcome p steps dutiful shows stays =
+  ends_so : (e : Exchange) (es : Trace) (to : Store) (outcome p : Option Outcome) → Stepped w.store (e ∷ es) to → AreUnfed (e ∷ es) → IsDutiful (talking (e ∷ es) None outcome) → Shows p e.ask es → ((x : Outcome) → p ≡ Some x → outcome ≡ Some x) → (events : List Event) × Run w events (at (e ∷ es) None outcome to)
+  ends_so e es to outcome p steps unfed dutiful shows stays =
       let o = dutiful.obeys in
-      let before = comes es steps.0 e.ask p steps.1 o.3 o.0 o.1 shows in
-      let last = one_turn es e steps.0 to p outcome None steps.2 dutiful stays in (
+      let before = comes es steps.0 e.ask p steps.1 unfed.1 o.3 o.0 o.1 shows in
+      let last = one_turn es e steps.0 to p outcome None unfed.0 steps.2 dutiful stays in (
         before.0 ++ last.0,
         run_more w before.0 last.0 (at es (Some (asked_of (length w.clients) es e.ask)) p steps.0) (at (e ∷ es) None outcome to) before.1 last.1,
       )
 
-  pub finished : (e : Exchange) (es : Trace) (to : Store) (outcome : Option Outcome) → Stepped w.store (e ∷ es) to → IsDutiful (talking (e ∷ es) None outcome) → (events : List Event) × Run w events (at (e ∷ es) None outcome to)
-  finished e es to outcome steps dutiful = by_end (is_unlock e.ask)
+  pub finished : (e : Exchange) (es : Trace) (to : Store) (outcome : Option Outcome) → Stepped w.store (e ∷ es) to → AreUnfed (e ∷ es) → IsDutiful (talking (e ∷ es) None outcome) → (events : List Event) × Run w events (at (e ∷ es) None outcome to)
+  finished e es to outcome steps unfed dutiful = by_end (is_unlock e.ask)
     where
       some_of : (o : Option Outcome) → o ≢ None → (x : Outcome) × (o ≡ Some x)
       some_of None h = absurd (h refl)
@@ -344,11 +349,11 @@ module _ (w : World) (job : Job) (host : List ℕ) (time : ℕ) (accepted : Acce
       older Ask.Config u = absurd u
 
       by_end : (¬ IsUnlock e.ask) ⊎ IsUnlock e.ask → (events : List Event) × Run w events (at (e ∷ es) None outcome to)
-      by_end (inl other) = ends_so e es to outcome None steps dutiful (inl (other, refl)) (λ x q. absurd (none-some x q))
+      by_end (inl other) = ends_so e es to outcome None steps unfed dutiful (inl (other, refl)) (λ x q. absurd (none-some x q))
       by_end (inr u) =
           let there = some_of outcome (dutiful.settled refl) in
           let concluded = dutiful.concluded there.0 there.1 in
-          ends_so e es to outcome outcome steps dutiful (inr (u, (there.0, there.1, subst (λ fs. ends.MayConclude (upto (task_of job who).versions) (task_of job who).notes (JobConcludes job) fs there.0) (older e.ask u) concluded))) (λ x q. q)
+          ends_so e es to outcome outcome steps unfed dutiful (inr (u, (there.0, there.1, subst (λ fs. ends.MayConclude (upto (task_of job who).versions) (task_of job who).notes (JobConcludes job) fs there.0) (older e.ask u) concluded))) (λ x q. q)
 
 -- ---- a talk
 
@@ -356,8 +361,12 @@ talk_steps : (w : World) (job : Job) (host : List ℕ) (time : ℕ) (accepted : 
 talk_steps w job host time accepted limits [] to h = h
 talk_steps w job host time accepted limits (turn ∷ talk) to h = (h.0, talk_steps w job host time accepted limits talk h.0 h.1, h.2.step)
 
+talk_unfed : (talk : Talk) → AreUnfed (trace_of talk)
+talk_unfed [] = tt
+talk_unfed (turn ∷ talk) = (refl, talk_unfed talk)
+
 pub lone_talk : LoneTalkIsARun
 lone_talk w job host time turn talk to failed failing outcome accepted limits ran dutiful =
     let steps = talk_steps w job host time accepted limits (turn ∷ talk) to (led w.store (turn ∷ talk) to ran.run) in
-    let found = finished w job host time accepted limits (exchange turn.request turn.reply turn.emitted) (trace_of talk) to outcome steps dutiful in
+    let found = finished w job host time accepted limits (exchange turn.request turn.reply turn.emitted) (trace_of talk) to outcome steps (talk_unfed (turn ∷ talk)) dutiful in
     record { events = found.0; last = _; run = found.1; store_is = refl; clients_are = refl }

@@ -1,12 +1,11 @@
 -- What a store at rest has, to which a run led: a client alone finds all that it wants.
-use Rattle.std.proofs.Common.{arith, ap, ◌≡◌, ◌⊎◌, ◌≤◌, [], ℕ, List, Some, None, length, inl, inr, ⊎_elim, sym, subst, ◌∙◌}
+use Rattle.std.proofs.Common.{arith, ap, ◌≡◌, ◌≤◌, [], ℕ, List, Some, None, length, inl, inr, ⊎_elim, sym, subst, ◌∙◌}
 use Rattle.repo_name.specs.declared.kinds.Kind.{Kind}
 use Rattle.repo_name.specs.declared.names.Name.{Name}
 use Rattle.repo_wire.specs.declared.messages.Ask.{Ask}
-use Rattle.repo_wire.specs.declared.messages.Say.{Say}
-use Rattle.repo_store.specs.StoreMachine.{Step, object_limit}
+use Rattle.repo_store.specs.StoreMachine.{object_limit}
 use Rattle.repo_store.specs.Stores.{Objects, Store}
-use Rattle.repo_session.specs.Alone.{IsFit, AreVersionsUpto, IsSent, IsSpoken, NoClash, TakesPart, WasThere}
+use Rattle.repo_session.specs.Alone.{IsFit, AreVersionsUpto, IsSent, IsSpoken, NoClash, WasThere}
 use Rattle.repo_session.proofs.Growing.{Moves, step_moves}
 use Rattle.std.proofs.lemmas.Option.{same_Some}
 use Rattle.repo_tree.specs.ConfigText.{IsConfigText}

@@ -1,5 +1,5 @@
 -- What a client gave out on each of its exchanges, from where its seat keeps it.
-use Rattle.std.proofs.Common.{◌≡◌, ◌∙◌, ◌<◌, ◌≤◌, ◌++◌, ◌∷◌, [], ℕ, zero, suc, List, Option, Some, None, length, reverse, refl, sym, ap, arith, slice_get, slice_index_or}
+use Rattle.std.proofs.Common.{◌≡◌, ◌∙◌, ◌<◌, ◌≤◌, ◌++◌, ◌∷◌, [], ℕ, zero, suc, List, Option, Some, None, length, reverse, refl, ap, arith, slice_get, slice_index_or}
 use Rattle.std.proofs.lemmas.List.{reverse-append}
 use Rattle.repo_wire.specs.declared.messages.Reply.{Reply}
 use Rattle.repo_session.specs.declared.emissions.Emission.{Emission}

@@ -1,6 +1,5 @@
 -- The lines of a report, one after another.
 use Rattle.std.proofs.Common.{zero, ◌<◌, map, slice_index_or, take, ◌≡◌, ◌∙◌, ◌+◌, ◌++◌, ◌∷◌, [], ℕ, suc, List, length, sym, ap, arith, append-nil, append_assoc}
-use Rattle.repo_world.specs.Clients.{Client}
 use Rattle.repo_world.specs.Reports.{client_lines, line_of}
 use Rattle.repo_world.specs.Seats.{Seated}
 

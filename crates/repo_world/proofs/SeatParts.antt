@@ -8,7 +8,7 @@ use Rattle.repo_session.specs.Traces.{Trace, giving}
 use Rattle.repo_session.specs.declared.outcomes.Outcome.{Outcome}
 use Rattle.repo_world.specs.AnyClients.{FitsAny, any_ended, any_given, any_next, any_obeys, client_of, given_to}
 use Rattle.repo_world.specs.inner.Seating.{TookReply}
-use Rattle.repo_world.specs.Seats.{IsSeated, exchanges_of, listed, requests_of, say_of, seated, trace_of}
+use Rattle.repo_world.specs.Seats.{IsSeated, exchanges_of, listed, requests_of, say_of, seated}
 use Rattle.repo_world.specs.declared.any_clients.AnyClient.{AnyClient}
 use Rattle.repo_world.specs.declared.pasts.Past.{Past}
 use Rattle.repo_world.proofs.Seating.{each_end, there_grows, trace_grows, trace_more}

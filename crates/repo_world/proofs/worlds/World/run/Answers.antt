@@ -1,4 +1,4 @@
-use Rattle.std.proofs.Common.{rules, ◌≡◌, ◌<◌, List, true, false, length, take, refl, sym, subst}
+use Rattle.std.proofs.Common.{rules, ◌≡◌, ◌<◌, true, false, length, take, refl, sym, subst}
 use Rattle.std.specs.Prelude.{⊤}
 use Rattle.std.specs.Result.{is_err}
 use Rattle.repo_store.specs.Failing.{HasFailed}
