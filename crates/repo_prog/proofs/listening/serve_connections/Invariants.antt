@@ -1,12 +1,13 @@
 use Rattle.std.proofs.Common.{◌≡◌}
-use Rattle.repo_store.specs.Serving.{Ran}
 use Rattle.repo_prog.specs.Commands.{IsEnd}
 use Rattle.repo_prog.specs.declared.status.Status.{Status}
+use Rattle.repo_prog.proofs.ServedLemmas.{Served}
 use Rattle.repo_prog.proofs.listening.serve_connections.Given as goal
 
 abbrev pub invariant-loop-turn : goal.invariant-loop-turn
 invariant-loop-turn g l = record {
-  runs : g.S.Shelf.honest l.fn.shelf → Ran (g.S.Shelf.store l.fn.shelf) (g.S.Shelf.failed l.fn.shelf) (g.S.Shelf.store l.shelf) (g.S.Shelf.failed l.shelf);
+  served : g.S.Shelf.honest l.fn.shelf
+      → Served g.L.Stream.Read.remaining l.turn (g.S.Shelf.store l.fn.shelf) (g.S.Shelf.failed l.fn.shelf) (g.S.Shelf.store l.shelf) (g.S.Shelf.failed l.shelf);
   honest : g.S.Shelf.honest l.fn.shelf → g.S.Shelf.honest l.shelf;
   silent : l.status ≡ Status.Done → l.faults ≡ l.fn.faults;
   status : IsEnd l.status;
