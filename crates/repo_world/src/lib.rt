@@ -1,4 +1,4 @@
-//! The world: one store, any number of clients, and all messages that were ever sent between them; the laws of all
+//! The world: one store, any number of clients, and all messages that were ever sent between them; the law of all
 //! its runs; and a value that makes them.
 //!
 //! A [`World`] has a store in a device, its clients and all messages. An [`Event`] happens to it by [`World::apply`], and what
