@@ -1,9 +1,10 @@
-//! The world: one store, any number of clients, and all messages that were ever sent between them; the laws of all
+//! The world: one store, any number of clients, and all messages that were ever sent between them; the law of all
 //! its runs; and a value that makes them.
 //!
 //! A [`World`] has a store in a device, its clients and all messages. An [`Event`] happens to it by [`World::apply`], and what
 //! comes of that is an [`Applied`]. A client is started with a [`Job`], under a [`Host`]; a [`Message`] stands for a request or
-//! a reply, by its place. A report is a [`client_line`] for each client, by its [`Role`], and a [`store_line`].
+//! a reply, by its place. A report is a [`client_line`] for each client, by its [`Role`], and a [`store_line`]. What a client gave out
+//! ([`World::emitted`]) and what the store has under a name ([`World::object`]) can be looked at, too.
 //!
 //! Promised: from a store without objects, over every list of events (clients start and stop for good, messages are
 //! delivered late, again, in any order or never, calls of the store's device fail, locks are removed by anybody, the store is
