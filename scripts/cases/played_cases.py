@@ -90,9 +90,14 @@ ENDED = [
 ]
 
 
+def bytes_of(text):
+    """The bytes of a script. Each of the characters from \\udc80 to \\udcff stands for one byte that is no text."""
+    return text.encode(errors="surrogateescape")
+
+
 def played(script, command, heading, text, prints, fault=""):
     script.heading(heading)
-    script.vault("vault " + command, typed=text.encode())
+    script.vault("vault " + command, typed=bytes_of(text))
     script.ended(1 if fault else 0, prints, fault + "\n" * bool(fault))
 
 
