@@ -13,8 +13,7 @@ BACKED = "start backup a 5\nfinish 0\nstart restore 0\nfinish 1\nreport\n"
 def plays(script, heading, text, command="play", **shape):
     """A script, and what the reference says that it prints."""
     prints, fault = prints_of(command, bytes_of(text), shape.get("broken", False), shape.get("output_room"))
-    script.server(**shape)
-    played(script, command, heading, text, prints, fault)
+    played(script, command, heading, text, prints, fault, **shape)
 
 
 def backups(*rows, first=0):

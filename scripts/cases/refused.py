@@ -1,16 +1,17 @@
 #!/usr/bin/env python3
-"""Runs some cases with their first request for memory refused, then with the second, and so on, until none is left.
+"""Runs some cases, each twice in a row, with their first request for memory refused, then with the second, and so on, until none is left.
 
-Whichever is refused, at most one case differs from what is wanted. A command tells of want of memory, or of a writer or a sink
+Whichever is refused, at most one of the two differs from what is wanted. A command tells of want of memory, or of a writer or a sink
 that could not take more, or a text on standard error is cut short. A script that is played prints what the reference prints where
 the store lacks memory for one of its requests; or it ends for want of memory behind some of its lines. Where a line of the
-cases itself gets no memory the program ends with that text. The program is the one that `rt run` builds in crates/cases.
+case itself gets no memory the program ends with that text. The program is the one that `rt run` builds in crates/cases.
 """
 
 import os
 import subprocess
 import sys
 import tempfile
+from concurrent.futures import ThreadPoolExecutor
 from pathlib import Path
 
 sys.dont_write_bytecode = True
@@ -92,8 +93,7 @@ class Cases(Script):
 EVENTS = ("file f 736f6d65206279746573\nstart backup a 5\ndeliver 0\ndeliver 1\ndeliver 1\ndeliver 2\ndeliver 9\nlate 0\nreport\ndeliver 3\nfault 0 read\n"
           "start list\nuntil 1 list\nrestart\nfault 1 read\nreport\nunlock 1\nreport\nrestart\nreplay\ncrash 0\ndeliver 3\nreport\nstart keep 0 0\ndir ..\n"
           "start backup a 1\nlate 1\nreport\n")
-# Seventeen files, of which sixteen fill a pack.
-TWO_PACKS = "".join(f"file {place:05} {f'{place:064}'.encode().hex()}\n" for place in range(17))
+ENTRIES = "dir d\nfile d/y 6465\nfile x 616263\n"
 # Clients of all jobs, one after another.
 ALL_JOBS = ("start backup a 5\nfinish 0\nstart restore 0\nfinish 1\nstart list\nfinish 2\nstart check\nfinish 3\nfile x 616263\nstart backup a 6\nfinish 4\n"
             "start keep 1 0\nfinish 5\nstart prune\nfinish 6\nstart forget 4\nfinish 7\nstart upgrade\nfinish 8\nreport\n")
@@ -162,13 +162,13 @@ def clients(script):
 def scripts(script):
     """Scripts that are played, and one whose messages are carried."""
     script.plays("a script of each event", EVENTS)
-    script.plays("a script of all jobs", TWO_PACKS + ALL_JOBS)
+    script.plays("a script of all jobs", ENTRIES + ALL_JOBS)
     for heading, text, _ in WORKED[1:3]:
         script.plays(heading, text)
     for place, text in enumerate(LINES, 1):
         script.plays(f"lines of each sort, {place}", text)
     script.plays("a script that comes byte by byte", "start list\nfinish 0\nreport\n\nfile x 6", slow=True)
-    script.plays("a script whose messages are carried", TWO_PACKS + RESTORED, "loop")
+    script.plays("a script whose messages are carried", ENTRIES + RESTORED, "loop")
 
 
 def chosen():
@@ -220,46 +220,68 @@ def is_begun(gave, wanted):
     return ends or shown == rest and text.startswith(told)
 
 
-def is_explained(case, gave, script):
-    """Whether a case differs in a way in which it may."""
-    wanted = by_case(script.wanted)[case]
-    if case in script.lacking:
-        return gave in script.lacking[case] or is_begun(gave, wanted)
-    return has_cause(gave, wanted)
+class Tried:
+    """A case, and the same again behind it, of which a request for memory is refused."""
+
+    def __init__(self, heading, given, wanted, lacking):
+        headings = heading, heading + ", again"
+        self.given = "".join(line + "\n" for one in headings for line in [one, *given])
+        self.wanted = {one: wanted for one in headings}
+        self.lacking = lacking
+
+    def is_explained(self, gave, wanted):
+        """Whether a case differs in a way in which it may."""
+        if self.lacking is None:
+            return has_cause(gave, wanted)
+        return gave in self.lacking or is_begun(gave, wanted)
+
+    def fault(self, ran):
+        """What is wrong with a run in which a request was refused."""
+        gave = by_case(ran.stdout.splitlines())
+        differ = [case for case in gave if gave[case] != self.wanted[case]]
+        if ran.returncode == 0 and list(gave) != list(self.wanted):
+            return "cases are left out"
+        if ran.returncode != 0 and "out of memory" not in ran.stderr:
+            return "it ends otherwise: " + ran.stderr
+        if ran.returncode != 0 and differ and differ != [next(reversed(gave))]:
+            return f"{differ} differ, before its end"
+        if len(differ) > 1:
+            return f"{differ} differ"
+        if ran.returncode == 0 and not all(self.is_explained(gave[case], self.wanted[case]) for case in differ):
+            return f"{differ} don't say why: {[gave[case] for case in differ]}"
+        return None
 
 
-def fault(ran, script):
-    """What is wrong with a run in which a request was refused."""
-    gave, wanted = by_case(ran.stdout.splitlines()), by_case(script.wanted)
-    differ = [case for case in gave if gave[case] != wanted[case]]
-    if ran.returncode == 0 and list(gave) != list(wanted):
-        return "cases are left out"
-    if ran.returncode != 0 and "out of memory" not in ran.stderr:
-        return "it ends otherwise: " + ran.stderr
-    if ran.returncode != 0 and differ and differ != [next(reversed(gave))]:
-        return f"{differ} differ, before its end"
-    if len(differ) > 1:
-        return f"{differ} differ"
-    if ran.returncode == 0 and not all(is_explained(case, gave[case], script) for case in differ):
-        return f"{differ} don't say why: {[gave[case] for case in differ]}"
-    return None
+def tried():
+    """Each of the chosen cases, as it is run."""
+    script = chosen()
+    given, wanted = by_case(script.given), by_case(script.wanted)
+    return [Tried(case, given[case], wanted[case], script.lacking.get(case)) for case in wanted]
+
+
+def refusing(library, mark, at):
+    """The environment in which the request of a number is refused; a mark tells that it was."""
+    mark.unlink(missing_ok=True)
+    return os.environ | {"REFUSE": str(at), "REFUSED": str(mark), "LD_PRELOAD": str(library)}
+
+
+def requests_of(case, library, mark):
+    """How many requests a case makes, each of which is refused in a run of its own."""
+    for at in range(1, 1_000_000):
+        ran = subprocess.run([PROGRAM], input=case.given, text=True, capture_output=True, env=refusing(library, mark, at))
+        if not mark.is_symlink():
+            return at - 1
+        if wrong := case.fault(ran):
+            sys.exit(f"where request {at} is refused: {wrong}")
 
 
 def main():
-    script = chosen()
-    given = "".join(line + "\n" for line in script.given)
-    with tempfile.TemporaryDirectory() as folder:
-        library, mark = Path(folder) / "refuse.so", Path(folder) / "refused"
+    cases = tried()
+    with tempfile.TemporaryDirectory() as folder, ThreadPoolExecutor(os.cpu_count()) as pool:
+        library = Path(folder) / "refuse.so"
         subprocess.run(["gcc", "-shared", "-fPIC", "-O1", "-o", library, REFUSER], check=True)
-        for at in range(1, 1_000_000):
-            mark.unlink(missing_ok=True)
-            env = os.environ | {"REFUSE": str(at), "REFUSED": str(mark), "LD_PRELOAD": str(library)}
-            ran = subprocess.run([PROGRAM], input=given, text=True, capture_output=True, env=env)
-            if not mark.is_symlink():
-                print(f"the {len(by_case(script.wanted))} cases hold with each of their {at - 1} requests refused")
-                return
-            if wrong := fault(ran, script):
-                sys.exit(f"where request {at} is refused: {wrong}")
+        counts = pool.map(lambda at: requests_of(cases[at], library, Path(folder) / f"refused-{at}"), range(len(cases)))
+        print(f"the {len(cases)} cases hold with each of their {sum(counts)} requests refused")
 
 
 if __name__ == "__main__":
