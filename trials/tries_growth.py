@@ -64,6 +64,7 @@ def refuses_in(case, library, mark):
     for count, at in enumerate(numbers()):
         ran = subprocess.run([CASES], input=case.given, text=True, capture_output=True, env=os.environ | refusing(library, mark, at), timeout=WAIT)
         if not mark.is_symlink():
+            holds(case.is_whole(ran), f"where nothing is refused: {ran.stdout[-900:]}")
             return count
         holds(not case.fault(ran), f"where request {at} is refused: {case.fault(ran)}")
 

@@ -235,6 +235,10 @@ class Tried:
             return has_cause(gave, wanted)
         return gave in self.lacking or is_begun(gave, wanted)
 
+    def is_whole(self, ran):
+        """Whether a run gave what is wanted of both."""
+        return ran.returncode == 0 and by_case(ran.stdout.splitlines()) == self.wanted
+
     def fault(self, ran):
         """What is wrong with a run in which a request was refused."""
         gave = by_case(ran.stdout.splitlines())
@@ -270,7 +274,7 @@ def requests_of(case, library, mark):
     for at in range(1, 1_000_000):
         ran = subprocess.run([PROGRAM], input=case.given, text=True, capture_output=True, env=refusing(library, mark, at))
         if not mark.is_symlink():
-            return at - 1
+            return at - 1 if case.is_whole(ran) else sys.exit(f"{list(case.wanted)[0]} differs where nothing is refused")
         if wrong := case.fault(ran):
             sys.exit(f"where request {at} is refused: {wrong}")
 
