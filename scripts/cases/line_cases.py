@@ -56,9 +56,9 @@ def hosts_and_times(script):
         plays(script, f"starts: times of all sorts, of which {last} and {daily} days are kept",
               backups(*[("a", time) for time in times]) + f"start keep {last} {daily}\nfinish 9\n" + restores(range(9), 10))
     rows = backups(*[("a", time) for time in (1, 2, DAY, DAY + 1, 3 * DAY, 3 * DAY + 1)])
-    for last, daily in ((2, 2**32 - 1), (2**32 - 1, 0), (0, 1), (1, 3), (3, 1), (0, 0)):
-        plays(script, f"starts: a policy of {last} and {daily} days", rows + f"start keep {last} {daily}\n" + ("" if last == daily == 0 else "finish 6\n")
-              + restores(range(6), 6 if last == daily == 0 else 7))
+    for last, daily in ((2, 2**32 - 1), (2**32 - 1, 0), (0, 1), (1, 3), (3, 1)):
+        plays(script, f"starts: a policy of {last} and {daily} days", rows + f"start keep {last} {daily}\nfinish 6\n" + restores(range(6), 7))
+    plays(script, "starts: a policy of 0 and 0 days", rows + "start keep 0 0\n" + restores(range(6), 6))
 
 
 def starts(script):
@@ -92,13 +92,12 @@ def happenings(script):
     for line in ("", "restart"):
         plays(script, f"what happens: what the store remembers, and {line or 'no restart'}",
               f"start list\nfinish 0\n{line}\nstart list\nuntil 1 list\n{line}\nfault 1 read\nreport\n")
-    for line in ("", "replay", "replay\nreplay"):
-        again = line.replace("\n", ", twice ").replace(" replay", "") or "none again"
+    for again, lines in (("none again", ""), ("each again", "replay\n"), ("each again, twice", "replay\nreplay\n")):
         for token in (3, 5, 7):
             plays(script, f"what happens: requests so far, and {again}: token {token} is next", backups(("a", 1)) + "file x 78\nstart backup b 2\nuntil 1 put-pack\n"
-                  + f"{line}\nreport\nfile y 79\nstart backup b 3\nuntil 2 put-pack\nunlock {token}\nfinish 1\nfinish 2\nreport\n")
+                  + f"{lines}report\nfile y 79\nstart backup b 3\nuntil 2 put-pack\nunlock {token}\nfinish 1\nfinish 2\nreport\n")
         plays(script, f"what happens: requests of clients that wait for their locks, and {again}",
-              f"start list\nstart prune\nstart list\nuntil 0 lock\nuntil 1 lock\n{line}\nreport\nlate 2\nfinish 0\nfinish 1\nfinish 2\nreport\n")
+              f"start list\nstart prune\nstart list\nuntil 0 lock\nuntil 1 lock\n{lines}report\nlate 2\nfinish 0\nfinish 1\nfinish 2\nreport\n")
     for first in ("append-only\n", ""):
         plays(script, "what happens: a store that " + ("only appends" if first else "doesn't only append"),
               first + backups(("a", 1)) + "start forget 0\nfinish 1\nstart prune\nfinish 2\nreport\n")
@@ -122,12 +121,12 @@ def waits(script):
 
 
 SPACES = (" ", " report", "report ", "step  1", "step 1 ", "step\t1", "report\r", "\r", "\t", "dir  a", "file a  00", "start  list", "old  start list")
-WORDS = ("stop 1", "Step 1", "REPORT", "step", "finish", "late", "crash", "deliver", "unlock", "step 1 2", "finish 1 2", "late 1 2", "crash 1 2", "deliver 0 0", "unlock 1 1", "report 1", "restart 1",
-         "replay 1", "append-only", "append-only 1", "start", "start list 1", "start prune 1", "start check 1", "start upgrade 1", "start restore",
-         "start restore 0 0", "start List", "old", "old start", "old report", "old list", "old old start list", "old start forget", "start forget",
-         "start keep 1", "start keep 1 1 1", "start pieces a 1", "start backup a", "start backup a 1 2", "until 1 put", "until 1 delete", "until 1 Ticket",
-         "until 1 refresh", "until 1 locks", "until ticket", "until 1", "until 1 ticket lock", "fault 1 write", "fault 1", "fault 1 read read", "dir", "dir a b",
-         "file", "file a", "file a 00 00", "feed 0 end", "# report")
+WORDS = ("stop 1", "Step 1", "REPORT", "step", "finish", "late", "crash", "deliver", "unlock", "step 1 2", "finish 1 2", "late 1 2", "crash 1 2", "deliver 0 0",
+         "unlock 1 1", "report 1", "restart 1", "replay 1", "append-only", "append-only 1", "start", "start list 1", "start prune 1", "start check 1",
+         "start upgrade 1", "start restore", "start restore 0 0", "start List", "old", "old start", "old report", "old list", "old old start list",
+         "old start forget", "start forget", "start keep 1", "start keep 1 1 1", "start pieces a 1", "start backup a", "start backup a 1 2", "until 1 put",
+         "until 1 delete", "until 1 Ticket", "until 1 refresh", "until 1 locks", "until ticket", "until 1", "until 1 ticket lock", "fault 1 write", "fault 1",
+         "fault 1 read read", "dir", "dir a b", "file", "file a", "file a 00 00", "feed 0 end", "# report")
 NUMBERS = ("step +1", "step -1", "step 1x", "step x", "step 0x1", "step 1.0", "step 1_0", "step 18446744073709551616", "step 18446744073709551617",
            "deliver 18446744073709551616", "unlock 18446744073709551616", "unlock +1", "unlock -1", "start keep 4294967296 0", "start keep 0 4294967296",
            "start keep 4294967297 1", "start keep +1 1", "start keep 1 -1", "start forget 0 x", "start forget 0 +0", "start forget x", "start restore +0",
@@ -136,8 +135,8 @@ NUMBERS = ("step +1", "step -1", "step 1x", "step x", "step 0x1", "step 1.0", "s
 BYTES = ("file a 6", "file a 6g", "file a --", "file a 0x61", "file a -1", "file a 616", "file a é0", "dir \udcff", "dir \udcc3", "dir \udced\udca0\udc80",
          "dir \udcc0\udcaf", "report\0", "\ufeffreport", "\0")
 HOSTS = ("start backup " + "h" * 256 + " 1", "start backup " + "é" * 128 + " 1", "start backup " + "é" * 127 + "aa 1")
-STRANGERS = ("step 2", f"step {GREATEST}", "finish 2", "until 2 list", "late 2", "crash 2", "fault 2 read", "start restore 1", "start restore 2", "start forget 1", "start forget 0 2",
-             "start forget 0 1", "old start restore 1")
+STRANGERS = ("step 2", f"step {GREATEST}", "finish 2", "until 2 list", "late 2", "crash 2", "fault 2 read", "start restore 1", "start restore 2",
+             "start forget 1", "start forget 0 2", "start forget 0 1", "old start restore 1")
 
 
 def refused(script):

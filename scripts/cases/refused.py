@@ -29,6 +29,7 @@ from prunes import Prune
 from script import Script
 from store import Store
 from texts import dir_node, file_node, snapshot_text, tree_text
+from world_cases import laid
 
 PROGRAM = Path(__file__).resolve().parents[2] / "crates/cases/out/cases"
 CAUSES = ("out of memory", "refused 11", "write failed", "stopped")
@@ -149,14 +150,15 @@ def clients(script):
                    script.start_forget(name_of(b"")), script.start_prune(), script.start_check()):
         script.steps(client)
     script.report()
-    script.heading("a backup of two packs, a list and a restore, each to its end at once")
+    script.heading("a backup of two packs, to its end at once")
     script.fresh()
     script.many_files(17)
-    backup = script.start_backup([])
-    script.finish(backup)
+    script.finish(script.start_backup([]))
+    script.heading("a list and a restore, to their ends at once")
+    script.fresh()
+    snapshot = laid(script, FILE_TREE, [("tree", FILE_TREE), ("content", b"abc")])
     script.finish(script.start_list())
-    script.finish(script.start_restore(backup))
-    script.report()
+    script.finish(script.start_restore(snapshot))
 
 
 def scripts(script):
