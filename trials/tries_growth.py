@@ -20,12 +20,12 @@ CASES = ROOT / "crates/cases/out/cases"
 FIRST, STEP = 40, 7
 
 
-def numbers():
+def numbers(first=FIRST, step=STEP):
     """Which requests are refused, one after another, until one isn't made any more."""
     at = 1
     while True:
         yield at
-        at += 1 if OPTIONS.is_long or at < FIRST else STEP
+        at += 1 if OPTIONS.is_long or at < first else step
 
 
 def refuser(yard):
@@ -56,12 +56,12 @@ def cases_whose_memory_is_refused():
     with Yard() as yard:
         library, mark = refuser(yard), yard.top / "refused"
         total = sum(refuses_in(case, library, mark) for case in refused_cases().tried())
-        holds(total > 1_000, f"only {total} requests were refused")
+        holds(total > 500, f"only {total} requests were refused")
 
 
 def refuses_in(case, library, mark):
     """How many requests of a case were refused, each in a run of its own."""
-    for count, at in enumerate(numbers()):
+    for count, at in enumerate(numbers(10, 29)):
         ran = subprocess.run([CASES], input=case.given, text=True, capture_output=True, env=os.environ | refusing(library, mark, at), timeout=WAIT)
         if not mark.is_symlink():
             holds(case.is_whole(ran), f"where nothing is refused: {ran.stdout[-900:]}")
