@@ -1,12 +1,13 @@
-"""Calls of the system that fail, or at which the program is killed, each in turn: in a making, a scan and a restore.
+"""Calls of the system that fail, or at which the program is killed, each in turn: in a making, a scan, a restore and a loop.
 
 strace has them fail; where it isn't there, or may not trace, these are skipped.
 """
 import os
 import shutil
 import subprocess
+from itertools import groupby
 
-from cuts.calls import events, strace
+from cuts.calls import bytes_of, calls, events, strace
 from program import TICKET, Server, matches, token, told
 from trying import OPTIONS, WAIT, chosen, holds, same, trial
 from tries_power_cuts import is_traced
@@ -128,3 +129,58 @@ def a_restore_whose_syncs_fail_is_not_complete(yard):
             holds(was_met and got in ("1||stopped\n", "0|complete 3\n|"), f"sync {place} of {count}: {got}")
             stopped += got == "1||stopped\n"
         holds(stopped >= len(entries(root)) + 1, f"{stopped} of {count} were told")
+
+
+# A backup of nothing and a restore of it, what `vault loop` prints of them, and by their tags what each asks and is answered.
+SCRIPT = "report\nstart backup a 5\nfinish 0\nstart restore 0\nfinish 1\nreport\n"
+EMPTY = "store packs 0 indexes 0 snapshots 0 live 0\n"
+BOTH = EMPTY + "client 0 backup stored 1 12\nclient 1 restore complete 0\nstore packs 1 indexes 1 snapshots 1 live 0\n"
+ASKED = ([1, 2, 11, 6, 9, 9, 9, 4], [1, 2, 11, 7, 6, 7, 8, 4])
+SAID = ([129, 130, 132, 131, 130, 130, 130, 130], [129, 130, 132, 132, 131, 132, 132, 130])
+
+
+def looped(log, *inject):
+    """What `vault loop` tells of the script while this is done to its calls, and whether it was."""
+    words = ["strace", "-f", "-qq", "-xx", "-s", "100000", "-e", "trace=%network", "-o", str(log), *(["-e", f"inject={inject[0]}"] if inject else [])]
+    run = subprocess.run([*words, OPTIONS.program, "loop"], input=SCRIPT, capture_output=True, text=True, timeout=WAIT)
+    return f"{run.returncode}|{run.stdout}|{run.stderr}", "(INJECTED)" in log.read_text()
+
+
+def moved(log):
+    """What was sent and what was received, in turn: each with the end of a connection at which it was."""
+    pieces = [(name, int(words[0]), bytes_of(name, words)) for name, words, _ in calls(log) if name in ("sendto", "recvfrom")]
+    return [(name, end, b"".join(it[2] for it in those)) for (name, end), those in groupby(pieces, key=lambda it: it[:2])]
+
+
+@trial
+def each_message_of_a_loop_goes_over_its_clients_connection():
+    """A request is written at its client's end and read at the other one before the store answers, and a reply the other way."""
+    is_traced()
+    with Yard() as yard:
+        same(looped(yard.top / "log"), (f"0|{BOTH}|", False))
+        both = moved(yard.top / "log")
+        same([name for name, _, _ in both], ["sendto", "recvfrom"] * 32)
+        for (_, _, sent), (_, _, came) in zip(both[::2], both[1::2]):
+            same(came, sent)
+        ends = [(sender, receiver) for (_, sender, _), (_, receiver, _) in zip(both[::2], both[1::2])]
+        for client, (asked, said) in enumerate(zip(ASKED, SAID)):
+            own, frames = ends[16 * client:][:16], [frame for _, _, frame in both[::2]][16 * client:][:16]
+            same(own, [own[0], own[0][::-1]] * 8, "the ends")
+            same([[frame[4] for frame in frames[turn::2]] for turn in (0, 1)], [asked, said], "the frames")
+        same(len({*ends[0], *ends[16]}), 4, "connections")
+
+
+@trial
+def a_loop_whose_calls_fail_says_why():
+    """What earlier lines print stands; the line at which a message isn't carried prints nothing."""
+    is_traced()
+    with Yard() as yard:
+        for call, how, why in (("sendto", "error=EPIPE", "write failed"), ("sendto", "retval=0", "write failed"), ("recvfrom", "error=ECONNRESET", "read failed"),
+                               ("recvfrom", "retval=0", "read failed"), ("recvfrom", "retval=29", "malformed")):
+            for place in chosen(range(1, 33), 6):
+                same(looped(yard.top / "log", f"{call}:{how}:when={place}"), (f"1|{EMPTY}|{why}\n", True), f"{call} {place} with {how}")
+        # The first socket is the one that listens, before any line is run.
+        for call, error, shown in (("socket", "EMFILE", ("", EMPTY, EMPTY)), ("bind", "EADDRINUSE", ("",)), ("listen", "EADDRINUSE", ("",)),
+                                   ("connect", "ECONNREFUSED", (EMPTY, EMPTY)), ("accept4", "EMFILE", (EMPTY, EMPTY))):
+            for place, text in enumerate(shown, 1):
+                same(looped(yard.top / "log", f"{call}:error={error}:when={place}"), (f"1|{text}|not reached\n", True), f"{call} {place}")

@@ -1,7 +1,7 @@
 """Want of memory: requests for memory that are refused, one in each run, by a small library that stands before malloc and realloc.
 
-The program of cases is run so, with a case of each command and of a store with its clients; and the commands themselves, over a real server,
-each of whose runs is done all the same, or ends with a text that says why.
+The program of cases is run so, with a case of each command, of a store with its clients, and of scripts; and the commands themselves, over a
+real server, each of whose runs is done all the same, or ends with a text that says why.
 """
 import importlib.util
 import os
@@ -20,12 +20,12 @@ CASES = ROOT / "crates/cases/out/cases"
 FIRST, STEP = 40, 7
 
 
-def numbers():
+def numbers(first=FIRST, step=STEP):
     """Which requests are refused, one after another, until one isn't made any more."""
     at = 1
     while True:
         yield at
-        at += 1 if OPTIONS.is_long or at < FIRST else STEP
+        at += 1 if OPTIONS.is_long or at < first else step
 
 
 def refuser(yard):
@@ -50,20 +50,23 @@ def refusing(library, mark, at):
 
 @trial(is_early=True)
 def cases_whose_memory_is_refused():
-    """Whichever request is refused, at most one case differs, and says why."""
+    """Each case twice in a row: whichever request is refused, at most one of the two differs, and says why."""
     if not CASES.is_file():
         raise Skipped("there is no program of cases: `rt ci` leaves one")
     with Yard() as yard:
         library, mark = refuser(yard), yard.top / "refused"
-        refused = refused_cases()
-        script = refused.chosen()
-        given, wanted = "".join(line + "\n" for line in script.given), refused.by_case(script.wanted)
-        for at in numbers():
-            ran = subprocess.run([CASES], input=given, text=True, capture_output=True, env=os.environ | refusing(library, mark, at), timeout=WAIT)
-            if not mark.is_symlink():
-                break
-            holds(not refused.fault(ran, wanted), f"where request {at} is refused: {refused.fault(ran, wanted)}")
-        holds(at > 200, f"only {at} requests were made")
+        total = sum(refuses_in(case, library, mark) for case in refused_cases().tried())
+        holds(total > 500, f"only {total} requests were refused")
+
+
+def refuses_in(case, library, mark):
+    """How many requests of a case were refused, each in a run of its own."""
+    for count, at in enumerate(numbers(10, 29)):
+        ran = subprocess.run([CASES], input=case.given, text=True, capture_output=True, env=os.environ | refusing(library, mark, at), timeout=WAIT)
+        if not mark.is_symlink():
+            holds(case.is_whole(ran), f"where nothing is refused: {ran.stdout[-900:]}")
+            return count
+        holds(not case.fault(ran), f"where request {at} is refused: {case.fault(ran)}")
 
 
 def refused_cases():

@@ -76,7 +76,7 @@ def chosen_by_days(script):
     """Which rows of hosts a policy keeps."""
     for text, last, daily, rows in (
             ("a day ends with its last second", 0, 2, [("a", DAY - 1), ("a", DAY), ("a", DAY * 2 - 1)]),
-            ("a day without a snapshot isn't counted", 0, 2, [("a", 0), ("a", DAY * 3), ("a", DAY * 9)]),
+            *[(f"a day without a snapshot isn't counted among {daily}", 0, daily, [("a", 0), ("a", DAY * 3), ("a", DAY * 9)]) for daily in (1, 2, 3)],
             ("the last ones may be of one day", 2, 1, [("a", 5), ("a", 6), ("a", 7)]),
             ("the last ones and the days are counted each for itself", 1, 2, [("a", 5), ("a", DAY), ("a", DAY + 1)]),
             ("a host that begins as another", 1, 0, [("a", 5), ("aa", 6), ("a", 7), ("aa", 8)]),

@@ -7,6 +7,8 @@ from frames import Message
 from jobs import Backup, Client, Forget, List, Restore, StartRefused, kept
 from prunes import Prune, Upgrade
 from naming import name_of
+from played_cases import CARRIED, ENDED, PLAYED, REFUSED, WORKED
+from plays import prints_of
 from store import Ledger, Store
 from texts import (Unreadable, config_text, file_node, index_text, pack_of, read_index, read_snapshot, read_tree, snapshot_text,
                    tree_text)
@@ -140,6 +142,18 @@ def check_tokens():
     assert 1 not in ledger.fresh and 2 in ledger.fresh
 
 
+def check_plays():
+    """The worked scripts, and those of another program."""
+    for _, text, prints in CARRIED + WORKED + ENDED:
+        assert prints_of("play", text.encode()) == (prints, "")
+    for _, text, prints in CARRIED:
+        assert prints_of("loop", text.encode()) == (prints, "")
+    for _, text, prints, line in REFUSED:
+        assert prints_of("play", text.encode()) == (prints, f"line {line}: not understood")
+    for one in PLAYED:
+        assert prints_of(one["command"], one["script"].encode()) == (one["prints"], one["fault"])
+
+
 def check():
-    for part in (check_chunks, check_frames, check_texts, check_jobs, check_forgets, check_checks, check_upgrades, check_tokens):
+    for part in (check_chunks, check_frames, check_texts, check_jobs, check_forgets, check_checks, check_upgrades, check_tokens, check_plays):
         part()

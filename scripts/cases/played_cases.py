@@ -90,9 +90,15 @@ ENDED = [
 ]
 
 
-def played(script, command, heading, text, prints, fault=""):
+def bytes_of(text):
+    """The bytes of a script. Each of the characters from \\udc80 to \\udcff stands for one byte that is no text."""
+    return text.encode(errors="surrogateescape")
+
+
+def played(script, command, heading, text, prints, fault="", **shape):
     script.heading(heading)
-    script.vault("vault " + command, typed=text.encode())
+    script.server(**shape)
+    script.vault("vault " + command, typed=bytes_of(text))
     script.ended(1 if fault else 0, prints, fault + "\n" * bool(fault))
 
 
@@ -124,15 +130,12 @@ def refused(script):
 def streams(script):
     """Inputs that come byte by byte or break, and outputs that take little. What earlier lines print stands."""
     heading, text, prints = WORKED[2]
-    script.server(slow=True)
-    played(script, "play", heading + ", in a script that comes byte by byte", text, prints)
+    played(script, "play", heading + ", in a script that comes byte by byte", text, prints, slow=True)
     report = "store packs 0 indexes 0 snapshots 0 live 0\n"
     for command in ("play", "loop"):
-        script.server(broken=True)
-        played(script, command, "an input that breaks behind two lines", "report\nreport\nrep", 2 * report, "read failed")
+        played(script, command, "an input that breaks behind two lines", "report\nreport\nrep", 2 * report, "read failed", broken=True)
         for room in (0, 10, len(report), len(report) + 1):
-            script.server(output_room=room)
-            played(script, command, "an output that takes little", "report\nreport\n", (2 * report)[:room], "write failed")
+            played(script, command, "an output that takes little", "report\nreport\n", (2 * report)[:room], "write failed", output_room=room)
 
 
 def others(script):

@@ -1,27 +1,35 @@
 #!/usr/bin/env python3
-"""Runs some cases with their first request for memory refused, then with the second, and so on, until none is left.
+"""Runs some cases, each twice in a row, with their first request for memory refused, then with the second, and so on, until none is left.
 
-Whichever is refused, at most one case differs from what is wanted: it tells of want of memory, or of a writer or a sink
-that could not take more, or a text on standard error is cut short. Where a line of the script itself gets no memory the
-program ends with that text. The program is the one that `rt run` builds in crates/cases.
+Whichever is refused, at most one of the two differs from what is wanted. A command tells of want of memory, or of a writer or a sink
+that could not take more, or a text on standard error is cut short. A script that is played prints what the reference prints where
+the store lacks memory for one of its requests; or it ends for want of memory behind some of its lines. Where a line of the
+case itself gets no memory the program ends with that text. The program is the one that `rt run` builds in crates/cases.
 """
 
 import os
 import subprocess
 import sys
 import tempfile
+from concurrent.futures import ThreadPoolExecutor
 from pathlib import Path
 
 sys.dont_write_bytecode = True
 
+import line_cases
 from checks import Check
 from command_cases import NO_NAMES, OPENED, row, says
 from job_cases import FILE_TREE, indexed, restore_of, tree_first
+from lines import Lines
+from naming import name_of
+from played_cases import RESTORED, WORKED
+from plays import prints_of
 from prune_cases import Objects, mixed, replies_to
 from prunes import Prune
 from script import Script
-from naming import name_of
+from store import Store
 from texts import dir_node, file_node, snapshot_text, tree_text
+from world_cases import laid
 
 PROGRAM = Path(__file__).resolve().parents[2] / "crates/cases/out/cases"
 CAUSES = ("out of memory", "refused 11", "write failed", "stopped")
@@ -41,9 +49,64 @@ def at_fault():
     return objects
 
 
-def chosen():
-    """One case of each command, of the frames, and of a store's clients."""
-    script = Script()
+class Lacking(Store):
+    """A store that lacks memory for the request of a number, counted from 1."""
+
+    def __init__(self, number):
+        super().__init__()
+        self.left = number
+
+    def answer(self, ask):
+        self.left -= 1
+        return ("refused", 11) if self.left == 0 else super().answer(ask)
+
+
+def told(prints, fault):
+    """The lines of a case whose script prints this, and ends so."""
+    lines = Lines()
+    lines.ended(1 if fault else 0, prints, fault + "\n" * bool(fault))
+    return lines.wanted
+
+
+def lacking(command, text):
+    """What comes of a script where the store lacks memory for its first request, for its second, and so on."""
+    for number in range(1, 10_000):
+        store = Lacking(number)
+        prints = prints_of(command, text, store=store)
+        if store.left > 0:
+            return
+        yield told(*prints)
+
+
+class Cases(Script):
+    """Cases, and for each script that is played what it may print where the store lacks memory for one of its requests."""
+
+    def __init__(self):
+        super().__init__()
+        self.lacking = {}
+
+    def plays(self, heading, text, command="play", **shape):
+        line_cases.plays(self, heading, text, command, **shape)
+        self.lacking["# " + heading] = list(lacking(command, text.encode()))
+
+
+# What happens to a client whose messages come one by one: again, late, over a device that fails, with its lock removed.
+EVENTS = ("file f 736f6d65206279746573\nstart backup a 5\ndeliver 0\ndeliver 1\ndeliver 1\ndeliver 2\ndeliver 9\nlate 0\nreport\ndeliver 3\nfault 0 read\n"
+          "start list\nuntil 1 list\nrestart\nfault 1 read\nreport\nunlock 1\nreport\nrestart\nreplay\ncrash 0\ndeliver 3\nreport\nstart keep 0 0\ndir ..\n"
+          "start backup a 1\nlate 1\nreport\n")
+ENTRIES = "dir d\nfile d/y 6465\nfile x 616263\n"
+# Clients of all jobs, one after another.
+ALL_JOBS = ("start backup a 5\nfinish 0\nstart restore 0\nfinish 1\nstart list\nfinish 2\nstart check\nfinish 3\nfile x 616263\nstart backup a 6\nfinish 4\n"
+            "start keep 1 0\nfinish 5\nstart prune\nfinish 6\nstart forget 4\nfinish 7\nstart upgrade\nfinish 8\nreport\n")
+# A line of each sort.
+LINES = ("dir a\nfile a/b 616263\nfile c -\nold start backup h 5\nstart restore 0\n", "start list\nstart prune\nstart check\nstart keep 2 3\nstart upgrade\n"
+         "step 0\nuntil 1 lock\nfinish 2\nlate 3\nfault 4 applied\ndeliver 0\nunlock 5\ncrash 0\nrestart\n\nreplay\nreport\n",
+         "start backup a 5\nfinish 0\nstart forget 0 0 0\nfinish 1\nreport\n", "append-only\nreport\n", "report\nstep  1\n", "report\nfile a 6g\n",
+         "start backup " + "h" * 256 + " 5\n", "start backup " + "h" * 255 + " 5\nreport\nstart restore 0\n")
+
+
+def commands(script):
+    """One case of each command."""
     script.heading("locks")
     script.locks(says(("rows", [row(1, True), row(2, False)])))
     script.heading("refresh")
@@ -51,10 +114,14 @@ def chosen():
     script.heading("unlock")
     script.unlock(True, says(("rows", [row(1)]), ("done",)))
     snapshot = snapshot_text("a", 5, 1, name_of(tree_text([])))
-    script.heading("snapshots")
-    script.snapshots(says(*OPENED, ("names", False, [name_of(snapshot)]), ("bytes", snapshot), ("done",)))
+    for text, slow in (("snapshots", False), ("snapshots, byte by byte", True)):
+        script.heading(text)
+        script.snapshots(says(*OPENED, ("names", False, [name_of(snapshot)]), ("bytes", snapshot), ("done",)), slow=slow)
     script.heading("backup")
     script.backup("a", [(["d"], None), (["x"], b"abc")], says(*OPENED, NO_NAMES, *[("done",)] * 4), skipped=("p/link",))
+    script.heading("backup of two packs")
+    script.many_files(17)
+    script.backup("a", [], says(*OPENED, NO_NAMES, *[("done",)] * 5))
     script.heading("restore")
     good = indexed(FILE_TREE, tree_first(FILE_TREE, b"abc")) + [("bytes", FILE_TREE), ("bytes", b"abc"), ("done",)]
     restore_of(script, FILE_TREE, *good)
@@ -73,12 +140,44 @@ def chosen():
     script.check(says(*replies_to(Check(), at_fault())))
     script.heading("frames")
     script.frames(["0000001901010101010101010101010101010101010000000000000001"] * 2)
+
+
+def clients(script):
+    """A store and its clients, request by request, and to their ends at once."""
     script.heading("a store and its clients")
     script.fresh()
     for client in (script.start_backup([(["x"], b"abc")]), script.start_list(), script.start_backup([]),
                    script.start_forget(name_of(b"")), script.start_prune(), script.start_check()):
         script.steps(client)
     script.report()
+    script.heading("a backup of two packs, to its end at once")
+    script.fresh()
+    script.many_files(17)
+    script.finish(script.start_backup([]))
+    script.heading("a list and a restore, to their ends at once")
+    script.fresh()
+    snapshot = laid(script, FILE_TREE, [("tree", FILE_TREE), ("content", b"abc")])
+    script.finish(script.start_list())
+    script.finish(script.start_restore(snapshot))
+
+
+def scripts(script):
+    """Scripts that are played, and one whose messages are carried."""
+    script.plays("a script of each event", EVENTS)
+    script.plays("a script of all jobs", ENTRIES + ALL_JOBS)
+    for heading, text, _ in WORKED[1:3]:
+        script.plays(heading, text)
+    for place, text in enumerate(LINES, 1):
+        script.plays(f"lines of each sort, {place}", text)
+    script.plays("a script that comes byte by byte", "start list\nfinish 0\nreport\n\nfile x 6", slow=True)
+    script.plays("a script whose messages are carried", ENTRIES + RESTORED, "loop")
+
+
+def chosen():
+    """One case of each command, of the frames, of a store's clients, and of scripts."""
+    script = Cases()
+    for part in (commands, clients, scripts):
+        part(script)
     return script
 
 
@@ -110,38 +209,85 @@ def has_cause(gave, wanted):
     return any(is_cause(line) for line in gave) or shown == rest and text.startswith(told)
 
 
-def fault(ran, wanted):
-    """What is wrong with a run in which a request was refused."""
-    gave = by_case(ran.stdout.splitlines())
-    differ = [case for case in gave if gave[case] != wanted[case]]
-    if ran.returncode == 0 and list(gave) != list(wanted):
-        return "cases are left out"
-    if ran.returncode != 0 and "out of memory" not in ran.stderr:
-        return "it ends otherwise: " + ran.stderr
-    if ran.returncode != 0 and differ and differ != [next(reversed(gave))]:
-        return f"{differ} differ, before its end"
-    if len(differ) > 1:
-        return f"{differ} differ"
-    if ran.returncode == 0 and not all(has_cause(gave[case], wanted[case]) for case in differ):
-        return f"{differ} don't say why"
-    return None
+def text_of(lines):
+    """The text of which these lines of a case tell."""
+    text = "".join(line.removeprefix("out ") + "\n" for line in lines if line.startswith("out "))
+    return text[:-1] if "which has no end" in lines else text
+
+
+def is_begun(gave, wanted):
+    """Whether a script ends behind some of its lines, for want of memory; or in its end the fault is cut short."""
+    (shown, told), (rest, text) = halves(gave), halves(wanted)
+    ends = gave[0] == "status 1" and told in CAUSES and text_of(wanted).startswith(text_of(gave))
+    return ends or shown == rest and text.startswith(told)
+
+
+class Tried:
+    """A case, and the same again behind it, of which a request for memory is refused."""
+
+    def __init__(self, heading, given, wanted, lacking):
+        headings = heading, heading + ", again"
+        self.given = "".join(line + "\n" for one in headings for line in [one, *given])
+        self.wanted = {one: wanted for one in headings}
+        self.lacking = lacking
+
+    def is_explained(self, gave, wanted):
+        """Whether a case differs in a way in which it may."""
+        if self.lacking is None:
+            return has_cause(gave, wanted)
+        return gave in self.lacking or is_begun(gave, wanted)
+
+    def is_whole(self, ran):
+        """Whether a run gave what is wanted of both."""
+        return ran.returncode == 0 and by_case(ran.stdout.splitlines()) == self.wanted
+
+    def fault(self, ran):
+        """What is wrong with a run in which a request was refused."""
+        gave = by_case(ran.stdout.splitlines())
+        differ = [case for case in gave if gave[case] != self.wanted[case]]
+        if ran.returncode == 0 and list(gave) != list(self.wanted):
+            return "cases are left out"
+        if ran.returncode != 0 and "out of memory" not in ran.stderr:
+            return "it ends otherwise: " + ran.stderr
+        if ran.returncode != 0 and differ and differ != [next(reversed(gave))]:
+            return f"{differ} differ, before its end"
+        if len(differ) > 1:
+            return f"{differ} differ"
+        if ran.returncode == 0 and not all(self.is_explained(gave[case], self.wanted[case]) for case in differ):
+            return f"{differ} don't say why: {[gave[case] for case in differ]}"
+        return None
+
+
+def tried():
+    """Each of the chosen cases, as it is run."""
+    script = chosen()
+    given, wanted = by_case(script.given), by_case(script.wanted)
+    return [Tried(case, given[case], wanted[case], script.lacking.get(case)) for case in wanted]
+
+
+def refusing(library, mark, at):
+    """The environment in which the request of a number is refused; a mark tells that it was."""
+    mark.unlink(missing_ok=True)
+    return os.environ | {"REFUSE": str(at), "REFUSED": str(mark), "LD_PRELOAD": str(library)}
+
+
+def requests_of(case, library, mark):
+    """How many requests a case makes, each of which is refused in a run of its own."""
+    for at in range(1, 1_000_000):
+        ran = subprocess.run([PROGRAM], input=case.given, text=True, capture_output=True, env=refusing(library, mark, at))
+        if not mark.is_symlink():
+            return at - 1 if case.is_whole(ran) else sys.exit(f"{list(case.wanted)[0]} differs where nothing is refused")
+        if wrong := case.fault(ran):
+            sys.exit(f"where request {at} is refused: {wrong}")
 
 
 def main():
-    script = chosen()
-    given = "".join(line + "\n" for line in script.given)
-    with tempfile.TemporaryDirectory() as folder:
-        library, mark = Path(folder) / "refuse.so", Path(folder) / "refused"
+    cases = tried()
+    with tempfile.TemporaryDirectory() as folder, ThreadPoolExecutor(os.cpu_count()) as pool:
+        library = Path(folder) / "refuse.so"
         subprocess.run(["gcc", "-shared", "-fPIC", "-O1", "-o", library, REFUSER], check=True)
-        for at in range(1, 1_000_000):
-            mark.unlink(missing_ok=True)
-            env = os.environ | {"REFUSE": str(at), "REFUSED": str(mark), "LD_PRELOAD": str(library)}
-            ran = subprocess.run([PROGRAM], input=given, text=True, capture_output=True, env=env)
-            if not mark.is_symlink():
-                print(f"the cases hold with each of their {at - 1} requests refused")
-                return
-            if wrong := fault(ran, by_case(script.wanted)):
-                sys.exit(f"where request {at} is refused: {wrong}")
+        counts = pool.map(lambda at: requests_of(cases[at], library, Path(folder) / f"refused-{at}"), range(len(cases)))
+        print(f"the {len(cases)} cases hold with each of their {sum(counts)} requests refused")
 
 
 if __name__ == "__main__":

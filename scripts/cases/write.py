@@ -16,6 +16,7 @@ import folder_cases
 import forget_cases
 import job_cases
 import known
+import line_cases
 import played_cases
 import prune_cases
 import upgrade_cases
@@ -27,7 +28,7 @@ from script import Script
 CRATES = Path(__file__).resolve().parents[2] / "crates"
 PARTS = [command_cases.locks, command_cases.refresh, command_cases.unlock, command_cases.lists, job_cases.restores,
          job_cases.backups, *word_cases.ALL, *world_cases.ALL, *damage_cases.ALL, *folder_cases.ALL, *forget_cases.ALL,
-         *prune_cases.ALL, *check_cases.ALL, *upgrade_cases.ALL, *played_cases.ALL]
+         *prune_cases.ALL, *check_cases.ALL, *upgrade_cases.ALL, *played_cases.ALL, *line_cases.ALL]
 
 
 def files():
