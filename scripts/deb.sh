@@ -12,7 +12,7 @@
 set -euo pipefail
 here=$(cd "$(dirname "$0")/.." && pwd)
 [ $# -ge 1 ] && [ $# -le 3 ] || { sed -n '2,4s/^# \?//p' "$0" >&2; exit 2; }
-folder=$(cd "$1" && pwd)
+folder=${1%/}
 program=${2:-$("$here/scripts/vault.sh" x86-64-v2)}
 number=$("$program" --version)
 version=${3:-${number#vault }-1}
@@ -85,8 +85,7 @@ if [ "$1" = configure ]; then
     user jibrekt /var/lib/jibrekt
     user jibrekt-tunnel /nonexistent
     [ -d /var/lib/jibrekt ] || install -d -o jibrekt -g jibrekt -m 700 /var/lib/jibrekt
-    if [ -d /run/systemd/system ]; then
-        systemctl --system daemon-reload || true
+    if systemctl daemon-reload 2>/dev/null; then
         # a server may be killed at any time; clients that were told --retry go on
         deb-systemd-invoke try-restart jibrekt-serve.service || true
     fi
@@ -95,7 +94,7 @@ TEXT
 cat >"$root/DEBIAN/prerm" <<'TEXT'
 #!/bin/sh
 set -e
-if [ "$1" = remove ] && [ -d /run/systemd/system ]; then
+if [ "$1" = remove ] && systemctl daemon-reload 2>/dev/null; then
     deb-systemd-invoke stop jibrekt-backup.timer jibrekt-prune.timer jibrekt-check.timer jibrekt-serve.service \
         jibrekt-tunnel.service jibrekt-guard.service || true
 fi
@@ -104,13 +103,12 @@ cat >"$root/DEBIAN/postrm" <<'TEXT'
 #!/bin/sh
 set -e
 # users and /var/lib/jibrekt stay: stores are there
-if [ -d /run/systemd/system ]; then
-    systemctl --system daemon-reload || true
-fi
+systemctl daemon-reload 2>/dev/null || true
 TEXT
 chmod 755 "$root"/DEBIAN/{postinst,prerm,postrm}
 (cd "$root" && find usr -type f -exec md5sum {} + | sort -k 2) >"$root/DEBIAN/md5sums"
 
 package=$folder/jibrekt_${version}_amd64.deb
+mkdir -p "$folder"
 dpkg-deb --root-owner-group --build "$root" "$package" >"$work/made"
 echo "$package"

@@ -23,7 +23,7 @@ def printed(*command, **how):
 
 def package(folder, *version):
     """The package of the program that is tried, made in this folder."""
-    return Path(printed("scripts/deb.sh", folder, OPTIONS.program, *version).strip())
+    return ROOT / printed("scripts/deb.sh", folder, OPTIONS.program, *version).strip()
 
 
 @in_folder
@@ -82,9 +82,8 @@ class System:
         holds(not (self.root / place).exists(), f"{place} is there")
 
     def installs(self, made):
-        target = self.root / "tmp" / made.name
-        target.write_bytes(made.read_bytes())
-        self.runs("dpkg", "--install", f"/tmp/{made.name}")
+        (self.root / made.name).write_bytes(made.read_bytes())
+        self.runs("dpkg", "--install", made.name)
 
     @contextmanager
     def serves(self):
@@ -105,7 +104,7 @@ class System:
             same(self.runs("vault", "restore", address, snapshot, to), f"complete {len(files)}\n")
             matches(f"0|{self.runs('vault', 'check', address)}|", r"0\|clean 1 \d+ \d+ \d+\n\|")
         for name, text in files.items():
-            same((self.root / to.lstrip("/") / name).read_bytes(), text, name)
+            same((self.root / to / name).read_bytes(), text, name)
 
 
 @trial(is_long=True)
@@ -114,7 +113,7 @@ def a_package_is_installed_upgraded_and_removed():
     files = {"a": b"a" * 1000, "b": bytes(range(256)) * 4096, "c": b""}
     with a_system() as root:
         system, made = System(root), new_folder()
-        filled(root / "root/photos", files)
+        filled(root / "srv/photos", files)
         system.installs(package(made))
         same(system.runs("vault", "--version"), printed(OPTIONS.program, "--version"))
         same(system.runs("stat", "-c", "%U %a", "/var/lib/jibrekt"), "jibrekt 700\n")
@@ -122,12 +121,12 @@ def a_package_is_installed_upgraded_and_removed():
         same([str(it) for it in (root / "etc/systemd/system").rglob("jibrekt*")], [], "units that are enabled")
         matches(system.runs("vault", "init", "/var/lib/jibrekt/store", user="jibrekt"), r"created [0-9a-f]{32}\n")
         with system.serves() as address:
-            snapshot = matches(system.runs("vault", "backup", address, "laptop", "/root/photos"), r"stored ([0-9a-f]{64}) .*\n")[0]
-        system.gives_back(snapshot, files, "/root/first")
+            snapshot = matches(system.runs("vault", "backup", address, "laptop", "srv/photos"), r"stored ([0-9a-f]{64}) .*\n")[0]
+        system.gives_back(snapshot, files, "srv/first")
 
         system.installs(package(made, "99.0-1"))
         matches(system.runs("dpkg-query", "-W", "jibrekt"), "jibrekt\t99.0-1\n?")
-        system.gives_back(snapshot, files, "/root/upgraded")
+        system.gives_back(snapshot, files, "srv/upgraded")
 
         system.runs("dpkg", "--purge", "jibrekt")
         system.lacks("usr/bin/vault")
@@ -135,4 +134,4 @@ def a_package_is_installed_upgraded_and_removed():
         same(system.runs("stat", "-c", "%U %a", "/var/lib/jibrekt/store"), "jibrekt 700\n", "the store stays")
 
         system.installs(package(made))
-        system.gives_back(snapshot, files, "/root/again")
+        system.gives_back(snapshot, files, "srv/again")
