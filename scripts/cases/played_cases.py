@@ -85,8 +85,10 @@ ENDED = [
      "late 0 refused 2\nclient 0 upgrade fenced\nclient 1 upgrade upgraded\nstore packs 0 indexes 0 snapshots 0 live 0\n"),
     ("a store that only appends is upgraded", "append-only\nold start upgrade\nfinish 0\nstart upgrade\nfinish 1\nreport\n",
      "client 0 upgrade upgraded\nclient 1 upgrade upgraded\nstore packs 0 indexes 0 snapshots 0 live 0\n"),
-    ("each request once more changes nothing that is told",
-     WORKED[1][1].replace("report\n", "replay\nreport\n"), WORKED[1][2]),
+    ("a store that only appends is pruned, where nothing is to go, and restored from",
+     "append-only\nfile x 616263\nstart backup a 1\nfinish 0\nstart forget 0\nfinish 1\nstart prune\nfinish 2\nstart restore 0\nfinish 3\nreport\n",
+     "client 0 backup stored 2 129\nclient 1 forget refused 14\nclient 2 prune pruned 0 0\nclient 3 restore complete 1\n"
+     "store packs 1 indexes 1 snapshots 1 live 0\n"),
 ]
 
 
@@ -111,6 +113,7 @@ def worked(script):
         played(script, "play", heading, text, prints)
         again = "".join("restart\n" + line + "\n" for line in text.splitlines())
         played(script, "play", heading + ", and the store is opened anew before each line", again, prints)
+        played(script, "play", heading + ", and each request comes once more at the end", text.replace("report\n", "replay\nreport\n"), prints)
     for heading, text, prints in ENDED:
         played(script, "play", heading, text, prints)
 
