@@ -1,35 +1,48 @@
 -- Connections that are served one after another.
-use Rattle.std.proofs.Common.{◌≡◌, ◌≤◌, ◌∷◌, [], List, Option, Result, ℕ, length, ◌+◌, refl, sym, subst, arith, lit≤}
+use Rattle.std.proofs.Common.{◌≡◌, ◌≢◌, ◌⊎◌, ◌≤◌, ◌∷◌, [], List, Option, Ok, Err, Result, IsErr, IsOk, ℕ, length, ◌+◌, inl, inr, refl, sym, subst, arith}
+use Rattle.std.proofs.lemmas.List.Elements.{All-nil, All-cons}
 use Rattle.repo_store.specs.Serving.{ServesConnection, seen}
 use Rattle.repo_store.specs.Stores.{Store}
 use Rattle.repo_store.specs.declared.serving.ServeError.{ServeError}
-use Rattle.repo_prog.specs.Serving.{AreServed, IsServed}
+use Rattle.repo_prog.specs.Serving.{Connection, AreServed, AreWell, IsServed, ServesOne}
+use Rattle.repo_prog.specs.declared.status.Status.{Status}
 
--- up to so many connections were served, the last of which left this
-abbrev pub Served : {T : Type 0} → (T → Option (List ℕ)) → ℕ → Store → ℕ → Store → ℕ → Type 0
-Served {T} remaining count old failed new failing = (readers : List T) × (length readers ≤ count) × AreServed remaining readers old failed new failing
+module _ {T : Type 0} (remaining contents : T → Option (List ℕ)) where
+  -- up to so many connections were served, the last of which left this; and where all is done so far, just so many, and each ended well
+  abbrev pub Served : ℕ → Status → Store → ℕ → Store → ℕ → Type 0
+  Served count status old failed new failing =
+      (served : List (Connection T)) × (length served ≤ count) × AreServed remaining contents served old failed new failing
+      × (status ≡ Status.Done → (length served ≡ count) × AreWell served)
 
-module _ {T : Type 0} (remaining : T → Option (List ℕ)) where
   -- none was
-  pub none_served : (count : ℕ) (old : Store) (failed : ℕ) → Served remaining count old failed old failed
-  none_served count old failed = ([], omega arith, (refl, refl))
-
-  -- one was
-  pub one_served : (reader : T) (old new : Store) (failed failing : ℕ) (start left written : Option (List ℕ)) (result : Result ℕ ServeError)
-      → ServesConnection (remaining reader) (seen old failed start) result left (seen new failing written) → Served remaining 1 old failed new failing
-  one_served reader old new failed failing start left written result served =
-      (reader ∷ [], lit≤ tt, (old, failed, (refl, refl), record { left = left; start = start; written = written; result = result; served = served }))
+  pub none_served : (status : Status) (old : Store) (failed : ℕ) → Served 0 status old failed old failed
+  none_served status old failed = ([], omega arith, (refl, refl), λ done. (refl, All-nil (λ it. IsOk it.result)))
 
   -- what was served leads on to an equal end
-  leads : (readers : List T) (old mid new : Store) (failed between failing : ℕ) → new ≡ mid → failing ≡ between → AreServed remaining readers old failed mid between → AreServed remaining readers old failed new failing
-  leads readers old mid new failed between failing same alike served =
-      subst (λ here. AreServed remaining readers old failed here failing) (sym same) (subst (λ here. AreServed remaining readers old failed mid here) (sym alike) served)
+  leads : (served : List (Connection T)) (old mid new : Store) (failed between failing : ℕ) → new ≡ mid → failing ≡ between
+      → AreServed remaining contents served old failed mid between → AreServed remaining contents served old failed new failing
+  leads served old mid new failed between failing same alike are =
+      subst (λ here. AreServed remaining contents served old failed here failing) (sym same)
+          (subst (λ here. AreServed remaining contents served old failed mid here) (sym alike) are)
 
-  -- up to one was, after others
-  pub more_served : (count : ℕ) (old mid new : Store) (failed between failing : ℕ)
-      → Served remaining count old failed mid between → Served remaining 1 mid between new failing → Served remaining (count + 1) old failed new failing
-  more_served count old mid new failed between failing (readers, few, served) ([], one, (same, alike)) =
-      (readers, omega (arith, few), leads readers old mid new failed between failing same alike served)
-  more_served count old mid new failed between failing (readers, few, served) (reader ∷ [], one, (last, count_then, (same, alike), is)) =
-      (reader ∷ readers, omega (arith, few), (last, count_then, leads readers old mid last failed between count_then same alike served, is))
-  more_served count old mid new failed between failing (readers, few, served) (reader ∷ other ∷ others, one, _) = absurd (omega (arith, one))
+  -- what is no error is well
+  well : (result : Result ℕ ServeError) → (IsErr result → ⊥) → IsOk result
+  well (Ok n) never = refl
+  well (Err error) never = absurd (never refl)
+
+  -- one more, or none that could be had, after others
+  pub more_served : (Such : T → Type 0) (count : ℕ) (before after : Status) (result : Result ℕ ServeError) (old mid new : Store) (failed between failing : ℕ)
+      → (after ≡ Status.Done → before ≡ Status.Done) → (IsErr result → after ≢ Status.Done)
+      → Served count before old failed mid between → ServesOne remaining contents Such result mid between new failing → Served (count + 1) after old failed new failing
+  more_served Such count before after result old mid new failed between failing still bad (served, few, are, done) (inl (same, alike, error)) =
+      (served, omega (arith, few), leads served old mid new failed between failing same alike are, λ ends. absurd (bad error ends))
+  more_served Such count before after result old mid new failed between failing still bad (served, few, are, done) (inr (it, such, is, one)) =
+      (it ∷ served, omega (arith, few), (mid, between, are, one),
+       λ ends. let before_done = done (still ends) in
+           (omega (arith, before_done.0), All-cons (λ it. IsOk it.result) it served (subst (λ here. IsOk here) (sym is) (well result (λ error. bad error ends))) before_done.1))
+
+  -- with one writer, so with any
+  pub any_writer : (Such : T → Type 0) (result : Result ℕ ServeError) (old new : Store) (failed failing : ℕ)
+      → ServesOne remaining contents Such result old failed new failing → ServesOne remaining contents (λ writer. Unit) result old failed new failing
+  any_writer Such result old new failed failing (inl none) = inl none
+  any_writer Such result old new failed failing (inr (it, such, is, one)) = inr (it, tt, is, one)

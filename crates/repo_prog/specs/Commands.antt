@@ -90,7 +90,7 @@ IsOrder Order.Play = ⊤
 IsOrder Order.Loop = ⊤
 IsOrder (Order.Init folder making) = IsMaking making
 IsOrder (Order.Serve folder address serving) = (1 ≤ serving.connections) × IsAtOnce serving.at_once × IsIdle serving.idle
-IsOrder (Order.Client address errand retry idle) = IsErrand errand
+IsOrder (Order.Client address errand retry idle) = IsErrand errand × IsIdle idle
 
 -- an order that reads the input
 abbrev pub ReadsInput : Order → Type 0

@@ -1,19 +1,34 @@
 -- What serving connections one after another gives.
-use Rattle.std.specs.Prelude.{◌≡◌, ◌∷◌, [], ℕ, List, Option, Result}
+use Rattle.std.specs.Prelude.{◌≡◌, ◌⊎◌, ◌∷◌, [], ℕ, List, All, Option, Result, IsErr, IsOk}
 use Rattle.repo_store.specs.Serving.{ServesConnection, seen}
 use Rattle.repo_store.specs.Stores.{Store}
 use Rattle.repo_store.specs.declared.serving.ServeError.{ServeError}
 
--- a connection was served, whose bytes came from this reader: each request in them was answered, by a run of the store machine over just these
-pub record IsServed {T : Type 0} (remaining : T → Option (List ℕ)) (reader : T) (old : Store) (failed : ℕ) (new : Store) (failing : ℕ) : Type 0 where
-  pub left : Option (List ℕ)
-  pub start : Option (List ℕ)
-  pub written : Option (List ℕ)
+-- a connection that was served: its two ends as they came, as they were left, and how it ended
+pub record Connection (T : Type 0) : Type 0 where
+  pub reader : T
+  pub writer : T
+  pub unread : T
+  pub written : T
   pub result : Result ℕ ServeError
-  pub served : ServesConnection (remaining reader) (seen old failed start) result left (seen new failing written)
 
--- connections of these readers were served, the newest first, each over the store that the one before it left; and nothing else was done to the store
-abbrev pub AreServed : {T : Type 0} → (T → Option (List ℕ)) → List T → Store → ℕ → Store → ℕ → Type 0
-AreServed remaining [] old failed new failing = (new ≡ old) × (failing ≡ failed)
-AreServed remaining (reader ∷ readers) old failed new failing =
-    (mid : Store) × (between : ℕ) × AreServed remaining readers old failed mid between × IsServed remaining reader mid between new failing
+-- each request in what its reader had was answered, by a run of the store machine over just these, and the replies went to its writer
+abbrev pub IsServed : {T : Type 0} → (remaining contents : T → Option (List ℕ)) → Connection T → Store → ℕ → Store → ℕ → Type 0
+IsServed remaining contents it old failed new failing =
+    ServesConnection (remaining it.reader) (seen old failed (contents it.writer)) it.result (remaining it.unread) (seen new failing (contents it.written))
+
+-- these connections were served, the newest first, each over the store that the one before it left; and nothing else was done to the store
+abbrev pub AreServed : {T : Type 0} → (remaining contents : T → Option (List ℕ)) → List (Connection T) → Store → ℕ → Store → ℕ → Type 0
+AreServed remaining contents [] old failed new failing = (new ≡ old) × (failing ≡ failed)
+AreServed remaining contents (it ∷ earlier) old failed new failing =
+    (mid : Store) × (between : ℕ) × AreServed remaining contents earlier old failed mid between × IsServed remaining contents it mid between new failing
+
+-- each ended well
+abbrev pub AreWell : {T : Type 0} → List (Connection T) → Type 0
+AreWell served = All (λ it. IsOk it.result) served
+
+-- one connection with such a writer was served, and this is how it ended; or none could be had, which is an error, and nothing was done
+abbrev pub ServesOne : {T : Type 0} → (remaining contents : T → Option (List ℕ)) → (T → Type 0) → Result ℕ ServeError → Store → ℕ → Store → ℕ → Type 0
+ServesOne {T} remaining contents Such result old failed new failing =
+    ((new ≡ old) × (failing ≡ failed) × IsErr result)
+    ⊎ ((it : Connection T) × Such it.writer × (it.result ≡ result) × IsServed remaining contents it old failed new failing)

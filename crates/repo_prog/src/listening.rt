@@ -1,11 +1,11 @@
 //! `vault serve`.
 
-ghost use Rattle.std.specs.Prelude.{◌≡◌, ◌≤◌, ◌<◌, List, length, IsErr, IsOk};
+ghost use Rattle.std.specs.Prelude.{◌≡◌, ◌≤◌, ◌<◌, ⊤, List, length, IsErr, IsOk};
 ghost use Rattle.std.specs.Io.KnownBytes.{Appends};
 ghost use Rattle.repo_hall.specs.Halls.{Hosted};
 ghost use Rattle.repo_hall.specs.Happenings.{Log};
 ghost use Rattle.repo_prog.specs.Commands.{listening_line, IsEnd};
-ghost use Rattle.repo_prog.specs.Serving.{AreServed};
+ghost use Rattle.repo_prog.specs.Serving.{AreServed, AreWell, Connection, ServesOne};
 ghost use Rattle.repo_prog.specs.declared.status.Status.{Status};
 
 use crate::status::{Status, failed, failed_by};
@@ -28,7 +28,8 @@ fn serve_stream<T: Read + Write + OpenStream + Drop, S: Shelf>(
     idle: Option<Duration>,
     shelf: &mut S,
 ) -> Result<u64, ServeError>
-    ensures served { S.honest shelf.old → (readers : List T) × (length readers ≤ 1) × AreServed T.remaining readers (S.store shelf.old) (S.failed shelf.old) (S.store shelf.new) (S.failed shelf.new) }
+    ensures served { S.honest shelf.old → ServesOne T.remaining T.contents (λ writer. writer ≡ stream)
+        result (S.store shelf.old) (S.failed shelf.old) (S.store shelf.new) (S.failed shelf.new) }
     ensures honest { S.honest shelf.old → S.honest shelf.new }
 {
     let Ok(mut reader) = reader_of(&stream, idle) else {
@@ -46,7 +47,8 @@ fn serve_next<L: OpenListener, S: Shelf>(
 ) -> Result<u64, ServeError>
 where
     L::Stream: Read + Write + OpenStream,
-    ensures served { S.honest shelf.old → (readers : List L.Stream) × (length readers ≤ 1) × AreServed L.Stream.remaining readers (S.store shelf.old) (S.failed shelf.old) (S.store shelf.new) (S.failed shelf.new) }
+    ensures served { S.honest shelf.old → ServesOne L.Stream.remaining L.Stream.contents (λ writer. ⊤)
+        result (S.store shelf.old) (S.failed shelf.old) (S.store shelf.new) (S.failed shelf.new) }
     ensures honest { S.honest shelf.old → S.honest shelf.new }
 {
     match listener.accept() {
@@ -74,8 +76,8 @@ fn status_after<F: Write>(status: Status, served: Result<u64, ServeError>, fault
 /// nothing comes for so long ends with `read failed`, and one that takes nothing of what is written for so long
 /// with `write failed`.
 ///
-/// Whatever the connections bring, the shelf is where their own requests lead, connection after connection, and
-/// nothing else. That as many are taken as was said is no clause, since a listener tells no contract what it took.
+/// The shelf is where the connections' own requests lead, connection after connection, and nothing else, as far as
+/// they tell their bytes. `Done` says that as many were served as was said, each to its end without an error.
 pub fn serve_connections<L: OpenListener, S: Shelf, F: Write>(
     alloc: Global,
     listener: &L,
@@ -86,7 +88,9 @@ pub fn serve_connections<L: OpenListener, S: Shelf, F: Write>(
 ) -> Status
 where
     L::Stream: Read + Write + OpenStream,
-    ensures served { S.honest shelf.old → (readers : List L.Stream) × (length readers ≤ connections) × AreServed L.Stream.remaining readers (S.store shelf.old) (S.failed shelf.old) (S.store shelf.new) (S.failed shelf.new) }
+    ensures served { S.honest shelf.old → (served : List (Connection L.Stream)) × (length served ≤ connections)
+        × AreServed L.Stream.remaining L.Stream.contents served (S.store shelf.old) (S.failed shelf.old) (S.store shelf.new) (S.failed shelf.new)
+        × (result ≡ Status.Done → (length served ≡ connections) × AreWell served) }
     ensures honest { S.honest shelf.old → S.honest shelf.new }
     ensures silent { result ≡ Status.Done → faults.new ≡ faults.old }
     ensures status { IsEnd result }

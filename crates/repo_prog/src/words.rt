@@ -75,12 +75,12 @@ pub enum WordsError {
 }
 
 impl From<clap::Error> for WordsError {
-    ghost use Rattle.std.specs.Prelude.{◌≡◌};
+    ghost use Rattle.std.specs.Prelude.{◌≡◌, ◌≢◌};
     ghost use Rattle.clap.specs.Words.{kind_of};
     ghost use Rattle.clap.specs.declared.error.kind.ErrorKind.TheVariants.{OutOfMemory};
     ghost use Rattle.repo_prog.specs.declared.words.WordsError.{WordsError};
 
-    ghost from_gives = { λ e r. kind_of e ≡ OutOfMemory → r ≡ WordsError.Memory };
+    ghost from_gives = { λ e r. (kind_of e ≡ OutOfMemory → r ≡ WordsError.Memory) × (kind_of e ≢ OutOfMemory → r ≡ WordsError.Clap e) };
 
     fn from(error: clap::Error) -> WordsError {
         match error.kind() {

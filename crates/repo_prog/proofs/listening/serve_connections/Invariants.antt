@@ -7,7 +7,7 @@ use Rattle.repo_prog.proofs.listening.serve_connections.Given as goal
 abbrev pub invariant-loop-turn : goal.invariant-loop-turn
 invariant-loop-turn g l = record {
   served : g.S.Shelf.honest l.fn.shelf
-      → Served g.L.Stream.Read.remaining l.turn (g.S.Shelf.store l.fn.shelf) (g.S.Shelf.failed l.fn.shelf) (g.S.Shelf.store l.shelf) (g.S.Shelf.failed l.shelf);
+      → Served g.L.Stream.Read.remaining g.L.Stream.Write.contents l.turn l.status (g.S.Shelf.store l.fn.shelf) (g.S.Shelf.failed l.fn.shelf) (g.S.Shelf.store l.shelf) (g.S.Shelf.failed l.shelf);
   honest : g.S.Shelf.honest l.fn.shelf → g.S.Shelf.honest l.shelf;
   silent : l.status ≡ Status.Done → l.faults ≡ l.fn.faults;
   status : IsEnd l.status;

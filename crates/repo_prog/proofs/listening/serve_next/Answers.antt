@@ -1,5 +1,9 @@
-use Rattle.repo_prog.proofs.ServedLemmas.{none_served}
+use Rattle.std.proofs.Common.{inl, refl}
+use Rattle.repo_prog.proofs.ServedLemmas.{any_writer}
 use Rattle.repo_prog.proofs.listening.serve_next.Goals as goal
 
 pub returns-in-Err-clause-served : goal.returns-in-Err-clause-served
-returns-in-Err-clause-served g c honest = none_served _ 1 _ _
+returns-in-Err-clause-served g c honest = inl (refl, refl, refl)
+
+pub returns-in-Ok-clause-served : goal.returns-in-Ok-clause-served
+returns-in-Ok-clause-served g c honest = any_writer _ _ _ _ _ _ _ _ (c.serve_stream.ensures.served honest)

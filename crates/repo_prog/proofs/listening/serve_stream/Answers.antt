@@ -1,8 +1,8 @@
-use Rattle.repo_prog.proofs.ServedLemmas.{none_served, one_served}
+use Rattle.std.proofs.Common.{inl, inr, refl}
 use Rattle.repo_prog.proofs.listening.serve_stream.Goals as goal
 
 pub returns-in_default-clause-served : goal.returns-in_default-clause-served
-returns-in_default-clause-served g c honest = none_served _ 1 _ _
+returns-in_default-clause-served g c honest = inl (refl, refl, refl)
 
 pub returns-clause-served : goal.returns-clause-served
-returns-clause-served g c honest = one_served g.T.Read.remaining _ _ _ _ _ _ _ _ _ (c.serve.ensures.serves honest)
+returns-clause-served g c honest = inr (record { reader = _; writer = _; unread = _; written = _; result = _ }, refl, refl, c.serve.ensures.serves honest)
