@@ -43,13 +43,15 @@ use Rattle.repo_writing.specs.Writing.{bytes_of}
 use Rattle.repo_writing.proofs.PutLemmas.{indexed_later}
 use Rattle.repo_backup.specs.Folders.{nothing, tree_of, blobs_of}
 use Rattle.repo_backup.specs.Rules as backing
-use Rattle.repo_runs.specs.Backed.{configured, snapshot_of, AreTexts, stored, IsBackedUp, BackupIsARun}
-use Rattle.repo_world.specs.Clients.{task_of, JobAllows, JobGives, JobConcludes, IsDutiful}
+use Rattle.repo_runs.specs.Backed.{configured, snapshot_of, AreTexts, AreStored, stored, IsBackedUp, BackupIsARun}
+use Rattle.repo_world.specs.Clients.{task_of, JobAllows, JobGives, JobConcludes, Client, IsDutiful}
+use Rattle.repo_world.specs.Events.{Run}
 use Rattle.repo_runs.specs.Lone.{ended}
-use Rattle.repo_world.specs.World.{beginning, instance_of}
+use Rattle.repo_world.specs.World.{World, client_at, beginning, instance_of}
 use Rattle.repo_runs.proofs.Calming.{ExchangesFew, IsQuiet, quiet_first, quiet_more, backs_nothing, few_config, few_pack, few_index, few_snapshot, calm}
 use Rattle.repo_runs.proofs.Joining.{AreUnfed, Stepped, finished, held_end, posts}
 use Rattle.repo_world.specs.declared.jobs.Job.{Job}
+use Rattle.repo_world.specs.declared.events.Event.{Event}
 
 -- ---- objects that are put where nothing was
 
@@ -382,10 +384,31 @@ module _ (host : List ℕ) (time : ℕ) (config pack index snapshot : List ℕ) 
   quiet = quiet_more config pack index snapshot (beginning (configured config)) (ended 0 (Job.Backup []) host time all (Some (stored snapshot))) all last_store (quiet_first config pack index snapshot (beginning (configured config)) refl refl) all_few
       (backs_nothing config pack index snapshot (ended 0 (Job.Backup []) host time all (Some (stored snapshot))) refl)
 
+  -- ---- where it leads
+
+  abbrev pub backer : Client
+  backer = ended 0 (Job.Backup []) host time all (Some (stored snapshot))
+
+  pub last_stored : (w : World) → w.store ≡ last_store → AreStored w pack index snapshot
+  last_stored w same = subst (λ (s : Store). (s.objects Kind.Pack (naming.name pack) ≡ Some pack) × (s.objects Kind.Index (naming.name index) ≡ Some index) × (s.objects Kind.Snapshot (naming.name snapshot) ≡ Some snapshot)) (sym same)
+      (there_now first_objects Kind.Pack (naming.name pack) pack, there_now with_pack Kind.Index (naming.name index) index, there_now with_index Kind.Snapshot (naming.name snapshot) snapshot)
+
+  abbrev pub backed_up_at : (w : World) (events : List Event) → Run (beginning (configured config)) events w → w.store ≡ last_store → w.clients ≡ backer ∷ [] → IsQuiet config pack index snapshot w → IsBackedUp config pack index snapshot
+  backed_up_at w events run same one quiet = record {
+    events = events;
+    last = w;
+    run = run;
+    alone = ap (λ (cs : List Client). length cs) one;
+    backs_up = ap (λ (cs : List Client). (client_at cs 0).job) one;
+    reported = ap (λ (cs : List Client). (client_at cs 0).outcome) one;
+    there = last_stored w same;
+    calm = λ apart. calm config pack index snapshot host time texts apart w quiet;
+  }
+
   pub is_backed_up : IsBackedUp config pack index snapshot
   is_backed_up =
       let found = finished (beginning (configured config)) (Job.Backup []) host time tt limits (silent (Ask.Unlock token) Say.Done) storing last_store (Some (stored snapshot)) steps all_unfed dutiful in
-      record { events = found.0; last = _; run = found.1; reported = refl; there = there_now with_index Kind.Snapshot (naming.name snapshot) snapshot; calm = λ apart. calm config pack index snapshot host time texts apart _ quiet }
+      backed_up_at _ found.0 found.1 refl refl quiet
 
 pub backup_is_a_run : BackupIsARun
 backup_is_a_run host time config pack index snapshot limits texts = is_backed_up host time config pack index snapshot limits texts

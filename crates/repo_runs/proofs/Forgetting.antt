@@ -39,7 +39,7 @@ use Rattle.repo_runs.proofs.Backing as backup
 use Rattle.repo_runs.proofs.Backing.{there_now}
 use Rattle.repo_runs.proofs.GivingBack.{bytes_no_dead, names_no_dead, token}
 use Rattle.repo_runs.proofs.Calming.{ExchangesFew, IsQuiet, quiet_more, few_config, few_index, calm}
-use Rattle.repo_runs.proofs.Joining.{Stepped, finished, held_end, run_more}
+use Rattle.repo_runs.proofs.Joining.{Stepped, finished, held_end}
 use Rattle.std.proofs.Common.{◌⊎◌}
 use Rattle.repo_name.specs.declared.tokens.Token.{Token}
 use Rattle.std.specs.List.Sorted.{IsStrictlySortedBy}
@@ -500,7 +500,7 @@ module _ (host : List ℕ) (time : ℕ) (config pack index snapshot : List ℕ) 
   -- ---- one after another
 
   abbrev backer : Client
-  backer = ended 0 (Job.Backup []) host time (backup.all host time config pack index snapshot limits texts) (Some (stored snapshot))
+  backer = backup.backer host time config pack index snapshot limits texts
 
   forgetting_few : (w : World) (same : w.store ≡ from) → ExchangesFew config pack index snapshot (forgetting w same)
   forgetting_few w same = (tt, tt, (tt, tt, (tt, tt, (tt, few_config config pack index snapshot, (tt, tt, (tt, tt, tt))))))
@@ -508,29 +508,44 @@ module _ (host : List ℕ) (time : ℕ) (config pack index snapshot : List ℕ) 
   pruning_few : (w : World) (same : w.store ≡ from) (v : World) (next : v.store ≡ left w same) → ExchangesFew config pack index snapshot (pruning w same v next)
   pruning_few w same v next = (tt, tt, (tt, tt, (tt, tt, (tt, tt, (tt, few_index config pack index snapshot, (tt, tt, (tt, tt, (tt, few_config config pack index snapshot, (tt, tt, (tt, tt, tt))))))))))
 
-  after_forget : (w v : World) (events : List Event) → Run (beginning (configured config)) events v → (same : w.store ≡ from) → (next : v.store ≡ left w same)
-      → v.clients ≡ backer ∷ ended (length w.clients) (Job.Forget choice) host time (forgetting w same) (Some (Outcome.Forgotten (ns ∷ []))) ∷ [] → IsQuiet config pack index snapshot v → IsForgottenInRun names config pack index snapshot
-  after_forget w v events run same next two quiet =
-      let done = finished v Job.Prune host time tt limits (silent (Ask.Unlock third) Say.Done) (p6 w same v next) (store_of w same (without_pack w same) (unlocked (last_tokens w same v next) third)) (Some (Outcome.Pruned 1 0)) (prune_steps w same v next) (refl, (refl, (refl, (refl, (refl, (refl, (refl, (refl, (refl, (refl, tt)))))))))) (prunes_well w same v next) in
-      record {
-        events = events ++ done.0;
-        last = _;
-        run = run_more (beginning (configured config)) events done.0 v _ run done.1;
-        forgets = ap (λ (cs : List Client). (client_at (cs ++ ended (length v.clients) Job.Prune host time (pruning w same v next) (Some (Outcome.Pruned 1 0)) ∷ []) 1).job) two;
-        forgotten = ap (λ (cs : List Client). (client_at (cs ++ ended (length v.clients) Job.Prune host time (pruning w same v next) (Some (Outcome.Pruned 1 0)) ∷ []) 1).outcome) two;
-        prunes = ap (λ (cs : List Client). (client_at (cs ++ ended (length v.clients) Job.Prune host time (pruning w same v next) (Some (Outcome.Pruned 1 0)) ∷ []) 2).job) two;
-        pruned = ap (λ (cs : List Client). (client_at (cs ++ ended (length v.clients) Job.Prune host time (pruning w same v next) (Some (Outcome.Pruned 1 0)) ∷ []) 2).outcome) two;
-        none_left = none_left;
-        calm = λ apart. calm config pack index snapshot host time texts apart _ (quiet_more config pack index snapshot v (ended (length v.clients) Job.Prune host time (pruning w same v next) (Some (Outcome.Pruned 1 0))) (pruning w same v next)
-            (store_of w same (without_pack w same) (unlocked (last_tokens w same v next) third)) quiet (pruning_few w same v next) (λ x none. absurd none));
-      }
+  abbrev forgetter : (w : World) → w.store ≡ from → Client
+  forgetter w same = ended (length w.clients) (Job.Forget choice) host time (forgetting w same) (Some (Outcome.Forgotten (ns ∷ [])))
 
-  after_backup : (w : World) (events : List Event) → Run (beginning (configured config)) events w → (same : w.store ≡ from) → w.clients ≡ backer ∷ [] → IsQuiet config pack index snapshot w → IsForgottenInRun names config pack index snapshot
-  after_backup w events run same one quiet =
-      let done = finished w (Job.Forget choice) host time (λ none. none) limits (silent (Ask.Unlock token) Say.Done) (f2 w same) (left w same) (Some (Outcome.Forgotten (ns ∷ []))) (steps w same) (refl, (refl, (refl, (refl, (refl, (refl, tt)))))) (dutiful w same) in
-      after_forget w _ (events ++ done.0) (run_more (beginning (configured config)) events done.0 w _ run done.1) same refl
-      (ap (λ (cs : List Client). cs ++ ended (length w.clients) (Job.Forget choice) host time (forgetting w same) (Some (Outcome.Forgotten (ns ∷ []))) ∷ []) one)
-      (quiet_more config pack index snapshot w (ended (length w.clients) (Job.Forget choice) host time (forgetting w same) (Some (Outcome.Forgotten (ns ∷ [])))) (forgetting w same) (left w same) quiet (forgetting_few w same) (λ x none. absurd none))
+  abbrev pruner : (w : World) (same : w.store ≡ from) (v : World) → v.store ≡ left w same → Client
+  pruner w same v next = ended (length v.clients) Job.Prune host time (pruning w same v next) (Some (Outcome.Pruned 1 0))
+
+  module _ (w : World) (events : List Event) (run : Run (beginning (configured config)) events w) (same : w.store ≡ from) (one : w.clients ≡ backer ∷ []) (quiet : IsQuiet config pack index snapshot w) where
+    after_forget : (v : World) (more : List Event) → Run w more v → (next : v.store ≡ left w same) → v.clients ≡ backer ∷ forgetter w same ∷ [] → IsQuiet config pack index snapshot v → IsForgottenInRun names config pack index snapshot
+    after_forget v more begun next two still =
+        let done = finished v Job.Prune host time tt limits (silent (Ask.Unlock third) Say.Done) (p6 w same v next) (store_of w same (without_pack w same) (unlocked (last_tokens w same v next) third)) (Some (Outcome.Pruned 1 0)) (prune_steps w same v next) (refl, (refl, (refl, (refl, (refl, (refl, (refl, (refl, (refl, (refl, tt)))))))))) (prunes_well w same v next) in
+        let trace = ap (λ (cs : List Client). (client_at (cs ++ pruner w same v next ∷ []) 2).trace) two in
+        record {
+          backup = backup.backed_up_at host time config pack index snapshot limits texts w events run same one quiet;
+          more = more;
+          mid = v;
+          begun = begun;
+          two = ap (λ (cs : List Client). length cs) two;
+          forgot = (ap (λ (cs : List Client). (client_at cs 1).job) two, ap (λ (cs : List Client). (client_at cs 1).outcome) two);
+          rest = done.0;
+          last = _;
+          run = done.1;
+          forgets = ap (λ (cs : List Client). (client_at (cs ++ pruner w same v next ∷ []) 1).job) two;
+          forgotten = ap (λ (cs : List Client). (client_at (cs ++ pruner w same v next ∷ []) 1).outcome) two;
+          prunes = ap (λ (cs : List Client). (client_at (cs ++ pruner w same v next ∷ []) 2).job) two;
+          pruned = ap (λ (cs : List Client). (client_at (cs ++ pruner w same v next ∷ []) 2).outcome) two;
+          index_deleted = subst (λ (es : Trace). DeleteDone es Kind.Index ni) (sym trace) (third, inr (inr (inl (refl, refl))));
+          pack_deleted = subst (λ (es : Trace). DeleteDone es Kind.Pack np) (sym trace) (third, inr (inl (refl, refl)));
+          none_left = none_left;
+          calm = λ apart. calm config pack index snapshot host time texts apart _ (quiet_more config pack index snapshot v (pruner w same v next) (pruning w same v next)
+              (store_of w same (without_pack w same) (unlocked (last_tokens w same v next) third)) still (pruning_few w same v next) (λ x none. absurd none));
+        }
+
+    after_backup : IsForgottenInRun names config pack index snapshot
+    after_backup =
+        let done = finished w (Job.Forget choice) host time (λ none. none) limits (silent (Ask.Unlock token) Say.Done) (f2 w same) (left w same) (Some (Outcome.Forgotten (ns ∷ []))) (steps w same) (refl, (refl, (refl, (refl, (refl, (refl, tt)))))) (dutiful w same) in
+        after_forget _ done.0 done.1 refl
+        (ap (λ (cs : List Client). cs ++ forgetter w same ∷ []) one)
+        (quiet_more config pack index snapshot w (forgetter w same) (forgetting w same) (left w same) quiet (forgetting_few w same) (λ x none. absurd none))
 
   all_forgotten : IsForgottenInRun names config pack index snapshot
   all_forgotten =

@@ -45,9 +45,9 @@ use Rattle.repo_world.specs.Events.{Run}
 use Rattle.repo_runs.specs.Lone.{ended}
 use Rattle.repo_world.specs.World.{World, client_at, beginning, instance_of}
 use Rattle.repo_runs.proofs.Backing as backup
-use Rattle.repo_runs.proofs.Backing.{is_here, with_object, there_now}
+use Rattle.repo_runs.proofs.Backing.{there_now}
 use Rattle.repo_runs.proofs.Calming.{ExchangesFew, IsQuiet, quiet_more, few_config, few_index, few_snapshot, few_tree, calm}
-use Rattle.repo_runs.proofs.Joining.{Stepped, finished, held_end, run_more}
+use Rattle.repo_runs.proofs.Joining.{Stepped, finished, held_end}
 use Rattle.repo_world.specs.declared.jobs.Job.{Job}
 use Rattle.repo_world.specs.declared.events.Event.{Event}
 
@@ -270,7 +270,7 @@ module _ (host : List ℕ) (time : ℕ) (config pack index snapshot : List ℕ) 
   restorer w same = ended (length w.clients) (Job.Restore ns) host time (all w same) (Some (Outcome.Complete 0))
 
   abbrev backer : Client
-  backer = ended 0 (Job.Backup []) host time (backup.all host time config pack index snapshot limits texts) (Some (stored snapshot))
+  backer = backup.backer host time config pack index snapshot limits texts
 
   all_few : (w : World) (same : w.store ≡ from) → ExchangesFew config pack index snapshot (all w same)
   all_few w same =
@@ -281,9 +281,10 @@ module _ (host : List ℕ) (time : ℕ) (config pack index snapshot : List ℕ) 
   after w events run same one quiet =
       let second = finished w (Job.Restore ns) host time tt limits (silent (Ask.Unlock token) Say.Done) (walking w same) (store_of w same (unlocked (tokens w same) token)) (Some (Outcome.Complete 0)) (steps w same) (refl, (refl, (refl, (refl, (refl, (refl, (refl, (refl, tt)))))))) (dutiful w same) in
       record {
-        events = events ++ second.0;
+        backup = backup.backed_up_at host time config pack index snapshot limits texts w events run same one quiet;
+        more = second.0;
         last = _;
-        run = run_more (beginning (configured config)) events second.0 w _ run second.1;
+        run = second.1;
         reported = ap (λ (cs : List Client). (client_at (cs ++ restorer w same ∷ []) 0).outcome) one;
         restores = ap (λ (cs : List Client). (client_at (cs ++ restorer w same ∷ []) 1).job) one;
         complete = ap (λ (cs : List Client). (client_at (cs ++ restorer w same ∷ []) 1).outcome) one;

@@ -62,7 +62,7 @@ use Rattle.repo_runs.proofs.Backing as backup
 use Rattle.repo_runs.proofs.Backing.{there_now}
 use Rattle.repo_runs.proofs.GivingBack.{bytes_no_dead, names_no_dead, token}
 use Rattle.repo_runs.proofs.Calming.{ExchangesFew, IsQuiet, quiet_more, few_config, few_index, few_snapshot, few_tree, calm}
-use Rattle.repo_runs.proofs.Joining.{Stepped, finished, held_end, run_more}
+use Rattle.repo_runs.proofs.Joining.{Stepped, finished, held_end}
 use Rattle.repo_runs.proofs.WrongRules.{reaches_itself}
 use Rattle.repo_world.specs.declared.jobs.Job.{Job}
 use Rattle.repo_world.specs.declared.events.Event.{Event}
@@ -465,7 +465,7 @@ module _ (host : List ℕ) (time : ℕ) (config pack index snapshot : List ℕ) 
   pruner w same = ended (length w.clients) Job.Prune host time (all w same) (Some (Outcome.Pruned 0 0))
 
   abbrev backer : Client
-  backer = ended 0 (Job.Backup []) host time (backup.all host time config pack index snapshot limits texts) (Some (stored snapshot))
+  backer = backup.backer host time config pack index snapshot limits texts
 
   all_few : (w : World) (same : w.store ≡ from) → ExchangesFew config pack index snapshot (all w same)
   all_few w same =
@@ -477,12 +477,15 @@ module _ (host : List ℕ) (time : ℕ) (config pack index snapshot : List ℕ) 
   after w events run same one quiet =
       let second = finished w Job.Prune host time tt limits (silent (Ask.Unlock token) Say.Done) (t7 w same) (store_of w same (unlocked (tokens w same) token)) (Some (Outcome.Pruned 0 0)) (steps w same) (refl, (refl, (refl, (refl, (refl, (refl, (refl, (refl, (refl, (refl, (refl, tt))))))))))) (dutiful w same) in
       record {
-        events = events ++ second.0;
+        backup = backup.backed_up_at host time config pack index snapshot limits texts w events run same one quiet;
+        more = second.0;
         last = _;
-        run = run_more (beginning (configured config)) events second.0 w _ run second.1;
+        run = second.1;
         reported = ap (λ (cs : List Client). (client_at (cs ++ pruner w same ∷ []) 0).outcome) one;
         prunes = ap (λ (cs : List Client). (client_at (cs ++ pruner w same ∷ []) 1).job) one;
         pruned = ap (λ (cs : List Client). (client_at (cs ++ pruner w same ∷ []) 1).outcome) one;
+        again = subst (λ (es : Trace). PutDone es Kind.Index ni index) (sym (ap (λ (cs : List Client). (client_at (cs ++ pruner w same ∷ []) 1).trace) one)) (token, inr (inl (refl, refl)));
+        kept = (pack_there w same, index_there w same, snapshot_there w same);
         calm = λ apart. calm config pack index snapshot host time texts apart _ (quiet_more config pack index snapshot w (pruner w same) (all w same) (store_of w same (unlocked (tokens w same) token)) quiet (all_few w same) (λ x none. absurd none));
       }
 

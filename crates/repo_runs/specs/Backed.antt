@@ -1,5 +1,5 @@
--- A backup, a restore and a prune, as examples: an empty folder is backed up to a store without objects, and its snapshot is reported as stored; then it is
--- restored, or the store is pruned, or it is forgotten and the store pruned.
+-- A backup, a restore and a prune, as examples: an empty folder is backed up to a store without objects, and its snapshot is reported as stored; only then
+-- another client starts, and it is restored, or the store is pruned, or it is forgotten and then the store pruned.
 use Rattle.std.specs.Prelude.{false, ◌≡◌, ◌≤◌, ◌<◌, ◌^◌, ◌-◌, ◌∷◌, [], ℕ, List, length, min, Some, None, Contains}
 use Rattle.repo_name.specs.Naming as naming
 use Rattle.repo_name.specs.Rows.{IsHost}
@@ -19,8 +19,10 @@ use Rattle.repo_tree.specs.TreeWriting.{tree_text}
 use Rattle.repo_store.specs.StoreMachine.{object_limit, config_limit}
 use Rattle.repo_store.specs.Stores.{Store}
 use Rattle.repo_session.specs.Alone.{NoClash}
+use Rattle.repo_session.specs.Deletions.{DeleteDone}
 use Rattle.repo_session.specs.declared.outcomes.Outcome.{Outcome}
 use Rattle.repo_backup.specs.Folders.{nothing, tree_of}
+use Rattle.repo_writing.specs.Putting.{PutDone}
 use Rattle.repo_writing.specs.Writing.{bytes_of}
 use Rattle.repo_prune.specs.declared.choices.Choice.{Choice}
 use Rattle.repo_world.specs.Events.{Run}
@@ -66,24 +68,34 @@ pub record AreApart (config pack index snapshot : List ℕ) : Type 0 where
 abbrev pub stored : List ℕ → Outcome
 stored snapshot = Outcome.Stored (naming.name snapshot) 1 (min (bytes_of (tree_of nothing ∷ [])) (2 ^ 64 - 1))
 
--- some events lead to a world in which the first client reports its snapshot as stored, and it is there; and nothing clashes in it, where those lists are apart
+-- the pack, the index and the snapshot are there
+abbrev pub AreStored : World → (pack index snapshot : List ℕ) → Type 0
+AreStored w pack index snapshot = (w.store.objects Kind.Pack (naming.name pack) ≡ Some pack) × (w.store.objects Kind.Index (naming.name index) ≡ Some index)
+    × (w.store.objects Kind.Snapshot (naming.name snapshot) ≡ Some snapshot)
+
+-- some events lead to a world with one client, a backup of no entries, which reports its snapshot as stored, and it is there with its index and its pack; and
+-- nothing clashes in it, where those lists are apart
 pub record IsBackedUp (config pack index snapshot : List ℕ) : Type 0 where
   pub events : List Event
   pub last : World
   pub run : Run (beginning (configured config)) events last
+  pub alone : length last.clients ≡ 1
+  pub backs_up : (client last 0).job ≡ Job.Backup []
   pub reported : (client last 0).outcome ≡ Some (stored snapshot)
-  pub there : last.store.objects Kind.Snapshot (naming.name snapshot) ≡ Some snapshot
+  pub there : AreStored last pack index snapshot
   pub calm : AreApart config pack index snapshot → HasNoClash last
 
 -- with any such texts there is such a run
 abbrev pub BackupIsARun : Type 0
 BackupIsARun = (host : List ℕ) (time : ℕ) (config pack index snapshot : List ℕ) → (time < 2 ^ 64) × IsHost host → AreTexts host time config pack index snapshot → IsBackedUp config pack index snapshot
 
--- the same, and then a second client, a restore of the snapshot, is complete: the folder has no entry, as what was backed up
+-- it is backed up so; more events lead from there to a world in which a second client, a restore of the snapshot, is complete: the folder has no entry, as
+-- what was backed up
 pub record IsGivenBack (config pack index snapshot : List ℕ) : Type 0 where
-  pub events : List Event
+  pub backup : IsBackedUp config pack index snapshot
+  pub more : List Event
   pub last : World
-  pub run : Run (beginning (configured config)) events last
+  pub run : Run backup.last more last
   pub reported : (client last 0).outcome ≡ Some (stored snapshot)
   pub restores : (client last 1).job ≡ Job.Restore (naming.name snapshot)
   pub complete : (client last 1).outcome ≡ Some (Outcome.Complete 0)
@@ -93,29 +105,42 @@ pub record IsGivenBack (config pack index snapshot : List ℕ) : Type 0 where
 abbrev pub RestoreIsARun : Type 0
 RestoreIsARun = (host : List ℕ) (time : ℕ) (config pack index snapshot : List ℕ) → (time < 2 ^ 64) × IsHost host → AreTexts host time config pack index snapshot → IsGivenBack config pack index snapshot
 
--- the same, and then a second client, a prune, is done: it keeps the pack, and puts its index again
+-- it is backed up so; more events lead from there to a world in which a second client, a prune, is done: it put the index again, and the pack, the index and
+-- the snapshot are there still
 pub record IsTidied (config pack index snapshot : List ℕ) : Type 0 where
-  pub events : List Event
+  pub backup : IsBackedUp config pack index snapshot
+  pub more : List Event
   pub last : World
-  pub run : Run (beginning (configured config)) events last
+  pub run : Run backup.last more last
   pub reported : (client last 0).outcome ≡ Some (stored snapshot)
   pub prunes : (client last 1).job ≡ Job.Prune
   pub pruned : (client last 1).outcome ≡ Some (Outcome.Pruned 0 0)
+  pub again : PutDone (client last 1).trace Kind.Index (naming.name index) index
+  pub kept : AreStored last pack index snapshot
   pub calm : AreApart config pack index snapshot → HasNoClash last
 
 -- with any such texts there is such a run
 abbrev pub PruneIsARun : Type 0
 PruneIsARun = (host : List ℕ) (time : ℕ) (config pack index snapshot : List ℕ) → (time < 2 ^ 64) × IsHost host → AreTexts host time config pack index snapshot → IsTidied config pack index snapshot
 
--- the same; then a second client, a forget of names, forgets the snapshot; then a third, a prune, deletes the index and the pack, and no object is left
+-- it is backed up so; more events lead from there to a world with two clients, in which the second, a forget of names, forgot the snapshot; and the rest to
+-- one in which a third, a prune, deleted the index and the pack, and no object is left
 pub record IsForgottenInRun (names : List Name) (config pack index snapshot : List ℕ) : Type 0 where
-  pub events : List Event
+  pub backup : IsBackedUp config pack index snapshot
+  pub more : List Event
+  pub mid : World
+  pub begun : Run backup.last more mid
+  pub two : length mid.clients ≡ 2
+  pub forgot : ((client mid 1).job ≡ Job.Forget (Choice.Names names)) × ((client mid 1).outcome ≡ Some (Outcome.Forgotten (naming.name snapshot ∷ [])))
+  pub rest : List Event
   pub last : World
-  pub run : Run (beginning (configured config)) events last
+  pub run : Run mid rest last
   pub forgets : (client last 1).job ≡ Job.Forget (Choice.Names names)
   pub forgotten : (client last 1).outcome ≡ Some (Outcome.Forgotten (naming.name snapshot ∷ []))
   pub prunes : (client last 2).job ≡ Job.Prune
   pub pruned : (client last 2).outcome ≡ Some (Outcome.Pruned 1 0)
+  pub index_deleted : DeleteDone (client last 2).trace Kind.Index (naming.name index)
+  pub pack_deleted : DeleteDone (client last 2).trace Kind.Pack (naming.name pack)
   pub none_left : (k : Kind) (n : Name) → last.store.objects k n ≡ None
   pub calm : AreApart config pack index snapshot → HasNoClash last
 

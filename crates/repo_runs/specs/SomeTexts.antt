@@ -1,5 +1,5 @@
 -- Some texts as they are written, and what the runs come to with them: nothing clashes in their last worlds. So the premise of the laws of all runs can be met
--- where a snapshot is stored, where it is restored, where the store is pruned, and where the snapshot is forgotten.
+-- where a snapshot is stored, and where after that it is restored, or the store is pruned, or it is forgotten and the store pruned.
 use Rattle.std.specs.Prelude.{◌∷◌, [], ℕ, List, replicate}
 use Rattle.repo_name.specs.Naming as naming
 use Rattle.repo_pack.specs.PackLayout.{pack_bytes}
@@ -46,8 +46,8 @@ snapshot = snapshot_text (snapshot_of host time)
 abbrev pub TextsAreApart : Type 0
 TextsAreApart = AreTexts host time config pack index snapshot × AreApart config pack index snapshot
 
--- with them there are a backup that is stored, a restore that is complete, a prune that is done, and a forget with the prune after it, and nothing clashes in
--- the last world of each
+-- with them there is a run in which a backup is stored, and there are runs in which after that a restore is complete, a prune is done, or a forget and then a
+-- prune are; and nothing clashes in the last world of each
 abbrev pub NothingClashesInRuns : Type 0
 NothingClashesInRuns = ((b : IsBackedUp config pack index snapshot) × HasNoClash b.last) × ((r : IsGivenBack config pack index snapshot) × HasNoClash r.last)
     × ((p : IsTidied config pack index snapshot) × HasNoClash p.last) × ((f : IsForgottenInRun (naming.name snapshot ∷ []) config pack index snapshot) × HasNoClash f.last)

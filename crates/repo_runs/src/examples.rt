@@ -17,26 +17,27 @@ pub fn example_is_a_run()
     ensures { ExampleIsARun }
 {}
 
-/// The rule of a backup can be met to its end: with any texts as they are written, a run leads to a world in which a backup of an
-/// empty folder is reported as stored, and its snapshot is there. Nothing clashes in that world, nor in those of the next three
-/// laws, where no two of these texts and the tree have one name, and none but the index reads as an index that says a fact.
+/// The rule of a backup can be met to its end: with any texts as they are written, a run leads to a world with one client, a backup
+/// of an empty folder, which is reported as stored; its snapshot, its index and its pack are there. Nothing clashes in that world,
+/// nor in the last ones of the next three laws, where no two of these texts and the tree have one name, and none but the index
+/// reads as an index that says a fact.
 pub fn backup_is_a_run()
     ensures { BackupIsARun }
 {}
 
-/// So can that of a restore: after the backup, a restore of its snapshot by a second client is complete.
+/// So can that of a restore: a second client, which starts after that world, restores the snapshot, and is complete.
 pub fn restore_is_a_run()
     ensures { RestoreIsARun }
 {}
 
-/// So can that of a prune: after the backup, a prune by a second client, under a lock of its own, is done. It keeps the pack, whose tree
-/// the snapshot needs, and puts its index again.
+/// So can that of a prune: a second client, which starts after that world, prunes the store, and is done. It put the index again; and
+/// the pack, whose tree the snapshot needs, the index and the snapshot are there still.
 pub fn prune_is_a_run()
     ensures { PruneIsARun }
 {}
 
-/// So can those of a forget and of a prune that deletes: after the backup, a second client forgets the snapshot, and a third
-/// prunes the store, until no object is left.
+/// So can those of a forget and of a prune that deletes: a second client, which starts after that world, forgets the snapshot; and a
+/// third, which starts after that, prunes the store: it deletes the index and the pack, and no object is left.
 pub fn forget_is_a_run()
     ensures { ForgetIsARun }
 {}
@@ -47,9 +48,9 @@ pub fn some_texts_are_apart()
     ensures { TextsAreApart }
 {}
 
-/// So nothing clashes in the last world of a run in which that snapshot is stored, of one in which a restore of it is complete then,
-/// of one in which a prune is done then, and of one in which it is forgotten and the store pruned: the premise of the laws of all
-/// runs can be met there.
+/// So nothing clashes in the last world of a run in which that snapshot is stored, of one in which after that a restore of it is
+/// complete, of one in which after that a prune is done, and of one in which after that it is forgotten, and then the store pruned:
+/// the premise of the laws of all runs can be met there.
 pub fn nothing_clashes_in_runs()
     ensures { NothingClashesInRuns }
 {}
