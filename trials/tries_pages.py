@@ -52,8 +52,10 @@ def help_says_what_each_word_means():
     """In the built program's help each word and each option of a command has a text beside it."""
     for command in set(re.findall(r"^  ([a-z]+)  ", told("--help"), re.M)) - {"help"}:
         given = told(command, "--help").split("Example:")[0]
-        for word in re.findall(r"^ +(?:-h, )?([<\[-]\S+.*)$", given.partition("\n\n")[2], re.M):
-            holds(len(word.split()) > 3, f"{command}: {word} has no text")
+        words = re.findall(r"^ +(<\S+>|\[\S+\]|--\S+(?: <\S+>)?) *(.*)$", given.partition("\n\n")[2], re.M)
+        holds(words or command in ("frames", "play", "loop"), f"{command} has no words")
+        for word, text in words:
+            holds(len(text.split()) > 2, f"{command}: {word} has no text")
 
 
 def literals(pattern, *crates):
