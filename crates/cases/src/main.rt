@@ -8,9 +8,15 @@ use std::io::Read;
 
 mod clients;
 mod commands;
+mod framing;
+mod halves;
+mod keeping;
+mod kernels;
 mod lines;
+mod random;
 mod script;
 mod spoiling;
+mod stored;
 mod stores;
 mod streams;
 mod told;
