@@ -171,7 +171,7 @@ impl Script {
                 let entries = mem::replace(&mut self.entries, Vec::new(self.alloc));
                 self.world.start(rest, entries, told)?;
             }
-            "old" => self.world.start_old(rest)?,
+            "old" => self.world.start_old(rest, told)?,
             "step" => {
                 self.world.step(rest, told)?;
             }

@@ -1,9 +1,10 @@
 //! Jobs over a shelf in memory: a backup of random bytes and a restore of it, and what other jobs need for such a shelf.
 
+use crate::clients::{client_for, finish};
 use crate::lines::ScriptError;
 use crate::random::random_bytes;
 use repo_name::{Bytes, Instance, Name, Text, name_of};
-use repo_session::{Client, Emission, Outcome, Who, lockstep, result_text};
+use repo_session::{Client, Emission, Outcome, result_text};
 use repo_store::{MemShelf, Shelf};
 use repo_tree::{Entry, EntryKind, Path};
 use repo_world::{AnyClient, Entries, Job};
@@ -57,21 +58,23 @@ fn name_of_end(
 /// Brings a client to its end: the name that it comes to.
 fn ended(alloc: Global, client: &mut AnyClient, shelf: &mut MemShelf) -> Result<Name, ScriptError> {
     let mut given = Vec::new(alloc);
-    match lockstep(alloc, client, shelf, &mut given) {
+    match finish(alloc, client, shelf, &mut given) {
         Ok(_) => name_of_end(alloc, client.outcome(), given.as_slice()),
         Err(_) => Err(ScriptError::Stopped),
     }
 }
 
+/// The same of a client that is no more then.
+fn spent(alloc: Global, mut client: AnyClient, shelf: &mut MemShelf) -> Result<Name, ScriptError> {
+    ended(alloc, &mut client, shelf)
+}
+
 /// Does a job: a backup's is the name of its snapshot, a restore's that of the last piece that it gave out, and that of another
 /// the name of the words for how it ended.
 pub fn done(alloc: Global, shelf: &mut MemShelf, job: Job) -> Result<Name, ScriptError> {
-    let Ok(who) = Who::new(alloc, Instance([1; 16]), "bench", 0) else {
-        return Err(ScriptError::Memory);
-    };
-    match AnyClient::new(alloc, who, job) {
-        Ok(mut client) => ended(alloc, &mut client, shelf),
-        Err(_) => Err(ScriptError::Stopped),
+    match client_for(alloc, Instance([1; 16]), "bench", job) {
+        Ok(client) => spent(alloc, client, shelf),
+        Err(error) => Err(error),
     }
 }
 
