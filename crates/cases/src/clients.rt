@@ -30,7 +30,7 @@ fn begun(alloc: Global, who: Who, job: Job) -> Result<AnyClient, ScriptError> {
 }
 
 /// A client for a job, on a machine of this name.
-pub fn client_for(
+fn client_for(
     alloc: Global,
     instance: Instance,
     host: &str,
@@ -43,13 +43,85 @@ pub fn client_for(
 }
 
 /// Brings a client to its end in one go: how many requests that took. What it gives out is added to `given`.
-pub fn finish<S: Shelf>(
+fn finish<S: Shelf>(
     alloc: Global,
     client: &mut AnyClient,
     shelf: &mut S,
     given: &mut Vec<Emission>,
 ) -> Result<u64, StepError> {
     lockstep(alloc, client, shelf, given)
+}
+
+/// How a job ended, and what it gave out.
+#[derive(Drop)]
+pub struct JobEnd {
+    /// The words for how it ended, and behind them what is at fault, and how.
+    pub text: String,
+    /// The snapshot that it stored.
+    pub stored: Option<Name>,
+    pub given: Vec<Emission>,
+}
+
+/// The words for how a job ended, and behind them what is at fault, and how.
+fn told_end(alloc: Global, outcome: Option<&Outcome>) -> Result<String, AllocError> {
+    let mut text = result_text(alloc, outcome, false)?;
+    if let Some(Outcome::Faults(faults)) = outcome {
+        for fault in faults.as_slice() {
+            text.push(' ')?;
+            text.push_str(thing_word(fault.thing))?;
+            text.push(' ')?;
+            text.push_str(fault_word(fault.what))?;
+        }
+    }
+    Ok(text)
+}
+
+/// The snapshot that a job stored.
+fn stored_name(outcome: Option<&Outcome>) -> Option<Name> {
+    match outcome {
+        Some(Outcome::Stored { name, .. }) => Some(*name),
+        _ => None,
+    }
+}
+
+/// Brings a client to its end.
+fn ended<S: Shelf>(
+    alloc: Global,
+    client: &mut AnyClient,
+    shelf: &mut S,
+) -> Result<JobEnd, ScriptError> {
+    let mut given = Vec::new(alloc);
+    if finish(alloc, client, shelf, &mut given).is_err() {
+        return Err(ScriptError::Stopped);
+    }
+    Ok(JobEnd {
+        text: told_end(alloc, client.outcome())?,
+        stored: stored_name(client.outcome()),
+        given,
+    })
+}
+
+/// The same of a client that is no more then. A client is dear to drop: it is done here alone, with nothing else alive.
+fn spent<S: Shelf>(
+    alloc: Global,
+    mut client: AnyClient,
+    shelf: &mut S,
+) -> Result<JobEnd, ScriptError> {
+    ended(alloc, &mut client, shelf)
+}
+
+/// Does a job at a shelf, on a machine of this name.
+pub fn do_job<S: Shelf>(
+    alloc: Global,
+    instance: Instance,
+    host: &str,
+    job: Job,
+    shelf: &mut S,
+) -> Result<JobEnd, ScriptError> {
+    match client_for(alloc, instance, host, job) {
+        Ok(client) => spent(alloc, client, shelf),
+        Err(error) => Err(error),
+    }
 }
 
 /// The word for a put.
@@ -165,10 +237,7 @@ impl Seat {
 
     /// The name of the snapshot that it stored.
     pub fn stored(&self) -> Option<Name> {
-        match self.client.outcome() {
-            Some(Outcome::Stored { name, .. }) => Some(*name),
-            _ => None,
-        }
+        stored_name(self.client.outcome())
     }
 
     /// Tells the rows of a list, the names that were forgotten, the faults that were found, or the name that an outcome

@@ -1,15 +1,13 @@
 //! Checks of a store in which one object is spoiled: each of its bytes is turned, one after another, and then it is cut
 //! at each length.
 
-use crate::clients::{client_for, finish};
+use crate::clients::do_job;
 use crate::lines::{ScriptError, cut, kind, name};
 use crate::stores::{Store, given};
 use crate::told::Told;
 use repo_name::{Bytes, Instance, Kind, Name, name_of};
-use repo_prog::fault_word;
-use repo_session::{CheckFault, Client, Outcome, result_text, thing_word};
 use repo_store::Shelf;
-use repo_world::{AnyClient, Job};
+use repo_world::Job;
 use std::alloc::{AllocError, Global};
 
 /// A way in which checks ended, and how often.
@@ -31,46 +29,10 @@ struct Spoiling {
     ends: Vec<End>,
 }
 
-/// Adds what is at fault, and how, to the words for how a check ended.
-fn add_faults(text: &mut String, faults: &[CheckFault]) -> Result<(), AllocError> {
-    for fault in faults {
-        text.push(' ')?;
-        text.push_str(thing_word(fault.thing))?;
-        text.push(' ')?;
-        text.push_str(fault_word(fault.what))?;
-    }
-    Ok(())
-}
-
-/// How a client's job ended: its words, and what is at fault.
-fn told_end(alloc: Global, outcome: Option<&Outcome>) -> Result<String, AllocError> {
-    let mut text = result_text(alloc, outcome, false)?;
-    if let Some(Outcome::Faults(faults)) = outcome {
-        add_faults(&mut text, faults.as_slice())?;
-    }
-    Ok(text)
-}
-
-/// How a client ends at a store.
-fn ended(alloc: Global, client: &mut AnyClient, store: &mut Store) -> Result<String, ScriptError> {
-    let mut given = Vec::new(alloc);
-    match finish(alloc, client, &mut store.shelf, &mut given) {
-        Ok(_) => Ok(told_end(alloc, client.outcome())?),
-        Err(_) => Err(ScriptError::Memory),
-    }
-}
-
-/// How a client ends at a store, which is then no more.
-fn spent(alloc: Global, mut client: AnyClient, store: &mut Store) -> Result<String, ScriptError> {
-    ended(alloc, &mut client, store)
-}
-
-/// How a check of a store ends.
+/// How a check of a store ends: its words, and what is at fault.
 fn checked(alloc: Global, store: &mut Store) -> Result<String, ScriptError> {
-    match client_for(alloc, Instance([0; 16]), "play", Job::Check) {
-        Ok(client) => spent(alloc, client, store),
-        Err(error) => Err(error),
-    }
+    let instance = Instance([0; 16]);
+    Ok(do_job(alloc, instance, "play", Job::Check, &mut store.shelf)?.text)
 }
 
 /// The object of this kind and name.

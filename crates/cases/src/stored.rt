@@ -1,13 +1,13 @@
 //! Jobs over a shelf in memory: a backup of random bytes and a restore of it, and what other jobs need for such a shelf.
 
-use crate::clients::{client_for, finish};
-use crate::lines::ScriptError;
+use crate::clients::{JobEnd, do_job};
+use crate::lines::{ScriptError, cut};
 use crate::random::random_bytes;
 use repo_name::{Bytes, Instance, Name, Text, name_of};
-use repo_session::{Client, Emission, Outcome, result_text};
+use repo_session::Emission;
 use repo_store::{MemShelf, Shelf};
 use repo_tree::{Entry, EntryKind, Path};
-use repo_world::{AnyClient, Entries, Job};
+use repo_world::{Entries, Job};
 use std::alloc::{AllocError, Global};
 
 /// The default target of a pack.
@@ -38,44 +38,21 @@ fn last_piece(given: &[Emission]) -> Name {
     name_of(last)
 }
 
-/// The name that the end of a job comes to.
-fn name_of_end(
-    alloc: Global,
-    outcome: Option<&Outcome>,
-    given: &[Emission],
-) -> Result<Name, ScriptError> {
-    match outcome {
-        Some(Outcome::Stored { name, .. }) => Ok(*name),
-        Some(Outcome::Complete { .. }) => Ok(last_piece(given)),
-        Some(Outcome::Forgotten(_) | Outcome::Pruned { .. } | Outcome::Clean { .. }) => {
-            let text = result_text(alloc, outcome, false)?;
-            Ok(name_of(text.as_bytes()))
-        }
+/// The name that the end of a job comes to: a backup's is that of its snapshot, a restore's that of the last piece that it gave
+/// out, and that of another the name of the words for how it ended.
+fn name_of_end(end: &JobEnd) -> Result<Name, ScriptError> {
+    match cut(end.text.as_str()).0 {
+        "stored" => end.stored.ok_or(ScriptError::Stopped),
+        "complete" => Ok(last_piece(end.given.as_slice())),
+        "forgotten" | "pruned" | "clean" => Ok(name_of(end.text.as_bytes())),
         _ => Err(ScriptError::Stopped),
     }
 }
 
-/// Brings a client to its end: the name that it comes to.
-fn ended(alloc: Global, client: &mut AnyClient, shelf: &mut MemShelf) -> Result<Name, ScriptError> {
-    let mut given = Vec::new(alloc);
-    match finish(alloc, client, shelf, &mut given) {
-        Ok(_) => name_of_end(alloc, client.outcome(), given.as_slice()),
-        Err(_) => Err(ScriptError::Stopped),
-    }
-}
-
-/// The same of a client that is no more then.
-fn spent(alloc: Global, mut client: AnyClient, shelf: &mut MemShelf) -> Result<Name, ScriptError> {
-    ended(alloc, &mut client, shelf)
-}
-
-/// Does a job: a backup's is the name of its snapshot, a restore's that of the last piece that it gave out, and that of another
-/// the name of the words for how it ended.
+/// Does a job: the name that its end comes to.
 pub fn done(alloc: Global, shelf: &mut MemShelf, job: Job) -> Result<Name, ScriptError> {
-    match client_for(alloc, Instance([1; 16]), "bench", job) {
-        Ok(client) => spent(alloc, client, shelf),
-        Err(error) => Err(error),
-    }
+    let end = do_job(alloc, Instance([1; 16]), "bench", job, shelf)?;
+    name_of_end(&end)
 }
 
 /// One file of these bytes.
