@@ -4,6 +4,6 @@
 set -euo pipefail
 . "$(dirname "$0")/kernels.sh"
 count=100000
-before=$(least out/bench forget "$count")
+before=$(least kernel forget "$count")
 echo "two backups and a forget: $before ms"
-echo "check: $(($(least out/bench check "$count") - before)) ms"
+echo "check: $(($(least kernel check "$count") - before)) ms"

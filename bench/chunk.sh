@@ -1,5 +1,5 @@
 #!/usr/bin/env bash
-# Times how the kernel chunk of the crate bench cuts 256 MiB of random bytes with the default parameters, less the
+# Times how the kernel chunk of the program cases cuts 256 MiB of random bytes with the default parameters, less the
 # making of the bytes, and restic's chunker library on the same bytes beside it. The least of five runs counts, and
 # the digest of the lengths has to be the same. The library is the Debian package golang-github-restic-chunker-dev,
 # to be built with golang-go. Usage: bench/chunk.sh
@@ -8,9 +8,9 @@ set -euo pipefail
 here=$PWD/../../bench
 size=268435456
 
-made=$(least out/bench random "$size")
-cut=$(least out/bench chunk "$size")
-echo "chunks of 256 MiB: $((cut - made)) ms, lengths $(out/bench chunk "$size" | cut -d ' ' -f 3)"
+made=$(least kernel random "$size")
+cut=$(least kernel chunk "$size")
+echo "chunks of 256 MiB: $((cut - made)) ms, lengths $(kernel chunk "$size" | cut -d ' ' -f 3)"
 go=$(mktemp -d)
 trap 'rm -rf "$go"' EXIT
 sources="$(dpkg -L golang-github-restic-chunker-dev | sed -n 's|/src$||p')"

@@ -4,6 +4,6 @@
 set -euo pipefail
 . "$(dirname "$0")/kernels.sh"
 for count in 100000 1000000; do
-    made=$(least out/bench rows "$count")
-    echo "which of $count snapshots are kept: $(($(least out/bench keep "$count") - made)) ms, and making them $made ms"
+    made=$(least kernel rows "$count")
+    echo "which of $count snapshots are kept: $(($(least kernel keep "$count") - made)) ms, and making them $made ms"
 done

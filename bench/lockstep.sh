@@ -5,11 +5,11 @@ set -euo pipefail
 . "$(dirname "$0")/kernels.sh"
 size=67108864
 
-random=$(least out/bench random "$size")
+random=$(least kernel random "$size")
 echo "making 64 MiB of random bytes: $random ms"
-echo "cutting them: $(($(least out/bench chunk "$size") - random)) ms"
-echo "the name of 64 MiB: $(least out/bench name "$size") ms"
-backup=$(least out/bench backup "$size")
+echo "cutting them: $(($(least kernel chunk "$size") - random)) ms"
+echo "the name of 64 MiB: $(least kernel name "$size") ms"
+backup=$(least kernel backup "$size")
 echo "backup of 64 MiB: $((backup - random)) ms, $((size / 1000 / (backup - random))) MB/s"
-restore=$(least out/bench restore "$size")
+restore=$(least kernel restore "$size")
 echo "restore of it: $((restore - backup)) ms, $((size / 1000 / (restore - backup))) MB/s"

@@ -4,6 +4,6 @@
 set -euo pipefail
 . "$(dirname "$0")/kernels.sh"
 count=100000
-before=$(least out/bench forget "$count")
+before=$(least kernel forget "$count")
 echo "two backups and a forget: $before ms"
-echo "prune: $(($(least out/bench prune "$count") - before)) ms"
+echo "prune: $(($(least kernel prune "$count") - before)) ms"

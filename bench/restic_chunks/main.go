@@ -1,4 +1,4 @@
-// Cuts the random bytes of the kernel chunk of the crate bench by restic's chunker library, five times, and prints
+// Cuts the random bytes of the kernel chunk of the program cases by restic's chunker library, five times, and prints
 // the least time in milliseconds and the digest of the lengths, which is that of the kernel.
 package main
 

@@ -15,6 +15,7 @@ import damage_cases
 import folder_cases
 import forget_cases
 import job_cases
+import kernel_cases
 import known
 import line_cases
 import played_cases
@@ -34,7 +35,7 @@ PARTS = [command_cases.locks, command_cases.refresh, command_cases.unlock, comma
 def files():
     """The files, and what each holds."""
     script = Script()
-    for part in PARTS:
+    for part in PARTS + kernel_cases.ALL:
         part(script)
     asked, said = vault_frames.stream()
     return {CRATES / "cases/stdin": "".join(line + "\n" for line in script.given),

@@ -1,68 +1,127 @@
 //! The clients of a store: one job each, of one of the sorts that there are.
 
+use crate::lines::ScriptError;
 use crate::told::Told;
-use repo_backup::Backup;
-use repo_check::Check;
-use repo_name::{Kind, Name};
+use repo_name::{Instance, Kind, Name};
 use repo_prog::fault_word;
-use repo_prune::{Forget, Prune, Upgrade};
-use repo_restore::{Restore, SnapshotList};
 use repo_session::{
-    CheckFault, Client, Emission, End, Outcome, StepError, lockstep, result_text, thing_word,
+    CheckFault, Client, Emission, End, Outcome, StepError, Who, lockstep, result_text, thing_word,
 };
-use repo_store::{FaultShelf, Kept, MemShelf};
+use repo_store::{FaultShelf, Kept, MemShelf, Shelf};
 use repo_tree::Snapshot;
-use repo_wire::{Ask, Reply, Request, write_request};
+use repo_wire::{Ask, Reply, write_request};
+use repo_world::{AnyClient, Job};
 use std::alloc::{AllocError, Global};
-
-/// A client's job.
-#[derive(Drop)]
-pub enum Core {
-    Backup(Backup),
-    Restore(Restore),
-    List(SnapshotList),
-    Forget(Forget),
-    Prune(Prune),
-    Check(Check),
-    Upgrade(Upgrade),
-}
 
 /// A client, and what it sent last.
 #[derive(Drop)]
 pub struct Seat {
-    pub core: Core,
+    client: AnyClient,
     pub crashed: bool,
     pub last: Vec<u8>,
 }
 
-/// The frame of the request that is pending; empty where none is.
-fn frame_of<C: Client>(alloc: Global, client: &C) -> Result<Vec<u8>, AllocError> {
-    let mut frame = Vec::new(alloc);
-    match client.pending() {
-        Some(request) if request.fits() => write_request(request, &mut frame)?,
-        _ => {}
+/// A client of this identity for a job.
+fn begun(alloc: Global, who: Who, job: Job) -> Result<AnyClient, ScriptError> {
+    match AnyClient::new(alloc, who, job) {
+        Ok(client) => Ok(client),
+        Err(_) => Err(ScriptError::Stopped),
     }
-    Ok(frame)
 }
 
-/// Has a client take a reply, and tells what it gave out.
-fn taken<C: Client>(client: &mut C, reply: &Reply, told: &mut Told) -> Result<(), AllocError> {
-    client.take(reply)?;
-    told.emissions(client.emitted())
-}
-
-/// Brings a client to its end, and tells how many requests that took, and what it gave out.
-fn finished<C: Client>(
+/// A client for a job, on a machine of this name.
+fn client_for(
     alloc: Global,
-    client: &mut C,
-    shelf: &mut Kept<FaultShelf<MemShelf>>,
-    told: &mut Told,
-) -> Result<(), StepError> {
-    let mut out = Vec::new(alloc);
-    let count = lockstep(alloc, client, shelf, &mut out)?;
-    told.number("requests", count)?;
-    told.emissions(out.as_slice())?;
-    Ok(())
+    instance: Instance,
+    host: &str,
+    job: Job,
+) -> Result<AnyClient, ScriptError> {
+    match Who::new(alloc, instance, host, 0) {
+        Ok(who) => begun(alloc, who, job),
+        Err(_) => Err(ScriptError::Memory),
+    }
+}
+
+/// Brings a client to its end in one go: how many requests that took. What it gives out is added to `given`.
+fn finish<S: Shelf>(
+    alloc: Global,
+    client: &mut AnyClient,
+    shelf: &mut S,
+    given: &mut Vec<Emission>,
+) -> Result<u64, StepError> {
+    lockstep(alloc, client, shelf, given)
+}
+
+/// How a job ended, and what it gave out.
+#[derive(Drop)]
+pub struct JobEnd {
+    /// The words for how it ended, and behind them what is at fault, and how.
+    pub text: String,
+    /// The snapshot that it stored.
+    pub stored: Option<Name>,
+    pub given: Vec<Emission>,
+}
+
+/// The words for how a job ended, and behind them what is at fault, and how.
+fn told_end(alloc: Global, outcome: Option<&Outcome>) -> Result<String, AllocError> {
+    let mut text = result_text(alloc, outcome, false)?;
+    if let Some(Outcome::Faults(faults)) = outcome {
+        for fault in faults.as_slice() {
+            text.push(' ')?;
+            text.push_str(thing_word(fault.thing))?;
+            text.push(' ')?;
+            text.push_str(fault_word(fault.what))?;
+        }
+    }
+    Ok(text)
+}
+
+/// The snapshot that a job stored.
+fn stored_name(outcome: Option<&Outcome>) -> Option<Name> {
+    match outcome {
+        Some(Outcome::Stored { name, .. }) => Some(*name),
+        _ => None,
+    }
+}
+
+/// Brings a client to its end.
+fn ended<S: Shelf>(
+    alloc: Global,
+    client: &mut AnyClient,
+    shelf: &mut S,
+) -> Result<JobEnd, ScriptError> {
+    let mut given = Vec::new(alloc);
+    if finish(alloc, client, shelf, &mut given).is_err() {
+        return Err(ScriptError::Stopped);
+    }
+    Ok(JobEnd {
+        text: told_end(alloc, client.outcome())?,
+        stored: stored_name(client.outcome()),
+        given,
+    })
+}
+
+/// The same of a client that is no more then. A client is dear to drop: it is done here alone, with nothing else alive.
+fn spent<S: Shelf>(
+    alloc: Global,
+    mut client: AnyClient,
+    shelf: &mut S,
+) -> Result<JobEnd, ScriptError> {
+    ended(alloc, &mut client, shelf)
+}
+
+/// Does a job at a shelf, on a machine of this name.
+pub fn do_job<S: Shelf>(
+    alloc: Global,
+    instance: Instance,
+    host: &str,
+    job: Job,
+    shelf: &mut S,
+) -> Result<JobEnd, ScriptError> {
+    match client_for(alloc, instance, host, job) {
+        Ok(client) => spent(alloc, client, shelf),
+        Err(error) => Err(error),
+    }
 }
 
 /// The word for a put.
@@ -101,104 +160,6 @@ fn ask_word(ask: &Ask) -> &'static str {
     }
 }
 
-impl Core {
-    /// What the job is called.
-    pub fn role(&self) -> &'static str {
-        match self {
-            Core::Backup(_) => "backup",
-            Core::Restore(_) => "restore",
-            Core::List(_) => "list",
-            Core::Forget(_) => "forget",
-            Core::Prune(_) => "prune",
-            Core::Check(_) => "check",
-            Core::Upgrade(_) => "upgrade",
-        }
-    }
-
-    /// How it ended.
-    pub fn outcome(&self) -> Option<&Outcome> {
-        match self {
-            Core::Backup(backup) => backup.outcome(),
-            Core::Restore(restore) => restore.outcome(),
-            Core::List(list) => list.outcome(),
-            Core::Forget(forget) => forget.outcome(),
-            Core::Prune(prune) => prune.outcome(),
-            Core::Check(check) => check.outcome(),
-            Core::Upgrade(upgrade) => upgrade.outcome(),
-        }
-    }
-
-    /// The request that is pending.
-    fn pending(&self) -> Option<&Request> {
-        match self {
-            Core::Backup(backup) => backup.pending(),
-            Core::Restore(restore) => restore.pending(),
-            Core::List(list) => list.pending(),
-            Core::Forget(forget) => forget.pending(),
-            Core::Prune(prune) => prune.pending(),
-            Core::Check(check) => check.pending(),
-            Core::Upgrade(upgrade) => upgrade.pending(),
-        }
-    }
-
-    /// The word for the request that is pending.
-    pub fn pending_word(&self) -> Option<&'static str> {
-        self.pending().map(|request| ask_word(&request.ask))
-    }
-
-    /// Its frame; empty where none is.
-    pub fn frame(&self, alloc: Global) -> Result<Vec<u8>, AllocError> {
-        match self {
-            Core::Backup(backup) => frame_of(alloc, backup),
-            Core::Restore(restore) => frame_of(alloc, restore),
-            Core::List(list) => frame_of(alloc, list),
-            Core::Forget(forget) => frame_of(alloc, forget),
-            Core::Prune(prune) => frame_of(alloc, prune),
-            Core::Check(check) => frame_of(alloc, check),
-            Core::Upgrade(upgrade) => frame_of(alloc, upgrade),
-        }
-    }
-
-    /// Takes a reply, and tells what it gave out.
-    pub fn take(&mut self, reply: &Reply, told: &mut Told) -> Result<(), AllocError> {
-        match self {
-            Core::Backup(backup) => taken(backup, reply, told),
-            Core::Restore(restore) => taken(restore, reply, told),
-            Core::List(list) => taken(list, reply, told),
-            Core::Forget(forget) => taken(forget, reply, told),
-            Core::Prune(prune) => taken(prune, reply, told),
-            Core::Check(check) => taken(check, reply, told),
-            Core::Upgrade(upgrade) => taken(upgrade, reply, told),
-        }
-    }
-
-    /// Brings the job to its end in one go.
-    pub fn finish(
-        &mut self,
-        alloc: Global,
-        shelf: &mut Kept<FaultShelf<MemShelf>>,
-        told: &mut Told,
-    ) -> Result<(), StepError> {
-        match self {
-            Core::Backup(backup) => finished(alloc, backup, shelf, told),
-            Core::Restore(restore) => finished(alloc, restore, shelf, told),
-            Core::List(list) => finished(alloc, list, shelf, told),
-            Core::Forget(forget) => finished(alloc, forget, shelf, told),
-            Core::Prune(prune) => finished(alloc, prune, shelf, told),
-            Core::Check(check) => finished(alloc, check, shelf, told),
-            Core::Upgrade(upgrade) => finished(alloc, upgrade, shelf, told),
-        }
-    }
-
-    /// The name of the snapshot that it stored.
-    pub fn stored(&self) -> Option<Name> {
-        match self.outcome() {
-            Some(Outcome::Stored { name, .. }) => Some(*name),
-            _ => None,
-        }
-    }
-}
-
 /// The name that an end tells of.
 fn end_name(end: &End) -> Option<Name> {
     match end {
@@ -230,10 +191,59 @@ fn tell_fault(alloc: Global, fault: &CheckFault, told: &mut Told) -> Result<(), 
 }
 
 impl Seat {
+    /// A client that sent nothing yet.
+    pub fn new(alloc: Global, client: AnyClient) -> Seat {
+        Seat {
+            client,
+            crashed: false,
+            last: Vec::new(alloc),
+        }
+    }
+
+    /// The word for the request that is pending.
+    pub fn pending_word(&self) -> Option<&'static str> {
+        self.client.pending().map(|request| ask_word(&request.ask))
+    }
+
+    /// The frame of that request; empty where none is.
+    pub fn frame(&self, alloc: Global) -> Result<Vec<u8>, AllocError> {
+        let mut frame = Vec::new(alloc);
+        match self.client.pending() {
+            Some(request) if request.fits() => write_request(request, &mut frame)?,
+            _ => {}
+        }
+        Ok(frame)
+    }
+
+    /// Takes a reply, and tells what it gave out.
+    pub fn take(&mut self, reply: &Reply, told: &mut Told) -> Result<(), AllocError> {
+        self.client.take(reply)?;
+        told.emissions(self.client.emitted())
+    }
+
+    /// Brings the job to its end in one go, and tells how many requests that took, and what it gave out.
+    pub fn finish(
+        &mut self,
+        alloc: Global,
+        shelf: &mut Kept<FaultShelf<MemShelf>>,
+        told: &mut Told,
+    ) -> Result<(), StepError> {
+        let mut given = Vec::new(alloc);
+        let count = finish(alloc, &mut self.client, shelf, &mut given)?;
+        told.number("requests", count)?;
+        told.emissions(given.as_slice())?;
+        Ok(())
+    }
+
+    /// The name of the snapshot that it stored.
+    pub fn stored(&self) -> Option<Name> {
+        stored_name(self.client.outcome())
+    }
+
     /// Tells the rows of a list, the names that were forgotten, the faults that were found, or the name that an outcome
     /// is about.
     fn tell_names(&self, alloc: Global, told: &mut Told) -> Result<(), AllocError> {
-        let named = match self.core.outcome() {
+        let named = match self.client.outcome() {
             Some(Outcome::Listed(rows)) => {
                 for (name, snapshot) in rows.as_slice() {
                     tell_row(alloc, name, snapshot, told)?;
@@ -264,8 +274,8 @@ impl Seat {
 
     /// Tells how the job stands: its result, and what that is about.
     pub fn tell(&self, alloc: Global, told: &mut Told) -> Result<(), AllocError> {
-        let result = result_text(alloc, self.core.outcome(), self.crashed)?;
-        told.pair(self.core.role(), result.as_str())?;
+        let result = result_text(alloc, self.client.outcome(), self.crashed)?;
+        told.pair(self.client.role().word(), result.as_str())?;
         self.tell_names(alloc, told)
     }
 }

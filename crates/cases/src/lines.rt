@@ -15,6 +15,9 @@ pub enum ScriptError {
     Line,
     #[error("out of memory")]
     Memory,
+    /// A kernel didn't come to its end.
+    #[error("the kernel stopped")]
+    Stopped,
 }
 
 impl From<AllocError> for ScriptError {

@@ -8,23 +8,40 @@ use std::io::Read;
 
 mod clients;
 mod commands;
+mod framing;
+mod halves;
+mod keeping;
+mod kernels;
 mod lines;
+mod random;
 mod script;
 mod spoiling;
+mod stored;
 mod stores;
 mod streams;
 mod told;
 mod worlds;
 
+/// Runs a line, and prints what came of it.
+fn run_line(rt: &HostRuntime, script: &mut Script, line: &str) -> Result<()> {
+    script.take(rt, line)?;
+    let told = script.told.as_str();
+    print!(rt; "{told}")?;
+    script.told.clear();
+    Ok(())
+}
+
+/// Runs the lines of a text.
+fn run_lines(rt: &HostRuntime, text: &str) -> Result<()> {
+    let mut script = Script::new(rt.alloc());
+    for line in text.lines() {
+        run_line(rt, &mut script, line)?;
+    }
+    Ok(())
+}
+
 fn main(rt: HostRuntime) -> Result<()> {
     let mut text = String::new(rt.alloc());
     rt.reader().read_to_string(&mut text)?;
-    let mut script = Script::new(rt.alloc());
-    for line in text.as_str().lines() {
-        script.take(&rt, line)?;
-        let told = script.told.as_str();
-        print!(rt; "{told}")?;
-        script.told.clear();
-    }
-    Ok(())
+    run_lines(&rt, text.as_str())
 }

@@ -1,6 +1,7 @@
 //! A script: each line adds to what a server says, to an input or to entries, or it is run.
 
 use crate::commands::{Server, run_command, skipped};
+use crate::kernels::run_kernel;
 use crate::lines::{ScriptError, add_dirs, add_files, bytes, cut, dir, file, number};
 use crate::spoiling::spoil;
 use crate::streams::{Inlet, Outlet};
@@ -170,7 +171,7 @@ impl Script {
                 let entries = mem::replace(&mut self.entries, Vec::new(self.alloc));
                 self.world.start(rest, entries, told)?;
             }
-            "old" => self.world.start_old(rest)?,
+            "old" => self.world.start_old(rest, told)?,
             "step" => {
                 self.world.step(rest, told)?;
             }
@@ -204,6 +205,7 @@ impl Script {
             "#" => self.told.line(line)?,
             "vault" => self.words(rt, line)?,
             "ask" => self.ask(rest)?,
+            "kernel" => run_kernel(self.alloc, rest, &mut self.told)?,
             _ => self.command(rt, line)?,
         }
         Ok(())

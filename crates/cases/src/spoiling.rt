@@ -1,14 +1,13 @@
 //! Checks of a store in which one object is spoiled: each of its bytes is turned, one after another, and then it is cut
 //! at each length.
 
+use crate::clients::do_job;
 use crate::lines::{ScriptError, cut, kind, name};
 use crate::stores::{Store, given};
 use crate::told::Told;
-use repo_check::Check;
 use repo_name::{Bytes, Instance, Kind, Name, name_of};
-use repo_prog::fault_word;
-use repo_session::{CheckFault, Client, Outcome, Who, lockstep, result_text, thing_word};
 use repo_store::Shelf;
+use repo_world::Job;
 use std::alloc::{AllocError, Global};
 
 /// A way in which checks ended, and how often.
@@ -30,31 +29,10 @@ struct Spoiling {
     ends: Vec<End>,
 }
 
-/// Adds what is at fault, and how, to the words for how a check ended.
-fn add_faults(text: &mut String, faults: &[CheckFault]) -> Result<(), AllocError> {
-    for fault in faults {
-        text.push(' ')?;
-        text.push_str(thing_word(fault.thing))?;
-        text.push(' ')?;
-        text.push_str(fault_word(fault.what))?;
-    }
-    Ok(())
-}
-
 /// How a check of a store ends: its words, and what is at fault.
 fn checked(alloc: Global, store: &mut Store) -> Result<String, ScriptError> {
-    let Ok(who) = Who::new(alloc, Instance([0; 16]), "play", 0) else {
-        return Err(ScriptError::Memory);
-    };
-    let (mut check, mut out) = (Check::new(alloc, who), Vec::new(alloc));
-    if lockstep(alloc, &mut check, &mut store.shelf, &mut out).is_err() {
-        return Err(ScriptError::Memory);
-    }
-    let mut text = result_text(alloc, check.outcome(), false)?;
-    if let Some(Outcome::Faults(faults)) = check.outcome() {
-        add_faults(&mut text, faults.as_slice())?;
-    }
-    Ok(text)
+    let instance = Instance([0; 16]);
+    Ok(do_job(alloc, instance, "play", Job::Check, &mut store.shelf)?.text)
 }
 
 /// The object of this kind and name.

@@ -1,17 +1,15 @@
 //! One store, and the clients that were started at it.
 
-use crate::clients::{Core, Seat};
+use crate::clients::Seat;
 use crate::lines::{ScriptError, cut, name, number, policy};
 use crate::stores::{Store, reply_of};
 use crate::told::Told;
-use repo_backup::{Backup, BackupError};
-use repo_check::Check;
 use repo_name::{Instance, Name, Names};
-use repo_prune::{Choice, Forget, ForgetError, Prune, Upgrade};
-use repo_restore::{Restore, SnapshotList};
+use repo_prune::Choice;
 use repo_session::{Who, WhoError};
 use repo_tree::Entry;
-use repo_wire::Say;
+use repo_wire::{Reply, Say};
+use repo_world::{AnyClient, Entries, Job, NotBegun, Refusal};
 use std::alloc::Global;
 
 /// The most steps that one line takes.
@@ -25,15 +23,33 @@ pub struct World {
     seats: Vec<Seat>,
 }
 
-/// The number of the reason why entries are refused.
-fn reason(error: BackupError) -> Result<u64, ScriptError> {
-    match error {
-        BackupError::BadPath => Ok(1),
-        BackupError::Order => Ok(2),
-        BackupError::TooDeep => Ok(3),
-        BackupError::TooLarge => Ok(4),
-        BackupError::Memory => Err(ScriptError::Memory),
+/// The number of the reason why a client isn't begun.
+fn reason(refusal: Refusal) -> u64 {
+    match refusal {
+        Refusal::BadPath | Refusal::NoPolicy => 1,
+        Refusal::Order => 2,
+        Refusal::TooDeep => 3,
+        Refusal::TooLarge => 4,
     }
+}
+
+/// Tells why a client isn't begun.
+fn tell_refusal(error: NotBegun, told: &mut Told) -> Result<(), ScriptError> {
+    match error {
+        NotBegun::Refused(refusal) => Ok(told.number("start refused", reason(refusal))?),
+        NotBegun::Memory => Err(ScriptError::Memory),
+    }
+}
+
+/// Tells the reply that a frame is, which nobody awaits.
+fn tell_late(alloc: Global, frame: &[u8], told: &mut Told) -> Result<(), ScriptError> {
+    let reply = reply_of(alloc, frame)?;
+    let written = match &reply.say {
+        Say::Done => told.line("late done"),
+        Say::Refused(code) => told.number("late refused", u64::from(code.number())),
+        _ => told.line("late other"),
+    };
+    Ok(written?)
 }
 
 impl World {
@@ -65,13 +81,31 @@ impl World {
     }
 
     /// Seats a client.
-    fn seat_core(&mut self, core: Core) -> Result<(), ScriptError> {
-        self.seats.push(Seat {
-            core,
-            crashed: false,
-            last: Vec::new(self.alloc),
-        })?;
+    fn seat_client(&mut self, client: AnyClient) -> Result<(), ScriptError> {
+        self.seats.push(Seat::new(self.alloc, client))?;
         Ok(())
+    }
+
+    /// Seats a client for a job, or tells why it isn't begun.
+    fn begin(&mut self, who: Who, job: Job, told: &mut Told) -> Result<(), ScriptError> {
+        match AnyClient::new(self.alloc, who, job) {
+            Ok(client) => self.seat_client(client),
+            Err(error) => tell_refusal(error, told),
+        }
+    }
+
+    /// The job that these words start, but for a backup.
+    fn job(&mut self, word: &str, rest: &str) -> Result<Job, ScriptError> {
+        match word {
+            "list" => Ok(Job::List),
+            "restore" => Ok(Job::Restore(self.snapshot(rest)?)),
+            "forget" => Ok(Job::Forget(self.chosen(rest)?)),
+            "keep" => Ok(Job::Forget(Choice::Keep(policy(rest)?))),
+            "prune" => Ok(Job::Prune),
+            "check" => Ok(Job::Check),
+            "upgrade" => Ok(Job::Upgrade),
+            _ => Err(ScriptError::Line),
+        }
     }
 
     fn start_backup(
@@ -82,13 +116,13 @@ impl World {
     ) -> Result<(), ScriptError> {
         let (host, time) = cut(words);
         let who = self.who(host, number(time)?)?;
-        match Backup::new(self.alloc, who, entries) {
-            Ok(backup) => self.seat_core(Core::Backup(backup)),
-            Err(error) => {
-                told.number("start refused", reason(error)?)?;
-                Ok(())
-            }
-        }
+        self.begin(who, Job::Backup(Entries::of(entries)), told)
+    }
+
+    /// Starts a job that needs no host.
+    fn start_job(&mut self, job: Job, told: &mut Told) -> Result<(), ScriptError> {
+        let who = self.who("play", 0)?;
+        self.begin(who, job, told)
     }
 
     /// The snapshot that a word is for: a name, or the number of the client that stored it.
@@ -96,18 +130,7 @@ impl World {
         if word.len() == 64 {
             return name(word);
         }
-        self.seat(word)?.core.stored().ok_or(ScriptError::Line)
-    }
-
-    fn start_forget(&mut self, choice: Choice, told: &mut Told) -> Result<(), ScriptError> {
-        let who = self.who("play", 0)?;
-        match Forget::new(self.alloc, who, choice) {
-            Ok(forget) => self.seat_core(Core::Forget(forget)),
-            Err(ForgetError::NoPolicy) => {
-                told.number("start refused", 1)?;
-                Ok(())
-            }
-        }
+        self.seat(word)?.stored().ok_or(ScriptError::Line)
     }
 
     /// The snapshots that these words are for.
@@ -119,17 +142,13 @@ impl World {
         Ok(Choice::Names(Names::of(names)))
     }
 
-    /// Starts an upgrade, of a client that is old or isn't.
-    fn start_upgrade(&mut self, old: bool) -> Result<(), ScriptError> {
-        let who = self.who("play", 0)?;
-        let who = if old { who.as_version_1() } else { who };
-        self.seat_core(Core::Upgrade(Upgrade::new(self.alloc, who)))
-    }
-
     /// Starts an old client, by a line behind the word that says so: `start upgrade`.
-    pub fn start_old(&mut self, words: &str) -> Result<(), ScriptError> {
+    pub fn start_old(&mut self, words: &str, told: &mut Told) -> Result<(), ScriptError> {
         match words {
-            "start upgrade" => self.start_upgrade(true),
+            "start upgrade" => {
+                let who = self.who("play", 0)?.as_version_1();
+                self.begin(who, Job::Upgrade, told)
+            }
             _ => Err(ScriptError::Line),
         }
     }
@@ -143,50 +162,33 @@ impl World {
         told: &mut Told,
     ) -> Result<(), ScriptError> {
         let (word, rest) = cut(words);
-        match word {
-            "backup" => self.start_backup(rest, entries, told),
-            "list" => {
-                let who = self.who("play", 0)?;
-                self.seat_core(Core::List(SnapshotList::new(self.alloc, who)))
-            }
-            "restore" => {
-                let snapshot = self.snapshot(rest)?;
-                let who = self.who("play", 0)?;
-                self.seat_core(Core::Restore(Restore::new(self.alloc, who, snapshot)))
-            }
-            "forget" => {
-                let choice = self.chosen(rest)?;
-                self.start_forget(choice, told)
-            }
-            "prune" => {
-                let who = self.who("play", 0)?;
-                self.seat_core(Core::Prune(Prune::new(self.alloc, who)))
-            }
-            "check" => {
-                let who = self.who("play", 0)?;
-                self.seat_core(Core::Check(Check::new(self.alloc, who)))
-            }
-            "keep" => self.start_forget(Choice::Keep(policy(rest)?), told),
-            "upgrade" => self.start_upgrade(false),
-            _ => Err(ScriptError::Line),
+        if word == "backup" {
+            return self.start_backup(rest, entries, told);
         }
+        let job = self.job(word, rest)?;
+        self.start_job(job, told)
+    }
+
+    /// The store's reply to a client's frame; both are told.
+    fn answer(&mut self, frame: &[u8], told: &mut Told) -> Result<Reply, ScriptError> {
+        told.bytes(">", frame)?;
+        let said = self.store.reply(frame)?;
+        told.bytes("<", said.as_slice())?;
+        reply_of(self.alloc, said.as_slice())
     }
 
     /// Has a client's request answered. It says whether there was one.
     pub fn step(&mut self, word: &str, told: &mut Told) -> Result<bool, ScriptError> {
         let alloc = self.alloc;
         let seat = self.seat(word)?;
-        let frame = seat.core.frame(alloc)?;
+        let frame = seat.frame(alloc)?;
         if seat.crashed || frame.is_empty() {
             return Ok(false);
         }
-        told.bytes(">", frame.as_slice())?;
-        let said = self.store.reply(frame.as_slice())?;
-        told.bytes("<", said.as_slice())?;
-        let reply = reply_of(alloc, said.as_slice())?;
+        let reply = self.answer(frame.as_slice(), told)?;
         let seat = self.seat(word)?;
         seat.last = frame;
-        seat.core.take(&reply, told)?;
+        seat.take(&reply, told)?;
         Ok(true)
     }
 
@@ -204,7 +206,7 @@ impl World {
     pub fn until(&mut self, words: &str, told: &mut Told) -> Result<(), ScriptError> {
         let (place, word) = cut(words);
         for _ in 0..STEPS {
-            if self.seat(place)?.core.pending_word() == Some(word) || !self.step(place, told)? {
+            if self.seat(place)?.pending_word() == Some(word) || !self.step(place, told)? {
                 break;
             }
         }
@@ -227,7 +229,7 @@ impl World {
         if seat.crashed {
             return Ok(());
         }
-        match seat.core.finish(self.alloc, &mut self.store.shelf, told) {
+        match seat.finish(self.alloc, &mut self.store.shelf, told) {
             Ok(()) => self.result(word, told),
             Err(_) => Err(ScriptError::Memory),
         }
@@ -242,15 +244,9 @@ impl World {
 
     /// Has a client's last request answered once more, to nobody.
     pub fn late(&mut self, word: &str, told: &mut Told) -> Result<(), ScriptError> {
-        let alloc = self.alloc;
         let frame = self.seat(word)?.last.clone()?;
         let said = self.store.reply(frame.as_slice())?;
-        match reply_of(alloc, said.as_slice())?.say {
-            Say::Done => told.line("late done")?,
-            Say::Refused(code) => told.number("late refused", u64::from(code.number()))?,
-            _ => told.line("late other")?,
-        }
-        Ok(())
+        tell_late(self.alloc, said.as_slice(), told)
     }
 
     /// Crashes a client.

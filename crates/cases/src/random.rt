@@ -1,6 +1,6 @@
 //! Random bytes, and their chunks by the default parameters.
 
-use anyhow::Result;
+use crate::lines::ScriptError;
 use repo_chunk::{Params, report_cuts};
 use repo_name::{Name, name_of};
 use std::alloc::{AllocError, Global};
@@ -8,8 +8,11 @@ use std::alloc::{AllocError, Global};
 /// The least and the greatest length of a chunk, and the zeros where one ends.
 const DEFAULT: (u64, u64, u64) = (524_288, 8_388_608, 20);
 
+/// How many of the last bytes are named.
+const LAST: usize = 64;
+
 /// So many bytes of a linear congruential generator, four of each state.
-pub(crate) fn random_bytes(alloc: Global, size: usize) -> Result<Vec<u8>, AllocError> {
+pub fn random_bytes(alloc: Global, size: usize) -> Result<Vec<u8>, AllocError> {
     let mut bytes = Vec::with_capacity(alloc, size)?;
     let mut state = 1u64;
     for _ in 0..size / 4 {
@@ -21,12 +24,22 @@ pub(crate) fn random_bytes(alloc: Global, size: usize) -> Result<Vec<u8>, AllocE
     Ok(bytes)
 }
 
-/// The name of the lengths of the chunks of these bytes, eight bytes each.
-pub(crate) fn chunked(alloc: Global, bytes: &[u8]) -> Result<Name> {
+/// The name of the last of so many random bytes.
+pub fn last_random(alloc: Global, size: usize) -> Result<Name, ScriptError> {
+    let bytes = random_bytes(alloc, size)?;
+    Ok(name_of(&bytes[bytes.len().saturating_sub(LAST)..]))
+}
+
+/// The name of the lengths of the chunks of so many random bytes, eight bytes each.
+pub fn chunked(alloc: Global, size: usize) -> Result<Name, ScriptError> {
     let (least, greatest, zeros) = DEFAULT;
+    let Ok(params) = Params::new(least, greatest, zeros) else {
+        return Err(ScriptError::Stopped);
+    };
+    let bytes = random_bytes(alloc, size)?;
     let mut lengths = Vec::new(alloc);
     let mut kept = Ok(());
-    report_cuts(Params::new(least, greatest, zeros)?, &[bytes], |length| {
+    report_cuts(params, &[bytes.as_slice()], |length| {
         if kept.is_ok() {
             kept = lengths.extend_from_slice(&length.to_be_bytes());
         }

@@ -1,6 +1,6 @@
 //! Snapshots of several hosts, and which of them a policy keeps.
 
-use anyhow::Result;
+use crate::lines::ScriptError;
 use repo_name::{Name, Text, Token, name_of};
 use repo_prune::{Policy, keep};
 use repo_tree::Snapshot;
@@ -50,7 +50,7 @@ fn rows_of(alloc: Global, count: usize) -> Result<Vec<(Name, Snapshot)>, AllocEr
 }
 
 /// The name of the last of so many snapshots.
-pub(crate) fn last_row(alloc: Global, count: usize) -> Result<Name> {
+pub fn last_row(alloc: Global, count: usize) -> Result<Name, ScriptError> {
     let rows = rows_of(alloc, count)?;
     match rows.as_slice().last() {
         Some((name, _)) => Ok(*name),
@@ -59,7 +59,7 @@ pub(crate) fn last_row(alloc: Global, count: usize) -> Result<Name> {
 }
 
 /// The name of the names of those that the policy keeps, one behind another.
-pub(crate) fn kept(alloc: Global, count: usize) -> Result<Name> {
+pub fn kept(alloc: Global, count: usize) -> Result<Name, ScriptError> {
     let rows = rows_of(alloc, count)?;
     let mut bytes = Vec::new(alloc);
     for name in keep(alloc, rows.as_slice(), &POLICY)?.as_slice() {

@@ -1,5 +1,6 @@
 //! A stream of Put frames, fed in pieces and read.
 
+use crate::lines::ScriptError;
 use repo_name::{Bytes, Instance, Kind, Name, Token, name_of};
 use repo_wire::{Ask, FrameReader, Request, WireError, write_request};
 use std::alloc::{AllocError, Global};
@@ -48,13 +49,21 @@ fn feed_frame(reader: &mut FrameReader, frame: &[u8], ends: &mut Vec<u8>) -> Res
     Ok(())
 }
 
-/// The name of the last bytes of all objects read from a stream of about so many bytes.
-pub(crate) fn streamed(alloc: Global, size: usize) -> Result<Name, WireError> {
-    let frame = put_frame(alloc, size.min(OBJECT))?;
+/// The name of the last bytes of all objects in a stream of these frames.
+fn ends_of(alloc: Global, frame: &[u8], count: usize) -> Result<Name, WireError> {
     let mut reader = FrameReader::new(alloc);
     let mut ends = Vec::new(alloc);
-    for _ in 0..size.div_ceil(OBJECT) {
-        feed_frame(&mut reader, frame.as_slice(), &mut ends)?;
+    for _ in 0..count {
+        feed_frame(&mut reader, frame, &mut ends)?;
     }
     Ok(name_of(&ends))
+}
+
+/// The name of the last bytes of all objects read from a stream of about so many bytes.
+pub fn streamed(alloc: Global, size: usize) -> Result<Name, ScriptError> {
+    let frame = put_frame(alloc, size.min(OBJECT))?;
+    match ends_of(alloc, frame.as_slice(), size.div_ceil(OBJECT)) {
+        Ok(name) => Ok(name),
+        Err(_) => Err(ScriptError::Stopped),
+    }
 }

@@ -1,0 +1,127 @@
+"""The kernels that are timed, each at a tiny size: digests of what they make, by the formats, the chunk rule and the jobs."""
+
+from checks import Check
+from chunks import chunks
+from frames import REQUESTS, Message, Stream, u64
+from jobs import Backup, Client, Forget, Restore, kept
+from naming import name_of
+from prunes import Prune
+from store import Store
+from texts import config_text, pack_of
+
+INSTANCE = bytes([1]) * 16
+SIZE = 1000
+# The default config: the lengths of a chunk, the zeros where one ends, and the bytes of a pack.
+RULE, PACK = (524_288, 8_388_608, 20), 16_777_216
+# Of the store of small files: the bytes of a file, how many packs it is to have, about, and the least bytes of one.
+FILE, PACKS, LEAST_PACK = 64, 50, 1024
+HOSTS = ["desktop", "laptop", "mail", "phone", "server"]
+SPAN, LAST, DAILY = 100_000_000, 10, 30
+
+
+def plain(size):
+    """Bytes of which each is five times the one before it, and seventeen."""
+    made, byte = bytearray(), 1
+    for _ in range(size):
+        made.append(byte)
+        byte = (byte * 5 + 17) % 256
+    return bytes(made)
+
+
+def random(size):
+    """Bytes of a linear congruential generator, four of each state."""
+    state, made = 1, b""
+    for _ in range(size // 4):
+        state = (state * 6364136223846793005 + 1442695040888963407) % 2**64
+        made += (state >> 32).to_bytes(4, "big")
+    return made
+
+
+def last_of_frame(size):
+    """The last byte of an object, read from the frame that puts it."""
+    frame = Message(INSTANCE, 1, ("put", 1, "pack", bytes([7]) * 32, bytes([7]) * size)).frame()
+    return Stream(frame, REQUESTS).next().what[-1][-1:]
+
+
+def lengths(data):
+    """The lengths of the chunks of some bytes."""
+    return b"".join(u64(len(chunk)) for chunk in chunks(data, *RULE))
+
+
+def rows(count):
+    """Snapshots: each one's name, host, time and token."""
+    for number in range(count):
+        name = name_of(u64(number))
+        yield name, HOSTS[name[0] % len(HOSTS)], int.from_bytes(name[1:5], "big") % SPAN, 1
+
+
+def new_store(pack):
+    store = Store()
+    store.config = config_text(*RULE, pack)
+    return store
+
+
+def ended(store, job):
+    """How a client of a store ends, and the last piece that it gave out."""
+    client, last = Client(job, INSTANCE, "bench", 0), b""
+    while client.pending:
+        request = client.pending
+        client.take(Message(request.instance, request.sequence, store.answer(request.what)))
+        for word, what in client.emitted:
+            last = what if word == "piece" else last
+    return client.outcome, last
+
+
+def entries(count, step):
+    """Of so many files each that many steps on, in folders of a thousand."""
+    for number in range(count):
+        folder = f"{number // 1000:05}"
+        if number % 1000 == 0:
+            yield [folder], None
+        if number % step == 0:
+            yield [folder, f"{number:08}"], b"%064d" % number
+
+
+def half_forgotten(count):
+    """A store with a backup of every other one of so many files, after one of all was forgotten, and the snapshot's name."""
+    store = new_store(max(LEAST_PACK, count * FILE // PACKS))
+    first, _ = ended(store, Backup(list(entries(count, 1))))
+    second, _ = ended(store, Backup(list(entries(count, 2))))
+    ended(store, Forget([first.name]))
+    return store, second.name
+
+
+def told(script, word, digest):
+    """A kernel's line, and what it prints."""
+    script.line("kernel", word, SIZE)
+    script.prints(word, SIZE, digest.hex())
+
+
+def alone(script):
+    """Those that need no store."""
+    script.heading("kernels that need no store")
+    told(script, "name", name_of(plain(SIZE)))
+    told(script, "pack", name_of(pack_of([("content", plain(SIZE))])[0]))
+    told(script, "frames", name_of(last_of_frame(SIZE)))
+    told(script, "random", name_of(random(SIZE)[-64:]))
+    told(script, "chunk", name_of(lengths(random(SIZE))))
+    snapshots = list(rows(SIZE))
+    told(script, "rows", snapshots[-1][0])
+    told(script, "keep", name_of(b"".join(sorted(kept(snapshots, LAST, DAILY)))))
+
+
+def over_a_store(script):
+    """Those that have clients of a store."""
+    script.heading("kernels with a store")
+    store = new_store(PACK)
+    stored, _ = ended(store, Backup([(["random"], random(SIZE))]))
+    _, last = ended(store, Restore(stored.name))
+    told(script, "backup", stored.name)
+    told(script, "restore", name_of(last))
+    told(script, "forget", half_forgotten(SIZE)[1])
+    for word, job in (("prune", Prune()), ("check", Check())):
+        outcome, _ = ended(half_forgotten(SIZE)[0], job)
+        told(script, word, name_of(outcome.text.encode()))
+
+
+ALL = [alone, over_a_store]
