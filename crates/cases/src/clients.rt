@@ -10,7 +10,7 @@ use repo_session::{
 use repo_store::{FaultShelf, Kept, MemShelf, Shelf};
 use repo_tree::Snapshot;
 use repo_wire::{Ask, Reply, write_request};
-use repo_world::{AnyClient, Job};
+use repo_world::{AnyClient, Job, NotBegun};
 use std::alloc::{AllocError, Global};
 
 /// A client, and what it sent last.
@@ -25,7 +25,8 @@ pub struct Seat {
 fn begun(alloc: Global, who: Who, job: Job) -> Result<AnyClient, ScriptError> {
     match AnyClient::new(alloc, who, job) {
         Ok(client) => Ok(client),
-        Err(_) => Err(ScriptError::Stopped),
+        Err(NotBegun::Refused(_)) => Err(ScriptError::Stopped),
+        Err(NotBegun::Memory) => Err(ScriptError::Memory),
     }
 }
 
@@ -92,7 +93,7 @@ fn ended<S: Shelf>(
 ) -> Result<JobEnd, ScriptError> {
     let mut given = Vec::new(alloc);
     if finish(alloc, client, shelf, &mut given).is_err() {
-        return Err(ScriptError::Stopped);
+        return Err(ScriptError::Memory);
     }
     Ok(JobEnd {
         text: told_end(alloc, client.outcome())?,
