@@ -12,6 +12,7 @@ sys.dont_write_bytecode = True
 import check_cases
 import command_cases
 import damage_cases
+import event_cases
 import folder_cases
 import forget_cases
 import job_cases
@@ -35,7 +36,7 @@ PARTS = [command_cases.locks, command_cases.refresh, command_cases.unlock, comma
 def files():
     """The files, and what each holds."""
     script = Script()
-    for part in PARTS + kernel_cases.ALL:
+    for part in PARTS + event_cases.ALL + kernel_cases.ALL:
         part(script)
     asked, said = vault_frames.stream()
     return {CRATES / "cases/stdin": "".join(line + "\n" for line in script.given),

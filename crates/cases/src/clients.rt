@@ -78,7 +78,7 @@ fn told_end(alloc: Global, outcome: Option<&Outcome>) -> Result<String, AllocErr
 }
 
 /// The snapshot that a job stored.
-fn stored_name(outcome: Option<&Outcome>) -> Option<Name> {
+pub fn stored_name(outcome: Option<&Outcome>) -> Option<Name> {
     match outcome {
         Some(Outcome::Stored { name, .. }) => Some(*name),
         _ => None,

@@ -10,6 +10,7 @@ mod clients;
 mod commands;
 mod framing;
 mod halves;
+mod happening;
 mod keeping;
 mod kernels;
 mod lines;

@@ -1,6 +1,7 @@
 //! A script: each line adds to what a server says, to an input or to entries, or it is run.
 
 use crate::commands::{Server, run_command, skipped};
+use crate::happening::run_world;
 use crate::kernels::run_kernel;
 use crate::lines::{ScriptError, add_dirs, add_files, bytes, cut, dir, file, number};
 use crate::spoiling::spoil;
@@ -206,6 +207,10 @@ impl Script {
             "vault" => self.words(rt, line)?,
             "ask" => self.ask(rest)?,
             "kernel" => run_kernel(self.alloc, rest, &mut self.told)?,
+            "world" => {
+                let entries = self.taken_entries();
+                run_world(self.alloc, rest, entries, &mut self.told)?;
+            }
             _ => self.command(rt, line)?,
         }
         Ok(())

@@ -1,0 +1,51 @@
+"""Cases of a world of its own, whose events happen in two goes: a backup, and a restore of what it stored; and what the world shows of them."""
+
+from frames import Message
+from jobs import Backup, Client, Restore
+from lines import shown
+from store import Store
+from texts import config_text
+
+HOST, TIME = "a", 5
+
+
+def ended(store, job):
+    """A client that was brought to its end, how many exchanges that took, and what it gave out."""
+    client, count, given = Client(job, bytes(16), HOST, TIME), 0, []
+    while client.pending:
+        client.take(Message(client.instance, client.sequence, store.answer(client.pending.what)))
+        given += client.emitted
+        count += 1
+    return client, count, given
+
+
+def shows(script, heading, entries):
+    """A backup and a restore to their ends: how each ended, the snapshot's bytes, and what the restore gave out."""
+    script.heading(heading)
+    script.take_in(entries)
+    script.entries = []
+    store = Store()
+    store.config = config_text()
+    backup, first, _ = ended(store, Backup(entries))
+    name = backup.outcome.name
+    restore, second, given = ended(store, Restore(name))
+    script.line("world", first, second)
+    script.prints(backup.outcome.text)
+    script.prints("snapshot", shown(store.objects["snapshot"][name]))
+    script.prints(restore.outcome.text)
+    script.parts(given)
+
+
+def worlds(script):
+    """Folders of all sorts, and a backup of which too little happens."""
+    shows(script, "events of a world: an empty folder", [])
+    shows(script, "events of a world: a file", [(["x"], b"abc")])
+    shows(script, "events of a world: files in directories, one in chunks, one without bytes",
+          [(["d"], None), (["d", "e"], None), (["d", "e", "f"], bytes(range(256)) * 3), (["d", "g"], b""), (["h"], b"de")])
+    script.heading("events of a world: of a backup three exchanges happen")
+    script.line("file", "x", "616263")
+    script.line("world", 3, 0)
+    script.prints("running")
+
+
+ALL = [worlds]
