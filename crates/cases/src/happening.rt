@@ -7,11 +7,11 @@ use crate::clients::stored_name;
 use crate::lines::{ScriptError, cut, number};
 use crate::told::Told;
 use repo_chunk::Params;
-use repo_name::{Host, Instance, Kind, Name};
+use repo_name::{Instance, Kind, Name};
 use repo_session::result_text;
 use repo_store::MemShelf;
 use repo_tree::{Config, Entry};
-use repo_world::{Entries, Event, Job, World};
+use repo_world::{Entries, Event, Host, Job, World};
 use std::alloc::Global;
 
 /// A config with small numbers.

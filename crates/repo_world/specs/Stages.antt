@@ -59,7 +59,7 @@ pub record WorldStands {S : Type 0} (Honest : S → Type 0) (store : S → Store
 abbrev pub IsSafely : World → Type 0
 IsSafely w = HasNoClash w → IsSafe w × HandedIsOne w
 
--- a device that was this one failed: its count of failures rose, or stands at its greatest
+-- a device of this sort failed: its count of failures is above this one's, or stands at its greatest
 abbrev pub HasFailedSince : {S : Type 0} → (S → ℕ) → S → Type 0
 HasFailedSince {S} failed old = (device : S) × ((failed old < failed device) ⊎ (failed device ≡ greatest_count))
 
