@@ -8,8 +8,8 @@ use Rattle.repo_pack.specs.PackLayout.{Item, item_of}
 use Rattle.repo_tree.specs.Spelling.{dir_entry, file_entry}
 use Rattle.repo_backup.specs.Folders.{Folder, nothing, file_then, dir_then, joined, entries_of, tree_of, blobs_below}
 use Rattle.repo_session.specs.Feeds.{Fed, fed_dir, fed_file, fed_bytes, fed_close, fed_end, fed_abandon}
-use Rattle.repo_backup.specs.Items.{Feeding, Place, after, place_of, MayTake, MayGrow, AreTaken}
-use Rattle.repo_backup.specs.ItemLaws.{EndIsLast, ItemsLead, MadeGrows, MadeOfAll}
+use Rattle.repo_backup.specs.Items.{Feeding, Place, after, place_of, MayTake, MayGrow, NobodyGaveUp, AreTaken}
+use Rattle.repo_backup.specs.ItemLaws.{EndIsLast, GivingUpIsLast, ItemsLead, MadeGrows, MadeOfAll}
 use Rattle.repo_backup.specs.Standings.{both, Around, FileCut, Standing, path_of, entries_at, file_at, place_at, IsCutSoFar, LeadTo, chunk_items, made_below, chunks_made, made_at}
 use Rattle.repo_backup.proofs.Lengthening.{cut_both, entries_more, made_more, outer_path, no_file, no_path, joined_both, none_cut, split_of, last_chunk, last_joined, grown_by, closed_cuts}
 
@@ -136,13 +136,13 @@ module _ (params : Parameters) (lawful : AreLawful params) where
   pub leads_on : (item : Fed) (items : Feeding) (st : Standing) → AreTaken (item ∷ items) → LeadTo params items st → Next params st (place_of (item ∷ items))
   leads_on item items st taken lead =
       let open_still : st.over ≡ false = ap (λ (p : Place). p.over) lead.place ∙ taken.0 in
-      let n = next item st lead.cut open_still (subst (λ p. MayTake p item) (sym lead.place) taken.1) in
+      let n = next item st lead.cut open_still (subst (λ p. MayTake p item) (sym lead.place) taken.2) in
       record { now = n.now; place = n.place ∙ ap (λ p. after p item) lead.place; cut = n.cut; more = n.more; made = n.made }
 
   lead_somewhere : (items : Feeding) → AreTaken items → (st : Standing) × LeadTo params items st
   lead_somewhere [] taken = (record { done = nothing; above = []; file = None; over = false }, record { place = refl; cut = record { done = tt; above = tt; file = tt } })
   lead_somewhere (item ∷ items) taken =
-      let k = lead_somewhere items taken.2 in
+      let k = lead_somewhere items taken.3 in
       let n = leads_on item items k.0 taken k.1 in
       (n.now, record { place = n.place; cut = n.cut })
 
@@ -152,7 +152,7 @@ module _ (params : Parameters) (lawful : AreLawful params) where
       → (now : Standing) × LeadTo params (more ++ items) now × ((blob : Item) → Contains (made_at st) blob → Contains (made_at now) blob)
   made_later [] items st taken lead = (st, lead, λ blob c. c)
   made_later (item ∷ more) items st taken lead =
-      let k = made_later more items st taken.2 lead in
+      let k = made_later more items st taken.3 lead in
       let n = leads_on params lawful item (more ++ items) k.0 taken k.1 in
       (n.now, record { place = n.place; cut = n.cut }, λ blob c. subst (λ l. Contains l blob) (sym n.made) (Contains-append_left (made_at k.0) n.more blob (k.2 blob c)))
 
@@ -163,8 +163,15 @@ over_apart b f t = absurd (cc)
 pub over_last : (more items : Feeding) → AreTaken (more ++ items) → (place_of items).over ≡ true → more ≡ []
 over_last [] items taken over = refl
 over_last (item ∷ more) items taken over =
-    let none = over_last more items taken.2 over in
+    let none = over_last more items taken.3 over in
     absurd (over_apart (place_of (more ++ items)).over taken.0 (ap (λ (m : Feeding). (place_of (m ++ items)).over) none ∙ over))
+
+-- nothing may be taken where somebody gave up
+pub giving_up_is_last : GivingUpIsLast
+giving_up_is_last [] items taken = refl
+giving_up_is_last (item ∷ more) items taken =
+    let none = giving_up_is_last more items taken.3 in
+    absurd (subst (λ m. NobodyGaveUp (m ++ fed_abandon ∷ items)) none taken.1)
 
 pub items_lead : ItemsLead
 items_lead params items lawful taken = lead_somewhere params lawful items taken
@@ -178,8 +185,8 @@ end_is_last more items taken over = over_last more items taken over
 pub made_of_all : MadeOfAll
 made_of_all params items st taken lead =
     let p = lead.place in
-    let none : st.file ≡ None = no_file st.file (ap (λ (q : Place). q.file) p ∙ taken.1.0) in
-    let root : st.above ≡ [] = no_path st.above (ap (λ (q : Place). q.path) p ∙ taken.1.1) in
+    let none : st.file ≡ None = no_file st.file (ap (λ (q : Place). q.file) p ∙ taken.2.0) in
+    let root : st.above ≡ [] = no_path st.above (ap (λ (q : Place). q.path) p ∙ taken.2.1) in
     let over : st.over ≡ true = ap (λ (q : Place). q.over) p in
     let entries : entries_of [] st.done ≡ (place_of (fed_end ∷ items)).entries = ap (λ l. entries_at st.done l) (sym root) ∙ ap (λ (q : Place). q.entries) p in (
       record { holds = entries; cut = lead.cut.done },

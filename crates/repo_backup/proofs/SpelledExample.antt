@@ -40,7 +40,7 @@ x_opens = (x_is, (refl, tt), lit≤ tt)
 
 pub example_is_spelled : ExampleIsSpelled
 example_is_spelled = record {
-  taken = (refl, (refl, refl), (refl, inl (λ none. absurd (cc)), (refl, lit≤ tt, (refl, lit≤ tt, (refl, x_opens, tt)))));
+  taken = (refl, tt, (refl, refl), (refl, tt, inl (λ none. absurd (cc)), (refl, tt, lit≤ tt, (refl, tt, lit≤ tt, (refl, tt, x_opens, tt)))));
   spelled = refl;
   below = (a_is, λ may. let less = may.1 in absurd (cc));
   again = (x_is, λ may. let less = may.1 in absurd (cc));

@@ -97,7 +97,7 @@ fit_on p fed_abandon may fit = fit
 
 pub fit_of : (items : Feeding) → AreTaken items → Fit (place_of items)
 fit_of [] taken = record { handed = tt; inside = inl refl; path = All-nil IsComponent; file = tt }
-fit_of (item ∷ items) taken = fit_on (place_of items) item taken.1 (fit_of items taken.2)
+fit_of (item ∷ items) taken = fit_on (place_of items) item taken.2 (fit_of items taken.3)
 
 pub spelled_are_handed : SpelledAreHanded
 spelled_are_handed items taken = (fit_of items taken).handed

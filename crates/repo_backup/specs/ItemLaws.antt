@@ -6,7 +6,7 @@ use Rattle.repo_tree.specs.Spelling.{file_entry}
 use Rattle.repo_tree.specs.declared.entries.Entry.{Entry}
 use Rattle.repo_backup.specs.Folders.{Folder, nothing, file_then, dir_then, joined, entries_of, blobs_of, IsFolderOf}
 use Rattle.repo_backup.specs.Handed.{AreHanded}
-use Rattle.repo_session.specs.Feeds.{Fed, fed_dir, fed_file, fed_bytes, fed_close, fed_end}
+use Rattle.repo_session.specs.Feeds.{fed_abandon, Fed, fed_dir, fed_file, fed_bytes, fed_close, fed_end}
 use Rattle.repo_backup.specs.Items.{Feeding, MayTake, AreTaken, ItemFault, Place, place_of, spelled_by}
 use Rattle.repo_backup.specs.Standings.{Standing, LeadTo, made_at}
 use Rattle.repo_backup.specs.declared.items.FeedError.{FeedError}
@@ -48,6 +48,10 @@ MadeGrows = (params : Parameters) (more items : Feeding) (st : Standing) → Are
 -- behind the end no item may be taken
 abbrev pub EndIsLast : Type 0
 EndIsLast = (more items : Feeding) → AreTaken (more ++ items) → (place_of items).over ≡ true → more ≡ []
+
+-- where somebody gave up no item may be taken
+abbrev pub GivingUpIsLast : Type 0
+GivingUpIsLast = (more items : Feeding) → AreTaken (more ++ fed_abandon ∷ items) → more ≡ []
 
 -- at the end it is what is made of the entries
 abbrev pub MadeOfAll : Type 0

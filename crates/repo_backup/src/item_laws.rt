@@ -1,6 +1,6 @@
 //! What holds of the items that a backup is fed. Each function is empty, and its contract is the law.
 
-ghost use Rattle.repo_backup.specs.ItemLaws.{SpelledAreHanded, WholeIsSpelled, ItemsLead, MadeGrows, EndIsLast, MadeOfAll, FaultsForbid, ExampleIsSpelled};
+ghost use Rattle.repo_backup.specs.ItemLaws.{SpelledAreHanded, WholeIsSpelled, ItemsLead, MadeGrows, EndIsLast, GivingUpIsLast, MadeOfAll, FaultsForbid, ExampleIsSpelled};
 
 /// What items spell that may be taken may be handed in.
 pub fn spelled_are_handed()
@@ -25,6 +25,11 @@ pub fn made_grows()
 /// Behind the end no item may be taken.
 pub fn end_is_last()
     ensures { EndIsLast }
+{}
+
+/// Where somebody gave up no item may be taken.
+pub fn giving_up_is_last()
+    ensures { GivingUpIsLast }
 {}
 
 /// At the end it is what is made of the entries.

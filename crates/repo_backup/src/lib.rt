@@ -42,8 +42,8 @@ mod works;
 pub use backups::Backup;
 pub use faults::BackupError;
 pub use item_laws::{
-    end_is_last, example_is_spelled, faults_forbid, items_lead, made_grows, made_of_all,
-    spelled_are_handed, whole_is_spelled,
+    end_is_last, example_is_spelled, faults_forbid, giving_up_is_last, items_lead, made_grows,
+    made_of_all, spelled_are_handed, whole_is_spelled,
 };
 pub use items::FeedError;
 pub use laws::{backup_ends_well, backup_keeps_sound};
