@@ -118,13 +118,7 @@ fn play_jobs(
     told: &mut Told,
 ) -> Result<(), ScriptError> {
     let messages = backup.saturating_mul(2);
-    happen(
-        alloc,
-        world,
-        Job::Backup(Entries::of(entries)),
-        0,
-        messages,
-    )?;
+    happen(alloc, world, Job::Backup(Entries::of(entries)), 0, messages)?;
     tell_client(alloc, world, 0, told)?;
     let Some(name) = stored_name(world.outcome(0)) else {
         return Ok(());

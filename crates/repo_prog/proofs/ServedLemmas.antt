@@ -23,7 +23,7 @@ module _ {T : Type 0} (remaining contents : T → Option (List ℕ)) where
       → AreServed remaining contents served old failed mid between → AreServed remaining contents served old failed new failing
   leads served old mid new failed between failing same alike are =
       subst (λ here. AreServed remaining contents served old failed here failing) (sym same)
-          (subst (λ here. AreServed remaining contents served old failed mid here) (sym alike) are)
+      (subst (λ here. AreServed remaining contents served old failed mid here) (sym alike) are)
 
   -- what is no error is well
   well : (result : Result ℕ ServeError) → (IsErr result → ⊥) → IsOk result
@@ -36,10 +36,13 @@ module _ {T : Type 0} (remaining contents : T → Option (List ℕ)) where
       → Served count before old failed mid between → ServesOne remaining contents Such result mid between new failing → Served (count + 1) after old failed new failing
   more_served Such count before after result old mid new failed between failing still bad (served, few, are, done) (inl (same, alike, error)) =
       (served, omega (arith, few), leads served old mid new failed between failing same alike are, λ ends. absurd (bad error ends))
-  more_served Such count before after result old mid new failed between failing still bad (served, few, are, done) (inr (it, such, is, one)) =
-      (it ∷ served, omega (arith, few), (mid, between, are, one),
-       λ ends. let before_done = done (still ends) in
-           (omega (arith, before_done.0), All-cons (λ it. IsOk it.result) it served (subst (λ here. IsOk here) (sym is) (well result (λ error. bad error ends))) before_done.1))
+  more_served Such count before after result old mid new failed between failing still bad (served, few, are, done) (inr (it, such, is, one)) = (
+    it ∷ served,
+    omega (arith, few),
+    (mid, between, are, one),
+    λ ends. let before_done = done (still ends) in
+        (omega (arith, before_done.0), All-cons (λ it. IsOk it.result) it served (subst (λ here. IsOk here) (sym is) (well result (λ error. bad error ends))) before_done.1),
+  )
 
   -- with one writer, so with any
   pub any_writer : (Such : T → Type 0) (result : Result ℕ ServeError) (old new : Store) (failed failing : ℕ)

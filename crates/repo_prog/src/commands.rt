@@ -107,15 +107,7 @@ where
             errand,
             retry,
             idle,
-        } => run_errand(
-            rt,
-            address.as_str(),
-            errand,
-            retry,
-            idle,
-            output,
-            faults,
-        ),
+        } => run_errand(rt, address.as_str(), errand, retry, idle, output, faults),
     }
 }
 

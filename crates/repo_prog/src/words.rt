@@ -10,10 +10,11 @@ use crate::errands::{Errand, errand_of, retry_of, with_command, with_errands};
 use crate::help::{FRAMES, INIT, LOOP, PLAY, SERVE};
 use crate::listening::Serving;
 use crate::meanings::{
-    APPEND_ONLY, AT_ONCE, BITS, CONNECTIONS, FORMAT, IDLE, LISTENER, MAX, MIN,
-    NEW_STORE, STORE, TARGET,
+    APPEND_ONLY, AT_ONCE, BITS, CONNECTIONS, FORMAT, IDLE, LISTENER, MAX, MIN, NEW_STORE, STORE,
+    TARGET,
 };
-use clap::{Arg, ArgAction, ArgMatches, Command, error::ErrorKind};
+use clap::error::ErrorKind;
+use clap::{Arg, ArgAction, ArgMatches, Command};
 use repo_chunk::Params;
 use repo_name::{GREATEST_TARGET, LEAST_TARGET};
 use repo_tree::GREATEST_VERSION;
