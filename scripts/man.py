@@ -16,7 +16,7 @@ from pathlib import Path
 ROOT = Path(__file__).resolve().parents[1]
 SOURCES = [(ROOT / "crates/repo_prog/src" / name).read_text() for name in ("words.rt", "errands.rt", "choosing.rt")]
 HELP = (ROOT / "crates/repo_prog/src/help.rt").read_text()
-MEANINGS = dict(re.findall(r'^pub const (\w+): &str = "([^"]*)";', (ROOT / "crates/repo_prog/src/meanings.rt").read_text(), re.M))
+MEANINGS = dict(re.findall(r'^pub const (\w+): &str =\s+"([^"]*)";', (ROOT / "crates/repo_prog/src/meanings.rt").read_text(), re.M))
 MANUAL = (ROOT / "docs/MANUAL.md").read_text()
 PAGES, COMPLETIONS = ROOT / "docs/man", ROOT / "examples/completion"
 BASH = COMPLETIONS / "vault.bash"
