@@ -126,27 +126,19 @@ def object_of(ask):
     return {"get": ask[1:2], "put": ask[2:3], "delete": ask[2:3], "list": ask[1:2]}.get(ask[0], ())
 
 
-def said_of(ask, say):
-    """A reply in a word or two."""
-    if ask[0] == "ticket":
-        return "token"
-    if ask[0] in ("list", "get", "config", "range"):
-        return {"list": "names", "config": "config"}.get(ask[0], "bytes")
-    return say[0]
+# What a reply brings, where it is no word of its own.
+BRINGS = {"ticket": "token", "list": "names", "config": "config", "get": "bytes", "range": "bytes"}
 
 
 def asks_of(store, job, instance):
     """What a client asks at a store until its end, each with a reply in a word; what follows alike is counted."""
     client, rows = Client(job, bytes([instance] * 16), "laptop", 1793923200 + instance), []
-    while client.pending:
-        request = client.pending
-        say = store.answer(request.what)
-        row = (" ".join([request.what[0], *object_of(request.what)]), said_of(request.what, say))
+    for ask, say in client.exchanges(store):
+        row = (" ".join([ask[0], *object_of(ask)]), BRINGS.get(ask[0], say[0]))
         if rows and rows[-1][0] == row:
             rows[-1][1] += 1
         else:
             rows.append([row, 1])
-        client.take(type(request)(request.instance, request.sequence, say))
     return client, rows
 
 

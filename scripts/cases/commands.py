@@ -220,7 +220,7 @@ def served(store, data, broken=False, room=None):
             return replies, "malformed"
         if request is None:
             break
-        reply = Message(request.instance, request.sequence, store.answer(request.what))
+        reply = request.reply(store.answer(request.what))
         replies, whole = written(replies, room, reply.frame())
         if not whole:
             return replies, "write failed"
@@ -243,7 +243,7 @@ class Lines:
         stream = Stream(self.data + bytes.fromhex(line), REQUESTS)
         try:
             while request := stream.next():
-                self.show(Message(request.instance, request.sequence, self.store.answer(request.what)))
+                self.show(request.reply(self.store.answer(request.what)))
         except Malformed as fault:
             raise Failed(f"malformed: {fault}")
         self.data = stream.data

@@ -1,6 +1,5 @@
 """Cases of a world of its own, whose events happen in two goes: a backup, and a restore of what it stored; and what the world shows of them."""
 
-from frames import Message
 from jobs import Backup, Client, Restore
 from lines import shown
 from store import Store
@@ -11,12 +10,8 @@ HOST, TIME = "a", 5
 
 def ended(store, job):
     """A client that was brought to its end, how many exchanges that took, and what it gave out."""
-    client, count, given = Client(job, bytes(16), HOST, TIME), 0, []
-    while client.pending:
-        client.take(Message(client.instance, client.sequence, store.answer(client.pending.what)))
-        given += client.emitted
-        count += 1
-    return client, count, given
+    client = Client(job, bytes(16), HOST, TIME)
+    return client, *client.finish(store)
 
 
 def shows(script, heading, entries):

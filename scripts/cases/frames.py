@@ -28,6 +28,10 @@ class Message:
     sequence: int
     what: tuple
 
+    def reply(self, what):
+        """The reply to it that says this."""
+        return Message(self.instance, self.sequence, what)
+
     def frame(self):
         body = bytes([TAGS[self.what[0]]]) + self.instance + u64(self.sequence) + fields_of(self.what)
         return u32(len(body)) + body

@@ -140,6 +140,22 @@ class Client:
         except StopIteration:
             self.pending = None
 
+    def exchanges(self, store):
+        """Brings it to its end at a store: what it asks, and what is said to it."""
+        while self.pending:
+            request = self.pending
+            say = store.answer(request.what)
+            self.take(request.reply(say))
+            yield request.what, say
+
+    def finish(self, store):
+        """Brings it to its end at a store: how many exchanges that took, and what it gave out."""
+        count, given = 0, []
+        for _ in self.exchanges(store):
+            count += 1
+            given += self.emitted
+        return count, given
+
     def run(self):
         """All that it asks, from its ticket to its unlock."""
         try:

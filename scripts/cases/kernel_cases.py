@@ -63,13 +63,9 @@ def new_store(pack):
 
 def ended(store, job):
     """How a client of a store ends, and the last piece that it gave out."""
-    client, last = Client(job, INSTANCE, "bench", 0), b""
-    while client.pending:
-        request = client.pending
-        client.take(Message(request.instance, request.sequence, store.answer(request.what)))
-        for word, what in client.emitted:
-            last = what if word == "piece" else last
-    return client.outcome, last
+    client = Client(job, INSTANCE, "bench", 0)
+    _, given = client.finish(store)
+    return client.outcome, ([b""] + [what for word, what in given if word == "piece"])[-1]
 
 
 def entries(count, step):

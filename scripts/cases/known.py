@@ -66,9 +66,7 @@ def check_texts():
 
 def finish(store, client):
     """A lone client's result."""
-    while client.pending:
-        request = client.pending
-        client.take(Message(request.instance, request.sequence, store.answer(request.what)))
+    client.finish(store)
     return client.outcome
 
 

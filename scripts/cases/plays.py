@@ -5,7 +5,6 @@ from dataclasses import dataclass
 
 from checks import Check
 from commands import written
-from frames import Message
 from jobs import Backup, Client, Forget, List, Restore, StartRefused
 from prunes import Prune, Upgrade
 from store import Store
@@ -154,8 +153,7 @@ class Player:
             return
         client, message, is_reply = self.messages[at]
         if not is_reply:
-            reply = Message(message.instance, message.sequence, self.store.answer(message.what))
-            self.messages.append((client, reply, True))
+            self.messages.append((client, message.reply(self.store.answer(message.what)), True))
             return
         seat = self.seats[client]
         if seat.pending() and message.sequence == seat.client.sequence:

@@ -61,12 +61,7 @@ def replies_to(core, objects):
     store.config = config_text()
     for kind, name, data in objects.all:
         store.objects[kind][name] = data
-    client, replies = Client(core, INSTANCE, "vault", 5), []
-    while client.pending:
-        reply = store.answer(client.pending.what)
-        replies.append(reply)
-        client.take(type(client.pending)(INSTANCE, client.pending.sequence, reply))
-    return replies
+    return [say for _, say in Client(core, INSTANCE, "vault", 5).exchanges(store)]
 
 
 def laid(script, objects):

@@ -144,7 +144,7 @@ class Script(Lines):
         return self.seat(Check(), "play", 0)
 
     def reply_to(self, request):
-        return Message(request.instance, request.sequence, self.store.answer(request.what))
+        return request.reply(self.store.answer(request.what))
 
     def one_step(self, place):
         """Whether there was a request."""
@@ -189,11 +189,7 @@ class Script(Lines):
 
     def finish(self, place):
         self.line("finish", place)
-        client, count, given = self.seats[place].client, 0, []
-        while client.pending:
-            client.take(self.reply_to(client.pending))
-            given += client.emitted
-            count += 1
+        count, given = self.seats[place].client.finish(self.store)
         self.prints("requests", count)
         self.parts(given)
         self.result(place)
