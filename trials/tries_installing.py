@@ -1,13 +1,13 @@
 """The program as it is installed: by the script, and as a Debian package in a system of its own."""
 import os
+import re
 import subprocess
-import sys
 import tempfile
 from contextlib import contextmanager
 from pathlib import Path
 
 from program import LISTENING, free_port, matches
-from trying import OPTIONS, ROOT, WAIT, Skipped, holds, is_possible, needs, new_folder, same, trial
+from trying import OPTIONS, ROOT, WAIT, Skipped, holds, needs, new_folder, same, trial
 from yards import filled, in_folder
 
 # How long a system is waited for that comes over the network, in seconds.
@@ -33,9 +33,9 @@ def the_installer_says_what_it_makes(yard):
     there = sorted(str(it) for it in prefix.rglob("*") if it.is_file())
     same(sorted(made), there, "what was made")
     same(printed(prefix / "bin/vault", "--version"), printed(OPTIONS.program, "--version"))
-    for unit in (prefix / "lib/systemd/system").glob("*.service"):
-        text = unit.read_text()
-        holds("/usr/local" not in text and ("vault" not in text or f"{prefix}/bin/vault" in text or "ExecStart=/usr/" in text), f"{unit.name}: {text}")
+    units = "".join(unit.read_text() for unit in (prefix / "lib/systemd/system").glob("*.service"))
+    same(set(re.findall(r"^ExecStart=(\S*/vault) ", units, re.M)), {f"{prefix}/bin/vault"}, "what the units start")
+    holds("/usr/local" not in units, units)
     again = printed("scripts/install.sh", prefix, OPTIONS.program).splitlines()
     same((again, sorted(str(it) for it in prefix.rglob("*") if it.is_file())), (made, there), "a second time")
 
