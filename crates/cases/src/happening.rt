@@ -1,34 +1,18 @@
 //! A world whose events happen in two goes: a backup of some entries, and a restore of what it stored; and what the world shows of them.
 
-ghost use Rattle.std.specs.Prelude.{◌≡◌};
-ghost use Rattle.repo_tree.specs.ConfigText.{IsTarget};
-
 use crate::clients::stored_name;
 use crate::lines::{ScriptError, cut, number};
+use crate::stores::config_of;
 use crate::told::Told;
-use repo_chunk::Params;
-use repo_name::{Instance, Kind, Name};
+use repo_name::{Kind, Name};
 use repo_session::result_text;
 use repo_store::MemShelf;
-use repo_tree::{Config, Entry};
+use repo_tree::Entry;
 use repo_world::{Entries, Event, Host, Job, World};
 use std::alloc::Global;
 
-/// A config with small numbers.
-fn small_config() -> Config
-    ensures version { result.version ≡ 1 }
-    ensures target { IsTarget result.target }
-{
-    let Ok(params) = Params::new(64, 128, 6) else {
-        unreachable!();
-    };
-    Config {
-        version: 1,
-        id: Instance([0; 16]),
-        params,
-        target: 1024,
-    }
-}
+/// The least and the greatest length of a chunk, the low bits of a fingerprint and the bytes of a pack.
+const RULE: &str = "64 128 6 1024";
 
 /// A client's start, and the deliveries of so many messages from the first one on.
 fn events_of(
@@ -156,7 +140,8 @@ pub fn run_world(
 ) -> Result<(), ScriptError> {
     let (backup, restore) = cut(words);
     let exchanges = (number(backup)? as usize, number(restore)? as usize);
-    match World::in_memory(alloc, &small_config()) {
+    let config = config_of(RULE)?;
+    match World::in_memory(alloc, &config) {
         Ok(world) => spent(alloc, world, entries, exchanges, told),
         Err(_) => Err(ScriptError::Memory),
     }

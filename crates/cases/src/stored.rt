@@ -3,9 +3,10 @@
 use crate::clients::{JobEnd, do_job};
 use crate::lines::{ScriptError, cut};
 use crate::random::random_bytes;
+use crate::stores::config_of;
 use repo_name::{Bytes, Instance, Name, Text, name_of};
 use repo_session::Emission;
-use repo_store::{MemShelf, Shelf};
+use repo_store::{MemShelf, init};
 use repo_tree::{Entry, EntryKind, Path};
 use repo_world::{Entries, Job};
 use std::alloc::{AllocError, Global};
@@ -15,13 +16,12 @@ const TARGET: usize = 16_777_216;
 
 /// A shelf with the default config, but for the bytes of a pack.
 pub fn shelf_with(alloc: Global, target: usize) -> Result<MemShelf, ScriptError> {
-    let rule = r#"{"chunk_bits":20,"chunk_max":8388608,"chunk_min":524288"#;
-    let id = "00000000000000000000000000000000";
-    let config = format!(in alloc;
-        "{rule},\"id\":\"{id}\",\"pack_target\":{target},\"version\":1}}"
-    )?;
+    let words = format!(in alloc; "524288 8388608 20 {target}")?;
+    let Ok(config) = config_of(words.as_str()) else {
+        return Err(ScriptError::Stopped);
+    };
     let mut shelf = MemShelf::new(alloc);
-    match shelf.save_config(config.as_bytes()) {
+    match init(alloc, &mut shelf, &config) {
         Ok(()) => Ok(shelf),
         Err(_) => Err(ScriptError::Stopped),
     }

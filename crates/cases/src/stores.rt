@@ -35,7 +35,7 @@ fn new_shelf(alloc: Global) -> Kept<FaultShelf<MemShelf>> {
 }
 
 /// The config of a store by four numbers.
-fn config_of(words: &str) -> Result<Config, ScriptError>
+pub fn config_of(words: &str) -> Result<Config, ScriptError>
     ensures version { IfOk result (λ config. config.version ≡ 1) }
     ensures target { IfOk result (λ config. IsTarget config.target) }
 {
