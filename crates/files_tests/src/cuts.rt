@@ -4,7 +4,8 @@ use crate::cutting::Cut;
 use crate::fuses::Fuse;
 use crate::shelves::number;
 use crate::yards::Yard;
-use repo_files::DirShelf;
+use repo_files::{FileDisk, create_store, open_store};
+use repo_folder::DirShelf;
 use repo_locks::Ledger;
 use repo_name::{Bytes, Kind, Name, Token, name_of};
 use repo_store::{Shelf, ShelfError};
@@ -52,7 +53,7 @@ fn changes<S: Shelf>(shelf: &mut S) -> u64 {
 /// Makes the changes on a machine that stops after so many calls, and tells how many were acknowledged.
 fn stopped(rt: HostRuntime, root: &str, calls: u64) -> u64 {
     let fuse = Fuse::new(rt.alloc(), calls);
-    match DirShelf::open(Cut::new(rt, &fuse), root) {
+    match open_store(Cut::new(rt, &fuse), root) {
         Ok(mut shelf) => changes(&mut shelf),
         Err(_) => 0,
     }
@@ -61,7 +62,7 @@ fn stopped(rt: HostRuntime, root: &str, calls: u64) -> u64 {
 /// How many calls opening makes.
 pub(crate) fn calls_of_opening(rt: HostRuntime, root: &str) -> u64 {
     let fuse = Fuse::new(rt.alloc(), ENDLESS);
-    match DirShelf::open(Cut::new(rt, &fuse), root) {
+    match open_store(Cut::new(rt, &fuse), root) {
         Ok(_) => fuse.steps().len() as u64,
         Err(_) => ENDLESS,
     }
@@ -70,7 +71,7 @@ pub(crate) fn calls_of_opening(rt: HostRuntime, root: &str) -> u64 {
 /// Makes a shelf, whose syncs aren't made.
 pub(crate) fn made(rt: HostRuntime, root: &str, calls: u64) -> bool {
     let fuse = Fuse::new(rt.alloc(), calls);
-    DirShelf::create(Cut::new(rt, &fuse), root).is_ok()
+    create_store(Cut::new(rt, &fuse), root).is_ok()
 }
 
 /// Makes a shelf what it was when it was made.
@@ -101,7 +102,7 @@ fn is_whole(found: &Option<Bytes>, bytes: &[u8]) -> bool {
 /// A shelf that is opened again after so many acknowledged changes, and how much of it isn't as it has to be.
 #[derive(Drop)]
 struct Look {
-    shelf: DirShelf<HostRuntime>,
+    shelf: DirShelf<FileDisk<HostRuntime>>,
     acknowledged: u64,
     differ: u64,
 }
@@ -155,7 +156,7 @@ impl Look {
 
     /// How much isn't as it has to be.
     fn differing(mut self) -> u64 {
-        self.shelf.clean();
+        self.shelf.folder.disk.clean();
         self.finds(Kind::Index, b"abc", 1);
         self.finds(Kind::Pack, b"a second one", 4);
         self.finds_removed();
@@ -169,7 +170,7 @@ impl Look {
 
 /// Whether the shelf in a folder is as it has to be after so many acknowledged changes.
 fn is_as_due(rt: HostRuntime, root: &str, acknowledged: u64) -> bool {
-    let Ok(shelf) = DirShelf::open(rt, root) else {
+    let Ok(shelf) = open_store(rt, root) else {
         return false;
     };
     let look = Look {
@@ -183,7 +184,7 @@ fn is_as_due(rt: HostRuntime, root: &str, acknowledged: u64) -> bool {
 /// Whether the shelf in a folder is made what it was when it was made.
 fn is_cleared(rt: HostRuntime, root: &str) -> bool {
     let fuse = Fuse::new(rt.alloc(), ENDLESS);
-    match DirShelf::open(Cut::new(rt, &fuse), root) {
+    match open_store(Cut::new(rt, &fuse), root) {
         Ok(mut shelf) => clear(&mut shelf, &Ledger::new(rt.alloc())).is_ok(),
         Err(_) => false,
     }

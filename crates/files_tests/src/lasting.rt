@@ -5,7 +5,7 @@ use crate::cutting::Cut;
 use crate::fuses::{Fuse, Step, What};
 use crate::shelves::number;
 use crate::yards::Yard;
-use repo_files::DirShelf;
+use repo_files::{create_store, open_store};
 use repo_name::Token;
 use repo_store::Shelf;
 use std::panic::Expect;
@@ -20,14 +20,14 @@ fn is_tried(calls: usize, all: usize) -> bool {
 /// How many calls a making makes, and a few more.
 fn calls_of_making(rt: HostRuntime, root: &str) -> io::Result<usize> {
     let fuse = Fuse::new(rt.alloc(), ENDLESS);
-    DirShelf::create(Cut::new(rt, &fuse), root)?;
+    create_store(Cut::new(rt, &fuse), root)?;
     fs::remove_dir_all(&rt, root)?;
     Ok(fuse.steps().len())
 }
 
 /// Whether what a making left is a store with a ledger, or isn't one; a making that was done left one.
 fn is_openable(rt: HostRuntime, root: &str, is_made: bool) -> bool {
-    match DirShelf::open(rt, root) {
+    match open_store(rt, root) {
         Ok(mut shelf) => shelf.ledger().is_ok(),
         Err(_) => !is_made,
     }
@@ -35,7 +35,7 @@ fn is_openable(rt: HostRuntime, root: &str, is_made: bool) -> bool {
 
 /// The next number of a store in a folder.
 fn next_number(rt: HostRuntime, root: &str) -> Option<Token> {
-    let mut shelf = DirShelf::open(rt, root).ok()?;
+    let mut shelf = open_store(rt, root).ok()?;
     number(&mut shelf).ok()
 }
 
@@ -92,7 +92,7 @@ pub(crate) fn parent_of(path: &str) -> &str {
 }
 
 /// Whether a path lies in the folder of files that are being written.
-fn is_temporary(path: &str) -> bool {
+pub(crate) fn is_temporary(path: &str) -> bool {
     parent_of(path).ends_with("/tmp")
 }
 
@@ -132,7 +132,7 @@ fn last(steps: &[Step]) -> bool {
 /// A making, and the changes after it. The folders above are made too.
 fn try_changes(yard: &mut Yard, root: &str) {
     let fuse = Fuse::new(yard.rt.alloc(), ENDLESS);
-    let Ok(mut shelf) = DirShelf::create(Cut::new(yard.rt, &fuse), root) else {
+    let Ok(mut shelf) = create_store(Cut::new(yard.rt, &fuse), root) else {
         return yard.count(false);
     };
     let steps = fuse.steps();

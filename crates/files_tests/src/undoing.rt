@@ -2,9 +2,10 @@
 
 use crate::cuts::{ENDLESS, calls_of_opening, change};
 use crate::cutting::Cut;
-use crate::fuses::{Change, Fuse};
+use crate::fuses::{Change, Fuse, Step, What};
+use crate::lasting::is_temporary;
 use crate::yards::Yard;
-use repo_files::DirShelf;
+use repo_files::{create_store, open_store};
 use repo_name::{Kind, Token, name_of};
 use repo_store::{Shelf, ShelfError};
 use std::fs;
@@ -46,7 +47,7 @@ fn look_at<S: Shelf>(shelf: &mut S) -> Result<Seen, ShelfError> {
 
 /// The shelf in a folder is opened, and tells what it has.
 fn seen_at(rt: HostRuntime, root: &str, fuse: &Fuse) -> Option<Seen> {
-    let mut shelf = DirShelf::open(Cut::new(rt, fuse), root).ok()?;
+    let mut shelf = open_store(Cut::new(rt, fuse), root).ok()?;
     look_at(&mut shelf).ok()
 }
 
@@ -78,7 +79,7 @@ struct Run {
 /// Makes the changes before one, on a machine on which nothing fails.
 fn prepared(rt: HostRuntime, root: &str, which: u64) -> bool {
     let fuse = Fuse::new(rt.alloc(), ENDLESS);
-    let Ok(mut shelf) = DirShelf::create(Cut::new(rt, &fuse), root) else {
+    let Ok(mut shelf) = create_store(Cut::new(rt, &fuse), root) else {
         return false;
     };
     for earlier in 0..which {
@@ -92,7 +93,7 @@ fn prepared(rt: HostRuntime, root: &str, which: u64) -> bool {
 /// The machine is killed in the change, and started again; what it answers then, and what it answers after a cut.
 fn killed(rt: HostRuntime, root: &str, run: Run) -> (Option<Seen>, Option<Seen>) {
     let fuse = Fuse::new(rt.alloc(), run.calls);
-    if let Ok(mut shelf) = DirShelf::open(Cut::new(rt, &fuse), root) {
+    if let Ok(mut shelf) = open_store(Cut::new(rt, &fuse), root) {
         let _ = change(&mut shelf, run.which);
     }
     let fuse = fuse.after();
@@ -106,7 +107,7 @@ fn killed(rt: HostRuntime, root: &str, run: Run) -> (Option<Seen>, Option<Seen>)
 /// failed, and what it answers after a cut.
 fn failed(rt: HostRuntime, root: &str, run: Run) -> (Option<Seen>, Option<Seen>) {
     let fuse = Fuse::failing_once(rt.alloc(), run.calls);
-    let answered = match DirShelf::open(Cut::new(rt, &fuse), root) {
+    let answered = match open_store(Cut::new(rt, &fuse), root) {
         Ok(mut shelf) => {
             let _ = change(&mut shelf, run.which);
             look_at(&mut shelf).or_else(|_| look_at(&mut shelf)).ok()
@@ -170,23 +171,32 @@ fn holds_index<S: Shelf>(shelf: &mut S) -> bool {
     }
 }
 
-/// A put of an index meets one failure, behind so many calls. Then the shelf is read, and other bytes come to stand at
-/// each name that the put left unsynced. How many names those are, and whether a second put writes its own bytes there.
+/// Whether a file came to stand at a place in these steps.
+fn came(steps: &[Step], place: &str) -> bool {
+    steps.iter().any(|step| step.what == What::Come && step.path.as_str() == place)
+}
+
+/// A put of an index meets one failure, behind so many calls, and then the shelf is read. How many objects' names the put
+/// left unsynced, and whether a second put writes each of them again. The one failure is counted.
 fn put_again(rt: HostRuntime, root: &str, calls: u64) -> (usize, bool) {
     let fuse = Fuse::failing_once(rt.alloc(), calls);
-    let Ok(mut shelf) = DirShelf::open(Cut::new(rt, &fuse), root) else {
+    let Ok(mut shelf) = open_store(Cut::new(rt, &fuse), root) else {
         return (0, false);
     };
     let _ = change(&mut shelf, 1);
-    let unsynced = fuse.undone();
+    let mut unsynced = fuse.undone();
+    unsynced.retain(|left| !is_temporary(left.place.as_str()));
     let _ = look_at(&mut shelf);
-    for left in unsynced.iter() {
-        let _ = fs::write(&rt, left.place.as_str(), b"other");
-    }
-    let is_put = change(&mut shelf, 1)
-        .or_else(|_| change(&mut shelf, 1))
-        .is_ok();
-    (unsynced.len(), is_put && holds_index(&mut shelf))
+    let _ = fuse.steps();
+    let is_put = change(&mut shelf, 1).is_ok() && shelf.failures() == 1;
+    let steps = fuse.steps();
+    let is_written = unsynced
+        .iter()
+        .all(|left| came(steps.as_slice(), left.place.as_str()));
+    (
+        unsynced.len(),
+        is_put && is_written && holds_index(&mut shelf),
+    )
 }
 
 #[test]

@@ -81,6 +81,13 @@ Makes W old (Ok done) new = W old new
 Makes W old (Err DiskError.Failed) new = ChangesDrafts old new ⊎ W old new
 Makes W old (Err DiskError.Memory) new = ChangesDrafts old new
 
+-- a name is taken away, if something has it; on a failure it may be taken away; without memory it isn't
+abbrev pub Takes : Room → List ℕ → State → Result Bool DiskError → State → Type 0
+Takes room name old (Ok true) new = (is_some (seen old room name) ≡ true) × Gives room name None old new
+Takes room name old (Ok false) new = (seen old room name ≡ None) × (new ≡ old)
+Takes room name old (Err DiskError.Failed) new = ChangesDrafts old new ⊎ Gives room name None old new
+Takes room name old (Err DiskError.Memory) new = ChangesDrafts old new
+
 -- a file is written whole under a name among those that are being written; its bytes don't last yet
 abbrev pub Drafts : List ℕ → List ℕ → State → Result (Unit {0}) DiskError → State → Type 0
 Drafts name bytes old (Ok done) new = ChangesDrafts old new × (new.now Room.Temporary name ≡ Some (record { bytes = bytes; lasts = false }))

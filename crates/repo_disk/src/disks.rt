@@ -1,7 +1,7 @@
 //! What a store's folder asks of a disk.
 
-ghost use Rattle.std.specs.Prelude.{◌≡◌, ◌≤◌, ℕ, None, IfOk, is_some};
-ghost use Rattle.repo_disk.specs.Disks.{State, seen, Looks, Makes, Drafts, DraftLasts, ChangesDrafts, Places, Gives, MakesRoom, Syncs, IsCut, IsPart, HasLength, IsListing, HasCause};
+ghost use Rattle.std.specs.Prelude.{◌≡◌, ◌≤◌, ℕ, IfOk, is_some};
+ghost use Rattle.repo_disk.specs.Disks.{State, seen, Looks, Makes, Drafts, DraftLasts, ChangesDrafts, Places, Takes, MakesRoom, Syncs, IsCut, IsPart, HasLength, IsListing, HasCause};
 
 use crate::files::Part;
 use crate::rooms::Room;
@@ -96,9 +96,9 @@ pub trait Disk {
         ensures cause { HasCause (failed self.old) result (failed self.new) }
         ensures faithful { faithful self.old → faithful self.new };
 
-    /// Takes away a name, if something has it.
-    fn unlink(&mut self, room: Room, name: &str) -> Result<(), DiskError>
-        ensures law { faithful self.old → Makes (Gives room name.now None) (state self.old) result (state self.new) }
+    /// Takes away a name, if something has it; whether something had it.
+    fn unlink(&mut self, room: Room, name: &str) -> Result<bool, DiskError>
+        ensures law { faithful self.old → Takes room name.now (state self.old) result (state self.new) }
         ensures cause { HasCause (failed self.old) result (failed self.new) }
         ensures faithful { faithful self.old → faithful self.new };
 

@@ -222,9 +222,15 @@ impl Disk for MemDisk {
         }
     }
 
-    fn unlink(&mut self, room: Room, name: &str) -> Result<(), DiskError> {
+    fn unlink(&mut self, room: Room, name: &str) -> Result<bool, DiskError> {
+        let was_there = has_something(&self.cells, room, name);
         match self.next() {
-            Choice::Succeeds(comes) => Ok(self.change(room, name, None, comes)?),
+            Choice::Succeeds(comes) => {
+                if was_there {
+                    self.change(room, name, None, comes)?;
+                }
+                Ok(was_there)
+            }
             Choice::Fails => {
                 self.fail();
                 Err(DiskError::Failed)

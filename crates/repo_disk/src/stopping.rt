@@ -105,7 +105,7 @@ impl<D: Disk> Disk for Stopping<D> {
         self.inner.place(draft, room, name)
     }
 
-    fn unlink(&mut self, room: Room, name: &str) -> Result<(), DiskError> {
+    fn unlink(&mut self, room: Room, name: &str) -> Result<bool, DiskError> {
         self.pass()?;
         self.inner.unlink(room, name)
     }

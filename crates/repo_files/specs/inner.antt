@@ -1,3 +1,3 @@
 -- The definitions that private calls alone cite: no public contract and no law needs them.
-pub mod Parts
 pub mod Places
+pub mod Unknown

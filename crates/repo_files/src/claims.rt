@@ -2,8 +2,8 @@
 
 use crate::folders::Folder;
 use crate::holding::HoldFile;
-use crate::own_names::{CONFIG, FOLDERS, LEDGER, LOCK, TEMPORARY};
-use crate::parts::is_part;
+use crate::own_names::{FOLDERS, LOCK, TEMPORARY};
+use repo_folder::{CONFIG, LEDGER, is_draft};
 use std::alloc::{AllocError, AllocGlobal};
 use std::fs::{Files, OpenOptions};
 use std::io::ErrorKind;
@@ -118,7 +118,7 @@ impl<R: Files + AllocGlobal + Clone + Drop> Folder<R> {
             let found = entry.file_type()?;
             if found.is_dir() {
                 folders.push(self.child(below, name)?)?;
-            } else if !found.is_file() || below != TEMPORARY || !is_part(name) {
+            } else if !found.is_file() || below != TEMPORARY || !is_draft(name) {
                 return Ok(false);
             }
         }

@@ -11,11 +11,6 @@ pub const INDEXES: &str = "index";
 
 pub const SNAPSHOTS: &str = "snapshots";
 
-/// The file of the ledger, and the one of the config.
-pub const LEDGER: &str = "ledger";
-
-pub const CONFIG: &str = "config";
-
 /// The file by which a program holds the folder.
 pub const LOCK: &str = "lock";
 

@@ -30,6 +30,13 @@ module _ (room : Room) (name : List ℕ) (to : Option (List ℕ)) (s u t : State
     go None e = absurd (let k : false ≡ true = sym (ap is_some e) ∙ there in cc)
     go (Some x) e = inl (x, e, stays)
 
+-- a put of a name that has something, after which what is kept is the same
+pub puts_again : (room : Room) (name : List ℕ) (s u t : State) → Stays s u → Stays u t → (bytes : List ℕ) → is_some (s.fate room name) ≡ true
+    → (result : Result (Unit {0}) DiskError) → Keeps (Puts room name bytes) s result t
+puts_again room name s u t stays more bytes there (Ok done) = puts_there room name None s t t (still room name None s u t stays more) bytes there
+puts_again room name s u t stays more bytes there (Err DiskError.Failed) = inl (still room name None s u t stays more)
+puts_again room name s u t stays more bytes there (Err DiskError.Memory) = still room name None s u t stays more
+
 pub none_there : (o : Option (List ℕ)) → is_some o ≡ false → o ≡ None
 none_there None h = refl
 none_there (Some x) h = absurd (let k : true ≡ false = h in cc)

@@ -53,34 +53,44 @@ no_text result text NameError.Length is long digit n name h =
     short (ap length h ∙ full)
 no_text result text NameError.Digit is long digit n name h = digit (subst (λ r. IsErrOf r NameError.Digit) (sym is) refl) n name h
 
-module _ (kind : Kind) (room : Room) (text : List ℕ) (names : NameSet) where
-  pub joins_no_text : ((n : Name) → IsName n → text ≢ hex_of n) → JoinsListed kind room (text ∷ []) names names
+module _ (kind : Kind) (room : Room) (after : Option Name) (text : List ℕ) (names : NameSet) where
+  pub joins_no_text : ((n : Name) → IsName n → text ≢ hex_of n) → JoinsListed kind room after (text ∷ []) names names
   joins_no_text none = record {
     stay = λ n h. h;
-    join = λ n is at h. elim h [ inl e ↦ absurd (none n is (sym e)) | inr k ↦ absurd k ];
+    join = λ n is at up h. elim h [ inl e ↦ absurd (none n is (sym e)) | inr k ↦ absurd k ];
     only = λ n h. inl h;
   }
 
-  pub joins_elsewhere : (name : Name) → IsName name → text ≡ hex_of name → (room_of kind name ≡ room → ⊥) → JoinsListed kind room (text ∷ []) names names
+  pub joins_elsewhere : (name : Name) → IsName name → text ≡ hex_of name → (room_of kind name ≡ room → ⊥) → JoinsListed kind room after (text ∷ []) names names
   joins_elsewhere name is_name spells other = record {
     stay = λ n h. h;
-    join = λ n is at h. elim h [
+    join = λ n is at up h. elim h [
       | inl e ↦ absurd (other (ap (room_of kind) (hex_one name n is_name is (sym spells ∙ sym e)) ∙ at))
       | inr k ↦ absurd k
     ];
     only = λ n h. inl h;
   }
 
-  pub joins_name : (new : NameSet) (name : Name) → IsName name → text ≡ hex_of name → room_of kind name ≡ room → Inserted (found names) name tt (found new) → JoinsListed kind room (text ∷ []) names new
+  pub joins_below : (name : Name) → IsName name → text ≡ hex_of name → (Above after name → ⊥) → JoinsListed kind room after (text ∷ []) names names
+  joins_below name is_name spells below = record {
+    stay = λ n h. h;
+    join = λ n is at up h. elim h [
+      | inl e ↦ absurd (below (subst (Above after) (sym (hex_one name n is_name is (sym spells ∙ sym e))) up))
+      | inr k ↦ absurd k
+    ];
+    only = λ n h. inl h;
+  }
+
+  pub joins_name : (new : NameSet) (name : Name) → IsName name → text ≡ hex_of name → room_of kind name ≡ room → Inserted (found names) name tt (found new) → JoinsListed kind room after (text ∷ []) names new
   joins_name new name is_name spells here i = record { stay = λ n h. stay n h (i.others n); join = join; only = λ n h. only n h (i.others n) }
     where
       stay : (n : Name) → is_in names n ≡ true → (n ≡ name) ⊎ (found new n ≡ found names n) → is_in new n ≡ true
       stay n h (inl e) = ap is_some (ap (found new) e ∙ i.here)
       stay n h (inr s) = ap is_some s ∙ h
 
-      join : (n : Name) → IsName n → room_of kind n ≡ room → Has (text ∷ []) (hex_of n) → is_in new n ≡ true
-      join n is at (inl e) = ap is_some (ap (found new) (hex_one n name is is_name (e ∙ spells)) ∙ i.here)
-      join n is at (inr k) = absurd k
+      join : (n : Name) → IsName n → room_of kind n ≡ room → Above after n → Has (text ∷ []) (hex_of n) → is_in new n ≡ true
+      join n is at up (inl e) = ap is_some (ap (found new) (hex_one n name is is_name (e ∙ spells)) ∙ i.here)
+      join n is at up (inr k) = absurd k
 
       only : (n : Name) → is_in new n ≡ true → (n ≡ name) ⊎ (found new n ≡ found names n) → (is_in names n ≡ true) ⊎ (IsName n × (room_of kind n ≡ room) × Has (text ∷ []) (hex_of n))
       only n h (inl e) = inr (subst IsName (sym e) is_name, ap (room_of kind) e ∙ here, inl (ap hex_of e ∙ sym spells))
@@ -88,30 +98,30 @@ module _ (kind : Kind) (room : Room) (text : List ℕ) (names : NameSet) where
 
 -- ---- several
 
-pub joins_none : (kind : Kind) (room : Room) (names : NameSet) → JoinsListed kind room [] names names
-joins_none kind room names = record { stay = λ n h. h; join = λ n is at h. absurd h; only = λ n h. inl h }
+pub joins_none : (kind : Kind) (room : Room) (after : Option Name) (names : NameSet) → JoinsListed kind room after [] names names
+joins_none kind room after names = record { stay = λ n h. h; join = λ n is at up h. absurd h; only = λ n h. inl h }
 
-joins_then : (kind : Kind) (room : Room) (xs ys : List (List ℕ)) (old mid new : NameSet) → JoinsListed kind room xs old mid → JoinsListed kind room ys mid new → JoinsListed kind room (xs ++ ys) old new
-joins_then kind room xs ys old mid new a b = record {
+joins_then : (kind : Kind) (room : Room) (after : Option Name) (xs ys : List (List ℕ)) (old mid new : NameSet) → JoinsListed kind room after xs old mid → JoinsListed kind room after ys mid new → JoinsListed kind room after (xs ++ ys) old new
+joins_then kind room after xs ys old mid new a b = record {
   stay = λ n h. b.stay n (a.stay n h);
-  join = λ n is at h. elim (has_either xs ys (hex_of n) h) [ inl k ↦ b.stay n (a.join n is at k) | inr k ↦ b.join n is at k ];
+  join = λ n is at up h. elim (has_either xs ys (hex_of n) h) [ inl k ↦ b.stay n (a.join n is at up k) | inr k ↦ b.join n is at up k ];
   only = λ n h. elim (b.only n h) [
     | inl k ↦ elim (a.only n k) [ inl o ↦ inl o | inr p ↦ inr (p.0, p.1, has_left xs ys (hex_of n) p.2) ]
     | inr p ↦ inr (p.0, p.1, has_right xs ys (hex_of n) p.2)
   ];
 }
 
-pub joins_more : (kind : Kind) (room : Room) (texts : List (List ℕ)) (i : ℕ) (d : List ℕ) (old mid new : NameSet) → i < length texts → JoinsListed kind room (take i texts) old mid
-    → JoinsListed kind room (get_or texts i d ∷ []) mid new → JoinsListed kind room (take (i + 1) texts) old new
-joins_more kind room texts i d old mid new less a b =
-    subst (λ l. JoinsListed kind room l old new) (sym (take_more texts i d less)) (joins_then kind room (take i texts) (get_or texts i d ∷ []) old mid new a b)
+pub joins_more : (kind : Kind) (room : Room) (after : Option Name) (texts : List (List ℕ)) (i : ℕ) (d : List ℕ) (old mid new : NameSet) → i < length texts → JoinsListed kind room after (take i texts) old mid
+    → JoinsListed kind room after (get_or texts i d ∷ []) mid new → JoinsListed kind room after (take (i + 1) texts) old new
+joins_more kind room after texts i d old mid new less a b =
+    subst (λ l. JoinsListed kind room after l old new) (sym (take_more texts i d less)) (joins_then kind room after (take i texts) (get_or texts i d ∷ []) old mid new a b)
 
 -- what is listed is what is there
-pub joins_room : (kind : Kind) (room : Room) (texts : List (List ℕ)) (files : List ℕ → Option (List ℕ)) (old new : NameSet) → IsListed files texts → JoinsListed kind room texts old new
-    → JoinsRoom kind room files old new
-joins_room kind room texts files old new listed j = record {
+pub joins_room : (kind : Kind) (room : Room) (after : Option Name) (texts : List (List ℕ)) (files : List ℕ → Option (List ℕ)) (old new : NameSet) → IsListed files texts → JoinsListed kind room after texts old new
+    → JoinsRoom kind room after files old new
+joins_room kind room after texts files old new listed j = record {
   stay = j.stay;
-  join = λ n is at there. j.join n is at ((listed (hex_of n)).1 there);
+  join = λ n is at up there. j.join n is at up ((listed (hex_of n)).1 there);
   only = λ n h. elim (j.only n h) [ inl o ↦ inl o | inr p ↦ inr (p.0, p.1, (listed (hex_of n)).0 p.2) ];
 }
 
@@ -194,19 +204,19 @@ named_object files kind n x e = elim (cases_Bool (is_name n)) [
 object_named : (files : Room → List ℕ → Option (List ℕ)) (kind : Kind) (n : Name) → IsName n → is_some (files (room_of kind n) (hex_of n)) ≡ true → (x : List ℕ) × (object_in files kind n ≡ Some x)
 object_named files kind n is there = let x = some_there (files (room_of kind n) (hex_of n)) there in (x.0, object_of files kind n is ∙ x.1)
 
-pub joins_same : (kind : Kind) (room : Room) (f g : List ℕ → Option (List ℕ)) (old new : NameSet) → ((n : List ℕ) → f n ≡ g n) → JoinsRoom kind room f old new → JoinsRoom kind room g old new
-joins_same kind room f g old new same j = record {
+pub joins_same : (kind : Kind) (room : Room) (after : Option Name) (f g : List ℕ → Option (List ℕ)) (old new : NameSet) → ((n : List ℕ) → f n ≡ g n) → JoinsRoom kind room after f old new → JoinsRoom kind room after g old new
+joins_same kind room after f g old new same j = record {
   stay = j.stay;
-  join = λ n is at there. j.join n is at (ap is_some (same (hex_of n)) ∙ there);
+  join = λ n is at up there. j.join n is at up (ap is_some (same (hex_of n)) ∙ there);
   only = λ n h. elim (j.only n h) [ inl o ↦ inl o | inr p ↦ inr (p.0, p.1, sym (ap is_some (same (hex_of n))) ∙ p.2) ];
 }
 
 -- a page of the names of objects that all stand in one folder
 pub page_of_room : (files : Room → List ℕ → Option (List ℕ)) (kind : Kind) (room : Room) (after : Option Name) (limit : ℕ) (none names : NameSet) (page : List Name) (more : Bool)
-    → ((n : Name) → is_in none n ≡ false) → ((n : Name) → room_of kind n ≡ room) → IsOrdered name_cmp names → JoinsRoom kind room (files room) none names
+    → ((n : Name) → is_in none n ≡ false) → ((n : Name) → room_of kind n ≡ room) → IsOrdered name_cmp names → JoinsRoom kind room after (files room) none names
     → IsFirstPart (above after names) limit page more → IsPage (object_in files) kind after limit page more
 page_of_room files kind room after limit none names page more empty all ordered j cut =
-    page_within (object_in files) kind after limit names named (λ n x e up. inl (there n x e)) ordered page more (inr (λ n x e up. there n x e)) cut
+    page_within (object_in files) kind after limit names named (λ n x e up. inl (there n x e up)) ordered page more (inr there) cut
   where
     named : (n : Name) → is_in names n ≡ true → (x : List ℕ) × (object_in files kind n ≡ Some x)
     named n h = elim (j.only n h) [
@@ -214,28 +224,28 @@ page_of_room files kind room after limit none names page more empty all ordered 
       | inr p ↦ object_named files kind n p.0 (subst (λ r. is_some (files r (hex_of n)) ≡ true) (sym p.1) p.2)
     ]
 
-    there : (n : Name) (x : List ℕ) → object_in files kind n ≡ Some x → is_in names n ≡ true
-    there n x e = let p = named_object files kind n x e in j.join n p.0 (all n) (subst (λ r. is_some (files r (hex_of n)) ≡ true) (all n) p.1)
+    there : (n : Name) (x : List ℕ) → object_in files kind n ≡ Some x → Above after n → is_in names n ≡ true
+    there n x e up = let p = named_object files kind n x e in j.join n p.0 (all n) up (subst (λ r. is_some (files r (hex_of n)) ≡ true) (all n) p.1)
 
 -- ---- the names of packs
 
-pub packs_none : (low : ℕ) (files : Room → List ℕ → Option (List ℕ)) (names : NameSet) → ((n : Name) → is_in names n ≡ false) → ArePacks low low files names
-packs_none low files names empty = record { join = λ n is from below there. absurd (omega arith); only = λ n h. absurd (true≢false (sym h ∙ empty n)) }
+pub packs_none : (after : Option Name) (files : Room → List ℕ → Option (List ℕ)) (names : NameSet) → ((n : Name) → is_in names n ≡ false) → ArePacks after (least_first after) files names
+packs_none after files names empty = record { join = λ n is from below up there. absurd (omega arith); only = λ n h. absurd (true≢false (sym h ∙ empty n)) }
 
 packs_one : {a b : ℕ} → Room.Packs a ≡ Room.Packs b → a ≡ b
 packs_one h = cc
 
-pub packs_next : (low first : ℕ) (files : Room → List ℕ → Option (List ℕ)) (old new : NameSet) → ArePacks low first files old → JoinsRoom Kind.Pack (Room.Packs first) (files (Room.Packs first)) old new
-    → ArePacks low (first + 1) files new
-packs_next low first files old new p j = record { join = join; only = only }
+pub packs_next : (after : Option Name) (first : ℕ) (files : Room → List ℕ → Option (List ℕ)) (old new : NameSet) → ArePacks after first files old → JoinsRoom Kind.Pack (Room.Packs first) after (files (Room.Packs first)) old new
+    → ArePacks after (first + 1) files new
+packs_next after first files old new p j = record { join = join; only = only }
   where
-    join : (n : Name) → IsName n → low ≤ first_of n.0 → first_of n.0 < first + 1 → is_some (files (room_of Kind.Pack n) (hex_of n)) ≡ true → is_in new n ≡ true
-    join n is from below there = elim (cases_Bool (nat_lt (first_of n.0) first)) [
-      | inl less ↦ j.stay n (p.join n is from (ltb-true (first_of n.0) first less) there)
+    join : (n : Name) → IsName n → least_first after ≤ first_of n.0 → first_of n.0 < first + 1 → Above after n → is_some (files (room_of Kind.Pack n) (hex_of n)) ≡ true → is_in new n ≡ true
+    join n is from below up there = elim (cases_Bool (nat_lt (first_of n.0) first)) [
+      | inl less ↦ j.stay n (p.join n is from (ltb-true (first_of n.0) first less) up there)
       | inr not_less ↦ (
           let more = ltb-false (first_of n.0) first not_less in
           let same : first_of n.0 ≡ first = omega arith in
-          j.join n is (ap Room.Packs same) (subst (λ f. is_some (files (Room.Packs f) (hex_of n)) ≡ true) same there))
+          j.join n is (ap Room.Packs same) up (subst (λ f. is_some (files (Room.Packs f) (hex_of n)) ≡ true) same there))
     ]
 
     only : (n : Name) → is_in new n ≡ true → IsName n × (first_of n.0 < first + 1) × (is_some (files (room_of Kind.Pack n) (hex_of n)) ≡ true)
@@ -245,15 +255,15 @@ packs_next low first files old new p j = record { join = join; only = only }
     ]
 
 -- one folder of packs more, of which what is kept is as in the first state
-pub packs_step : (low first : ℕ) (old mid : State) (names new : NameSet) (room : Room) → room ≡ Room.Packs first → first < 256 → Stays old mid → ArePacks low first old.fate names
-    → JoinsRoom Kind.Pack room (mid.fate room) names new → ArePacks low (first + 1) old.fate new
-packs_step low first old mid names new room is small stays p j =
-    let here = subst (λ r. JoinsRoom Kind.Pack r (mid.fate r) names new) is j in
-    packs_next low first old.fate names new p (joins_same Kind.Pack (Room.Packs first) (mid.fate (Room.Packs first)) (old.fate (Room.Packs first)) names new (λ n. stays (Room.Packs first) n small) here)
+pub packs_step : (after : Option Name) (first : ℕ) (old mid : State) (names new : NameSet) (room : Room) → room ≡ Room.Packs first → first < 256 → Stays old mid → ArePacks after first old.fate names
+    → JoinsRoom Kind.Pack room after (mid.fate room) names new → ArePacks after (first + 1) old.fate new
+packs_step after first old mid names new room is small stays p j =
+    let here = subst (λ r. JoinsRoom Kind.Pack r after (mid.fate r) names new) is j in
+    packs_next after first old.fate names new p (joins_same Kind.Pack (Room.Packs first) after (mid.fate (Room.Packs first)) (old.fate (Room.Packs first)) names new (λ n. stays (Room.Packs first) n small) here)
 
 -- a page of the names of packs, where more follow or all folders were looked at
 pub page_of_packs : (files : Room → List ℕ → Option (List ℕ)) (after : Option Name) (limit high : ℕ) (names : NameSet) (page : List Name) (more : Bool) → IsOrdered name_cmp names
-    → ArePacks (least_first after) high files names → (more ≡ true) ⊎ (256 ≤ high) → IsFirstPart (above after names) limit page more → IsPage (object_in files) Kind.Pack after limit page more
+    → ArePacks after high files names → (more ≡ true) ⊎ (256 ≤ high) → IsFirstPart (above after names) limit page more → IsPage (object_in files) Kind.Pack after limit page more
 page_of_packs files after limit high names page more ordered p ends cut =
     page_within (object_in files) Kind.Pack after limit names (λ n h. let q = p.only n h in object_named files Kind.Pack n q.0 q.2) rest ordered page more (final ends) cut
   where
@@ -265,7 +275,7 @@ page_of_packs files after limit high names page more ordered p ends cut =
     rest n x e up =
         let q = named_object files Kind.Pack n x e in
         elim (cases_Bool (nat_lt (first_of n.0) high)) [
-          | inl less ↦ inl (p.join n q.0 (from after n up) (ltb-true (first_of n.0) high less) q.1)
+          | inl less ↦ inl (p.join n q.0 (from after n up) (ltb-true (first_of n.0) high less) up q.1)
           | inr not_less ↦ inr (λ m h. (
               let below = (p.only m h).1 in
               let least = ltb-false (first_of n.0) high not_less in
@@ -277,4 +287,4 @@ page_of_packs files after limit high names page more ordered p ends cut =
     final (inr all) = inr (λ n x e up. (
         let q = named_object files Kind.Pack n x e in
         let small = first_small n.0 q.0.1 in
-        p.join n q.0 (from after n up) (omega arith) q.1))
+        p.join n q.0 (from after n up) (omega arith) up q.1))

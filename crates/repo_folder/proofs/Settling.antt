@@ -1,5 +1,5 @@
-use Rattle.std.proofs.Common.{◌≡◌, ◌⊎◌, inl, inr, ℕ, Bool, true, List, Option, Some, None, option_map, Result, Ok, Err, refl, sym, ap, subst, ◌∙◌}
-use Rattle.repo_disk.specs.Disks.{State, seen, Leaves, ChangesDrafts, Gives, Places, Makes, Syncs, IsSynced}
+use Rattle.std.proofs.Common.{◌≡◌, ◌⊎◌, inl, inr, ℕ, Bool, true, false, List, Option, Some, None, option_map, Result, Ok, Err, refl, sym, ap, subst, ◌∙◌}
+use Rattle.repo_disk.specs.Disks.{State, seen, Leaves, ChangesDrafts, Gives, Places, Makes, Takes, Syncs, IsSynced}
 use Rattle.repo_disk.specs.declared.disks.DiskError.{DiskError}
 use Rattle.repo_disk.specs.declared.files.File.{File}
 use Rattle.repo_disk.specs.declared.rooms.Room.{Room}
@@ -19,6 +19,40 @@ pub record IsAlmostSettled (room : Room) (name : List ℕ) (s : State) : Type 0 
 
 kept_is_no_draft : (r : Room) → IsKept r → r ≡ Room.Temporary → ⊥
 kept_is_no_draft r is e = subst IsKept e is
+
+no_change : (s t : State) → t ≡ s → ChangesDrafts s t
+no_change s t same = subst (ChangesDrafts s) (sym same) record { now = λ r n. inr refl; fate = λ r n. inr refl; lasting = refl }
+
+-- among the files that are being written something changes behind a change
+module _ (s t u : State) (then : ChangesDrafts t u) where
+  drafts_then : ChangesDrafts s t → ChangesDrafts s u
+  drafts_then d = record {
+    now = λ r n. elim (then.now r n) [ inl x ↦ inl x | inr e ↦ elim (d.now r n) [ inl x ↦ inl x | inr k ↦ inr (e ∙ k) ] ];
+    fate = λ r n. elim (then.fate r n) [ inl x ↦ inl x | inr e ↦ elim (d.fate r n) [ inl x ↦ inl x | inr k ↦ inr (e ∙ k) ] ];
+    lasting = then.lasting ∙ d.lasting;
+  }
+
+  gives_then : (room : Room) (name : List ℕ) (given : Option File) → IsKept room → Gives room name given s t → Gives room name given s u
+  gives_then room name given kept d = record {
+    here = elim (then.now room name) [ inl x ↦ absurd (kept_is_no_draft room kept x) | inr e ↦ e ∙ d.here ];
+    comes = elim (then.fate room name) [
+      | inl x ↦ inl x
+      | inr e ↦ elim d.comes [ inl x ↦ inl x | inr k ↦ inr (elim k [ inl same ↦ inl (e ∙ same) | inr left ↦ inr (subst (Leaves given) (sym e) left) ]) ]
+    ];
+    now = λ r n. elim (then.now r n) [ inl x ↦ inl x | inr e ↦ elim (d.now r n) [ inl x ↦ inl x | inr k ↦ inr (elim k [ inl p ↦ inl p | inr same ↦ inr (e ∙ same) ]) ] ];
+    fate = λ r n. elim (then.fate r n) [ inl x ↦ inl x | inr e ↦ elim (d.fate r n) [ inl x ↦ inl x | inr k ↦ inr (elim k [ inl p ↦ inl p | inr same ↦ inr (e ∙ same) ]) ] ];
+    lasting = then.lasting ∙ d.lasting;
+  }
+
+  -- a rename that was made or not
+  pub placed_then : (draft : List ℕ) (room : Room) (name : List ℕ) → IsKept room → (made : Result (Unit {0}) DiskError) → Makes (Places draft room name) s made t → Makes (Places draft room name) s made u
+  placed_then draft room name kept (Ok done) w = (w.0, w.1, gives_then room name (Some w.0) kept w.2)
+  placed_then draft room name kept (Err DiskError.Failed) w = elim w [ inl d ↦ inl (drafts_then d) | inr p ↦ inr (p.0, p.1, gives_then room name (Some p.0) kept p.2) ]
+  placed_then draft room name kept (Err DiskError.Memory) w = drafts_then w
+
+-- what is settled is so, whatever is noted of it
+pub honest_settled : (F : Type 0) (noted : Standing) (s : State) → IsHonest F Standing.Settled s → IsHonest F noted s
+honest_settled F noted s h = record { faithful = h.faithful; top = h.top; files = h.files; settled = λ _. h.settled refl }
 
 module _ (G : Type 0) (room : Room) (name : List ℕ) (t u : State) (keeps : G) (kept : IsKept room) (almost : IsAlmostSettled room name t) where
   settled_in : IsSynced room t u → (r : Room) (n : List ℕ) → IsKept r → t.fate r n ≡ seen t r n
@@ -105,8 +139,14 @@ module _ (F G : Type 0) (room : Room) (name : List ℕ) (s t u : State) (h : IsH
         lasts_in None = true
         lasts_in (Some f) = f.lasts
 
-  pub honest_taken : (made synced : Result (Unit {0}) DiskError) → Makes (Gives room name None) s made t → Syncs room t synced u → IsHonest G (noted synced) u
-  honest_taken made synced w k = honest_after (Gives room name None) taken_almost made synced w k
+  pub honest_taken : (taken : Result Bool DiskError) (synced : Result (Unit {0}) DiskError) → Takes room name s taken t → Syncs room t synced u → IsHonest G (noted synced) u
+  honest_taken (Ok true) synced w k = after_sync G room name t u keeps kept (taken_almost w.1) synced k
+  honest_taken (Ok false) synced w k = after_sync G room name t u keeps kept (drafts_almost (no_change s t w.1)) synced k
+  honest_taken (Err DiskError.Failed) synced w k = elim w [
+    | inl d ↦ after_sync G room name t u keeps kept (drafts_almost d) synced k
+    | inr g ↦ after_sync G room name t u keeps kept (taken_almost g) synced k
+  ]
+  honest_taken (Err DiskError.Memory) synced w k = after_sync G room name t u keeps kept (drafts_almost w) synced k
 
   pub honest_placed : (draft bytes : List ℕ) → s.now Room.Temporary draft ≡ Some (record { bytes = bytes; lasts = true }) → (made synced : Result (Unit {0}) DiskError)
       → Makes (Places draft room name) s made t → Syncs room t synced u → IsHonest G (noted synced) u

@@ -1,3 +1,4 @@
+pub mod Drafts
 pub mod Folders
 pub mod Laws
 pub mod Ledgers

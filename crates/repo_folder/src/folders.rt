@@ -24,16 +24,19 @@ pub enum Standing {
 pub struct Folder<D> {
     pub disk: D,
     pub standing: Standing,
+    /// Whether a change failed since it was opened.
+    pub has_failed: bool,
 }
 
 impl<D: Disk> Folder<D> {
     /// The folder on this disk, whatever happened before: nothing is known to last.
     pub fn of(disk: D) -> Folder<D>
-        ensures { result ≡ record { disk = disk; standing = Standing.Unsettled } }
+        ensures { result ≡ record { disk = disk; standing = Standing.Unsettled; has_failed = false } }
     {
         Folder {
             disk,
             standing: Standing::Unsettled,
+            has_failed: false,
         }
     }
 
@@ -52,6 +55,7 @@ impl<D: Disk> Folder<D> {
         self.standing = Standing::Settled;
         Ok(())
     }
+
     /// A file's bytes, whole; `None` where nothing has the name.
     pub fn read(&mut self, room: Room, name: &str) -> Result<Option<Bytes>, DiskError>
         requires { IsKept room }

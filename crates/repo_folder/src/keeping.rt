@@ -1,7 +1,7 @@
 //! Files are written into a store's folder, and removed there, so that what is told lasts.
 
 ghost use Rattle.std.specs.Prelude.{◌≡◌, ◌≤◌, ℕ, List, Some, None, true, OnOk, OnErr};
-ghost use Rattle.repo_disk.specs.Disks.{HasCause, ChangesDrafts};
+ghost use Rattle.repo_disk.specs.Disks.{HasCause, ChangesDrafts, Makes, Places};
 ghost use Rattle.repo_disk.specs.declared.rooms.Room.{Room};
 ghost use Rattle.repo_folder.specs.Folders.{IsKept, IsHonest, Stays, Comes, Puts, Keeps, noted};
 ghost use Rattle.repo_folder.specs.declared.folders.Standing.{Standing};
@@ -50,6 +50,32 @@ impl<D: Disk> Folder<D> {
         written
     }
 
+    /// Renames the file that was written into its place. Where that fails, what is left of it is removed, as far as that
+    /// can be done.
+    fn place(&mut self, draft: &str, room: Room, name: &str) -> Result<(), DiskError>
+        requires { IsKept room }
+        ensures law { D.faithful self.old.disk → Makes (Places draft.now room name.now) (D.state self.old.disk) result (D.state self.new.disk) }
+        ensures faithful { D.faithful self.old.disk → D.faithful self.new.disk }
+        ensures cause { HasCause (D.failed self.old.disk) result (D.failed self.new.disk) }
+    {
+        let placed = self.disk.place(draft, room, name);
+        if placed.is_err() {
+            self.disk.discard(draft);
+        }
+        placed
+    }
+
+    /// Notes what came of a change, which lasts where it and the sync of its folder came to their ends.
+    fn note(&mut self, is_made: bool, synced: &Result<(), DiskError>)
+        ensures disk { self.new.disk ≡ self.old.disk }
+        ensures standing { self.new.standing ≡ noted synced.now }
+    {
+        self.standing = noted(synced);
+        if !is_made || synced.is_err() {
+            self.has_failed = true;
+        }
+    }
+
     /// Gives the file that was written its name, so that it lasts.
     fn give(&mut self, draft: &str, room: Room, name: &str) -> Result<(), DiskError>
         requires { IsKept room }
@@ -61,9 +87,9 @@ impl<D: Disk> Folder<D> {
             → Keeps (Comes room name.now (Some bytes)) (D.state self.old.disk) result (D.state self.new.disk) }
         ensures cause { HasCause (D.failed self.old.disk) result (D.failed self.new.disk) }
     {
-        let placed = self.disk.place(draft, room, name);
+        let placed = self.place(draft, room, name);
         let synced = self.disk.sync(room);
-        self.standing = noted(&synced);
+        self.note(placed.is_ok(), &synced);
         placed?;
         synced
     }
@@ -97,8 +123,11 @@ impl<D: Disk> Folder<D> {
         ensures cause { HasCause (D.failed self.old.disk) result (D.failed self.new.disk) }
     {
         let taken = self.disk.unlink(room, name);
+        if matches!(taken, Ok(false)) {
+            return Ok(());
+        }
         let lasting = self.disk.sync(room);
-        self.standing = noted(&lasting);
+        self.note(taken.is_ok(), &lasting);
         taken?;
         lasting
     }
@@ -116,7 +145,25 @@ impl<D: Disk> Folder<D> {
         self.take_settled(room, name)
     }
 
-    /// Keeps a file whole, where nothing has its name; else nothing changes.
+    /// Keeps a file anew that is there, if it has these bytes.
+    fn renew(&mut self, draft: &str, room: Room, name: &str, bytes: &[u8]) -> Result<(), DiskError>
+        requires { IsKept room }
+        ensures same { IsHonest (D.faithful self.old.disk) self.old.standing (D.state self.old.disk) → Stays (D.state self.old.disk) (D.state self.new.disk) }
+        ensures honest { IsHonest (D.faithful self.old.disk) self.old.standing (D.state self.old.disk)
+            → IsHonest (D.faithful self.new.disk) self.new.standing (D.state self.new.disk) }
+        ensures cause { HasCause (D.failed self.old.disk) result (D.failed self.new.disk) }
+    {
+        let Some(found) = self.read(room, name)? else {
+            return Ok(());
+        };
+        if found.as_slice() != bytes {
+            return Ok(());
+        }
+        self.keep(draft, room, name, bytes)
+    }
+
+    /// Keeps a file whole, where nothing has its name; else nothing changes. Where a change failed before, a file that is
+    /// there is written again, if it has these bytes.
     pub fn put(
         &mut self,
         draft: &str,
@@ -131,9 +178,12 @@ impl<D: Disk> Folder<D> {
             → IsHonest (D.faithful self.new.disk) self.new.standing (D.state self.new.disk) }
         ensures cause { HasCause (D.failed self.old.disk) result (D.failed self.new.disk) }
     {
-        if self.has(room, name)? {
+        if !self.has(room, name)? {
+            return self.keep(draft, room, name, bytes);
+        }
+        if !self.has_failed {
             return Ok(());
         }
-        self.keep(draft, room, name, bytes)
+        self.renew(draft, room, name, bytes)
     }
 }

@@ -11,7 +11,8 @@
 //! Not promised: that a disk of the outside world is faithful, and that nobody else writes to it.
 //!
 //! The definitions stand in `specs/`: `Folders` (what a folder asks of its disk, and what its calls do), `Spelling` (the
-//! store that files spell), `Ledgers` (the ledger that bytes spell), `Listings` (names of objects in a folder), `Laws`.
+//! store that files spell), `Ledgers` (the ledger that bytes spell), `Drafts` (names of files that are being written),
+//! `Listings` (names of objects in a folder), `Laws`.
 #![tactic(auto)]
 
 mod dir_shelf;
@@ -29,4 +30,5 @@ mod turns;
 
 pub use dir_shelf::DirShelf;
 pub use folders::{Folder, Standing};
+pub use places::{CONFIG, LEDGER, is_draft};
 pub use turns::{Turn, live};

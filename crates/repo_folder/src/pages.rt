@@ -42,7 +42,7 @@ pub fn room_page<D: Disk>(
     ensures names { IfOk result (λ page. All IsName page.names) }
 {
     let mut names = BTreeMap::new(alloc);
-    add_room(folder, kind, room, &mut names)?;
+    add_room(folder, kind, room, after, &mut names)?;
     Ok(page_after(alloc, &names, after, limit)?)
 }
 
@@ -106,7 +106,7 @@ pub fn pack_page<D: Disk>(
 {
     let mut names = BTreeMap::new(alloc);
     for first in least_first(after) as u16..256 {
-        add_room(folder, Kind::Pack, packs_at(first), &mut names)?;
+        add_room(folder, Kind::Pack, packs_at(first), after, &mut names)?;
         if let Some(page) = full_page(alloc, &names, after, limit)? {
             return Ok(page);
         }

@@ -1,6 +1,7 @@
 //! Where the files of a store stand.
 
-ghost use Rattle.std.specs.Prelude.{◌≡◌, IfOk, string_bytes};
+ghost use Rattle.std.specs.Prelude.{◌≡◌, ◌↔◌, IfOk, IsTrue, string_bytes};
+ghost use Rattle.repo_folder.specs.Drafts.{IsDraft, draft_of};
 ghost use Rattle.repo_folder.specs.Folders.{IsKept};
 ghost use Rattle.repo_folder.specs.Spelling.{room_of};
 
@@ -33,8 +34,17 @@ pub fn room_of(kind: Kind, name: &Name) -> Room
 }
 
 /// The name of a file while it is written.
-pub fn draft_of(alloc: Global, name: &str) -> Result<String, AllocError> {
+pub fn draft_of(alloc: Global, name: &str) -> Result<String, AllocError>
+    ensures { IfOk result (λ draft. string_bytes draft ≡ draft_of name.now) }
+{
     let mut draft = String::from_str(alloc, name)?;
     draft.push_str(ENDING)?;
     Ok(draft)
+}
+
+/// Whether a file of this name is one that is being written, or was when its writing was cut off.
+pub fn is_draft(name: &str) -> bool
+    ensures { IsTrue result ↔ IsDraft name.now }
+{
+    name.as_bytes().ends_with(ENDING.as_bytes())
 }

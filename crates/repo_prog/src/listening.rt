@@ -10,7 +10,7 @@ ghost use Rattle.repo_prog.specs.declared.status.Status.{Status};
 
 use crate::status::{Status, failed, failed_by};
 use repo_dial::reader_of;
-use repo_files::{DirShelf, HoldFile};
+use repo_files::{HoldFile, open_store};
 use repo_many::{Manner, Served, serve_many};
 use repo_store::{AppendOnly, Kept, ServeError, Shelf, serve, write_whole};
 use std::alloc::{AllocGlobal, Global};
@@ -213,7 +213,7 @@ where
     ensures status { IsEnd result }
     ensures written { result ≡ Status.Done → Appends (W.contents output.old) (W.contents output.new) listening_line }
 {
-    let mut shelf = match DirShelf::open(rt, folder) {
+    let shelf = match open_store(rt, folder) {
         Ok(shelf) => shelf,
         Err(error) => return failed_by(faults, &error, "shelf failed"),
     };
@@ -221,7 +221,7 @@ where
         Ok(listener) => listener,
         Err(error) => return failed_by(faults, &error, "not reached"),
     };
-    shelf.clean();
+    shelf.folder.disk.clean();
     if write_whole(output, b"listening\n").is_err() || output.flush().is_err() {
         return failed(faults, &"write failed");
     }

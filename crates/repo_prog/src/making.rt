@@ -13,7 +13,7 @@ use crate::status::{Status, failed, failed_by};
 use crate::words::Making;
 use rand::rngs::SysRng;
 use rand_core::TryRng;
-use repo_files::{DirShelf, HoldFile, has_config};
+use repo_files::{HoldFile, create_store, has_config};
 use repo_name::Instance;
 use repo_store::{InitError, Shelf, init, write_whole};
 use repo_tree::Config;
@@ -117,7 +117,7 @@ where
         return failed(faults, &InitError::Exists);
     }
     let config = config_of(making, id);
-    match DirShelf::create(rt, folder) {
+    match create_store(rt, folder) {
         Ok(mut shelf) => init_command(rt.alloc(), &mut shelf, &config, output, faults),
         Err(error) => failed_by(faults, &error, "shelf failed"),
     }

@@ -3,7 +3,6 @@ use Rattle.std.specs.BTreeMap.{IsOrdered}
 use Rattle.repo_name.specs.Naming.{name_cmp}
 use Rattle.repo_store.specs.Memory.{above, IsFirstPart}
 use Rattle.repo_store.specs.declared.shelves.Page.{Page}
-use Rattle.repo_folder.specs.Listings.{least_first}
 use Rattle.repo_folder.proofs.ListingLemmas.{packs_step, page_of_packs}
 use Rattle.repo_folder.proofs.SpellingLemmas.{store_stays}
 use Rattle.repo_folder.proofs.pages.pack_page.Goals as goal
@@ -18,7 +17,7 @@ returns-in-Some-clause-law g c h =
     let names = c.add_room.new.names in
     let page = c.in-Some.page in
     let small : first < 256 = search rules in
-    let packs = packs_step (least_first after) first old (g.D.Disk.state c.loop-first.folder.disk) c.loop-first.names names c.packs_at.result c.packs_at.ensures.room small (inv.stays h) (inv.packs h)
+    let packs = packs_step after first old (g.D.Disk.state c.loop-first.folder.disk) c.loop-first.names names c.packs_at.result c.packs_at.ensures.room small (inv.stays h) (inv.packs h)
     (add.joins (inv.honest h)) in
     let Cut : Page → Type 0 = λ page. IsFirstPart (above after names) c.args.limit page.names page.more in
     let Ordered : Page → Type 0 = λ page. IsOrdered name_cmp names in

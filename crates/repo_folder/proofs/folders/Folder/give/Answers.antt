@@ -8,5 +8,5 @@ returns-in_err-placed-clause-honest g c bytes was h =
     let faithful = g.D.Disk.faithful in
     let state = g.D.Disk.state in
     let keeps = placed.faithful h.faithful in
-    rw c.noted-self.ensures (honest_placed (faithful c.args.self.now.disk) (faithful c.sync-synced.new.self) c.args.room c.args.name.now (state c.args.self.now.disk) (state c.place-placed.new.self)
+    rw (c.note.ensures.standing, c.note.ensures.disk) (honest_placed (faithful c.args.self.now.disk) (faithful c.sync-synced.new.self) c.args.room c.args.name.now (state c.args.self.now.disk) (state c.place-placed.new.self.disk)
     (state c.sync-synced.new.self) h (synced.faithful keeps) c.requires c.args.draft.now bytes was c.place-placed.result c.sync-synced.result (placed.law h.faithful) (synced.law keeps))

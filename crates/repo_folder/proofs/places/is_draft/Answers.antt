@@ -2,9 +2,9 @@ use Rattle.std.proofs.Common.{rules}
 use Rattle.std.specs.Prelude.{codes}
 use Rattle.std.proofs.lemmas.Bool.Decides.{Decides-eqb}
 use Rattle.std.proofs.lemmas.Slice.Eq.{ends_is}
-use Rattle.repo_files.proofs.parts.is_part.Goals as goal
+use Rattle.repo_folder.proofs.places.is_draft.Goals as goal
 
 pub returns : goal.returns
 returns c =
     let ends = ends_is Decides-eqb c.args.name.now (codes ".vault-part") c.ends_with.result (search rules) in
-    (λ is. (_, ends.0 is), λ part. ends.1 part.0 part.1)
+    (λ is. (_, ends.0 is), λ draft. ends.1 draft.0 draft.1)
