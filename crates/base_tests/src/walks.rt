@@ -4,7 +4,7 @@ use crate::trials::Trial;
 use repo_index::{Fact, Facts, IndexText, Lookup, PackFacts};
 use repo_name::{BlobKind, Name, Text};
 use repo_pack::Place;
-use repo_reach::{Trees, Turn};
+use repo_reach::{Next, Root, Trees, Turn, read_with_next};
 use repo_tree::{Node, NodeKind};
 use std::alloc::{AllocError, Global};
 
@@ -43,11 +43,12 @@ fn facts(alloc: Global, count: u8) -> Result<Lookup, AllocError> {
     Ok(lookup)
 }
 
-/// Directories of these trees, in this order. A walk doesn't look at their names.
-fn dirs(alloc: Global, trees: &[u8]) -> Result<Vec<Node>, AllocError> {
+/// Directories of these trees, in this order, all of one name: a walk looks at the first and the last name alone, and only
+/// where a directory goes on.
+fn dirs(alloc: Global, name: &str, trees: &[u8]) -> Result<Vec<Node>, AllocError> {
     let mut nodes = Vec::new(alloc);
     for number in trees {
-        let name = Text::of(String::from_str(alloc, "d")?);
+        let name = Text::of(String::from_str(alloc, name)?);
         let what = NodeKind::Dir {
             subtree: tree(*number),
         };
@@ -56,17 +57,36 @@ fn dirs(alloc: Global, trees: &[u8]) -> Result<Vec<Node>, AllocError> {
     Ok(nodes)
 }
 
-/// A walk from one root.
-fn walk_from(alloc: Global, number: u8) -> Result<Trees, AllocError> {
+/// A walk from the tree 0, once for each of these versions.
+fn walk_from(alloc: Global, versions: &[u64]) -> Result<Trees, AllocError> {
     let mut roots = Vec::new(alloc);
-    roots.push(tree(number))?;
+    for version in versions {
+        roots.push(Root::of(tree(0), *version))?;
+    }
     Ok(Trees::new(alloc, roots))
 }
 
-/// Adds a tree of these directories.
-fn add(alloc: Global, walk: &mut Trees, number: u8, below: &[u8]) -> Result<(), AllocError> {
-    let nodes = dirs(alloc, below)?;
-    walk.add(tree(number), nodes.as_slice())
+/// A tree of directories of one name, which goes on so.
+#[derive(Clone, Copy)]
+struct Part<'a> {
+    name: &'a str,
+    below: &'a [u8],
+    next: Next,
+}
+
+/// A tree of these directories, which has no member `next`.
+fn whole(below: &[u8]) -> Part<'_> {
+    Part {
+        name: "d",
+        below,
+        next: Next::Absent,
+    }
+}
+
+/// Adds a tree.
+fn add(alloc: Global, walk: &mut Trees, number: u8, part: Part<'_>) -> Result<(), AllocError> {
+    let nodes = dirs(alloc, part.name, part.below)?;
+    walk.add(tree(number), nodes.as_slice(), part.next)
 }
 
 /// A walk, and where its trees are to be found.
@@ -77,12 +97,13 @@ struct Walk {
 }
 
 impl Trial {
-    /// A walk from the tree 0, made again where there was no memory; facts give the trees of the numbers below this one.
-    fn walk(&mut self, count: u8) -> Walk {
-        let mut trees = walk_from(self.alloc, 0);
+    /// A walk from the tree 0 by each of these versions, made again where there was no memory; facts give the trees of the
+    /// numbers below this one.
+    fn walk_by(&mut self, versions: &[u64], count: u8) -> Walk {
+        let mut trees = walk_from(self.alloc, versions);
         if trees.is_err() {
             self.lack();
-            trees = walk_from(self.alloc, 0);
+            trees = walk_from(self.alloc, versions);
         }
         let mut lookup = facts(self.alloc, count);
         if lookup.is_err() {
@@ -101,6 +122,11 @@ impl Trial {
         }
     }
 
+    /// One by version 1.
+    fn walk(&mut self, count: u8) -> Walk {
+        self.walk_by(&[1], count)
+    }
+
     /// This comes next, asked for again where there was no memory.
     fn comes(&mut self, walk: &mut Walk, wanted: Turn) {
         let mut turn = walk.trees.next(&walk.lookup);
@@ -114,13 +140,42 @@ impl Trial {
         }
     }
 
-    /// A tree is asked for and has these directories; it is given again where there was no memory.
-    fn reads(&mut self, walk: &mut Walk, number: u8, below: &[u8]) {
+    /// A tree is asked for and is this one; it is given again where there was no memory.
+    fn walks_part(&mut self, walk: &mut Walk, number: u8, part: Part<'_>) {
         self.comes(walk, Turn::Ask(fact(number)));
-        if add(self.alloc, &mut walk.trees, number, below).is_err() {
+        if add(self.alloc, &mut walk.trees, number, part).is_err() {
             self.lack();
             self.comes(walk, Turn::Ask(fact(number)));
-            self.count(add(self.alloc, &mut walk.trees, number, below).is_ok());
+            self.count(add(self.alloc, &mut walk.trees, number, part).is_ok());
+        }
+    }
+
+    /// A tree is asked for and has these directories.
+    fn reads(&mut self, walk: &mut Walk, number: u8, below: &[u8]) {
+        self.walks_part(walk, number, whole(below));
+    }
+
+    /// A tree is asked for and has these directories of one name, and goes on in this tree.
+    fn reads_first(&mut self, walk: &mut Walk, number: u8, name: &str, below: &[u8], next: u8) {
+        let next = Next::Tree(tree(next));
+        self.walks_part(walk, number, Part { name, below, next });
+    }
+
+    /// The directory of the tree 0 goes on in 2: 1 is below the first part, 3 below the second.
+    fn walks_over_parts(&mut self) {
+        let mut walk = self.walk_by(&[2], 4);
+        self.reads_first(&mut walk, 0, "a", &[1], 2);
+        self.reads(&mut walk, 2, &[3]);
+        self.reads(&mut walk, 1, &[]);
+        self.reads(&mut walk, 3, &[]);
+        self.comes(&mut walk, Turn::Done);
+    }
+
+    /// What these bytes are read as, but for the nodes.
+    fn reads_next(&mut self, text: &str, wanted: Next) {
+        match read_with_next(self.alloc, text.as_bytes()) {
+            Ok((_, next)) => self.count(next == wanted),
+            Err(_) => self.count(false),
         }
     }
 
@@ -182,7 +237,7 @@ fn tree_of_nodes_at_the_greatest_depth(rt: HostRuntime) {
     let mut walk = trial.walk(102);
     trial.goes_down(&mut walk);
     trial.reads(&mut walk, 100, &[101]);
-    trial.comes(&mut walk, Turn::TooDeep(tree(100)));
+    trial.comes(&mut walk, Turn::Broken(tree(100)));
     trial.comes(&mut walk, Turn::Done);
     trial.end(&rt);
 }
@@ -197,10 +252,84 @@ fn tree_of_none_at_the_greatest_depth(rt: HostRuntime) {
     trial.end(&rt);
 }
 
+// By hand: a part is asked for once the one before was read, and then the trees below come in the order of the nodes.
+#[test]
+fn parts_of_a_directory(rt: HostRuntime) {
+    let mut trial = Trial::new(rt.alloc());
+    trial.walks_over_parts();
+    trial.end(&rt);
+}
+
+// The root of version 1 has the first part alone; that of version 2 has the second one too, though the first was looked at.
+#[test]
+fn first_part_of_a_tree_of_version_1(rt: HostRuntime) {
+    let mut trial = Trial::new(rt.alloc());
+    let mut walk = trial.walk_by(&[1, 2], 4);
+    trial.reads_first(&mut walk, 0, "a", &[1], 2);
+    trial.reads(&mut walk, 1, &[]);
+    trial.reads(&mut walk, 2, &[3]);
+    trial.reads(&mut walk, 3, &[]);
+    trial.comes(&mut walk, Turn::Done);
+    trial.end(&rt);
+}
+
+#[test]
+fn parts_in_a_circle(rt: HostRuntime) {
+    let mut trial = Trial::new(rt.alloc());
+    let mut walk = trial.walk_by(&[2], 4);
+    trial.reads_first(&mut walk, 0, "a", &[3], 1);
+    trial.reads_first(&mut walk, 1, "b", &[3], 0);
+    trial.reads(&mut walk, 3, &[]);
+    trial.comes(&mut walk, Turn::Broken(tree(0)));
+    trial.comes(&mut walk, Turn::Done);
+    trial.end(&rt);
+}
+
+#[test]
+fn later_part_without_nodes(rt: HostRuntime) {
+    let mut trial = Trial::new(rt.alloc());
+    let mut walk = trial.walk_by(&[2], 2);
+    trial.reads_first(&mut walk, 0, "a", &[], 1);
+    trial.reads(&mut walk, 1, &[]);
+    trial.comes(&mut walk, Turn::Broken(tree(1)));
+    trial.comes(&mut walk, Turn::Done);
+    trial.end(&rt);
+}
+
+// A directory of one tree has no member `next`, whatever stands there; for a part it is to be a name.
+#[test]
+fn malformed_next(rt: HostRuntime) {
+    let mut trial = Trial::new(rt.alloc());
+    let mut walk = trial.walk_by(&[1, 2], 2);
+    let part = Part {
+        name: "a",
+        below: &[1],
+        next: Next::Malformed,
+    };
+    trial.walks_part(&mut walk, 0, part);
+    trial.reads(&mut walk, 1, &[]);
+    trial.comes(&mut walk, Turn::Broken(tree(0)));
+    trial.comes(&mut walk, Turn::Done);
+    trial.end(&rt);
+}
+
+#[test]
+fn texts_with_next(rt: HostRuntime) {
+    let mut trial = Trial::new(rt.alloc());
+    trial.reads_next("{\"nodes\":[]}", Next::Absent);
+    trial.reads_next(
+        "{\"nodes\":[],\"next\":\"0101010101010101010101010101010101010101010101010101010101010101\"}",
+        Next::Tree(tree(1)),
+    );
+    trial.reads_next("{\"nodes\":[],\"next\":null}", Next::Malformed);
+    trial.end(&rt);
+}
+
 // It holds where any one growth is refused, and is asked for again.
 #[test]
 fn refused_growth(rt: HostRuntime) {
     let mut trial = Trial::of_refusals(rt.alloc());
     trial.walks_over_shared();
+    trial.walks_over_parts();
     trial.end(&rt);
 }

@@ -5,12 +5,13 @@ use Rattle.repo_name.specs.declared.kinds.BlobKind.{BlobKind}
 use Rattle.repo_name.specs.declared.kinds.BlobKind.TheVariants.{Content, Tree}
 use Rattle.repo_name.specs.declared.names.Name.{Name}
 use Rattle.repo_index.specs.declared.facts.Fact.{Fact}
+use Rattle.repo_reach.proofs.Reading.{links_are}
 use Rattle.repo_reach.proofs.Rewinding.{got_or}
 use Rattle.repo_reach.proofs.Using.{one_more, taken_or}
 use Rattle.repo_reach.specs.Laws.{IsUsed}
 use Rattle.repo_reach.specs.Used.{UsedHasPair}
 use Rattle.repo_reach.specs.declared.links.Links.{Links}
-use Rattle.repo_reach.specs.declared.trees.Seen.{Seen}
+use Rattle.repo_reach.specs.declared.looks.Seen.{Seen}
 use Rattle.repo_reach.specs.declared.used.Used.{Used}
 use Rattle.repo_writing.specs.Blobs.{HasFact}
 use Rattle.repo_prune.specs.Reading.{AreFound}
@@ -45,8 +46,9 @@ module _ (facts : List Fact) (used : Used) where
 
   -- so facts give each used pair
   pub all_given : (all : List Seen) → GiveContent facts used all → AreFound facts all → ((k : BlobKind) (n : Name) → UsedHasPair used k n ↔ IsUsed all k n) → (k : BlobKind) (n : Name) → UsedHasPair used k n → HasFact facts k n
-  all_given all given found are Tree n h = let u = (are Tree n).0 h in subst (HasFact facts Tree) u.1.3 (found u.1.0 u.1.1 u.1.2).1
+  all_given all given found are Tree n h = let l = ((are Tree n).0 h).1.1 in subst (HasFact facts Tree) l.3 (found l.0 l.1 l.2).1
   all_given all given found are Content n h =
       let u = (are Content n).0 h in
-      let holds = u.4 in
-      given u.0 u.1 n u.3 (subst (λ (o : Option Links). Contains (content_in o) n) (sym holds.read) holds.among) h
+      let by = u.1 in
+      let holds = by.4 in
+      given by.0 by.1 n by.3 (subst (λ (o : Option Links). Contains (content_in o) n) (sym (links_are by.1 u.0 holds.links holds.read)) holds.among) h

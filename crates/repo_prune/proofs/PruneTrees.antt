@@ -1,5 +1,5 @@
 -- What is known while a prune reads trees, and once it did.
-use Rattle.std.proofs.Common.{Vec, Global, ◌≡◌, ◌↔◌, ◌++◌, ◌∷◌, [], ℕ, List, map, Some, slice_get, refl, sym, ap, subst, inl, inr, ◌∙◌, Contains}
+use Rattle.std.proofs.Common.{Vec, Global, ◌≡◌, ◌↔◌, ◌++◌, ◌∷◌, [], ℕ, Bool, true, false, List, map, Some, slice_get, refl, sym, ap, subst, inl, inr, ◌∙◌, Contains}
 use Rattle.std.specs.List.{All}
 use Rattle.std.proofs.lemmas.List.Elements.{All-contains, Contains-append_cases}
 use Rattle.std.proofs.lemmas.Option.{none-some}
@@ -16,11 +16,10 @@ use Rattle.repo_index.specs.IndexText.{fact_of}
 use Rattle.repo_index.specs.declared.facts.Fact.{Fact}
 use Rattle.repo_index.specs.declared.facts.PackFacts.{PackFacts}
 use Rattle.repo_tree.specs.Laws.{Grows}
-use Rattle.repo_tree.specs.Parts.{ListsBy, IsTree}
+use Rattle.repo_tree.specs.Parts.{ListsBy}
 use Rattle.repo_tree.specs.Spelling.{Reach}
 use Rattle.repo_tree.specs.declared.nodes.Node.{Node}
 use Rattle.repo_session.specs.Versions.{snapshot_version}
-use Rattle.repo_session.proofs.Faulting.{first_version}
 use Rattle.repo_session.specs.declared.outcomes.End.{End}
 use Rattle.repo_session.specs.declared.outcomes.Outcome.{Outcome}
 use Rattle.repo_session.specs.Askers.{Asker}
@@ -33,14 +32,17 @@ use Rattle.repo_session.specs.Order.{IsWorking}
 use Rattle.repo_session.specs.Received.{Received}
 use Rattle.repo_session.specs.Traces.{Exchange, Trace, Lists, ReadFact}
 use Rattle.repo_session.specs.Trees.{HasRoot, Under, IsNeeded, IsBroken, IsUnindexed}
-use Rattle.repo_session.proofs.Descending.{needed_grows, received_grows, under_grows}
+use Rattle.repo_session.proofs.Descending.{broken_grows, needed_grows, received_grows, under_grows}
 use Rattle.repo_session.proofs.Reaching.{reached_needed}
 use Rattle.repo_reach.proofs.Reaching.{used_is_reached}
-use Rattle.repo_reach.specs.Collected.{tree_blobs, IsReached}
+use Rattle.repo_reach.proofs.Leading.{same_version}
+use Rattle.repo_reach.proofs.Reading.{read_by}
+use Rattle.repo_reach.proofs.Using.{kept_links}
+use Rattle.repo_reach.specs.Collected.{tree_blobs, root_of, version_by, IsReachedBy}
 use Rattle.repo_reach.specs.Laws.{IsUsed}
-use Rattle.repo_reach.specs.Walks.{IsWalk, HasText}
-use Rattle.repo_reach.specs.declared.links.Links.{Links}
-use Rattle.repo_reach.specs.declared.trees.Seen.{Seen}
+use Rattle.repo_reach.specs.Walks.{IsWalk, WasAt, links_by}
+use Rattle.repo_reach.specs.declared.roots.Root.{Root}
+use Rattle.repo_reach.specs.declared.looks.Seen.{Seen}
 use Rattle.repo_reach.specs.declared.trees.Trees.{Trees}
 use Rattle.repo_reach.specs.Used.{UsedHasPair}
 use Rattle.repo_writing.proofs.PutLemmas.{each_contained}
@@ -75,44 +77,55 @@ tree_asked k who token es texts trees fact w over a = record {
 
 -- ---- rows and roots
 
--- a row's snapshot is of version 1, was read, and is listed
+-- the root of a row's snapshot
+abbrev row_root : Row → Root
+row_root row = root_of row.1.tree row.1.version
+
+-- a row's snapshot was read, is of a version that there is, and is listed
 module _ (es : Trace) (rows : List Row) (l : IsSnapshotListing es rows) (row : Row) (among : Contains rows row) where
   row_is : IsReadRow es row
   row_is = each_contained (IsReadRow es) rows row l.each among
 
-  pub row_version : row.1.version ≡ 1
-  row_version = first_version row.1.version row_is.2.known row_is.3
+  pub row_version : version_by (row_root row).follows ≡ row.1.version
+  row_version = same_version row.1.version row_is.2.known
 
   pub row_listed : Lists es Kind.Snapshot row.0
   row_listed = contained_has _ row.0 (subst (λ ns. Contains ns row.0) l.names (contains_map (λ (r : Row). r.0) rows row among))
 
-  pub row_root : HasRoot es row.0 1 row.1.tree
-  row_root = (row_is.0, row.1, row_is.1, row_is.2, row_version, refl)
+  pub row_found : HasRoot es row.0 row.1.version row.1.tree
+  row_found = (row_is.0, row.1, row_is.1, row_is.2, refl, refl)
+
+  -- what holds by its root, holds by its version
+  by_version : (P : ℕ → Name → Type 0) (root : Root) → row_root row ≡ root → P (version_by root.follows) root.tree → P row.1.version row.1.tree
+  by_version P root is h = subst (λ v. P v row.1.tree) row_version (subst (λ (r : Root). P (version_by r.follows) r.tree) (sym is) h)
 
 texts_received : (es : Trace) (texts : List (List ℕ)) → ((x : List ℕ) → Contains texts x → Received es Tree x) → Grows (tree_blobs texts) (Received es)
 texts_received es texts received k x h = subst (λ j. Received es j x) (sym h.0) (received x h.1)
 
 -- ---- why it can't go on
 
-module _ (k : Known) (es : Trace) (texts : List (List ℕ)) (roots : List Name) (read : HaveRead k es) (roots_are : roots ≡ map (λ (row : Row). row.1.tree) k.rows)
+module _ (k : Known) (es : Trace) (texts : List (List ℕ)) (roots : List Root) (read : HaveRead k es) (roots_are : roots ≡ map row_root k.rows)
     (received : (x : List ℕ) → Contains texts x → Received es Tree x) where
-  row_of : (root : Name) → Contains roots root → (row : Row) × Contains k.rows row × (row.1.tree ≡ root)
-  row_of root h = map_contains (λ (row : Row). row.1.tree) k.rows root (subst (λ rs. Contains rs root) roots_are h)
+  row_of : (root : Root) → Contains roots root → (row : Row) × Contains k.rows row × (row_root row ≡ root)
+  row_of root h = map_contains row_root k.rows root (subst (λ rs. Contains rs root) roots_are h)
 
   -- a blob that a snapshot needs, and no index gives
-  pub unindexed : (kind : BlobKind) (n : Name) → IsBlobNowhere k.facts kind n → (root : Name) → Contains roots root → IsNeeded 1 (tree_blobs texts) root kind n → (snapshot : Name) × Lists es Kind.Snapshot snapshot × IsUnindexed es snapshot (blob_thing kind) n
+  pub unindexed : (kind : BlobKind) (n : Name) → IsBlobNowhere k.facts kind n → (root : Root) → Contains roots root → IsNeeded (version_by root.follows) (tree_blobs texts) root.tree kind n
+      → (snapshot : Name) × Lists es Kind.Snapshot snapshot × IsUnindexed es snapshot (blob_thing kind) n
   unindexed kind n nowhere root among needed =
       let row = row_of root among in
-      let B : Name → Type 0 = λ m. HasRoot es row.0.0 1 m in (
+      let version = row.0.1.version in
+      let tree = row.0.1.tree in
+      let by : IsNeeded version (tree_blobs texts) tree kind n = by_version es k.rows read.snapshots row.0 row.1 (λ v t. IsNeeded v (tree_blobs texts) t kind n) root row.2 needed in (
         row.0.0,
         row_listed es k.rows read.snapshots row.0 row.1,
         record {
           kind = kind;
           called = refl;
-          version = 1;
-          root = root;
-          found = subst B row.2 (row_root es k.rows read.snapshots row.0 row.1);
-          needed = needed_grows 1 (tree_blobs texts) (Received es) (texts_received es texts received) root kind n needed;
+          version = version;
+          root = tree;
+          found = row_found es k.rows read.snapshots row.0 row.1;
+          needed = needed_grows version (tree_blobs texts) (Received es) (texts_received es texts received) tree kind n by;
           indexes = record { listed = read.indexes.listed; each = λ m lists. let i = read.indexes.each m lists in (i.0, i.2) };
           ungiven = λ given.
               let fact : Fact = given.0 in
@@ -121,26 +134,22 @@ module _ (k : Known) (es : Trace) (texts : List (List ℕ)) (roots : List Name) 
         },
       )
 
-  broken_grows : (root : Name) (path : List (List ℕ)) (tree : Name) → IsBroken 1 (tree_blobs texts) root path tree → IsBroken 1 (Received es) root path tree
-  broken_grows root path tree (inl none) = inl (none.0, texts_received es texts received Tree none.0 none.1, none.2, none.3)
-  broken_grows root path tree (inr (inl deep)) =
-      let t = deep.1 in
-      inr (inl (deep.0, record { text = t.text; among = texts_received es texts received Tree t.text t.among; named = t.named; reads = t.reads }, deep.2, deep.3))
-  broken_grows root path tree (inr (inr wrong)) = absurd wrong.2
-
-  pub bad_tree_there : (tree root : Name) → Contains roots root → (path : List (List ℕ)) → Under 1 (tree_blobs texts) root path tree → IsBroken 1 (tree_blobs texts) root path tree → IsBadTree es tree
+  pub bad_tree_there : (tree : Name) (root : Root) → Contains roots root → (path : List (List ℕ)) → Under (version_by root.follows) (tree_blobs texts) root.tree path tree → IsBroken (version_by root.follows) (tree_blobs texts) root.tree path tree → IsBadTree es tree
   bad_tree_there tree root among path under broken =
       let row = row_of root among in
-      let B : Name → Type 0 = λ m. HasRoot es row.0.0 1 m in
+      let version = row.0.1.version in
+      let top = row.0.1.tree in
+      let at : Under version (tree_blobs texts) top path tree = by_version es k.rows read.snapshots row.0 row.1 (λ v t. Under v (tree_blobs texts) t path tree) root row.2 under in
+      let bad : IsBroken version (tree_blobs texts) top path tree = by_version es k.rows read.snapshots row.0 row.1 (λ v t. IsBroken v (tree_blobs texts) t path tree) root row.2 broken in
       record {
         snapshot = row.0.0;
         among = row_listed es k.rows read.snapshots row.0 row.1;
-        version = 1;
-        root = root;
-        found = subst B row.2 (row_root es k.rows read.snapshots row.0 row.1);
+        version = version;
+        root = top;
+        found = row_found es k.rows read.snapshots row.0 row.1;
         path = path;
-        leads = under_grows 1 (tree_blobs texts) (Received es) (texts_received es texts received) root path tree under;
-        broken = broken_grows root path tree broken;
+        leads = under_grows version (tree_blobs texts) (Received es) (texts_received es texts received) top path tree at;
+        broken = broken_grows version (tree_blobs texts) (Received es) (texts_received es texts received) top path tree bad;
       }
 
   pub cannot_go_on : IsUntouched es → (end : End) → CannotGoOn k.facts (tree_blobs texts) roots end → PruneConcludes es (Outcome.Ended end)
@@ -174,39 +183,46 @@ module _ (k : Known) (trees : Trees) (es : Trace) (h : HasWalked k trees es) whe
   listing : IsSnapshotListing es k.rows
   listing = h.over.read.snapshots
 
-  reach_one : (row : Row) (kind : BlobKind) (n : Name) → Contains k.rows row → Reach row.1.version (tree_blobs h.texts) row.1.tree kind n → IsReached h.texts trees.roots.items kind n
+  -- what a row's snapshot reaches, its root does
+  reach_one : (row : Row) (kind : BlobKind) (n : Name) → Contains k.rows row → Reach row.1.version (tree_blobs h.texts) row.1.tree kind n → IsReachedBy h.texts trees.roots.items (row_root row).follows kind n
   reach_one row kind n among reach = (
     row.1.tree,
-    subst (λ rs. Contains rs row.1.tree) (sym h.over.roots) (contains_map (λ (r : Row). r.1.tree) k.rows row among),
-    subst (λ v. Reach v (tree_blobs h.texts) row.1.tree kind n) (row_version es k.rows listing row among) reach,
+    subst (λ rs. Contains rs (row_root row)) (sym h.over.roots) (contains_map row_root k.rows row among),
+    subst (λ v. Reach v (tree_blobs h.texts) row.1.tree kind n) (sym (row_version es k.rows listing row among)) reach,
   )
 
   pub needed_used : (kind : BlobKind) (n : Name) → IsNeededBy k.rows h.texts kind n → IsUsed trees.seen.items kind n
-  needed_used kind n need = (used_is_reached h.texts trees h.walks.walk h.whole kind n).0 (reach_one need.row kind n need.among need.reaches)
+  needed_used kind n need =
+      let follows = (row_root need.row).follows in
+      (follows, (used_is_reached h.texts trees h.walks.walk h.whole follows kind n).0 (reach_one need.row kind n need.among need.reaches))
 
   pub used_needed : (kind : BlobKind) (n : Name) → IsUsed trees.seen.items kind n → IsNeededBy k.rows h.texts kind n
-  used_needed kind n used =
-      let reached = (used_is_reached h.texts trees h.walks.walk h.whole kind n).1 used in
-      let found = map_contains (λ (row : Row). row.1.tree) k.rows reached.0 (subst (λ rs. Contains rs reached.0) h.over.roots reached.1) in
-      let row : Row = found.0 in
-      let at : Reach 1 (tree_blobs h.texts) row.1.tree kind n = subst (λ t. Reach 1 (tree_blobs h.texts) t kind n) (sym found.2) reached.2 in
-      record { row = row; among = found.1; reaches = subst (λ v. Reach v (tree_blobs h.texts) row.1.tree kind n) (sym (row_version es k.rows listing row found.1)) at }
+  used_needed kind n (follows, used) =
+      let reached = (used_is_reached h.texts trees h.walks.walk h.whole follows kind n).1 used in
+      let root : Root = record { tree = reached.0; follows = follows } in
+      let found = map_contains row_root k.rows root (subst (λ rs. Contains rs root) h.over.roots reached.1) in
+      record { row = found.0; among = found.1; reaches = by_version es k.rows listing found.0 found.1 (λ v t. Reach v (tree_blobs h.texts) t kind n) root found.2 reached.2 }
 
-  seen_lists : (seen : Seen) (n : Name) → seen.name ≡ n → (links : Links) → seen.links ≡ Some links → HasText h.texts seen.name seen.links → (nodes : List Node) × ListsBy 1 (tree_blobs h.texts) n nodes
-  seen_lists seen n named links is text =
-      let t : HasText h.texts seen.name (Some links) = subst (HasText h.texts seen.name) is text in
-      let tree : IsTree (tree_blobs h.texts) n t.1 = record { text = t.0; among = (refl, t.2); named = t.3 ∙ named; reads = t.4 } in
-      (t.1, tree)
+  -- a tree that was looked at lists nodes, as it was read
+  seen_lists : (follows : Bool) (seen : Seen) (i : ℕ) (depth : ℕ) → slice_get trees.seen.items i ≡ Some seen → WasAt seen follows depth → (nodes : List Node) × ListsBy (version_by follows) (tree_blobs h.texts) seen.name nodes
+  seen_lists follows seen i depth there was =
+      let links = h.whole.read i seen there in
+      let read = read_by h.texts follows seen links.0 (h.walks.walk.seen.each i seen there).text (links_kept follows seen i depth there was ∙ links.1) in
+      (read.nodes, read.lists)
+    where
+      links_kept : (follows : Bool) (seen : Seen) (i : ℕ) (depth : ℕ) → slice_get trees.seen.items i ≡ Some seen → WasAt seen follows depth → links_by follows seen ≡ seen.links
+      links_kept true seen i depth there was = kept_links seen.joint.next seen.links (h.walks.parts i seen depth there was)
+      links_kept false seen i depth there was = refl
 
   pub all_walked : AreWalked k.rows h.texts
   all_walked row n among reach =
-      let used = (used_is_reached h.texts trees h.walks.walk h.whole Tree n).0 (reach_one row Tree n among reach) in
-      let i = used.1.0 in
-      let seen = used.1.1 in
-      let links = h.whole.read i seen used.1.2 in
-      let text = (h.walks.walk.seen.each i seen used.1.2).text in
-      let lists = seen_lists seen n used.1.3 links.0 links.1 text in
-      (lists.0, subst (λ v. ListsBy v (tree_blobs h.texts) n lists.0) (sym (row_version es k.rows listing row among)) lists.1)
+      let follows = (row_root row).follows in
+      let used = (used_is_reached h.texts trees h.walks.walk h.whole follows Tree n).0 (reach_one row Tree n among reach) in
+      let l = used.1 in
+      let lists = seen_lists follows l.1 l.0 used.0 l.2 l.4 in (
+        lists.0,
+        subst (λ v. ListsBy v (tree_blobs h.texts) n lists.0) (row_version es k.rows listing row among) (subst (λ m. ListsBy (version_by follows) (tree_blobs h.texts) m lists.0) l.3 lists.1),
+      )
 
   kept_pack : (facts : List Fact) (listed : PackFacts) → facts ≡ k.facts → ((fact : Fact) → Contains listed.facts fact ↔ (Contains facts fact × (fact.place.pack ≡ listed.pack))) → IsKeptPack es listed
   kept_pack facts listed same each fact = (
@@ -253,9 +269,10 @@ module _ (k : Known) (trees : Trees) (es : Trace) (h : HasWalked k trees es) whe
 
   -- some content that is used, and that no index gives
   pub content_unindexed : (n : Name) → IsUsed trees.seen.items Content n → IsBlobNowhere k.facts Content n → (snapshot : Name) × Lists es Kind.Snapshot snapshot × IsUnindexed es snapshot Thing.Content n
-  content_unindexed n used nowhere =
-      let reached = (used_is_reached h.texts trees h.walks.walk h.whole Content n).1 used in
-      unindexed k es h.texts trees.roots.items h.over.read h.over.roots h.over.received Content n nowhere reached.0 reached.1 (reached_needed 1 (tree_blobs h.texts) reached.0 Content n reached.2)
+  content_unindexed n (follows, used) nowhere =
+      let reached = (used_is_reached h.texts trees h.walks.walk h.whole follows Content n).1 used in
+      let root : Root = record { tree = reached.0; follows = follows } in
+      unindexed k es h.texts trees.roots.items h.over.read h.over.roots h.over.received Content n nowhere root reached.1 (reached_needed (version_by follows) (tree_blobs h.texts) reached.0 Content n reached.2)
 
 -- ---- at the begin
 
@@ -263,9 +280,9 @@ none_got : (all : List Seen) (i : ℕ) (seen : Seen) → all ≡ [] → slice_ge
 none_got all i seen none there = let empty : List Seen = [] in let at : slice_get empty i ≡ Some seen = subst (λ xs. slice_get xs i ≡ Some seen) none there in none-some seen at
 
 pub first_walk : (facts : List Fact) (trees : Trees) → IsWalk [] trees → trees.seen.items ≡ [] → Walks facts [] trees
-first_walk facts trees walk none = record { walk = walk; found = λ i seen there. absurd (none_got trees.seen.items i seen none there) }
+first_walk facts trees walk none = record { walk = walk; found = λ i seen there. absurd (none_got trees.seen.items i seen none there); parts = λ i seen depth there was. absurd (none_got trees.seen.items i seen none there) }
 
-pub first_over : (k : Known) (trees : Trees) (es : Trace) → HaveRead k es → IsUntouched es → trees.roots.items ≡ map (λ (row : Row). row.1.tree) k.rows → IsWalkOver k [] trees es
+pub first_over : (k : Known) (trees : Trees) (es : Trace) → HaveRead k es → IsUntouched es → trees.roots.items ≡ map (λ (row : Row). root_of row.1.tree row.1.version) k.rows → IsWalkOver k [] trees es
 first_over k trees es read untouched roots = record { read = read; untouched = untouched; roots = roots; received = λ x h. absurd (none_contained x h) }
 
 -- ---- a tree came
@@ -280,7 +297,7 @@ walk_more k texts trees new fact e es x over a is promised roots =
     record {
       read = read_same e es aside k over.read;
       untouched = untouched_same e es same over.untouched;
-      roots = ap (λ (v : Vec Name Global). v.items) roots ∙ over.roots;
+      roots = ap (λ (v : Vec Root Global). v.items) roots ∙ over.roots;
       received = λ y among. elim (Contains-append_cases texts (x ∷ []) y among) [
         | inl old ↦ received_grows e es Tree y (over.received y old)
         | inr last ↦ elim (contained_or x [] y last) [ inl same ↦ subst (Received (e ∷ es) Tree) same now | inr none ↦ absurd (none_contained y none) ]

@@ -29,6 +29,7 @@ use Rattle.repo_session.specs.Rolls.{IsPaged, Rolls}
 use Rattle.repo_session.specs.Sessions.{FitsSession, who_in}
 use Rattle.repo_session.specs.Told.{AskedToPut}
 use Rattle.repo_session.specs.Traces.{Each, Object, Trace, silent, names_in, objects_put, IsListed, Lists, ReadFact}
+use Rattle.repo_reach.specs.Collected.{root_of}
 use Rattle.repo_reach.specs.Laws.{IsWholeWalk}
 use Rattle.repo_reach.specs.declared.trees.Trees.{Trees}
 use Rattle.repo_writing.specs.Blobs.{HasFact}
@@ -70,11 +71,11 @@ pub record HaveRead (k : Known) (es : Trace) : Type 0 where
 
 -- ---- trees
 
--- a walk over trees that were received, from the roots of all snapshots
+-- a walk over trees that were received, from the roots of all snapshots, each of its version
 pub record IsWalkOver (k : Known) (texts : List (List ℕ)) (trees : Trees) (es : Trace) : Type 0 where
   pub read : HaveRead k es
   pub untouched : IsUntouched es
-  pub roots : trees.roots.items ≡ map (λ (row : Row). row.1.tree) k.rows
+  pub roots : trees.roots.items ≡ map (λ (row : Row). root_of row.1.tree row.1.version) k.rows
   pub received : (x : List ℕ) → Contains texts x → Received es Tree x
 
 -- the tree of this fact was asked for

@@ -1,5 +1,5 @@
 -- What is known while a prune reads trees.
-use Rattle.std.specs.Prelude.{◌≡◌, ◌⊎◌, ◌++◌, ◌∷◌, [], ℕ, List, length, slice_get, Some, Contains}
+use Rattle.std.specs.Prelude.{◌≡◌, ◌≢◌, ◌⊎◌, ◌++◌, ◌∷◌, [], ⊤, ℕ, true, List, length, slice_get, Some, Contains}
 use Rattle.repo_name.specs.Naming as naming
 use Rattle.repo_name.specs.declared.kinds.BlobKind.{BlobKind}
 use Rattle.repo_name.specs.declared.kinds.BlobKind.TheVariants.{Tree}
@@ -13,37 +13,45 @@ use Rattle.repo_session.specs.Catalogs.{IsBlobNowhere}
 use Rattle.repo_session.specs.Ends.{blob_thing, IsBadBlob, IsUnwelcome}
 use Rattle.repo_session.specs.Trees.{Under, IsNeeded, IsBroken}
 use Rattle.repo_session.specs.declared.outcomes.End.{End}
-use Rattle.repo_reach.specs.Collected.{tree_blobs}
+use Rattle.repo_reach.specs.Collected.{tree_blobs, version_by}
+use Rattle.repo_reach.specs.Joints.{SaysNext}
 use Rattle.repo_reach.specs.Laws.{IsWholeWalk}
-use Rattle.repo_reach.specs.Walks.{IsWalk, TurnIs, Adds, IsSameWalk}
+use Rattle.repo_reach.specs.Walks.{IsWalk, WasAt, TurnIs, Adds, IsSameWalk}
+use Rattle.repo_reach.specs.declared.joints.Next.{Next}
 use Rattle.repo_reach.specs.declared.links.Links.{Links}
-use Rattle.repo_reach.specs.declared.trees.Seen.{Seen}
+use Rattle.repo_reach.specs.declared.looks.Seen.{Seen}
+use Rattle.repo_reach.specs.declared.roots.Root.{Root}
 use Rattle.repo_reach.specs.declared.trees.Trees.{Trees}
 use Rattle.repo_reach.specs.declared.trees.Turn.{Turn}
 use Rattle.repo_reach.specs.declared.trees.Turn.TheVariants as turn
 use Rattle.repo_writing.specs.Blobs.{HasFact}
 use Rattle.repo_prune.specs.declared.reading.Walked.{Walked}
 use Rattle.repo_tree.specs.declared.nodes.Node.{Node}
-use Rattle.repo_tree.specs.TreeText.{IsTreeText}
 
 -- each tree that was seen was read, and a fact gives it
 abbrev pub AreFound : List Fact → List Seen → Type 0
 AreFound facts all = (i : ℕ) (seen : Seen) → slice_get all i ≡ Some seen → ((links : Links) × (seen.links ≡ Some links)) × HasFact facts Tree seen.name
 
+-- each tree that was looked at as a part of a directory has the text of a part
+abbrev pub AreParts : List Seen → Type 0
+AreParts all = (i : ℕ) (seen : Seen) (depth : ℕ) → slice_get all i ≡ Some seen → WasAt seen true depth → seen.joint.next ≢ Next.Malformed
+
 -- a walk over trees that were read from these texts
 pub record Walks (facts : List Fact) (texts : List (List ℕ)) (trees : Trees) : Type 0 where
   pub walk : IsWalk texts trees
   pub found : AreFound facts trees.seen.items
+  pub parts : AreParts trees.seen.items
 
 -- and the tree of this fact is to be asked for
 pub record Awaits (facts : List Fact) (texts : List (List ℕ)) (trees : Trees) (fact : Fact) : Type 0 where
   pub walks : Walks facts texts trees
   pub next : TurnIs facts texts trees (turn.Ask fact)
 
--- why it can't go on: no fact gives a tree that a root needs, or such a tree is broken
-abbrev pub CannotGoOn : List Fact → Blobs → List Name → End → Type 0
-CannotGoOn facts B roots (End.Missing thing name) = (kind : BlobKind) × (thing ≡ blob_thing kind) × IsBlobNowhere facts kind name × ((root : Name) × Contains roots root × IsNeeded 1 B root kind name)
-CannotGoOn facts B roots (End.BadObject thing tree) = (thing ≡ Thing.Tree) × ((root : Name) × Contains roots root × ((path : List (List ℕ)) × Under 1 B root path tree × IsBroken 1 B root path tree))
+-- why it can't go on: no fact gives a tree that a root needs, or such a tree is broken, each by the version of the root's snapshot
+abbrev pub CannotGoOn : List Fact → Blobs → List Root → End → Type 0
+CannotGoOn facts B roots (End.Missing thing name) = (kind : BlobKind) × (thing ≡ blob_thing kind) × IsBlobNowhere facts kind name × ((root : Root) × Contains roots root × IsNeeded (version_by root.follows) B root.tree kind name)
+CannotGoOn facts B roots (End.BadObject thing tree) = (thing ≡ Thing.Tree)
+    × ((root : Root) × Contains roots root × ((path : List (List ℕ)) × Under (version_by root.follows) B root.tree path tree × IsBroken (version_by root.follows) B root.tree path tree))
 CannotGoOn facts B roots _ = ⊥
 
 -- what comes next of it
@@ -53,14 +61,21 @@ WalksOn facts texts trees Walked.Done = Walks facts texts trees × IsWholeWalk t
 WalksOn facts texts trees (Walked.Ended end) = CannotGoOn facts (tree_blobs texts) trees.roots.items end
 WalksOn facts texts trees Walked.Away = ⊥
 
+-- what is known of a walk that takes this turn: where a tree is broken, no more than that
+abbrev pub WalksTo : List Fact → List (List ℕ) → Trees → Turn → Type 0
+WalksTo facts texts trees (turn.Broken n) = ⊤
+WalksTo facts texts trees (turn.Ask fact) = Walks facts texts trees
+WalksTo facts texts trees (turn.Missing n) = Walks facts texts trees
+WalksTo facts texts trees turn.Done = Walks facts texts trees
+
 -- wherever a walk takes this turn, it goes on so
 abbrev pub WalksBy : Turn → Walked → Type 0
-WalksBy next walked = (facts : List Fact) (texts : List (List ℕ)) (trees : Trees) → Walks facts texts trees → TurnIs facts texts trees next → WalksOn facts texts trees walked
+WalksBy next walked = (facts : List Fact) (texts : List (List ℕ)) (trees : Trees) → WalksTo facts texts trees next → TurnIs facts texts trees next → WalksOn facts texts trees walked
 
--- the tree that is awaited was read, and has these nodes; or has these bytes
-abbrev pub AddsTree : List Fact → Name → List Node → Trees → Walked → Trees → Type 0
-AddsTree facts name nodes old walked new = (texts : List (List ℕ)) (fact : Fact) (text : List ℕ) → Awaits facts texts old fact → fact.name ≡ name → naming.name text ≡ name
-    → IsTreeText text nodes → WalksOn facts (texts ++ text ∷ []) new walked
+-- the tree that is awaited was read, and has these nodes, and this is its member `next`; or has these bytes
+abbrev pub AddsTree : List Fact → Name → List Node → Next → Trees → Walked → Trees → Type 0
+AddsTree facts name nodes next old walked new = (texts : List (List ℕ)) (fact : Fact) (text : List ℕ) → Awaits facts texts old fact → fact.name ≡ name → naming.name text ≡ name
+    → SaysNext text nodes next → WalksOn facts (texts ++ text ∷ []) new walked
 
 abbrev pub AddsText : List Fact → Name → List ℕ → Trees → Walked → Trees → Type 0
 AddsText facts name bytes old walked new = (texts : List (List ℕ)) (fact : Fact) → Awaits facts texts old fact → fact.name ≡ name → naming.name bytes ≡ name

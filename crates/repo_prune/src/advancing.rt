@@ -1,6 +1,7 @@
 //! What comes next of a prune, once a stage of it is done.
 
 ghost use Rattle.std.specs.Prelude.{◌≡◌, map, IfOk};
+ghost use Rattle.repo_reach.specs.Collected.{root_of};
 ghost use Rattle.repo_session.specs.Jobs.{IsShortStep};
 ghost use Rattle.repo_session.specs.declared.jobs.Step.{Step};
 ghost use Rattle.repo_session.specs.declared.outcomes.Outcome.{Outcome};
@@ -15,7 +16,7 @@ use crate::prunes::{Onward, PruneJob, Stage};
 use crate::reading::{Walked, read_on};
 use crate::relisting::Relisting;
 use repo_name::{Name, Thing, Token};
-use repo_reach::Trees;
+use repo_reach::{Root, Trees};
 use repo_session::{End, Outcome, Step, range_ask};
 use repo_tree::Snapshot;
 use repo_writing::put_pack;
@@ -29,11 +30,15 @@ pub fn end(end: End) -> Step
     Step::Finish(Outcome::Ended(end))
 }
 
-/// The trees of some snapshots. It fails for memory alone.
-fn roots_of(alloc: Global, rows: &[(Name, Snapshot)]) -> Result<Vec<Name>, AllocError>
-    ensures { IfOk result (λ roots. roots.items ≡ map (λ row. row.1.tree) rows.now) }
+/// The roots of some snapshots. It fails for memory alone.
+fn roots_of(alloc: Global, rows: &[(Name, Snapshot)]) -> Result<Vec<Root>, AllocError>
+    ensures { IfOk result (λ roots. roots.items ≡ map (λ row. root_of row.1.tree row.1.version) rows.now) }
 {
-    rows.iter().map(|row| row.1.tree).collect(alloc)
+    let mut roots = Vec::new(alloc);
+    for row in rows {
+        roots.push(Root::of(row.1.tree, row.1.version))?;
+    }
+    Ok(roots)
 }
 
 /// What the moving comes to: a blob is asked for, or a pack is put.

@@ -13,9 +13,9 @@ ghost use Rattle.repo_name.specs.declared.kinds.Thing.{Thing};
 
 use repo_index::{Fact, Lookup};
 use repo_name::{Name, Thing};
-use repo_reach::{Trees, Turn};
+use repo_reach::{Next, Trees, Turn, read_with_next};
 use repo_session::{End, Fetched, blob_of};
-use repo_tree::{Node, read_tree};
+use repo_tree::Node;
 use repo_wire::Say;
 use std::alloc::{AllocError, Global};
 
@@ -46,7 +46,7 @@ fn go_on(turn: Turn) -> Walked
     match turn {
         Turn::Ask(fact) => Walked::Ask(fact),
         Turn::Missing(name) => Walked::Ended(End::Missing(Thing::Tree, name)),
-        Turn::TooDeep(name) => bad_tree(name),
+        Turn::Broken(name) => bad_tree(name),
         Turn::Done => Walked::Done,
     }
 }
@@ -54,26 +54,27 @@ fn go_on(turn: Turn) -> Walked
 /// Goes on over the trees that were seen. It fails for memory alone, and then it can be called again.
 pub fn read_on(trees: &mut Trees, lookup: &Lookup) -> Result<Walked, AllocError>
     ensures on { IfOk result (λ walked. (texts : List (List ℕ)) → Walks lookup.now texts trees.old → WalksOn lookup.now texts trees.new walked) }
-    ensures walks { (texts : List (List ℕ)) → Walks lookup.now texts trees.old → Walks lookup.now texts trees.new }
+    ensures walks { OnErr result ((texts : List (List ℕ)) → Walks lookup.now texts trees.old → Walks lookup.now texts trees.new) }
     ensures kept { IsSameWalk trees.old trees.new }
 {
     let turn = trees.next(lookup)?;
     Ok(go_on(turn))
 }
 
-/// Takes the nodes of a tree, and goes on. It fails for memory alone, and then what was known is known.
+/// Takes the nodes of a tree, and what its member `next` is, and goes on. It fails for memory alone, and then what was known is known.
 fn add_tree(
     trees: &mut Trees,
     lookup: &Lookup,
     name: Name,
     nodes: &[Node],
+    next: Next,
 ) -> Result<Walked, AllocError>
-    ensures on { IfOk result (λ walked. AddsTree lookup.now name nodes.now trees.old walked trees.new) }
+    ensures on { IfOk result (λ walked. AddsTree lookup.now name nodes.now next trees.old walked trees.new) }
     ensures still { OnErr result (AwaitsTreeStill lookup.now name trees.old trees.new) }
     ensures taken { IfOk result (λ walked. HasTaken trees.old name trees.new) }
     ensures roots { trees.new.roots ≡ trees.old.roots }
 {
-    trees.add(name, nodes)?;
+    trees.add(name, nodes, next)?;
     match read_on(trees, lookup) {
         Ok(walked) => Ok(walked),
         Err(error) => {
@@ -96,8 +97,8 @@ fn take_bytes(
     ensures taken { IfOk result (λ walked. walked ≡ Walked.Done → HasTaken trees.old name trees.new) }
     ensures roots { trees.new.roots ≡ trees.old.roots }
 {
-    match read_tree(alloc, bytes) {
-        Ok(nodes) => add_tree(trees, lookup, name, nodes.as_slice()),
+    match read_with_next(alloc, bytes) {
+        Ok((nodes, next)) => add_tree(trees, lookup, name, nodes.as_slice(), next),
         Err(error) => {
             error.check_fault()?;
             Ok(bad_tree(name))

@@ -7,4 +7,6 @@ pub mod Adding
 pub mod Turning
 pub mod Reaching
 pub mod Using
-pub mod Deepening
+pub mod Leading
+pub mod Reading
+pub mod Telling

@@ -7,10 +7,13 @@ use Rattle.repo_name.specs.NameMaps.{found}
 use Rattle.repo_name.specs.declared.names.Name.{Name}
 use Rattle.repo_name.proofs.Containing.{contained_or, contains_got, first_contained, none_contained}
 use Rattle.repo_tree.specs.Spelling.{greatest_depth}
-use Rattle.repo_reach.specs.Collected.{LeadsTo}
-use Rattle.repo_reach.specs.Walks.{WasAt, IsLooked, IsMet, StandsAt, AreSeen, HaveMet, IsWalk, IsVisitDue, IsSameSeen}
+use Rattle.repo_reach.specs.Collected.{tree_blobs, version_by, LeadsTo}
+use Rattle.repo_reach.specs.Walks.{visit_at, WasAt, IsLooked, IsMet, StandsAt, AreSeen, HaveMet, IsWalk, IsVisitDue, IsSameSeen}
+use Rattle.repo_reach.specs.inner.Looking.{IsRootVisit}
+use Rattle.repo_reach.specs.declared.roots.Root.{Root}
 use Rattle.repo_reach.specs.declared.trees.Trees.{Trees}
-use Rattle.repo_reach.specs.declared.trees.Seen.{Seen}
+use Rattle.repo_reach.proofs.Leading.{part_self}
+use Rattle.repo_reach.specs.declared.looks.Seen.{Seen}
 use Rattle.repo_reach.specs.declared.trees.Visit.{Visit}
 
 pub below_or : (i n : ℕ) → i < n + 1 → (i < n) ⊎ (i ≡ n)
@@ -20,34 +23,36 @@ below_or i n h = elim (cases_Bool (leb (i + 1) n)) [
 ]
 
 -- where a tree stands decides whether it was
-pub looked_there : (all : List Seen) (t : Name) (at depth : ℕ) (seen : Seen) → StandsAt all t (Some at) → slice_get all at ≡ Some seen → IsLooked all t depth → WasAt seen depth
-looked_there all t at depth seen stands there l =
+pub looked_there : (all : List Seen) (t : Name) (at : ℕ) (follows : Bool) (depth : ℕ) (seen : Seen) → StandsAt all t (Some at) → slice_get all at ≡ Some seen → IsLooked all t follows depth → WasAt seen follows depth
+looked_there all t at follows depth seen stands there l =
     let same : l.0 ≡ at = stands.1 l.0 l.1 l.2 l.3 in
     let one : l.1 ≡ seen = same_Some l.1 seen (sym l.2 ∙ ap (λ i. slice_get all i) same ∙ there) in
-    subst (λ s. WasAt s depth) one l.4
+    subst (λ s. WasAt s follows depth) one l.4
 
 -- what was met stays met where one that was looked at waits no longer
-met_without : (all : List Seen) (rest : List Visit) (v : Visit) (t : Name) (depth : ℕ) → IsLooked all v.tree v.depth → IsMet all (rest ++ v ∷ []) t depth → IsMet all rest t depth
-met_without all rest v t depth looked (inl h) = inl h
-met_without all rest v t depth looked (inr h) = ⊎_elim inr (λ here. ⊎_elim
-    (λ (same : v ≡ record { tree = t; depth = depth }). inl (subst (λ (w : Visit). IsLooked all w.tree w.depth) same looked))
-    (λ none. absurd (none_contained (record { tree = t; depth = depth }) none)) (contained_or v [] (record { tree = t; depth = depth }) here))
-    (Contains-append_cases rest (v ∷ []) (record { tree = t; depth = depth }) h)
+met_without : (all : List Seen) (rest : List Visit) (v : Visit) (t : Name) (follows : Bool) (depth : ℕ) → IsLooked all v.tree v.follows v.depth → IsMet all (rest ++ v ∷ []) t follows depth → IsMet all rest t follows depth
+met_without all rest v t follows depth looked (inl h) = inl h
+met_without all rest v t follows depth looked (inr h) = ⊎_elim inr (λ here. ⊎_elim
+    (λ (same : v ≡ visit_at follows depth t). inl (subst (λ (w : Visit). IsLooked all w.tree w.follows w.depth) same looked))
+    (λ none. absurd (none_contained (visit_at follows depth t) none)) (contained_or v [] (visit_at follows depth t) here))
+    (Contains-append_cases rest (v ∷ []) (visit_at follows depth t) h)
 
-pub popped : (texts : List (List ℕ)) (roots : List Name) (root : ℕ) (all : List Seen) (rest : List Visit) (v : Visit) → IsLooked all v.tree v.depth → HaveMet texts roots root all (rest ++ v ∷ []) → HaveMet texts roots root all rest
+pub popped : (texts : List (List ℕ)) (roots : List Root) (root : ℕ) (all : List Seen) (rest : List Visit) (v : Visit) → IsLooked all v.tree v.follows v.depth → HaveMet texts roots root all (rest ++ v ∷ []) → HaveMet texts roots root all rest
 popped texts roots root all rest v looked h = record {
   begun = h.begun;
-  below = λ i seen links depth n there links_are was few among. met_without all rest v n (depth + 1) looked (h.below i seen links depth n there links_are was few among);
+  below = λ i seen links follows depth n there links_are was few among. met_without all rest v n follows (depth + 1) looked (h.below i seen links follows depth n there links_are was few among);
+  onward = λ i seen follows depth n there goes was. let o = h.onward i seen follows depth n there goes was in (o.0, met_without all rest v n follows depth looked o.1);
   looked = h.looked;
   to_look = λ w among. h.to_look w (Contains-append_left rest (v ∷ []) w among);
 }
 
 -- one root more was looked at
-pub counted : (texts : List (List ℕ)) (roots : List Name) (root : ℕ) (all : List Seen) (waiting : List Visit) (n : Name) → slice_get roots root ≡ Some n → IsLooked all n 0 → HaveMet texts roots root all waiting → HaveMet texts roots (root + 1) all waiting
-counted texts roots root all waiting n there looked h = record {
+pub counted : (texts : List (List ℕ)) (roots : List Root) (root : ℕ) (all : List Seen) (waiting : List Visit) (r : Root) → slice_get roots root ≡ Some r → IsLooked all r.tree r.follows 0 → HaveMet texts roots root all waiting → HaveMet texts roots (root + 1) all waiting
+counted texts roots root all waiting r there looked h = record {
   begun = λ i m few is. ⊎_elim (λ (less : i < root). h.begun i m less is)
-      (λ (same : i ≡ root). subst (λ k. IsLooked all k 0) (same_Some n m (sym there ∙ ap (λ j. slice_get roots j) (sym same) ∙ is)) looked) (below_or i root few);
+      (λ (same : i ≡ root). subst (λ (k : Root). IsLooked all k.tree k.follows 0) (same_Some r m (sym there ∙ ap (λ j. slice_get roots j) (sym same) ∙ is)) looked) (below_or i root few);
   below = h.below;
+  onward = h.onward;
   looked = h.looked;
   to_look = h.to_look;
 }
@@ -55,14 +60,17 @@ counted texts roots root all waiting n there looked h = record {
 -- ---- over the code's own type
 
 -- what is next of a walk
-pub root_due : (texts : List (List ℕ)) (c : Trees) (visit : Visit) → visit.depth ≡ 0 → slice_get c.roots.items c.root ≡ Some visit.tree → ¬ IsLooked c.seen.items visit.tree visit.depth → IsVisitDue texts c visit
-root_due texts c visit top there fresh = record {
-  leads = subst (λ d. LeadsTo texts c.roots.items d visit.tree) (sym top) (contains_got c.roots.items c.root visit.tree there);
-  within = omega (arith, top);
-  fresh = fresh;
-}
+pub root_due : (texts : List (List ℕ)) (c : Trees) (visit : Visit) → IsRootVisit c visit → ¬ IsLooked c.seen.items visit.tree visit.follows visit.depth → IsVisitDue texts c visit
+root_due texts c visit next fresh =
+    let top = next.depth in
+    record {
+      leads = subst (λ d. LeadsTo texts c.roots.items visit.follows d visit.tree) (sym top)
+          (visit.tree, contains_got c.roots.items c.root (record { tree = visit.tree; follows = visit.follows }) next.next, part_self (version_by visit.follows) (tree_blobs texts) visit.tree);
+      within = omega (arith, top);
+      fresh = fresh;
+    }
 
-pub waiting_due : (texts : List (List ℕ)) (c : Trees) (rest : List Visit) (visit : Visit) → IsWalk texts c → c.waiting.items ≡ rest ++ visit ∷ [] → ¬ IsLooked c.seen.items visit.tree visit.depth → IsVisitDue texts c visit
+pub waiting_due : (texts : List (List ℕ)) (c : Trees) (rest : List Visit) (visit : Visit) → IsWalk texts c → c.waiting.items ≡ rest ++ visit ∷ [] → ¬ IsLooked c.seen.items visit.tree visit.follows visit.depth → IsVisitDue texts c visit
 waiting_due texts c rest visit w last fresh =
     let among : Contains c.waiting.items visit = subst (λ vs. Contains vs visit) (sym last) (Contains-append_right rest (visit ∷ []) visit (first_contained visit [])) in
     let due = w.met.to_look visit among in
@@ -74,7 +82,7 @@ waits_within texts c rest visit w last =
     (w.met.to_look visit among).1
 
 -- one that was looked at waits no longer
-pub walk_popped : (texts : List (List ℕ)) (c d : Trees) (rest : List Visit) (visit : Visit) → IsWalk texts c → c.waiting.items ≡ rest ++ visit ∷ [] → IsLooked c.seen.items visit.tree visit.depth → IsSameSeen c d → d.root ≡ c.root → d.waiting.items ≡ rest
+pub walk_popped : (texts : List (List ℕ)) (c d : Trees) (rest : List Visit) (visit : Visit) → IsWalk texts c → c.waiting.items ≡ rest ++ visit ∷ [] → IsLooked c.seen.items visit.tree visit.follows visit.depth → IsSameSeen c d → d.root ≡ c.root → d.waiting.items ≡ rest
     → IsWalk texts d
 walk_popped texts c d rest visit w last looked same root now =
     let met = popped texts c.roots.items c.root c.seen.items rest visit looked (subst (λ vs. HaveMet texts c.roots.items c.root c.seen.items vs) last w.met) in
@@ -83,12 +91,16 @@ walk_popped texts c d rest visit w last looked same root now =
       seen = subst (λ all. AreSeen texts all) (sym seen) w.seen;
       places = λ n. subst (λ all. StandsAt all n (found d.places n)) (sym seen) (subst (λ p. StandsAt c.seen.items n (found p n)) (sym same.places) (w.places n));
       met = subst (λ vs. HaveMet texts d.roots.items d.root d.seen.items vs) (sym now)
-          (subst (λ all. HaveMet texts d.roots.items d.root all rest) (sym seen) (subst (λ r. HaveMet texts d.roots.items r c.seen.items rest) (sym root) (subst (λ (v : Vec Name Global). HaveMet texts v.items c.root c.seen.items rest) (sym same.roots) met)));
+          (subst (λ all. HaveMet texts d.roots.items d.root all rest) (sym seen) (subst (λ r. HaveMet texts d.roots.items r c.seen.items rest) (sym root) (subst (λ (v : Vec Root Global). HaveMet texts v.items c.root c.seen.items rest) (sym same.roots) met)));
     }
 
 pub not_bare : (b : Bool) → IsTrue (not b) → b ≡ false
 not_bare true h = absurd (cc)
 not_bare false h = refl
+
+pub bare_not : (b : Bool) → b ≡ false → IsTrue (not b)
+bare_not true h = absurd (cc)
+bare_not false h = cc
 
 pub is_unset : (b : Bool) → IsFalse b → b ≡ false
 is_unset true h = absurd (cc)
@@ -105,3 +117,7 @@ on_ok (Err e) f h = h
 pub on_err : {T E A B : Type 0} (r : Result T E) → (A → B) → OnErr r A → OnErr r B
 on_err (Ok x) f h = h
 on_err (Err e) f h = f h
+
+pub any_err : {T E A : Type 0} (r : Result T E) → A → OnErr r A
+any_err (Ok x) h = tt
+any_err (Err e) h = h

@@ -1,81 +1,70 @@
 -- What a walk that is done came upon is what the roots reach.
-use Rattle.std.proofs.Common.{arith, zero, suc, ◌≡◌, ◌≤◌, ◌+◌, ◌-◌, [], ℕ, List, Some, slice_get, refl, sym, ap, subst, inl, inr, ⊎_elim, ◌∙◌, Contains}
-use Rattle.std.proofs.lemmas.Option.{slice_get_within}
+use Rattle.std.proofs.Common.{arith, zero, suc, ◌≡◌, ◌≤◌, ◌+◌, ◌∷◌, [], ℕ, Bool, true, false, List, Option, Some, None, slice_get, refl, sym, ap, subst, inl, inr, ◌↔◌, ◌∙◌, Contains}
+use Rattle.std.proofs.lemmas.Option.{slice_get_within, same_Some}
 use Rattle.repo_name.specs.declared.kinds.BlobKind.{BlobKind}
 use Rattle.repo_name.specs.declared.kinds.BlobKind.TheVariants.{Content, Tree}
 use Rattle.repo_name.specs.declared.names.Name.{Name}
 use Rattle.repo_tree.specs.Laws.{Agree}
-use Rattle.repo_tree.specs.Parts.{IsTree, HasNode}
-use Rattle.repo_tree.specs.Spelling.{greatest_depth, NodeReaches, ReachTo}
+use Rattle.repo_tree.specs.Parts.{Blobs, IsPart, IsPartText, IsPartBy, ListsBy, GoesOn}
+use Rattle.repo_tree.specs.Spelling.{greatest_depth}
 use Rattle.repo_tree.specs.declared.nodes.Node.{Node}
-use Rattle.repo_tree.specs.declared.nodes.NodeKind.{NodeKind}
-use Rattle.repo_name.proofs.Containing.{contained_or, contains_flat, first_contained, flat_contains, none_contained, stands_at}
-use Rattle.repo_tree.proofs.DirectoryLemmas.{tree_once}
-use Rattle.repo_reach.specs.Collected.{tree_blobs, LeadsTo, IsReached}
-use Rattle.repo_reach.specs.Laws.{IsUsed, IsWholeWalk, UsedIsReached}
-use Rattle.repo_reach.specs.Links.{trees_in, content_in, trees_of, content_of}
-use Rattle.repo_reach.specs.Walks.{WasAt, IsLooked, HasText, IsMet, IsWalk}
+use Rattle.repo_name.proofs.Containing.{none_contained, stands_at}
+use Rattle.repo_tree.proofs.DirectoryLemmas.{lists_once, part_texts_one}
+use Rattle.repo_reach.specs.Collected.{tree_blobs, version_by, LeadsTo, IsReachedBy, IsReached}
+use Rattle.repo_reach.specs.Joints.{SaysNext, tree_next}
+use Rattle.repo_reach.specs.Laws.{IsUsedBy, IsUsed, IsWholeWalk, UsedIsReached}
+use Rattle.repo_reach.specs.Links.{trees_of, content_of}
+use Rattle.repo_reach.specs.Walks.{WasAt, IsLooked, HasText, IsMet, IsWalk, links_by, links_in_part, next_by, visit_at}
+use Rattle.repo_reach.specs.declared.joints.Next.{Next}
 use Rattle.repo_reach.specs.declared.links.Links.{Links}
-use Rattle.repo_reach.specs.declared.trees.Seen.{Seen}
+use Rattle.repo_reach.specs.declared.looks.Seen.{Seen}
+use Rattle.repo_reach.specs.declared.roots.Root.{Root}
 use Rattle.repo_reach.specs.declared.trees.Trees.{Trees}
 use Rattle.repo_reach.specs.declared.trees.Visit.{Visit}
+use Rattle.repo_reach.proofs.Leading.{given_reached, reached_given}
+use Rattle.repo_reach.proofs.Reading.{read_by}
+
+-- ---- what a part's text says of `next`
+
+some_next : (n m : Option Name) (x y : Name) → n ≡ m → n ≡ Some x → m ≡ Some y → x ≡ y
+some_next n m x y same h g = same_Some x y (sym h ∙ same ∙ g)
+
+says_next : (text : List ℕ) (nodes own : List Node) (next : Next) (n : Option Name) → SaysNext text nodes next → IsPartText text own n → tree_next next ≡ n
+says_next text nodes own Next.Absent n h part = (part_texts_one text nodes own None n h part).1
+says_next text nodes own (Next.Tree m) n h part = (part_texts_one text nodes own (Some m) n h part).1
+says_next text nodes own Next.Malformed n h part = absurd (h.1 own n part)
+
+is_part : (text : List ℕ) (nodes own : List Node) (next : Next) (n : Option Name) (links : Option Links) → SaysNext text nodes next → IsPartText text own n → links_in_part next links ≡ links
+is_part text nodes own Next.Absent n links h part = refl
+is_part text nodes own (Next.Tree m) n links h part = refl
+is_part text nodes own Next.Malformed n links h part = absurd (h.1 own n part)
 
 module _ (texts : List (List ℕ)) (c : Trees) (w : IsWalk texts c) where
-  abbrev B : BlobKind → List ℕ → Type 0
+  abbrev B : Blobs
   B = tree_blobs texts
 
   abbrev all : List Seen
   all = c.seen.items
 
-  abbrev roots : List Name
+  abbrev roots : List Root
   roots = c.roots.items
 
   -- ---- what the walk came upon is reached
 
-  dir_reaches : (Sub : Name → BlobKind → Name → Type 0) (what : NodeKind) (t : Name) (k : BlobKind) (n : Name) → Contains (trees_in what) t → Sub t k n → NodeReaches Sub what k n
-  dir_reaches Sub (NodeKind.Dir s) t k n h g = ⊎_elim (λ (same : s ≡ t). subst (λ m. Sub m k n) (sym same) g) (λ none. absurd (none_contained t none)) (contained_or s [] t h)
-  dir_reaches Sub (NodeKind.File size content) t k n h g = absurd (none_contained t h)
-
-  file_reaches : (Sub : Name → BlobKind → Name → Type 0) (what : NodeKind) (n : Name) → Contains (content_in what) n → NodeReaches Sub what Content n
-  file_reaches Sub (NodeKind.Dir s) n h = absurd (none_contained n h)
-  file_reaches Sub (NodeKind.File size content) n h = (refl, h)
-
-  listed : (t : Name) (nodes : List Node) (node : Node) → IsTree B t nodes → Contains nodes node → HasNode 1 B t node
-  listed t nodes node tree among = record { part = t; own = nodes; belongs = refl; lists = tree; among = among }
-
-  reach_self : (e : ℕ) (t : Name) → ReachTo 1 e B t Tree t
-  reach_self zero t = (refl, refl)
-  reach_self (suc e) t = inl (refl, refl)
-
-  up : (depth : ℕ) (t : Name) → LeadsTo texts roots depth t → (e : ℕ) (k : BlobKind) (n : Name) → ReachTo 1 e B t k n → (total : ℕ) → depth + e ≡ total → (root : Name) × Contains roots root × ReachTo 1 total B root k n
-  up zero t led e k n reach total sum = (t, led, subst (λ d. ReachTo 1 d B t k n) (omega (arith, sum)) reach)
-  up (suc depth) t led e k n reach total sum =
-      let nodes = led.1 in
-      let from = flat_contains (λ (node : Node). trees_in node.what) nodes t led.4 in
-      up depth led.0 led.2 (suc e) k n (inr (from.0, listed led.0 nodes from.0 led.3 from.1, dir_reaches (ReachTo 1 e B) from.0.what t k n from.2 reach)) total (omega (arith, sum))
-
-  within : (i : ℕ) (seen : Seen) (depth : ℕ) → slice_get all i ≡ Some seen → WasAt seen depth → depth ≤ greatest_depth
-  within i seen depth there was =
-      let few = slice_get_within seen.depths.items depth _ was in
-      let flags = (w.seen.each i seen there).flags in
+  within : (i : ℕ) (seen : Seen) (follows : Bool) (depth : ℕ) → slice_get all i ≡ Some seen → WasAt seen follows depth → depth ≤ greatest_depth
+  within i seen follows depth there was =
+      let few = slice_get_within _ depth _ was in
+      let flags = (w.seen.each i seen there).flags follows in
       omega (arith, few, flags)
 
-  to_reached : (k : BlobKind) (n : Name) → IsUsed all k n → IsReached texts roots k n
-  to_reached Tree n h =
-      let l = h.1 in
-      let few = within l.0 l.1 h.0 l.2 l.4 in
-      up h.0 n (subst (λ m. LeadsTo texts roots h.0 m) l.3 (w.met.looked l.0 l.1 h.0 l.2 l.4)) (greatest_depth - h.0) Tree n (reach_self (greatest_depth - h.0) n) greatest_depth (omega (arith, few))
-  to_reached Content n h =
-      let seen = h.1 in
-      let depth = h.2 in
-      let holds = h.4 in
-      let above = holds.above in
-      let text : HasText texts seen.name (Some holds.links) = subst (λ ls. HasText texts seen.name ls) holds.read (w.seen.each h.0 seen h.3).text in
-      let nodes = text.1 in
-      let from = flat_contains (λ (node : Node). content_in node.what) nodes n (subst (λ ns. Contains ns n) text.5.content holds.among) in
-      let tree : IsTree B seen.name nodes = record { text = text.0; among = (refl, text.2); named = text.3; reads = text.4 } in
-      let e = greatest_depth - depth - 1 in
-      up depth seen.name (w.met.looked h.0 seen depth h.3 holds.was) (suc e) Content n (inr (from.0, listed seen.name nodes from.0 tree from.1, file_reaches (ReachTo 1 e B) from.0.what n from.2)) greatest_depth (omega (arith, above))
+  to_reached : (follows : Bool) (k : BlobKind) (n : Name) → IsUsedBy all follows k n → IsReachedBy texts roots follows k n
+  to_reached follows Tree n (depth, l) =
+      let leads = subst (λ m. LeadsTo texts roots follows depth m) l.3 (w.met.looked l.0 l.1 follows depth l.2 l.4) in
+      given_reached texts roots follows greatest_depth Tree n (depth, within l.0 l.1 follows depth l.2 l.4, leads)
+  to_reached follows Content n (i, seen, depth, there, holds) =
+      let read = read_by texts follows seen holds.links (w.seen.each i seen there).text holds.read in
+      let among = subst (λ ns. Contains ns n) read.lead.content holds.among in
+      given_reached texts roots follows greatest_depth Content n (depth, seen.name, read.nodes, holds.above, w.met.looked i seen follows depth there holds.was, read.lists, among)
 
   -- ---- what is reached the walk came upon
 
@@ -83,47 +72,76 @@ module _ (texts : List (List ℕ)) (c : Trees) (w : IsWalk texts c) where
     agree : Agree B B
     agree k x y h g same = w.seen.one x y h.1 g.1 same
 
-    now_looked : (n : Name) (depth : ℕ) → IsMet all c.waiting.items n depth → IsLooked all n depth
-    now_looked n depth (inl l) = l
-    now_looked n depth (inr h) = absurd (none_contained _ (subst (λ (vs : List Visit). Contains vs (record { tree = n; depth = depth })) done.waiting h))
+    now_looked : (n : Name) (follows : Bool) (depth : ℕ) → IsMet all c.waiting.items n follows depth → IsLooked all n follows depth
+    now_looked n follows depth (inl l) = l
+    now_looked n follows depth (inr h) = absurd (none_contained _ (subst (λ (vs : List Visit). Contains vs (visit_at follows depth n)) done.waiting h))
 
-    -- what the nodes of a tree that was looked at lead to is known
-    lead : (seen : Seen) (i : ℕ) (nodes : List Node) → slice_get all i ≡ Some seen → IsTree B seen.name nodes → (links : Links) × (seen.links ≡ Some links) × (links.trees.items ≡ trees_of nodes) × (links.content.items ≡ content_of nodes)
-    lead seen i nodes there tree =
+    -- the text of a tree that was seen is that of its name
+    own_text : (seen : Seen) (i : ℕ) → slice_get all i ≡ Some seen → (links : Links) × (seen.links ≡ Some links) × HasText texts seen.name seen.joint (Some links)
+    own_text seen i there =
         let read = done.read i seen there in
-        let text : HasText texts seen.name (Some read.0) = subst (λ ls. HasText texts seen.name ls) read.1 (w.seen.each i seen there).text in
-        let own : IsTree B seen.name text.1 = record { text = text.0; among = (refl, text.2); named = text.3; reads = text.4 } in
-        let same : text.1 ≡ nodes = tree_once B B agree seen.name text.1 nodes own tree in
-        (read.0, read.1, text.5.trees ∙ ap trees_of same, text.5.content ∙ ap content_of same)
+        (read.0, read.1, subst (λ ls. HasText texts seen.name seen.joint ls) read.1 (w.seen.each i seen there).text)
 
-    here : (t : Name) (depth : ℕ) (k : BlobKind) (n : Name) → IsLooked all t depth → k ≡ Tree → n ≡ t → IsUsed all k n
-    here t depth k n l is same = subst (λ j. IsUsed all j n) (sym is) (depth, subst (λ m. IsLooked all m depth) (sym same) l)
+    own_part : (seen : Seen) (i : ℕ) (nodes : List Node) (n : Option Name) → slice_get all i ≡ Some seen → IsPart B seen.name nodes n → (next_by true seen ≡ n) × (links_by true seen ≡ seen.links)
+    own_part seen i nodes n there part =
+        let t = (own_text seen i there).2 in
+        let same : part.text ≡ t.0 = w.seen.one part.text t.0 part.among.1 t.2 (part.named ∙ sym t.3) in
+        let reads : IsPartText t.0 nodes n = subst (λ x. IsPartText x nodes n) same part.reads in
+        (says_next t.0 t.1 nodes seen.joint.next n t.4 reads, is_part t.0 t.1 nodes seen.joint.next n seen.links t.4 reads)
 
-    abbrev Down : ℕ → Type 0
-    Down d = (depth : ℕ) → depth + d ≡ greatest_depth → (t : Name) → IsLooked all t depth → (k : BlobKind) (n : Name) → ReachTo 1 d B t k n → IsUsed all k n
+    links_read : (follows : Bool) (seen : Seen) (i : ℕ) (nodes : List Node) → slice_get all i ≡ Some seen → ListsBy (version_by follows) B seen.name nodes → links_by follows seen ≡ seen.links
+    links_read true seen i nodes there lists = (own_part seen i nodes lists.0 there lists.1).1
+    links_read false seen i nodes there lists = refl
 
-    through : (d : ℕ) → Down d → (depth : ℕ) → depth + suc d ≡ greatest_depth → (seen : Seen) (i : ℕ) (nodes : List Node) → slice_get all i ≡ Some seen → WasAt seen depth → IsTree B seen.name nodes
-        → (node : Node) (what : NodeKind) → Contains nodes node → node.what ≡ what → (k : BlobKind) (n : Name) → NodeReaches (ReachTo 1 d B) what k n → IsUsed all k n
-    through d deeper depth sum seen i nodes there was tree node (NodeKind.File size content) among is k n h =
-        let links = lead seen i nodes there tree in
-        let has : Contains links.0.content.items n = subst (λ ns. Contains ns n) (sym links.3) (contains_flat (λ (z : Node). content_in z.what) nodes node n among (subst (λ z. Contains (content_in z) n) (sym is) h.1)) in
-        subst (λ j. IsUsed all j n) (sym h.0) (i, seen, depth, there, record { links = links.0; read = links.1; was = was; above = omega (arith, sum); among = has })
-    through d deeper depth sum seen i nodes there was tree node (NodeKind.Dir t) among is k n h =
-        let links = lead seen i nodes there tree in
-        let has : Contains links.0.trees.items t = subst (λ ns. Contains ns t) (sym links.2) (contains_flat (λ (z : Node). trees_in z.what) nodes node t among (subst (λ z. Contains (trees_in z) t) (sym is) (first_contained t []))) in
-        deeper (depth + 1) (omega (arith, sum)) t (now_looked t (depth + 1) (w.met.below i seen links.0 depth t there links.1 was (omega (arith, sum)) has)) k n h
+    -- what the nodes of a tree that was seen lead to is known
+    lead : (follows : Bool) (seen : Seen) (i : ℕ) (nodes : List Node) → slice_get all i ≡ Some seen → ListsBy (version_by follows) B seen.name nodes → (links : Links) × (links_by follows seen ≡ Some links) × (links.trees.items ≡ trees_of nodes) × (links.content.items ≡ content_of nodes)
+    lead follows seen i nodes there lists =
+        let own = own_text seen i there in
+        let read : links_by follows seen ≡ Some own.0 = links_read follows seen i nodes there lists ∙ own.1 in
+        let r = read_by texts follows seen own.0 (w.seen.each i seen there).text read in
+        let same : r.nodes ≡ nodes = lists_once (version_by follows) B B agree seen.name r.nodes nodes r.lists lists in
+        (own.0, read, r.lead.trees ∙ ap trees_of same, r.lead.content ∙ ap content_of same)
 
-    down : (d : ℕ) → Down d
-    down zero depth sum t l k n h = here t depth k n l h.0 h.1
-    down (suc d) depth sum t l k n h = ⊎_elim (λ g. here t depth k n l g.0 g.1)
-        (λ g. (let has = g.1 in let tree = subst (λ p. IsTree B p has.own) (has.belongs ∙ sym l.3) has.lists in through d (down d) depth sum l.1 l.0 has.own l.2 l.4 tree g.0 g.0.what has.among refl k n g.2)) h
+    -- the parts of a directory of which the first tree was looked at were
+    through : (depth : ℕ) (between : List Name) (top t : Name) → IsLooked all top true depth → GoesOn B top between t → IsLooked all t true depth
+    through depth [] top t l on = subst (λ m. IsLooked all m true depth) (sym on) l
+    through depth (next ∷ between) top t l on =
+        let part : IsPart B l.1.name on.0 (Some next) = subst (λ m. IsPart B m on.0 (Some next)) (sym l.3) on.1 in
+        let goes = (own_part l.1 l.0 on.0 (Some next) l.2 part).0 in
+        through depth between next t (now_looked next true depth (w.met.onward l.0 l.1 true depth next l.2 goes l.4).1) on.2
 
-    to_used : (k : BlobKind) (n : Name) → IsReached texts roots k n → IsUsed all k n
-    to_used k n h =
-        let p = stands_at roots h.0 h.1 in
-        let inside = slice_get_within roots p.0 h.0 p.1 in
+    parts_looked : (follows : Bool) (depth : ℕ) (top t : Name) → IsLooked all top follows depth → IsPartBy (version_by follows) B top t → IsLooked all t follows depth
+    parts_looked true depth top t l on = through depth on.0 top t l on.1
+    parts_looked false depth top t l on = subst (λ m. IsLooked all m false depth) (sym on) l
+
+    led_looked : (follows : Bool) (depth : ℕ) (t : Name) → LeadsTo texts roots follows depth t → depth ≤ greatest_depth → IsLooked all t follows depth
+    led_looked follows zero t (top, among, belongs) few =
+        let root : Root = record { tree = top; follows = follows } in
+        let p = stands_at roots root among in
+        let inside = slice_get_within roots p.0 root p.1 in
         let counted = done.roots in
-        down greatest_depth 0 (omega arith) h.0 (w.met.begun p.0 h.0 (omega (arith, inside, counted)) p.1) k n h.2
+        parts_looked follows 0 top t (w.met.begun p.0 root (omega (arith, inside, counted)) p.1) belongs
+    led_looked follows (suc depth) t (above, nodes, subtree, leads, lists, among, belongs) few =
+        let l = led_looked follows depth above leads (omega (arith, few)) in
+        let links = lead follows l.1 l.0 nodes l.2 (subst (λ m. ListsBy (version_by follows) B m nodes) (sym l.3) lists) in
+        let met = w.met.below l.0 l.1 links.0 follows depth subtree l.2 links.1 l.4 (omega (arith, few)) (subst (λ ts. Contains ts subtree) (sym links.2) among) in
+        let deeper : depth + 1 ≡ suc depth = omega arith in
+        parts_looked follows (suc depth) subtree t (subst (λ d. IsLooked all subtree follows d) deeper (now_looked subtree follows (depth + 1) met)) belongs
+
+    to_used : (follows : Bool) (k : BlobKind) (n : Name) → IsReachedBy texts roots follows k n → IsUsedBy all follows k n
+    to_used follows Tree n reached =
+        let g = reached_given texts roots follows greatest_depth Tree n reached in
+        (g.0, led_looked follows g.0 n g.2 g.1)
+    to_used follows Content n reached =
+        let g = reached_given texts roots follows greatest_depth Content n reached in
+        let above = g.3 in
+        let l = led_looked follows g.0 g.1 g.4 (omega (arith, above)) in
+        let links = lead follows l.1 l.0 g.2 l.2 (subst (λ m. ListsBy (version_by follows) B m g.2) (sym l.3) g.5) in
+        (l.0, l.1, g.0, l.2, record { links = links.0; read = links.1; was = l.4; above = above; among = subst (λ ns. Contains ns n) (sym links.3) g.6 })
 
 pub used_is_reached : UsedIsReached
-used_is_reached texts c w done k n = (to_used texts c w done k n, to_reached texts c w k n)
+used_is_reached texts c w done follows k n = (to_used texts c w done follows k n, to_reached texts c w follows k n)
+
+-- so over all ways
+pub all_reached : (texts : List (List ℕ)) (c : Trees) → IsWalk texts c → IsWholeWalk c → (k : BlobKind) (n : Name) → IsReached texts c.roots.items k n ↔ IsUsed c.seen.items k n
+all_reached texts c w done k n = (λ h. (h.0, to_used texts c w done h.0 k n h.1), λ h. (h.0, to_reached texts c w h.0 k n h.1))

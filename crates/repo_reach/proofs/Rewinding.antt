@@ -4,16 +4,16 @@ use Rattle.std.proofs.lemmas.Option.{same_Some, none-some, slice_get_within}
 use Rattle.repo_name.specs.NameMaps.{found}
 use Rattle.repo_name.specs.declared.names.Name.{Name}
 use Rattle.repo_name.proofs.Containing.{none_contained}
-use Rattle.repo_reach.specs.Walks.{WasAt, IsWalk, StandsAt, AreSeen, IsSameTree, AreSameTrees, IsSameWalk, Rewinds, Adds, Drops}
+use Rattle.repo_reach.specs.Walks.{IsWalk, StandsAt, NoneLooked, AreSeen, IsSameTree, AreSameTrees, IsSameWalk, Rewinds, Adds, Drops}
 use Rattle.repo_reach.specs.declared.trees.Trees.{Trees}
-use Rattle.repo_reach.specs.declared.trees.Seen.{Seen}
+use Rattle.repo_reach.specs.declared.looks.Seen.{Seen}
 use Rattle.repo_reach.proofs.Flagging.{set_back, set_on, same_tree}
 use Rattle.repo_reach.proofs.Steps.{seen_on, stands_on}
 
 -- ---- the same trees
 
 tree_then : (a b c : Seen) → IsSameTree a b → IsSameTree b c → IsSameTree a c
-tree_then a b c h g = record { name = g.name ∙ h.name; links = g.links ∙ h.links; flags = g.flags ∙ h.flags }
+tree_then a b c h g = record { name = g.name ∙ h.name; links = g.links ∙ h.links; joint = g.joint ∙ h.joint; flags = λ f. g.flags f ∙ h.flags f }
 
 pub trees_then : (xs ys zs : List Seen) → AreSameTrees xs ys → AreSameTrees ys zs → AreSameTrees xs zs
 trees_then xs ys zs h g = record {
@@ -41,15 +41,16 @@ put_back (x ∷ xs) (y ∷ ys) (suc n) h g = ap (λ zs. x ∷ zs) (put_back xs y
 
 -- ---- a walk that begins anew
 
-pub anew : (texts : List (List ℕ)) (d : Trees) → AreSeen texts d.seen.items → ((n : Name) → StandsAt d.seen.items n (found d.places n)) → ((i : ℕ) (seen : Seen) (depth : ℕ) → slice_get d.seen.items i ≡ Some seen → ¬ WasAt seen depth)
+pub anew : (texts : List (List ℕ)) (d : Trees) → AreSeen texts d.seen.items → ((n : Name) → StandsAt d.seen.items n (found d.places n)) → NoneLooked d.seen.items
     → d.waiting.items ≡ [] → d.root ≡ 0 → IsWalk texts d
 anew texts d seen places never waiting root = record {
   seen = seen;
   places = places;
   met = record {
     begun = λ i n few h. absurd (omega (arith, few, root));
-    below = λ i s links depth n there read was few among. absurd (never i s depth there was);
-    looked = λ i s depth there was. absurd (never i s depth there was);
+    below = λ i s links f depth n there read was few among. absurd (never i s f depth there was);
+    onward = λ i s f depth n there goes was. absurd (never i s f depth there was);
+    looked = λ i s f depth there was. absurd (never i s f depth there was);
     to_look = λ v among. absurd (none_contained v (subst (λ vs. Contains vs v) waiting among));
   };
 }

@@ -1,5 +1,5 @@
 -- The pairs that a walk came upon, as a value.
-use Rattle.std.proofs.Common.{arith, suc, ◌≡◌, ◌<◌, ◌≤◌, ◌+◌, ◌⊎◌, ◌++◌, ◌∷◌, ◌↔◌, [], ℕ, Bool, BTreeSet, true, false, cond, List, Some, take, get_or, length, refl, sym, ap, subst, inl, inr, ⊎_elim, ◌∙◌, Contains}
+use Rattle.std.proofs.Common.{arith, suc, ◌≡◌, ◌≢◌, ◌<◌, ◌≤◌, ◌+◌, ◌⊎◌, ◌++◌, ◌∷◌, ◌↔◌, [], ℕ, Bool, BTreeSet, true, false, cond, List, Option, Some, take, get_or, length, refl, sym, ap, subst, inl, inr, ⊎_elim, ◌∙◌, Contains}
 use Rattle.std.proofs.Math.Seq.{take-suc, take_all}
 use Rattle.std.proofs.lemmas.Cmp.{eq_by_cmp_equiv}
 use Rattle.std.proofs.lemmas.List.Elements.{Contains-append_left, Contains-append_right, Contains-append_cases}
@@ -18,12 +18,14 @@ use Rattle.repo_name.specs.declared.kinds.BlobKind.TheVariants.{Content, Tree}
 use Rattle.repo_name.specs.declared.names.Name.{Name}
 use Rattle.repo_name.proofs.Containing.{contained_or, first_contained, none_contained}
 use Rattle.repo_tree.specs.Spelling.{greatest_depth}
+use Rattle.repo_reach.proofs.Reading.{links_are}
 use Rattle.repo_reach.proofs.Rewinding.{got_left, got_last, got_or}
 use Rattle.repo_reach.specs.Laws.{IsUsed}
-use Rattle.repo_reach.specs.Used.{IsIn, UsedHasPair, GivesPair, GivenBy, HaveJoined}
-use Rattle.repo_reach.specs.Walks.{WasAt}
+use Rattle.repo_reach.specs.Used.{IsIn, UsedHasPair, GivesPair, GivenBy, HaveJoined, IsListed}
+use Rattle.repo_reach.specs.Walks.{WasAt, links_in_part}
+use Rattle.repo_reach.specs.declared.joints.Next.{Next}
 use Rattle.repo_reach.specs.declared.links.Links.{Links}
-use Rattle.repo_reach.specs.declared.trees.Seen.{Seen}
+use Rattle.repo_reach.specs.declared.looks.Seen.{Seen}
 use Rattle.repo_reach.specs.declared.used.Used.{Used}
 
 -- ---- the first of a list, and one more
@@ -71,15 +73,34 @@ module _ (old new : BTreeSet Name) (added : Name) (updates : (q : Name) → cont
 -- ---- what a tree gives
 
 -- its name, where it was looked at
-pub tree_given : (seen : Seen) (depth : ℕ) → WasAt seen depth → (n : Name) → (seen.name ≡ n) ↔ GivesPair seen Tree n
-tree_given seen depth was n = (λ same. (same, depth, was), λ h. h.0)
+pub tree_given : (seen : Seen) (follows : Bool) (depth : ℕ) → WasAt seen follows depth → (n : Name) → (seen.name ≡ n) ↔ GivesPair seen Tree n
+tree_given seen follows depth was n = (λ same. (same, follows, depth, was), λ h. h.0)
 
--- its content, where it was looked at above the greatest depth
-pub content_given : (seen : Seen) (links : Links) → seen.links ≡ Some links → (depth : ℕ) → depth < greatest_depth → WasAt seen depth → (n : Name) → Contains links.content.items n ↔ GivesPair seen Content n
-content_given seen links read depth above was n = (
-  λ among. (depth, record { links = links; read = read; was = was; above = above; among = among }),
-  λ h. subst (λ (l : Links). Contains l.content.items n) (same_Some h.1.links links (sym h.1.read ∙ read)) h.1.among,
+-- its content, where it was looked at above the greatest depth so that its nodes are read
+pub content_given : (seen : Seen) (links : Links) → seen.links ≡ Some links → IsListed seen → (n : Name) → Contains links.content.items n ↔ GivesPair seen Content n
+content_given seen links read listed n = (
+  λ among. (listed.follows, listed.depth, record { links = links; read = listed.read ∙ read; was = listed.was; above = listed.above; among = among }),
+  λ h. subst (λ (l : Links). Contains l.content.items n) (same_Some h.2.links links (sym (links_are seen h.0 h.2.links h.2.read) ∙ read)) h.2.among,
 )
+
+-- as which one a tree is listed
+pub listed_itself : (seen : Seen) → ((depth : ℕ) × (depth < greatest_depth) × WasAt seen false depth) → IsListed seen
+listed_itself seen h = record { follows = false; depth = h.0; above = h.1; was = h.2; read = refl }
+
+pub kept_links : (next : Next) (links : Option Links) → next ≢ Next.Malformed → links_in_part next links ≡ links
+kept_links Next.Absent links h = refl
+kept_links (Next.Tree n) links h = refl
+kept_links Next.Malformed links h = absurd (h refl)
+
+pub listed_part : (seen : Seen) → ((depth : ℕ) × (depth < greatest_depth) × WasAt seen true depth) → seen.joint.next ≢ Next.Malformed → IsListed seen
+listed_part seen h part = record { follows = true; depth = h.0; above = h.1; was = h.2; read = kept_links seen.joint.next seen.links part }
+
+gives_part : (next : Next) (links : Option Links) (l : Links) → next ≡ Next.Malformed → links_in_part next links ≡ Some l → ⊥
+gives_part next links l is read = none-some l (subst (λ m. links_in_part m links ≡ Some l) is read)
+
+pub none_listed : (seen : Seen) → (((depth : ℕ) × (depth < greatest_depth) × WasAt seen false depth) → ⊥) → (((depth : ℕ) × (depth < greatest_depth) × WasAt seen true depth) → seen.joint.next ≡ Next.Malformed) → (n : Name) → GivesPair seen Content n → ⊥
+none_listed seen itself part n (true, depth, h) = gives_part seen.joint.next seen.links h.links (part (depth, h.above, h.was)) h.read
+none_listed seen itself part n (false, depth, h) = itself (depth, h.above, h.was)
 
 -- ---- so of a list of them
 
@@ -104,8 +125,8 @@ then_joined all i d within old new joined before k n = (
 
 -- what is given by one of them the walk came upon
 pub given_is_used : (all : List Seen) (k : BlobKind) (n : Name) → GivenBy all k n ↔ IsUsed all k n
-given_is_used all Tree n = (λ h. (h.3.1, (h.0, h.1, h.2, h.3.0, h.3.2)), λ h. (h.1.0, h.1.1, h.1.2, (h.1.3, h.0, h.1.4)))
-given_is_used all Content n = (λ h. (h.0, h.1, h.3.0, h.2, h.3.1), λ h. (h.0, h.1, h.3, (h.2, h.4)))
+given_is_used all Tree n = (λ h. (h.3.1, (h.3.2, (h.0, h.1, h.2, h.3.0, h.3.3))), λ h. (let l = h.1.1 in (l.0, l.1, l.2, (l.3, h.0, h.1.0, l.4))))
+given_is_used all Content n = (λ h. (h.3.0, (h.0, h.1, h.3.1, h.2, h.3.2)), λ h. (h.1.0, h.1.1, h.1.3, (h.0, h.1.2, h.1.4)))
 
 -- so at the end of the list
 pub all_used : (all : List Seen) (i : ℕ) → length all ≤ i → (used : Used) → ((k : BlobKind) (n : Name) → UsedHasPair used k n ↔ GivenBy (take i all) k n) → (k : BlobKind) (n : Name) → UsedHasPair used k n ↔ IsUsed all k n

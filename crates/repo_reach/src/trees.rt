@@ -1,42 +1,34 @@
 //! A walk over trees, depth first.
 
-ghost use Rattle.std.specs.Prelude.{◌≡◌, ◌≢◌, ◌<◌, ◌+◌, ◌++◌, ◌∷◌, ◌↔◌, [], ℕ, false, List, map, reverse, length, true, slice_get, Some, None, ◌≤◌, Option, IfOk, IfSome, OnOk, OnErr, IsTrue, IsFalse};
+ghost use Rattle.std.specs.Prelude.{◌≡◌, ◌<◌, ◌+◌, ◌++◌, ◌∷◌, [], ℕ, false, List, map, length, true, Some, None, ◌≤◌, Option, IfOk, IfSome, OnOk, OnErr, IsFalse};
 ghost use Rattle.repo_name.specs.NameMaps.{found};
-ghost use Rattle.repo_name.specs.Naming as naming;
 ghost use Rattle.repo_name.specs.declared.names.Name.{Name};
-ghost use Rattle.repo_reach.specs.declared.links.Links.{Links};
-ghost use Rattle.repo_reach.specs.declared.trees.Seen.{Seen};
+ghost use Rattle.repo_reach.specs.declared.joints.Next.{Next};
+ghost use Rattle.repo_reach.specs.declared.looks.Seen.{Seen};
 ghost use Rattle.repo_reach.specs.declared.trees.Visit.{Visit};
 ghost use Rattle.repo_reach.specs.declared.trees.Trees.{Trees};
 ghost use Rattle.repo_tree.specs.Spelling.{greatest_depth};
-ghost use Rattle.repo_reach.specs.Walks.{StandsAt, WasAt, IsWalk, IsVisitDue, IsLeftToVisit, IsNextVisit, IsSameSeen, IsSameWalk, IsTooDeep, Flags, AreSameTrees, trees_below, TurnIs, IsNewTree, HasRead, Adds, IsUnchanged, Rewinds, Drops, TellsDeep, KeepsWalk, JoinsWalk, ComesBack, HasTreesBack};
-ghost use Rattle.repo_reach.specs.inner.Looking.{SaysItFits, TurnsTo, SaysLooked, IsRootVisit, SpreadsFrom, LooksOn, LeavesFewer};
+ghost use Rattle.repo_reach.specs.Walks.{StandsAt, visit_at, IsWalk, IsVisitDue, IsLeftToVisit, IsNextVisit, IsSameSeen, IsSameWalk, BrokenOnes, Flags, NoneLooked, TurnIs, IsNewTree, HasRead, IsUnread, Adds, IsUnchanged, Rewinds, Drops, TellsBroken, KeepsWalk, JoinsWalk, ComesBack, HasTreesBack};
+ghost use Rattle.repo_reach.specs.inner.Looking.{TurnsTo, SaysLooked, IsRootVisit, AreDeeperFrom, AreDueFrom, SpreadsFrom, IsUnseenNext, LooksOn, LeavesFewer, FindsWrong, FindsBroken};
 
+use crate::breaking::{below, broken_at, next_at, stands_in_place};
+use crate::joints::{Joint, Next};
 use crate::links::Links;
+use crate::looks::{DEPTH, Seen, flag, forget_depths, is_past, no_depths};
+use crate::roots::Root;
 use repo_index::{Fact, Lookup};
 use repo_name::{BlobKind, Name, insert_named, remove_named};
 use repo_tree::Node;
 use std::alloc::{AllocError, Global};
 use std::collections::BTreeMap;
 
-/// How many components a path has at most.
-pub const DEPTH: usize = 100;
-
-/// A tree that was seen.
-#[derive(Drop)]
-pub struct Seen {
-    pub name: Name,
-    /// What its nodes lead to; nothing where it isn't there or can't be read.
-    pub links: Option<Links>,
-    /// At which lengths of a path, 0 to 100, it was looked at.
-    pub depths: Vec<bool>,
-}
-
 /// A tree at a path of so many components, that is to be looked at.
 #[derive(Clone, Copy)]
 struct Visit {
     tree: Name,
     depth: usize,
+    /// Whether it is a part of a directory, which goes on along `next`.
+    follows: bool,
 }
 
 /// What comes next of a walk.
@@ -46,8 +38,9 @@ pub enum Turn {
     Ask(Fact),
     /// No fact gives a blob of this tree, which wasn't seen.
     Missing(Name),
-    /// This tree has nodes at a path of 100 components.
-    TooDeep(Name),
+    /// No directory has this tree: it has nodes at a path of 100 components; or it is a part and its `next` isn't a name,
+    /// or it has no node, or its names don't ascend behind those of the part that goes on in it.
+    Broken(Name),
     /// All that is reached was looked at.
     Done,
 }
@@ -59,7 +52,7 @@ pub struct Trees {
     pub seen: Vec<Seen>,
     /// Where each of them stands.
     places: BTreeMap<Name, usize>,
-    roots: Vec<Name>,
+    roots: Vec<Root>,
     /// How many of the roots were looked at.
     root: usize,
     /// What is to be looked at below them, the next one last.
@@ -67,100 +60,52 @@ pub struct Trees {
     alloc: Global,
 }
 
-/// The trees to be looked at at a depth, the first one last. It fails for memory alone.
-fn visits(alloc: Global, trees: &[Name], depth: usize) -> Result<Vec<Visit>, AllocError>
-    ensures { IfOk result (λ visits. visits.items ≡ reverse (map (λ n. record { tree = n; depth = depth }) trees.now)) }
+/// The trees to be looked at so at a depth. It fails for memory alone.
+fn visits(
+    alloc: Global,
+    trees: &[Name],
+    follows: bool,
+    depth: usize,
+) -> Result<Vec<Visit>, AllocError>
+    ensures { IfOk result (λ visits. visits.items ≡ map (visit_at follows depth) trees.now) }
 {
     let mut visits = Vec::new(alloc);
     for tree in trees {
-        visits.push(Visit { tree: *tree, depth })?;
+        visits.push(Visit {
+            tree: *tree,
+            depth,
+            follows,
+        })?;
     }
-    visits.reverse();
     Ok(visits)
 }
 
-/// Flags for each depth at which nothing was looked at. It fails for memory alone.
+/// The trees below the one that stands there, to be looked at at the next depth. It fails for memory alone.
 #[tactic(auto, unfolding(repo_tree::specs::Spelling::greatest_depth))]
-fn no_depths(alloc: Global) -> Result<Vec<bool>, AllocError>
-    ensures size { IfOk result (λ depths. length depths.items ≡ greatest_depth + 1) }
-    ensures none { IfOk result (λ depths. (d : ℕ) → slice_get depths.items d ≢ Some true) }
+fn deeper(alloc: Global, all: &[Seen], at: usize, visit: Visit) -> Result<Vec<Visit>, AllocError>
+    ensures { IfOk result (λ deeper. AreDeeperFrom all.now at visit deeper.items) }
 {
-    let mut depths = Vec::new(alloc);
-    for _ in 0..=DEPTH {
-        depths.push(false)?;
+    if visit.depth >= DEPTH {
+        return Ok(Vec::new(alloc));
     }
-    Ok(depths)
+    let trees = below(all, at, visit.follows);
+    visits(alloc, trees, visit.follows, visit.depth + 1)
 }
 
-/// Whether nothing is left to look at there at this depth: the tree that stands there was, or there is no such tree or
-/// no such depth.
-fn is_past(all: &[Seen], at: usize, depth: usize) -> bool
-    ensures looked { (seen : Seen) → slice_get all.now at ≡ Some seen → depth < length seen.depths.items → IsTrue result ↔ WasAt seen depth }
-    ensures left { IsFalse result → (seen : Seen) × (slice_get all.now at ≡ Some seen) × (slice_get seen.depths.items depth ≡ Some false) }
+/// What is to be looked at once the tree that stands there was, the first one last. It fails for memory alone.
+fn due(alloc: Global, all: &[Seen], at: usize, visit: Visit) -> Result<Vec<Visit>, AllocError>
+    ensures { IfOk result (λ due. AreDueFrom all.now at visit due.items) }
 {
-    match all.get(at) {
-        None => true,
-        Some(seen) => match seen.depths.get(depth) {
-            None => true,
-            Some(flag) => *flag,
-        },
+    let mut due = deeper(alloc, all, at, visit)?;
+    if let Some(tree) = next_at(all, at, visit.follows) {
+        due.push(Visit {
+            tree,
+            depth: visit.depth,
+            follows: visit.follows,
+        })?;
     }
-}
-
-/// Notes that the tree that stands there was looked at at this depth.
-fn flag(all: &mut Vec<Seen>, at: usize, depth: usize)
-    ensures { Flags all.old.items at depth all.new.items }
-{
-    if at < all.len() {
-        let seen = &mut all[at];
-        if depth < seen.depths.len() {
-            seen.depths[depth] = true;
-        }
-    }
-}
-
-/// The tree that stands there.
-fn seen_at(all: &[Seen], at: usize) -> Option<&Seen>
-    ensures some { IfSome result (λ seen. slice_get all.now at ≡ Some seen.now) }
-    ensures none { result ≡ None → slice_get all.now at ≡ None }
-{
-    all.get(at)
-}
-
-/// The trees below the one that stands there.
-fn below(all: &[Seen], at: usize) -> &[Name]
-    ensures { (seen : Seen) → slice_get all.now at ≡ Some seen → result.now ≡ trees_below seen.links }
-{
-    match all.get(at) {
-        Some(seen) => match &seen.links {
-            Some(links) => links.trees.as_slice(),
-            None => &[],
-        },
-        None => &[],
-    }
-}
-
-/// Whether a tree was read and has nodes.
-fn has_nodes(seen: &Seen) -> bool
-    ensures yes { IsTrue result → (links : Links) × (seen.now.links ≡ Some links) × (links.is_bare ≡ false) }
-    ensures no { IsFalse result → (links : Links) → seen.now.links ≡ Some links → links.is_bare ≡ true }
-{
-    match &seen.links {
-        Some(links) => !links.is_bare,
-        None => false,
-    }
-}
-
-/// Whether the tree that stands there has nodes where none may be at this depth.
-#[tactic(auto, unfolding(repo_tree::specs::Spelling::greatest_depth))]
-fn is_too_deep(all: &[Seen], at: usize, depth: usize) -> bool
-    ensures yes { (seen : Seen) → slice_get all.now at ≡ Some seen → IsTrue result → IsTooDeep seen depth }
-    ensures no { SaysItFits all.now at depth result }
-{
-    match seen_at(all, at) {
-        None => false,
-        Some(seen) => depth >= DEPTH && has_nodes(seen),
-    }
+    due.reverse();
+    Ok(due)
 }
 
 /// What comes next where a tree wasn't seen: its blob is asked for, at the least place of those that are known.
@@ -177,29 +122,9 @@ fn unseen(lookup: &Lookup, tree: Name) -> Turn
     }
 }
 
-/// No flag of these is set any longer.
-fn unset_all(depths: &mut Vec<bool>)
-    ensures size { length depths.new.items ≡ length depths.old.items }
-    ensures none { (depth : ℕ) → slice_get depths.new.items depth ≢ Some true }
-{
-    for flag in depths.iter_mut() {
-        *flag = false;
-    }
-}
-
-/// No tree of these was looked at at any depth any longer.
-fn forget_depths(all: &mut Vec<Seen>)
-    ensures same { AreSameTrees all.old.items all.new.items }
-    ensures never { (i : ℕ) (seen : Seen) (depth : ℕ) → slice_get all.new.items i ≡ Some seen → ¬ WasAt seen depth }
-{
-    for seen in all.iter_mut() {
-        unset_all(&mut seen.depths);
-    }
-}
-
 impl Trees {
     /// A walk from some roots that hasn't begun. It takes no memory.
-    pub fn new(alloc: Global, roots: Vec<Name>) -> Trees
+    pub fn new(alloc: Global, roots: Vec<Root>) -> Trees
         ensures walk { IsWalk [] result }
         ensures none { result.seen.items ≡ [] }
         ensures roots { result.roots ≡ roots }
@@ -228,7 +153,7 @@ impl Trees {
     {
         match self.place_of(visit.tree) {
             None => false,
-            Some(at) => is_past(self.seen.as_slice(), at, visit.depth),
+            Some(at) => is_past(self.seen.as_slice(), at, visit.follows, visit.depth),
         }
     }
 
@@ -257,8 +182,9 @@ impl Trees {
         match self.roots.get(self.root) {
             None => None,
             Some(root) => Some(Visit {
-                tree: *root,
+                tree: root.tree,
                 depth: 0,
+                follows: root.follows,
             }),
         }
     }
@@ -311,95 +237,143 @@ impl Trees {
         }
     }
 
-    /// What is below a tree that is looked at at a depth is to be looked at. It fails for memory alone, and then nothing
-    /// more is.
-    #[tactic(auto, unfolding(repo_tree::specs::Spelling::greatest_depth))]
-    fn spread(&mut self, at: usize, depth: usize) -> Result<(), AllocError>
-        ensures more { OnOk result (SpreadsFrom self.old at depth self.new) }
+    /// What comes after a tree that is looked at is to be looked at. It fails for memory alone, and then nothing more is.
+    fn spread(&mut self, at: usize, visit: Visit) -> Result<(), AllocError>
+        ensures more { OnOk result (SpreadsFrom self.old at visit self.new) }
         ensures err { OnErr result (self.new.waiting.items ≡ self.old.waiting.items) }
         ensures kept { IsSameSeen self.old self.new }
         ensures root { self.new.root ≡ self.old.root }
     {
-        if depth >= DEPTH {
-            return Ok(());
-        }
-        let trees = below(self.seen.as_slice(), at);
-        let more = visits(self.alloc, trees, depth + 1)?;
+        let more = due(self.alloc, self.seen.as_slice(), at, visit)?;
         self.waiting.extend_from_slice(more.as_slice())
     }
 
-    /// Looks at a tree that was seen: what is below it is to be looked at. It fails for memory alone, and then nothing
+    /// Looks at a tree that was seen: what comes after it is to be looked at. It fails for memory alone, and then nothing
     /// more is.
-    fn look(&mut self, at: usize, depth: usize) -> Result<(), AllocError>
-        ensures walk { OnOk result (LooksOn self.old at depth self.new) }
-        ensures flags { OnOk result (Flags self.old.seen.items at depth self.new.seen.items) }
-        ensures fewer { OnOk result (LeavesFewer self.old at depth self.new) }
+    fn look(&mut self, at: usize, visit: Visit) -> Result<(), AllocError>
+        ensures walk { OnOk result (LooksOn self.old at visit self.new) }
+        ensures flags { OnOk result (Flags self.old.seen.items at visit.follows visit.depth self.new.seen.items) }
+        ensures fewer { OnOk result (LeavesFewer self.old at visit self.new) }
         ensures err { OnErr result (KeepsWalk self.old self.new) }
+        ensures seen { OnErr result (self.new.seen ≡ self.old.seen) }
         ensures kept { IsSameWalk self.old self.new }
     {
-        self.spread(at, depth)?;
-        flag(&mut self.seen, at, depth);
+        self.spread(at, visit)?;
+        flag(&mut self.seen, at, visit.follows, visit.depth);
         Ok(())
     }
 
-    /// What comes next: the tree to be asked for, one that no fact gives, one that has nodes at a path of 100
-    /// components, just where one is looked at there, or the end. What was asked for is to be given by `add` or `pass_over` before the next call, and one
-    /// that is missing by `pass_over`; else the same comes again. After one that is too deep the walk can go on. It fails
-    /// for memory alone, and then it can be called again.
+    /// The tree in which the one that stands there goes on, if that wasn't seen.
+    fn unseen_next(&self, at: usize, follows: bool) -> Option<Name>
+        ensures { IsUnseenNext self.now at follows result }
+    {
+        let Some(next) = next_at(self.seen.as_slice(), at, follows) else {
+            return None;
+        };
+        match self.place_of(next) {
+            Some(_) => None,
+            None => Some(next),
+        }
+    }
+
+    /// The tree in which the one that stands there goes on, if it may not come after it.
+    fn wrong_next(&self, at: usize) -> Option<Name>
+        ensures { FindsWrong self.now at result }
+    {
+        let Some(next) = next_at(self.seen.as_slice(), at, true) else {
+            return None;
+        };
+        let Some(behind) = self.place_of(next) else {
+            return None;
+        };
+        if stands_in_place(self.seen.as_slice(), at, behind) {
+            return None;
+        }
+        Some(next)
+    }
+
+    /// The tree that breaks where the one that stands there is looked at: that one itself, or the one in which it goes on.
+    fn broken(&self, at: usize, visit: Visit) -> Option<Name>
+        ensures { FindsBroken self.now at visit result }
+    {
+        if let Some(name) = broken_at(self.seen.as_slice(), at, visit.follows, visit.depth) {
+            return Some(name);
+        }
+        if !visit.follows {
+            return None;
+        }
+        self.wrong_next(at)
+    }
+
+    /// What comes next: the tree to be asked for, one that no fact gives, one that breaks its directory, just where one is
+    /// looked at and it does, or the end. What was asked for is to be given by `add` or `pass_over` before the next call,
+    /// and one that is missing by `pass_over`; else the same comes again. After one that is broken the walk can go on.
+    /// It fails for memory alone, and then it can be called again.
+    ///
+    /// A part of a directory is looked at once the tree in which it goes on was seen.
     pub fn next(&mut self, lookup: &Lookup) -> Result<Turn, AllocError>
         ensures walk { KeepsWalk self.old self.new }
         ensures turn { IfOk result (λ turn. (texts : List (List ℕ)) → IsWalk texts self.old → TurnIs lookup.now texts self.new turn) }
-        ensures deep { IfOk result (λ turn. (texts : List (List ℕ)) → IsWalk texts self.old → TellsDeep self.old.seen.items self.new.seen.items turn) }
+        ensures broken { IfOk result (λ turn. (texts : List (List ℕ)) → IsWalk texts self.old → TellsBroken self.old.seen.items self.new.seen.items turn) }
+        ensures err { OnErr result ((texts : List (List ℕ)) → IsWalk texts self.old → BrokenOnes (λ n. ⊥) self.old.seen.items self.new.seen.items) }
         ensures kept { IsSameWalk self.old self.new }
     {
         while let Some(visit) = self.next_visit() {
             let Some(at) = self.place_of(visit.tree) else {
                 return Ok(unseen(lookup, visit.tree));
             };
-            self.look(at, visit.depth)?;
-            if is_too_deep(self.seen.as_slice(), at, visit.depth) {
-                return Ok(Turn::TooDeep(visit.tree));
+            if let Some(tree) = self.unseen_next(at, visit.follows) {
+                return Ok(unseen(lookup, tree));
+            }
+            self.look(at, visit)?;
+            if let Some(tree) = self.broken(at, visit) {
+                return Ok(Turn::Broken(tree));
             }
         }
         Ok(Turn::Done)
     }
 
     /// A tree was seen. It fails for memory alone, and then nothing changed.
-    fn push(&mut self, name: Name, links: Option<Links>) -> Result<(), AllocError>
-        ensures added { OnOk result ((seen : Seen) × IsNewTree name seen × (seen.links ≡ links) × Adds self.old seen self.new) }
+    fn push(&mut self, name: Name, links: Option<Links>, joint: Joint) -> Result<(), AllocError>
+        ensures added { OnOk result ((seen : Seen) × IsNewTree name seen × (seen.links ≡ links) × (seen.joint ≡ joint) × Adds self.old seen self.new) }
         ensures same { OnErr result (IsUnchanged self.old self.new) }
     {
         let depths = no_depths(self.alloc)?;
+        let followed = no_depths(self.alloc)?;
         self.seen.reserve(1)?;
         insert_named(&mut self.places, name, self.seen.len())?;
         self.seen.push(Seen {
             name,
             links,
+            joint,
             depths,
+            followed,
         })?;
         Ok(())
     }
 
-    /// The tree of this name was read, and these are its nodes. It fails for memory alone, and then nothing changed.
-    pub fn add(&mut self, name: Name, nodes: &[Node]) -> Result<(), AllocError>
-        ensures walk { OnOk result (JoinsWalk name nodes.now self.old self.new) }
-        ensures added { OnOk result ((seen : Seen) × IsNewTree name seen × HasRead nodes.now seen × Adds self.old seen self.new) }
+    /// The tree of this name was read, and these are its nodes, and what its member `next` is. It fails for memory alone,
+    /// and then nothing changed.
+    pub fn add(&mut self, name: Name, nodes: &[Node], next: Next) -> Result<(), AllocError>
+        ensures walk { OnOk result (JoinsWalk name nodes.now next self.old self.new) }
+        ensures added { OnOk result ((seen : Seen) × IsNewTree name seen × HasRead nodes.now next seen × Adds self.old seen self.new) }
         ensures err { OnErr result (KeepsWalk self.old self.new) }
         ensures same { OnErr result (IsUnchanged self.old self.new) }
     {
         let links = Links::of(self.alloc, nodes)?;
-        self.push(name, Some(links))
+        let joint = Joint::of(nodes, next)?;
+        self.push(name, Some(links), joint)
     }
 
     /// The tree of this name isn't there, or can't be read: the walk goes on without it. It fails for memory alone, and
     /// then nothing changed.
     pub fn pass_over(&mut self, name: Name) -> Result<(), AllocError>
         ensures walk { OnOk result ((texts : List (List ℕ)) → IsWalk texts self.old → StandsAt self.old.seen.items name None → IsWalk texts self.new) }
-        ensures added { OnOk result ((seen : Seen) × IsNewTree name seen × (seen.links ≡ None) × Adds self.old seen self.new) }
+        ensures added { OnOk result ((seen : Seen) × IsNewTree name seen × IsUnread seen × Adds self.old seen self.new) }
         ensures err { OnErr result (KeepsWalk self.old self.new) }
         ensures same { OnErr result (IsUnchanged self.old self.new) }
     {
-        self.push(name, None)
+        self.push(name, None, Joint::none())
     }
 
     /// The walk begins anew over the trees that were seen. It takes no memory.
@@ -427,6 +401,7 @@ impl Trees {
         ensures walk { ComesBack self.old self.new }
         ensures trees { HasTreesBack self.old self.new }
         ensures roots { self.new.roots ≡ self.old.roots }
+        ensures never { NoneLooked self.new.seen.items }
     {
         self.drop_last();
         self.rewind();

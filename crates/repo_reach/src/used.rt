@@ -1,16 +1,18 @@
 //! The blobs that a walk came upon, as a value.
 
-ghost use Rattle.std.specs.Prelude.{◌≡◌, ◌<◌, ◌⊎◌, ◌↔◌, ℕ, true, slice_get, Some, IfOk, OnOk, IsTrue, Contains};
+ghost use Rattle.std.specs.Prelude.{◌≡◌, ◌<◌, ◌⊎◌, ◌↔◌, ℕ, Bool, true, slice_get, Some, IfOk, OnOk, IsTrue, IsFalse, Contains};
 ghost use Rattle.std.specs.BTreeSet.{IsEmpty};
 ghost use Rattle.repo_name.specs.declared.kinds.BlobKind.{BlobKind};
 ghost use Rattle.repo_name.specs.declared.kinds.BlobKind.TheVariants as kind;
 ghost use Rattle.repo_name.specs.declared.names.Name.{Name};
 ghost use Rattle.repo_tree.specs.Spelling.{greatest_depth};
 ghost use Rattle.repo_reach.specs.Laws.{IsUsed};
-ghost use Rattle.repo_reach.specs.Used.{IsIn, UsedHasPair, GivenBy, HaveJoined, PairsHaveJoined};
+ghost use Rattle.repo_reach.specs.Used.{IsIn, UsedHasPair, GivesPair, GivenBy, IsListed, HaveJoined, PairsHaveJoined};
 ghost use Rattle.repo_reach.specs.Walks.{WasAt};
 
-use crate::trees::{DEPTH, Seen, Trees};
+use crate::breaking::is_malformed;
+use crate::looks::{DEPTH, Seen, flags};
+use crate::trees::Trees;
 use repo_name::{BlobKind, Name};
 use std::alloc::{AllocError, Global};
 use std::collections::BTreeSet;
@@ -44,19 +46,35 @@ fn is_one_set(flags: &[bool], limit: usize) -> bool
     false
 }
 
-/// Whether a tree was looked at.
-fn is_looked(seen: &Seen) -> bool
-    ensures { IsTrue result ↔ ((depth : ℕ) × WasAt seen.now depth) }
+/// Whether a tree was looked at so.
+fn is_looked_by(seen: &Seen, follows: bool) -> bool
+    ensures { IsTrue result ↔ ((depth : ℕ) × WasAt seen.now follows depth) }
 {
-    is_one_set(seen.depths.as_slice(), seen.depths.len())
+    let flags = flags(seen, follows);
+    is_one_set(flags, flags.len())
 }
 
-/// Whether a tree was looked at at a path of fewer than 100 components.
-#[tactic(auto, unfolding(repo_tree::specs::Spelling::greatest_depth))]
-fn is_above(seen: &Seen) -> bool
-    ensures { IsTrue result ↔ ((depth : ℕ) × (depth < greatest_depth) × WasAt seen.now depth) }
+/// Whether a tree was looked at.
+fn is_looked(seen: &Seen) -> bool
+    ensures { IsTrue result ↔ ((follows : Bool) × (depth : ℕ) × WasAt seen.now follows depth) }
 {
-    is_one_set(seen.depths.as_slice(), DEPTH)
+    is_looked_by(seen, false) || is_looked_by(seen, true)
+}
+
+/// Whether a tree was looked at so at a path of fewer than 100 components.
+#[tactic(auto, unfolding(repo_tree::specs::Spelling::greatest_depth))]
+fn is_above(seen: &Seen, follows: bool) -> bool
+    ensures { IsTrue result ↔ ((depth : ℕ) × (depth < greatest_depth) × WasAt seen.now follows depth) }
+{
+    is_one_set(flags(seen, follows), DEPTH)
+}
+
+/// Whether a tree was looked at at such a path so that its nodes are read.
+fn is_listed(seen: &Seen) -> bool
+    ensures yes { IsTrue result → IsListed seen.now }
+    ensures no { IsFalse result → (n : Name) → ¬ GivesPair seen.now kind.Content n }
+{
+    is_above(seen, false) || is_above(seen, true) && !is_malformed(seen)
 }
 
 /// Some names come to a set. It fails for memory alone.
@@ -89,7 +107,7 @@ impl Used {
         let Some(links) = &seen.links else {
             return Ok(());
         };
-        if is_above(seen) {
+        if is_listed(seen) {
             add_names(&mut self.content, links.content.as_slice())?;
         }
         Ok(())

@@ -1,5 +1,5 @@
 -- What is known while a snapshot is restored.
-use Rattle.std.proofs.Common.{◌≡◌, ◌≢◌, ◌≤◌, ◌∷◌, ◌++◌, [], ℕ, Bool, true, false, List, length, Option, refl, sym, ap, subst, inl, inr, ◌⊎◌, ◌∙◌, ⊎_elim}
+use Rattle.std.proofs.Common.{◌≡◌, ◌≢◌, ◌≤◌, ◌∷◌, ◌++◌, [], ℕ, Bool, true, false, List, length, Option, refl, sym, ap, subst, inl, inr, ◌∙◌, ⊎_elim}
 use Rattle.std.proofs.lemmas.List.{append-nil}
 use Rattle.repo_name.specs.Naming as naming
 use Rattle.repo_name.specs.declared.kinds.Kind.{Kind}
@@ -22,7 +22,7 @@ use Rattle.repo_session.specs.declared.outcomes.End.{End}
 use Rattle.repo_session.specs.declared.outcomes.Outcome.{Outcome}
 use Rattle.repo_session.specs.Askers.{Asker}
 use Rattle.repo_session.specs.Catalogs.{Catalogs, IsAll}
-use Rattle.repo_session.specs.Ends.{IsBad, IsBadBlob, Concludes, IsUnwelcome, blob_thing}
+use Rattle.repo_session.specs.Ends.{IsBad, IsBadBlob, Concludes, blob_thing}
 use Rattle.repo_session.specs.Jobs.{task_under, known_under, MayAsk}
 use Rattle.repo_session.specs.Order.{opened}
 use Rattle.repo_session.specs.Rebuilding.{rebuilt, Follow}
@@ -50,33 +50,34 @@ lengths_of : (c : Catalog) (es : Trace) (content : List Name) (total : ℕ) → 
 lengths_of c es [] total h s = s
 lengths_of c es (n ∷ ns) total h s = (fact_of BlobKind.Content n s.0, s.1, (h.gives (fact_of BlobKind.Content n s.0)).0 s.2.among, refl, refl, lengths_of c es ns s.1 h s.3, s.4)
 
-bad_tree : (c : Catalog) (s root : Name) (es : Trace) (tree : Name) → Catalogs c true es → HasRoot es s 1 root
-    → (path : List (List ℕ)) × Under 1 (Received es) root path tree × IsUnfitIn c.lookup (Received es) root path tree → IsBadTree es s tree
-bad_tree c s root es tree h found b = record { version = 1; root = root; path = b.0; found = found; leads = b.1; unfit = ⊎_elim inl (λ n. inr (n.0, n.1, uneven n.0 n.2)) b.2 }
+bad_tree : (c : Catalog) (s : Name) (version : ℕ) (root : Name) (es : Trace) (tree : Name) → Catalogs c true es → HasRoot es s version root
+    → (path : List (List ℕ)) × Under version (Received es) root path tree × IsUnfitIn c.lookup version (Received es) root path tree → IsBadTree es s tree
+bad_tree c s version root es tree h found b = record { version = version; root = root; path = b.0; found = found; leads = b.1; unfit = ⊎_elim inl (λ n. inr (n.0, n.1, uneven n.0 n.2)) b.2 }
   where
     uneven : (nodes : List Node) → IsUnevenIn c.lookup nodes → IsUneven es nodes
     uneven nodes u = record { name = u.0; size = u.1; content = u.2; total = u.3; among = u.4; lengths = lengths_of c es u.2 u.3 h u.5; other = u.6 }
 
 -- a walk's end is one that a restore may have
-pub walk_concludes : (c : Catalog) (s root : Name) (es : Trace) (end : End) → Catalogs c true es → IsAll c → HasRoot es s 1 root → WalkEnds c.lookup (Received es) root end
+pub walk_concludes : (c : Catalog) (s : Name) (version : ℕ) (root : Name) (es : Trace) (end : End) → Catalogs c true es → IsAll c → HasRoot es s version root → WalkEnds c.lookup version (Received es) root end
     → Concludes snapshot_version (RestoreConcludes s) es (Outcome.Ended end)
-walk_concludes c s root es (End.Missing thing name) h all found e = inr (unindexed c es thing name h all s 1 root found e)
-walk_concludes c s root es (End.BadObject thing tree) h all found e =
-    subst (λ t. Concludes snapshot_version (RestoreConcludes s) es (Outcome.Ended (End.BadObject t tree))) (sym e.0) (inr (bad_tree c s root es tree h found e.1))
-walk_concludes c s root es End.Busy h all found e = absurd e
-walk_concludes c s root es End.Fenced h all found e = absurd e
-walk_concludes c s root es (End.Refused code) h all found e = absurd e
-walk_concludes c s root es End.BadReply h all found e = absurd e
-walk_concludes c s root es End.Version h all found e = absurd e
-walk_concludes c s root es End.DirectoryTooLarge h all found e = absurd e
-walk_concludes c s root es End.FileTooLarge h all found e = absurd e
-walk_concludes c s root es End.Abandoned h all found e = absurd e
+walk_concludes c s version root es (End.Missing thing name) h all found e = inr (unindexed c es thing name h all s version root found e)
+walk_concludes c s version root es (End.BadObject thing tree) h all found e =
+    subst (λ t. Concludes snapshot_version (RestoreConcludes s) es (Outcome.Ended (End.BadObject t tree))) (sym e.0) (inr (bad_tree c s version root es tree h found e.1))
+walk_concludes c s version root es End.Busy h all found e = absurd e
+walk_concludes c s version root es End.Fenced h all found e = absurd e
+walk_concludes c s version root es (End.Refused code) h all found e = absurd e
+walk_concludes c s version root es End.BadReply h all found e = absurd e
+walk_concludes c s version root es End.Version h all found e = absurd e
+walk_concludes c s version root es End.DirectoryTooLarge h all found e = absurd e
+walk_concludes c s version root es End.FileTooLarge h all found e = absurd e
+walk_concludes c s version root es End.Abandoned h all found e = absurd e
 
 -- nothing was given out yet
 pub before_on : (walk : Walk) (given : List Emission) (e : Exchange) (es : Trace) → e.emitted ≡ given → IsBefore walk given es → IsBefore walk given (e ∷ es)
 before_on walk given e es p h = record {
   no_levels = h.no_levels;
   no_entries = h.no_entries;
+  not_onward = h.not_onward;
   none_given = h.none_given;
   nothing = ap (λ x. emitted_in es ++ x) (p ∙ h.none_given) ∙ append-nil (emitted_in es) ∙ h.nothing;
 }
@@ -103,17 +104,17 @@ first_ask j who token text config new reads known =
     let ask = Ask.Get Kind.Snapshot j.snapshot in
     let es : Trace = opened task token text in
     let indexes = catalog_fresh task token text j.catalog.roll.kind j.catalog.roll.names.items j.catalog.roll.read j.catalog.lookup es new.of_indexes new.no_names new.none_read new.no_facts refl in
-    let before : IsBefore j.walk j.given.items es = record { no_levels = new.no_levels; no_entries = new.no_entries; none_given = new.none_given; nothing = refl } in
+    let before : IsBefore j.walk j.given.items es = record { no_levels = new.no_levels; no_entries = new.no_entries; not_onward = new.not_onward; none_given = new.none_given; nothing = refl } in
     let S : Stage → Type 0 = λ stage. KnowsAtStage j stage ask es in
     record { work = tt; may = ((token, opened_working task token text config reads known), inr (refl, refl)); allowed = tt; knows = subst S (sym new.at_start) (refl, new.none_read, indexes, before) }
 
 -- what comes next of a walk, over the trace
-pub turn_is : (facts : List Fact) (walk : Walk) (root : Name) (es : Trace) (old out : List Emission) (turn : Turn) (begun : Bool) → emitted_in es ≡ old ++ out → Turns facts (Received es) root walk old out turn
-    → Follow false old begun → TurnFlows begun out turn → RestoreTurnIs facts walk root es turn
-turn_is facts walk root es old out (Turn.Ask fact) begun e h f g = (subst (λ x. WaitsForBlob facts (Received es) root walk fact x) (sym e) h.0, subst (λ x. Follow false x (is_open fact.kind)) (sym e) (follow_both false begun (is_open fact.kind) old out f g))
-turn_is facts walk root es old out (Turn.Complete count) begun e h f g =
-    (subst (λ x. Spells 1 (Received es) root [] (rebuilt x)) (sym e) h.0, subst (λ x. count ≡ counted (length (rebuilt x))) (sym e) h.1, subst (λ x. Follow false x false) (sym e) (follow_both false begun false old out f g))
-turn_is facts walk root es old out (Turn.Ended end) begun e h f g = h.0
+pub turn_is : (facts : List Fact) (walk : Walk) (version : ℕ) (root : Name) (es : Trace) (old out : List Emission) (turn : Turn) (begun : Bool) → emitted_in es ≡ old ++ out → Turns facts version (Received es) root walk old out turn
+    → Follow false old begun → TurnFlows begun out turn → RestoreTurnIs facts walk version root es turn
+turn_is facts walk version root es old out (Turn.Ask fact) begun e h f g = (subst (λ x. WaitsForBlob facts version (Received es) root walk fact x) (sym e) h.0, subst (λ x. Follow false x (is_open fact.kind)) (sym e) (follow_both false begun (is_open fact.kind) old out f g))
+turn_is facts walk version root es old out (Turn.Complete count) begun e h f g =
+    (subst (λ x. Spells version (Received es) root [] (rebuilt x)) (sym e) h.0, subst (λ x. count ≡ counted (length (rebuilt x))) (sym e) h.1, subst (λ x. Follow false x false) (sym e) (follow_both false begun false old out f g))
+turn_is facts walk version root es old out (Turn.Ended end) begun e h f g = h.0
 
 -- what was given out stands in order
 pub turn_flowed : (old out : List Emission) (turn : Turn) (begun : Bool) → Follow false old begun → TurnFlows begun out turn → (after : Bool) × Follow false (old ++ out) after
@@ -121,40 +122,40 @@ turn_flowed old out (Turn.Ask fact) begun f g = (is_open fact.kind, follow_both 
 turn_flowed old out (Turn.Complete count) begun f g = (false, follow_both false begun false old out f g)
 turn_flowed old out (Turn.Ended end) begun f g = (g.0, follow_both false begun g.0 old out f g.1)
 
-turn_gave : (facts : List Fact) (B : Blobs) (root : Name) (levels : List Level) (sent entries : ℕ) (old out : List Emission) (turn : Turn) → TurnGives facts B root levels sent entries old out turn → Each (WalkGives facts B root) out
-turn_gave facts B root levels sent entries old out (Turn.Ask fact) h = h.1
-turn_gave facts B root levels sent entries old out (Turn.Complete count) h = h.2
-turn_gave facts B root levels sent entries old out (Turn.Ended end) h = h.1
+turn_gave : (facts : List Fact) (version : ℕ) (B : Blobs) (root : Name) (levels : List Level) (sent : ℕ) (onward : Bool) (entries : ℕ) (old out : List Emission) (turn : Turn) → TurnGives facts version B root levels sent onward entries old out turn → Each (WalkGives facts version B root) out
+turn_gave facts version B root levels sent onward entries old out (Turn.Ask fact) h = h.1
+turn_gave facts version B root levels sent onward entries old out (Turn.Complete count) h = h.2
+turn_gave facts version B root levels sent onward entries old out (Turn.Ended end) h = h.1
 
-may_give : (c : Catalog) (es : Trace) (root : Name) (given : Emission) → Catalogs c true es → WalkGives c.lookup (Received es) root given → MayGive es 1 root given
-may_give c es root (Emission.Dir path) h g = g
-may_give c es root (Emission.File path) h g = (g.0, g.1, g.2, lengths_of c es g.1 g.0 h g.3)
-may_give c es root (Emission.Piece bytes) h g = g
-may_give c es root Emission.Close h g = g
+may_give : (c : Catalog) (es : Trace) (version : ℕ) (root : Name) (given : Emission) → Catalogs c true es → WalkGives c.lookup version (Received es) root given → MayGive es version root given
+may_give c es version root (Emission.Dir path) h g = g
+may_give c es version root (Emission.File path) h g = (g.0, g.1, g.2, lengths_of c es g.1 g.0 h g.3)
+may_give c es version root (Emission.Piece bytes) h g = g
+may_give c es version root Emission.Close h g = g
 
 -- each part that a turn gives out is one that may be
-pub turn_may_give : (c : Catalog) (es : Trace) (root : Name) (levels : List Level) (sent entries : ℕ) (old out : List Emission) (turn : Turn) → Catalogs c true es
-    → TurnGives c.lookup (Received es) root levels sent entries old out turn → Each (MayGive es 1 root) out
-turn_may_give c es root levels sent entries old out turn h t =
-    each_more (WalkGives c.lookup (Received es) root) (MayGive es 1 root) out (λ given g. may_give c es root given h g) (turn_gave c.lookup (Received es) root levels sent entries old out turn t)
+pub turn_may_give : (c : Catalog) (es : Trace) (version : ℕ) (root : Name) (levels : List Level) (sent : ℕ) (onward : Bool) (entries : ℕ) (old out : List Emission) (turn : Turn) → Catalogs c true es
+    → TurnGives c.lookup version (Received es) root levels sent onward entries old out turn → Each (MayGive es version root) out
+turn_may_give c es version root levels sent onward entries old out turn h t =
+    each_more (WalkGives c.lookup version (Received es) root) (MayGive es version root) out (λ given g. may_give c es version root given h g) (turn_gave c.lookup version (Received es) root levels sent onward entries old out turn t)
 
 -- what is known where the bytes of the blob came that was asked for
-pub record RangeTaken (j : RestoreJob) (fact : Fact) (root : Name) (e : Exchange) (bytes : List ℕ) (es : Trace) : Type 0 where
-  pub still : HasRoot (e ∷ es) j.snapshot 1 root
+pub record RangeTaken (j : RestoreJob) (version : ℕ) (fact : Fact) (root : Name) (e : Exchange) (bytes : List ℕ) (es : Trace) : Type 0 where
+  pub still : HasRoot (e ∷ es) j.snapshot version root
   pub indexes : Catalogs j.catalog true (e ∷ es)
   pub given : ReadFact (e ∷ es) fact
-  pub waits : WaitsForBlob j.catalog.lookup (Received (e ∷ es)) root j.walk fact (emitted_in es)
+  pub waits : WaitsForBlob j.catalog.lookup version (Received (e ∷ es)) root j.walk fact (emitted_in es)
   pub got : naming.name bytes ≡ fact.name → Received (e ∷ es) fact.kind bytes
 
-pub range_taken : (j : RestoreJob) (fact : Fact) (e : Exchange) (bytes : List ℕ) (es : Trace) → IsRangeOf fact e.ask → e.say ≡ Say.Bytes bytes → (k : IsWalking j fact es) → RangeTaken j fact k.root e bytes es
-range_taken j fact e bytes es of said k =
+pub range_taken : (j : RestoreJob) (version : ℕ) (fact : Fact) (e : Exchange) (bytes : List ℕ) (es : Trace) → IsRangeOf fact e.ask → e.say ≡ Say.Bytes bytes → (k : IsWalking j version fact es) → RangeTaken j version fact k.root e bytes es
+range_taken j version fact e bytes es of said k =
     let indexes = range_on j.catalog e fact.place.pack fact.place.offset fact.place.length true es of k.indexes in
     let given = fact_read j.catalog (e ∷ es) fact indexes k.waits.least in
     record {
-      still = root_grows e es j.snapshot 1 k.root k.found;
+      still = root_grows e es j.snapshot version k.root k.found;
       indexes = indexes;
       given = given;
-      waits = walk_grows j.catalog.lookup (Received es) (Received (e ∷ es)) (received_grows e es) k.root j.walk.levels.items j.walk.sent j.walk.entries fact (emitted_in es) k.waits;
+      waits = walk_grows j.catalog.lookup version (Received es) (Received (e ∷ es)) (received_grows e es) k.root j.walk.levels.items j.walk.sent j.walk.onward j.walk.entries fact (emitted_in es) k.waits;
       got = λ named. record { fact = fact; given = given; of_kind = refl; replied = inl (of, said); named = named };
     }
 

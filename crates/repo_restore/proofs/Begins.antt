@@ -1,5 +1,5 @@
 -- What beginning a node makes of what was given out.
-use Rattle.std.proofs.Common.{◌≡◌, ◌≢◌, ◌≤◌, ◌+◌, ◌++◌, ◌∷◌, [], ℕ, suc, List, length, slice_get, Some, refl, sym, ap, subst, inl, inr, ◌⊎◌, append_assoc, ◌∙◌, Contains}
+use Rattle.std.proofs.Common.{◌≡◌, ◌≢◌, ◌≤◌, ◌+◌, ◌++◌, ◌∷◌, [], ℕ, suc, List, length, slice_get, Some, None, refl, sym, ap, subst, inl, inr, ◌⊎◌, append_assoc, ◌∙◌, Contains}
 use Rattle.std.proofs.lemmas.Option.{same_Some}
 use Rattle.repo_name.specs.declared.kinds.BlobKind.{BlobKind}
 use Rattle.repo_name.specs.declared.kinds.Thing.{Thing}
@@ -8,7 +8,7 @@ use Rattle.repo_index.specs.declared.facts.Fact.{Fact}
 use Rattle.repo_tree.specs.declared.entries.Entry.{Entry}
 use Rattle.repo_tree.specs.declared.nodes.Node.{Node}
 use Rattle.repo_tree.specs.declared.nodes.NodeKind.{NodeKind}
-use Rattle.repo_tree.specs.Parts.{Blobs, IsTree}
+use Rattle.repo_tree.specs.Parts.{Blobs, ListsBy}
 use Rattle.repo_tree.specs.Spelling.{Joined, NodeSpells, Spells, dir_entry, file_entry}
 use Rattle.repo_session.specs.declared.emissions.Emission.{Emission}
 use Rattle.repo_session.specs.declared.outcomes.End.{End}
@@ -19,94 +19,106 @@ use Rattle.repo_session.proofs.Descending.{under_more}
 use Rattle.repo_restore.specs.declared.nodes.Begun.{Begun}
 use Rattle.repo_restore.specs.declared.nodes.Level.{Level}
 use Rattle.repo_session.specs.Trees.{Under, IsNodeAt}
-use Rattle.repo_restore.specs.Walking.{NodeBegins, LevelStands, WaitsAs, WaitsIn, WalkEnds}
+use Rattle.repo_restore.specs.Walking.{NodeBegins, NextBegins, LevelStands, WaitsAs, WaitsIn, WalkEnds}
 use Rattle.repo_session.specs.Catalogs.{IsBlobNowhere}
-use Rattle.repo_restore.specs.Walks.{IsWriting, Sums, WalkGives, AtLevel, AtOpen}
+use Rattle.repo_restore.specs.Walks.{IsWriting, PartIs, Sums, WalkGives, AtLevel, AtOpen}
+use Rattle.repo_restore.specs.Nodes.{PartFollows}
 use Rattle.repo_restore.proofs.Rebuilds.{rebuilt_both, writing_new}
 use Rattle.repo_name.proofs.Containing.{contains_got}
-use Rattle.repo_restore.proofs.Trees.{node_at, open_more, open_all, close_level}
+use Rattle.repo_restore.proofs.Trees.{part_lists, under_onward, node_at, open_more, open_all, close_level}
 
 split : (old mid new last : List Emission) → new ≡ mid ++ last → old ++ new ≡ (old ++ mid) ++ last
 split old mid new last p = ap (λ m. old ++ m) p ∙ sym (append_assoc old mid last)
 
 -- a node that was given out whole
-step_done : (facts : List Fact) (B : Blobs) (root tree : Name) (path : List (List ℕ)) (what : NodeKind) (old mid new : List Emission) → IsNodeAt 1 B root path what → NodeBegins facts tree path what mid new Begun.Done → Each (WalkGives facts B root) mid
-    → (more : List Entry) × NodeSpells B (Spells 1 B) path what more × (rebuilt (old ++ new) ≡ rebuilt (old ++ mid) ++ more) × Each (WalkGives facts B root) new
-step_done facts B root tree path (NodeKind.Dir subtree) old mid new at h given = absurd h
-step_done facts B root tree path (NodeKind.File size content) old mid new at h given =
+step_done : (facts : List Fact) (version : ℕ) (B : Blobs) (root tree : Name) (path : List (List ℕ)) (what : NodeKind) (old mid new : List Emission) → IsNodeAt version B root path what → NodeBegins facts tree path what mid new Begun.Done → Each (WalkGives facts version B root) mid
+    → (more : List Entry) × NodeSpells B (Spells version B) path what more × (rebuilt (old ++ new) ≡ rebuilt (old ++ mid) ++ more) × Each (WalkGives facts version B root) new
+step_done facts version B root tree path (NodeKind.Dir subtree) old mid new at h given = absurd h
+step_done facts version B root tree path (NodeKind.File size content) old mid new at h given =
     let last : List Emission = Emission.File path ∷ Emission.Close ∷ [] in
     let even : content ≡ [] → size ≡ 0 → Sums facts content size = λ none zero. subst (λ ns. Sums facts ns size) (sym none) zero in (
       file_entry path [] ∷ [],
       ([], subst (λ ns. Joined B ns []) (sym h.0) refl, sym h.1, refl),
       ap (λ (e : List Emission). rebuilt e) (split old mid new last h.2) ∙ rebuilt_both (old ++ mid) last refl,
-      subst (λ e. Each (WalkGives facts B root) e) (sym h.2) (each_both (WalkGives facts B root) mid last given ((size, content, at, even h.0 h.1), (tt, tt))),
+      subst (λ e. Each (WalkGives facts version B root) e) (sym h.2) (each_both (WalkGives facts version B root) mid last given ((size, content, at, even h.0 h.1), (tt, tt))),
     )
 
 -- a node that waits
-step_waits : (facts : List Fact) (B : Blobs) (root tree : Name) (path : List (List ℕ)) (what : NodeKind) (old mid new : List Emission) (fact : Fact) (all : List Entry) → IsNodeAt 1 B root path what
-    → NodeBegins facts tree path what mid new (Begun.Waits fact) → Each (WalkGives facts B root) mid → rebuilt (old ++ mid) ≡ all → WaitsAs facts what path fact all (old ++ new) × Each (WalkGives facts B root) new
-step_waits facts B root tree path (NodeKind.Dir subtree) old mid new fact all at h given whole =
+step_waits : (facts : List Fact) (version : ℕ) (B : Blobs) (root tree : Name) (path : List (List ℕ)) (what : NodeKind) (old mid new : List Emission) (fact : Fact) (all : List Entry) → IsNodeAt version B root path what
+    → NodeBegins facts tree path what mid new (Begun.Waits fact) → Each (WalkGives facts version B root) mid → rebuilt (old ++ mid) ≡ all → WaitsAs facts what path fact all (old ++ new) × Each (WalkGives facts version B root) new
+step_waits facts version B root tree path (NodeKind.Dir subtree) old mid new fact all at h given whole =
     let last : List Emission = Emission.Dir path ∷ [] in (
       (h.0, ap (λ (e : List Emission). rebuilt e) (split old mid new last h.1) ∙ rebuilt_both (old ++ mid) last refl ∙ ap (λ es. es ++ dir_entry path ∷ []) whole),
-      subst (λ e. Each (WalkGives facts B root) e) (sym h.1) (each_both (WalkGives facts B root) mid last given ((subtree, at), tt)),
+      subst (λ e. Each (WalkGives facts version B root) e) (sym h.1) (each_both (WalkGives facts version B root) mid last given ((subtree, at), tt)),
     )
-step_waits facts B root tree path (NodeKind.File size content) old mid new fact all at h given whole =
+step_waits facts version B root tree path (NodeKind.File size content) old mid new fact all at h given whole =
     let last : List Emission = Emission.File path ∷ [] in (
       (h.0, h.1, h.2, subst (λ e. IsWriting e all path []) (sym (split old mid new last h.3)) (writing_new (old ++ mid) all path whole)),
-      subst (λ e. Each (WalkGives facts B root) e) (sym h.3) (each_both (WalkGives facts B root) mid last given ((size, content, at, h.2), tt)),
+      subst (λ e. Each (WalkGives facts version B root) e) (sym h.3) (each_both (WalkGives facts version B root) mid last given ((size, content, at, h.2), tt)),
     )
 
 -- a node that can't be given out
-step_ends : (facts : List Fact) (B : Blobs) (root tree : Name) (path : List (List ℕ)) (name : List ℕ) (what : NodeKind) (nodes : List Node) (mid new : List Emission) (end : End) (above : List (List ℕ)) → Under 1 B root above tree → path ≡ above ++ name ∷ [] → IsNodeAt 1 B root path what → IsTree B tree nodes
-    → Contains nodes (record { name = name; what = what }) → NodeBegins facts tree path what mid new (Begun.Ended end) → Each (WalkGives facts B root) mid → WalkEnds facts B root end × Each (WalkGives facts B root) new
-step_ends facts B root tree path name (NodeKind.Dir subtree) nodes mid new end above under is at read among h given =
+step_ends : (facts : List Fact) (version : ℕ) (B : Blobs) (root tree : Name) (path : List (List ℕ)) (name : List ℕ) (what : NodeKind) (nodes : List Node) (mid new : List Emission) (end : End) (above : List (List ℕ)) → Under version B root above tree → path ≡ above ++ name ∷ [] → IsNodeAt version B root path what → ListsBy version B tree nodes
+    → Contains nodes (record { name = name; what = what }) → NodeBegins facts tree path what mid new (Begun.Ended end) → Each (WalkGives facts version B root) mid → WalkEnds facts version B root end × Each (WalkGives facts version B root) new
+step_ends facts version B root tree path name (NodeKind.Dir subtree) nodes mid new end above under is at read among h given =
     let last : List Emission = Emission.Dir path ∷ [] in (
-      subst (λ x. WalkEnds facts B root x) (sym h.0) (BlobKind.Tree, refl, h.1, (above ++ name ∷ [], under_more 1 B root above tree nodes name subtree under read among)),
-      subst (λ e. Each (WalkGives facts B root) e) (sym h.2) (each_both (WalkGives facts B root) mid last given ((subtree, at), tt)),
+      subst (λ x. WalkEnds facts version B root x) (sym h.0) (BlobKind.Tree, refl, h.1, (above ++ name ∷ [], under_more version B root above tree nodes name subtree under read among)),
+      subst (λ e. Each (WalkGives facts version B root) e) (sym h.2) (each_both (WalkGives facts version B root) mid last given ((subtree, at), tt)),
     )
-step_ends facts B root tree path name (NodeKind.File size content) nodes mid new end above under is at read among h given = (why h.1, subst (λ e. Each (WalkGives facts B root) e) (sym h.0) given)
+step_ends facts version B root tree path name (NodeKind.File size content) nodes mid new end above under is at read among h given = (why h.1, subst (λ e. Each (WalkGives facts version B root) e) (sym h.0) given)
   where
-    why : ((n : Name) × (end ≡ End.Missing Thing.Content n) × Contains content n × IsBlobNowhere facts BlobKind.Content n) ⊎ ((end ≡ End.BadObject Thing.Tree tree) × ((total : ℕ) × Sums facts content total × (total ≢ size))) → WalkEnds facts B root end
-    why (inl m) = subst (λ x. WalkEnds facts B root x) (sym m.1) (BlobKind.Content, refl, m.3, (path, size, content, at, m.2))
-    why (inr u) = subst (λ x. WalkEnds facts B root x) (sym u.0) (refl, (above, under, inr (nodes, read, (name, size, content, u.1.0, among, u.1.1, u.1.2))))
+    why : ((n : Name) × (end ≡ End.Missing Thing.Content n) × Contains content n × IsBlobNowhere facts BlobKind.Content n) ⊎ ((end ≡ End.BadObject Thing.Tree tree) × ((total : ℕ) × Sums facts content total × (total ≢ size))) → WalkEnds facts version B root end
+    why (inl m) = subst (λ x. WalkEnds facts version B root x) (sym m.1) (BlobKind.Content, refl, m.3, (path, size, content, at, m.2))
+    why (inr u) = subst (λ x. WalkEnds facts version B root x) (sym u.0) (refl, (above, under, inr (nodes, read, (name, size, content, u.1.0, among, u.1.1, u.1.2))))
 
-module _ (facts : List Fact) (B : Blobs) (root : Name) (level : Level) (at : ℕ) (before : List Entry) (old mid new : List Emission) (node : Node) where
-  pub begun_done : LevelStands facts B root level at before old mid → slice_get level.nodes.items at ≡ Some node → NodeBegins facts level.tree (level.path ++ node.name ∷ []) node.what mid new Begun.Done → LevelStands facts B root level (at + 1) before old new
+module _ (facts : List Fact) (version : ℕ) (B : Blobs) (root first : Name) (level : Level) (at : ℕ) (before : List Entry) (old mid new : List Emission) (node : Node) where
+  pub begun_done : LevelStands facts version B root first level at before old mid → slice_get level.nodes.items at ≡ Some node → NodeBegins facts level.tree (level.path ++ node.name ∷ []) node.what mid new Begun.Done → LevelStands facts version B root first level (at + 1) before old new
   begun_done h p b =
-      let r = step_done facts B root level.tree (level.path ++ node.name ∷ []) node.what old mid new (node_at B root level.tree level.path level.nodes.items at at h.inside node h.opened p) b h.given in
+      let r = step_done facts version B root level.tree (level.path ++ node.name ∷ []) node.what old mid new (node_at version B root first level.tree level.path level.nodes.items level.next at at h.inside node h.opened p) b h.given in
       record {
         inside = h.inside ++ r.0;
-        opened = open_more B root level.tree level.path level.nodes.items at h.inside node r.0 h.opened p r.1;
+        opened = open_more version B root first level.tree level.path level.nodes.items level.next at h.inside node r.0 h.opened p r.1;
         whole = r.2 ∙ ap (λ es. es ++ r.0) h.whole ∙ append_assoc before h.inside r.0;
         given = r.3;
       }
 
-  pub begun_waits : (fact : Fact) → LevelStands facts B root level at before old mid → slice_get level.nodes.items at ≡ Some node → NodeBegins facts level.tree (level.path ++ node.name ∷ []) node.what mid new (Begun.Waits fact)
-      → WaitsIn facts B root level (at + 1) before old new fact
+  pub begun_waits : (fact : Fact) → LevelStands facts version B root first level at before old mid → slice_get level.nodes.items at ≡ Some node → NodeBegins facts level.tree (level.path ++ node.name ∷ []) node.what mid new (Begun.Waits fact)
+      → WaitsIn facts version B root first level (at + 1) before old new fact
   begun_waits fact h p b =
-      let r = step_waits facts B root level.tree (level.path ++ node.name ∷ []) node.what old mid new fact (before ++ h.inside) (node_at B root level.tree level.path level.nodes.items at at h.inside node h.opened p) b h.given h.whole in
+      let r = step_waits facts version B root level.tree (level.path ++ node.name ∷ []) node.what old mid new fact (before ++ h.inside) (node_at version B root first level.tree level.path level.nodes.items level.next at at h.inside node h.opened p) b h.given h.whole in
       record { at = at; counts = refl; node = node; node_is = p; inside = h.inside; opened = h.opened; waits = r.0; given = r.1 }
 
-  pub begun_ends : (end : End) → LevelStands facts B root level at before old mid → slice_get level.nodes.items at ≡ Some node → NodeBegins facts level.tree (level.path ++ node.name ∷ []) node.what mid new (Begun.Ended end)
-      → WalkEnds facts B root end × Each (WalkGives facts B root) new
+  pub begun_ends : (end : End) → LevelStands facts version B root first level at before old mid → slice_get level.nodes.items at ≡ Some node → NodeBegins facts level.tree (level.path ++ node.name ∷ []) node.what mid new (Begun.Ended end)
+      → WalkEnds facts version B root end × Each (WalkGives facts version B root) new
   begun_ends end h p b =
-      step_ends facts B root level.tree (level.path ++ node.name ∷ []) node.name node.what level.nodes.items mid new end level.path h.opened.under refl (node_at B root level.tree level.path level.nodes.items at at h.inside node h.opened p)
-      h.opened.read (contains_got level.nodes.items at node p) b h.given
+      step_ends facts version B root level.tree (level.path ++ node.name ∷ []) node.name node.what level.nodes.items mid new end level.path h.opened.under refl (node_at version B root first level.tree level.path level.nodes.items level.next at at h.inside node h.opened p)
+      (part_lists version B level.tree level.nodes.items level.next h.opened.read) (contains_got level.nodes.items at node p) b h.given
 
 -- past the last node of a level
-pub stands_all : (facts : List Fact) (B : Blobs) (root : Name) (level : Level) (at : ℕ) (before : List Entry) (old out : List Emission) → length level.nodes.items ≤ at → LevelStands facts B root level at before old out
-    → LevelStands facts B root level (length level.nodes.items) before old out
-stands_all facts B root level at before old out w h = record { inside = h.inside; opened = open_all B root level.tree level.path level.nodes.items at h.inside w h.opened; whole = h.whole; given = h.given }
+pub stands_all : (facts : List Fact) (version : ℕ) (B : Blobs) (root first : Name) (level : Level) (at : ℕ) (before : List Entry) (old out : List Emission) → length level.nodes.items ≤ at → LevelStands facts version B root first level at before old out
+    → LevelStands facts version B root first level (length level.nodes.items) before old out
+stands_all facts version B root first level at before old out w h = record { inside = h.inside; opened = open_all version B root first level.tree level.path level.nodes.items level.next at h.inside w h.opened; whole = h.whole; given = h.given }
 
 -- the level of which nodes are begun
-pub at_level : (B : Blobs) (root : Name) (levels : List Level) (depth begun : ℕ) (level : Level) (all : List Entry) → slice_get levels depth ≡ Some level → AtOpen B root levels (suc depth) begun all → AtLevel B root levels depth begun level all
-at_level B root levels depth begun level all p h = subst (λ l. AtLevel B root levels depth begun l all) (same_Some h.0 level (sym h.1.level_is ∙ p)) h.1
+pub at_level : (version : ℕ) (B : Blobs) (root : Name) (levels : List Level) (depth begun : ℕ) (level : Level) (all : List Entry) → slice_get levels depth ≡ Some level → AtOpen version B root levels (suc depth) begun all → AtLevel version B root levels depth begun level all
+at_level version B root levels depth begun level all p h = subst (λ l. AtLevel version B root levels depth begun l all) (same_Some h.0 level (sym h.1.level_is ∙ p)) h.1
 
-pub level_stands : (facts : List Fact) (B : Blobs) (root : Name) (levels : List Level) (depth begun : ℕ) (level : Level) (old out : List Emission) (h : AtLevel B root levels depth begun level (rebuilt (old ++ out))) → Each (WalkGives facts B root) out
-    → LevelStands facts B root level begun h.before old out
-level_stands facts B root levels depth begun level old out h given = record { inside = h.inside; opened = h.opened; whole = h.whole; given = given }
+-- the next part is looked up
+pub part_follows : (facts : List Fact) (version : ℕ) (B : Blobs) (root first : Name) (level : Level) (before : List Entry) (old out : List Emission) (now : ℕ) (what : Begun) → LevelStands facts version B root first level (length level.nodes.items) before old out
+    → PartFollows facts level.next what → NextBegins facts version B root first level before old out now what
+part_follows facts version B root first level before old out now Begun.Done h p = (h, p)
+part_follows facts version B root first level before old out now (Begun.Waits fact) h p = absurd p
+part_follows facts version B root first level before old out now (Begun.GoesOn fact) h p = record { stands = h; goes_on = p.0; waits = p.1 }
+part_follows facts version B root first level before old out now (Begun.Ended end) h p =
+    let part = subst (λ n. PartIs version B level.tree level.nodes.items n) p.1 h.opened.read in
+    (subst (λ x. WalkEnds facts version B root x) (sym p.2) (BlobKind.Tree, refl, p.3, (level.path, under_onward version B root level.path level.tree level.nodes.items p.0 h.opened.under part)), h.given)
 
-pub level_done : (facts : List Fact) (B : Blobs) (root : Name) (levels : List Level) (depth begun above : ℕ) (level : Level) (old out new : List Emission) (h : AtLevel B root levels depth begun level (rebuilt (old ++ out)))
-    → LevelStands facts B root level (length level.nodes.items) h.before old new → ((i : ℕ) (l : Level) → depth ≡ i + 1 → slice_get levels i ≡ Some l → above ≡ l.begun) → AtOpen B root levels depth above (rebuilt (old ++ new))
-level_done facts B root levels depth begun above level old out new h s up =
-    close_level B root levels depth above level (rebuilt (old ++ new)) (record { before = h.before; inside = s.inside; level_is = h.level_is; leads = h.leads; opened = s.opened; whole = s.whole }) up
+-- the level of which nodes are begun stands
+pub level_stands : (facts : List Fact) (version : ℕ) (B : Blobs) (root : Name) (levels : List Level) (depth begun : ℕ) (level : Level) (old out : List Emission) (h : AtLevel version B root levels depth begun level (rebuilt (old ++ out)))
+    → Each (WalkGives facts version B root) out → LevelStands facts version B root h.first level begun h.before old out
+level_stands facts version B root levels depth begun level old out h given = record { inside = h.inside; opened = h.opened; whole = h.whole; given = given }
+
+pub level_done : (facts : List Fact) (version : ℕ) (B : Blobs) (root : Name) (levels : List Level) (depth begun above : ℕ) (level : Level) (old out new : List Emission) (h : AtLevel version B root levels depth begun level (rebuilt (old ++ out)))
+    → LevelStands facts version B root h.first level (length level.nodes.items) h.before old new → level.next ≡ None → ((i : ℕ) (l : Level) → depth ≡ i + 1 → slice_get levels i ≡ Some l → above ≡ l.begun) → AtOpen version B root levels depth above (rebuilt (old ++ new))
+level_done facts version B root levels depth begun above level old out new h s none up =
+    close_level version B root levels depth above level (rebuilt (old ++ new)) (record { first = h.first; before = h.before; inside = s.inside; level_is = h.level_is; leads = h.leads; opened = s.opened; whole = s.whole }) none up

@@ -15,6 +15,7 @@ is_open BlobKind.Tree = false
 abbrev pub FlowsTo : Bool → List Emission → Begun → Type 0
 FlowsTo before out Begun.Done = Follow before out false
 FlowsTo before out (Begun.Waits fact) = Follow before out (is_open fact.kind)
+FlowsTo before out (Begun.GoesOn fact) = Follow before out (is_open fact.kind)
 FlowsTo before out (Begun.Ended end) = (after : Bool) × Follow before out after
 
 -- up to what comes next of a walk

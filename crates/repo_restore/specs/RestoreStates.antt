@@ -39,6 +39,7 @@ IsRangeOf fact ask = ask ≡ Ask.Range fact.place.pack fact.place.offset fact.pl
 pub record IsBefore (walk : Walk) (given : List Emission) (es : Trace) : Type 0 where
   pub no_levels : walk.levels.items ≡ []
   pub no_entries : walk.entries ≡ 0
+  pub not_onward : walk.onward ≡ false
   pub none_given : given ≡ []
   pub nothing : emitted_in es ≡ []
 
@@ -51,22 +52,23 @@ pub record IsNewRestore (j : RestoreJob) : Type 0 where
   pub no_facts : j.catalog.lookup ≡ []
   pub no_levels : j.walk.levels.items ≡ []
   pub no_entries : j.walk.entries ≡ 0
+  pub not_onward : j.walk.onward ≡ false
   pub none_given : j.given.items ≡ []
 
 -- the walk waits for the blob that is asked for
-pub record IsWalking (j : RestoreJob) (fact : Fact) (es : Trace) : Type 0 where
+pub record IsWalking (j : RestoreJob) (version : ℕ) (fact : Fact) (es : Trace) : Type 0 where
   pub root : Name
-  pub found : HasRoot es j.snapshot 1 root
+  pub found : HasRoot es j.snapshot version root
   pub indexes : Catalogs j.catalog true es
   pub all : IsAll j.catalog
-  pub waits : WaitsForBlob j.catalog.lookup (Received es) root j.walk fact (emitted_in es)
+  pub waits : WaitsForBlob j.catalog.lookup version (Received es) root j.walk fact (emitted_in es)
   pub flows : Follow false (emitted_in es) (is_open fact.kind)
 
 -- what is known at each stage where this is pending
 abbrev pub KnowsAtStage : RestoreJob → Stage → Ask → Trace → Type 0
 KnowsAtStage j Stage.Snapshot ask es = (ask ≡ Ask.Get Kind.Snapshot j.snapshot) × (j.catalog.roll.read ≡ 0) × Catalogs j.catalog false es × IsBefore j.walk j.given.items es
-KnowsAtStage j (Stage.Indexes root) ask es = KnowsIndexes j.catalog ask es × HasRoot es j.snapshot 1 root × IsBefore j.walk j.given.items es
-KnowsAtStage j (Stage.Walk fact) ask es = IsRangeOf fact ask × IsWalking j fact es
+KnowsAtStage j (Stage.Indexes root version) ask es = KnowsIndexes j.catalog ask es × HasRoot es j.snapshot version root × IsBefore j.walk j.given.items es
+KnowsAtStage j (Stage.Walk fact version) ask es = IsRangeOf fact ask × IsWalking j version fact es
 
 abbrev pub KnowsRestore : RestoreJob → Ask → Trace → Type 0
 KnowsRestore j ask es = KnowsAtStage j j.stage ask es
@@ -80,27 +82,27 @@ abbrev pub RestoreStays : RestoreJob → RestoreJob → Type 0
 RestoreStays old new = (new.given ≡ old.given) × ((ask : Ask) (es : Trace) → KnowsRestore old ask es → KnowsRestore new ask es)
 
 -- what is known by what comes next of the walk
-abbrev pub RestoreTurnIs : List Fact → Walk → Name → Trace → Turn → Type 0
-RestoreTurnIs facts walk root es (Turn.Ask fact) = WaitsForBlob facts (Received es) root walk fact (emitted_in es) × Follow false (emitted_in es) (is_open fact.kind)
-RestoreTurnIs facts walk root es (Turn.Complete count) = Spells 1 (Received es) root [] (rebuilt (emitted_in es)) × (count ≡ counted (length (rebuilt (emitted_in es)))) × AreWhole (emitted_in es)
-RestoreTurnIs facts walk root es (Turn.Ended end) = WalkEnds facts (Received es) root end
+abbrev pub RestoreTurnIs : List Fact → Walk → ℕ → Name → Trace → Turn → Type 0
+RestoreTurnIs facts walk version root es (Turn.Ask fact) = WaitsForBlob facts version (Received es) root walk fact (emitted_in es) × Follow false (emitted_in es) (is_open fact.kind)
+RestoreTurnIs facts walk version root es (Turn.Complete count) = Spells version (Received es) root [] (rebuilt (emitted_in es)) × (count ≡ counted (length (rebuilt (emitted_in es)))) × AreWhole (emitted_in es)
+RestoreTurnIs facts walk version root es (Turn.Ended end) = WalkEnds facts version (Received es) root end
 
 -- all indexes were read, and the walk goes on so
-pub record IsTurnNext (j : RestoreJob) (es : Trace) (turn : Turn) : Type 0 where
+pub record IsTurnNext (j : RestoreJob) (version : ℕ) (es : Trace) (turn : Turn) : Type 0 where
   pub root : Name
-  pub found : HasRoot es j.snapshot 1 root
+  pub found : HasRoot es j.snapshot version root
   pub indexes : Catalogs j.catalog true es
   pub all : IsAll j.catalog
-  pub turns : RestoreTurnIs j.catalog.lookup j.walk root es turn
+  pub turns : RestoreTurnIs j.catalog.lookup j.walk version root es turn
 
 -- the restore stands where the trace leaves it
 abbrev pub FitsRestore : Restore → Trace → Type 0
 FitsRestore c es = FitsSession (λ (j : RestoreJob). j.snapshot) restore_rule IsNewRestore KnowsRestore c.session es
 
 -- wherever this turn is next, a step that a client may make
-abbrev pub RestoreGoesOn : RestoreJob → Turn → Step → RestoreJob → Type 0
-RestoreGoesOn old turn step new = (who : Asker) (token : Token) (e : Exchange) (es : Trace) → IsWorking (task_under (restore_rule old.snapshot) who) token (e ∷ es)
-    → GivesBy (restore_rule old.snapshot) es e → IsTurnNext old (e ∷ es) turn → MayStep (restore_rule old.snapshot) who (KnowsRestore new) es e step
+abbrev pub RestoreGoesOn : RestoreJob → ℕ → Turn → Step → RestoreJob → Type 0
+RestoreGoesOn old version turn step new = (who : Asker) (token : Token) (e : Exchange) (es : Trace) → IsWorking (task_under (restore_rule old.snapshot) who) token (e ∷ es)
+    → GivesBy (restore_rule old.snapshot) es e → IsTurnNext old version (e ∷ es) turn → MayStep (restore_rule old.snapshot) who (KnowsRestore new) es e step
 
 -- the bytes of the blob that a fact gives were replied
 abbrev pub RestoreTakesBlob : RestoreJob → Fact → List ℕ → Step → RestoreJob → Type 0

@@ -1,5 +1,5 @@
 -- What a walk's calls give.
-use Rattle.std.specs.Prelude.{◌≡◌, ◌≢◌, ◌⊎◌, ◌+◌, ◌++◌, ◌∷◌, [], ℕ, List, length, take, slice_get, Some, Contains}
+use Rattle.std.specs.Prelude.{◌≡◌, ◌≢◌, ◌⊎◌, ◌+◌, ◌++◌, ◌∷◌, [], ℕ, zero, suc, Bool, true, false, List, length, take, slice_get, Option, Some, None, Contains}
 use Rattle.repo_name.specs.declared.kinds.BlobKind.{BlobKind}
 use Rattle.repo_name.specs.declared.kinds.Thing.{Thing}
 use Rattle.repo_name.specs.declared.names.Name.{Name}
@@ -7,7 +7,8 @@ use Rattle.repo_index.specs.declared.facts.Fact.{Fact}
 use Rattle.repo_tree.specs.declared.entries.Entry.{Entry}
 use Rattle.repo_tree.specs.declared.nodes.Node.{Node}
 use Rattle.repo_tree.specs.declared.nodes.NodeKind.{NodeKind}
-use Rattle.repo_tree.specs.Parts.{Blobs, IsTree}
+use Rattle.repo_tree.specs.Parts.{Blobs, IsPartText, ListsBy}
+use Rattle.repo_tree.specs.TreeText.{Follows, IsTreeText}
 use Rattle.repo_tree.specs.Spelling.{Spells, dir_entry}
 use Rattle.repo_session.specs.declared.emissions.Emission.{Emission}
 use Rattle.repo_session.specs.declared.outcomes.End.{End}
@@ -24,7 +25,7 @@ use Rattle.repo_restore.specs.Nodes.{WaitsFor, DirBegins, FileBegins}
 use Rattle.repo_session.specs.Trees.{Under, IsNeeded, IsBroken}
 use Rattle.repo_restore.specs.Restoring.{counted}
 use Rattle.repo_session.specs.Catalogs.{IsBlobNowhere}
-use Rattle.repo_restore.specs.Walks.{Sums, WalkGives, IsOpenLevel, DirectoryIsBegun, IsFile, LeadsOn, IsWriting, AtOpen}
+use Rattle.repo_restore.specs.Walks.{Sums, PartIs, WalkGives, IsOpenLevel, DirectoryIsBegun, IsFile, LeadsOn, IsWriting, AtOpen}
 use Rattle.repo_session.specs.Received.{Received}
 use Rattle.repo_name.specs.Naming as naming
 
@@ -34,11 +35,11 @@ NodeBegins facts tree path (NodeKind.File size content) old new begun = FileBegi
 NodeBegins facts tree path (NodeKind.Dir subtree) old new begun = DirBegins facts path subtree old new begun
 
 -- a level whose first nodes were given out, after what was given out before
-pub record LevelStands (facts : List Fact) (B : Blobs) (root : Name) (level : Level) (begun : ℕ) (before : List Entry) (old out : List Emission) : Type 0 where
+pub record LevelStands (facts : List Fact) (version : ℕ) (B : Blobs) (root first : Name) (level : Level) (begun : ℕ) (before : List Entry) (old out : List Emission) : Type 0 where
   pub inside : List Entry
-  pub opened : IsOpenLevel B root level.tree level.path level.nodes.items begun inside
+  pub opened : IsOpenLevel version B root first level.tree level.path level.nodes.items level.next begun inside
   pub whole : rebuilt (old ++ out) ≡ before ++ inside
-  pub given : Each (WalkGives facts B root) out
+  pub given : Each (WalkGives facts version B root) out
 
 -- a blob that a node waits for, with what was given out up to it
 abbrev pub WaitsAs : List Fact → NodeKind → List (List ℕ) → Fact → List Entry → List Emission → Type 0
@@ -46,49 +47,58 @@ WaitsAs facts (NodeKind.Dir subtree) path fact before emitted = WaitsFor facts B
 WaitsAs facts (NodeKind.File size content) path fact before emitted = (slice_get content 0 ≡ Some fact.name) × WaitsFor facts BlobKind.Content fact.name fact × Sums facts content size × IsWriting emitted before path []
 
 -- a level, one node of which waits for a blob
-pub record WaitsIn (facts : List Fact) (B : Blobs) (root : Name) (level : Level) (begun : ℕ) (before : List Entry) (old out : List Emission) (fact : Fact) : Type 0 where
+pub record WaitsIn (facts : List Fact) (version : ℕ) (B : Blobs) (root first : Name) (level : Level) (begun : ℕ) (before : List Entry) (old out : List Emission) (fact : Fact) : Type 0 where
   pub at : ℕ
   pub counts : begun ≡ at + 1
   pub node : Node
   pub node_is : slice_get level.nodes.items at ≡ Some node
   pub inside : List Entry
-  pub opened : IsOpenLevel B root level.tree level.path level.nodes.items at inside
+  pub opened : IsOpenLevel version B root first level.tree level.path level.nodes.items level.next at inside
   pub waits : WaitsAs facts node.what (level.path ++ node.name ∷ []) fact (before ++ inside) (old ++ out)
-  pub given : Each (WalkGives facts B root) out
+  pub given : Each (WalkGives facts version B root) out
+
+-- a level all of whose nodes were given out, and that goes on in a part which waits
+pub record WaitsBehind (facts : List Fact) (version : ℕ) (B : Blobs) (root first : Name) (level : Level) (before : List Entry) (old out : List Emission) (fact : Fact) : Type 0 where
+  pub stands : LevelStands facts version B root first level (length level.nodes.items) before old out
+  pub goes_on : level.next ≡ Some fact.name
+  pub waits : WaitsFor facts BlobKind.Tree fact.name fact
 
 -- a file whose blobs have another size
 abbrev pub IsUnevenIn : List Fact → List Node → Type 0
 IsUnevenIn facts nodes = (name : List ℕ) × (size : ℕ) × (content : List Name) × (total : ℕ) × Contains nodes (record { name = name; what = NodeKind.File size content }) × Sums facts content total × (total ≢ size)
 
 -- why the tree to which a path leads can't be restored: no directory has it, or it has a file whose blobs haven't its size
-abbrev pub IsUnfitIn : List Fact → Blobs → Name → List (List ℕ) → Name → Type 0
-IsUnfitIn facts B root path tree = IsBroken 1 B root path tree ⊎ ((nodes : List Node) × IsTree B tree nodes × IsUnevenIn facts nodes)
+abbrev pub IsUnfitIn : List Fact → ℕ → Blobs → Name → List (List ℕ) → Name → Type 0
+IsUnfitIn facts version B root path tree = IsBroken version B root path tree ⊎ ((nodes : List Node) × ListsBy version B tree nodes × IsUnevenIn facts nodes)
 
 -- why a walk ends
-abbrev pub WalkEnds : List Fact → Blobs → Name → End → Type 0
-WalkEnds facts B root (End.Missing thing name) = (kind : BlobKind) × (thing ≡ blob_thing kind) × IsBlobNowhere facts kind name × IsNeeded 1 B root kind name
-WalkEnds facts B root (End.BadObject thing tree) = (thing ≡ Thing.Tree) × ((path : List (List ℕ)) × Under 1 B root path tree × IsUnfitIn facts B root path tree)
-WalkEnds facts B root _ = ⊥
+abbrev pub WalkEnds : List Fact → ℕ → Blobs → Name → End → Type 0
+WalkEnds facts version B root (End.Missing thing name) = (kind : BlobKind) × (thing ≡ blob_thing kind) × IsBlobNowhere facts kind name × IsNeeded version B root kind name
+WalkEnds facts version B root (End.BadObject thing tree) = (thing ≡ Thing.Tree) × ((path : List (List ℕ)) × Under version B root path tree × IsUnfitIn facts version B root path tree)
+WalkEnds facts version B root _ = ⊥
 
 -- what beginning a level's next nodes gives
-abbrev pub NextBegins : List Fact → Blobs → Name → Level → List Entry → List Emission → List Emission → ℕ → Begun → Type 0
-NextBegins facts B root level before old out now Begun.Done = LevelStands facts B root level (length level.nodes.items) before old out
-NextBegins facts B root level before old out now (Begun.Waits fact) = WaitsIn facts B root level now before old out fact
-NextBegins facts B root level before old out now (Begun.Ended end) = WalkEnds facts B root end × Each (WalkGives facts B root) out
+abbrev pub NextBegins : List Fact → ℕ → Blobs → Name → Name → Level → List Entry → List Emission → List Emission → ℕ → Begun → Type 0
+NextBegins facts version B root first level before old out now Begun.Done = LevelStands facts version B root first level (length level.nodes.items) before old out × (level.next ≡ None)
+NextBegins facts version B root first level before old out now (Begun.Waits fact) = WaitsIn facts version B root first level now before old out fact
+NextBegins facts version B root first level before old out now (Begun.GoesOn fact) = WaitsBehind facts version B root first level before old out fact
+NextBegins facts version B root first level before old out now (Begun.Ended end) = WalkEnds facts version B root end × Each (WalkGives facts version B root) out
 
 -- where a walk stops
-abbrev pub StopsAt : List Fact → Blobs → Name → List Level → List Emission → List Emission → ℕ → ℕ → Begun → Type 0
-StopsAt facts B root levels old out depth begun Begun.Done = Spells 1 B root [] (rebuilt (old ++ out)) × Each (WalkGives facts B root) out
-StopsAt facts B root levels old out depth begun (Begun.Waits fact) = (level : Level) × (before : List Entry) × (slice_get levels depth ≡ Some level)
-    × LeadsOn B root root [] [] (take depth levels) level.tree level.path before × WaitsIn facts B root level begun before old out fact
-StopsAt facts B root levels old out depth begun (Begun.Ended end) = WalkEnds facts B root end × Each (WalkGives facts B root) out
+abbrev pub StopsAt : List Fact → ℕ → Blobs → Name → List Level → List Emission → List Emission → ℕ → ℕ → Begun → Type 0
+StopsAt facts version B root levels old out depth begun Begun.Done = Spells version B root [] (rebuilt (old ++ out)) × Each (WalkGives facts version B root) out
+StopsAt facts version B root levels old out depth begun (Begun.Waits fact) = (level : Level) × (first : Name) × (before : List Entry) × (slice_get levels depth ≡ Some level)
+    × LeadsOn version B root root [] [] (take depth levels) first level.path before × WaitsIn facts version B root first level begun before old out fact
+StopsAt facts version B root levels old out depth begun (Begun.GoesOn fact) = (level : Level) × (first : Name) × (before : List Entry) × (slice_get levels depth ≡ Some level)
+    × LeadsOn version B root root [] [] (take depth levels) first level.path before × WaitsBehind facts version B root first level before old out fact
+StopsAt facts version B root levels old out depth begun (Begun.Ended end) = WalkEnds facts version B root end × Each (WalkGives facts version B root) out
 
 -- a level of which so many nodes are begun
 abbrev pub with_begun : Level → ℕ → Level
-with_begun level begun = record { tree = level.tree; path = level.path; nodes = level.nodes; begun = begun }
+with_begun level begun = record { tree = level.tree; path = level.path; nodes = level.nodes; next = level.next; begun = begun }
 
 -- a file of the innermost level waits for a blob, some first ones of it were given out
-pub record FileWaits (facts : List Fact) (B : Blobs) (root : Name) (levels : List Level) (sent : ℕ) (fact : Fact) (emitted : List Emission) : Type 0 where
+pub record FileWaits (facts : List Fact) (version : ℕ) (B : Blobs) (root : Name) (levels : List Level) (sent : ℕ) (fact : Fact) (emitted : List Emission) : Type 0 where
   pub above : List Level
   pub level : Level
   pub before : List Entry
@@ -98,43 +108,62 @@ pub record FileWaits (facts : List Fact) (B : Blobs) (root : Name) (levels : Lis
   pub content : List Name
   pub bytes : List ℕ
   pub levels_are : levels ≡ above ++ level ∷ []
-  pub leads : LeadsOn B root root [] [] above level.tree level.path before
-  pub begun : DirectoryIsBegun B root level inside node
+  pub first : Name
+  pub leads : LeadsOn version B root root [] [] above first level.path before
+  pub begun : DirectoryIsBegun version B root first level inside node
   pub file : node.what ≡ NodeKind.File size content
   pub asked : slice_get content sent ≡ Some fact.name
   pub part : IsFile facts B size content sent bytes
   pub writing : IsWriting emitted (before ++ inside) (level.path ++ node.name ∷ []) bytes
 
--- the tree of a directory waits
-abbrev pub TreeWaits : Blobs → Name → List Level → Fact → List Emission → Type 0
-TreeWaits B root levels fact emitted = (path : List (List ℕ)) × LeadsOn B root root [] [] levels fact.name path (rebuilt emitted) × Under 1 B root path fact.name
+-- the first tree of a directory waits
+abbrev pub TreeWaits : ℕ → Blobs → Name → List Level → Fact → List Emission → Type 0
+TreeWaits version B root levels fact emitted = (path : List (List ℕ)) × LeadsOn version B root root [] [] levels fact.name path (rebuilt emitted) × Under version B root path fact.name
+
+-- the next part of the innermost directory waits: all nodes of this one were given out
+pub record PartWaits (version : ℕ) (B : Blobs) (root : Name) (levels : List Level) (fact : Fact) (emitted : List Emission) : Type 0 where
+  pub above : List Level
+  pub level : Level
+  pub first : Name
+  pub before : List Entry
+  pub inside : List Entry
+  pub levels_are : levels ≡ above ++ level ∷ []
+  pub leads : LeadsOn version B root root [] [] above first level.path before
+  pub opened : IsOpenLevel version B root first level.tree level.path level.nodes.items level.next (length level.nodes.items) inside
+  pub goes_on : level.next ≡ Some fact.name
+  pub whole : rebuilt emitted ≡ before ++ inside
+
+-- by whether it is that
+abbrev pub TreeWaitsBy : Bool → ℕ → Blobs → Name → List Level → Fact → List Emission → Type 0
+TreeWaitsBy true version B root levels fact emitted = PartWaits version B root levels fact emitted
+TreeWaitsBy false version B root levels fact emitted = TreeWaits version B root levels fact emitted
 
 -- by the kind of the blob that a walk waits for
-abbrev pub WaitsByKind : BlobKind → List Fact → Blobs → Name → List Level → ℕ → Fact → List Emission → Type 0
-WaitsByKind BlobKind.Content facts B root levels sent fact emitted = FileWaits facts B root levels sent fact emitted
-WaitsByKind BlobKind.Tree facts B root levels sent fact emitted = TreeWaits B root levels fact emitted
+abbrev pub WaitsByKind : BlobKind → List Fact → ℕ → Blobs → Name → List Level → ℕ → Bool → Fact → List Emission → Type 0
+WaitsByKind BlobKind.Content facts version B root levels sent onward fact emitted = FileWaits facts version B root levels sent fact emitted
+WaitsByKind BlobKind.Tree facts version B root levels sent onward fact emitted = TreeWaitsBy onward version B root levels fact emitted
 
 -- a walk waits for a blob, after all that was given out
-pub record WalkWaits (facts : List Fact) (B : Blobs) (root : Name) (levels : List Level) (sent entries : ℕ) (fact : Fact) (emitted : List Emission) : Type 0 where
+pub record WalkWaits (facts : List Fact) (version : ℕ) (B : Blobs) (root : Name) (levels : List Level) (sent : ℕ) (onward : Bool) (entries : ℕ) (fact : Fact) (emitted : List Emission) : Type 0 where
   pub least : IsLeast facts fact.kind fact.name fact.place
   pub count : entries ≡ counted (length (rebuilt emitted))
-  pub waits : WaitsByKind fact.kind facts B root levels sent fact emitted
+  pub waits : WaitsByKind fact.kind facts version B root levels sent onward fact emitted
 
 -- what comes of a step of a walk
-abbrev pub TurnGives : List Fact → Blobs → Name → List Level → ℕ → ℕ → List Emission → List Emission → Turn → Type 0
-TurnGives facts B root levels sent entries old out (Turn.Ask fact) = WalkWaits facts B root levels sent entries fact (old ++ out) × Each (WalkGives facts B root) out
-TurnGives facts B root levels sent entries old out (Turn.Complete count) = Spells 1 B root [] (rebuilt (old ++ out)) × (count ≡ counted (length (rebuilt (old ++ out)))) × Each (WalkGives facts B root) out
-TurnGives facts B root levels sent entries old out (Turn.Ended end) = WalkEnds facts B root end × Each (WalkGives facts B root) out
+abbrev pub TurnGives : List Fact → ℕ → Blobs → Name → List Level → ℕ → Bool → ℕ → List Emission → List Emission → Turn → Type 0
+TurnGives facts version B root levels sent onward entries old out (Turn.Ask fact) = WalkWaits facts version B root levels sent onward entries fact (old ++ out) × Each (WalkGives facts version B root) out
+TurnGives facts version B root levels sent onward entries old out (Turn.Complete count) = Spells version B root [] (rebuilt (old ++ out)) × (count ≡ counted (length (rebuilt (old ++ out)))) × Each (WalkGives facts version B root) out
+TurnGives facts version B root levels sent onward entries old out (Turn.Ended end) = WalkEnds facts version B root end × Each (WalkGives facts version B root) out
 
 -- ---- over the code's own type
 
 -- a walk of the code waits for a blob
-abbrev pub WaitsForBlob : List Fact → Blobs → Name → Walk → Fact → List Emission → Type 0
-WaitsForBlob facts B root w fact emitted = WalkWaits facts B root w.levels.items w.sent w.entries fact emitted
+abbrev pub WaitsForBlob : List Fact → ℕ → Blobs → Name → Walk → Fact → List Emission → Type 0
+WaitsForBlob facts version B root w fact emitted = WalkWaits facts version B root w.levels.items w.sent w.onward w.entries fact emitted
 
 -- what comes of a step of it
-abbrev pub Turns : List Fact → Blobs → Name → Walk → List Emission → List Emission → Turn → Type 0
-Turns facts B root w old out turn = TurnGives facts B root w.levels.items w.sent w.entries old out turn
+abbrev pub Turns : List Fact → ℕ → Blobs → Name → Walk → List Emission → List Emission → Turn → Type 0
+Turns facts version B root w old out turn = TurnGives facts version B root w.levels.items w.sent w.onward w.entries old out turn
 
 -- the node that is begun of a level
 abbrev pub NodeHasBegun : Level → Node → Type 0
@@ -145,16 +174,25 @@ abbrev pub IsNextPath : List Level → List (List ℕ) → Type 0
 IsNextPath levels path = (levels ≡ [] → path ≡ [])
     × ((above : List Level) (level : Level) (node : Node) → levels ≡ above ++ level ∷ [] → NodeHasBegun level node → path ≡ level.path ++ node.name ∷ [])
 
+-- the path of the innermost directory
+abbrev pub IsLastPath : List Level → List (List ℕ) → Type 0
+IsLastPath levels path = (above : List Level) (level : Level) → levels ≡ above ++ level ∷ [] → path ≡ level.path
+
+-- nodes may come behind others: there are some, and the first one's name is above the last one's
+abbrev pub MayFollow : List Node → List Node → Type 0
+MayFollow before [] = ⊥
+MayFollow before (first ∷ more) = Follows before first.name
+
 -- wherever it stands in a directory, its next node begins
 abbrev pub BeginsNext : List Fact → Level → ℕ → List Emission → List Emission → ℕ → Begun → Type 0
-BeginsNext facts level begun out more now what = (gs : Trace) (root : Name) (before : List Entry) (old : List Emission) → LevelStands facts (Received gs) root level begun before old out
-    → NextBegins facts (Received gs) root level before old more now what
+BeginsNext facts level begun out more now what = (gs : Trace) (version : ℕ) (root first : Name) (before : List Entry) (old : List Emission) → LevelStands facts version (Received gs) root first level begun before old out
+    → NextBegins facts version (Received gs) root first level before old more now what
 
 -- wherever the levels are open, it goes on to the next stop
 abbrev pub GoesToStop : List Fact → List Level → ℕ → List Emission → List Emission → ℕ → ℕ → Begun → Type 0
-GoesToStop facts levels begun out more depth now what = (gs : Trace) (root : Name) (old : List Emission)
-    → AtOpen (Received gs) root levels (length levels) begun (rebuilt (old ++ out)) → Each (WalkGives facts (Received gs) root) out
-    → StopsAt facts (Received gs) root levels old more depth now what
+GoesToStop facts levels begun out more depth now what = (gs : Trace) (version : ℕ) (root : Name) (old : List Emission)
+    → AtOpen version (Received gs) root levels (length levels) begun (rebuilt (old ++ out)) → Each (WalkGives facts version (Received gs) root) out
+    → StopsAt facts version (Received gs) root levels old more depth now what
 
 -- the content of the file that the last level has begun
 abbrev pub IsOpenContent : List Level → List Name → Type 0
@@ -165,22 +203,27 @@ IsOpenContent levels names = (above : List Level) (level : Level) (node : Node) 
 
 -- at a stop
 abbrev pub TurnsAtStop : Stop → List Emission → Walk → Turn → Walk → Type 0
-TurnsAtStop stop out walk turn new = (facts : List Fact) (gs : Trace) (root : Name) (old : List Emission)
-    → StopsAt facts (Received gs) root walk.levels.items old out stop.depth stop.begun stop.what → walk.entries ≡ counted (length (rebuilt old))
-    → Turns facts (Received gs) root new old out turn
+TurnsAtStop stop out walk turn new = (facts : List Fact) (gs : Trace) (version : ℕ) (root : Name) (old : List Emission)
+    → StopsAt facts version (Received gs) root walk.levels.items old out stop.depth stop.begun stop.what → walk.entries ≡ counted (length (rebuilt old))
+    → Turns facts version (Received gs) root new old out turn
 
--- on the nodes of the tree that it waited for
-abbrev pub EntersTree : List Fact → Name → List Node → Walk → List Emission → List Emission → Turn → Walk → Type 0
-EntersTree facts tree nodes walk before out turn new = (gs : Trace) (root : Name) (fact : Fact) (old : List Emission) → WaitsForBlob facts (Received gs) root walk fact old
-    → fact.kind ≡ BlobKind.Tree → fact.name ≡ tree → IsTree (Received gs) tree nodes → before ≡ [] → Turns facts (Received gs) root new old out turn
+-- on the nodes of the tree that it waited for: the first one of a directory, or the next part of the innermost
+abbrev pub EntersTree : Bool → List Fact → Name → List Node → Option Name → Walk → List Emission → List Emission → Turn → Walk → Type 0
+EntersTree onward facts tree nodes next walk before out turn new = (gs : Trace) (version : ℕ) (root : Name) (fact : Fact) (old : List Emission) → WaitsForBlob facts version (Received gs) root walk fact old
+    → walk.onward ≡ onward → fact.kind ≡ BlobKind.Tree → fact.name ≡ tree → PartIs version (Received gs) tree nodes next → before ≡ [] → Turns facts version (Received gs) root new old out turn
 
 -- on the content that it waited for
 abbrev pub TakesContent : List Fact → List ℕ → Walk → List Emission → List Emission → Turn → Walk → Type 0
-TakesContent facts bytes walk before out turn new = (gs : Trace) (root : Name) (fact : Fact) (old : List Emission) → WaitsForBlob facts (Received gs) root walk fact old
+TakesContent facts bytes walk before out turn new = (gs : Trace) (version : ℕ) (root : Name) (fact : Fact) (old : List Emission) → WaitsForBlob facts version (Received gs) root walk fact old
     → fact.kind ≡ BlobKind.Content → Received gs BlobKind.Content bytes → naming.name bytes ≡ fact.name → length bytes ≡ fact.place.length → before ≡ []
-    → Turns facts (Received gs) root new old out turn
+    → Turns facts version (Received gs) root new old out turn
 
--- on the blob that it waited for
-abbrev pub TakesBlob : List Fact → Fact → List ℕ → Walk → List Emission → List Emission → Turn → Walk → Type 0
-TakesBlob facts fact bytes walk before out turn new = (gs : Trace) (root : Name) (old : List Emission) → WaitsForBlob facts (Received gs) root walk fact old
-    → Received gs fact.kind bytes → naming.name bytes ≡ fact.name → length bytes ≡ fact.place.length → before ≡ [] → Turns facts (Received gs) root new old out turn
+-- on the blob that it waited for, by the version of the snapshot
+abbrev pub TakesBlob : ℕ → List Fact → Fact → List ℕ → Walk → List Emission → List Emission → Turn → Walk → Type 0
+TakesBlob version facts fact bytes walk before out turn new = (gs : Trace) (root : Name) (old : List Emission) → WaitsForBlob facts version (Received gs) root walk fact old
+    → Received gs fact.kind bytes → naming.name bytes ≡ fact.name → length bytes ≡ fact.place.length → before ≡ [] → Turns facts version (Received gs) root new old out turn
+
+-- the text is that of such a part, by the version
+abbrev pub IsTextBy : ℕ → List ℕ → List Node → Option Name → Type 0
+IsTextBy (suc (suc zero)) bytes nodes next = IsPartText bytes nodes next
+IsTextBy _ bytes nodes next = IsTreeText bytes nodes × (next ≡ None)

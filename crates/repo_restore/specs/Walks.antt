@@ -1,5 +1,5 @@
 -- Where a walk over trees stands.
-use Rattle.std.specs.Prelude.{◌≡◌, ◌≢◌, ◌<◌, ◌⊎◌, ◌+◌, ◌++◌, ◌∷◌, [], ⊤, ℕ, zero, suc, List, length, take, drop, slice_get, Option, Some, None, Contains}
+use Rattle.std.specs.Prelude.{◌≡◌, ◌≢◌, ◌<◌, ◌⊎◌, ◌+◌, ◌++◌, ◌∷◌, [], ⊤, ℕ, zero, suc, List, length, flat_map, take, drop, slice_get, Option, Some, None, Contains}
 use Rattle.repo_name.specs.declared.kinds.BlobKind.{BlobKind}
 use Rattle.repo_name.specs.declared.names.Name.{Name}
 use Rattle.repo_pack.specs.declared.places.Place.{Place}
@@ -8,7 +8,8 @@ use Rattle.repo_index.specs.Lookups.{IsLeast}
 use Rattle.repo_tree.specs.declared.entries.Entry.{Entry}
 use Rattle.repo_tree.specs.declared.nodes.Node.{Node}
 use Rattle.repo_tree.specs.declared.nodes.NodeKind.{NodeKind}
-use Rattle.repo_tree.specs.Parts.{Blobs, IsTree}
+use Rattle.repo_tree.specs.Parts.{Blobs, IsPart, IsTree}
+use Rattle.repo_tree.specs.TreeText.{AreInOrder}
 use Rattle.repo_tree.specs.Spelling.{Joined, NodesSpell, Spells, greatest_depth, dir_entry}
 use Rattle.repo_session.specs.declared.emissions.Emission.{Emission}
 use Rattle.repo_session.specs.Catalogs.{IsBlobNowhere}
@@ -24,11 +25,11 @@ Sums facts (name ∷ names) total = (place : Place) × (rest : ℕ) × IsLeast f
 
 -- what a walk may give out: directories and files that received trees have at their paths, each file only where its blobs have places and its size; and
 -- content that was received
-abbrev pub WalkGives : List Fact → Blobs → Name → Emission → Type 0
-WalkGives facts B root (Emission.Dir path) = (subtree : Name) × IsNodeAt 1 B root path (NodeKind.Dir subtree)
-WalkGives facts B root (Emission.File path) = (size : ℕ) × (content : List Name) × IsNodeAt 1 B root path (NodeKind.File size content) × Sums facts content size
-WalkGives facts B root (Emission.Piece bytes) = B BlobKind.Content bytes
-WalkGives facts B root Emission.Close = ⊤
+abbrev pub WalkGives : List Fact → ℕ → Blobs → Name → Emission → Type 0
+WalkGives facts version B root (Emission.Dir path) = (subtree : Name) × IsNodeAt version B root path (NodeKind.Dir subtree)
+WalkGives facts version B root (Emission.File path) = (size : ℕ) × (content : List Name) × IsNodeAt version B root path (NodeKind.File size content) × Sums facts content size
+WalkGives facts version B root (Emission.Piece bytes) = B BlobKind.Content bytes
+WalkGives facts version B root Emission.Close = ⊤
 
 -- what is left of a size after so many bytes, if they aren't more
 abbrev pub LeftOf : Option ℕ → ℕ → ℕ → Type 0
@@ -41,40 +42,73 @@ Files facts size content Filed.Even = Sums facts content size
 Files facts size content (Filed.Missing name) = Contains content name × IsBlobNowhere facts BlobKind.Content name
 Files facts size content Filed.Uneven = (total : ℕ) × Sums facts content total × (total ≢ size)
 
--- a directory's tree was received, and what its first nodes spell is known
-pub record IsOpenLevel (B : Blobs) (root tree : Name) (path : List (List ℕ)) (nodes : List Node) (begun : ℕ) (inside : List Entry) : Type 0 where
-  pub under : Under 1 B root path tree
-  pub read : IsTree B tree nodes
-  pub shallow : (length path < greatest_depth) ⊎ (nodes ≡ [])
-  pub spelled : NodesSpell B (Spells 1 B) path (take begun nodes) inside
+-- by the version of a snapshot, the tree is a part of these nodes, which goes on in this tree; in one tree a directory goes on in none
+abbrev pub PartIs : ℕ → Blobs → Name → List Node → Option Name → Type 0
+PartIs (suc (suc zero)) B t nodes next = IsPart B t nodes next
+PartIs _ B t nodes next = IsTree B t nodes × (next ≡ None)
+
+-- parts lead on from one to the next; the last one goes on in this tree, without parts it is the first
+abbrev pub LeadsThrough : Blobs → Name → List (List Node) → Name → Type 0
+LeadsThrough B first [] tree = tree ≡ first
+LeadsThrough B first (nodes ∷ parts) tree = (next : Name) × IsPart B first nodes (Some next) × LeadsThrough B next parts tree
+
+-- by the version; a directory in one tree has no parts before it
+abbrev pub ComesBehind : ℕ → Blobs → Name → List (List Node) → Name → Type 0
+ComesBehind (suc (suc zero)) B first parts tree = LeadsThrough B first parts tree
+ComesBehind _ B first parts tree = (tree ≡ first) × (parts ≡ [])
+
+-- each of them has a node; and each but the first
+abbrev pub HaveNodes : List (List Node) → Type 0
+HaveNodes [] = ⊤
+HaveNodes (nodes ∷ parts) = (nodes ≢ []) × HaveNodes parts
+
+abbrev pub LaterHaveNodes : List (List Node) → Type 0
+LaterHaveNodes [] = ⊤
+LaterHaveNodes (first ∷ parts) = HaveNodes parts
+
+-- the nodes of parts, one after another
+abbrev pub nodes_in : List (List Node) → List Node
+nodes_in parts = flat_map (λ part. part) parts
+
+-- Of the directory of the first tree, the part that is given out was received, and so were those before it; and what they and its first nodes spell is known.
+pub record IsOpenLevel (version : ℕ) (B : Blobs) (root first tree : Name) (path : List (List ℕ)) (nodes : List Node) (next : Option Name) (begun : ℕ) (inside : List Entry) : Type 0 where
+  pub parts : List (List Node)
+  pub behind : ComesBehind version B first parts tree
+  pub later : LaterHaveNodes parts
+  pub full : parts ≢ [] → nodes ≢ []
+  pub under : Under version B root path tree
+  pub read : PartIs version B tree nodes next
+  pub ordered : AreInOrder (nodes_in parts ++ nodes)
+  pub shallow : (length path < greatest_depth) ⊎ (nodes_in parts ++ nodes ≡ [])
+  pub spelled : NodesSpell B (Spells version B) path (nodes_in parts ++ take begun nodes) inside
 
 -- a directory of which one node is begun
-pub record DirectoryIsBegun (B : Blobs) (root : Name) (level : Level) (inside : List Entry) (node : Node) : Type 0 where
+pub record DirectoryIsBegun (version : ℕ) (B : Blobs) (root first : Name) (level : Level) (inside : List Entry) (node : Node) : Type 0 where
   pub at : ℕ
   pub counts : level.begun ≡ at + 1
   pub node_is : slice_get level.nodes.items at ≡ Some node
-  pub opened : IsOpenLevel B root level.tree level.path level.nodes.items at inside
+  pub opened : IsOpenLevel version B root first level.tree level.path level.nodes.items level.next at inside
 
--- the open directories lead from the root to a tree at a path; all that was given out before its nodes are these entries
-abbrev pub LeadsOn : Blobs → Name → Name → List (List ℕ) → List Entry → List Level → Name → List (List ℕ) → List Entry → Type 0
-LeadsOn B root from path outer [] tree last all = (tree ≡ from) × (last ≡ path) × (all ≡ outer)
-LeadsOn B root from path outer (level ∷ levels) tree last all = (inside : List Entry) × (node : Node) × (subtree : Name)
-    × (level.tree ≡ from) × (level.path ≡ path) × DirectoryIsBegun B root level inside node × (node.what ≡ NodeKind.Dir subtree)
-    × LeadsOn B root subtree (path ++ node.name ∷ []) (outer ++ inside ++ dir_entry (path ++ node.name ∷ []) ∷ []) levels tree last all
+-- the open directories lead from the root to a directory's tree at a path; all that was given out before its nodes are these entries
+abbrev pub LeadsOn : ℕ → Blobs → Name → Name → List (List ℕ) → List Entry → List Level → Name → List (List ℕ) → List Entry → Type 0
+LeadsOn version B root from path outer [] tree last all = (tree ≡ from) × (last ≡ path) × (all ≡ outer)
+LeadsOn version B root from path outer (level ∷ levels) tree last all = (inside : List Entry) × (node : Node) × (subtree : Name) × (level.path ≡ path) × DirectoryIsBegun version B root from level inside node
+    × (node.what ≡ NodeKind.Dir subtree) × LeadsOn version B root subtree (path ++ node.name ∷ []) (outer ++ inside ++ dir_entry (path ++ node.name ∷ []) ∷ []) levels tree last all
 
 -- a level of the open ones, whose first nodes were given out
-pub record AtLevel (B : Blobs) (root : Name) (levels : List Level) (depth begun : ℕ) (level : Level) (all : List Entry) : Type 0 where
+pub record AtLevel (version : ℕ) (B : Blobs) (root : Name) (levels : List Level) (depth begun : ℕ) (level : Level) (all : List Entry) : Type 0 where
+  pub first : Name
   pub before : List Entry
   pub inside : List Entry
   pub level_is : slice_get levels depth ≡ Some level
-  pub leads : LeadsOn B root root [] [] (take depth levels) level.tree level.path before
-  pub opened : IsOpenLevel B root level.tree level.path level.nodes.items begun inside
+  pub leads : LeadsOn version B root root [] [] (take depth levels) first level.path before
+  pub opened : IsOpenLevel version B root first level.tree level.path level.nodes.items level.next begun inside
   pub whole : all ≡ before ++ inside
 
 -- so many levels are open: none where all was given out
-abbrev pub AtOpen : Blobs → Name → List Level → ℕ → ℕ → List Entry → Type 0
-AtOpen B root levels zero begun all = Spells 1 B root [] all
-AtOpen B root levels (suc depth) begun all = (level : Level) × AtLevel B root levels depth begun level all
+abbrev pub AtOpen : ℕ → Blobs → Name → List Level → ℕ → ℕ → List Entry → Type 0
+AtOpen version B root levels zero begun all = Spells version B root [] all
+AtOpen version B root levels (suc depth) begun all = (level : Level) × AtLevel version B root levels depth begun level all
 
 -- pieces alone, of these bytes
 abbrev pub ArePieces : List Emission → List ℕ → Type 0

@@ -2,7 +2,7 @@
 
 ghost use Rattle.std.specs.Prelude.{◌≡◌, ◌+◌, ◌++◌, ◌∷◌, [], ℕ, List, IfOk};
 ghost use Rattle.repo_restore.specs.Walks.{Files, LeftOf};
-ghost use Rattle.repo_restore.specs.Nodes.{BlobFollows, DirBegins, FileBegins};
+ghost use Rattle.repo_restore.specs.Nodes.{BlobFollows, PartFollows, DirBegins, FileBegins};
 
 use repo_index::{Fact, Lookup};
 use repo_name::{BlobKind, Name, Text, Thing};
@@ -10,13 +10,15 @@ use repo_session::{Emission, End};
 use repo_tree::{Node, NodeKind, Path};
 use std::alloc::{AllocError, Global};
 
-/// A directory whose nodes are being given out.
+/// A directory whose nodes are being given out: the part of it that they are from.
 #[derive(Drop)]
 pub struct Level {
-    /// The name of its tree.
+    /// The name of the part's tree.
     pub tree: Name,
     pub path: Path,
     pub nodes: Vec<Node>,
+    /// The tree in which the directory goes on behind them.
+    pub next: Option<Name>,
     /// How many of the nodes were begun.
     pub begun: usize,
 }
@@ -28,6 +30,8 @@ pub enum Begun {
     Done,
     /// The blob of this fact comes next of it.
     Waits(Fact),
+    /// It was the last one of its part, and the directory goes on in the tree of this fact.
+    GoesOn(Fact),
     /// It can't be given out.
     Ended(End),
 }
@@ -144,5 +148,22 @@ pub fn begin_file(
         }
         Filed::Missing(name) => Ok(Begun::Ended(End::Missing(Thing::Content, name))),
         Filed::Uneven => Ok(Begun::Ended(End::BadObject(Thing::Tree, tree))),
+    }
+}
+
+/// What comes behind the nodes of a part, where all were given out: the tree in which the directory goes on is looked up.
+pub fn next_part(lookup: &Lookup, next: Option<Name>) -> Begun
+    ensures { PartFollows lookup.now next result }
+{
+    let Some(name) = next else {
+        return Begun::Done;
+    };
+    match lookup.find(BlobKind::Tree, &name) {
+        Some(place) => Begun::GoesOn(Fact {
+            kind: BlobKind::Tree,
+            name,
+            place,
+        }),
+        None => Begun::Ended(End::Missing(Thing::Tree, name)),
     }
 }

@@ -29,10 +29,10 @@ use std::alloc::{AllocError, Global};
 enum Stage {
     /// The snapshot is asked for.
     Snapshot,
-    /// The snapshot's tree has this name, and the indexes are being read.
-    Indexes(Name),
-    /// The walk waits for the blob of this fact.
-    Walk(Fact),
+    /// The snapshot's tree has this name, and it is of this version; and the indexes are being read.
+    Indexes(Name, u64),
+    /// The walk waits for the blob of this fact, of a snapshot of this version.
+    Walk(Fact, u64),
 }
 
 /// The snapshot that is restored, and how far that has come.
@@ -70,15 +70,15 @@ impl RestoreJob {
     }
 
     /// Goes on as the walk does.
-    fn go_on(&mut self, turn: Turn) -> Step
-        ensures steps { RestoreGoesOn self.old turn result self.new }
+    fn go_on(&mut self, version: u64, turn: Turn) -> Step
+        ensures steps { RestoreGoesOn self.old version turn result self.new }
         ensures short { IsShortStep result }
         ensures given { self.new.given ≡ self.old.given }
         ensures snapshot { self.new.snapshot ≡ self.old.snapshot }
     {
         match turn {
             Turn::Ask(fact) => {
-                self.stage = Stage::Walk(fact);
+                self.stage = Stage::Walk(fact, version);
                 Step::Ask(range_ask(fact))
             }
             Turn::Complete(entries) => Step::Finish(Outcome::Complete { entries }),
@@ -106,7 +106,7 @@ impl RestoreJob {
         }
         match Snapshot::read_upto(self.alloc, bytes, SNAPSHOT_VERSION) {
             Ok(snapshot) => {
-                self.stage = Stage::Indexes(snapshot.tree);
+                self.stage = Stage::Indexes(snapshot.tree, snapshot.version);
                 Ok(Step::Ask(self.catalog.page_ask()))
             }
             Err(error) => {
@@ -118,8 +118,14 @@ impl RestoreJob {
 
     /// Takes the reply to the request for a page of indexes or for an index. It fails for memory alone, and then what
     /// was known is known.
-    fn take_reading(&mut self, tree: Name, ask: &Ask, say: &Say) -> Result<Step, AllocError>
-        requires { self.old.stage ≡ Stage.Indexes tree }
+    fn take_reading(
+        &mut self,
+        tree: Name,
+        version: u64,
+        ask: &Ask,
+        say: &Say,
+    ) -> Result<Step, AllocError>
+        requires { self.old.stage ≡ Stage.Indexes tree version }
         ensures ok { IfOk result (λ step. RestoreReplied self.old ask.now say.now step self.new) }
         ensures err { OnErr result (RestoreStays self.old self.new) }
         ensures short { IfOk result IsShortStep }
@@ -130,7 +136,7 @@ impl RestoreJob {
             Reading::Ask(next) => Ok(Step::Ask(next)),
             Reading::All(_) => {
                 let turn = self.walk.start(&self.catalog.lookup, tree);
-                Ok(self.go_on(turn))
+                Ok(self.go_on(version, turn))
             }
             Reading::Bad(name) => {
                 let end = End::BadObject(Thing::Index, name);
@@ -142,8 +148,8 @@ impl RestoreJob {
     }
 
     /// Ends, as the bytes of a blob are bad.
-    fn refuse_blob(&mut self, fact: Fact) -> Step
-        requires { self.old.stage ≡ Stage.Walk fact }
+    fn refuse_blob(&mut self, fact: Fact, version: u64) -> Step
+        requires { self.old.stage ≡ Stage.Walk fact version }
         ensures replied { (ask : Ask) (x : List ℕ) → IsBadBlob fact x → RestoreReplied self.old ask (Say.Bytes x) result self.new }
         ensures short { IsShortStep result }
         ensures snapshot { self.new.snapshot ≡ self.old.snapshot }
@@ -154,8 +160,8 @@ impl RestoreJob {
     }
 
     /// Takes the bytes of a blob. It fails for memory alone, and then what was known is known.
-    fn take_blob(&mut self, fact: Fact, bytes: &[u8]) -> Result<Step, AllocError>
-        requires { self.old.stage ≡ Stage.Walk fact }
+    fn take_blob(&mut self, fact: Fact, version: u64, bytes: &[u8]) -> Result<Step, AllocError>
+        requires { self.old.stage ≡ Stage.Walk fact version }
         ensures ok { IfOk result (λ step. RestoreTakesBlob self.old fact bytes.now step self.new) }
         ensures err { OnErr result (RestoreStays self.old self.new) }
         ensures short { IfOk result IsShortStep }
@@ -163,14 +169,14 @@ impl RestoreJob {
     {
         let mut out = Vec::new(self.alloc);
         let lookup = &self.catalog.lookup;
-        let turn = self.walk.take(lookup, fact, bytes, &mut out)?;
+        let turn = self.walk.take(lookup, version, fact, bytes, &mut out)?;
         self.given = out;
-        Ok(self.go_on(turn))
+        Ok(self.go_on(version, turn))
     }
 
     /// Takes the reply to the request for a blob. It fails for memory alone, and then what was known is known.
-    fn take_range(&mut self, fact: Fact, say: &Say) -> Result<Step, AllocError>
-        requires { self.old.stage ≡ Stage.Walk fact }
+    fn take_range(&mut self, fact: Fact, version: u64, say: &Say) -> Result<Step, AllocError>
+        requires { self.old.stage ≡ Stage.Walk fact version }
         ensures ok { IfOk result (λ step. (ask : Ask) → RestoreReplied self.old ask say.now step self.new) }
         ensures err { OnErr result (RestoreStays self.old self.new) }
         ensures short { IfOk result IsShortStep }
@@ -178,9 +184,9 @@ impl RestoreJob {
         ensures snapshot { self.new.snapshot ≡ self.old.snapshot }
     {
         match blob_of(fact, say) {
-            Fetched::Blob(bytes) => self.take_blob(fact, bytes),
-            Fetched::Misnamed => Ok(self.refuse_blob(fact)),
-            Fetched::Uneven => Ok(self.refuse_blob(fact)),
+            Fetched::Blob(bytes) => self.take_blob(fact, version, bytes),
+            Fetched::Misnamed => Ok(self.refuse_blob(fact, version)),
+            Fetched::Uneven => Ok(self.refuse_blob(fact, version)),
             Fetched::Unwelcome => Ok(Step::Away),
         }
     }
@@ -220,8 +226,8 @@ impl Job for RestoreJob {
     fn reply(&mut self, _holder: &Holder, ask: &Ask, say: &Say) -> Result<Step, AllocError> {
         match self.stage {
             Stage::Snapshot => self.take_snapshot(say),
-            Stage::Indexes(tree) => self.take_reading(tree, ask, say),
-            Stage::Walk(fact) => self.take_range(fact, say),
+            Stage::Indexes(tree, version) => self.take_reading(tree, version, ask, say),
+            Stage::Walk(fact, version) => self.take_range(fact, version, say),
         }
     }
 
@@ -235,8 +241,9 @@ impl Job for RestoreJob {
 ///
 /// A blob in no index ends it as `Missing`: a file's blobs are all looked up before anything of the file is given
 /// out, a directory's tree right after the directory. Bytes of another name, of another length than their place's,
-/// or that can't be read end it as `BadObject`; and so do a tree with nodes at a path of 100 components, and a tree
-/// with a file whose blobs haven't its size. A snapshot of a version that isn't known ends it as `Version`.
+/// or that can't be read end it as `BadObject`; and so do a tree with nodes at a path of 100 components, a tree with a
+/// file whose blobs haven't its size, and a part of a directory that may not come behind the one before. A snapshot of a
+/// version that isn't known ends it as `Version`.
 #[derive(Drop)]
 pub struct Restore {
     session: Session<RestoreJob>,

@@ -8,7 +8,7 @@ ghost use Rattle.repo_restore.specs.Flowing.{FlowsTo};
 ghost use Rattle.repo_restore.specs.Restoring.{counted};
 ghost use Rattle.repo_restore.specs.Walking.{NodeBegins, BeginsNext, GoesToStop};
 
-use crate::nodes::{Begun, Level, begin_dir, begin_file, path_of};
+use crate::nodes::{Begun, Level, begin_dir, begin_file, next_part, path_of};
 use repo_index::Lookup;
 use repo_session::Emission;
 use repo_tree::{Node, NodeKind};
@@ -76,7 +76,7 @@ fn begin_node(
     }
 }
 
-/// Gives out the next nodes of a level, up to one that waits. It fails for memory alone.
+/// Gives out the next nodes of a level, up to one that waits, or to the part in which it goes on. It fails for memory alone.
 fn begin_next(
     alloc: Global,
     lookup: &Lookup,
@@ -96,6 +96,12 @@ fn begin_next(
                     what: Begun::Waits(fact),
                 });
             }
+            Begun::GoesOn(fact) => {
+                return Ok(Next {
+                    begun: at + 1,
+                    what: Begun::GoesOn(fact),
+                });
+            }
             Begun::Ended(end) => {
                 return Ok(Next {
                     begun: at + 1,
@@ -106,7 +112,7 @@ fn begin_next(
     }
     Ok(Next {
         begun: level.nodes.len(),
-        what: Begun::Done,
+        what: next_part(lookup, level.next),
     })
 }
 
@@ -145,6 +151,13 @@ pub fn go_on(
                     depth,
                     begun: next.begun,
                     what: Begun::Waits(fact),
+                });
+            }
+            Begun::GoesOn(fact) => {
+                return Ok(Stop {
+                    depth,
+                    begun: next.begun,
+                    what: Begun::GoesOn(fact),
                 });
             }
             Begun::Ended(end) => {

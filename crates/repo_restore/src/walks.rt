@@ -1,6 +1,11 @@
 //! A walk over the trees of a snapshot, node by node.
 
-ghost use Rattle.std.specs.Prelude.{◌≡◌, ◌≢◌, ◌⊎◌, ◌≤◌, ◌<◌, ◌+◌, ◌++◌, ◌∷◌, [], ℕ, List, Bool, true, false, length, take, slice_get, Some, option_map, IfOk, OnErr, IsTrue, IsFalse};
+ghost use Rattle.std.specs.Prelude.{◌≡◌, ◌≢◌, ◌⊎◌, ◌≤◌, ◌<◌, ◌+◌, ◌++◌, ◌∷◌, [], ℕ, List, Bool, true, false, length, take, slice_get, Some, ◌↔◌, option_map, IfOk, IfErr, OnErr, IsTrue, IsFalse};
+ghost use Rattle.repo_tree.specs.declared.faults.TreeError.{TreeError};
+ghost use Rattle.std.specs.Ordering.{nat_cmp};
+ghost use Rattle.std.specs.declared.cmp.Ordering.{Ordering};
+ghost use Rattle.std.specs.Cmp.Lexicographic.{slice_cmp};
+ghost use Rattle.repo_session.specs.Trees.{IsNoText};
 ghost use Rattle.repo_name.specs.Naming as naming;
 ghost use Rattle.repo_name.specs.declared.kinds.BlobKind.{BlobKind};
 ghost use Rattle.repo_name.specs.declared.names.Name.{Name};
@@ -13,15 +18,17 @@ ghost use Rattle.repo_session.specs.Traces.{Each, Trace};
 ghost use Rattle.repo_restore.specs.declared.nodes.Level.{Level};
 ghost use Rattle.repo_restore.specs.Flowing.{is_open, FlowsTo, TurnFlows};
 ghost use Rattle.repo_session.specs.Received.{Received};
-ghost use Rattle.repo_restore.specs.Walking.{with_begun, WaitsForBlob, Turns, NodeHasBegun, IsNextPath, IsOpenContent, TurnsAtStop, EntersTree, TakesContent, TakesBlob};
+ghost use Rattle.repo_restore.specs.Walking.{with_begun, WaitsForBlob, Turns, NodeHasBegun, IsNextPath, IsLastPath, MayFollow, IsTextBy, IsOpenContent, TurnsAtStop, EntersTree, TakesContent, TakesBlob};
 
 use crate::nodes::{Begun, Level, next_blob, path_of};
 use crate::steps::{Stop, count_entries, go_on};
 use repo_index::{Fact, Lookup};
 use repo_name::{BlobKind, Bytes, Name, Thing};
 use repo_session::{Emission, End};
-use repo_tree::{Node, NodeKind, Path, read_tree};
+use repo_tree::{Node, NodeKind, Path, TreeError, read_part, read_tree};
 use std::alloc::{AllocError, Global};
+use std::cmp::Ordering;
+use std::mem::replace;
 
 /// What comes next of a walk.
 #[derive(Clone, Copy, Debug, PartialEq, Eq)]
@@ -40,6 +47,8 @@ pub enum Turn {
 pub struct Walk {
     pub levels: Vec<Level>,
     pub sent: usize,
+    /// Whether the tree that is waited for is the next part of the innermost directory.
+    pub onward: bool,
     pub entries: u64,
     alloc: Global,
 }
@@ -61,6 +70,73 @@ fn is_too_deep(path: &Path, nodes: &[Node]) -> bool
     ensures no { IsFalse result → (length path.now < greatest_depth) ⊎ (nodes.now ≡ []) }
 {
     path.as_slice().len() >= DEPTH && !nodes.is_empty()
+}
+
+/// The nodes of a tree of which this is the text, and the tree in which its directory goes on: in a snapshot of version 2, and
+/// in none in another.
+fn read_by(
+    alloc: Global,
+    version: u64,
+    bytes: &[u8],
+) -> Result<(Vec<Node>, Option<Name>), TreeError>
+    ensures ok { IfOk result (λ part. IsTextBy version bytes.now part.0.items part.1) }
+    ensures none { IfErr result (λ e. e ≢ TreeError.Memory → IsNoText version bytes.now) }
+{
+    if version == 2 {
+        return read_part(alloc, bytes);
+    }
+    match read_tree(alloc, bytes) {
+        Ok(nodes) => Ok((nodes, None)),
+        Err(error) => Err(error),
+    }
+}
+
+/// Whether the name of a node is above another one's.
+fn is_above(first: &Node, last: &Node) -> bool
+    ensures { IsTrue result ↔ (slice_cmp nat_cmp last.now.name first.now.name ≡ Ordering.Less) }
+{
+    last.name.as_str().cmp(first.name.as_str()) == Ordering::Less
+}
+
+/// Whether nodes may come behind others: there are some, and the first one's name is above the last one's.
+fn may_follow(before: &[Node], nodes: &[Node]) -> bool
+    ensures { IsTrue result ↔ MayFollow before.now nodes.now }
+{
+    let Some(first) = nodes.first() else {
+        return false;
+    };
+    match before.last() {
+        Some(last) => is_above(first, last),
+        None => true,
+    }
+}
+
+/// Whether nodes may come behind those of the innermost level.
+fn come_behind(levels: &[Level], nodes: &[Node]) -> bool
+    ensures { (above : List Level) (level : Level) → levels.now ≡ above ++ level ∷ [] → IsTrue result ↔ MayFollow level.nodes.items nodes.now }
+{
+    match levels.last() {
+        Some(level) => may_follow(level.nodes.as_slice(), nodes),
+        None => false,
+    }
+}
+
+/// Puts a level in the place of the innermost one, which it gives back.
+fn replace_last(levels: &mut Vec<Level>, level: Level) -> Level
+    ensures some { (above : List Level) (last : Level) → levels.old.items ≡ above ++ last ∷ [] → (result ≡ last) × (levels.new.items ≡ above ++ level ∷ []) }
+    ensures none { levels.old.items ≡ [] → levels.new.items ≡ [] }
+{
+    match levels.last_mut() {
+        Some(last) => replace(last, level),
+        None => level,
+    }
+}
+
+/// A path, copied. It fails for memory alone.
+fn copy_path(path: &Path) -> Result<Path, AllocError>
+    ensures { IfOk result (λ copied. copied ≡ path.now) }
+{
+    path.clone()
 }
 
 /// Leaves a level and those above it open, of which so many nodes are begun.
@@ -131,10 +207,12 @@ impl Walk {
     pub fn new(alloc: Global) -> Walk
         ensures levels { result.levels.items ≡ [] }
         ensures entries { result.entries ≡ 0 }
+        ensures onward { result.onward ≡ false }
     {
         Walk {
             levels: Vec::new(alloc),
             sent: 0,
+            onward: false,
             entries: 0,
             alloc,
         }
@@ -142,7 +220,7 @@ impl Walk {
 
     /// Looks up the tree of the root. It takes no memory.
     pub fn start(&self, lookup: &Lookup, root: Name) -> Turn
-        ensures turns { (gs : Trace) → self.now.levels.items ≡ [] → self.now.entries ≡ 0 → Turns lookup.now (Received gs) root self.now [] [] result }
+        ensures turns { (gs : Trace) (version : ℕ) → self.now.levels.items ≡ [] → self.now.entries ≡ 0 → self.now.onward ≡ false → Turns lookup.now version (Received gs) root self.now [] [] result }
         ensures flows { TurnFlows false [] result }
     {
         match lookup.find(BlobKind::Tree, &root) {
@@ -167,6 +245,14 @@ impl Walk {
             Begun::Waits(fact) => {
                 keep_open(&mut self.levels, stop.depth, stop.begun);
                 self.sent = 0;
+                self.onward = false;
+                self.entries = entries;
+                Turn::Ask(fact)
+            }
+            Begun::GoesOn(fact) => {
+                keep_open(&mut self.levels, stop.depth, stop.begun);
+                self.sent = 0;
+                self.onward = true;
                 self.entries = entries;
                 Turn::Ask(fact)
             }
@@ -186,18 +272,20 @@ impl Walk {
         }
     }
 
-    /// Takes the nodes of the tree that is waited for. It fails for memory alone, and then nothing changed.
+    /// Takes the nodes of the first tree of a directory, which is waited for. It fails for memory alone, and then nothing changed.
     fn enter(
         &mut self,
         lookup: &Lookup,
         tree: Name,
         nodes: Vec<Node>,
+        next: Option<Name>,
         out: &mut Vec<Emission>,
     ) -> Result<Turn, AllocError>
-        ensures ok { IfOk result (λ turn. EntersTree lookup.now tree nodes.items self.old out.old.items out.new.items turn self.new) }
+        ensures ok { IfOk result (λ turn. EntersTree false lookup.now tree nodes.items next self.old out.old.items out.new.items turn self.new) }
         ensures flows { IfOk result (λ turn. out.old.items ≡ [] → TurnFlows false out.new.items turn) }
         ensures levels { OnErr result (self.new.levels.items ≡ self.old.levels.items) }
         ensures sent { OnErr result (self.new.sent ≡ self.old.sent) }
+        ensures onward { OnErr result (self.new.onward ≡ self.old.onward) }
         ensures entries { OnErr result (self.new.entries ≡ self.old.entries) }
     {
         let path = self.next_path()?;
@@ -208,12 +296,64 @@ impl Walk {
             tree,
             path,
             nodes,
+            next,
             begun: 0,
         })?;
         match go_on(self.alloc, lookup, self.levels.as_slice(), 0, out) {
             Ok(stop) => Ok(self.stop_at(stop, out.as_slice())),
             Err(error) => {
                 self.levels.pop();
+                Err(error)
+            }
+        }
+    }
+
+    /// The path of the innermost directory, copied. It fails for memory alone.
+    fn same_path(&self) -> Result<Path, AllocError>
+        ensures { IfOk result (IsLastPath self.now.levels.items) }
+    {
+        match self.levels.as_slice().last() {
+            None => Ok(Path::of(Vec::new(self.alloc))),
+            Some(level) => copy_path(&level.path),
+        }
+    }
+
+    /// Takes the nodes of the next part of the innermost directory, which is waited for. It fails for memory alone, and
+    /// then nothing changed.
+    fn enter_part(
+        &mut self,
+        lookup: &Lookup,
+        tree: Name,
+        nodes: Vec<Node>,
+        next: Option<Name>,
+        out: &mut Vec<Emission>,
+    ) -> Result<Turn, AllocError>
+        ensures ok { IfOk result (λ turn. EntersTree true lookup.now tree nodes.items next self.old out.old.items out.new.items turn self.new) }
+        ensures flows { IfOk result (λ turn. out.old.items ≡ [] → TurnFlows false out.new.items turn) }
+        ensures levels { OnErr result (self.new.levels.items ≡ self.old.levels.items) }
+        ensures sent { OnErr result (self.new.sent ≡ self.old.sent) }
+        ensures onward { OnErr result (self.new.onward ≡ self.old.onward) }
+        ensures entries { OnErr result (self.new.entries ≡ self.old.entries) }
+    {
+        let path = self.same_path()?;
+        if is_too_deep(&path, nodes.as_slice()) {
+            return Ok(Turn::Ended(End::BadObject(Thing::Tree, tree)));
+        }
+        if !come_behind(self.levels.as_slice(), nodes.as_slice()) {
+            return Ok(Turn::Ended(End::BadObject(Thing::Tree, tree)));
+        }
+        let part = Level {
+            tree,
+            path,
+            nodes,
+            next,
+            begun: 0,
+        };
+        let before = replace_last(&mut self.levels, part);
+        match go_on(self.alloc, lookup, self.levels.as_slice(), 0, out) {
+            Ok(stop) => Ok(self.stop_at(stop, out.as_slice())),
+            Err(error) => {
+                replace_last(&mut self.levels, before);
                 Err(error)
             }
         }
@@ -230,6 +370,7 @@ impl Walk {
         ensures flows { IfOk result (λ turn. out.old.items ≡ [] → TurnFlows true out.new.items turn) }
         ensures levels { OnErr result (self.new.levels.items ≡ self.old.levels.items) }
         ensures sent { OnErr result (self.new.sent ≡ self.old.sent) }
+        ensures onward { OnErr result (self.new.onward ≡ self.old.onward) }
         ensures entries { OnErr result (self.new.entries ≡ self.old.entries) }
     {
         let piece = copy_of(self.alloc, bytes)?;
@@ -246,28 +387,54 @@ impl Walk {
                 self.sent = sent;
                 Ok(Turn::Ask(fact))
             }
+            Begun::GoesOn(fact) => Ok(Turn::Ask(fact)),
             Begun::Ended(end) => Ok(Turn::Ended(end)),
         }
     }
 
-    /// Takes the bytes of the blob that is waited for. It fails for memory alone, and then nothing changed.
+    /// Takes the nodes of the tree that is waited for. It fails for memory alone, and then nothing changed.
+    fn take_tree(
+        &mut self,
+        lookup: &Lookup,
+        tree: Name,
+        nodes: Vec<Node>,
+        next: Option<Name>,
+        out: &mut Vec<Emission>,
+    ) -> Result<Turn, AllocError>
+        ensures ok { IfOk result (λ turn. EntersTree self.old.onward lookup.now tree nodes.items next self.old out.old.items out.new.items turn self.new) }
+        ensures flows { IfOk result (λ turn. out.old.items ≡ [] → TurnFlows false out.new.items turn) }
+        ensures levels { OnErr result (self.new.levels.items ≡ self.old.levels.items) }
+        ensures sent { OnErr result (self.new.sent ≡ self.old.sent) }
+        ensures onward { OnErr result (self.new.onward ≡ self.old.onward) }
+        ensures entries { OnErr result (self.new.entries ≡ self.old.entries) }
+    {
+        if self.onward {
+            return self.enter_part(lookup, tree, nodes, next, out);
+        }
+        self.enter(lookup, tree, nodes, next, out)
+    }
+
+    /// Takes the bytes of the blob that is waited for, of a snapshot of this version. It fails for memory alone, and then
+    /// nothing changed.
     pub fn take(
         &mut self,
         lookup: &Lookup,
+        version: u64,
         fact: Fact,
         bytes: &[u8],
         out: &mut Vec<Emission>,
     ) -> Result<Turn, AllocError>
-        ensures ok { IfOk result (λ turn. TakesBlob lookup.now fact bytes.now self.old out.old.items out.new.items turn self.new) }
+        ensures ok { IfOk result (λ turn. TakesBlob version lookup.now fact bytes.now self.old out.old.items out.new.items turn self.new) }
         ensures flows { IfOk result (λ turn. out.old.items ≡ [] → TurnFlows (is_open fact.kind) out.new.items turn) }
         ensures levels { OnErr result (self.new.levels.items ≡ self.old.levels.items) }
         ensures sent { OnErr result (self.new.sent ≡ self.old.sent) }
+        ensures onward { OnErr result (self.new.onward ≡ self.old.onward) }
         ensures entries { OnErr result (self.new.entries ≡ self.old.entries) }
     {
         match fact.kind {
             BlobKind::Content => self.take_blob(lookup, bytes, out),
-            BlobKind::Tree => match read_tree(self.alloc, bytes) {
-                Ok(nodes) => self.enter(lookup, fact.name, nodes, out),
+            BlobKind::Tree => match read_by(self.alloc, version, bytes) {
+                Ok((nodes, next)) => self.take_tree(lookup, fact.name, nodes, next, out),
                 Err(error) => {
                     error.check_fault()?;
                     let end = End::BadObject(Thing::Tree, fact.name);

@@ -5,7 +5,7 @@ use Rattle.repo_name.specs.declared.names.Name.{Name}
 use Rattle.repo_index.specs.declared.facts.Fact.{Fact}
 use Rattle.repo_reach.specs.Used.{UsedHasPair}
 use Rattle.repo_reach.specs.declared.links.Links.{Links}
-use Rattle.repo_reach.specs.declared.trees.Seen.{Seen}
+use Rattle.repo_reach.specs.declared.looks.Seen.{Seen}
 use Rattle.repo_reach.specs.declared.used.Used.{Used}
 use Rattle.repo_writing.specs.Blobs.{HasFact}
 use Rattle.repo_name.specs.declared.kinds.BlobKind.{BlobKind}

@@ -13,6 +13,7 @@ begun_file : (facts : List Fact) (tree : Name) (path : List (List ℕ)) (size : 
 begun_file facts tree path size [] old mid new Begun.Done sums p h = (refl, sums, h.1 ∙ ap (λ m. m ++ Emission.Close ∷ []) p ∙ append_assoc old (Emission.File path ∷ []) (Emission.Close ∷ []))
 begun_file facts tree path size (n ∷ ns) old mid new Begun.Done sums p h = absurd (let q = h.0 in absurd (cc))
 begun_file facts tree path size content old mid new (Begun.Waits fact) sums p h = (h.0, h.1, sums, h.2 ∙ p)
+begun_file facts tree path size content old mid new (Begun.GoesOn fact) sums p h = absurd h
 begun_file facts tree path size content old mid new (Begun.Ended end) sums p h = absurd (summed_place facts content size 0 h.0 sums h.2 h.3)
 
 begun_result : {E : Type 0} (facts : List Fact) (tree : Name) (path : List (List ℕ)) (size : ℕ) (content : List Name) (old mid new : List Emission) (result : Result Begun E) → Sums facts content size

@@ -8,6 +8,6 @@ use Rattle.repo_restore.specs.Walks.{AtOpen, WalkGives}
 use Rattle.repo_restore.proofs.steps.go_on.Given as goal
 
 abbrev pub invariant-loop-up : goal.invariant-loop-up
-invariant-loop-up l = ((gs : Trace) (root : Name) (old : List Emission) → AtOpen (Received gs) root l.fn.levels (length l.fn.levels) l.fn.begun (rebuilt (old ++ l.fn.out.items)) → Each (WalkGives l.fn.lookup (Received gs) root) l.fn.out.items
-    → ((k : ℕ) → k + l.up ≡ length l.levels → AtOpen (Received gs) root l.levels k l.begun (rebuilt (old ++ l.out.items))) × Each (WalkGives l.fn.lookup (Received gs) root) l.out.items)
+invariant-loop-up l = ((gs : Trace) (version : ℕ) (root : Name) (old : List Emission) → AtOpen version (Received gs) root l.fn.levels (length l.fn.levels) l.fn.begun (rebuilt (old ++ l.fn.out.items)) → Each (WalkGives l.fn.lookup version (Received gs) root) l.fn.out.items
+    → ((k : ℕ) → k + l.up ≡ length l.levels → AtOpen version (Received gs) root l.levels k l.begun (rebuilt (old ++ l.out.items))) × Each (WalkGives l.fn.lookup version (Received gs) root) l.out.items)
     × ((before : Bool) → Follow before l.fn.out.items false → Follow before l.out.items false)

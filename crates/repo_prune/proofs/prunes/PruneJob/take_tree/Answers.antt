@@ -1,10 +1,10 @@
 use Rattle.std.proofs.Common.{◌∷◌, ◌++◌, [], Vec, Global, refl, sym, ap, subst, inl, ◌∙◌}
 use Rattle.std.proofs.lemmas.Result.{IfOk-weaker, on_err_weaker}
-use Rattle.repo_name.specs.declared.names.Name.{Name}
 use Rattle.repo_wire.specs.declared.messages.Ask.{Ask}
 use Rattle.repo_session.specs.Traces.{Exchange, silent}
 use Rattle.repo_session.specs.declared.jobs.Step.{Step}
 use Rattle.repo_session.specs.Jobs.{MayAsk}
+use Rattle.repo_reach.specs.declared.roots.Root.{Root}
 use Rattle.repo_prune.specs.Pruning.{prune_rule}
 use Rattle.repo_prune.specs.PruneStates.{KnowsStage, KnowsWalking, known_in}
 use Rattle.repo_prune.specs.declared.prunes.PruneJob.{PruneJob}
@@ -60,7 +60,7 @@ returns-in-Done-clause-knows c = on_err_weaker c.finish_trees.result (λ again t
     let taken = c.in_ok-next.ensures.taken c.in-Done.is in
     let now : KnowsWalking k a.now f ask es = record {
       texts = known.texts;
-      over = record { read = known.over.read; untouched = known.over.untouched; roots = ap (λ (v : Vec Name Global). v.items) (a.roots ∙ c.take_tree.ensures.roots) ∙ known.over.roots; received = known.over.received };
+      over = record { read = known.over.read; untouched = known.over.untouched; roots = ap (λ (v : Vec Root Global). v.items) (a.roots ∙ c.take_tree.ensures.roots) ∙ known.over.roots; received = known.over.received };
       awaits = a.still k.facts known.texts t taken known.awaits;
       asks = known.asks;
     } in

@@ -6,7 +6,8 @@ use Rattle.repo_reach.proofs.trees.Trees.next_root.Goals as goal
 pub returns-then-not-is_looked-clause-due : goal.returns-then-not-is_looked-clause-due
 returns-then-not-is_looked-clause-due c = λ texts w.
     let next = c.in-Some.ensures.some in
-    root_due texts _ c.in-Some.visit next.0 next.1 (λ l. (let yes = (c.is_looked.ensures.looked texts (c.loop-visit.invariant.2 texts w) (omega (arith, next.0))).1 l in let no = c.if-not-is_looked.true in absurd (cc)))
+    let top = next.depth in
+    root_due texts _ c.in-Some.visit next (λ l. (let yes = (c.is_looked.ensures.looked texts (c.loop-visit.invariant.2 texts w) (omega (arith, top))).1 l in let no = c.if-not-is_looked.true in absurd (cc)))
 
 pub returns-then-not-is_looked-clause-left : goal.returns-then-not-is_looked-clause-left
 returns-then-not-is_looked-clause-left c = c.is_looked.ensures.left (is_no _ c.if-not-is_looked.true)
@@ -20,6 +21,7 @@ loop-visit-preserved c =
       inv.1,
       λ texts w.
           let old = inv.2 texts w in
-          let looked = (c.is_looked.ensures.looked texts old (omega (arith, next.0))).0 c.if-not-is_looked.false in
-          record { seen = old.seen; places = old.places; met = counted texts s.roots.items s.root s.seen.items s.waiting.items c.in-Some.visit.tree next.1 (subst (λ d. IsLooked s.seen.items c.in-Some.visit.tree d) next.0 looked) old.met },
+          let top = next.depth in
+          let looked = (c.is_looked.ensures.looked texts old (omega (arith, top))).0 c.if-not-is_looked.false in
+          record { seen = old.seen; places = old.places; met = counted texts s.roots.items s.root s.seen.items s.waiting.items (record { tree = c.in-Some.visit.tree; follows = c.in-Some.visit.follows }) next.next (subst (λ d. IsLooked s.seen.items c.in-Some.visit.tree c.in-Some.visit.follows d) top looked) old.met },
     )

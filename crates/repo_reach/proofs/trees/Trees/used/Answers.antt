@@ -3,7 +3,7 @@ use Rattle.repo_name.specs.declared.kinds.BlobKind.{BlobKind}
 use Rattle.repo_name.specs.declared.names.Name.{Name}
 use Rattle.repo_reach.specs.Laws.{IsUsed}
 use Rattle.repo_reach.specs.Used.{UsedHasPair, HaveJoined}
-use Rattle.repo_reach.specs.declared.trees.Seen.{Seen}
+use Rattle.repo_reach.specs.declared.looks.Seen.{Seen}
 use Rattle.repo_reach.proofs.Using.{none_given, then_joined, all_used}
 use Rattle.repo_reach.proofs.trees.Trees.used.Goals as goal
 

@@ -1,10 +1,8 @@
 use Rattle.std.proofs.Common.{◌≡◌, ◌∷◌, Vec, Global, refl, sym, subst, inr}
-use Rattle.repo_wire.specs.declared.messages.Ask.{Ask}
 use Rattle.repo_wire.specs.declared.messages.Say.{Say}
 use Rattle.repo_session.specs.declared.emissions.Emission.{Emission}
 use Rattle.repo_session.specs.Jobs.{task_under, MayStep}
 use Rattle.repo_session.specs.Order.{IsWorking}
-use Rattle.repo_session.specs.Received.{Received}
 use Rattle.repo_session.specs.Traces.{Exchange, emitted_in, giving}
 use Rattle.repo_restore.specs.declared.restores.Stage.{Stage}
 use Rattle.repo_restore.specs.Flowing.{is_open}
@@ -27,12 +25,12 @@ returns-clause-ok c = λ ask named long holding es working obeys asked.
     let S : Stage → Type 0 = λ stage. KnowsAtStage j stage ask es in
     let known = subst S c.requires asked.knows in
     let root = known.1.root in
-    let taken = range_taken j fact e x es known.0 is known.1 in
+    let taken = range_taken j c.args.version fact e x es known.0 is known.1 in
     let turns = c.in_ok-turn.ensures.ok (e ∷ es) root (emitted_in es) taken.waits (taken.got named) named long c.new-out.ensures.items in
     let flown = c.in_ok-turn.ensures.flows c.new-out.ensures.items in
-    let gave = turn_may_give j.catalog (e ∷ es) root walk.levels.items walk.sent walk.entries (emitted_in es) out turn taken.indexes turns in
-    let gives : RestoreGives j.snapshot es e = (subst IsForBlob (sym known.0) tt, 1, root, known.1.found, gave, turn_flowed (emitted_in es) out turn (is_open fact.kind) known.1.flows flown) in
-    let next = turn_is j.catalog.lookup walk root (e ∷ es) (emitted_in es) out turn (is_open fact.kind) refl turns known.1.flows flown in
+    let gave = turn_may_give j.catalog (e ∷ es) c.args.version root walk.levels.items walk.sent walk.onward walk.entries (emitted_in es) out turn taken.indexes turns in
+    let gives : RestoreGives j.snapshot es e = (subst IsForBlob (sym known.0) tt, c.args.version, root, known.1.found, gave, turn_flowed (emitted_in es) out turn (is_open fact.kind) known.1.flows flown) in
+    let next = turn_is j.catalog.lookup walk c.args.version root (e ∷ es) (emitted_in es) out turn (is_open fact.kind) refl turns known.1.flows flown in
     let V : Vec Emission Global → Type 0 = λ v. IsWorking (task_under rule holding.who) holding.token (giving ask (Say.Bytes x) v.items ∷ es)
     → MayStep rule holding.who (KnowsRestore c.go_on.new.self) es (giving ask (Say.Bytes x) v.items) c.go_on.result in
     subst V (sym c.go_on.ensures.given) (λ w. c.go_on.ensures.steps holding.who holding.token e es w (inr gives) (record { root = root; found = taken.still; indexes = taken.indexes; all = known.1.all; turns = next })) working

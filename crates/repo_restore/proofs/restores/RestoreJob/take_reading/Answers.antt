@@ -19,7 +19,7 @@ returns-in-Ask-clause-ok c = λ holding es w obeys asked.
     let reads = (rw c.in-Ask.is at c.in_ok-next.ensures.ok) (task_under (restore_rule j.snapshot) holding.who) holding.token j.given.items es w asked.may known.0 in
     let new : RestoreJob = record { snapshot = j.snapshot; stage = j.stage; catalog = c.read_on.new.self; walk = j.walk; given = j.given; alloc = j.alloc } in
     let N : Stage → Type 0 = λ stage. KnowsAtStage new stage c.in-Ask.next (e ∷ es) in
-    let knows = subst N (sym c.requires) (reads.knows, root_grows e es j.snapshot 1 c.args.tree known.1, before_on j.walk j.given.items e es refl known.2) in
+    let knows = subst N (sym c.requires) (reads.knows, root_grows e es j.snapshot c.args.version c.args.tree known.1, before_on j.walk j.given.items e es refl known.2) in
     (inl known.2.none_given, record { work = reads.work; may = reads.may; allowed = reads.reads; knows = knows })
 
 pub returns-in-All-clause-ok : goal.returns-in-All-clause-ok
@@ -32,13 +32,13 @@ returns-in-All-clause-ok c = λ holding es w obeys asked.
     let known = subst S c.requires asked.knows in
     let reads = (rw c.in-All.is at c.in_ok-next.ensures.ok) (task_under (restore_rule j.snapshot) holding.who) holding.token e.emitted es w asked.may known.0 in
     let before = before_on j.walk j.given.items e es same known.2 in
-    let turns = c.start-turn.ensures.turns (e ∷ es) before.no_levels before.no_entries in
+    let turns = c.start-turn.ensures.turns (e ∷ es) c.args.version before.no_levels before.no_entries before.not_onward in
     c.go_on.ensures.steps holding.who holding.token e es w (inl (same ∙ known.2.none_given)) (record {
       root = tree;
-      found = root_grows e es j.snapshot 1 tree known.1;
+      found = root_grows e es j.snapshot c.args.version tree known.1;
       indexes = reads.0;
       all = reads.1;
-      turns = turn_is c.read_on.new.self.lookup j.walk tree (e ∷ es) [] [] c.start-turn.result false before.nothing turns refl c.start-turn.ensures.flows;
+      turns = turn_is c.read_on.new.self.lookup j.walk c.args.version tree (e ∷ es) [] [] c.start-turn.result false before.nothing turns refl c.start-turn.ensures.flows;
     })
 
 pub returns-in-Bad-clause-ok : goal.returns-in-Bad-clause-ok

@@ -8,7 +8,6 @@ use Rattle.repo_session.specs.Ends.{CausedBy, IsUnwelcome}
 use Rattle.repo_session.specs.Jobs.{task_under}
 use Rattle.repo_session.specs.Traces.{Exchange, giving}
 use Rattle.repo_session.specs.Versions.{snapshot_version}
-use Rattle.repo_session.proofs.Faulting.{first_version}
 use Rattle.repo_session.proofs.Receiving.{unwelcome_get, bad_object}
 use Rattle.repo_restore.specs.declared.restores.Stage.{Stage}
 use Rattle.repo_session.specs.Trees.{HasRoot}
@@ -52,7 +51,7 @@ returns-in-Ok-clause-ok c = λ ask holding es w obeys asked.
     let text = subst X c.as_slice-bytes.ensures c.in-Ok.ensures.ok.0 in
     let indexes = snapshot_on j.catalog e n x false es known.0 c.in-Bytes.is known.2 in
     let due = c.page_ask.ensures.due (task_under (restore_rule n) holding.who) holding.token (e ∷ es) w known.1 indexes in
-    let found : HasRoot (e ∷ es) n 1 c.in-Ok.snapshot.tree = (x, c.in-Ok.snapshot, (inl (known.0, c.in-Bytes.is), named), text, first_version c.in-Ok.snapshot.version text.known c.in-Ok.ensures.ok.1, refl) in
+    let found : HasRoot (e ∷ es) n c.in-Ok.snapshot.version c.in-Ok.snapshot.tree = (x, c.in-Ok.snapshot, (inl (known.0, c.in-Bytes.is), named), text, refl, refl) in
     (inl known.3.none_given, record { work = due.work; may = due.may; allowed = due.reads; knows = (due.knows, found, before_on j.walk j.given.items e es refl known.3) })
 
 pub returns-in_ok-end-in-Err-clause-ok : goal.returns-in_ok-end-in-Err-clause-ok

@@ -2,57 +2,57 @@ use Rattle.std.proofs.Common.{false, ◌≡◌, ◌≢◌, ◌≤◌, ◌<◌, �
 use Rattle.repo_name.specs.declared.kinds.BlobKind.{BlobKind}
 use Rattle.repo_name.specs.declared.names.Name.{Name}
 use Rattle.repo_tree.specs.declared.nodes.Node.{Node}
-use Rattle.repo_tree.specs.Parts.{IsTree}
 use Rattle.repo_tree.specs.Spelling.{greatest_depth}
 use Rattle.repo_session.specs.declared.emissions.Emission.{Emission}
 use Rattle.repo_session.specs.Traces.{Each}
 use Rattle.repo_restore.specs.declared.nodes.Level.{Level}
 use Rattle.repo_session.specs.Received.{Received}
 use Rattle.repo_session.specs.Trees.{Under}
-use Rattle.repo_restore.specs.Walking.{WaitsByKind, StopsAt, Turns}
-use Rattle.repo_restore.specs.Walks.{AtOpen, WalkGives}
+use Rattle.repo_restore.specs.Walking.{WaitsByKind, TreeWaitsBy, StopsAt, Turns}
+use Rattle.repo_restore.specs.Walks.{PartIs, AtOpen, WalkGives}
 use Rattle.repo_session.specs.Rebuilding.{rebuilt, Follow}
 use Rattle.repo_restore.specs.Flowing.{FlowsTo, TurnFlows}
 use Rattle.repo_restore.proofs.Passing.{path_is, entered}
+use Rattle.repo_restore.proofs.Trees.{part_lists}
 use Rattle.repo_restore.proofs.walks.Walk.enter.Goals as goal
 
 pub returns-then-is_too_deep-clause-ok : goal.returns-then-is_too_deep-clause-ok
-returns-then-is_too_deep-clause-ok c = λ gs root fact old h k n t none.
+returns-then-is_too_deep-clause-ok c = λ gs version root fact old h first k n t none.
     let w = c.args.self.now in
     let B = Received gs in
-    let K : BlobKind → Type 0 = λ kind. WaitsByKind kind c.args.lookup.now (Received gs) root w.levels.items w.sent fact old in
-    let tree = subst K k h.waits in
-    let at = path_is (Received gs) root w.levels.items fact.name tree.0 c.in_ok-path.path (rebuilt old) tree.1 c.in_ok-path.ensures in
+    let K : BlobKind → Type 0 = λ kind. WaitsByKind kind c.args.lookup.now version (Received gs) root w.levels.items w.sent w.onward fact old in
+    let tree = subst (λ o. TreeWaitsBy o version (Received gs) root w.levels.items fact old) first (subst K k h.waits) in
+    let at = path_is version (Received gs) root w.levels.items fact.name tree.0 c.in_ok-path.path (rebuilt old) tree.1 c.in_ok-path.ensures in
     let deep = c.is_too_deep.ensures.yes c.if-is_too_deep.true in
     let D : List (List ℕ) → Type 0 = λ p. greatest_depth ≤ length p in
     let N : List Node → Type 0 = λ ns. ns ≢ [] in
-    let U : Name → Type 0 = λ m. Under 1 (Received gs) root tree.0 m in
-    let E : List Emission → Type 0 = λ e. Each (WalkGives c.args.lookup.now (Received gs) root) e in
-    ((refl, (tree.0, subst U n tree.2, inl (inr (inl (c.args.nodes.items, t, subst N c.as_slice.ensures.value deep.1, subst D at deep.0))))), subst E (sym none) tt)
+    let U : Name → Type 0 = λ m. Under version (Received gs) root tree.0 m in
+    let E : List Emission → Type 0 = λ e. Each (WalkGives c.args.lookup.now version (Received gs) root) e in
+    ((refl, (tree.0, subst U n tree.2, inl (inr (inl (c.args.nodes.items, part_lists version (Received gs) c.args.tree c.args.nodes.items c.args.next t, subst N c.as_slice.ensures.value deep.1, subst D at deep.0))))), subst E (sym none) tt)
 
 pub returns-in-Ok-clause-ok : goal.returns-in-Ok-clause-ok
-returns-in-Ok-clause-ok c = λ gs root fact old h k n t none.
+returns-in-Ok-clause-ok c = λ gs version root fact old h first k n t none.
     let w = c.args.self.now in
     let levels = w.levels.items in
-    let K : BlobKind → Type 0 = λ kind. WaitsByKind kind c.args.lookup.now (Received gs) root w.levels.items w.sent fact old in
-    let tree = subst K k h.waits in
-    let at = path_is (Received gs) root levels fact.name tree.0 c.in_ok-path.path (rebuilt old) tree.1 c.in_ok-path.ensures in
-    let level : Level = record { tree = c.args.tree; path = c.in_ok-path.path; nodes = c.args.nodes; begun = 0 } in
-    let T : Name → Type 0 = λ m. IsTree (Received gs) m c.args.nodes.items in
+    let K : BlobKind → Type 0 = λ kind. WaitsByKind kind c.args.lookup.now version (Received gs) root w.levels.items w.sent w.onward fact old in
+    let tree = subst (λ o. TreeWaitsBy o version (Received gs) root w.levels.items fact old) first (subst K k h.waits) in
+    let at = path_is version (Received gs) root levels fact.name tree.0 c.in_ok-path.path (rebuilt old) tree.1 c.in_ok-path.ensures in
+    let level : Level = record { tree = c.args.tree; path = c.in_ok-path.path; nodes = c.args.nodes; next = c.args.next; begun = 0 } in
+    let T : Name → Type 0 = λ m. PartIs version (Received gs) m c.args.nodes.items c.args.next in
     let S : List (List ℕ) → Type 0 = λ p. (length p < greatest_depth) ⊎ (c.args.nodes.items ≡ []) in
     let N : List Node → Type 0 = λ ns. (length c.in_ok-path.path < greatest_depth) ⊎ (ns ≡ []) in
-    let start = entered (Received gs) root fact.name levels level tree.0 old tree.1 tree.2 (subst T (sym n) t) (sym n) at (subst S at (subst N c.as_slice.ensures.value (c.is_too_deep.ensures.no c.if-is_too_deep.false))) in
+    let start = entered version (Received gs) root fact.name levels level tree.0 old tree.1 tree.2 (subst T (sym n) t) (sym n) at (subst S at (subst N c.as_slice.ensures.value (c.is_too_deep.ensures.no c.if-is_too_deep.false))) in
     let same : c.as_slice-2.result.now ≡ levels ++ level ∷ [] = c.as_slice-2.ensures.value ∙ c.in_ok-push.ensures.items in
-    let A : List Level → Type 0 = λ ls. AtOpen (Received gs) root ls (length ls) 0 (rebuilt (old ++ [])) in
-    let O : List Emission → Type 0 = λ e. AtOpen (Received gs) root c.as_slice-2.result.now (length c.as_slice-2.result.now) 0 (rebuilt (old ++ e)) in
-    let E : List Emission → Type 0 = λ e. Each (WalkGives c.args.lookup.now (Received gs) root) e in
-    let stops = c.in-Ok.ensures.stops gs root old (subst O (sym none) (subst A (sym same) start)) (subst E (sym none) tt) in
+    let A : List Level → Type 0 = λ ls. AtOpen version (Received gs) root ls (length ls) 0 (rebuilt (old ++ [])) in
+    let O : List Emission → Type 0 = λ e. AtOpen version (Received gs) root c.as_slice-2.result.now (length c.as_slice-2.result.now) 0 (rebuilt (old ++ e)) in
+    let E : List Emission → Type 0 = λ e. Each (WalkGives c.args.lookup.now version (Received gs) root) e in
+    let stops = c.in-Ok.ensures.stops gs version root old (subst O (sym none) (subst A (sym same) start)) (subst E (sym none) tt) in
     let out = c.go_on.new.out.items in
     let stop = c.in-Ok.stop in
-    let F : List Level → Type 0 = λ ls. StopsAt c.args.lookup.now (Received gs) root ls old out stop.depth stop.begun stop.what in
-    let G : List Emission → Type 0 = λ e. StopsAt c.args.lookup.now (Received gs) root c.push.new.self.items old e stop.depth stop.begun stop.what in
-    let R : List Emission → Type 0 = λ e. Turns c.args.lookup.now (Received gs) root c.stop_at.new.self old e c.stop_at.result in
-    subst R c.as_slice-in-Ok.ensures.value (c.stop_at.ensures.turns c.args.lookup.now gs root old (subst G (sym c.as_slice-in-Ok.ensures.value) (subst F c.as_slice-2.ensures.value stops)) h.count)
+    let F : List Level → Type 0 = λ ls. StopsAt c.args.lookup.now version (Received gs) root ls old out stop.depth stop.begun stop.what in
+    let G : List Emission → Type 0 = λ e. StopsAt c.args.lookup.now version (Received gs) root c.push.new.self.items old e stop.depth stop.begun stop.what in
+    let R : List Emission → Type 0 = λ e. Turns c.args.lookup.now version (Received gs) root c.stop_at.new.self old e c.stop_at.result in
+    subst R c.as_slice-in-Ok.ensures.value (c.stop_at.ensures.turns c.args.lookup.now gs version root old (subst G (sym c.as_slice-in-Ok.ensures.value) (subst F c.as_slice-2.ensures.value stops)) h.count)
 
 pub returns-then-is_too_deep-clause-flows : goal.returns-then-is_too_deep-clause-flows
 returns-then-is_too_deep-clause-flows c = λ none. (false, let F : List Emission → Type 0 = λ e. Follow false e false in subst F (sym none) refl)

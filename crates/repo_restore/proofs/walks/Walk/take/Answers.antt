@@ -1,18 +1,27 @@
-use Rattle.std.proofs.Common.{List, refl, sym, subst, inl}
+use Rattle.std.proofs.Common.{List, refl, sym, subst}
+use Rattle.std.proofs.lemmas.Result.{IfOk-weaker}
 use Rattle.repo_name.specs.declared.kinds.BlobKind.{BlobKind}
 use Rattle.repo_session.specs.declared.emissions.Emission.{Emission}
 use Rattle.repo_session.specs.Traces.{Each}
 use Rattle.repo_session.specs.Received.{Received}
 use Rattle.repo_restore.specs.Walking.{WaitsByKind}
 use Rattle.repo_restore.specs.Walks.{WalkGives}
+use Rattle.repo_restore.proofs.Passing.{tree_refused}
+use Rattle.repo_restore.proofs.Trees.{text_part}
 use Rattle.repo_restore.proofs.walks.Walk.take.Goals as goal
+
+pub returns-in-Ok-clause-ok : goal.returns-in-Ok-clause-ok
+returns-in-Ok-clause-ok c = IfOk-weaker c.take_tree.result _ _ (λ turn enters gs root old h received named long none.
+    let R : BlobKind → Type 0 = λ kind. Received gs kind c.args.bytes.now in
+    let part = text_part c.args.version (Received gs) c.args.fact.name c.args.bytes.now c.in-Ok.nodes.items c.in-Ok.next (subst R c.in-Tree.is received) named c.in-Ok.ensures.ok in
+    enters gs c.args.version root c.args.fact old h refl c.in-Tree.is refl part none) c.take_tree.ensures.ok
 
 pub returns-in_ok-check_fault-in-Err-clause-ok : goal.returns-in_ok-check_fault-in-Err-clause-ok
 returns-in_ok-check_fault-in-Err-clause-ok c = λ gs root old h received named long none.
     let w = c.args.self.now in
-    let K : BlobKind → Type 0 = λ kind. WaitsByKind kind c.args.lookup.now (Received gs) root w.levels.items w.sent c.args.fact old in
+    let version = c.args.version in
+    let K : BlobKind → Type 0 = λ kind. WaitsByKind kind c.args.lookup.now version (Received gs) root w.levels.items w.sent w.onward c.args.fact old in
     let R : BlobKind → Type 0 = λ kind. Received gs kind c.args.bytes.now in
-    let E : List Emission → Type 0 = λ out. Each (WalkGives c.args.lookup.now (Received gs) root) out in
-    let waits = subst K c.in-Tree.is h.waits in
+    let E : List Emission → Type 0 = λ out. Each (WalkGives c.args.lookup.now version (Received gs) root) out in
     let unread = c.in-Err.ensures.none c.in_ok-check_fault-in-Err.ensures.fault in
-    ((refl, (waits.0, waits.2, inl (inl (c.args.bytes.now, subst R c.in-Tree.is received, named, unread)))), subst E (sym none) tt)
+    (tree_refused c.args.lookup.now version (Received gs) root w.levels.items w.onward c.args.fact old c.args.bytes.now (subst K c.in-Tree.is h.waits) (subst R c.in-Tree.is received) named unread, subst E (sym none) tt)

@@ -1,0 +1,87 @@
+use Rattle.std.proofs.Common.{false, ◌≡◌, ◌≢◌, ◌<◌, ◌⊎◌, ◌++◌, ◌∷◌, [], List, length, refl, sym, subst, inl, inr, ◌∙◌}
+use Rattle.repo_name.specs.declared.kinds.BlobKind.{BlobKind}
+use Rattle.repo_name.specs.declared.kinds.Thing.{Thing}
+use Rattle.repo_name.specs.declared.names.Name.{Name}
+use Rattle.repo_session.specs.declared.outcomes.End.{End}
+use Rattle.repo_tree.specs.declared.nodes.Node.{Node}
+use Rattle.repo_tree.specs.Spelling.{greatest_depth}
+use Rattle.repo_session.specs.declared.emissions.Emission.{Emission}
+use Rattle.repo_session.specs.Traces.{Each}
+use Rattle.repo_restore.specs.declared.nodes.Level.{Level}
+use Rattle.repo_session.specs.Received.{Received}
+use Rattle.repo_restore.specs.Walking.{MayFollow, WalkEnds, WaitsByKind, TreeWaitsBy, StopsAt, Turns}
+use Rattle.repo_restore.specs.Walks.{PartIs, AtOpen, WalkGives}
+use Rattle.repo_session.specs.Rebuilding.{rebuilt, Follow}
+use Rattle.repo_restore.specs.Flowing.{FlowsTo, TurnFlows}
+use Rattle.repo_restore.proofs.Passing.{entered_part, part_refused, path_deep, put_twice}
+use Rattle.repo_restore.proofs.walks.Walk.enter_part.Goals as goal
+
+pub returns-then-is_too_deep-clause-ok : goal.returns-then-is_too_deep-clause-ok
+returns-then-is_too_deep-clause-ok c = λ gs version root fact old h onward k n t none.
+    let w = c.args.self.now in
+    let K : BlobKind → Type 0 = λ kind. WaitsByKind kind c.args.lookup.now version (Received gs) root w.levels.items w.sent w.onward fact old in
+    let p = subst (λ o. TreeWaitsBy o version (Received gs) root w.levels.items fact old) onward (subst K k h.waits) in
+    let at = c.in_ok-path.ensures p.above p.level p.levels_are in
+    let deep = c.is_too_deep.ensures.yes c.if-is_too_deep.true in
+    let N : List Node → Type 0 = λ ns. ns ≢ [] in
+    let T : Name → Type 0 = λ m. PartIs version (Received gs) m c.args.nodes.items c.args.next in
+    let D : Name → Type 0 = λ m. WalkEnds c.args.lookup.now version (Received gs) root (End.BadObject Thing.Tree m) in
+    let E : List Emission → Type 0 = λ e. Each (WalkGives c.args.lookup.now version (Received gs) root) e in (
+      subst D n (part_refused c.args.lookup.now version (Received gs) root w.levels.items fact old c.args.nodes.items c.args.next p (subst T (sym n) t) (inl (path_deep c.in_ok-path.path p.level.path c.args.nodes.items at (deep.0, subst N c.as_slice.ensures.value deep.1)))),
+      subst E (sym none) tt,
+    )
+
+pub returns-then-not-come_behind-clause-ok : goal.returns-then-not-come_behind-clause-ok
+returns-then-not-come_behind-clause-ok c = λ gs version root fact old h onward k n t none.
+    let w = c.args.self.now in
+    let K : BlobKind → Type 0 = λ kind. WaitsByKind kind c.args.lookup.now version (Received gs) root w.levels.items w.sent w.onward fact old in
+    let p = subst (λ o. TreeWaitsBy o version (Received gs) root w.levels.items fact old) onward (subst K k h.waits) in
+    let T : Name → Type 0 = λ m. PartIs version (Received gs) m c.args.nodes.items c.args.next in
+    let D : Name → Type 0 = λ m. WalkEnds c.args.lookup.now version (Received gs) root (End.BadObject Thing.Tree m) in
+    let E : List Emission → Type 0 = λ e. Each (WalkGives c.args.lookup.now version (Received gs) root) e in
+    let wrong : ¬ MayFollow p.level.nodes.items c.args.nodes.items = λ may. (
+    let yes = (c.come_behind.ensures p.above p.level (c.as_slice-2.ensures.value ∙ p.levels_are)).1 (subst (MayFollow p.level.nodes.items) (sym c.as_slice-3.ensures.value) may) in
+    let no = c.if-not-come_behind.true in
+    absurd (cc)) in (
+      subst D n (part_refused c.args.lookup.now version (Received gs) root w.levels.items fact old c.args.nodes.items c.args.next p (subst T (sym n) t) (inr wrong)),
+      subst E (sym none) tt,
+    )
+
+pub returns-in-Ok-clause-ok : goal.returns-in-Ok-clause-ok
+returns-in-Ok-clause-ok c = λ gs version root fact old h onward k n t none.
+    let w = c.args.self.now in
+    let levels = w.levels.items in
+    let K : BlobKind → Type 0 = λ kind. WaitsByKind kind c.args.lookup.now version (Received gs) root w.levels.items w.sent w.onward fact old in
+    let p = subst (λ o. TreeWaitsBy o version (Received gs) root w.levels.items fact old) onward (subst K k h.waits) in
+    let at = c.in_ok-path.ensures p.above p.level p.levels_are in
+    let level : Level = record { tree = c.args.tree; path = c.in_ok-path.path; nodes = c.args.nodes; next = c.args.next; begun = 0 } in
+    let T : Name → Type 0 = λ m. PartIs version (Received gs) m c.args.nodes.items c.args.next in
+    let N : List Node → Type 0 = λ ns. (length c.in_ok-path.path < greatest_depth) ⊎ (ns ≡ []) in
+    let may = subst (MayFollow p.level.nodes.items) c.as_slice-3.ensures.value ((c.come_behind.ensures p.above p.level (c.as_slice-2.ensures.value ∙ p.levels_are)).0 c.if-not-come_behind.false) in
+    let start = entered_part version (Received gs) root levels level fact old p (subst T (sym n) t) (sym n) at (subst N c.as_slice.ensures.value (c.is_too_deep.ensures.no c.if-is_too_deep.false)) may in
+    let new = p.above ++ level ∷ [] in
+    let same : c.as_slice-4.result.now ≡ new = c.as_slice-4.ensures.value ∙ (c.replace_last-before.ensures.some p.above p.level p.levels_are).1 in
+    let A : List Level → Type 0 = λ ls. AtOpen version (Received gs) root ls (length ls) 0 (rebuilt (old ++ [])) in
+    let O : List Emission → Type 0 = λ e. AtOpen version (Received gs) root c.as_slice-4.result.now (length c.as_slice-4.result.now) 0 (rebuilt (old ++ e)) in
+    let E : List Emission → Type 0 = λ e. Each (WalkGives c.args.lookup.now version (Received gs) root) e in
+    let stops = c.in-Ok.ensures.stops gs version root old (subst O (sym none) (subst A (sym same) start)) (subst E (sym none) tt) in
+    let out = c.go_on.new.out.items in
+    let stop = c.in-Ok.stop in
+    let F : List Level → Type 0 = λ ls. StopsAt c.args.lookup.now version (Received gs) root ls old out stop.depth stop.begun stop.what in
+    let G : List Emission → Type 0 = λ e. StopsAt c.args.lookup.now version (Received gs) root c.replace_last-before.new.levels.items old e stop.depth stop.begun stop.what in
+    let R : List Emission → Type 0 = λ e. Turns c.args.lookup.now version (Received gs) root c.stop_at.new.self old e c.stop_at.result in
+    subst R c.as_slice-in-Ok.ensures.value (c.stop_at.ensures.turns c.args.lookup.now gs version root old (subst G (sym c.as_slice-in-Ok.ensures.value) (subst F c.as_slice-4.ensures.value stops)) h.count)
+
+pub returns-in-Ok-clause-flows : goal.returns-in-Ok-clause-flows
+returns-in-Ok-clause-flows c = λ none.
+    let F : List Emission → Type 0 = λ e. Follow false e false in
+    let next = c.in-Ok.ensures.flows false (subst F (sym none) refl) in
+    let stop = c.in-Ok.stop in
+    let G : List Emission → Type 0 = λ e. FlowsTo false e stop.what in
+    let R : List Emission → Type 0 = λ e. TurnFlows false e c.stop_at.result in
+    subst R c.as_slice-in-Ok.ensures.value (c.stop_at.ensures.flows false (subst G (sym c.as_slice-in-Ok.ensures.value) next))
+
+pub returns-in-Err-clause-levels : goal.returns-in-Err-clause-levels
+returns-in-Err-clause-levels c =
+    put_twice c.args.self.now.levels.items c.replace_last-before.new.levels.items c.replace_last.new.levels.items _ c.replace_last-before.result c.replace_last-before.ensures.some c.replace_last-before.ensures.none
+    (λ above last are. (c.replace_last.ensures.some above last are).1) c.replace_last.ensures.none
