@@ -24,3 +24,16 @@ pub mod Feeding
 pub mod Spelling
 pub mod Forbidding
 pub mod SpelledExample
+pub mod Written
+pub mod NameOrder
+pub mod NamePlaces
+pub mod Piecing
+pub mod Closing
+pub mod FedOn
+pub mod FedSession
+pub mod PieceRuling
+pub mod PieceStepping
+pub mod Biting
+pub mod PieceReplying
+pub mod PieceTaking
+pub mod PieceFeeding

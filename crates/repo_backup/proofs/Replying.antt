@@ -68,7 +68,7 @@ module _ (old new : BackupJob) (token : Token) (n : Name) (x : List ℕ) (es : T
 -- ---- while the indexes are read
 
 -- what is asked for puts nothing
-reading_puts : (c : Catalog) (ask : Ask) (es : Trace) → KnowsIndexes c ask es → (k : Kind) → object_put k ask ≡ []
+pub reading_puts : (c : Catalog) (ask : Ask) (es : Trace) → KnowsIndexes c ask es → (k : Kind) → object_put k ask ≡ []
 reading_puts c (Ask.List k after) es h j = refl
 reading_puts c (Ask.Get k n) es h j = refl
 reading_puts c Ask.Ticket es h j = refl

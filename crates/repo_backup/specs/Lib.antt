@@ -16,3 +16,8 @@ pub mod inner
 pub mod Items
 pub mod Standings
 pub mod ItemLaws
+pub mod Pieces
+pub mod PieceRules
+pub mod PieceStates
+pub mod PieceBackups
+pub mod PieceObedience

@@ -17,8 +17,16 @@
 //! `BackupObedience` (where the job and the client stand). What any job knows that puts packs and indexes stands in
 //! repo_writing.
 //!
-//! Entries may also be spelled by items, one after another: `Items` (where items lead, which may be taken, and the first
-//! fault of others), `Standings` (the same in chunks, and what is made so far) and `ItemLaws`. No client takes items yet.
+//! A [`PieceBackup`] does the same for a folder that nobody holds whole: it is fed items, one after another, that spell
+//! the entries. It wants them once every index was read, while nothing is pending. An item is taken, of a piece maybe a
+//! first part, or it isn't, for the first fault that it has or for want of memory, and then nothing of it is put. Where it
+//! wants input no pack is full, and what waits for an index is less than 20,000 blobs (`FitsPieces`). `Stored` comes only
+//! where the items ended, and then the snapshot spells what they spell; `Abandoned` where the last one gave up.
+//!
+//! `Items` says where items lead, which may be taken, and the first fault of others; `Standings` the same in chunks, and
+//! what is made so far; `ItemLaws` that what they spell may be handed in. `PieceRules` says what such a backup may ask for,
+//! when it may want input, and how it may end; what is known on the way stands in `Pieces`, `PieceStates`, `PieceBackups`
+//! and `PieceObedience`.
 #![tactic(auto)]
 
 mod added;
@@ -32,6 +40,12 @@ mod items;
 mod jobs;
 mod laws;
 mod packing;
+mod piece_backing;
+mod piece_backups;
+mod piece_jobs;
+mod piece_steps;
+mod piece_works;
+mod pieces;
 mod plans;
 mod sending;
 mod stages;
@@ -45,5 +59,7 @@ pub use item_laws::{
     end_is_last, example_is_spelled, faults_forbid, giving_up_is_last, items_lead, made_grows,
     made_of_all, spelled_are_handed, whole_is_spelled,
 };
-pub use items::FeedError;
+pub use items::{FeedError, Item};
 pub use laws::{backup_ends_well, backup_keeps_sound};
+pub use piece_backups::PieceBackup;
+pub use piece_steps::lockstep_fed;

@@ -1,5 +1,5 @@
 -- A pack that is written: one more item, and its end.
-use Rattle.std.proofs.Common.{◌≡◌, ◌≤◌, ◌<◌, ◌+◌, ◌^◌, ◌++◌, ◌∷◌, [], ℕ, zero, suc, List, length, drop, map, get_or, refl, sym, ap, ◌∙◌, append_assoc, arith}
+use Rattle.std.proofs.Common.{◌≡◌, ◌≤◌, ◌<◌, ◌+◌, ◌-◌, ◌^◌, ◌++◌, ◌∷◌, [], ℕ, zero, suc, List, length, drop, take, map, get_or, refl, sym, ap, ◌∙◌, append_assoc, arith}
 use Rattle.std.specs.Prelude.{slice_get, Some}
 use Rattle.std.specs.List.{All, sum_by}
 use Rattle.std.specs.Int.{w32, to_le_bytes}
@@ -156,3 +156,46 @@ placed_more front pack offset rows k d h =
 pub placed_end : (pack : Name) (offset : ℕ) (rows : List Row) (k : ℕ) → length rows ≤ k → placed_from pack offset (drop k rows) ≡ []
 unfolding placed_from
 placed_end pack offset rows k h = ap (placed_from pack offset) (drop_all k rows h)
+
+-- ---- the last item
+
+-- rows of items that end in one: the items do
+pub ends_in : (rows : List Row) (row : Row) (items : List Item) → rows ++ row ∷ [] ≡ map row_of items
+    → (front : List Item) × (item : Item) × (items ≡ front ++ item ∷ []) × (rows ≡ map row_of front) × (row ≡ row_of item)
+ends_in [] row [] e = absurd (cc)
+ends_in [] row (i ∷ []) e = ([], i, refl, refl, cc)
+ends_in [] row (i ∷ j ∷ items) e = absurd (cc)
+ends_in (r ∷ rows) row [] e = absurd (cc)
+ends_in (r ∷ rows) row (i ∷ items) e =
+    let tails : rows ++ row ∷ [] ≡ map row_of items = cc in
+    let head : r ≡ row_of i = cc in
+    let k = ends_in rows row items tails in
+    (i ∷ k.0, k.1, ap (λ t. i ∷ t) k.2, (λ n. head n ∷ k.3 n), k.4)
+
+take_front : (xs ys : List ℕ) → take (length xs) (xs ++ ys) ≡ xs
+take_front [] ys = refl
+take_front (x ∷ xs) ys = λ i. x ∷ take_front xs ys i
+
+all_before : (P : Item → Type 0) (front : List Item) (item : Item) → All P (front ++ item ∷ []) → All P front
+all_before P [] item h = All-nil P
+all_before P (i ∷ front) item h = All-cons P i front (All-head P i (front ++ item ∷ []) h) (all_before P front item (All-tail P i (front ++ item ∷ []) h))
+
+-- the bytes before the last item's
+pub front_bytes : (front : List Item) (item : Item) → take (length (blobs_of (front ++ item ∷ [])) - length item.bytes) (blobs_of (front ++ item ∷ [])) ≡ blobs_of front
+front_bytes front item =
+    let both = blobs_of-push front item in
+    let many : length (blobs_of (front ++ item ∷ [])) - length item.bytes ≡ length (blobs_of front) = omega (arith, ap length both, length-append (blobs_of front) item.bytes) in
+    (λ i. take (many i) (both i)) ∙ take_front (blobs_of front) item.bytes
+
+-- without the last item they are filled still
+pub filled_pop : (rows : List Row) (blobs : List ℕ) (target : ℕ) (front : List Item) (item : Item) → rows ≡ map row_of front → blobs ≡ blobs_of front → (old : List Row) (whole : List ℕ)
+    → IsFilled old whole target (front ++ item ∷ []) → IsFilled rows blobs target front
+filled_pop rows blobs target front item r b old whole filled = record {
+  bounds = filled.bounds;
+  few = omega (arith, length_push front item, filled.few);
+  room = omega (arith, filled.room, ap length b, ap length filled.blobs_are, ap length (blobs_of-push front item), length-append (blobs_of front) item.bytes);
+  each = all_before IsItem front item filled.each;
+  named = all_before IsNamed front item filled.named;
+  rows_are = r;
+  blobs_are = b;
+}

@@ -1,9 +1,9 @@
 //! Packs as they are written.
 
-ghost use Rattle.std.specs.Prelude.{◌≡◌, ◌≤◌, ◌<◌, ◌+◌, ◌-◌, ◌^◌, ◌++◌, [], ◌↔◌, length, IsTrue, IfOk, IfErr, OnOk, OnErr, IsErrOf, vec_len, vec_capacity};
+ghost use Rattle.std.specs.Prelude.{◌≡◌, ◌≤◌, ◌<◌, ◌+◌, ◌-◌, ◌^◌, ◌++◌, [], ◌↔◌, length, IsTrue, IfOk, IfErr, OnOk, OnErr, IsErrOf, IfSome, IfNone, vec_len, vec_capacity};
 ghost use Rattle.std.specs.List.{All, sum_by};
 ghost use Rattle.repo_name.specs.Naming as naming;
-ghost use Rattle.repo_pack.specs.PackLayout.{item_of, blobs_of, IsTruePack, IsWithin};
+ghost use Rattle.repo_pack.specs.PackLayout.{Item, item_of, blobs_of, IsTruePack, IsWithin};
 ghost use Rattle.repo_pack.specs.PackWriting.{IsDue, IsOpen, IsRefusal, with_item, ending_of, placed_from, ArePlaced};
 ghost use Rattle.repo_name.specs.Limits.{blob_limit, blobs_limit, greatest_target, least_target, pack_limit};
 
@@ -202,6 +202,19 @@ impl PackWriter {
         self.check_room(bytes.len())?;
         let row = Row::new(kind, *name, bytes.len() as u32);
         Ok(self.append(row, bytes)?)
+    }
+
+    /// Takes out the last blob, and tells its kind and name; `None` where there is no blob. It takes no memory.
+    pub fn pop(&mut self) -> Option<(BlobKind, Name)>
+        ensures popped { IfSome result (λ gone. (item : Item) × (self.old ≡ with_item self.new item) × (gone.0 ≡ item.kind) × (gone.1 ≡ item.name)) }
+        ensures none { IfNone result ((self.old.items ≡ []) × (self.new ≡ self.old)) }
+    {
+        let Some(Row { kind, name, length }) = self.rows.pop() else {
+            return None;
+        };
+        let kept = self.blobs.len().saturating_sub(length as usize);
+        self.blobs.truncate(kept);
+        Some((kind, name))
     }
 
     /// The pack of the blobs added. It fails for memory alone, and gives the writer back as it was.

@@ -50,6 +50,7 @@ impl Packer {
         ensures ok { OnOk result (self.new.writer ≡ with_item self.old.writer (item_of kind bytes.now)) }
         ensures err { OnErr result (self.new.writer ≡ self.old.writer) }
         ensures sealed { self.new.sealed ≡ self.old.sealed }
+        ensures target { self.new.target ≡ self.old.target }
     {
         self.writer
             .add_named(kind, name, bytes)

@@ -1,0 +1,249 @@
+-- What is known of a backup that is fed once it took an item.
+use Rattle.std.proofs.Common.{arith, ◌≡◌, ◌≢◌, ◌<◌, ◌≤◌, ◌++◌, ◌∷◌, [], ℕ, false, List, length, Option, Some, None, is_some, refl, sym, ap, subst, inl, inr, ◌⊎◌, ◌∙◌, length-append}
+use Rattle.repo_index.specs.IndexText.{facts_in}
+use Rattle.repo_index.specs.declared.facts.Fact.{Fact}
+use Rattle.repo_index.specs.declared.facts.PackFacts.{PackFacts}
+use Rattle.repo_name.specs.Limits.{facts_limit}
+use Rattle.repo_pack.specs.PackLayout as layout
+use Rattle.repo_pack.specs.PackWriting.{IsOpen}
+use Rattle.repo_session.specs.Feeds.{Fed, fed_end}
+use Rattle.repo_session.specs.Order.{Task, opened, IsWorking}
+use Rattle.repo_session.specs.Traces.{Trace, fed_in, feeding}
+use Rattle.repo_name.specs.declared.tokens.Token.{Token}
+use Rattle.repo_writing.specs.Writing.{items_of}
+use Rattle.repo_backup.specs.Backing.{HasWritten}
+use Rattle.repo_backup.specs.Items.{Feeding, FileSoFar, Place, after, closed, place_of, MayTake, NobodyGaveUp, AreTaken, ItemFault, fed_part, fed_of}
+use Rattle.repo_backup.specs.Packings.{IsSealedBy, IsListed, IsLeftOpen, AimsOn, IsJustDue}
+use Rattle.repo_backup.specs.PieceRules.{IsFullPack, AreOver, PieceTooLarge}
+use Rattle.repo_backup.specs.PieceStates.{waits, listed_of, PieceAt, PieceWaits, IsPieceDue, IsPieceDone}
+use Rattle.repo_backup.specs.Pieces.{PieceStands, IsReady, Goes, EndsTooLarge, Refuses, Stays, sealing_at}
+use Rattle.repo_backup.specs.Standings.{Standing, IsCutSoFar, place_at}
+use Rattle.repo_backup.specs.declared.items.FeedError.{FeedError}
+use Rattle.repo_backup.specs.declared.items.Item.{Item}
+use Rattle.repo_backup.specs.declared.packing.Packing.{Packing}
+use Rattle.repo_backup.specs.declared.packing.Sealing.{Sealing}
+use Rattle.repo_backup.specs.declared.piece_backing.PieceBacking.{PieceBacking}
+use Rattle.repo_backup.proofs.Closing.{none_there}
+use Rattle.repo_backup.proofs.FedOn.{fed_items, fed_written}
+use Rattle.repo_backup.proofs.PieceRuling.{config_on, standing_on, over_is}
+use Rattle.repo_backup.proofs.Piecing.{none_sealed}
+
+-- a session that works has asked for something
+pub works_on : (task : Task) (token : Token) (es : Trace) → IsWorking task token es → es ≢ []
+works_on task token es w none = absurd (omega (arith, ap length (sym none ∙ w.1.since), length-append w.1.later (opened task token w.1.text)))
+
+-- ---- what kind of item it is
+
+-- it is neither the end of all nor a giving up
+abbrev pub IsPlain : Item → Type 0
+IsPlain Item.End = ⊥
+IsPlain Item.Abandon = ⊥
+IsPlain item = Unit {0}
+
+pub plain_item : (item : Item) → (item ≡ Item.End → ⊥) → (item ≡ Item.Abandon → ⊥) → IsPlain item
+plain_item (Item.Dir name) e a = tt
+plain_item (Item.File name) e a = tt
+plain_item (Item.Bytes piece) e a = tt
+plain_item Item.Close e a = tt
+plain_item Item.End e a = absurd (e refl)
+plain_item Item.Abandon e a = absurd (a refl)
+
+pub plain_sealing : (item : Item) → IsPlain item → sealing_at item ≡ Sealing.Due
+plain_sealing (Item.Dir name) p = refl
+plain_sealing (Item.File name) p = refl
+plain_sealing (Item.Bytes piece) p = refl
+plain_sealing Item.Close p = refl
+plain_sealing Item.End p = absurd p
+plain_sealing Item.Abandon p = absurd p
+
+-- which of them it is
+pub sort_of : (item : Item) → IsPlain item ⊎ ((item ≡ Item.End) ⊎ (item ≡ Item.Abandon))
+sort_of (Item.Dir name) = inl tt
+sort_of (Item.File name) = inl tt
+sort_of (Item.Bytes piece) = inl tt
+sort_of Item.Close = inl tt
+sort_of Item.End = inr (inl refl)
+sort_of Item.Abandon = inr (inr refl)
+
+-- the open pack takes more; and where no more blob comes, it is empty
+pub left_open : (sealing : Sealing) (listed : Option PackFacts) (p : Packing) → IsLeftOpen sealing listed p → IsOpen p.packer.writer
+left_open Sealing.Due listed p h = h
+left_open Sealing.Last None p h = h.0
+left_open Sealing.Last (Some x) p h = h.0
+
+left_empty : (listed : Option PackFacts) (p : Packing) → IsLeftOpen Sealing.Last listed p → p.packer.writer.items ≡ []
+left_empty None p h = h.1
+left_empty (Some x) p h = h.1
+
+-- nobody gave up by it
+pub nobody_gave_up : (n : ℕ) (item : Item) (items : Feeding) → (item ≡ Item.Abandon → ⊥) → NobodyGaveUp (fed_part n item ∷ items)
+nobody_gave_up n (Item.Dir name) items a = tt
+nobody_gave_up n (Item.File name) items a = tt
+nobody_gave_up n (Item.Bytes piece) items a = tt
+nobody_gave_up n Item.Close items a = tt
+nobody_gave_up n Item.End items a = tt
+nobody_gave_up n Item.Abandon items a = absurd (a refl)
+
+closed_over : (file : Option FileSoFar) (p : Place) → (closed file p).over ≡ p.over
+closed_over None p = refl
+closed_over (Some f) p = refl
+
+-- they don't end by it
+plain_over : (n : ℕ) (item : Item) (p : Place) → IsPlain item → (after p (fed_part n item)).over ≡ p.over
+plain_over n (Item.Dir name) p h = refl
+plain_over n (Item.File name) p h = refl
+plain_over n (Item.Bytes piece) p h = refl
+plain_over n Item.Close p h = closed_over p.file p
+plain_over n Item.End p h = absurd h
+plain_over n Item.Abandon p h = absurd h
+
+-- ---- the item was taken
+
+module _ (facts : List Fact) (b c : PieceBacking) (es : Trace) (h : PieceWaits facts b es) (some : es ≢ []) (waiting : c.waiting ≡ b.waiting) (listed_is : c.listed ≡ b.listed) (counts : c.counts ≡ b.counts) where
+  unended : (place_of (fed_in es)).over ≡ false
+  unended = sym (over_is facts b h.puts [] es h.at) ∙ ap is_some h.ready.unended
+
+  -- the items with it may be taken
+  pub all_taken : (fed : Fed) → MayTake (place_at h.at.st) fed → AreTaken (fed_in (feeding fed es))
+  all_taken fed may = subst AreTaken (sym (fed_items fed es some)) (unended, h.at.kept, subst (λ p. MayTake p fed) h.at.at.lead.place may, h.at.taken)
+
+  module _ (n : ℕ) (item : Item) (other : item ≡ Item.Abandon → ⊥) (goes : Goes facts (sealing_at item) (fed_part n item) b.work c.work) (params : c.work.walk.params ≡ b.work.walk.params) (aims : AimsOn b.work.packing c.work.packing)
+      (listed : Option PackFacts) (left : IsLeftOpen (sealing_at item) listed c.work.packing) where
+    abbrev pub fed : Fed
+    fed = fed_part n item
+
+    abbrev pub step : MayTake (place_at h.at.st) fed × (now : Standing) × (sealed : List layout.Item) × (place_at now ≡ after (place_at h.at.st) fed) × PieceStands c.work facts now (items_of (h.puts ++ [])) sealed
+        × IsSealedBy (sealing_at item) b.work.packing.packer.writer.target sealed
+    step = goes h.at.st (items_of (h.puts ++ [])) h.at.stands
+
+    -- a plain item doesn't end them
+    pub fed_open : IsPlain item → c.work.walk.root ≡ None
+    fed_open plain =
+        let k = step in
+        none_there c.work.walk.root (k.4.at.over ∙ ap (λ (p : Place). p.over) k.3 ∙ plain_over n item (place_at h.at.st) plain ∙ ap (λ (p : Place). p.over) h.at.at.lead.place ∙ unended)
+
+    -- where they ended, the open pack is empty
+    fed_ended : c.work.walk.root ≢ None → c.work.packing.packer.writer.items ≡ []
+    fed_ended some = elim (sort_of item) [
+      | inl plain ↦ absurd (some (fed_open plain))
+      | inr which ↦ elim which [
+        | inl end ↦ left_empty listed c.work.packing (subst (λ x. IsLeftOpen (sealing_at x) listed c.work.packing) end left)
+        | inr up ↦ absurd (other up)
+      ]
+    ]
+
+    is_open : IsOpen c.work.packing.packer.writer
+    is_open = left_open (sealing_at item) listed c.work.packing left
+
+    -- the work stands one item further
+    pub fed_at : PieceAt facts c h.puts [] step.2 (feeding fed es)
+    fed_at =
+        let k = step in
+        let by : c.work.walk.params ≡ h.at.config.params = params ∙ h.at.goes_by.params in
+        let written = fed_written fed es facts (waits b) b.counts h.puts [] h.at.written in
+        let all : waits b ≡ waits c = λ i. sym waiting i ++ listed_of (sym listed_is i) in
+        record {
+          config = h.at.config;
+          st = k.1;
+          at = standing_on fed es h.at.config h.at.st k.1 some h.at.at k.3 (subst (λ q. IsCutSoFar q k.1) by k.4.cut);
+          taken = all_taken fed k.0;
+          kept = subst NobodyGaveUp (sym (fed_items fed es some)) (nobody_gave_up n item (fed_in es) other);
+          goes_by = record { params = by; aim = ap (λ t. t.bytes) aims.0 ∙ h.at.goes_by.aim; aims = aims.1 (h.at.goes_by.aims ∙ sym h.at.goes_by.aim) ∙ ap (λ t. t.bytes) aims.0 ∙ h.at.goes_by.aim };
+          stands = k.4;
+          opened = is_open;
+          ended = fed_ended;
+          written = subst (λ ws. HasWritten facts ws c.counts h.puts [] (feeding fed es)) all (subst (λ m. HasWritten facts (waits b) m h.puts [] (feeding fed es)) (sym counts) written);
+        }
+
+    -- no pack is sealed
+    pub fed_unsealed : c.work.packing.packer.sealed ≡ None → step.2 ≡ []
+    fed_unsealed unsealed = none_sealed c.work.packing.packer.sealed step.2 unsealed step.4.packing.sealed_is
+
+    pub fed_plainly : c.work.packing.packer.sealed ≡ None → PieceAt facts c h.puts [] [] (feeding fed es)
+    unfolding fed_at
+    fed_plainly unsealed = subst (λ l. PieceAt facts c h.puts [] l (feeding fed es)) (fed_unsealed unsealed) fed_at
+
+    -- input is wanted
+    pub fed_waits : IsPlain item → c.work.packing.packer.sealed ≡ None → PieceWaits facts c (feeding fed es)
+    fed_waits plain unsealed = record {
+      puts = h.puts;
+      at = fed_plainly unsealed;
+      ready = record { unsealed = unsealed; opened = is_open; unended = fed_open plain };
+      listed = listed_is ∙ h.listed;
+      room = subst (λ (ws : List PackFacts). length (facts_in ws) < facts_limit) (sym waiting) h.room;
+    }
+
+    -- all ended, and no pack is sealed
+    pub fed_done : c.work.packing.packer.sealed ≡ None → IsPieceDone facts c (feeding fed es)
+    fed_done unsealed =
+        let n : length (facts_in c.waiting) ≡ length (facts_in b.waiting) = ap (λ ws. length (facts_in ws)) waiting in
+        let room = h.room in
+        record { puts = h.puts; at = fed_plainly unsealed; unsealed = unsealed; listed = listed_is ∙ h.listed; few = omega (arith, n, room) }
+
+    -- a pack is sealed
+    pub fed_due : (so : PackFacts) → IsListed (Some so) c.work.packing → IsPieceDue facts c so (feeding fed es)
+    unfolding fed_at
+    fed_due so lists =
+        let k = step in
+        let s = lists k.2 k.4.packing.sealed_is in
+        let many = s.1.holds.holds.pack.count.0 in
+        let whole : IsFullPack (feeding fed es) k.2 ⊎ AreOver (feeding fed es) = by item refl k.5 many in
+        record { puts = h.puts; sealed = k.2; at = fed_at; none = listed_is ∙ h.listed; lists = lists; full = whole; room = subst (λ (ws : List PackFacts). length (facts_in ws) < facts_limit) (sym waiting) h.room }
+      where
+        due : (sealed : List layout.Item) → (sealed ≡ []) ⊎ IsJustDue b.work.packing.packer.writer.target sealed → 1 ≤ length sealed → IsFullPack (feeding fed es) sealed ⊎ AreOver (feeding fed es)
+        due sealed (inl none) many = absurd (omega (arith, ap length none, many))
+        due sealed (inr full) many = inl (h.at.config, config_on fed es h.at.config h.at.at.has, subst (λ (t : ℕ). IsJustDue t sealed) h.at.goes_by.aims full)
+
+        by : (it : Item) → it ≡ item → IsSealedBy (sealing_at item) b.work.packing.packer.writer.target step.2 → 1 ≤ length step.2 → IsFullPack (feeding fed es) step.2 ⊎ AreOver (feeding fed es)
+        by Item.End is sealed many = inr (subst (λ (x : Item). AreOver (feeding (fed_part n x) es)) is (ap (λ l. (place_of l).over) (fed_items fed_end es some)))
+        by (Item.Dir name) is sealed many = due step.2 (subst (λ x. IsSealedBy (sealing_at x) b.work.packing.packer.writer.target step.2) (sym is) sealed) many
+        by (Item.File name) is sealed many = due step.2 (subst (λ x. IsSealedBy (sealing_at x) b.work.packing.packer.writer.target step.2) (sym is) sealed) many
+        by (Item.Bytes piece) is sealed many = due step.2 (subst (λ x. IsSealedBy (sealing_at x) b.work.packing.packer.writer.target step.2) (sym is) sealed) many
+        by Item.Close is sealed many = due step.2 (subst (λ x. IsSealedBy (sealing_at x) b.work.packing.packer.writer.target step.2) (sym is) sealed) many
+        by Item.Abandon is sealed many = due step.2 (subst (λ x. IsSealedBy (sealing_at x) b.work.packing.packer.writer.target step.2) (sym is) sealed) many
+
+  -- a directory's tree text is too large
+  pub fed_large : (fed : Fed) → EndsTooLarge facts fed b.work → PieceTooLarge (feeding fed es)
+  fed_large fed large =
+      let k = large h.at.st (items_of (h.puts ++ [])) h.at.stands in
+      let at = standing_on fed es h.at.config h.at.st k.1 some h.at.at k.3 (subst (λ q. IsCutSoFar q k.1) h.at.goes_by.params k.4) in
+      record { taken = all_taken fed k.0; text = k.2; made = (h.at.config, k.1, at, k.5); large = k.6 }
+
+-- ---- it was refused
+
+module _ (facts : List Fact) (b c : PieceBacking) (es : Trace) (h : PieceWaits facts b es) where
+  pub fed_fault : (fed : Fed) (e : FeedError) → Refuses facts fed b.work e → ItemFault (place_of (fed_in es)) fed e
+  fed_fault fed e refuses = subst (λ p. ItemFault p fed e) h.at.at.lead.place (refuses h.at.st (items_of (h.puts ++ [])) h.at.stands)
+
+  -- input is wanted as before
+  pub fed_still : c.waiting ≡ b.waiting → c.listed ≡ b.listed → c.counts ≡ b.counts → Stays facts b.work c.work → IsReady c.work → c.work.walk.params ≡ b.work.walk.params → AimsOn b.work.packing c.work.packing → PieceWaits facts c es
+  fed_still waiting listed_is counts stays ready params aims =
+      let all : waits b ≡ waits c = λ i. sym waiting i ++ listed_of (sym listed_is i) in
+      record {
+        puts = h.puts;
+        at = record {
+          config = h.at.config;
+          st = h.at.st;
+          at = h.at.at;
+          taken = h.at.taken;
+          kept = h.at.kept;
+          goes_by = record { params = params ∙ h.at.goes_by.params; aim = ap (λ t. t.bytes) aims.0 ∙ h.at.goes_by.aim; aims = aims.1 (h.at.goes_by.aims ∙ sym h.at.goes_by.aim) ∙ ap (λ t. t.bytes) aims.0 ∙ h.at.goes_by.aim };
+          stands = stays h.at.st (items_of (h.puts ++ [])) h.at.stands;
+          opened = ready.opened;
+          ended = λ some. absurd (some ready.unended);
+          written = subst (λ ws. HasWritten facts ws c.counts h.puts [] es) all (subst (λ m. HasWritten facts (waits b) m h.puts [] es) (sym counts) h.at.written);
+        };
+        ready = ready;
+        listed = listed_is ∙ h.listed;
+        room = subst (λ (ws : List PackFacts). length (facts_in ws) < facts_limit) (sym waiting) h.room;
+      }
+
+-- ---- the end of all
+
+-- it is the end, whatever count is told
+pub ended_once : (n m : ℕ) (item : Item) → item ≡ Item.End → fed_part n item ≡ fed_part m item
+ended_once n m item is = ap (fed_part n) is ∙ ap (fed_part m) (sym is)
+
+-- want of memory is told of it where it may come
+pub end_memory : (p : Place) (item : Item) (e : FeedError) → item ≡ Item.End → e ≡ FeedError.Memory → MayTake p (fed_part 0 item) → ItemFault p (fed_of item) e
+end_memory p item e is told may = subst (λ x. ItemFault p (fed_of x) e) (sym is) (subst (λ x. ItemFault p fed_end x) (sym told) (subst (λ x. MayTake p (fed_part 0 x)) is may))

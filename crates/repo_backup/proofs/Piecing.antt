@@ -1,0 +1,280 @@
+-- A work that is fed still stands after bytes.
+use Rattle.std.proofs.Common.{arith, ◌≡◌, ◌≤◌, ◌<◌, ◌+◌, ◌++◌, ◌∷◌, [], ℕ, false, List, length, map, take, drop, cond, Option, Some, None, is_some, refl, sym, ap, subst, inl, inr, ◌∙◌, append_assoc, append-nil, length-append, take-append-drop, length-take-le, take-take, Contains}
+use Rattle.std.proofs.lemmas.List.{map-append, drop-take}
+use Rattle.std.proofs.lemmas.List.Elements.{Contains-push_cases, Contains-append_left, Contains-push}
+use Rattle.std.proofs.Math.ListN.{drop_of_length-le}
+use Rattle.repo_name.specs.Limits.{file_end}
+use Rattle.repo_name.specs.Naming as naming
+use Rattle.repo_name.specs.declared.kinds.BlobKind.TheVariants.{Content}
+use Rattle.repo_chunk.specs.Cuts.{IsCut, HasNoCut, AreFirstCuts}
+use Rattle.repo_chunk.specs.Parameters.{Parameters, AreLawful}
+use Rattle.repo_chunk.proofs.CutLaws.{cuts_lie_in_front}
+use Rattle.repo_chunk.proofs.FirstCuts.{first_cuts_grow, first_cuts_gain}
+use Rattle.repo_index.specs.declared.facts.Fact.{Fact}
+use Rattle.repo_pack.specs.PackLayout.{Item, item_of}
+use Rattle.repo_pack.specs.declared.writers.Sealed.{Sealed}
+use Rattle.repo_session.specs.Feeds.{fed_bytes}
+use Rattle.repo_session.specs.Traces.{Each}
+use Rattle.repo_writing.specs.Sealing.{IsSealed}
+use Rattle.repo_backup.specs.Folders.{joined, tree_of, IsCutBy}
+use Rattle.repo_backup.specs.Items.{FileSoFar, Place, after, with_more, MayGrow}
+use Rattle.repo_backup.specs.Packings.{IsPacking, IsCovered, AllGain, IsSealedBy, PacksOn, all_items}
+use Rattle.repo_backup.specs.Pieces.{IsPieceAt, IsFileAt, AreOuterAt, AreTextsAround, IsRootAt, IsAt, PieceStands, Goes, Stays}
+use Rattle.repo_backup.specs.Plans.{AreTreeTextsBelow}
+use Rattle.repo_backup.specs.Standings.{FileCut, Standing, path_of, entries_at, file_at, place_at, IsCutOpen, AreCutAround, IsCutSoFar, chunk_items, made_below, chunks_made, made_at}
+use Rattle.repo_backup.specs.declared.packing.Sealing.{Sealing}
+use Rattle.repo_backup.specs.declared.pieces.PieceFile.{PieceFile}
+use Rattle.repo_backup.specs.declared.piece_works.PieceWork.{PieceWork}
+use Rattle.repo_writing.proofs.BlobLemmas.{has_before, has_after, has_one}
+use Rattle.repo_backup.proofs.Leading.{made_open}
+use Rattle.repo_backup.proofs.Lengthening.{joined_both, none_cut}
+use Rattle.repo_backup.proofs.PackingLemmas.{each_one_more}
+
+-- all but the open file is the same
+pub record SameWay (w v : PieceWork) : Type 0 where
+  pub params : v.walk.params ≡ w.walk.params
+  pub above : v.walk.above.items ≡ w.walk.above.items
+  pub nodes : v.walk.nodes.items ≡ w.walk.nodes.items
+  pub root : v.walk.root ≡ w.walk.root
+
+-- the open file of a walk, in chunks
+pub opened : (params : Parameters) (f : PieceFile) (o : Option FileCut) → IsFileAt params (Some f) o → (c : FileCut) × (o ≡ Some c) × IsPieceAt params f c
+opened params f None h = absurd h
+opened params f (Some c) h = (c, refl, h)
+
+covered_more : (known : List Fact) (all : List Item) (item x : Item) → IsCovered known all x → IsCovered known (all ++ item ∷ []) x
+covered_more known all item x (inl fact) = inl fact
+covered_more known all item x (inr has) = inr (has_before all (item ∷ []) x.kind x.name has)
+
+each_map : (P Q : Item → Type 0) (items : List Item) → ((item : Item) → P item → Q item) → Each P items → Each Q items
+each_map P Q [] f h = tt
+each_map P Q (item ∷ items) f h = (f item h.0, each_map P Q items f h.1)
+
+-- all were made
+all_of_made : (known : List Fact) (was now : List Item) (item : Item) (made : List Item) (x : Item) → AllGain known was now item → ((y : Item) → Contains was y → Contains made y) → Contains now x → Contains (made ++ item ∷ []) x
+all_of_made known was now item made x (inl same) h c = Contains-append_left made (item ∷ []) x (h x (subst (λ l. Contains l x) same.0 c))
+all_of_made known was now item made x (inr more) h c = elim (Contains-push_cases was item x (subst (λ l. Contains l x) more c)) [
+  | inl before ↦ Contains-append_left made (item ∷ []) x (h x before)
+  | inr this ↦ subst (λ y. Contains (made ++ item ∷ []) y) this (Contains-push made item)
+]
+
+-- what was covered is covered
+all_cover : (known : List Fact) (was now : List Item) (item : Item) (made : List Item) → AllGain known was now item → Each (λ x. IsCovered known was x) made → Each (λ x. IsCovered known now x) made
+all_cover known was now item made (inl same) h = subst (λ l. Each (λ x. IsCovered known l x) made) (sym same.0) h
+all_cover known was now item made (inr more) h = subst (λ l. Each (λ x. IsCovered known l x) made) (sym more)
+    (each_map (λ x. IsCovered known was x) (λ x. IsCovered known (was ++ item ∷ []) x) made (λ x k. covered_more known was item x k) h)
+
+-- and so is the new one
+item_covered : (known : List Fact) (was now : List Item) (item : Item) → AllGain known was now item → IsCovered known now item
+item_covered known was now item (inl same) = subst (λ l. IsCovered known l item) (sym same.0) same.1
+item_covered known was now item (inr more) = subst (λ l. IsCovered known l item) (sym more) (inr (has_after was (item ∷ []) item.kind item.name (has_one item item.kind item.name refl refl)))
+
+-- ---- whatever was fed
+
+-- no blob was made
+pub stands_on : (w v : PieceWork) (known : List Fact) (st now : Standing) (sent sealed : List Item) → v.packing ≡ w.packing → made_at now ≡ made_at st → IsAt v.walk now → IsCutSoFar v.walk.params now
+    → AreTreeTextsBelow now.done × AreTextsAround now.above → PieceStands w known st sent sealed → PieceStands v known now sent sealed
+stands_on w v known st now sent sealed packed made at cut texts h = record {
+  packing = subst (λ q. IsPacking q known sent sealed) (sym packed) h.packing;
+  of_made = λ item among. subst (λ l. Contains l item) (sym made) (h.of_made item (subst (λ q. Contains (all_items sent sealed q) item) packed among));
+  at = at;
+  cut = cut;
+  texts = texts;
+  covered = subst (λ q. Each (λ item. IsCovered known (all_items sent sealed q) item) (made_at now)) (sym packed) (subst (λ l. Each (λ item. IsCovered known (all_items sent sealed w.packing) item) l) (sym made) h.covered);
+}
+
+-- this blob was made, and packed; a pack may be sealed
+pub stands_more : (w v : PieceWork) (known : List Fact) (st now : Standing) (sent : List Item) (item : Item) (sealing : Sealing) → PacksOn known sealing item w.packing v.packing → made_at now ≡ made_at st ++ item ∷ []
+    → IsAt v.walk now → IsCutSoFar v.walk.params now → AreTreeTextsBelow now.done × AreTextsAround now.above → PieceStands w known st sent []
+    → (sealed : List Item) × PieceStands v known now sent sealed × IsSealedBy sealing w.packing.packer.writer.target sealed
+stands_more w v known st now sent item sealing packs made at cut texts h =
+    let k = packs sent h.packing in
+    let was = all_items sent [] w.packing in
+    let all = all_items sent k.0 v.packing in (
+      k.0,
+      record {
+        packing = k.1;
+        of_made = λ x among. subst (λ l. Contains l x) (sym made) (all_of_made known was all item (made_at st) x k.2 h.of_made among);
+        at = at;
+        cut = cut;
+        texts = texts;
+        covered = subst (λ l. Each (λ x. IsCovered known all x) l) (sym made)
+            (each_one_more (λ x. IsCovered known all x) (made_at st) item (all_cover known was all item (made_at st) k.2 h.covered) (item_covered known was all item k.2));
+      },
+      k.3,
+    )
+
+-- ---- bytes
+
+-- the file may have more bytes
+pub may_grow : (params : Parameters) (f : PieceFile) (c : FileCut) (o : Option FileCut) (piece : List ℕ) → o ≡ Some c → IsPieceAt params f c → f.size + length piece < file_end → MayGrow (file_at o) piece
+may_grow params f c o piece is p small = subst (λ x. MayGrow (file_at x) piece) (sym is) (omega (arith, p.size, small))
+
+module _ (w v : PieceWork) (f g : PieceFile) (known : List Fact) (is : w.walk.file ≡ Some f) (same : SameWay w v) (now_is : v.walk.file ≡ Some g) where
+  -- the walk stands with another file
+  at_file : (st : Standing) (c : FileCut) → IsAt w.walk st → IsPieceAt v.walk.params g c → IsAt v.walk (record { done = st.done; above = st.above; file = Some c; over = st.over })
+  at_file st c at piece = record {
+    outers = subst (λ l. AreOuterAt l st.above) (sym same.above) at.outers;
+    nodes = same.nodes ∙ at.nodes;
+    file = subst (λ o. IsFileAt v.walk.params o (Some c)) (sym now_is) piece;
+    over = ap is_some same.root ∙ at.over;
+    root = subst (λ r. IsRootAt r st.done) (sym same.root) at.root;
+  }
+
+  -- the piece was taken, and the chunk goes on
+  pub more_taken : (piece : List ℕ) → f.size + length piece < file_end → v.packing ≡ w.packing → g.name ≡ f.name → g.size ≡ f.size + length piece → g.content.items ≡ f.content.items → g.rest.items ≡ f.rest.items ++ piece
+      → g.params ≡ f.params → HasNoCut f.params g.rest.items → Goes known Sealing.Due (fed_bytes piece) w v
+  more_taken piece small packed named size content rest by uncut st sent h =
+      let o = opened w.walk.params f st.file (subst (λ x. IsFileAt w.walk.params x st.file) is h.at.file) in
+      let c = o.0 in
+      let p = o.2 in
+      let all : joined c.chunks ++ (c.rest ++ piece) ≡ (joined c.chunks ++ c.rest) ++ piece = sym (append_assoc (joined c.chunks) c.rest piece) in
+      let file : FileCut = record { name = c.name; chunks = c.chunks; rest = c.rest ++ piece } in
+      let now : Standing = record { done = st.done; above = st.above; file = Some file; over = st.over } in
+      let cut : IsCutOpen w.walk.params (Some c) = subst (λ x. IsCutOpen w.walk.params x) o.1 h.cut.file in
+      let grown : AreFirstCuts w.walk.params (joined c.chunks ++ (c.rest ++ piece)) (map length c.chunks) (c.rest ++ piece) =
+      subst (λ b. AreFirstCuts w.walk.params b (map length c.chunks) (c.rest ++ piece)) (sym all) (first_cuts_grow w.walk.params (joined c.chunks ++ c.rest) (map length c.chunks) c.rest piece cut.0) in
+      let left : g.rest.items ≡ c.rest ++ piece = rest ∙ ap (λ b. b ++ piece) p.rest in
+      let none : HasNoCut w.walk.params (c.rest ++ piece) = subst (λ q. HasNoCut q (c.rest ++ piece)) p.by (subst (λ b. HasNoCut f.params b) left uncut) in
+      let made : made_at now ≡ made_at st = ap (λ x. (made_below st.done st.above ++ chunks_made x) ++ cond st.over (tree_of st.done ∷ []) []) (sym o.1) in
+      let at : IsAt v.walk now = at_file st file h.at (record {
+        name = named ∙ p.name;
+        size = omega (arith, size, p.size, ap length all, length-append (joined c.chunks ++ c.rest) piece);
+        content = content ∙ p.content;
+        rest = left;
+        by = by ∙ p.by ∙ sym same.params;
+      }) in
+      let cut_now : IsCutSoFar v.walk.params now = record { done = subst (λ q. IsCutBy q st.done) (sym same.params) h.cut.done; above = subst (λ q. AreCutAround q st.above) (sym same.params) h.cut.above; file = subst (λ q. IsCutOpen q (Some file)) (sym same.params) (grown, none) } in (
+        may_grow w.walk.params f c st.file piece o.1 p small,
+        now,
+        [],
+        (λ i. record { entries = entries_at st.done st.above; path = path_of st.above; file = Some (record { name = c.name; bytes = all i }); over = st.over })
+            ∙ ap (λ x. after (place_at (record { done = st.done; above = st.above; file = x; over = st.over })) (fed_bytes piece)) (sym o.1),
+        stands_on w v known st now sent [] packed made at cut_now h.texts h,
+        inl refl,
+      )
+
+  -- nothing was taken
+  pub nothing_taken : g.name ≡ f.name → g.size ≡ f.size → g.content.items ≡ f.content.items → g.rest.items ≡ f.rest.items → g.params ≡ f.params
+      → ((sent : List Item) → IsPacking w.packing known sent [] → IsPacking v.packing known sent []) → v.packing.packer.writer.items ≡ w.packing.packer.writer.items → Stays known w v
+  nothing_taken named size content rest by packs written st sent h =
+      let o = opened w.walk.params f st.file (subst (λ x. IsFileAt w.walk.params x st.file) is h.at.file) in
+      let c = o.0 in
+      let p = o.2 in
+      let all : all_items sent [] v.packing ≡ all_items sent [] w.packing = ap (λ l. (sent ++ []) ++ l) written in
+      let at : IsAt v.walk (record { done = st.done; above = st.above; file = Some c; over = st.over }) =
+      at_file st c h.at (record { name = named ∙ p.name; size = size ∙ p.size; content = content ∙ p.content; rest = rest ∙ p.rest; by = by ∙ p.by ∙ sym same.params }) in
+      record {
+        packing = packs sent h.packing;
+        of_made = λ item among. h.of_made item (subst (λ l. Contains l item) all among);
+        at = subst (λ x. IsAt v.walk (record { done = st.done; above = st.above; file = x; over = st.over })) (sym o.1) at;
+        cut = record { done = subst (λ q. IsCutBy q st.done) (sym same.params) h.cut.done; above = subst (λ q. AreCutAround q st.above) (sym same.params) h.cut.above; file = subst (λ q. IsCutOpen q st.file) (sym same.params) h.cut.file };
+        texts = h.texts;
+        covered = subst (λ l. Each (λ item. IsCovered known l item) (made_at st)) (sym all) h.covered;
+      }
+
+  -- a chunk ended, and was made a blob
+  pub chunk_taken : (piece : List ℕ) (n : ℕ) → f.size + length piece < file_end → w.walk.root ≡ None → 1 ≤ n → n ≤ length piece
+      → g.name ≡ f.name → g.size ≡ f.size + n → g.content.items ≡ f.content.items ++ naming.name (f.rest.items ++ take n piece) ∷ [] → g.rest.items ≡ [] → g.params ≡ f.params
+      → IsCut f.params (f.rest.items ++ piece) (length f.rest.items + n)
+      → PacksOn known Sealing.Due (item_of Content (f.rest.items ++ take n piece)) w.packing v.packing → Goes known Sealing.Due (fed_bytes (take n piece)) w v
+  chunk_taken piece n small unended some within named size content rest by ends packs st sent h =
+      let o = opened w.walk.params f st.file (subst (λ x. IsFileAt w.walk.params x st.file) is h.at.file) in
+      let c = o.0 in
+      let p = o.2 in
+      let lawful = subst AreLawful p.by f.lawful in
+      let part = take n piece in
+      let chunk = c.rest ++ part in
+      let still : st.over ≡ false = sym h.at.over ∙ ap is_some unended in
+      let size_of : length part ≡ n = length-take-le n piece within in
+      let m = length c.rest + n in
+      let long : length chunk ≡ m = omega (arith, length-append c.rest part, size_of) in
+      let whole : chunk ++ drop n piece ≡ c.rest ++ piece = append_assoc c.rest part (drop n piece) ∙ ap (λ b. c.rest ++ b) (take-append-drop n piece) in
+      let cut_all : IsCut w.walk.params (c.rest ++ piece) m = subst (λ q. IsCut q (c.rest ++ piece) m) p.by (subst (λ (b : List ℕ). IsCut f.params (b ++ piece) (length b + n)) p.rest ends) in
+      let cut_here : IsCut w.walk.params chunk m = cuts_lie_in_front w.walk.params chunk (drop n piece) m (subst (λ b. IsCut w.walk.params b m) (sym whole) cut_all) (omega (arith, long)) in
+      let was : IsCutOpen w.walk.params (Some c) = subst (λ x. IsCutOpen w.walk.params x) o.1 h.cut.file in
+      let grown = first_cuts_grow w.walk.params (joined c.chunks ++ c.rest) (map length c.chunks) c.rest part was.0 in
+      let none : drop m chunk ≡ [] = drop_of_length-le chunk (omega (arith, long)) in
+      let gained : AreFirstCuts w.walk.params ((joined c.chunks ++ c.rest) ++ part) (map length c.chunks ++ m ∷ []) [] =
+      subst (λ b. AreFirstCuts w.walk.params ((joined c.chunks ++ c.rest) ++ part) (map length c.chunks ++ m ∷ []) b) none (first_cuts_gain w.walk.params ((joined c.chunks ++ c.rest) ++ part) (map length c.chunks) chunk m grown cut_here) in
+      let chunks = c.chunks ++ chunk ∷ [] in
+      let bytes : joined chunks ++ [] ≡ (joined c.chunks ++ c.rest) ++ part =
+      append-nil (joined chunks) ∙ joined_both c.chunks (chunk ∷ []) ∙ ap (λ b. joined c.chunks ++ b) (append-nil chunk) ∙ sym (append_assoc (joined c.chunks) c.rest part) in
+      let lengths : map length chunks ≡ map length c.chunks ++ m ∷ [] = map-append length c.chunks (chunk ∷ []) ∙ ap (λ k. map length c.chunks ++ k ∷ []) long in
+      let cuts : AreFirstCuts w.walk.params (joined chunks ++ []) (map length chunks) [] =
+      subst (λ b. AreFirstCuts w.walk.params b (map length chunks) []) (sym bytes) (subst (λ l. AreFirstCuts w.walk.params ((joined c.chunks ++ c.rest) ++ part) l []) (sym lengths) gained) in
+      let file : FileCut = record { name = c.name; chunks = chunks; rest = [] } in
+      let now : Standing = record { done = st.done; above = st.above; file = Some file; over = st.over } in
+      let item : Item = item_of Content chunk in
+      let before = made_below st.done st.above in
+      let made : made_at now ≡ made_at st ++ item ∷ [] =
+      made_open now still ∙ ap (λ l. before ++ l) (map-append (λ b. item_of Content b) c.chunks (chunk ∷ [])) ∙ sym (append_assoc before (chunk_items c.chunks) (item ∷ []))
+      ∙ ap (λ l. l ++ item ∷ []) (ap (λ x. before ++ chunks_made x) (sym o.1) ∙ sym (made_open st still)) in
+      let packs_it : PacksOn known Sealing.Due item w.packing v.packing = subst (λ (b : List ℕ). PacksOn known Sealing.Due (item_of Content (b ++ part)) w.packing v.packing) p.rest packs in
+      let at : IsAt v.walk now = at_file st file h.at (record {
+        name = named ∙ p.name;
+        size = omega (arith, size, p.size, ap length bytes, length-append (joined c.chunks ++ c.rest) part, size_of);
+        content = content ∙ (λ i. p.content i ++ naming.name (p.rest i ++ part) ∷ []) ∙ sym (map-append naming.name c.chunks (chunk ∷ []));
+        rest = rest;
+        by = by ∙ p.by ∙ sym same.params;
+      }) in
+      let cut_now : IsCutSoFar v.walk.params now =
+      record { done = subst (λ q. IsCutBy q st.done) (sym same.params) h.cut.done; above = subst (λ q. AreCutAround q st.above) (sym same.params) h.cut.above; file = subst (λ q. IsCutOpen q (Some file)) (sym same.params) (cuts, none_cut w.walk.params lawful) } in
+      let k = stands_more w v known st now sent item Sealing.Due packs_it made at cut_now h.texts h in
+      let few : f.size + length part < file_end = omega (arith, small, size_of, within) in (
+        may_grow w.walk.params f c st.file part o.1 p few,
+        now,
+        k.0,
+        (λ i. record { entries = entries_at st.done st.above; path = path_of st.above; file = Some (record { name = c.name; bytes = bytes i }); over = st.over })
+            ∙ ap (λ x. after (place_at (record { done = st.done; above = st.above; file = x; over = st.over })) (fed_bytes part)) (sym o.1),
+        k.1,
+        k.2,
+      )
+
+-- where no pack is sealed, no items are
+pub none_sealed : (sealed : Option Sealed) (items : List Item) → sealed ≡ None → IsSealed sealed items → items ≡ []
+none_sealed None items e h = h
+none_sealed (Some sealed) items e h = absurd (cc)
+
+grown_twice : (file : Option FileSoFar) (a b : List ℕ) → MayGrow file a → MayGrow (with_more a file) b → MayGrow file (a ++ b)
+grown_twice None a b h k = absurd h
+grown_twice (Some f) a b h k = omega (arith, k, length-append f.bytes a, length-append a b)
+
+-- some bytes, and then some more
+pub bytes_on : (known : List Fact) (a b : List ℕ) (w u v : PieceWork) → u.packing.packer.sealed ≡ None → u.packing.packer.writer.target ≡ w.packing.packer.writer.target
+    → Goes known Sealing.Due (fed_bytes a) w u → Goes known Sealing.Due (fed_bytes b) u v → Goes known Sealing.Due (fed_bytes (a ++ b)) w v
+bytes_on known a b w u v unsealed aim first next st sent h =
+    let k = first st sent h in
+    let none : k.2 ≡ [] = none_sealed u.packing.packer.sealed k.2 unsealed k.4.packing.sealed_is in
+    let n = next k.1 sent (subst (λ l. PieceStands u known k.1 sent l) none k.4) in (
+      grown_twice (file_at st.file) a b k.0 (subst (λ (p : Place). MayGrow p.file b) k.3 n.0),
+      n.1,
+      n.2,
+      n.3 ∙ ap (λ p. after p (fed_bytes b)) k.3 ∙ together (file_at st.file),
+      n.4,
+      subst (λ t. IsSealedBy Sealing.Due t n.2) aim n.5,
+    )
+  where
+    together : (file : Option FileSoFar) → ◌≡◌ {A = Place} (record { entries = entries_at st.done st.above; path = path_of st.above; file = with_more b (with_more a file); over = st.over }) (record { entries = entries_at st.done st.above; path = path_of st.above; file = with_more (a ++ b) file; over = st.over })
+    together None = refl
+    together (Some f) = λ i. record { entries = entries_at st.done st.above; path = path_of st.above; file = Some (record { name = f.name; bytes = append_assoc f.bytes a b i }); over = st.over }
+
+-- no bytes
+pub no_bytes : (known : List Fact) (w : PieceWork) (f : PieceFile) → w.walk.file ≡ Some f → f.size + 0 < file_end → Goes known Sealing.Due (fed_bytes []) w w
+no_bytes known w f is small st sent h =
+    let o = opened w.walk.params f st.file (subst (λ x. IsFileAt w.walk.params x st.file) is h.at.file) in (
+      may_grow w.walk.params f o.0 st.file [] o.1 o.2 small,
+      st,
+      [],
+      none (file_at st.file),
+      h,
+      inl refl,
+    )
+  where
+    none : (file : Option FileSoFar) → ◌≡◌ {A = Place} (record { entries = entries_at st.done st.above; path = path_of st.above; file = file; over = st.over }) (record { entries = entries_at st.done st.above; path = path_of st.above; file = with_more [] file; over = st.over })
+    none None = refl
+    none (Some f) = λ i. record { entries = entries_at st.done st.above; path = path_of st.above; file = Some (record { name = f.name; bytes = sym (append-nil f.bytes) i }); over = st.over }
+
+-- a front, and the front of what is behind it
+pub take_both : (n m : ℕ) (xs : List ℕ) → take (n + m) xs ≡ take n xs ++ take m (drop n xs)
+take_both n m xs = sym (take-append-drop n (take (n + m) xs)) ∙ (λ i. take-take n (n + m) xs (omega arith) i ++ drop-take n m xs i)

@@ -1,0 +1,27 @@
+use Rattle.std.proofs.Common.{◌≡◌, ◌∷◌, [], ℕ, List, false, is_some, refl, sym, ap, subst, inl, ◌∙◌, append-nil}
+use Rattle.repo_backup.specs.Folders.{nothing}
+use Rattle.repo_backup.specs.Pieces.{IsAt}
+use Rattle.repo_backup.specs.Standings.{IsCutSoFar, made_at}
+use Rattle.repo_backup.specs.declared.piece_works.PieceWork.{PieceWork}
+use Rattle.repo_backup.proofs.Leading.{next_dir}
+use Rattle.repo_backup.proofs.Piecing.{stands_on}
+use Rattle.repo_backup.proofs.piece_works.PieceWork.feed_dir.Goals as goal
+
+pub returns-in-Ok-clause-ok : goal.returns-in-Ok-clause-ok
+unfolding next_dir
+returns-in-Ok-clause-ok c = λ known. (
+  refl,
+  λ st sent h.
+      let w = c.args.self.now in
+      let v : PieceWork = record w { walk = c.begin_dir.new.self } in
+      let still : st.over ≡ false = sym h.at.over ∙ ap is_some c.requires.unended in
+      let n = next_dir w.walk.params c.min.ensures.lawful st c.args.name.now h.cut still in
+      let at : IsAt v.walk n.now = subst (λ (x : List ℕ). IsAt v.walk (record { done = nothing; above = record { name = x; done = st.done } ∷ st.above; file = st.file; over = st.over })) c.in_ok-name.ensures.ok (c.in-Ok.ensures.ok st h.at) in (
+        c.in_ok-check_name.ensures.ok st h.at,
+        n.now,
+        [],
+        n.place,
+        stands_on w v known st n.now sent [] refl (n.made ∙ append-nil (made_at st)) at (subst (λ q. IsCutSoFar q n.now) (sym c.begin_dir.ensures.params) n.cut) (tt, (h.texts.0, h.texts.1)) h,
+        inl refl,
+      ),
+)

@@ -1,0 +1,175 @@
+-- What is known while a backup is fed items.
+use Rattle.std.specs.Prelude.{◌≡◌, ◌≢◌, ◌⊎◌, ◌<◌, ◌≤◌, ◌++◌, ◌∷◌, [], ℕ, false, List, length, Option, Some, None}
+use Rattle.repo_name.specs.Limits.{facts_limit}
+use Rattle.repo_name.specs.Naming as naming
+use Rattle.repo_name.specs.declared.kinds.Kind.{Kind}
+use Rattle.repo_name.specs.declared.names.Name.{Name}
+use Rattle.repo_index.specs.IndexText.{IsIndexText, facts_in}
+use Rattle.repo_index.specs.declared.facts.Fact.{Fact}
+use Rattle.repo_index.specs.declared.facts.PackFacts.{PackFacts}
+use Rattle.repo_pack.specs.PackLayout.{Item}
+use Rattle.repo_pack.specs.PackWriting.{IsOpen}
+use Rattle.repo_session.specs.Askers.{Asker, Holding}
+use Rattle.repo_session.specs.Order.{Task}
+use Rattle.repo_session.specs.Readings.{KnowsIndexes}
+use Rattle.repo_session.specs.Traces.{Trace, fed_in, objects_put}
+use Rattle.repo_session.specs.declared.catalogs.Catalog.{Catalog}
+use Rattle.repo_session.specs.declared.jobs.Step.{Step}
+use Rattle.repo_session.specs.declared.versions.Versions.{Versions}
+use Rattle.repo_tree.specs.SnapshotText.{IsSnapshotText}
+use Rattle.repo_tree.specs.declared.configs.Config.{Config}
+use Rattle.repo_tree.specs.declared.snapshots.Snapshot.{Snapshot}
+use Rattle.repo_wire.specs.declared.messages.Ask.{Ask}
+use Rattle.repo_writing.specs.Writing.{Put, items_of, AreCounts, FewWait}
+use Rattle.repo_backup.specs.Backing.{HasWritten}
+use Rattle.repo_backup.specs.Items.{NobodyGaveUp, AreTaken}
+use Rattle.repo_backup.specs.Packings.{IsListed}
+use Rattle.repo_backup.specs.PieceRules.{HasConfig, IsStandingAt, IsFullPack, AreOver}
+use Rattle.repo_backup.specs.Pieces.{PieceStands, IsReady, reopened, at_beginning}
+use Rattle.repo_backup.specs.Standings.{Standing}
+use Rattle.repo_backup.specs.declared.piece_backing.PieceBacking.{PieceBacking}
+use Rattle.repo_backup.specs.declared.piece_backing.PieceNext.{PieceNext}
+use Rattle.repo_backup.specs.declared.piece_works.PieceWork.{PieceWork}
+
+-- a backup is made under a shared lock
+abbrev pub piece_task : Asker → Task
+piece_task who = record { who = who; exclusive = false; snapshot = None; versions = Versions.One; notes = false }
+
+-- ---- the work at a trace
+
+-- how one pack is listed, or none is
+abbrev pub listed_of : Option PackFacts → List PackFacts
+listed_of None = []
+listed_of (Some listed) = listed ∷ []
+
+-- the packs that wait to be listed, the one that is being put at their end
+abbrev pub waits : PieceBacking → List PackFacts
+waits b = b.waiting ++ listed_of b.listed
+
+-- it goes by the config
+pub record GoesBy (config : Config) (w : PieceWork) : Type 0 where
+  pub params : w.walk.params ≡ config.params
+  pub aim : w.packing.packer.target.bytes ≡ config.target
+  pub aims : w.packing.packer.writer.target ≡ config.target
+
+-- it stands where the items lead that were taken: of the packs put, and of the one that is put next, if one is, these are the blobs; this pack is sealed
+pub record PieceAt (facts : List Fact) (b : PieceBacking) (puts next : List Put) (sealed : List Item) (es : Trace) : Type 0 where
+  pub config : Config
+  pub st : Standing
+  pub at : IsStandingAt es config st
+  pub taken : AreTaken (fed_in es)
+  pub kept : NobodyGaveUp (fed_in es)
+  pub goes_by : GoesBy config b.work
+  pub stands : PieceStands b.work facts st (items_of (puts ++ next)) sealed
+  pub opened : IsOpen b.work.packing.packer.writer
+  pub ended : b.work.walk.root ≢ None → b.work.packing.packer.writer.items ≡ []
+  pub written : HasWritten facts (waits b) b.counts puts next es
+
+-- ---- what is pending
+
+-- nothing was fed or put
+pub record NothingFed (b : PieceBacking) (es : Trace) : Type 0 where
+  pub config : Config
+  pub has : HasConfig es config
+  pub none : fed_in es ≡ []
+  pub none_put : (k : Kind) → objects_put k es ≡ []
+  pub goes_by : GoesBy config b.work
+  pub stands : (facts : List Fact) → PieceStands b.work facts at_beginning [] []
+  pub ready : IsReady b.work
+  pub waiting : b.waiting ≡ []
+  pub listed : b.listed ≡ None
+  pub counted : AreCounts b.counts []
+
+-- input is wanted
+pub record PieceWaits (facts : List Fact) (b : PieceBacking) (es : Trace) : Type 0 where
+  pub puts : List Put
+  pub at : PieceAt facts b puts [] [] es
+  pub ready : IsReady b.work
+  pub listed : b.listed ≡ None
+  pub room : length (facts_in b.waiting) < facts_limit
+
+-- a pack is being put
+pub record PiecePutsPack (facts : List Fact) (b : PieceBacking) (n : Name) (x : List ℕ) (es : Trace) : Type 0 where
+  pub puts : List Put
+  pub put : Put
+  pub at : PieceAt facts b puts (put ∷ []) [] es
+  pub unsealed : b.work.packing.packer.sealed ≡ None
+  pub pack_is : put.pack ≡ record { name = n; bytes = x }
+  pub few : FewWait (waits b)
+
+-- an index of the packs that wait is being put
+pub record PiecePutsIndex (facts : List Fact) (b : PieceBacking) (x : List ℕ) (es : Trace) : Type 0 where
+  pub puts : List Put
+  pub at : PieceAt facts b puts [] [] es
+  pub unsealed : b.work.packing.packer.sealed ≡ None
+  pub listed : b.listed ≡ None
+  pub reads : IsIndexText x b.waiting
+
+-- the snapshot is being put
+pub record PiecePutsSnapshot (facts : List Fact) (b : PieceBacking) (es : Trace) : Type 0 where
+  pub puts : List Put
+  pub written : HasWritten facts [] b.counts puts [] es
+
+-- it works
+abbrev pub AtPieces : Option PieceBacking → (PieceBacking → Type 0) → Type 0
+AtPieces backing P = (b : PieceBacking) × (backing ≡ Some b) × P b
+
+-- what is known while the indexes are read
+abbrev pub KnowsPieceReading : Catalog → Option PieceBacking → Ask → Trace → Type 0
+KnowsPieceReading c backing ask es = KnowsIndexes c ask es × AtPieces backing (λ b. NothingFed b es)
+
+-- what is known while this is put
+abbrev pub KnowsPiecePut : List Fact → Option PieceBacking → Ask → Trace → Type 0
+KnowsPiecePut facts backing (Ask.Put token Kind.Pack n x) es = AtPieces backing (λ b. PiecePutsPack facts b n x es)
+KnowsPiecePut facts backing (Ask.Put token Kind.Index n x) es = AtPieces backing (λ b. PiecePutsIndex facts b x es)
+KnowsPiecePut facts backing (Ask.Put token Kind.Snapshot n x) es = AtPieces backing (λ b. PiecePutsSnapshot facts b es)
+KnowsPiecePut facts backing ask es = ⊥
+
+-- what is known where this is pending, and where input is wanted
+abbrev pub KnowsPieces : Catalog → Option PieceBacking → Ask → Trace → Type 0
+KnowsPieces c backing ask es = KnowsPieceReading c backing ask es ⊎ KnowsPiecePut c.lookup backing ask es
+
+abbrev pub WantsPieces : Catalog → Option PieceBacking → Trace → Type 0
+WantsPieces c backing es = AtPieces backing (λ b. PieceWaits c.lookup b es)
+
+-- ---- what is sent next
+
+-- a pack is sealed and listed so, which is full, or the last one
+pub record IsPieceDue (facts : List Fact) (b : PieceBacking) (listed : PackFacts) (es : Trace) : Type 0 where
+  pub puts : List Put
+  pub sealed : List Item
+  pub at : PieceAt facts b puts [] sealed es
+  pub none : b.listed ≡ None
+  pub lists : IsListed (Some listed) b.work.packing
+  pub full : IsFullPack es sealed ⊎ AreOver es
+  pub room : length (facts_in b.waiting) < facts_limit
+
+-- no pack is sealed or being put
+pub record IsPieceDone (facts : List Fact) (b : PieceBacking) (es : Trace) : Type 0 where
+  pub puts : List Put
+  pub at : PieceAt facts b puts [] [] es
+  pub unsealed : b.work.packing.packer.sealed ≡ None
+  pub listed : b.listed ≡ None
+  pub few : FewWait b.waiting
+
+-- what puts the snapshot of a tree
+pub record PutsSnapshotOf (holding : Holding) (root : Name) (step : Step) : Type 0 where
+  pub text : List ℕ
+  pub snapshot : Snapshot
+  pub reads : IsSnapshotText text snapshot
+  pub host : snapshot.host ≡ holding.who.host
+  pub time : snapshot.time ≡ holding.who.time
+  pub token : snapshot.token ≡ holding.token
+  pub tree : snapshot.tree ≡ root
+  pub version : snapshot.version ≡ 1
+  pub puts : step ≡ Step.Ask (Ask.Put holding.token Kind.Snapshot (naming.name text) text)
+
+-- an index, where 20,000 blobs or more wait, or as all ended, where one waits; then the snapshot; before that, more items
+abbrev pub IsNextPiece : PieceBacking → PieceNext → Type 0
+IsNextPiece b PieceNext.Index = (b.waiting ≢ []) × ((facts_limit ≤ length (facts_in b.waiting)) ⊎ (b.work.walk.root ≢ None))
+IsNextPiece b (PieceNext.Snapshot root) = (b.waiting ≡ []) × (b.work.walk.root ≡ Some root)
+IsNextPiece b PieceNext.Input = (length (facts_in b.waiting) < facts_limit) × (b.work.walk.root ≡ None)
+
+-- its end is taken back
+abbrev pub reopened_backing : PieceBacking → PieceBacking
+reopened_backing b = record b { work = reopened b.work }

@@ -1,0 +1,187 @@
+-- Where a walk that is fed items stands.
+use Rattle.std.specs.Prelude.{◌≡◌, ◌≢◌, ◌<◌, ◌≤◌, ◌+◌, ◌++◌, ◌∷◌, [], ⊤, ℕ, false, List, length, map, take, Option, Some, None, is_some, Contains}
+use Rattle.repo_name.specs.Limits.{blob_limit}
+use Rattle.repo_name.specs.Naming as naming
+use Rattle.repo_name.specs.declared.kinds.BlobKind.TheVariants.{Content, Tree}
+use Rattle.repo_name.specs.declared.names.Name.{Name}
+use Rattle.repo_chunk.specs.Cuts.{IsCut}
+use Rattle.repo_chunk.specs.Parameters.{Parameters}
+use Rattle.repo_index.specs.declared.facts.Fact.{Fact}
+use Rattle.repo_index.specs.declared.facts.PackFacts.{PackFacts}
+use Rattle.repo_pack.specs.PackLayout.{item_of}
+use Rattle.repo_pack.specs.PackLayout as layout
+use Rattle.repo_pack.specs.PackWriting.{IsOpen}
+use Rattle.repo_session.specs.Feeds.{Fed, fed_bytes}
+use Rattle.repo_session.specs.Traces.{Each}
+use Rattle.repo_tree.specs.TreeText.{IsTreeText}
+use Rattle.repo_tree.specs.TreeWriting.{tree_text}
+use Rattle.repo_backup.specs.Folders.{Folder, nothing, joined, nodes_of}
+use Rattle.repo_backup.specs.Items.{after, MayTake, ItemFault, IsCountOf, fed_part, size_of}
+use Rattle.repo_backup.specs.Packings.{IsPacking, IsCovered, IsSealedBy, IsListed, IsLeftOpen, GrowsBy, PacksOn, all_items}
+use Rattle.repo_backup.specs.Plans.{AreTreeTextsBelow}
+use Rattle.repo_backup.specs.Standings.{Around, FileCut, Standing, place_at, IsCutSoFar, made_at}
+use Rattle.repo_backup.specs.declared.packing.Packing.{Packing}
+use Rattle.repo_backup.specs.declared.packing.Sealing.{Sealing}
+use Rattle.repo_backup.specs.declared.items.FeedError.{FeedError}
+use Rattle.repo_backup.specs.declared.items.Item.{Item}
+use Rattle.repo_backup.specs.declared.pieces.PieceFile.{PieceFile}
+use Rattle.repo_backup.specs.declared.pieces.Scanned.{Scanned}
+use Rattle.repo_backup.specs.declared.pieces.PieceWalk.{PieceWalk}
+use Rattle.repo_backup.specs.declared.piece_works.PieceWork.{PieceWork}
+use Rattle.repo_backup.specs.declared.piece_works.Took.{Took}
+use Rattle.repo_backup.specs.declared.walks.Outer.{Outer}
+
+-- ---- where the walk stands
+
+-- the open file: its name and size, its chunks' names, the bytes behind them, and the parameters of its chunks
+pub record IsPieceAt (params : Parameters) (f : PieceFile) (o : FileCut) : Type 0 where
+  pub name : f.name ≡ o.name
+  pub size : f.size ≡ length (joined o.chunks ++ o.rest)
+  pub content : f.content.items ≡ map naming.name o.chunks
+  pub rest : f.rest.items ≡ o.rest
+  pub by : f.params ≡ params
+
+abbrev pub IsFileAt : Parameters → Option PieceFile → Option FileCut → Type 0
+IsFileAt params None None = ⊤
+IsFileAt params None (Some o) = ⊥
+IsFileAt params (Some f) None = ⊥
+IsFileAt params (Some f) (Some o) = IsPieceAt params f o
+
+-- the directories around the open one, the nearest last: the nodes made, and the name of the one entered
+abbrev pub AreOuterAt : List Outer → List Around → Type 0
+AreOuterAt outers [] = outers ≡ []
+AreOuterAt outers (a ∷ above) = (before : List Outer) × (outer : Outer) × (outers ≡ before ++ outer ∷ []) × (outer.name ≡ a.name) × (outer.nodes.items ≡ nodes_of a.done) × AreOuterAt before above
+
+-- the root's tree, once all ended
+abbrev pub IsRootAt : Option Name → Folder → Type 0
+IsRootAt None done = ⊤
+IsRootAt (Some root) done = (root ≡ naming.name (tree_text (nodes_of done))) × IsTreeText (tree_text (nodes_of done)) (nodes_of done)
+
+-- the walk stands here
+pub record IsAt (w : PieceWalk) (st : Standing) : Type 0 where
+  pub outers : AreOuterAt w.above.items st.above
+  pub nodes : w.nodes.items ≡ nodes_of st.done
+  pub file : IsFileAt w.params w.file st.file
+  pub over : is_some w.root ≡ st.over
+  pub root : IsRootAt w.root st.done
+
+-- ---- what a piece came to
+
+-- the piece was taken, and the chunk goes on; or the chunk ended after so many of its bytes, which are the chunk's end
+abbrev pub ScansOn : List ℕ → PieceFile → Scanned → PieceFile → Type 0
+ScansOn piece old Scanned.More new = (new.rest.items ≡ old.rest.items ++ piece) × (new.size ≡ old.size + length piece)
+ScansOn piece old (Scanned.Chunk n chunk) new = (1 ≤ n) × (n ≤ length piece) × (chunk.items ≡ old.rest.items ++ take n piece) × IsCut old.params (old.rest.items ++ piece) (length old.rest.items + n)
+    × (new.rest.items ≡ []) × (new.size ≡ old.size + n)
+
+-- these bytes, or those that the file has behind its chunks
+abbrev pub first_rest : Option (List ℕ) → PieceFile → List ℕ
+first_rest None f = f.rest.items
+first_rest (Some rest) f = rest
+
+-- a chunk ended where the file's bytes end
+abbrev pub HasNoRest : Option PieceFile → Type 0
+HasNoRest None = ⊥
+HasNoRest (Some f) = f.rest.items ≡ []
+
+-- ---- the work
+
+-- the directories that were closed have tree texts
+abbrev pub AreTextsAround : List Around → Type 0
+AreTextsAround [] = ⊤
+AreTextsAround (a ∷ above) = AreTreeTextsBelow a.done × AreTextsAround above
+
+-- the work stands here: the packs as they are known; all their blobs were made; and each blob made so far is known or in them
+pub record PieceStands (w : PieceWork) (known : List Fact) (st : Standing) (sent sealed : List layout.Item) : Type 0 where
+  pub packing : IsPacking w.packing known sent sealed
+  pub of_made : (item : layout.Item) → Contains (all_items sent sealed w.packing) item → Contains (made_at st) item
+  pub at : IsAt w.walk st
+  pub cut : IsCutSoFar w.walk.params st
+  pub texts : AreTreeTextsBelow st.done × AreTextsAround st.above
+  pub covered : Each (λ item. IsCovered known (all_items sent sealed w.packing) item) (made_at st)
+
+-- nothing was fed
+abbrev pub at_beginning : Standing
+at_beginning = record { done = nothing; above = []; file = None; over = false }
+
+-- it may be fed: no pack is sealed, the open one takes more, and not all ended
+pub record IsReady (w : PieceWork) : Type 0 where
+  pub unsealed : w.packing.packer.sealed ≡ None
+  pub opened : IsOpen w.packing.packer.writer
+  pub unended : w.walk.root ≡ None
+
+-- wherever it stood, the item may be taken, and it stands one item further; a pack may be sealed
+abbrev pub Goes : List Fact → Sealing → Fed → PieceWork → PieceWork → Type 0
+Goes known sealing item old new = (st : Standing) (sent : List layout.Item) → PieceStands old known st sent []
+    → MayTake (place_at st) item × (now : Standing) × (sealed : List layout.Item) × (place_at now ≡ after (place_at st) item) × PieceStands new known now sent sealed
+    × IsSealedBy sealing old.packing.packer.writer.target sealed
+
+-- wherever it stood, the item may be taken, and makes a tree whose text is too large
+abbrev pub EndsTooLarge : List Fact → Fed → PieceWork → Type 0
+EndsTooLarge known item old = (st : Standing) (sent : List layout.Item) → PieceStands old known st sent []
+    → MayTake (place_at st) item × (now : Standing) × (text : List ℕ) × (place_at now ≡ after (place_at st) item) × IsCutSoFar old.walk.params now
+    × Contains (made_at now) (item_of Tree text) × (blob_limit < length text)
+
+-- wherever it stood, this is the item's first fault
+abbrev pub Refuses : List Fact → Fed → PieceWork → FeedError → Type 0
+Refuses known item old e = (st : Standing) (sent : List layout.Item) → PieceStands old known st sent [] → ItemFault (place_at st) item e
+
+-- the file is as it was
+abbrev pub IsSameFile : PieceFile → PieceFile → Type 0
+IsSameFile f g = (g.name ≡ f.name) × (g.size ≡ f.size) × (g.content.items ≡ f.content.items) × (g.rest.items ≡ f.rest.items) × (g.params ≡ f.params)
+
+-- a work with this open file and these packs
+abbrev pub with_file : PieceWork → PieceFile → Packing → PieceWork
+with_file w f p = record w { walk = record w.walk { file = Some f }; packing = p }
+
+-- what was taken of a piece: all of it, and the chunk goes on; or so many of its bytes, at which this chunk ended, which was made a blob
+abbrev pub Bites : List Fact → List ℕ → PieceFile → Packing → ℕ → Option (List ℕ) → Option PackFacts → PieceFile → Packing → Type 0
+Bites known piece f p n None listed g q = (n ≡ length piece) × (listed ≡ None) × (g.rest.items ≡ f.rest.items ++ piece) × (g.content.items ≡ f.content.items) × (q ≡ p)
+Bites known piece f p n (Some chunk) listed g q = (chunk ≡ f.rest.items ++ take n piece) × IsCut f.params (f.rest.items ++ piece) (length f.rest.items + n) × (g.rest.items ≡ [])
+    × (g.content.items ≡ f.content.items ++ naming.name chunk ∷ []) × IsListed listed q × (listed ≡ None → GrowsBy p q) × PacksOn known Sealing.Due (item_of Content chunk) p q
+
+-- what became of a piece: so many of its bytes were taken, at least one, where there are some; fewer than all only where a pack was sealed, and then a chunk ended there
+abbrev pub TakesBytes : List Fact → List ℕ → PieceWork → Took → PieceWork → Type 0
+TakesBytes known piece old (Took.All n listed) new = (n ≤ length piece) × (1 ≤ length piece → 1 ≤ n) × (listed ≡ None → n ≡ length piece) × (listed ≢ None → HasNoRest new.walk.file)
+    × Goes known Sealing.Due (fed_bytes (take n piece)) old new
+TakesBytes known piece old Took.TooLarge new = ⊥
+
+-- what became of another item
+abbrev pub TakesItem : List Fact → Sealing → Fed → PieceWork → Took → PieceWork → Type 0
+TakesItem known sealing item old (Took.All n listed) new = (n ≡ 0) × Goes known sealing item old new
+TakesItem known sealing item old Took.TooLarge new = EndsTooLarge known item old
+
+-- how the packs stand then
+abbrev pub LeavesPacked : Sealing → Took → PieceWork → Type 0
+LeavesPacked sealing (Took.All n listed) new = IsListed listed new.packing × IsLeftOpen sealing listed new.packing
+LeavesPacked sealing Took.TooLarge new = ⊤
+
+-- wherever it stood, it stands
+abbrev pub Stays : List Fact → PieceWork → PieceWork → Type 0
+Stays known old new = (st : Standing) (sent : List layout.Item) → PieceStands old known st sent [] → PieceStands new known st sent []
+
+-- a work whose end is taken back
+abbrev pub reopened : PieceWork → PieceWork
+reopened w = record w { walk = record w.walk { root = None } }
+
+-- where no pack was sealed at the end, the end can be taken back
+abbrev pub Reopens : List Fact → PieceWork → Took → PieceWork → Type 0
+Reopens known old (Took.All n None) new = Stays known old (reopened new)
+Reopens known old (Took.All n (Some listed)) new = ⊤
+Reopens known old Took.TooLarge new = ⊤
+
+-- ---- any item
+
+-- at the end of all no more blob comes
+abbrev pub sealing_at : Item → Sealing
+sealing_at Item.End = Sealing.Last
+sealing_at item = Sealing.Due
+
+-- what became of an item: of a piece so many bytes were taken, fewer than all only where a pack was sealed
+abbrev pub WorkTakes : List Fact → Item → PieceWork → Took → PieceWork → Type 0
+WorkTakes known item old (Took.All n listed) new = IsCountOf n item × (n < size_of item → listed ≢ None) × Goes known (sealing_at item) (fed_part n item) old new
+WorkTakes known item old Took.TooLarge new = (size_of item ≡ 0) × EndsTooLarge known (fed_part 0 item) old
+
+-- where it is the end of all, and no pack was sealed, it can be taken back
+abbrev pub ReopensAt : List Fact → Item → PieceWork → Took → PieceWork → Type 0
+ReopensAt known Item.End old took new = Reopens known old took new
+ReopensAt known item old took new = ⊤

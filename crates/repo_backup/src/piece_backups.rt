@@ -1,0 +1,130 @@
+//! The backup that is fed items.
+
+ghost use Rattle.std.specs.Prelude.{◌≡◌, ◌<◌, ◌↔◌, [], IsTrue, IfOk, IfErr};
+ghost use Rattle.repo_session.specs.Sessions.{who_in, next_in, ended_in};
+ghost use Rattle.repo_session.specs.Traces.{Trace, fed_in, feeding};
+ghost use Rattle.repo_backup.specs.Items.{ItemFault, place_of, IsCountOf, fed_of, fed_part, size_of};
+ghost use Rattle.repo_backup.specs.PieceBackups.{FitsPieces, IsHungry};
+ghost use Rattle.repo_backup.specs.declared.items.FeedError.{FeedError};
+
+use crate::items::{FeedError, Item};
+use crate::piece_jobs::PieceJob;
+use repo_name::Token;
+use repo_session::{Catalog, Client, Emission, End, Outcome, Session, Who};
+use repo_wire::{Reply, Request};
+use std::alloc::{AllocError, Global};
+
+/// A client that backs up what it is fed, item by item: see [`Item`]. It wants input once every index was read, where
+/// nothing is pending and it hasn't ended; it puts a pack as soon as one is due, and a snapshot once the items ended. Of
+/// what it was fed it keeps what is in the open pack, the unfinished chunk, and names.
+#[derive(Drop)]
+pub struct PieceBackup {
+    session: Session<PieceJob>,
+}
+
+impl PieceBackup {
+    /// A backup whose ticket is pending. It takes no memory.
+    pub fn new(alloc: Global, who: Who) -> PieceBackup
+        ensures fits { FitsPieces result [] }
+        ensures who { who_in result.session ≡ who }
+    {
+        let job = PieceJob {
+            backing: None,
+            catalog: Catalog::new(alloc),
+            alloc,
+        };
+        PieceBackup {
+            session: Session::new(alloc, who, job),
+        }
+    }
+
+    /// Whether it wants input: it has opened, nothing is pending, and it hasn't ended.
+    pub fn wants(&self) -> bool
+        ensures { IsTrue result ↔ IsHungry self.now }
+    {
+        self.session.pending().is_none() && self.session.outcome().is_none()
+    }
+
+    /// Takes an item. It gives how many bytes of a piece were taken: all, or fewer where a pack became due, right behind the
+    /// chunk that made it due, and is pending now; none of another item.
+    ///
+    /// An error is the first of [`FeedError`], in its order, that stands. Then it is as before, nothing of the item is put
+    /// ever, and it may be fed again.
+    pub fn feed(&mut self, item: Item) -> Result<usize, FeedError>
+        ensures took { IfOk result (λ n. IsHungry self.old × IsCountOf n item.entry × ((es : Trace) → FitsPieces self.old es → FitsPieces self.new (feeding (fed_part n item.entry) es))) }
+        ensures part { IfOk result (λ n. (es : Trace) → FitsPieces self.old es → n < size_of item.entry → ¬ IsHungry self.new) }
+        ensures unwanted { IfErr result (λ e. ¬ IsHungry self.old → e ≡ FeedError.NotWanted) }
+        ensures fault { IfErr result (λ e. IsHungry self.old → (es : Trace) → FitsPieces self.old es → ItemFault (place_of (fed_in es)) (fed_of item.entry) e) }
+        ensures stays { IfErr result (λ e. (es : Trace) → FitsPieces self.old es → FitsPieces self.new es) }
+        ensures next { IfErr result (λ e. (next_in self.new.session ≡ next_in self.old.session) × (ended_in self.new.session ≡ ended_in self.old.session)) }
+        ensures who { who_in self.new.session ≡ who_in self.old.session }
+    {
+        if !self.wants() {
+            return Err(FeedError::NotWanted);
+        }
+        let (step, count) = self.session.job.feed(&self.session.head.holder, item)?;
+        // What the job does is never to go away, so this end isn't told.
+        self.session.head.follow(step, End::Abandoned);
+        Ok(count)
+    }
+}
+
+impl Client for PieceBackup {
+    ghost use Rattle.std.specs.Prelude.{[], ⊤};
+    ghost use Rattle.repo_session.specs.Askers.{Asker};
+    ghost use Rattle.repo_session.specs.Sessions.{who_in, next_in, ended_in, token_in};
+    ghost use Rattle.repo_backup.specs.PieceRules.{PieceAllows, PieceConcludes, WantsInput};
+    ghost use Rattle.repo_backup.specs.PieceStates.{piece_task};
+    ghost use Rattle.repo_backup.specs.PieceBackups.{FitsPieces};
+    ghost use Rattle.repo_backup.specs.PieceObedience.{pieces_obey, pieces_tell};
+
+    ghost Job = { Asker };
+
+    ghost job = { λ b. who_in b.session };
+
+    ghost task = { piece_task };
+
+    ghost calm = { λ j. ⊤ };
+
+    ghost wanting = { λ j. WantsInput };
+
+    ghost allows = { λ j. PieceAllows };
+
+    ghost gives = { λ j es e. ⊥ };
+
+    ghost concludes = { λ j. PieceConcludes };
+
+    ghost fits = { FitsPieces };
+
+    ghost next = { λ b. next_in b.session };
+
+    ghost ended = { λ b. ended_in b.session };
+
+    ghost given = { λ b. [] };
+
+    ghost token_of = { λ b. token_in b.session };
+
+    ghost obedient = { pieces_obey };
+
+    ghost ticketed = { pieces_tell };
+
+    fn pending(&self) -> Option<&Request> {
+        self.session.pending()
+    }
+
+    fn take(&mut self, reply: &Reply) -> Result<(), AllocError> {
+        self.session.take(reply)
+    }
+
+    fn outcome(&self) -> Option<&Outcome> {
+        self.session.outcome()
+    }
+
+    fn emitted(&self) -> &[Emission] {
+        &[]
+    }
+
+    fn token(&self) -> Option<Token> {
+        self.session.token()
+    }
+}

@@ -1,0 +1,255 @@
+//! The job of a backup that is fed items: what it makes of each reply, and of each item.
+
+ghost use Rattle.std.specs.Prelude.{◌≡◌, ◌↔◌, ℕ, List, IsTrue, option_map, IfOk, IfErr, OnErr};
+ghost use Rattle.repo_name.specs.declared.names.Name.{Name};
+ghost use Rattle.repo_name.specs.declared.tokens.Token.{Token};
+ghost use Rattle.repo_name.specs.declared.kinds.Kind.{Kind};
+ghost use Rattle.repo_wire.specs.declared.messages.Ask.{Ask};
+ghost use Rattle.repo_wire.specs.declared.messages.Say.{Say};
+ghost use Rattle.repo_session.specs.Askers.{Holding};
+ghost use Rattle.repo_session.specs.Jobs.{IsShortStep};
+ghost use Rattle.repo_session.specs.Traces.{Trace};
+ghost use Rattle.repo_session.specs.declared.jobs.Step.{Step};
+ghost use Rattle.repo_backup.specs.PieceStates.{IsPieceDue, IsPieceDone, reopened_backing};
+ghost use Rattle.repo_backup.specs.PieceBackups.{PieceReplies, PieceSends, PieceBusy, PieceFeeds, PieceRefuses, PieceKnows, PieceReads, IsPieceOpen, KeepsPut};
+ghost use Rattle.repo_backup.specs.Items.{IsCountOf};
+ghost use Rattle.repo_backup.specs.declared.items.FeedError.{FeedError};
+
+use crate::items::{FeedError, Item};
+use crate::piece_backing::{PieceBacking, PieceNext};
+use crate::piece_works::{PieceWork, Took};
+use crate::sending::put_snapshot;
+use repo_index::PackFacts;
+use repo_name::{GREATEST_TARGET, Kind, LEAST_TARGET, Name, Thing};
+use repo_session::{Catalog, Emission, End, Holder, Job, Outcome, Reading, Step, Versions};
+use repo_tree::Config;
+use repo_wire::{Ask, Say};
+use repo_writing::{Counts, Target, put_index, put_pack};
+use std::alloc::{AllocError, Global};
+
+/// A backup under its lock that is fed items: the work, once the config was read, and what the store's indexes give.
+#[derive(Drop)]
+pub struct PieceJob {
+    pub backing: Option<PieceBacking>,
+    pub catalog: Catalog,
+    pub alloc: Global,
+}
+
+impl PieceJob {
+    /// Puts the pack that is sealed, which is listed so. It takes no memory.
+    fn send_pack(&mut self, holder: &Holder, listed: PackFacts) -> Step
+        ensures sends { PieceSends (λ facts b es. IsPieceDue facts b listed es) self.old holder.now result self.new }
+        ensures busy { PieceBusy listed self.old result }
+        ensures short { IsShortStep result }
+    {
+        let Some(backing) = &mut self.backing else {
+            return Step::Away;
+        };
+        match backing.take_pack(listed) {
+            Some(sealed) => put_pack(holder.token(), sealed),
+            None => Step::Away,
+        }
+    }
+
+    /// What comes next where no pack is sealed or being put. It fails for memory alone.
+    fn go_on(&self, holder: &Holder) -> Result<Step, AllocError>
+        ensures sends { IfOk result (λ step. PieceSends IsPieceDone self.now holder.now step self.now) }
+        ensures short { IfOk result IsShortStep }
+    {
+        let Some(backing) = &self.backing else {
+            return Ok(Step::Away);
+        };
+        match backing.next() {
+            PieceNext::Input => Ok(Step::Want),
+            PieceNext::Index => put_index(self.alloc, holder.token(), &backing.waiting),
+            PieceNext::Snapshot(root) => put_snapshot(self.alloc, holder, root),
+        }
+    }
+
+    /// Takes the reply to a request for a page of indexes, or for an index. It fails for memory alone, and then what was
+    /// known is known.
+    fn read_on(&mut self, ask: &Ask, say: &Say) -> Result<Step, AllocError>
+        ensures ok { IfOk result (λ step. (holding : Holding) → PieceReplies PieceReads self.old holding ask.now say.now step self.new) }
+        ensures short { IfOk result IsShortStep }
+        ensures err { OnErr result ((es : Trace) → PieceReads self.old ask.now es → PieceReads self.new ask.now es) }
+    {
+        match self.catalog.read_on(self.alloc, ask, say)? {
+            Reading::Ask(ask) => Ok(Step::Ask(ask)),
+            Reading::All(_) => Ok(Step::Want),
+            Reading::Bad(name) => {
+                let end = End::BadObject(Thing::Index, name);
+                Ok(Step::Finish(Outcome::Ended(end)))
+            }
+            Reading::Senseless => Ok(Step::Finish(Outcome::Ended(End::BadReply))),
+            Reading::Unwelcome => Ok(Step::Away),
+        }
+    }
+
+    /// Goes on where the put of a pack is done. It fails for memory alone, and then what was known is known.
+    fn pack_done(&mut self, holder: &Holder) -> Result<Step, AllocError>
+        ensures ok { IfOk result (λ step. (token : Token) (n : Name) (x : List ℕ) → PieceReplies PieceKnows self.old holder.now (Ask.Put token Kind.Pack n x) Say.Done step self.new) }
+        ensures short { IfOk result IsShortStep }
+        ensures err { OnErr result (KeepsPut Kind.Pack self.old self.new) }
+    {
+        let Some(backing) = &mut self.backing else {
+            return Ok(Step::Away);
+        };
+        backing.note_put()?;
+        self.go_on(holder)
+    }
+
+    /// Goes on where the put of an index is done. It fails for memory alone, and then what was known is known.
+    fn index_done(&mut self, holder: &Holder) -> Result<Step, AllocError>
+        ensures ok { IfOk result (λ step. (token : Token) (n : Name) (x : List ℕ) → PieceReplies PieceKnows self.old holder.now (Ask.Put token Kind.Index n x) Say.Done step self.new) }
+        ensures short { IfOk result IsShortStep }
+        ensures err { OnErr result (KeepsPut Kind.Index self.old self.new) }
+    {
+        let Some(backing) = &mut self.backing else {
+            return Ok(Step::Away);
+        };
+        let Some(root) = backing.work.walk.root else {
+            backing.note_listed(self.alloc);
+            return Ok(Step::Want);
+        };
+        let step = put_snapshot(self.alloc, holder, root)?;
+        backing.note_listed(self.alloc);
+        Ok(step)
+    }
+
+    /// Ends where the snapshot is stored under this name.
+    fn conclude(&self, name: Name) -> Step
+        ensures ends { (token : Token) (holding : Holding) (x : List ℕ) → PieceReplies PieceKnows self.now holding (Ask.Put token Kind.Snapshot name x) Say.Done result self.now }
+        ensures short { IsShortStep result }
+    {
+        let Some(backing) = &self.backing else {
+            return Step::Away;
+        };
+        let Counts { blobs, bytes } = backing.counts;
+        Step::Finish(Outcome::Stored { name, blobs, bytes })
+    }
+
+    /// Takes a reply that is no refusal. It fails for memory alone, and then what was known is known.
+    fn take(&mut self, holder: &Holder, ask: &Ask, say: &Say) -> Result<Step, AllocError>
+        ensures ok { IfOk result (λ step. PieceReplies PieceKnows self.old holder.now ask.now say.now step self.new) }
+        ensures short { IfOk result IsShortStep }
+        ensures err { OnErr result ((es : Trace) → PieceKnows self.old ask.now es → PieceKnows self.new ask.now es) }
+    {
+        let Ask::Put { kind, name, .. } = ask else {
+            return self.read_on(ask, say);
+        };
+        match (say, kind) {
+            (Say::Done, Kind::Pack) => self.pack_done(holder),
+            (Say::Done, Kind::Index) => self.index_done(holder),
+            (Say::Done, Kind::Snapshot) => Ok(self.conclude(*name)),
+            _ => Ok(Step::Away),
+        }
+    }
+}
+
+impl PieceJob {
+    /// Takes an item: what it does then, and how many bytes of a piece were taken, none of another item. On an error it is as
+    /// it was.
+    pub fn feed(&mut self, holder: &Holder, item: Item) -> Result<(Step, usize), FeedError>
+        ensures ok { IfOk result (λ took. PieceFeeds self.old holder.now item.entry took.1 took.0 self.new) }
+        ensures short { IfOk result (λ took. IsShortStep took.0) }
+        ensures count { IfOk result (λ took. IsCountOf took.1 item.entry) }
+        ensures refused { IfErr result (λ e. PieceRefuses self.old item.entry e self.new) }
+    {
+        if !self.is_ready() {
+            return Err(FeedError::NotWanted);
+        }
+        if let Item::Abandon = item {
+            return Ok((Step::Finish(Outcome::Ended(End::Abandoned)), 0));
+        }
+        let Some(backing) = &mut self.backing else {
+            return Err(FeedError::NotWanted);
+        };
+        let fed = backing.feed(&self.catalog.lookup, item);
+        match fed {
+            Ok(Took::All(count, Some(listed))) => Ok((self.send_pack(holder, listed), count)),
+            Ok(Took::All(count, None)) => match item {
+                Item::End => match self.end(holder) {
+                    Ok(step) => Ok((step, 0)),
+                    Err(error) => Err(error),
+                },
+                _ => Ok((Step::Want, count)),
+            },
+            Ok(Took::TooLarge) => Ok((Step::Finish(Outcome::Ended(End::DirectoryTooLarge)), 0)),
+            Err(error) => Err(error),
+        }
+    }
+
+    /// Whether its work can take an item: the config was read, all hasn't ended, and no pack is sealed.
+    fn is_ready(&self) -> bool
+        ensures { IsTrue result ↔ IsPieceOpen self.now }
+    {
+        match &self.backing {
+            Some(backing) => backing.work.is_ready(),
+            None => false,
+        }
+    }
+
+    /// Goes on where all ended and no pack is sealed. Without memory the end is taken back.
+    fn end(&mut self, holder: &Holder) -> Result<Step, FeedError>
+        ensures sends { IfOk result (λ step. PieceSends IsPieceDone self.old holder.now step self.new) }
+        ensures short { IfOk result IsShortStep }
+        ensures err { IfErr result (λ e. e ≡ FeedError.Memory) }
+        ensures backing { OnErr result (self.new.backing ≡ option_map reopened_backing self.old.backing) }
+        ensures catalog { self.new.catalog ≡ self.old.catalog }
+    {
+        match self.go_on(holder) {
+            Ok(step) => Ok(step),
+            Err(_) => {
+                if let Some(backing) = &mut self.backing {
+                    backing.work.reopen();
+                }
+                Err(FeedError::Memory)
+            }
+        }
+    }
+}
+
+impl Job for PieceJob {
+    ghost use Rattle.std.specs.Prelude.{[], List, ⊤};
+    ghost use Rattle.repo_backup.specs.PieceBackups.{given_nothing, by_piece_rule, IsFreshPieces, PieceKnows, PieceWants};
+
+    ghost Handed = { Unit {0} };
+
+    ghost handed = { given_nothing };
+
+    ghost rule = { by_piece_rule };
+
+    ghost fresh = { IsFreshPieces };
+
+    ghost knows = { PieceKnows };
+
+    ghost wants = { PieceWants };
+
+    ghost given = { λ j. [] };
+
+    fn is_exclusive(&self) -> bool {
+        false
+    }
+
+    fn versions(&self) -> Versions {
+        Versions::One
+    }
+
+    fn opened(&mut self, _holder: &Holder, config: &Config) -> Step {
+        let target = Target::of(config.target.clamp(LEAST_TARGET, GREATEST_TARGET) as u32);
+        let work = PieceWork::new(self.alloc, config.params, target);
+        self.backing = Some(PieceBacking::new(self.alloc, work));
+        Step::Ask(self.catalog.page_ask())
+    }
+
+    fn reply(&mut self, holder: &Holder, ask: &Ask, say: &Say) -> Result<Step, AllocError> {
+        match say {
+            Say::Refused(_) => Ok(Step::Away),
+            _ => self.take(holder, ask, say),
+        }
+    }
+
+    fn emitted(&self) -> &[Emission] {
+        &[]
+    }
+}

@@ -1,0 +1,278 @@
+//! A walk through a folder that is fed item by item.
+
+ghost use Rattle.std.specs.Prelude.{◌≡◌, [], ◌<◌, ◌≤◌, ◌++◌, ◌+◌, ℕ, List, length, take, option_map, ◌↔◌, IsTrue, OnOk, OnErr, IfOk};
+ghost use Rattle.repo_tree.specs.TreeText.{Follows};
+ghost use Rattle.repo_chunk.specs.Chunkers.{Holds, params_of};
+ghost use Rattle.repo_chunk.specs.Cuts.{HasNoCut};
+ghost use Rattle.repo_backup.specs.inner.Holdings.{holds_prop};
+ghost use Rattle.repo_chunk.specs.Parameters.{AreLawful};
+ghost use Rattle.repo_name.specs.Limits.{blob_limit, file_end};
+
+use crate::items::FeedError;
+use crate::walks::Outer;
+use repo_chunk::{Chunker, Params, Scan};
+use repo_name::{Name, Names, Text};
+use repo_tree::{Node, NodeKind, is_component};
+use std::alloc::{AllocError, Global};
+use std::cmp::Ordering;
+use std::mem;
+
+/// A file that is open: its name, how many bytes it has so far, the names of its chunks so far, the bytes behind these,
+/// and the chunker that holds them.
+#[derive(Drop)]
+pub struct PieceFile {
+    pub name: Text,
+    pub size: u64,
+    pub content: Vec<Name>,
+    pub rest: Vec<u8>,
+    pub params: Params,
+    pub chunker: Chunker,
+    ghost by: { params_of chunker ≡ params },
+    ghost held: { Holds chunker rest.items } by { holds_prop chunker rest.items },
+    ghost lawful: { AreLawful params },
+}
+
+/// How much a file had: so many bytes behind its chunks, so many chunks, and so many bytes in all.
+#[derive(Clone, Copy, Debug, PartialEq, Eq)]
+pub struct Mark {
+    pub rest: usize,
+    pub chunks: usize,
+    pub size: u64,
+}
+
+/// What became of a piece.
+#[derive(Drop)]
+pub enum Scanned {
+    /// All of it was taken, and the chunk goes on.
+    More,
+    /// A chunk ended after so many of its bytes; these are the chunk's bytes.
+    Chunk(usize, Vec<u8>),
+}
+
+/// A walk: the nodes made in the open directory, the directories around it, the nearest last, the open file, and the name
+/// of the root's tree, once all ended.
+#[derive(Drop)]
+pub struct PieceWalk {
+    pub params: Params,
+    pub above: Vec<Outer>,
+    pub nodes: Vec<Node>,
+    pub file: Option<PieceFile>,
+    pub root: Option<Name>,
+}
+
+/// A chunker that holds these bytes, in which no chunk ends.
+fn chunker_of(params: Params, bytes: &[u8]) -> Chunker
+    requires { HasNoCut params bytes.now }
+    ensures held { Holds result bytes.now }
+    ensures params { params_of result ≡ params }
+{
+    let mut chunker = Chunker::new(params);
+    match chunker.feed(bytes) {
+        Scan::More => {}
+        Scan::Cut(_) => {}
+    }
+    chunker
+}
+
+/// Appends bytes that a chunker took to those that it held before. It fails for memory alone, and then the bytes are as they
+/// were, and the chunker holds them again.
+fn append(
+    params: Params,
+    chunker: &mut Chunker,
+    rest: &mut Vec<u8>,
+    bytes: &[u8],
+) -> Result<(), AllocError>
+    requires { HasNoCut params rest.old.items }
+    ensures ok { OnOk result (rest.new.items ≡ rest.old.items ++ bytes.now) }
+    ensures same { OnOk result (chunker.new ≡ chunker.old) }
+    ensures err { OnErr result (rest.new.items ≡ rest.old.items) }
+    ensures held { OnErr result (Holds chunker.new rest.old.items) }
+    ensures params { OnErr result (params_of chunker.new ≡ params) }
+{
+    match rest.extend_from_slice(bytes) {
+        Ok(()) => Ok(()),
+        Err(error) => {
+            *chunker = chunker_of(params, rest.as_slice());
+            Err(error)
+        }
+    }
+}
+
+impl PieceFile {
+    ghost use Rattle.std.specs.Prelude.{vec_len, vec_capacity};
+    ghost use Rattle.repo_backup.specs.Pieces.{IsSameFile, ScansOn, first_rest};
+
+    /// An empty file. It takes no memory.
+    pub fn new(alloc: Global, params: Params, name: Text) -> PieceFile
+        ensures name { result.name ≡ name }
+        ensures size { result.size ≡ 0 }
+        ensures content { result.content.items ≡ [] }
+        ensures rest { result.rest.items ≡ [] }
+        ensures params { result.params ≡ params }
+    {
+        PieceFile {
+            name,
+            size: 0,
+            content: Vec::new(alloc),
+            rest: Vec::new(alloc),
+            params,
+            chunker: Chunker::new(params),
+        }
+    }
+
+    /// How much it has.
+    pub fn mark(&self) -> Mark
+        ensures rest { result.rest ≡ length self.now.rest.items }
+        ensures chunks { result.chunks ≡ length self.now.content.items }
+        ensures size { result.size ≡ self.now.size }
+    {
+        Mark {
+            rest: self.rest.len(),
+            chunks: self.content.len(),
+            size: self.size,
+        }
+    }
+
+    /// Makes room for the name of one more chunk. It fails for memory alone, and then nothing changed.
+    pub fn make_room(&mut self) -> Result<(), AllocError>
+        ensures same { IsSameFile self.old self.new }
+        ensures room { OnOk result (vec_len self.new.content + 1 ≤ vec_capacity self.new.content) }
+    {
+        self.content.reserve(1)
+    }
+
+    /// Goes back to where it had so much: the bytes behind the chunks are the first ones of these, or of those that it has. It
+    /// takes no memory.
+    pub fn back(&mut self, mark: Mark, first: Option<Vec<u8>>)
+        requires { HasNoCut self.old.params (take mark.rest (first_rest (option_map (λ v. v.items) first) self.old)) }
+        ensures rest { self.new.rest.items ≡ take mark.rest (first_rest (option_map (λ v. v.items) first) self.old) }
+        ensures content { self.new.content.items ≡ take mark.chunks self.old.content.items }
+        ensures size { self.new.size ≡ mark.size }
+        ensures name { self.new.name ≡ self.old.name }
+        ensures params { self.new.params ≡ self.old.params }
+    {
+        if let Some(rest) = first {
+            self.rest = rest;
+        }
+        self.rest.truncate(mark.rest);
+        self.chunker = chunker_of(self.params, self.rest.as_slice());
+        self.content.truncate(mark.chunks);
+        self.size = mark.size;
+    }
+
+    /// Takes a piece as far as the end of the chunk. It fails for memory alone, and then nothing changed.
+    pub fn scan(&mut self, piece: &[u8]) -> Result<Scanned, AllocError>
+        requires small { self.old.size + length piece.now < file_end }
+        ensures ok { IfOk result (λ scanned. ScansOn piece.now self.old scanned self.new) }
+        ensures params { self.new.params ≡ self.old.params }
+        ensures err { OnErr result ((self.new.rest.items ≡ self.old.rest.items) × (self.new.size ≡ self.old.size)) }
+        ensures name { self.new.name ≡ self.old.name }
+        ensures content { self.new.content ≡ self.old.content }
+    {
+        let alloc = *self.rest.allocator();
+        match self.chunker.feed(piece) {
+            Scan::More => {
+                append(self.params, &mut self.chunker, &mut self.rest, piece)?;
+                self.size += piece.len() as u64;
+                Ok(Scanned::More)
+            }
+            Scan::Cut(n) => {
+                let (head, _) = piece.split_at(n);
+                append(self.params, &mut self.chunker, &mut self.rest, head)?;
+                let chunk = mem::replace(&mut self.rest, Vec::new(alloc));
+                self.size += n as u64;
+                Ok(Scanned::Chunk(n, chunk))
+            }
+        }
+    }
+}
+
+/// How many components a path has at most.
+const DEEPEST: usize = 100;
+
+/// Whether a name may come after those of some nodes.
+fn follows(nodes: &[Node], name: &str) -> bool
+    ensures { IsTrue result ↔ Follows nodes.now name.now }
+{
+    match nodes.last() {
+        Some(last) => last.name.as_str().cmp(name) == Ordering::Less,
+        None => true,
+    }
+}
+
+impl PieceWalk {
+    ghost use Rattle.std.specs.Prelude.{◌∷◌, Some, None, IfErr};
+    ghost use Rattle.std.specs.Prelude.{vec_len, vec_capacity};
+    ghost use Rattle.repo_tree.specs.declared.nodes.NodeKind.{NodeKind};
+    ghost use Rattle.repo_backup.specs.Folders.{nothing};
+    ghost use Rattle.repo_backup.specs.Items.{MayOpen, NameFault};
+    ghost use Rattle.repo_backup.specs.Pieces.{IsAt};
+    ghost use Rattle.repo_backup.specs.Standings.{Standing, place_at};
+
+    /// Whether something of this name may begin. Else the first fault, in the order `BadPath`, `Order`, `TooDeep`.
+    pub fn check_name(&self, name: &str) -> Result<(), FeedError>
+        ensures ok { OnOk result ((st : Standing) → IsAt self.now st → MayOpen (place_at st) name.now) }
+        ensures unopened { OnOk result (self.now.file ≡ None) }
+        ensures fault { IfErr result (λ e. (st : Standing) → IsAt self.now st → NameFault (place_at st) name.now e) }
+    {
+        if !is_component(name) {
+            return Err(FeedError::BadPath);
+        }
+        if self.file.is_some() {
+            return Err(FeedError::Order);
+        }
+        if !follows(self.nodes.as_slice(), name) {
+            return Err(FeedError::Order);
+        }
+        if self.above.len() >= DEEPEST {
+            return Err(FeedError::TooDeep);
+        }
+        Ok(())
+    }
+
+    /// Enters a directory of this name. It fails for memory alone, and then the walk stands where it stood.
+    pub fn begin_dir(&mut self, alloc: Global, name: Text) -> Result<(), AllocError>
+        requires file { self.old.file ≡ None }
+        requires unended { self.old.root ≡ None }
+        ensures ok { OnOk result ((st : Standing) → IsAt self.old st → IsAt self.new (record { done = nothing; above = record { name = name; done = st.done } ∷ st.above; file = st.file; over = st.over })) }
+        ensures err { OnErr result ((st : Standing) → IsAt self.old st → IsAt self.new st) }
+        ensures params { self.new.params ≡ self.old.params }
+        ensures file { self.new.file ≡ None }
+        ensures root { self.new.root ≡ self.old.root }
+    {
+        self.above.reserve(1)?;
+        let nodes = mem::replace(&mut self.nodes, Vec::new(alloc));
+        self.above.push(Outer { nodes, name }).unwrap();
+        Ok(())
+    }
+
+    /// Opens a file of this name. It takes no memory.
+    pub fn begin_file(&mut self, alloc: Global, name: Text)
+        requires { self.old.file ≡ None }
+        ensures walk { (st : Standing) → IsAt self.old st → IsAt self.new (record { done = st.done; above = st.above; file = Some (record { name = name; chunks = []; rest = [] }); over = st.over }) }
+        ensures params { self.new.params ≡ self.old.params }
+        ensures root { self.new.root ≡ self.old.root }
+    {
+        self.file = Some(PieceFile::new(alloc, self.params, name));
+    }
+
+    /// Makes the node of a file that ended, for which there is room.
+    pub fn end_file(&mut self, file: PieceFile)
+        requires room { vec_len self.old.nodes + 1 ≤ vec_capacity self.old.nodes }
+        ensures nodes { self.new.nodes.items ≡ self.old.nodes.items ++ record { name = file.name; what = NodeKind.File file.size file.content.items } ∷ [] }
+        ensures params { self.new.params ≡ self.old.params }
+        ensures above { self.new.above ≡ self.old.above }
+        ensures file { self.new.file ≡ self.old.file }
+        ensures root { self.new.root ≡ self.old.root }
+    {
+        let PieceFile {
+            name,
+            size,
+            content,
+            ..
+        } = file;
+        let content = Names::of(content);
+        let what = NodeKind::File { size, content };
+        self.nodes.push(Node { name, what }).unwrap();
+    }
+}
