@@ -223,7 +223,8 @@ def lines_of(words, most):
 
 
 def plain(text):
-    return re.sub(r"[`*]", "", text).strip()
+    """A text without its marks, and its links as what they are called."""
+    return re.sub(r"[`*]", "", re.sub(r"\[([^\]]*)\]\([^)]*\)", r"\1", text)).strip()
 
 
 def proved():

@@ -24,6 +24,12 @@ seconds = Counter()
 begun_for = threading.local()
 
 
+def part_of(key):
+    """The crate and the part that a task of `rt ci` is for: what is neither a proof nor of tests is of edits."""
+    crate, kind = key[:2]
+    return crate, kind if kind in PARTS else "edits"
+
+
 def counted(process, flags):
     """Waits for a process, and adds its time and its children's to what it was begun for."""
     try:
@@ -70,7 +76,7 @@ def main():
     os.chdir(os.path.dirname(os.path.dirname(os.path.abspath(__file__))))
     rt = kit.load()
     lanes = rt.in_lanes
-    rt.in_lanes = lambda tasks: lanes({key: (*task[:3], noting(key, task[3])) for key, task in tasks.items()})
+    rt.in_lanes = lambda tasks: lanes({key: (*task[:3], noting(part_of(key), task[3])) for key, task in tasks.items()})
     subprocess.Popen._try_wait = counted
     ThreadPoolExecutor.submit = inheriting(ThreadPoolExecutor.submit)
     names = [word for word in sys.argv[1:] if word != "--anew"]

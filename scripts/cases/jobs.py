@@ -2,7 +2,7 @@
 
 from dataclasses import dataclass
 
-from chunks import chunks
+from chunks import chunks, length_of
 from frames import Message
 from naming import BLOB_LARGEST, name_of
 from texts import (OtherVersion, Unreadable, dir_node, file_node, index_text, is_component, pack_of, read_config,
@@ -311,11 +311,15 @@ class Backup:
         self.client = client
         self.known = {(kind, name) for kind, name, _ in (yield from facts_of_indexes())}
         root = yield from self.directory([])
+        return (yield from self.finished(root))
+
+    def finished(self, root):
+        """Puts what is left, and the snapshot of a tree."""
         if self.open:
             yield from self.put_pack()
         if self.waiting:
             yield from self.put_index()
-        text = snapshot_text(client.host, client.time, client.token, root)
+        text = snapshot_text(self.client.host, self.client.time, self.client.token, root)
         yield from self.put("snapshot", text)
         return Outcome(f"stored {self.blobs} {self.bytes}", name_of(text))
 
@@ -364,3 +368,126 @@ class Backup:
         for chunk in chunks(data, *self.client.config[:3]):
             content.append((yield from self.add("content", chunk)))
         return file_node(name, len(data), content)
+
+
+def spelled(word, what):
+    """An item as a word of a line."""
+    if what is None:
+        return word
+    return f"{word}:{what if word != 'bytes' else what.hex() or '-'}"
+
+
+class Pieces(Backup):
+    """A backup that is fed items, each a word and what it is of. Of a piece of which a part was taken the rest is fed next.
+    `words` is how it is fed: at `go` what is pending is answered. `said` is what it says to each item."""
+
+    def __init__(self, items):
+        super().__init__([])
+        self.items, self.words, self.said = items, [], []
+        self.above, self.name, self.nodes, self.last = [], None, [], ""
+        self.file = None
+        self.puts = 0
+
+    def run(self, client):
+        self.client = client
+        self.known = {(kind, name) for kind, name, _ in (yield from facts_of_indexes())}
+        self.words.append("go")
+        for word, what in self.items:
+            outcome = yield from self.fed(word, what)
+            if outcome is not None:
+                return outcome
+
+    def put(self, kind, data):
+        self.puts += 1
+        return (yield from super().put(kind, data))
+
+    def says(self, word, *said):
+        self.words.append(word)
+        self.said.append(said)
+
+    def fed(self, word, what):
+        """Feeds an item, a piece as often as it takes."""
+        code = self.fault(word, what)
+        if code is not None:
+            self.says(spelled(word, what), "refused", code)
+        elif word == "abandon":
+            self.says(word, "took", 0)
+            self.words.append("go")
+            raise End("abandoned")
+        elif word == "end":
+            self.says(word, "took", 0)
+            self.says(word, "refused", 6)
+            self.words.append("go")
+            return (yield from self.finished((yield from self.add("tree", tree_text(self.nodes)))))
+        elif word == "bytes":
+            yield from self.pieces(what)
+        else:
+            yield from self.told(spelled(word, what), {"dir": self.enter, "file": self.begin, "close": self.close}[word](what))
+
+    def told(self, item, step):
+        """Does a step, which may put a pack: then it wants nothing more until that is done."""
+        puts = self.puts
+        taken = (yield from step) or 0
+        self.says(item, "took", taken)
+        if self.puts > puts:
+            for busy in ("close", "abandon", "file:.."):
+                self.says(busy, "refused", 6)
+            self.words.append("go")
+        return taken
+
+    def pieces(self, data):
+        while True:
+            taken = yield from self.told(spelled("bytes", data), self.piece(data))
+            data = data[taken:]
+            if not data:
+                return
+
+    def fault(self, word, what):
+        """The number of the first reason why an item isn't taken."""
+        if word in ("dir", "file"):
+            if not is_component(what):
+                return 1
+            if self.file is not None or what.encode() <= self.last.encode():
+                return 2
+            if len(self.above) >= DEEPEST:
+                return 3
+        wrong = {"bytes": self.file is None, "close": self.file is None and not self.above,
+                 "end": self.file is not None or bool(self.above)}
+        return 2 if wrong.get(word) else None
+
+    def enter(self, name):
+        yield from ()
+        self.above.append((self.name, self.nodes))
+        self.name, self.nodes, self.last = name, [], ""
+
+    def begin(self, name):
+        yield from ()
+        self.file, self.last, self.size, self.rest, self.content = name, name, 0, b"", []
+
+    def piece(self, data):
+        """Takes a piece, as far as the chunk with which a pack is put: how many bytes."""
+        puts, taken = self.puts, 0
+        while taken < len(data) and self.puts == puts:
+            held = self.rest + data[taken:]
+            length = length_of(held + b"\0", *self.client.config[:3])
+            if length > len(held):
+                self.rest, taken = held, len(data)
+            else:
+                taken += length - len(self.rest)
+                self.rest = b""
+                self.content.append((yield from self.add("content", held[:length])))
+        self.size += taken
+        return taken
+
+    def close(self, _):
+        """Closes the open file, else the open directory."""
+        if self.file is not None:
+            if self.rest:
+                self.content.append((yield from self.add("content", self.rest)))
+            self.nodes.append(file_node(self.file, self.size, self.content))
+            self.file = None
+        else:
+            node = dir_node(self.name, (yield from self.add("tree", tree_text(self.nodes))))
+            self.last = self.name
+            self.name, self.nodes = self.above.pop()
+            self.nodes.append(node)

@@ -3,7 +3,7 @@
 import commands
 from checks import Check
 from frames import KINDS, Message
-from jobs import Backup, Client, Forget, List, Restore, StartRefused
+from jobs import Backup, Client, Forget, List, Pieces, Restore, StartRefused
 from lines import Lines, digits, frames_of, shown
 from prunes import Prune, Upgrade
 from naming import name_of
@@ -104,6 +104,17 @@ class Script(Lines):
             return self.seat(Backup(self.used()), host, time)
         except StartRefused as refused:
             self.prints("start refused", refused.args[0])
+
+    def pieces(self, items, host="a", time=5, early=(), late=()):
+        """A backup that is fed items, some early ones before it wants any, some late ones after it ended: the name of its snapshot."""
+        job = Pieces(items)
+        client = Client(job, bytes([255] * 16), host, time)
+        client.finish(self.store)
+        self.line("pieces", host, time, *early, *job.words, *late)
+        for said in [("refused", 6)] * len(early) + job.said + [("refused", 6)] * len(late):
+            self.prints(*said)
+        self.prints("backup", client.outcome.text)
+        return client.outcome.name
 
     def start_list(self):
         self.line("start list")

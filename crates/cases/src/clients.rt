@@ -64,7 +64,7 @@ pub struct JobEnd {
 }
 
 /// The words for how a job ended, and behind them what is at fault, and how.
-fn told_end(alloc: Global, outcome: Option<&Outcome>) -> Result<String, AllocError> {
+pub fn told_end(alloc: Global, outcome: Option<&Outcome>) -> Result<String, AllocError> {
     let mut text = result_text(alloc, outcome, false)?;
     if let Some(Outcome::Faults(faults)) = outcome {
         for fault in faults.as_slice() {

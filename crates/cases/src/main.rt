@@ -8,6 +8,7 @@ use std::io::Read;
 
 mod clients;
 mod commands;
+mod feeding;
 mod framing;
 mod halves;
 mod happening;

@@ -1,6 +1,7 @@
 //! A script: each line adds to what a server says, to an input or to entries, or it is run.
 
 use crate::commands::{Server, run_command, skipped};
+use crate::feeding::run_pieces;
 use crate::happening::run_world;
 use crate::kernels::run_kernel;
 use crate::lines::{ScriptError, add_dirs, add_files, bytes, cut, dir, file, number};
@@ -173,6 +174,7 @@ impl Script {
                 self.world.start(rest, entries, told)?;
             }
             "old" => self.world.start_old(rest, told)?,
+            "pieces" => run_pieces(self.alloc, rest, &mut self.world.store.shelf, told)?,
             "step" => {
                 self.world.step(rest, told)?;
             }

@@ -1,0 +1,103 @@
+//! A backup at the store that is fed items.
+
+use crate::clients::told_end;
+use crate::lines::{ScriptError, bytes, cut, number};
+use crate::told::Told;
+use repo_backup::{FeedError, Item, PieceBackup, lockstep_fed};
+use repo_name::Instance;
+use repo_session::{Client, Who};
+use repo_store::Shelf;
+use std::alloc::Global;
+
+/// The number of the reason why an item isn't taken.
+fn reason(error: FeedError) -> u64 {
+    match error {
+        FeedError::BadPath => 1,
+        FeedError::Order => 2,
+        FeedError::TooDeep => 3,
+        FeedError::TooLarge => 4,
+        FeedError::Memory => 5,
+        FeedError::NotWanted => 6,
+    }
+}
+
+/// Feeds an item, and tells how many bytes of it were taken, or why it wasn't.
+fn tell_fed(backup: &mut PieceBackup, item: Item, told: &mut Told) -> Result<(), ScriptError> {
+    match backup.feed(item) {
+        Ok(count) => told.number("took", count as u64)?,
+        Err(error) => told.number("refused", reason(error))?,
+    }
+    Ok(())
+}
+
+/// Feeds the item that a word is for: `dir:NAME`, `file:NAME`, `bytes:HEX`, `close`, `end`, `abandon`.
+fn feed(
+    alloc: Global,
+    word: &str,
+    backup: &mut PieceBackup,
+    told: &mut Told,
+) -> Result<(), ScriptError> {
+    let (sort, rest) = word.split_once(':').unwrap_or((word, ""));
+    match sort {
+        "dir" => tell_fed(backup, Item::Dir(rest), told),
+        "file" => tell_fed(backup, Item::File(rest), told),
+        "bytes" => tell_fed(backup, Item::Bytes(bytes(alloc, rest)?.as_slice()), told),
+        "close" => tell_fed(backup, Item::Close, told),
+        "end" => tell_fed(backup, Item::End, told),
+        "abandon" => tell_fed(backup, Item::Abandon, told),
+        _ => Err(ScriptError::Line),
+    }
+}
+
+/// Answers what is pending, as far as it goes.
+fn go<S: Shelf>(alloc: Global, backup: &mut PieceBackup, shelf: &mut S) -> Result<(), ScriptError> {
+    match lockstep_fed(alloc, backup, shelf) {
+        Ok(_) => Ok(()),
+        Err(_) => Err(ScriptError::Memory),
+    }
+}
+
+/// Feeds the items of these words one after another, and answers what is pending at each `go`; tells how it ended.
+fn feed_all<S: Shelf>(
+    alloc: Global,
+    words: &str,
+    backup: &mut PieceBackup,
+    shelf: &mut S,
+    told: &mut Told,
+) -> Result<(), ScriptError> {
+    for word in words.split(' ') {
+        match word {
+            "go" => go(alloc, backup, shelf)?,
+            _ => feed(alloc, word, backup, told)?,
+        }
+    }
+    told.pair("backup", told_end(alloc, backup.outcome())?.as_str())?;
+    Ok(())
+}
+
+/// Does so with a backup of its own. A client is dear to drop: it is done here alone, with nothing else alive.
+fn feed_new<S: Shelf>(
+    alloc: Global,
+    who: Who,
+    words: &str,
+    shelf: &mut S,
+    told: &mut Told,
+) -> Result<(), ScriptError> {
+    let mut backup = PieceBackup::new(alloc, who);
+    feed_all(alloc, words, &mut backup, shelf, told)
+}
+
+/// Runs a backup for `HOST TIME ITEM..`: see [`feed`].
+pub fn run_pieces<S: Shelf>(
+    alloc: Global,
+    words: &str,
+    shelf: &mut S,
+    told: &mut Told,
+) -> Result<(), ScriptError> {
+    let (host, rest) = cut(words);
+    let (time, items) = cut(rest);
+    match Who::new(alloc, Instance([255; 16]), host, number(time)?) {
+        Ok(who) => feed_new(alloc, who, items, shelf, told),
+        Err(_) => Err(ScriptError::Line),
+    }
+}
