@@ -9,8 +9,8 @@ use Rattle.repo_name.specs.declared.names.Instance.{Instance}
 use Rattle.repo_wire.specs.declared.messages.Ask.{Ask}
 use Rattle.repo_wire.specs.declared.messages.Reply.{Reply}
 use Rattle.repo_wire.specs.declared.messages.Request.{Request}
-use Rattle.repo_wire.specs.Messages.{IsAsk, requests, request_body}
-use Rattle.repo_wire.specs.Stream.{frame, FitsFrame}
+use Rattle.repo_wire.specs.Messages.{IsAsk, requests, replies, request_body}
+use Rattle.repo_wire.specs.Stream.{frame, FitsFrame, IsStream, Fails}
 use Rattle.repo_store.specs.Runs.{Replies}
 use Rattle.repo_store.specs.StoreMachine.{SaysFault, IsAnswerable}
 use Rattle.repo_store.specs.Stores.{Store}
@@ -23,7 +23,7 @@ use Rattle.repo_session.specs.declared.outcomes.Outcome.{Outcome}
 use Rattle.repo_session.specs.Clients.{IsReplyTo, IsObedientWith, exchange}
 use Rattle.repo_session.specs.Order.{Task}
 use Rattle.repo_session.specs.Connections.{BeginsWithReplies, Asks}
-use Rattle.repo_session.specs.Talks.{Turn, Talk, IsTurn, first_carried, trace_of, sent_in, taken_in, read_in, frames_of, Went, Said, IsHeard, WritesPart, ArePassed, DriveCause, TalkRan, MayBeAhead, AskGives}
+use Rattle.repo_session.specs.Talks.{Turn, Talk, IsTurn, first_carried, trace_of, sent_in, taken_in, read_in, frames_of, Went, Said, IsHeardAfter, WritesPart, ArePassed, DriveCauseAfter, TalkRan, MayBeAhead, AskGives}
 use Rattle.repo_session.specs.Traces.{Each, Exchange, Trace}
 use Rattle.repo_session.proofs.Connecting.{begins}
 
@@ -80,24 +80,33 @@ passed_none None = tt
 passed_none (Some request) = tt
 
 -- what was heard, with no more replies behind the turns
-pub heard_all : (bytes : List ℕ) (talk : Talk) → BeginsWithReplies bytes (read_in talk) → IsHeard (record { bytes = bytes; talk = talk; more = [] })
-heard_all bytes talk h = subst (λ x. BeginsWithReplies bytes x) (sym (append-nil (read_in talk))) h
+pub heard_all : (before more : List ℕ) (told : List Reply) (talk : Talk) → BeginsWithReplies (before ++ more) (told ++ read_in talk)
+    → IsHeardAfter before told (record { bytes = more; talk = talk; more = [] })
+heard_all before more told talk h = subst (λ x. BeginsWithReplies (before ++ more) (told ++ x)) (sym (append-nil (read_in talk))) h
 
 -- why a request wasn't answered
-pub unanswered : (error : DriveError) (request : Request) (bytes : List ℕ) (talk : Talk) (passed : List Reply) (new : Connection) (next : Option Request) (a b c : Option (List ℕ))
-    → next ≡ Some request → ArePassed (Some request) passed → Asks request (Err error) bytes (read_in talk) passed new b c → Appends a b (frames_of (sent_in talk))
-    → DriveCause error (record { bytes = bytes; talk = talk; more = passed }) next × WritesPart a (sent_in talk) next c
-unanswered error request bytes talk passed new next a b c same h asks w =
+pub unanswered : (error : DriveError) (request : Request) (before more : List ℕ) (told : List Reply) (talk : Talk) (passed : List Reply) (new : Connection) (next : Option Request) (a b c : Option (List ℕ))
+    → next ≡ Some request → ArePassed (Some request) passed → Asks request (Err error) (before ++ more) (told ++ read_in talk) passed new b c → Appends a b (frames_of (sent_in talk))
+    → DriveCauseAfter before told error (record { bytes = more; talk = talk; more = passed }) next × WritesPart a (sent_in talk) next c
+unanswered error request before more told talk passed new next a b c same h asks w =
     let r = at error asks in
-    (subst (λ n. DriveCause error (record { bytes = bytes; talk = talk; more = passed }) n) (sym same) r.0, part_next a c (sent_in talk) request next same (written_part a b c (sent_in talk) request r.1.0 w r.1.1))
+    (subst (λ n. DriveCauseAfter before told error said n) (sym same) r.0, part_next a c (sent_in talk) request next same (written_part a b c (sent_in talk) request r.1.0 w r.1.1))
   where
-    at : (error : DriveError) → Asks request (Err error) bytes (read_in talk) passed new b c
-        → DriveCause error (record { bytes = bytes; talk = talk; more = passed }) (Some request) × ((k : ℕ) × Appends b c (take k (frame (request_body request))))
-    at DriveError.Read x = ((x.0, h), x.1)
-    at DriveError.Write x = ((subst (λ more. BeginsWithReplies bytes (read_in talk ++ more)) (sym x.1) (subst (λ z. BeginsWithReplies bytes z) (sym (append-nil (read_in talk))) x.0), x.1), x.2)
-    at DriveError.Malformed x = ((x.0.0, x.0.1, h), x.1)
-    at DriveError.Limit x = ((x.0.0, h, inr x.0.1), x.1)
-    at DriveError.Memory x = (x.0, x.1)
+    said : Said
+    said = record { bytes = more; talk = talk; more = passed }
+
+    grouped : (P : List Reply → Type 0) → P ((told ++ read_in talk) ++ passed) → P (told ++ (read_in talk ++ passed))
+    grouped P x = subst P (append_assoc told (read_in talk) passed) x
+
+    at : (error : DriveError) → Asks request (Err error) (before ++ more) (told ++ read_in talk) passed new b c
+        → DriveCauseAfter before told error said (Some request) × ((k : ℕ) × Appends b c (take k (frame (request_body request))))
+    at DriveError.Read x = ((grouped (λ z. BeginsWithReplies (before ++ more) z) x.0, h), x.1)
+    at DriveError.Write x =
+        let heard : BeginsWithReplies (before ++ more) (told ++ (read_in talk ++ [])) = heard_all before more told talk x.0 in
+        ((subst (λ z. BeginsWithReplies (before ++ more) (told ++ (read_in talk ++ z))) (sym x.1) heard, x.1), x.2)
+    at DriveError.Malformed x = ((x.0.0, grouped (λ z. IsStream replies (before ++ more) z (Fails x.0.0)) x.0.1, h), x.1)
+    at DriveError.Limit x = ((grouped (λ z. BeginsWithReplies (before ++ more) z) x.0.0, h, inr x.0.1), x.1)
+    at DriveError.Memory x = (grouped (λ z. BeginsWithReplies (before ++ more) z) x.0, x.1)
     at DriveError.Sink x = absurd x
 
 -- a turn more
@@ -188,8 +197,8 @@ once_asked request fits (Ok reply) bytes passed new a b c d read others asks =
     let heard : BeginsWithReplies bytes (passed ++ reply ∷ []) = begins bytes (passed ++ reply ∷ []) new asks.0.1 in (
       record { bytes = bytes; talk = talk; more = [] },
       read,
-      (passed, refl, (record { fits = fits; passed = others; answers = asks.0.0 }, tt), heard_all bytes talk heard, refl, subst (λ x. Appends c d x) (sym (append-nil (frame (request_body request)))) asks.1),
+      (passed, refl, (record { fits = fits; passed = others; answers = asks.0.0 }, tt), heard_all [] bytes [] talk heard, refl, subst (λ x. Appends c d x) (sym (append-nil (frame (request_body request)))) asks.1),
     )
 once_asked request fits (Err error) bytes passed new a b c d read others asks =
-    let r = unanswered error request bytes [] passed new (Some request) c c d refl others asks (Appends-nil c) in
+    let r = unanswered error request [] bytes [] [] passed new (Some request) c c d refl others asks (Appends-nil c) in
     (record { bytes = bytes; talk = []; more = passed }, read, (refl, r.0, r.1))
