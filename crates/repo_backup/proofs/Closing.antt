@@ -256,6 +256,20 @@ names_none names content rest none same = same ∙ sym (append-nil content) ∙ 
 pub names_more : (names content : List Name) (rest : List ℕ) (name : Name) → rest ≢ [] → name ≡ naming.name rest → names ≡ content ++ name ∷ [] → names ≡ content ++ map naming.name (last_chunk rest)
 names_more names content rest name some called more = more ∙ ap (λ n. content ++ n ∷ []) called ∙ ap (λ l. content ++ map naming.name l) (sym (last_some rest some))
 
+-- a file is closed: what was left is its last chunk, where something was
+pub file_closed : (w v : PieceWork) (f : PieceFile) (node : Node) (names : List Name) (known : List Fact) → w.walk.file ≡ Some f → v.walk.params ≡ w.walk.params → v.walk.above.items ≡ w.walk.above.items → v.walk.file ≡ None
+    → v.walk.root ≡ w.walk.root → v.walk.nodes.items ≡ w.walk.nodes.items ++ node ∷ [] → node ≡ record { name = f.name; what = File f.size names } → AreLawful w.walk.params → w.walk.root ≡ None
+    → (f.rest.items ≡ [] → (v.packing ≡ w.packing) × (names ≡ f.content.items))
+    → (f.rest.items ≢ [] → PacksOn known Sealing.Due (item_of Content f.rest.items) w.packing v.packing × (names ≡ f.content.items ++ naming.name f.rest.items ∷ []))
+    → Goes known Sealing.Due fed_close w v
+file_closed w v f node names known is params above none root nodes node_is lawful unended whole chunk = by f.rest.items refl
+  where
+    by : (rest : List ℕ) → f.rest.items ≡ rest → Goes known Sealing.Due fed_close w v
+    by [] e = closed_whole w v f node names known is params above none root nodes node_is (names_none names f.content.items f.rest.items e (whole e).1) lawful unended e (whole e).0
+    by (b ∷ bytes) e =
+        let some : f.rest.items ≢ [] = λ n. absurd (cc) in
+        closed_chunk w v f node names known is params above none root nodes node_is (names_more names f.content.items f.rest.items (naming.name f.rest.items) some refl (chunk some).1) lawful unended some (chunk some).0
+
 -- ---- a chunk that isn't ended is short
 
 -- what a file's chunker holds has no cut

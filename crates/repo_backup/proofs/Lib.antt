@@ -37,3 +37,4 @@ pub mod Biting
 pub mod PieceReplying
 pub mod PieceTaking
 pub mod PieceFeeding
+mod ItemRunning

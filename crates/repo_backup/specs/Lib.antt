@@ -21,3 +21,4 @@ pub mod PieceRules
 pub mod PieceStates
 pub mod PieceBackups
 pub mod PieceObedience
+pub mod ItemRuns

@@ -36,6 +36,7 @@ mod checks;
 mod chunks;
 mod faults;
 mod item_laws;
+mod item_steps;
 mod items;
 mod jobs;
 mod laws;
@@ -59,7 +60,10 @@ pub use item_laws::{
     end_is_last, example_is_spelled, faults_forbid, giving_up_is_last, items_lead, made_grows,
     made_of_all, spelled_are_handed, whole_is_spelled,
 };
+pub use item_steps::{ItemsError, lockstep_items};
 pub use items::{FeedError, Item};
-pub use laws::{backup_ends_well, backup_keeps_sound};
+pub use laws::{
+    backup_ends_well, backup_keeps_sound, fed_backup_ends_well, fed_backup_keeps_sound,
+};
 pub use piece_backups::PieceBackup;
 pub use piece_steps::lockstep_fed;

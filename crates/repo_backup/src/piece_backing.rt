@@ -28,7 +28,7 @@ pub struct PieceBacking {
 }
 
 /// What comes next where no pack is sealed or being put.
-#[derive(Clone, Copy, Debug, PartialEq, Eq)]
+#[derive(Clone, Copy)]
 pub enum PieceNext {
     /// An index of the packs that wait.
     Index,

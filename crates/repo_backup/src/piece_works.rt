@@ -1,24 +1,28 @@
 //! The work that a backup does on the items that it is fed: it makes their blobs, and adds them to packs.
 
-ghost use Rattle.std.specs.Prelude.{◌≡◌, ◌↔◌, ◌≤◌, ◌<◌, ◌+◌, ◌++◌, ◌∷◌, [], List, length, take, Some, None, option_map, IsSome, IsTrue, IfSome, IfOk, IfErr, OnOk, OnErr, Contains};
+ghost use Rattle.std.specs.Prelude.{◌≡◌, ◌≢◌, ◌↔◌, ◌≤◌, ◌<◌, ◌+◌, ◌++◌, ◌∷◌, [], List, length, None, option_map, IsSome, IsTrue, IfOk, IfErr, OnOk, OnErr, MatchOption};
+ghost use Rattle.repo_tree.specs.TreeText.{IsTreeText};
 ghost use Rattle.repo_tree.specs.TreeWriting.{tree_text};
 ghost use Rattle.repo_name.specs.Limits.{blob_limit, file_end};
 ghost use Rattle.repo_index.specs.declared.facts.Fact.{Fact};
 ghost use Rattle.repo_session.specs.Feeds.{fed_bytes, fed_close, fed_dir, fed_end, fed_file};
+ghost use Rattle.repo_name.specs.Naming as naming;
+ghost use Rattle.repo_name.specs.declared.kinds.BlobKind.TheVariants.{Content};
+ghost use Rattle.repo_pack.specs.PackLayout.{item_of};
 ghost use Rattle.repo_pack.specs.PackWriting.{IsOpen};
-ghost use Rattle.repo_backup.specs.Items.{fed_of};
-ghost use Rattle.repo_backup.specs.Packings.{AimsOn, StaysPacked};
+ghost use Rattle.repo_backup.specs.Items.{MayOpen, NameFault, fed_of};
+ghost use Rattle.repo_backup.specs.Packings.{AimsOn, GrowsBy, IsListed, PacksOn, StaysPacked};
+ghost use Rattle.repo_backup.specs.Standings.{Standing, place_at};
 ghost use Rattle.repo_backup.specs.declared.packing.Sealing.{Sealing};
-ghost use Rattle.repo_backup.specs.Pieces.{Bites, IsSameFile, with_file, TakesBytes, TakesItem, WorkTakes, ReopensAt, LeavesPacked, sealing_at, Stays, Refuses, IsReady, PieceStands, Reopens, reopened, at_beginning};
+ghost use Rattle.repo_backup.specs.Pieces.{IsAt, Bites, IsSameFile, with_file, TakesBytes, TakesItem, WorkTakes, ReopensAt, LeavesPacked, sealing_at, Stays, Refuses, IsReady, PieceStands, Reopens, reopened, at_beginning};
 
 use crate::items::{FeedError, Item};
 use crate::packing::{Packed, Packing, Sealing};
 use crate::pieces::{PieceFile, PieceWalk, Scanned};
-use crate::walks::Outer;
 use repo_chunk::Params;
 use repo_index::{Lookup, PackFacts};
-use repo_name::{BlobKind, FILE_END, Text};
-use repo_tree::{Node, NodeKind, TreeError, write_tree};
+use repo_name::{BlobKind, FILE_END, Name, Text};
+use repo_tree::{TreeError, write_tree};
 use repo_writing::Target;
 use std::alloc::{AllocError, Global};
 
@@ -48,6 +52,58 @@ struct Bite {
     listed: Option<PackFacts>,
 }
 
+/// Makes a chunk of a file a blob, and notes its name behind those of the chunks before it: how an index lists the pack that
+/// was sealed, if one was. It fails for memory alone, and then all stands as it stood.
+fn pack_chunk(
+    packing: &mut Packing,
+    content: &mut Vec<Name>,
+    lookup: &Lookup,
+    chunk: &[u8],
+) -> Result<Option<PackFacts>, AllocError>
+    requires open { IsOpen packing.old.packer.writer }
+    requires unsealed { packing.old.packer.sealed ≡ None }
+    requires some { (1 ≤ length chunk.now) × (length chunk.now ≤ blob_limit) }
+    ensures ok { OnOk result (PacksOn lookup.now Sealing.Due (item_of Content chunk.now) packing.old packing.new) }
+    ensures named { OnOk result (content.new.items ≡ content.old.items ++ naming.name chunk.now ∷ []) }
+    ensures listed { IfOk result (λ listed. IsListed listed packing.new) }
+    ensures grows { IfOk result (λ listed. listed ≡ None → GrowsBy packing.old packing.new) }
+    ensures open { IsOpen packing.new.packer.writer }
+    ensures aims { AimsOn packing.old packing.new }
+    ensures same { OnErr result (content.new.items ≡ content.old.items) }
+    ensures err { OnErr result (StaysPacked lookup.now packing.old packing.new) }
+{
+    content.reserve(1)?;
+    let Packed { name, listed } = packing.pack(lookup, BlobKind::Content, chunk, Sealing::Due)?;
+    content.push(name).unwrap();
+    Ok(listed)
+}
+
+/// Makes what is left of a file its last chunk, where something is. It fails for memory alone, and then all stands as it
+/// stood.
+fn pack_rest(
+    packing: &mut Packing,
+    file: &mut PieceFile,
+    lookup: &Lookup,
+) -> Result<Option<PackFacts>, AllocError>
+    requires open { IsOpen packing.old.packer.writer }
+    requires unsealed { packing.old.packer.sealed ≡ None }
+    ensures whole { OnOk result (file.old.rest.items ≡ [] → (packing.new ≡ packing.old) × (file.new.content.items ≡ file.old.content.items)) }
+    ensures chunk { OnOk result (file.old.rest.items ≢ [] → PacksOn lookup.now Sealing.Due (item_of Content file.old.rest.items) packing.old packing.new
+        × (file.new.content.items ≡ file.old.content.items ++ naming.name file.old.rest.items ∷ [])) }
+    ensures listed { IfOk result (λ listed. IsListed listed packing.new) }
+    ensures open { IsOpen packing.new.packer.writer }
+    ensures aims { AimsOn packing.old packing.new }
+    ensures name { file.new.name ≡ file.old.name }
+    ensures size { file.new.size ≡ file.old.size }
+    ensures params { file.new.params ≡ file.old.params }
+    ensures err { OnErr result (IsSameFile file.old file.new × StaysPacked lookup.now packing.old packing.new) }
+{
+    if file.rest.is_empty() {
+        return Ok(None);
+    }
+    pack_chunk(packing, &mut file.content, lookup, &file.rest)
+}
+
 /// Takes a piece of a file as far as the end of a chunk, which is made a blob. It fails for memory alone, and then all
 /// stands as it stood.
 fn take_piece(
@@ -71,7 +127,6 @@ fn take_piece(
     ensures still { OnErr result (packing.new.packer.sealed ≡ None) }
 {
     let mark = file.mark();
-    file.make_room()?;
     match file.scan(piece)? {
         Scanned::More => Ok(Bite {
             count: piece.len(),
@@ -79,16 +134,12 @@ fn take_piece(
             listed: None,
         }),
         Scanned::Chunk(count, chunk) => {
-            match packing.pack(lookup, BlobKind::Content, &chunk, Sealing::Due) {
-                Ok(Packed { name, listed }) => {
-                    file.content.push(name).unwrap();
-                    let chunk = Some(chunk);
-                    Ok(Bite {
-                        count,
-                        chunk,
-                        listed,
-                    })
-                }
+            match pack_chunk(packing, &mut file.content, lookup, &chunk) {
+                Ok(listed) => Ok(Bite {
+                    count,
+                    chunk: Some(chunk),
+                    listed,
+                }),
                 Err(error) => {
                     file.back(mark, Some(chunk));
                     Err(error)
@@ -165,15 +216,16 @@ impl PieceWork {
         }
     }
 
-    /// A copy of a name.
-    fn copy_name(&self, name: &str) -> Result<Text, FeedError>
+    /// A copy of the name of something that may begin. Else its first fault; want of memory where it has none.
+    fn new_name(&self, name: &str) -> Result<Text, FeedError>
         ensures ok { IfOk result (λ copy. copy ≡ name.now) }
-        ensures err { IfErr result (λ e. e ≡ FeedError.Memory) }
+        ensures may { OnOk result ((st : Standing) → IsAt self.now.walk st → MayOpen (place_at st) name.now) }
+        ensures unopened { OnOk result (self.now.walk.file ≡ None) }
+        ensures fault { IfErr result (λ e. (st : Standing) → IsAt self.now.walk st → NameFault (place_at st) name.now e) }
     {
-        match String::from_str(self.alloc, name) {
-            Ok(copy) => Ok(Text::of(copy)),
-            Err(_) => Err(FeedError::Memory),
-        }
+        self.walk.check_name(name)?;
+        let copy = String::from_str(self.alloc, name)?;
+        Ok(Text::of(copy))
     }
 
     /// Enters a directory. On an error it stands where it stood.
@@ -187,13 +239,10 @@ impl PieceWork {
         ensures ready { OnErr result (IsReady self.new) }
         ensures params { self.new.walk.params ≡ self.old.walk.params }
     {
-        self.walk.check_name(name)?;
-        let name = self.copy_name(name)?;
+        let name = self.new_name(name)?;
         prove!(self.walk.params.min() > 0);
-        match self.walk.begin_dir(self.alloc, name) {
-            Ok(()) => Ok(Took::All(0, None)),
-            Err(_) => Err(FeedError::Memory),
-        }
+        self.walk.begin_dir(self.alloc, name)?;
+        Ok(Took::All(0, None))
     }
 
     /// Opens a file. On an error it stands where it stood.
@@ -207,8 +256,7 @@ impl PieceWork {
         ensures ready { OnErr result (IsReady self.new) }
         ensures params { self.new.walk.params ≡ self.old.walk.params }
     {
-        self.walk.check_name(name)?;
-        let name = self.copy_name(name)?;
+        let name = self.new_name(name)?;
         prove!(self.walk.params.min() > 0);
         self.walk.begin_file(self.alloc, name);
         Ok(Took::All(0, None))
@@ -234,10 +282,7 @@ impl PieceWork {
         }
         let taken = take_bytes(&mut self.packing, &mut file, lookup, piece);
         self.walk.file = Some(file);
-        match taken {
-            Ok(took) => Ok(took),
-            Err(_) => Err(FeedError::Memory),
-        }
+        Ok(taken?)
     }
 
     /// Closes the open file, else the open directory. On an error it stands where it stood.
@@ -252,18 +297,12 @@ impl PieceWork {
         ensures params { self.new.walk.params ≡ self.old.walk.params }
     {
         if self.walk.file.is_some() {
-            return match self.close_file(lookup) {
-                Ok(took) => Ok(took),
-                Err(_) => Err(FeedError::Memory),
-            };
+            return Ok(self.close_file(lookup)?);
         }
         if self.walk.above.is_empty() {
             return Err(FeedError::Order);
         }
-        match self.close_dir(lookup) {
-            Ok(took) => Ok(took),
-            Err(_) => Err(FeedError::Memory),
-        }
+        Ok(self.close_dir(lookup)?)
     }
 
     /// Ends the open file: what is left of it is its last chunk, and it has a node. It fails for memory alone, and then it
@@ -283,20 +322,8 @@ impl PieceWork {
         let Some(mut file) = self.walk.file.take() else {
             return Ok(Took::All(0, None));
         };
-        if file.make_room().is_err() {
-            self.walk.file = Some(file);
-            return Err(AllocError);
-        }
-        if file.rest.is_empty() {
-            self.walk.end_file(file);
-            return Ok(Took::All(0, None));
-        }
-        match self
-            .packing
-            .pack(lookup, BlobKind::Content, &file.rest, Sealing::Due)
-        {
-            Ok(Packed { name, listed }) => {
-                file.content.push(name).unwrap();
+        match pack_rest(&mut self.packing, &mut file, lookup) {
+            Ok(listed) => {
                 self.walk.end_file(file);
                 Ok(Took::All(0, listed))
             }
@@ -304,6 +331,18 @@ impl PieceWork {
                 self.walk.file = Some(file);
                 Err(error)
             }
+        }
+    }
+
+    /// The tree text of the open directory; `None` where it is above 8,388,608 bytes. It fails for memory alone.
+    fn open_tree(&self) -> Result<Option<Vec<u8>>, AllocError>
+        ensures { IfOk result (λ made. MatchOption made (blob_limit < length (tree_text self.now.walk.nodes.items))
+            (λ text. (text.items ≡ tree_text self.now.walk.nodes.items) × IsTreeText text.items self.now.walk.nodes.items × (1 ≤ length text.items))) }
+    {
+        match write_tree(self.alloc, self.walk.nodes.as_slice()) {
+            Ok(text) => Ok(Some(text)),
+            Err(TreeError::TooLarge) => Ok(None),
+            Err(_) => Err(AllocError),
         }
     }
 
@@ -321,34 +360,15 @@ impl PieceWork {
         ensures params { self.new.walk.params ≡ self.old.walk.params }
     {
         prove!(self.walk.params.min() > 0);
-        let text = match write_tree(self.alloc, self.walk.nodes.as_slice()) {
-            Ok(text) => text,
-            Err(TreeError::TooLarge) => return Ok(Took::TooLarge),
-            Err(_) => return Err(AllocError),
+        let Some(text) = self.open_tree()? else {
+            return Ok(Took::TooLarge);
         };
-        let Some(mut outer) = self.walk.above.pop() else {
-            return Err(AllocError);
-        };
-        if outer.nodes.reserve(1).is_err() {
-            self.walk.above.push(outer).unwrap();
-            return Err(AllocError);
-        }
-        match self
+        self.walk.make_room_around()?;
+        let Packed { name, listed } = self
             .packing
-            .pack(lookup, BlobKind::Tree, &text, Sealing::Due)
-        {
-            Ok(Packed { name, listed }) => {
-                let what = NodeKind::Dir { subtree: name };
-                let Outer { mut nodes, name } = outer;
-                nodes.push(Node { name, what }).unwrap();
-                self.walk.nodes = nodes;
-                Ok(Took::All(0, listed))
-            }
-            Err(error) => {
-                self.walk.above.push(outer).unwrap();
-                Err(error)
-            }
-        }
+            .pack(lookup, BlobKind::Tree, &text, Sealing::Due)?;
+        self.walk.end_dir(name);
+        Ok(Took::All(0, listed))
     }
 
     /// Ends all: the root's tree is a blob, and the open pack is sealed, where it has a blob. On an error it stands where it
@@ -368,21 +388,14 @@ impl PieceWork {
             return Err(FeedError::Order);
         }
         prove!(self.walk.params.min() > 0);
-        let text = match write_tree(self.alloc, self.walk.nodes.as_slice()) {
-            Ok(text) => text,
-            Err(TreeError::TooLarge) => return Ok(Took::TooLarge),
-            Err(_) => return Err(FeedError::Memory),
+        let Some(text) = self.open_tree()? else {
+            return Ok(Took::TooLarge);
         };
-        match self
+        let Packed { name, listed } = self
             .packing
-            .pack(lookup, BlobKind::Tree, &text, Sealing::Last)
-        {
-            Ok(Packed { name, listed }) => {
-                self.walk.root = Some(name);
-                Ok(Took::All(0, listed))
-            }
-            Err(_) => Err(FeedError::Memory),
-        }
+            .pack(lookup, BlobKind::Tree, &text, Sealing::Last)?;
+        self.walk.root = Some(name);
+        Ok(Took::All(0, listed))
     }
 
     /// Takes an item. On an error it stands where it stood.

@@ -33,7 +33,7 @@ pub struct PieceFile {
 }
 
 /// How much a file had: so many bytes behind its chunks, so many chunks, and so many bytes in all.
-#[derive(Clone, Copy, Debug, PartialEq, Eq)]
+#[derive(Clone, Copy)]
 pub struct Mark {
     pub rest: usize,
     pub chunks: usize,
@@ -99,8 +99,7 @@ fn append(
 }
 
 impl PieceFile {
-    ghost use Rattle.std.specs.Prelude.{vec_len, vec_capacity};
-    ghost use Rattle.repo_backup.specs.Pieces.{IsSameFile, ScansOn, first_rest};
+    ghost use Rattle.repo_backup.specs.Pieces.{ScansOn, first_rest};
 
     /// An empty file. It takes no memory.
     pub fn new(alloc: Global, params: Params, name: Text) -> PieceFile
@@ -131,14 +130,6 @@ impl PieceFile {
             chunks: self.content.len(),
             size: self.size,
         }
-    }
-
-    /// Makes room for the name of one more chunk. It fails for memory alone, and then nothing changed.
-    pub fn make_room(&mut self) -> Result<(), AllocError>
-        ensures same { IsSameFile self.old self.new }
-        ensures room { OnOk result (vec_len self.new.content + 1 ≤ vec_capacity self.new.content) }
-    {
-        self.content.reserve(1)
     }
 
     /// Goes back to where it had so much: the bytes behind the chunks are the first ones of these, or of those that it has. It
@@ -206,8 +197,9 @@ impl PieceWalk {
     ghost use Rattle.repo_tree.specs.declared.nodes.NodeKind.{NodeKind};
     ghost use Rattle.repo_backup.specs.Folders.{nothing};
     ghost use Rattle.repo_backup.specs.Items.{MayOpen, NameFault};
-    ghost use Rattle.repo_backup.specs.Pieces.{IsAt};
-    ghost use Rattle.repo_backup.specs.Standings.{Standing, place_at};
+    ghost use Rattle.repo_backup.specs.Pieces.{AreOuterAt, IsAt};
+    ghost use Rattle.repo_backup.specs.Standings.{Around, Standing, place_at};
+    ghost use Rattle.repo_backup.specs.declared.walks.Outer.{Outer};
 
     /// Whether something of this name may begin. Else the first fault, in the order `BadPath`, `Order`, `TooDeep`.
     pub fn check_name(&self, name: &str) -> Result<(), FeedError>
@@ -244,6 +236,42 @@ impl PieceWalk {
         let nodes = mem::replace(&mut self.nodes, Vec::new(alloc));
         self.above.push(Outer { nodes, name }).unwrap();
         Ok(())
+    }
+
+    /// Makes room for one more node in the directory around the open one. It fails for memory alone. Nothing changes but
+    /// how much room there is.
+    pub fn make_room_around(&mut self) -> Result<(), AllocError>
+        requires { 1 ≤ length self.old.above.items }
+        ensures room { OnOk result ((before : List Outer) × (outer : Outer) × (self.new.above.items ≡ before ++ outer ∷ []) × (vec_len outer.nodes + 1 ≤ vec_capacity outer.nodes)) }
+        ensures above { (above : List Around) → AreOuterAt self.old.above.items above → AreOuterAt self.new.above.items above }
+        ensures nodes { self.new.nodes ≡ self.old.nodes }
+        ensures params { self.new.params ≡ self.old.params }
+        ensures file { self.new.file ≡ self.old.file }
+        ensures root { self.new.root ≡ self.old.root }
+    {
+        let Some(mut outer) = self.above.pop() else {
+            return Ok(());
+        };
+        let room = outer.nodes.reserve(1);
+        self.above.push(outer).unwrap();
+        room
+    }
+
+    /// Goes out of the open directory, whose tree has this name, and makes its node, for which there is room.
+    pub fn end_dir(&mut self, subtree: Name)
+        requires room { (before : List Outer) × (outer : Outer) × (self.old.above.items ≡ before ++ outer ∷ []) × (vec_len outer.nodes + 1 ≤ vec_capacity outer.nodes) }
+        ensures nodes { (before : List Outer) (outer : Outer) → self.old.above.items ≡ before ++ outer ∷ []
+            → (self.new.above.items ≡ before) × (self.new.nodes.items ≡ outer.nodes.items ++ record { name = outer.name; what = NodeKind.Dir subtree } ∷ []) }
+        ensures params { self.new.params ≡ self.old.params }
+        ensures file { self.new.file ≡ self.old.file }
+        ensures root { self.new.root ≡ self.old.root }
+    {
+        let Some(Outer { mut nodes, name }) = self.above.pop() else {
+            return;
+        };
+        let what = NodeKind::Dir { subtree };
+        nodes.push(Node { name, what }).unwrap();
+        self.nodes = nodes;
     }
 
     /// Opens a file of this name. It takes no memory.

@@ -1,11 +1,12 @@
-use Rattle.std.proofs.Common.{rules, arith, ◌≡◌, ◌≢◌, ◌+◌, [], ℕ, List, length, take, drop, None, refl, sym, ap, subst, ◌∙◌, length-drop}
+use Rattle.std.proofs.Common.{rules, arith, ◌≡◌, ◌≢◌, ◌+◌, [], ℕ, List, length, take, take_all, append-nil, drop, None, refl, sym, ap, subst, ◌∙◌, length-drop}
 use Rattle.std.proofs.Math.Seq.{take-append_seam}
 use Rattle.repo_chunk.specs.Cuts.{HasNoCut}
 use Rattle.repo_chunk.specs.Parameters.{Parameters}
 use Rattle.repo_backup.specs.Packings.{IsListed}
-use Rattle.repo_backup.specs.Pieces.{first_rest}
+use Rattle.repo_backup.specs.Pieces.{first_rest, with_file}
 use Rattle.repo_backup.proofs.Biting.{bites_on, bites_whole, bites_listed, keeps_first, keeps_kept, keeps_chunks, keeps_open, keeps_packing, chunk_bytes, no_chunk, a_chunk, not_listed, is_listed, first_same}
 use Rattle.repo_backup.proofs.Closing.{uncut_of}
+use Rattle.repo_backup.proofs.Piecing.{no_bytes}
 use Rattle.repo_backup.proofs.piece_works.take_bytes.Goals as goal
 
 pub returns-then-is_some-clause-ok : goal.returns-then-is_some-clause-ok
@@ -143,3 +144,22 @@ returns-in-Err-clause-err c =
       (back.name ∙ same.0 ∙ inv.name, back.size ∙ mark.size, back.content ∙ content, back.rest ∙ rest, back.params ∙ same.4 ∙ inv.params),
       ((λ i. record { items = items i; target = target i }), less.sealed ∙ stays.1 ∙ inv.unsealed ∙ sym c.requires.unsealed, λ sent h. less.packing known sent [] (stays.2 sent (inv.packs sent h))),
     )
+
+pub loop-taken-init : goal.loop-taken-init
+loop-taken-init c =
+    let f = c.args.file.now in
+    let p = c.args.packing.now in
+    record {
+      within = omega arith;
+      name = refl;
+      params = refl;
+      size = omega arith;
+      goes = λ w unended. no_bytes c.args.lookup.now (with_file w f p) f refl (omega (arith, c.requires.small));
+      opened = c.requires.open;
+      unsealed = c.requires.unsealed;
+      grows = (([], sym (append-nil p.packer.writer.items)), refl);
+      packs = λ sent h. h;
+      target = refl;
+      rest = take_all (length f.rest.items) f.rest.items (omega arith);
+      chunks = ([], sym (append-nil f.content.items));
+    }

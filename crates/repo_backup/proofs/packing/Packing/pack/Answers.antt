@@ -4,7 +4,7 @@ use Rattle.repo_pack.specs.PackLayout.{Item, item_of}
 use Rattle.repo_pack.specs.PackWriting.{IsDue}
 use Rattle.repo_backup.specs.Packings.{IsPacking, AllGain, IsSealedBy, all_items}
 use Rattle.repo_backup.specs.declared.packing.Packing.{Packing}
-use Rattle.repo_backup.proofs.PackingLemmas.{all_gain, just_due}
+use Rattle.repo_backup.proofs.PackingLemmas.{all_gain, just_due, left_empty, none_by}
 use Rattle.repo_backup.proofs.packing.Packing.pack.Goals.{in-Due, in-Last}
 use Rattle.repo_backup.proofs.packing.Packing.pack.Goals as goal
 
@@ -45,3 +45,13 @@ returns-in-Err-clause-err c =
       back.sealed ∙ ap (λ (p : Packing). p.packer.sealed) same ∙ c.in_ok-add.ensures.sealed,
       λ sent h. back.packing known sent [] (subst (λ p. IsPacking p known sent []) (sym same) (c.in_ok-add.ensures.ok sent [] h).0),
     )
+
+pub returns-in-Ok-clause-open : goal.returns-in-Ok-clause-open
+returns-in-Ok-clause-open c = left_empty c.args.sealing c.in-Ok.facts c.seal_listed.new.self c.in-Ok.ensures.open c.in-Ok.ensures.begun
+
+pub returns-then-not-is_wanted-clause-ok : goal.returns-then-not-is_wanted-clause-ok
+returns-then-not-is_wanted-clause-ok c = λ sent h.
+    let known = c.args.lookup.now in
+    let old = c.args.self.now in
+    let added = c.in_ok-add.ensures.ok sent [] h in
+    ([], added.0, all_gain known sent [] old c.add.new.self (item_of c.args.kind c.args.bytes.now) added.1, none_by c.args.sealing old.packer.writer.target)

@@ -1,60 +1,53 @@
-use Rattle.std.proofs.Common.{rules, ◌≡◌, ◌<◌, ◌++◌, ◌∷◌, [], List, length, refl, sym, ap, subst, ◌∙◌}
+use Rattle.std.proofs.Common.{◌<◌, ◌++◌, ◌∷◌, [], length, refl, sym, ap, subst, ◌∙◌}
 use Rattle.repo_name.specs.Limits.{blob_limit}
 use Rattle.repo_name.specs.Naming as naming
 use Rattle.repo_name.specs.declared.kinds.BlobKind.TheVariants.{Tree}
 use Rattle.repo_pack.specs.PackLayout.{item_of}
 use Rattle.repo_tree.specs.TreeText.{IsTreeText}
 use Rattle.repo_tree.specs.TreeWriting.{tree_text}
-use Rattle.repo_tree.specs.declared.nodes.Node.{Node}
-use Rattle.repo_tree.specs.declared.nodes.NodeKind.TheVariants.{Dir}
 use Rattle.repo_backup.specs.Packings.{PacksOn}
-use Rattle.repo_backup.specs.Pieces.{AreOuterAt}
 use Rattle.repo_backup.specs.declared.packing.Sealing.{Sealing}
 use Rattle.repo_backup.specs.declared.piece_works.PieceWork.{PieceWork}
-use Rattle.repo_backup.specs.declared.walks.Outer.{Outer}
-use Rattle.repo_backup.proofs.Closing.{too_large, dir_closed, dir_large, outer_again, room_stays}
+use Rattle.repo_backup.proofs.Closing.{dir_closed, dir_large, room_stays}
+use Rattle.repo_backup.proofs.PackingLemmas.{on_any}
 use Rattle.repo_backup.proofs.piece_works.PieceWork.close_dir.Goals as goal
 
-pub returns-in-Err-TooLarge-clause-ok : goal.returns-in-Err-TooLarge-clause-ok
-returns-in-Err-TooLarge-clause-ok c =
+pub returns-in_default-clause-ok : goal.returns-in_default-clause-ok
+returns-in_default-clause-ok c =
     let w = c.args.self.now in
-    let large : blob_limit < length (tree_text w.walk.nodes.items) = subst (λ (ns : List Node). blob_limit < length (tree_text ns)) c.as_slice.ensures.value (too_large c.as_slice.result.now c.in-Err-TooLarge.field-0 c.in-Err-TooLarge.field-0-is c.in-Err-TooLarge.ensures.fault) in
+    let large : blob_limit < length (tree_text w.walk.nodes.items) = rw c.in_default.is at c.in_ok-text.ensures in
     dir_large w c.args.lookup.now c.requires.file c.requires.deep c.min.ensures.lawful c.requires.ready.unended large
 
-pub returns-then-is_err-clause-stays : goal.returns-then-is_err-clause-stays
-returns-then-is_err-clause-stays c =
+pub returns-clause-ok : goal.returns-clause-ok
+returns-clause-ok c =
     let w = c.args.self.now in
-    let outer = c.in-Some.outer in
-    let again : Outer = record { nodes = c.reserve.new.self; name = outer.name } in
-    let v : PieceWork = record w { walk = record w.walk { above = c.push.new.self } } in
-    let pushed : c.push.new.self.items ≡ c.pop.new.self.items ++ again ∷ [] = search rules in
-    room_stays w v c.args.lookup.now refl (λ above h. subst (λ l. AreOuterAt l above) (sym pushed) (outer_again c.pop.new.self.items outer again above refl c.reserve.ensures.items (subst (λ l. AreOuterAt l above) c.in-Some.ensures.items h)))
-    refl refl refl (λ sent h. h) refl
-
-pub returns-in-Ok-pack-clause-ok : goal.returns-in-Ok-pack-clause-ok
-returns-in-Ok-pack-clause-ok c =
-    let w = c.args.self.now in
-    let outer = c.in-Some.outer in
-    let name = c.in-Ok-pack.name in
-    let node : Node = record { name = outer.name; what = Dir name } in
-    let v : PieceWork = record w { walk = record w.walk { above = c.pop.new.self; nodes = c.push-in-Ok-pack.new.self }; packing = c.pack.new.self } in
-    let text : c.in-Ok.text.items ≡ tree_text w.walk.nodes.items = c.in-Ok.ensures.text ∙ ap tree_text c.as_slice.ensures.value in
-    let reads : IsTreeText (tree_text w.walk.nodes.items) w.walk.nodes.items = subst (λ b. IsTreeText b w.walk.nodes.items) text (subst (λ ns. IsTreeText c.in-Ok.text.items ns) c.as_slice.ensures.value c.in-Ok.ensures.reads) in
-    let pushed : c.push-in-Ok-pack.new.self.items ≡ c.reserve.new.self.items ++ node ∷ [] = search rules in
-    let packs : PacksOn c.args.lookup.now Sealing.Due (item_of Tree (tree_text w.walk.nodes.items)) w.packing c.pack.new.self =
-    subst (λ b. PacksOn c.args.lookup.now Sealing.Due (item_of Tree b) w.packing c.pack.new.self) (c.deref.ensures.value ∙ text) c.in-Ok-pack.ensures.ok in (
+    let known = c.args.lookup.now in
+    let moved = c.make_room_around.ensures in
+    let room = c.in_ok-make_room_around.ensures.room in
+    let outer = room.1 in
+    let u : PieceWork = record w { walk = record w.walk { above = c.make_room_around.new.self.above } } in
+    let v : PieceWork = record w { walk = c.end_dir.new.self; packing = c.pack.new.self } in
+    let ended = c.end_dir.ensures.nodes room.0 outer room.2 in
+    let made = rw c.in-Some.is at c.in_ok-text.ensures in
+    let reads : IsTreeText (tree_text w.walk.nodes.items) w.walk.nodes.items = subst (λ b. IsTreeText b w.walk.nodes.items) made.0 made.1 in
+    let bytes = c.deref.ensures.value ∙ made.0 in
+    let packs : PacksOn known Sealing.Due (item_of Tree (tree_text w.walk.nodes.items)) w.packing c.pack.new.self = subst (λ b. PacksOn known Sealing.Due (item_of Tree b) w.packing c.pack.new.self) bytes c.in_ok-name.ensures.ok in (
       refl,
-      dir_closed w v outer name c.args.lookup.now refl c.in-Some.ensures.items c.requires.file c.requires.file refl (pushed ∙ ap (λ l. l ++ node ∷ []) c.reserve.ensures.items) reads
-          (sym c.in-Ok-pack.name-is ∙ c.in-Ok-pack.ensures.named ∙ ap naming.name (c.deref.ensures.value ∙ text)) c.min.ensures.lawful c.requires.ready.unended packs,
+      λ st sent h. dir_closed u v outer c.in_ok-name.field-0.name known (c.end_dir.ensures.params ∙ moved.params) (room.2 ∙ ap (λ l. l ++ outer ∷ []) (sym ended.0)) c.requires.file (c.end_dir.ensures.file ∙ moved.file ∙ c.requires.file)
+          (c.end_dir.ensures.root ∙ moved.root) ended.1 reads (c.in_ok-name.ensures.named ∙ ap naming.name bytes) c.min.ensures.lawful c.requires.ready.unended packs st sent (room_stays w u known refl moved.above refl refl refl (λ sent h. h) refl st sent h),
     )
 
-pub returns-clause-stays : goal.returns-clause-stays
-returns-clause-stays c =
+pub returns-in_err-name-clause-stays : goal.returns-in_err-name-clause-stays
+returns-in_err-name-clause-stays c =
     let w = c.args.self.now in
-    let outer = c.in-Some.outer in
-    let again : Outer = record { nodes = c.reserve.new.self; name = outer.name } in
-    let v : PieceWork = record w { walk = record w.walk { above = c.push-in-Err-pack.new.self }; packing = c.pack.new.self } in
-    let pushed : c.push-in-Err-pack.new.self.items ≡ c.pop.new.self.items ++ again ∷ [] = search rules in
-    let err = c.in-Err-pack.ensures.err in
-    room_stays w v c.args.lookup.now refl (λ above h. subst (λ l. AreOuterAt l above) (sym pushed) (outer_again c.pop.new.self.items outer again above refl c.reserve.ensures.items (subst (λ l. AreOuterAt l above) c.in-Some.ensures.items h)))
-    refl refl refl err.2 (ap (λ x. x.items) err.0)
+    let moved = c.make_room_around.ensures in
+    let v : PieceWork = record w { walk = c.make_room_around.new.self; packing = c.pack.new.self } in
+    let err = c.in_err-name.ensures.err in
+    on_any _ c.from_residual-in_err-name.result (room_stays w v c.args.lookup.now moved.params moved.above (ap (λ x. x.items) moved.nodes) moved.file moved.root err.2 (ap (λ x. x.items) err.0))
+
+pub returns-in_err-make_room_around-clause-stays : goal.returns-in_err-make_room_around-clause-stays
+returns-in_err-make_room_around-clause-stays c =
+    let w = c.args.self.now in
+    let moved = c.make_room_around.ensures in
+    let v : PieceWork = record w { walk = c.make_room_around.new.self } in
+    on_any _ c.from_residual-in_err-make_room_around.result (room_stays w v c.args.lookup.now moved.params moved.above (ap (λ x. x.items) moved.nodes) moved.file moved.root (λ sent h. h) refl)

@@ -1,10 +1,10 @@
 use Rattle.std.proofs.Common.{sym, ap, subst, ◌∙◌}
-use Rattle.repo_session.specs.Feeds.{fed_dir, fed_file}
+use Rattle.repo_session.specs.Feeds.{fed_dir, fed_file, fed_close, fed_end}
 use Rattle.repo_backup.specs.Items.{fed_of, fed_part, size_of}
 use Rattle.repo_backup.specs.Pieces.{Refuses, sealing_at}
 use Rattle.repo_backup.specs.declared.packing.Sealing.{Sealing}
 use Rattle.repo_backup.proofs.PackingLemmas.{on_err}
-use Rattle.repo_backup.proofs.PieceTaking.{item_taken, if_err, whole_piece}
+use Rattle.repo_backup.proofs.PieceTaking.{item_taken, piece_taken, if_err, whole_piece}
 use Rattle.repo_backup.proofs.Staging.{if_ok}
 use Rattle.repo_backup.proofs.piece_works.PieceWork.feed.Goals as goal
 
@@ -53,3 +53,18 @@ returns-in-End-clause-refused c =
     let known = c.args.lookup.now in
     let w = c.args.self.now in
     if_err _ _ c.feed_end.result (λ e h. subst (λ f. Refuses known f w e) (sym (ap fed_of c.in-End.is)) (h known)) c.feed_end.ensures.refused
+
+pub returns-in-Bytes-clause-ok : goal.returns-in-Bytes-clause-ok
+returns-in-Bytes-clause-ok c =
+    let is = c.in-Bytes.is in
+    if_ok _ _ c.feed_bytes.result (λ took h. piece_taken c.args.lookup.now c.args.item c.in-Bytes.piece.now c.args.self.now took c.feed_bytes.new.self (λ n. ap (fed_part n) is) (ap size_of is) (ap sealing_at is) h) c.feed_bytes.ensures.ok
+
+pub returns-in-Close-clause-ok : goal.returns-in-Close-clause-ok
+returns-in-Close-clause-ok c =
+    let is = c.in-Close.is in
+    if_ok _ _ c.feed_close.result (λ took h. item_taken c.args.lookup.now c.args.item Sealing.Due fed_close c.args.self.now took c.feed_close.new.self (λ n. ap (fed_part n) is) (ap size_of is) (ap sealing_at is) h) c.feed_close.ensures.ok
+
+pub returns-in-End-clause-ok : goal.returns-in-End-clause-ok
+returns-in-End-clause-ok c =
+    let is = c.in-End.is in
+    if_ok _ _ c.feed_end.result (λ took h. item_taken c.args.lookup.now c.args.item Sealing.Last fed_end c.args.self.now took c.feed_end.new.self (λ n. ap (fed_part n) is) (ap size_of is) (ap sealing_at is) h) c.feed_end.ensures.ok

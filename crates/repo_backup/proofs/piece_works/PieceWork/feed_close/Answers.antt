@@ -1,4 +1,6 @@
 use Rattle.std.proofs.Common.{rules, arith, ◌≡◌, ◌≤◌, [], length, None, inl, inr}
+use Rattle.repo_session.specs.Feeds.{fed_close}
+use Rattle.repo_backup.proofs.PieceTaking.{memory_told}
 use Rattle.repo_backup.proofs.Closing.{at_top, may_close, no_length, none_there, some_here}
 use Rattle.repo_backup.proofs.piece_works.PieceWork.feed_close.Goals as goal
 
@@ -9,10 +11,13 @@ returns-then-is_empty-clause-refused c = λ known st sent h.
     let top : w.walk.above.items ≡ [] = no_length w.walk.above.items (search (rules, arith)) in
     at_top w known st sent none top h
 
-pub returns-in-Err-clause-refused : goal.returns-in-Err-clause-refused
-returns-in-Err-clause-refused c = λ known st sent h. may_close c.args.self.now known st sent (inl (some_here c.args.self.now.walk.file (search rules))) h
+pub returns-in_err-close_file-clause-refused : goal.returns-in_err-close_file-clause-refused
+returns-in_err-close_file-clause-refused c =
+    let w = c.args.self.now in
+    memory_told c.from_residual.result w fed_close c.from_residual.ensures.1 (λ known st sent h. may_close w known st sent (inl (some_here w.walk.file (search rules))) h)
 
-pub returns-in-Err-close_dir-clause-refused : goal.returns-in-Err-close_dir-clause-refused
-returns-in-Err-close_dir-clause-refused c = λ known st sent h.
-    let deep : 1 ≤ length c.args.self.now.walk.above.items = search (rules, arith) in
-    may_close c.args.self.now known st sent (inr deep) h
+pub returns-in_err-close_dir-clause-refused : goal.returns-in_err-close_dir-clause-refused
+returns-in_err-close_dir-clause-refused c =
+    let w = c.args.self.now in
+    let deep : 1 ≤ length w.walk.above.items = search (rules, arith) in
+    memory_told c.from_residual-in_err-close_dir.result w fed_close c.from_residual-in_err-close_dir.ensures.1 (λ known st sent h. may_close w known st sent (inr deep) h)

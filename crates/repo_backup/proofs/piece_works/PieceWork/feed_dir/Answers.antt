@@ -4,20 +4,23 @@ use Rattle.repo_backup.specs.Pieces.{IsAt}
 use Rattle.repo_backup.specs.Standings.{IsCutSoFar, made_at}
 use Rattle.repo_backup.specs.declared.piece_works.PieceWork.{PieceWork}
 use Rattle.repo_backup.proofs.Leading.{next_dir}
+use Rattle.repo_backup.proofs.PackingLemmas.{on_any}
+use Rattle.repo_backup.proofs.PieceTaking.{memory_told}
 use Rattle.repo_backup.proofs.Piecing.{stands_on}
+use Rattle.repo_session.specs.Feeds.{fed_dir}
 use Rattle.repo_backup.proofs.piece_works.PieceWork.feed_dir.Goals as goal
 
-pub returns-in-Ok-clause-ok : goal.returns-in-Ok-clause-ok
+pub returns-clause-ok : goal.returns-clause-ok
 unfolding next_dir
-returns-in-Ok-clause-ok c = λ known. (
+returns-clause-ok c = λ known. (
   refl,
   λ st sent h.
       let w = c.args.self.now in
       let v : PieceWork = record w { walk = c.begin_dir.new.self } in
       let still : st.over ≡ false = sym h.at.over ∙ ap is_some c.requires.unended in
       let n = next_dir w.walk.params c.min.ensures.lawful st c.args.name.now h.cut still in
-      let at : IsAt v.walk n.now = subst (λ (x : List ℕ). IsAt v.walk (record { done = nothing; above = record { name = x; done = st.done } ∷ st.above; file = st.file; over = st.over })) c.in_ok-name.ensures.ok (c.in-Ok.ensures.ok st h.at) in (
-        c.in_ok-check_name.ensures.ok st h.at,
+      let at : IsAt v.walk n.now = subst (λ (x : List ℕ). IsAt v.walk (record { done = nothing; above = record { name = x; done = st.done } ∷ st.above; file = st.file; over = st.over })) c.in_ok-name.ensures.ok (c.in_ok-begin_dir.ensures.ok st h.at) in (
+        c.in_ok-name.ensures.may st h.at,
         n.now,
         [],
         n.place,
@@ -25,3 +28,12 @@ returns-in-Ok-clause-ok c = λ known. (
         inl refl,
       ),
 )
+
+pub returns-in_err-begin_dir-clause-refused : goal.returns-in_err-begin_dir-clause-refused
+returns-in_err-begin_dir-clause-refused c = memory_told c.from_residual-in_err-begin_dir.result c.args.self.now (fed_dir c.args.name.now) c.from_residual-in_err-begin_dir.ensures.1 (λ known st sent h. c.in_ok-name.ensures.may st h.at)
+
+pub returns-in_err-begin_dir-clause-stays : goal.returns-in_err-begin_dir-clause-stays
+returns-in_err-begin_dir-clause-stays c = on_any _ c.from_residual-in_err-begin_dir.result (λ known st sent h.
+    let w = c.args.self.now in
+    let v : PieceWork = record w { walk = c.begin_dir.new.self } in
+    stands_on w v known st st sent [] refl refl (c.in_err-begin_dir.ensures.err st h.at) (subst (λ q. IsCutSoFar q st) (sym c.begin_dir.ensures.params) h.cut) h.texts h)

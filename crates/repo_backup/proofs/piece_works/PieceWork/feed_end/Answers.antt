@@ -4,16 +4,18 @@ use Rattle.repo_name.specs.Limits.{blob_limit}
 use Rattle.repo_name.specs.Naming as naming
 use Rattle.repo_name.specs.declared.kinds.BlobKind.TheVariants.{Tree}
 use Rattle.repo_pack.specs.PackLayout.{Item, item_of}
+use Rattle.repo_session.specs.Feeds.{fed_end}
 use Rattle.repo_tree.specs.TreeText.{IsTreeText}
 use Rattle.repo_tree.specs.TreeWriting.{tree_text}
-use Rattle.repo_tree.specs.declared.nodes.Node.{Node}
 use Rattle.repo_backup.specs.Packings.{IsPacking, IsListed, IsLeftOpen, PacksOn}
 use Rattle.repo_backup.specs.Pieces.{Reopens, reopened}
 use Rattle.repo_backup.specs.declared.packing.Sealing.{Sealing}
 use Rattle.repo_backup.specs.declared.piece_works.PieceWork.{PieceWork}
 use Rattle.repo_backup.specs.declared.piece_works.Took.{Took}
+use Rattle.repo_backup.proofs.PackingLemmas.{on_any}
+use Rattle.repo_backup.proofs.PieceTaking.{memory_told}
 use Rattle.repo_backup.proofs.Piecing.{none_sealed}
-use Rattle.repo_backup.proofs.Closing.{no_front, too_large, all_ended, root_large, room_stays, at_top, no_end, no_length, none_there, some_here}
+use Rattle.repo_backup.proofs.Closing.{no_front, all_ended, root_large, room_stays, at_top, no_end, no_length, none_there, some_here}
 use Rattle.repo_backup.proofs.piece_works.PieceWork.feed_end.Goals.{then-is_some-via-then-is_some, then-is_some-via-else-is_some+then-not-is_empty}
 use Rattle.repo_backup.proofs.piece_works.PieceWork.feed_end.Goals as goal
 
@@ -26,66 +28,66 @@ returns-then-is_some-clause-refused c = λ known st sent h top.
     ] in
     no_end w known st sent why h top
 
-pub returns-in-Err-TooLarge-clause-ok : goal.returns-in-Err-TooLarge-clause-ok
-returns-in-Err-TooLarge-clause-ok c =
+pub returns-in_default-clause-ok : goal.returns-in_default-clause-ok
+returns-in_default-clause-ok c =
     let w = c.args.self.now in
     let none : w.walk.file ≡ None = none_there w.walk.file (search rules) in
     let top : w.walk.above.items ≡ [] = no_length w.walk.above.items (search (rules, arith)) in
-    let large : blob_limit < length (tree_text w.walk.nodes.items) = subst (λ (ns : List Node). blob_limit < length (tree_text ns)) c.as_slice.ensures.value (too_large c.as_slice.result.now c.in-Err-TooLarge.field-0 c.in-Err-TooLarge.field-0-is c.in-Err-TooLarge.ensures.fault) in
+    let large : blob_limit < length (tree_text w.walk.nodes.items) = rw c.in_default.is at c.in_ok-text.ensures in
     root_large w c.args.lookup.now none top c.min.ensures.lawful c.requires.unended large
 
-pub returns-in-Err : goal.returns-in-Err
-returns-in-Err c =
+pub returns-in_err-text-clause-refused : goal.returns-in_err-text-clause-refused
+returns-in_err-text-clause-refused c =
     let w = c.args.self.now in
     let none : w.walk.file ≡ None = none_there w.walk.file (search rules) in
     let top : w.walk.above.items ≡ [] = no_length w.walk.above.items (search (rules, arith)) in
-    record { ok = tt; packed = tt; back = tt; aims = (refl, λ h. h); refused = λ known st sent h. at_top w known st sent none top h; stays = λ st sent h. h; ready = c.requires; params = refl }
+    memory_told c.from_residual.result w fed_end c.from_residual.ensures.1 (λ known st sent h. at_top w known st sent none top h)
 
-pub returns-in-Ok-pack-clause-ok : goal.returns-in-Ok-pack-clause-ok
-returns-in-Ok-pack-clause-ok c =
+pub returns-clause-ok : goal.returns-clause-ok
+returns-clause-ok c =
     let w = c.args.self.now in
-    let name = c.in-Ok-pack.field-0.name in
+    let name = c.in_ok-name.field-0.name in
     let none : w.walk.file ≡ None = none_there w.walk.file (search rules) in
     let top : w.walk.above.items ≡ [] = no_length w.walk.above.items (search (rules, arith)) in
     let v : PieceWork = record w { walk = record w.walk { root = Some name }; packing = c.pack.new.self } in
-    let text : c.in-Ok.text.items ≡ tree_text w.walk.nodes.items = c.in-Ok.ensures.text ∙ ap tree_text c.as_slice.ensures.value in
-    let reads : IsTreeText (tree_text w.walk.nodes.items) w.walk.nodes.items = subst (λ b. IsTreeText b w.walk.nodes.items) text (subst (λ ns. IsTreeText c.in-Ok.text.items ns) c.as_slice.ensures.value c.in-Ok.ensures.reads) in
-    let packs : PacksOn c.args.lookup.now Sealing.Last (item_of Tree (tree_text w.walk.nodes.items)) w.packing c.pack.new.self =
-    subst (λ b. PacksOn c.args.lookup.now Sealing.Last (item_of Tree b) w.packing c.pack.new.self) (c.deref.ensures.value ∙ text) c.in-Ok-pack.ensures.ok in
-    (refl, all_ended w v c.args.lookup.now name refl refl refl none none top refl (c.in-Ok-pack.ensures.named ∙ ap naming.name (c.deref.ensures.value ∙ text)) reads c.min.ensures.lawful c.requires.unended packs)
+    let made = rw c.in-Some.is at c.in_ok-text.ensures in
+    let reads : IsTreeText (tree_text w.walk.nodes.items) w.walk.nodes.items = subst (λ b. IsTreeText b w.walk.nodes.items) made.0 made.1 in
+    let bytes = c.deref.ensures.value ∙ made.0 in
+    let packs : PacksOn c.args.lookup.now Sealing.Last (item_of Tree (tree_text w.walk.nodes.items)) w.packing c.pack.new.self = subst (λ b. PacksOn c.args.lookup.now Sealing.Last (item_of Tree b) w.packing c.pack.new.self) bytes c.in_ok-name.ensures.ok in
+    (refl, all_ended w v c.args.lookup.now name refl refl refl none none top refl (c.in_ok-name.ensures.named ∙ ap naming.name bytes) reads c.min.ensures.lawful c.requires.unended packs)
 
-pub returns-in-Ok-pack-clause-back : goal.returns-in-Ok-pack-clause-back
-returns-in-Ok-pack-clause-back c = by c.in-Ok-pack.field-0.listed refl
+pub returns-clause-back : goal.returns-clause-back
+returns-clause-back c = by c.in_ok-name.field-0.listed refl
   where
     w : PieceWork
     w = c.args.self.now
 
     v : PieceWork
-    v = record w { walk = record w.walk { root = Some c.in-Ok-pack.field-0.name }; packing = c.pack.new.self }
+    v = record w { walk = record w.walk { root = Some c.in_ok-name.field-0.name }; packing = c.pack.new.self }
 
-    by : (listed : Option PackFacts) → c.in-Ok-pack.field-0.listed ≡ listed → Reopens c.args.lookup.now w (Took.All 0 listed) v
+    by : (listed : Option PackFacts) → c.in_ok-name.field-0.listed ≡ listed → Reopens c.args.lookup.now w (Took.All 0 listed) v
     by (Some listed) is = tt
     by None is =
         let known = c.args.lookup.now in
-        let unsealed : c.pack.new.self.packer.sealed ≡ None = subst (λ l. IsListed l c.pack.new.self) is c.in-Ok-pack.ensures.listed in
-        let left : IsLeftOpen Sealing.Last None c.pack.new.self = subst (λ l. IsLeftOpen Sealing.Last l c.pack.new.self) is c.in-Ok-pack.ensures.open in
-        let grows = c.in-Ok-pack.ensures.grows is in
+        let unsealed : c.pack.new.self.packer.sealed ≡ None = subst (λ l. IsListed l c.pack.new.self) is c.in_ok-name.ensures.listed in
+        let left : IsLeftOpen Sealing.Last None c.pack.new.self = subst (λ l. IsLeftOpen Sealing.Last l c.pack.new.self) is c.in_ok-name.ensures.open in
+        let grows = c.in_ok-name.ensures.grows is in
         let before : w.packing.packer.writer.items ≡ [] = no_front w.packing.packer.writer.items grows.0.0 (sym grows.0.1 ∙ left.1) in
         let packs : (sent : List Item) → IsPacking w.packing known sent [] → IsPacking c.pack.new.self known sent [] = λ sent h. (
-        let k = c.in-Ok-pack.ensures.ok sent h in
+        let k = c.in_ok-name.ensures.ok sent h in
         subst (λ l. IsPacking c.pack.new.self known sent l) (none_sealed c.pack.new.self.packer.sealed k.0 unsealed k.1.sealed_is) k.1) in
         room_stays w (reopened v) known refl (λ above h. h) refl refl (sym c.requires.unended) packs (left.1 ∙ sym before)
 
-pub returns-clause-refused : goal.returns-clause-refused
-returns-clause-refused c = λ known st sent h.
+pub returns-in_err-name-clause-refused : goal.returns-in_err-name-clause-refused
+returns-in_err-name-clause-refused c =
     let w = c.args.self.now in
     let none : w.walk.file ≡ None = none_there w.walk.file (search rules) in
     let top : w.walk.above.items ≡ [] = no_length w.walk.above.items (search (rules, arith)) in
-    at_top w known st sent none top h
+    memory_told c.from_residual-in_err-name.result w fed_end c.from_residual-in_err-name.ensures.1 (λ known st sent h. at_top w known st sent none top h)
 
-pub returns-clause-stays : goal.returns-clause-stays
-returns-clause-stays c =
+pub returns-in_err-name-clause-stays : goal.returns-in_err-name-clause-stays
+returns-in_err-name-clause-stays c =
     let w = c.args.self.now in
     let v : PieceWork = record w { packing = c.pack.new.self } in
-    let err = c.in-Err-pack.ensures.err in
-    room_stays w v c.args.lookup.now refl (λ above h. h) refl refl refl err.2 (ap (λ x. x.items) err.0)
+    let err = c.in_err-name.ensures.err in
+    on_any _ c.from_residual-in_err-name.result (room_stays w v c.args.lookup.now refl (λ above h. h) refl refl refl err.2 (ap (λ x. x.items) err.0))

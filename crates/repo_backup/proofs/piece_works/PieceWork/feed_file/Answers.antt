@@ -15,7 +15,7 @@ returns-clause-ok c = λ known. (
       let w = c.args.self.now in
       let v : PieceWork = record w { walk = c.begin_file.new.self } in
       let still : st.over ≡ false = sym h.at.over ∙ ap is_some c.requires.unended in
-      let may = c.in_ok-check_name.ensures.ok st h.at in
+      let may = c.in_ok-name.ensures.may st h.at in
       let none : st.file ≡ None = no_file st.file may.1.0 in
       let n = next_file w.walk.params c.min.ensures.lawful st c.args.name.now h.cut still none in
       let at : IsAt v.walk n.now = subst (λ (x : List ℕ). IsAt v.walk (record { done = st.done; above = st.above; file = Some (record { name = x; chunks = []; rest = [] }); over = st.over })) c.in_ok-name.ensures.ok (c.begin_file.ensures.walk st h.at) in (
