@@ -27,10 +27,9 @@ use Rattle.repo_session.proofs.Receiving.{each_more, is_listed}
 use Rattle.repo_prune.proofs.Repacking.{one_taken}
 use Rattle.repo_prune.specs.declared.choices.Choice.{Choice}
 use Rattle.repo_prune.specs.declared.forgets.ForgetJob.{ForgetJob}
-use Rattle.repo_prune.specs.Forgetting.{IsDecided, AreChosen, ForgetAllows, forget_rule, forget_task}
+use Rattle.repo_prune.specs.Forgetting.{IsDecided, AreChosen, AreChosenOf, ForgetAllows, forget_rule, forget_task}
 use Rattle.repo_prune.specs.ForgetStates.{Deletes, KnowsForget, KnowsReading}
 use Rattle.repo_prune.specs.Keeping.{Row}
-use Rattle.repo_prune.specs.inner.Picking.{AreChosenOf}
 
 -- ---- reading
 
@@ -115,6 +114,7 @@ page_chosen names rows listed read picked es h picks =
 known_by_listing : (choice : Choice) (es : Trace) (rows : List Row) → IsSnapshotListing es rows → IsDecided choice es rows
 known_by_listing (Choice.Names names) es rows l = l.listed
 known_by_listing (Choice.Keep policy) es rows l = l
+known_by_listing (Choice.KeepOf host policy) es rows l = l
 
 -- what is chosen of the snapshots that were read
 pub read_chosen : (choice : Choice) (rows : List Row) (picked : List Name) (es : Trace) → IsSnapshotListing es rows → AreChosenOf choice rows (map (λ (row : Row). row.0) rows) picked → AreChosen choice es picked
@@ -125,6 +125,7 @@ read_chosen choice rows picked es l h = listed_chosen choice rows (map (λ (row 
 known_stays : (choice : Choice) (e : Exchange) (es : Trace) (rows : List Row) → ListsNone Kind.Snapshot e → IsDecided choice es rows → IsDecided choice (e ∷ es) rows
 known_stays (Choice.Names names) e es rows none h = listed_stays Kind.Snapshot e es none h
 known_stays (Choice.Keep policy) e es rows none h = listing_stays e es rows none h
+known_stays (Choice.KeepOf host policy) e es rows none h = listing_stays e es rows none h
 
 chosen_stays : (choice : Choice) (e : Exchange) (es : Trace) (names : List Name) → ListsNone Kind.Snapshot e → AreChosen choice es names → AreChosen choice (e ∷ es) names
 chosen_stays choice e es names none h =

@@ -169,6 +169,7 @@ module _ (who : Asker) (choice : Choice) (from : Store) where
 known_listed : (choice : Choice) (es : Trace) (rows : List Row) → IsDecided choice es rows → is_complete Kind.Snapshot es ≡ true
 known_listed (Choice.Names names) es rows h = h.complete
 known_listed (Choice.Keep policy) es rows h = h.listed.complete
+known_listed (Choice.KeepOf host policy) es rows h = h.listed.complete
 
 chosen_from : (who : Asker) (choice : Choice) (from : Store) (talk : Talk) (to : Store) (rows : List Row) (es : Trace) → ((ask : Ask) (say : Say) → Exchanged es ask say → Exchanged (trace_of talk) ask say) → names_in Kind.Snapshot es ≡ names_in Kind.Snapshot (trace_of talk)
     → Obeys (forget_task who) (ForgetAllows choice) (ForgetGives choice) (trace_of talk) → Led from talk to → is_complete Kind.Snapshot (trace_of talk) ≡ true → IsDecided choice es rows → AreChosenFrom choice from rows
@@ -176,6 +177,10 @@ chosen_from who (Choice.Names names) from talk to rows es among same o h complet
 chosen_from who (Choice.Keep policy) from talk to rows es among same o h complete known = record {
   each = stored who (Choice.Keep policy) from talk to rows es among o h known.each;
   all = λ n x there. subst (λ ns. Has ns n) (sym (known.names ∙ same)) (listed who (Choice.Keep policy) from talk to n x o h complete there);
+}
+chosen_from who (Choice.KeepOf host policy) from talk to rows es among same o h complete known = record {
+  each = stored who (Choice.KeepOf host policy) from talk to rows es among o h known.each;
+  all = λ n x there. subst (λ ns. Has ns n) (sym (known.names ∙ same)) (listed who (Choice.KeepOf host policy) from talk to n x o h complete there);
 }
 
 -- what is chosen by one reading is chosen by the other
@@ -186,6 +191,9 @@ chosen_again who (Choice.Names names) from talk to rows others es then n among b
 chosen_again who (Choice.Keep policy) from talk to rows others es then n among before same o h known other chosen =
     let one : others ≡ rows = rows_one from others rows (other.names ∙ (sym same ∙ sym known.names)) (stored who (Choice.Keep policy) from talk to others then before o h other.each) (stored who (Choice.Keep policy) from talk to rows es among o h known.each) in
     subst (λ rs. IsChosen (Choice.Keep policy) rs n) one chosen
+chosen_again who (Choice.KeepOf host policy) from talk to rows others es then n among before same o h known other chosen =
+    let one : others ≡ rows = rows_one from others rows (other.names ∙ (sym same ∙ sym known.names)) (stored who (Choice.KeepOf host policy) from talk to others then before o h other.each) (stored who (Choice.KeepOf host policy) from talk to rows es among o h known.each) in
+    subst (λ rs. IsChosen (Choice.KeepOf host policy) rs n) one chosen
 
 pub forget_leaves : ForgetLeavesTheOthers
 forget_leaves who choice from to failed failing talk next names ran is =

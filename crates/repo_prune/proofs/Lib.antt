@@ -1,4 +1,5 @@
 pub mod Picks
+pub mod Hosts
 pub mod Choosing
 pub mod Going
 pub mod ForgetRuns

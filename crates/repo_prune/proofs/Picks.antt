@@ -18,7 +18,8 @@ use Rattle.repo_name.specs.declared.names.Name.{Name}
 use Rattle.repo_prune.specs.declared.choices.Choice.{Choice}
 use Rattle.repo_prune.specs.declared.keeping.Policy.{Policy}
 use Rattle.repo_prune.specs.Keeping.{Row, AreKept}
-use Rattle.repo_prune.specs.inner.Picking.{ArePicked, AreChosenOf}
+use Rattle.repo_prune.specs.Forgetting.{AreChosenOf}
+use Rattle.repo_prune.specs.inner.Picking.{ArePicked}
 use Rattle.repo_name.proofs.Containing.{none_contained, first_contained, later_contained, contained_or}
 
 module _ {A : Type 0} (p : A → Bool) where

@@ -14,11 +14,12 @@ use Rattle.repo_session.specs.Askers.{Asker}
 use Rattle.repo_session.specs.Clients.{IsObedient}
 use Rattle.repo_session.specs.Soundness.{IsSound}
 use Rattle.repo_session.specs.Talks.{Talk, trace_of, TalkRan, MayBeAhead}
+use Rattle.repo_session.specs.Listings.{IsSnapshotListing}
 use Rattle.repo_session.specs.Traces.{Each, Trace}
 use Rattle.repo_session.specs.declared.outcomes.End.{End}
 use Rattle.repo_session.specs.declared.outcomes.Outcome.{Outcome}
 use Rattle.repo_prune.specs.declared.choices.Choice.{Choice}
-use Rattle.repo_prune.specs.Forgetting.{IsChosen, forget_task, ForgetAllows, ForgetGives, ForgetConcludes}
+use Rattle.repo_prune.specs.Forgetting.{IsChosen, AreChosen, WouldForget, forget_task, ForgetAllows, ForgetGives, ForgetConcludes}
 use Rattle.repo_prune.specs.Keeping.{Row}
 
 -- these exchanges, what is pending and the outcome are a forget's
@@ -70,8 +71,13 @@ pub record AreSnapshotsOf (store : Store) (rows : List Row) : Type 0 where
 abbrev pub AreChosenFrom : Choice → Store → List Row → Type 0
 AreChosenFrom (Choice.Names names) from rows = ⊤
 AreChosenFrom (Choice.Keep policy) from rows = AreSnapshotsOf from rows
+AreChosenFrom (Choice.KeepOf host policy) from rows = AreSnapshotsOf from rows
 
--- where a forget tells what it forgot, alone with its store, what stays are just the snapshots that aren't chosen: by a policy those of which a row is kept
+-- what a forget would delete, by the rows of all snapshots, is what it deletes where it finds the same ones
+abbrev pub ForeseenIsForgotten : Type 0
+ForeseenIsForgotten = (choice : Choice) (rows : List Row) (names : List Name) (es : Trace) → IsSnapshotListing es rows → WouldForget choice rows names → AreChosen choice es names
+
+-- where a forget tells what it forgot, alone with its store, what stays are just the snapshots that aren't chosen: by a policy those of which a row is kept, or is of another host than it is for
 abbrev pub ForgetLeavesTheOthers : Type 0
 ForgetLeavesTheOthers = (who : Asker) (choice : Choice) (from to : Store) (failed failing : ℕ) (talk : Talk) (next : Option Request) (names : List Name)
     → TalkRan from failed talk to failing → IsForget who choice next (Some (Outcome.Forgotten names)) (trace_of talk)

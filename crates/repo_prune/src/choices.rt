@@ -1,7 +1,10 @@
 //! Which snapshots are to be forgotten.
 
+ghost use Rattle.std.specs.Prelude.{◌↔◌, IsTrue};
+ghost use Rattle.repo_prune.specs.Forgetting.{IsNoPolicy};
+
 use crate::keeping::Policy;
-use repo_name::Names;
+use repo_name::{Names, Text};
 use thiserror::Error;
 
 /// Which snapshots are to be forgotten.
@@ -11,6 +14,20 @@ pub enum Choice {
     Names(Names),
     /// Those that this policy doesn't keep.
     Keep(Policy),
+    /// Those of this host that this policy doesn't keep. Those of other hosts stay.
+    KeepOf { host: Text, policy: Policy },
+}
+
+impl Choice {
+    /// Whether it is a policy that keeps neither last ones nor days.
+    pub fn is_no_policy(&self) -> bool
+        ensures { IsTrue result ↔ IsNoPolicy self.now }
+    {
+        match self {
+            Choice::Names(_) => false,
+            Choice::Keep(policy) | Choice::KeepOf { policy, .. } => policy.keeps_nothing(),
+        }
+    }
 }
 
 /// Why a forget isn't begun.

@@ -8,13 +8,11 @@ ghost use Rattle.repo_session.specs.Jobs.{IsShortStep, StepsOn};
 ghost use Rattle.repo_session.specs.Listings.{KnowsAsMuch};
 ghost use Rattle.repo_session.specs.Traces.{silent};
 ghost use Rattle.repo_prune.specs.declared.choices.Choice.{Choice};
-ghost use Rattle.repo_prune.specs.Forgetting.{IsNoPolicy, forget_rule};
-ghost use Rattle.repo_prune.specs.inner.Picking.{AreChosenOf, AreChosen};
+ghost use Rattle.repo_prune.specs.Forgetting.{AreChosenOf, IsNoPolicy, WouldForget, forget_rule};
 ghost use Rattle.repo_prune.specs.ForgetStates.{FitsForget, IsFreshForget, KnowsDelete, KnowsForget, ForgetBegins, ForgetGoesOn, ForgetReadsOn, who_of, choice_of, TakesPage};
 
 use crate::choices::{Choice, ForgetError};
-use crate::keeping::Policy;
-use crate::picking::{chosen, names_of};
+use crate::picking::{chosen, would_forget};
 use repo_name::{Kind, Name, Names, Thing, Token};
 use repo_session::{
     Client, Emission, End, Holder, Job, Outcome, Paging, Session, SnapshotReading, SnapshotRoll,
@@ -105,11 +103,9 @@ impl ForgetJob {
 
     /// Those of the snapshots read that are chosen. It fails for memory alone.
     fn choose_read(&self) -> Result<Vec<Name>, AllocError>
-        ensures chosen { IfOk result (λ picked. AreChosen self.now.choice self.now.snapshots.rows.items picked.items) }
+        ensures chosen { IfOk result (λ picked. WouldForget self.now.choice self.now.snapshots.rows.items picked.items) }
     {
-        let rows = self.snapshots.rows.as_slice();
-        let listed = names_of(self.alloc, rows)?;
-        chosen(self.alloc, &self.choice, listed.as_slice(), rows)
+        would_forget(self.alloc, &self.choice, self.snapshots.rows.as_slice())
     }
 
     /// Begins to delete the chosen ones. It takes no memory.
@@ -242,7 +238,7 @@ impl Forget {
         ensures choice { IfOk result (λ forget. choice_of forget ≡ choice) }
         ensures refused { IsErr result ↔ IsNoPolicy choice }
     {
-        if let Choice::Keep(Policy { last: 0, daily: 0 }) = &choice {
+        if choice.is_no_policy() {
             return Err(ForgetError::NoPolicy);
         }
         Ok(Forget {

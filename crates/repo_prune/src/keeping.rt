@@ -1,6 +1,6 @@
 //! Which snapshots a policy keeps.
 
-ghost use Rattle.std.specs.Prelude.{◌≡◌, IfOk, List, map};
+ghost use Rattle.std.specs.Prelude.{◌≡◌, ◌↔◌, IfOk, IsTrue, List, map};
 ghost use Rattle.std.specs.Borrow.{Bor};
 ghost use Rattle.std.specs.List.Sorted.{IsSortedBy, IsPermutation};
 ghost use Rattle.repo_prune.specs.Keeping.{Row, AreKept};
@@ -18,6 +18,15 @@ pub struct Policy {
     pub last: u32,
     /// And the last of each of so many of the last days that have one.
     pub daily: u32,
+}
+
+impl Policy {
+    /// Whether both counts are 0.
+    pub fn keeps_nothing(&self) -> bool
+        ensures { IsTrue result ↔ ((self.now.last ≡ 0) × (self.now.daily ≡ 0)) }
+    {
+        self.last == 0 && self.daily == 0
+    }
 }
 
 /// The rows, sorted by host, and in a host from the newest on. It fails for memory alone.

@@ -1,7 +1,7 @@
 //! What holds of a forget, of a prune and of an upgrade that are alone with their store, by the definitions alone. Each
 //! function is empty, and its contract is the law.
 
-ghost use Rattle.repo_prune.specs.Laws.{ForgetKeepsSound, ForgetEndsWell, ForgetOfAppendOnly, ForgetLeavesTheOthers};
+ghost use Rattle.repo_prune.specs.Laws.{ForgetKeepsSound, ForgetEndsWell, ForgetOfAppendOnly, ForeseenIsForgotten, ForgetLeavesTheOthers};
 ghost use Rattle.repo_prune.specs.PruneLaws.{PruneKeepsSound, PruneEndsWell, PruneOfAppendOnly, PruneLeavesWhatIsNeeded};
 ghost use Rattle.repo_prune.specs.UpgradeLaws.{UpgradeChangesNoObject, UpgradeEndsWell};
 
@@ -25,8 +25,14 @@ pub fn forget_of_append_only()
     ensures { ForgetOfAppendOnly }
 {}
 
+/// What `would_forget` gives of the rows of all snapshots is what a forget deletes that finds the same ones.
+pub fn foreseen_is_forgotten()
+    ensures { ForeseenIsForgotten }
+{}
+
 /// Where a forget alone with its store tells what it forgot, the snapshots that stay are just those that aren't chosen:
-/// by names those that weren't given, by a policy those of which it keeps a row among the snapshots of the store.
+/// by names those that weren't given, by a policy those of which it keeps a row among the snapshots of the store, by one
+/// for a host also those of other hosts.
 pub fn forget_leaves_the_others()
     ensures { ForgetLeavesTheOthers }
 {}

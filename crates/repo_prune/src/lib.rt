@@ -7,7 +7,8 @@
 //! [`Plan`] says what a prune keeps of the packs and what it moves, by what the indexes say and which blobs are used. An
 //! [`Upgrade`] is a client that makes a store's config one of version 2.
 //!
-//! Promised: `keep` gives just the names of the rows that the policy keeps, whatever their order. A forget is a client
+//! Promised: `keep` gives just the names of the rows that the policy keeps, whatever their order. `would_forget` gives just
+//! those that a forget would delete of the rows of all snapshots, and deletes nothing. A forget is a client
 //! of repo_session, so each request was one that the exchanges before it allow, whoever answers: it deletes a listed
 //! snapshot that is chosen, by a policy once all were read, it puts nothing, and it reads nothing after its first
 //! delete. `Forgotten` comes only once the delete of each chosen one is done. Alone with its store it keeps it sound,
@@ -53,10 +54,11 @@ pub use choices::{Choice, ForgetError};
 pub use forgets::Forget;
 pub use keeping::{Policy, keep};
 pub use laws::{
-    forget_ends_well, forget_keeps_sound, forget_leaves_the_others, forget_of_append_only,
-    prune_ends_well, prune_keeps_sound, prune_leaves_what_is_needed, prune_of_append_only,
-    upgrade_changes_no_object, upgrade_ends_well,
+    foreseen_is_forgotten, forget_ends_well, forget_keeps_sound, forget_leaves_the_others,
+    forget_of_append_only, prune_ends_well, prune_keeps_sound, prune_leaves_what_is_needed,
+    prune_of_append_only, upgrade_changes_no_object, upgrade_ends_well,
 };
+pub use picking::would_forget;
 pub use plans::Plan;
 pub use prunes::Prune;
 pub use upgrades::Upgrade;

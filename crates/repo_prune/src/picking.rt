@@ -6,11 +6,13 @@ ghost use Rattle.std.proofs.Math.Bool.{beq};
 ghost use Rattle.std.specs.BTreeSet.{contains};
 ghost use Rattle.repo_name.specs.Naming.{name_cmp};
 ghost use Rattle.repo_name.specs.declared.names.Name.{Name};
-ghost use Rattle.repo_prune.specs.inner.Picking.{ArePicked, AreChosenOf};
+ghost use Rattle.repo_prune.specs.declared.choices.Choice.{Choice};
+ghost use Rattle.repo_prune.specs.Forgetting.{AreChosenOf, WouldForget};
+ghost use Rattle.repo_prune.specs.inner.Picking.{ArePicked, AreOfOthers};
 
 use crate::choices::Choice;
-use crate::keeping::keep;
-use repo_name::Name;
+use crate::keeping::{Policy, keep};
+use repo_name::{Name, Text};
 use repo_tree::Snapshot;
 use std::alloc::{AllocError, Global};
 use std::collections::BTreeSet;
@@ -57,10 +59,44 @@ pub fn pick(
 }
 
 /// The names of some snapshots, in their order. It fails for memory alone.
-pub fn names_of(alloc: Global, rows: &[(Name, Snapshot)]) -> Result<Vec<Name>, AllocError>
+fn names_of(alloc: Global, rows: &[(Name, Snapshot)]) -> Result<Vec<Name>, AllocError>
     ensures names { IfOk result (λ names. names.items ≡ map (λ row. row.0) rows.now) }
 {
     rows.iter().map(|row| row.0).collect(alloc)
+}
+
+/// The names of the snapshots of other hosts than this one, in their order. It fails for memory alone.
+fn names_of_others(
+    alloc: Global,
+    rows: &[(Name, Snapshot)],
+    host: &Text,
+) -> Result<Vec<Name>, AllocError>
+    ensures others { IfOk result (λ names. AreOfOthers host.now rows.now names.items) }
+{
+    let mut names = Vec::new(alloc);
+    for row in rows {
+        if row.1.host.as_str() != host.as_str() {
+            names.push(row.0)?;
+        }
+    }
+    Ok(names)
+}
+
+/// Those of the listed snapshots that are of this host, and of which the policy keeps none, in the order of the list. It
+/// fails for memory alone.
+fn chosen_of(
+    alloc: Global,
+    host: &Text,
+    policy: &Policy,
+    listed: &[Name],
+    rows: &[(Name, Snapshot)],
+) -> Result<Vec<Name>, AllocError>
+    ensures chosen { IfOk result (λ picked. AreChosenOf (Choice.KeepOf host.now policy.now) rows.now listed.now picked.items) }
+{
+    let kept = keep(alloc, rows, policy)?;
+    let gone = pick(alloc, listed, kept.as_slice(), false)?;
+    let others = names_of_others(alloc, rows, host)?;
+    pick(alloc, gone.as_slice(), others.as_slice(), false)
 }
 
 /// Those of the listed snapshots that are chosen, in the order of the list; where a policy chooses, these are their
@@ -79,5 +115,19 @@ pub fn chosen(
             let kept = keep(alloc, rows, policy)?;
             pick(alloc, listed, kept.as_slice(), false)
         }
+        Choice::KeepOf { host, policy } => chosen_of(alloc, host, policy, listed, rows),
     }
+}
+
+/// The names of those of a store's snapshots that a forget would delete, in the order of their rows, which are those of all
+/// its snapshots. It fails for memory alone.
+pub fn would_forget(
+    alloc: Global,
+    choice: &Choice,
+    rows: &[(Name, Snapshot)],
+) -> Result<Vec<Name>, AllocError>
+    ensures would { IfOk result (λ names. WouldForget choice.now rows.now names.items) }
+{
+    let listed = names_of(alloc, rows)?;
+    chosen(alloc, choice, listed.as_slice(), rows)
 }

@@ -2,7 +2,7 @@ use Rattle.std.proofs.Common.{Vec, Global, sym, subst}
 use Rattle.std.proofs.lemmas.Result.{IfOk-weaker}
 use Rattle.repo_name.specs.declared.names.Name.{Name}
 use Rattle.repo_prune.specs.declared.choices.Choice.{Choice}
-use Rattle.repo_prune.specs.inner.Picking.{AreChosenOf}
+use Rattle.repo_prune.specs.Forgetting.{AreChosenOf}
 use Rattle.repo_prune.proofs.Picks.{chosen_by_names, chosen_by_policy}
 use Rattle.repo_prune.proofs.picking.chosen.Goals as goal
 

@@ -7,8 +7,7 @@ use Rattle.repo_session.specs.Traces.{Exchange, silent}
 use Rattle.repo_session.proofs.Listing.{snapshots_due, snapshots_paged}
 use Rattle.repo_prune.specs.declared.choices.Choice.{Choice}
 use Rattle.repo_prune.specs.declared.forgets.ForgetJob.{ForgetJob}
-use Rattle.repo_prune.specs.Forgetting.{forget_task, AreChosen}
-use Rattle.repo_prune.specs.inner.Picking.{AreChosenOf}
+use Rattle.repo_prune.specs.Forgetting.{forget_task, AreChosen, AreChosenOf}
 use Rattle.repo_prune.proofs.Choosing.{may_read, none_read, page_chosen}
 use Rattle.repo_prune.proofs.forgets.ForgetJob.take_page.Goals as goal
 
