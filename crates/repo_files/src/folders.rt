@@ -1,8 +1,16 @@
 //! A folder by its path, and its making.
 
 use std::alloc::{AllocError, AllocGlobal};
-use std::fs::{File, Files, OpenFile};
+use std::fs::{DirBuilder, File, Files, OpenFile};
+use std::os::unix::fs::DirBuilderExt;
 use std::{fs, io};
+
+/// Who may look into a folder that is made: its owner alone, or whom the process's mask lets.
+#[derive(Clone, Copy, Debug, PartialEq, Eq)]
+pub enum Access {
+    Owner,
+    Masked,
+}
 
 /// A folder, by its path.
 #[derive(Debug, Drop)]
@@ -30,18 +38,34 @@ impl<R: Files + AllocGlobal + Clone + Drop> Folder<R> {
         Ok(path)
     }
 
-    /// Makes it, and each folder above, where they aren't there, so that they last.
-    pub fn make_whole(&self) -> io::Result<()> {
+    /// Makes it with this access, and each folder above as the process's mask says, where they aren't there, so that they
+    /// last. The access of one that is there stays. A path may end with slashes, and with dots by themselves.
+    pub fn make_whole(&self, access: Access) -> io::Result<()> {
         let root = self.root.as_str();
         for end in 1..root.len() {
             if let Some((above, rest)) = root.split_at_checked(end)
                 && rest.starts_with('/')
             {
-                make_named(&self.rt, above)?;
+                let access = if names_nothing(rest) {
+                    access
+                } else {
+                    Access::Masked
+                };
+                make_named(&self.rt, above, access)?;
             }
         }
-        make_named(&self.rt, root)
+        make_named(&self.rt, root, access)
     }
+}
+
+/// Whether the end of a path names nothing more: it is of slashes, and of dots by themselves.
+fn names_nothing(rest: &str) -> bool {
+    for part in rest.split('/') {
+        if !part.is_empty() && part != "." {
+            return false;
+        }
+    }
+    true
 }
 
 /// Whether a folder of this path is there.
@@ -57,10 +81,18 @@ pub fn sync_at<R: Files>(rt: &R, path: &str) -> io::Result<()> {
     File::open(rt, path)?.sync_all()
 }
 
+/// Makes a folder.
+fn make<R: Files>(rt: &R, path: &str, access: Access) -> io::Result<()> {
+    match access {
+        Access::Owner => DirBuilder::new().mode(0o700).create(rt, path),
+        Access::Masked => fs::create_dir(rt, path),
+    }
+}
+
 /// Makes a folder, where it isn't there, and syncs the one that it stands in, so that its name lasts. Where it
 /// was there already, and the one that it stands in can't be synced, that is let be.
-fn make_named<R: Files>(rt: &R, path: &str) -> io::Result<()> {
-    match fs::create_dir(rt, path) {
+fn make_named<R: Files>(rt: &R, path: &str, access: Access) -> io::Result<()> {
+    match make(rt, path, access) {
         Ok(()) => sync_at(rt, parent_of(path)),
         Err(error) if !is_folder(rt, path) => Err(error),
         Err(_) => {

@@ -5,7 +5,7 @@ ghost use Rattle.repo_files.specs.inner.Places.{place_of};
 ghost use Rattle.repo_tree.specs.Paths.{IsPath};
 
 use crate::drafts::Draft;
-use crate::folders::{Folder, sync_at};
+use crate::folders::{Access, Folder, sync_at};
 use crate::places::{place_below, without_slash};
 use repo_tree::{Path, is_path};
 use std::alloc::{AllocError, AllocGlobal};
@@ -33,7 +33,7 @@ impl<R: Files + AllocGlobal + Clone + Drop> Ground<R> {
     /// The folder of this path, where nothing is in it; else `None`. It is made where it isn't there, with
     /// all above it, so that it lasts.
     pub fn of(rt: R, folder: &str) -> io::Result<Option<Ground<R>>> {
-        Folder::of(rt.clone()?, folder)?.make_whole()?;
+        Folder::of(rt.clone()?, folder)?.make_whole(Access::Masked)?;
         let is_empty = match fs::read_dir(&rt, folder)?.next() {
             None => true,
             Some(Ok(_)) => false,

@@ -4,7 +4,7 @@ ghost use Rattle.std.specs.Prelude.{◌≡◌, IfOk, Ok};
 ghost use Rattle.repo_folder.specs.declared.folders.Standing.{Standing};
 
 use crate::file_disk::FileDisk;
-use crate::folders::Folder;
+use crate::folders::{Access, Folder};
 use crate::holding::HoldFile;
 use repo_folder::DirShelf;
 use repo_store::ShelfError;
@@ -19,7 +19,7 @@ pub fn has_config<R: Files + AllocGlobal + Clone + Drop>(rt: &R, root: &str) -> 
 }
 
 /// The shelf in the folder of this path, which is made where it isn't there, with all that it
-/// holds: its folders and, where none is there, a fresh ledger. All of it is on the disk then, its
+/// holds: its folders and, where none is there, a fresh ledger. A folder that is made is its owner's alone. All of it is on the disk then, its
 /// name in the folder above too. Where it was cut off before, it is made whole. What else is in the folder
 /// stays as it is. The shelf holds the folder until it is dropped: no other one is opened there meanwhile.
 ///
@@ -37,7 +37,7 @@ where
     if folder.has_config()? || !folder.is_free()? {
         return Err(io::Error::from(ErrorKind::AlreadyExists));
     }
-    folder.make_whole()?;
+    folder.make_whole(Access::Owner)?;
     let disk = FileDisk::hold(folder)?;
     or_error(DirShelf::create(disk, rt.alloc()))
 }
