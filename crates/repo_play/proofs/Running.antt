@@ -1,8 +1,10 @@
 -- Scripts are runs.
-use Rattle.std.proofs.Common.{◌≡◌, ◌+◌, ◌∷◌, [], inl, inr, ℕ, Bool, true, false, zero, suc, List, length, Option, Some, None, sym, subst}
+use Rattle.std.proofs.Common.{◌≡◌, ◌+◌, ◌∷◌, [], inl, inr, ℕ, Bool, true, false, zero, suc, List, length, Option, Some, None, refl, sym, subst}
+use Rattle.repo_wire.specs.declared.messages.Ask.{Ask}
 use Rattle.repo_store.specs.declared.faults.Fail.{Fail}
 use Rattle.repo_world.specs.Stages.{IsReachable}
 use Rattle.repo_world.specs.World.{World}
+use Rattle.repo_world.specs.declared.events.Applied.{Applied}
 use Rattle.repo_world.specs.declared.events.Event.{Event}
 use Rattle.repo_world.proofs.Standing.{reached_first, reached_more}
 use Rattle.repo_script.specs.declared.lines.Line.{Line}
@@ -10,7 +12,7 @@ use Rattle.repo_script.specs.declared.sorts.AskSort.{AskSort}
 use Rattle.repo_play.specs.Laws.{CarriedIsPlayed}
 use Rattle.repo_play.specs.Lines.{State, IsFreshScript, Does, MovesWorld, host_of, time_of}
 use Rattle.repo_play.specs.Plays.{LineSays, Played, SayAll}
-use Rattle.repo_play.specs.Steps.{AllHappen, MayStepClient, StepsClientOn, deliveries, delivery}
+use Rattle.repo_play.specs.Steps.{AllHappen, MayStepClient, StepsClientOn, asks, deliveries, delivery, stranger}
 use Rattle.repo_play.specs.declared.grammars.Grammar.{Grammar}
 
 all_reach : (w : World) (es : List Event) (v : World) → IsReachable w → AllHappen w es v → IsReachable v
@@ -31,13 +33,14 @@ moves_reach (Line.Finish k) w v r h = on_reach None h.1.0 w k v r h.1.1
 moves_reach (Line.Until k sort) w v r h = on_reach (Some sort) h.1.0 w k v r h.1.1
 moves_reach (Line.Fault k fail) w v r h = may_reach (Some fail) w k v r h.1
 moves_reach (Line.Deliver i) w v r h = all_reach w (Event.Deliver i ∷ []) v r h
-moves_reach (Line.Unlock token) w v r h = all_reach w (Event.Unlock token ∷ []) v r h
+moves_reach (Line.Unlock token) w v r h = all_reach w (Event.Ask (stranger (Ask.Unlock token)) ∷ []) v r h
 moves_reach (Line.Crash k) w v r h = all_reach w (Event.Crash k ∷ []) v r h.1
 moves_reach Line.Restart w v r h = all_reach w (Event.Restart ∷ []) v r h
 moves_reach Line.Replay w v r h = all_reach w (deliveries 0 w.messages) v r h
 moves_reach (Line.Entry entry) w v r h = absurd h
 moves_reach (Line.Start start old) w v r h = absurd h
 moves_reach (Line.Late k) w v r h = absurd h
+moves_reach (Line.Ask question) w v r h = absurd h
 moves_reach Line.Report w v r h = absurd h
 moves_reach Line.AppendOnly w v r h = absurd h
 
@@ -45,6 +48,7 @@ does_reach : (line : Line) (s : State) (text : List ℕ) (t : State) → IsReach
 does_reach (Line.Entry entry) s text t r h = subst (λ (u : State). IsReachable u.world) (sym h.1) r
 does_reach (Line.Start start old) s text t r h = reached_more ⊥ s.world (Event.Start h.job (host_of start) (time_of start) old) h.applied t.world r h.happens
 does_reach (Line.Late k) s text t r h = all_reach s.world (Event.Deliver h.0.place ∷ []) t.world r h.0.happen
+does_reach (Line.Ask question) s text t r h = reached_more ⊥ s.world (Event.Ask (stranger (asks question))) Applied.Done t.world r (inl (refl, h.0.answered))
 does_reach Line.Report s text t r h = subst (λ (u : State). IsReachable u.world) (sym h.1) r
 does_reach line s text t r h = moves_reach line s.world t.world r h.1
 

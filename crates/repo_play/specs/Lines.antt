@@ -6,10 +6,11 @@ use Rattle.repo_name.specs.declared.names.Name.{Name}
 use Rattle.repo_tree.specs.ConfigText.{config_text}
 use Rattle.repo_tree.specs.declared.configs.Config.{Config}
 use Rattle.repo_tree.specs.declared.entries.Entry.{Entry}
+use Rattle.repo_wire.specs.declared.messages.Ask.{Ask}
 use Rattle.repo_store.specs.Stores.{Store}
 use Rattle.repo_session.specs.declared.outcomes.Outcome.{Outcome}
 use Rattle.repo_prune.specs.declared.choices.Choice.{Choice}
-use Rattle.repo_world.specs.Events.{Happens}
+use Rattle.repo_world.specs.Events.{Happens, MayAnybodySend}
 use Rattle.repo_world.specs.Laws.{IsEmpty}
 use Rattle.repo_world.specs.Reports.{IsReport}
 use Rattle.repo_world.specs.World.{World, beginning, client, instance_of}
@@ -20,7 +21,7 @@ use Rattle.repo_world.specs.declared.jobs.Refusal.{Refusal}
 use Rattle.repo_script.specs.declared.lines.Line.{Line}
 use Rattle.repo_script.specs.declared.lines.Start.{Start}
 use Rattle.repo_play.specs.declared.grammars.Grammar.{Grammar}
-use Rattle.repo_play.specs.Steps.{AllHappen, HasClient, MayStepClient, StepsClientOn, Goes, IsLate, deliveries}
+use Rattle.repo_play.specs.Steps.{AllHappen, HasClient, MayStepClient, StepsClientOn, Goes, IsAnswered, IsLate, asks, deliveries, stranger}
 
 -- where a script stands: its world, and the entries for the next backup
 pub record State : Type 0 where
@@ -125,7 +126,7 @@ MovesWorld (Line.Finish k) w v = HasClient w k × Goes None w k v
 MovesWorld (Line.Until k sort) w v = HasClient w k × Goes (Some sort) w k v
 MovesWorld (Line.Fault k fail) w v = HasClient w k × MayStepClient (Some fail) w k v
 MovesWorld (Line.Deliver i) w v = AllHappen w (Event.Deliver i ∷ []) v
-MovesWorld (Line.Unlock token) w v = AllHappen w (Event.Unlock token ∷ []) v
+MovesWorld (Line.Unlock token) w v = AllHappen w (Event.Ask (stranger (Ask.Unlock token)) ∷ []) v
 MovesWorld (Line.Crash k) w v = HasClient w k × AllHappen w (Event.Crash k ∷ []) v
 MovesWorld Line.Restart w v = AllHappen w (Event.Restart ∷ []) v
 MovesWorld Line.Replay w v = AllHappen w (deliveries 0 w.messages) v
@@ -149,15 +150,17 @@ abbrev pub Does : Line → State → List ℕ → State → Type 0
 Does (Line.Entry entry) s text t = (text ≡ []) × (t ≡ record { world = s.world; entries = s.entries ++ entry ∷ [] })
 Does (Line.Start start old) s text t = DoesStart start old s text t
 Does (Line.Late k) s text t = IsLate s.world k text t.world × (t.entries ≡ s.entries)
+Does (Line.Ask question) s text t = IsAnswered s.world question text t.world × (t.entries ≡ s.entries)
 Does Line.Report s text t = IsReport s.world text × (t ≡ s)
 Does line s text t = (text ≡ []) × MovesWorld line s.world t.world × (t.entries ≡ s.entries)
 
--- A line makes no sense here: it names a client that isn't there, or one that reported no snapshot; or a host that hasn't 1 to 255 bytes. (What says that the
+-- A line makes no sense here: it names a client that isn't there, or one that reported no snapshot; or a host that hasn't 1 to 255 bytes; or nobody may ask so. (What says that the
 -- store only appends is no line of this sort: it makes sense as a script's first line alone.)
 abbrev pub IsNonsense : Line → State → Type 0
 IsNonsense (Line.Entry entry) s = ⊥
 IsNonsense (Line.Start start old) s = ((job : Job) → ¬ IsJob start s job) ⊎ (¬ IsHost (host_of start))
 IsNonsense (Line.Late k) s = ¬ HasClient s.world k
+IsNonsense (Line.Ask question) s = ¬ MayAnybodySend (stranger (asks question))
 IsNonsense Line.Report s = ⊥
 IsNonsense line s = CannotMove line s.world
 

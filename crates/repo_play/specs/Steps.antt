@@ -1,15 +1,17 @@
 -- What is done with a world, over a device that never fails by itself.
 use Rattle.std.specs.Prelude.{◌≡◌, ◌⊎◌, ◌≤◌, ◌+◌, ◌++◌, ◌∷◌, [], ⊤, ℕ, zero, suc, List, length, slice_get, codes, decimal, Option, Some, None}
 use Rattle.repo_wire.specs.Messages.{code_number}
+use Rattle.repo_wire.specs.declared.messages.Ask.{Ask}
 use Rattle.repo_wire.specs.declared.messages.Reply.{Reply}
 use Rattle.repo_wire.specs.declared.messages.Request.{Request}
 use Rattle.repo_wire.specs.declared.messages.Say.{Say}
-use Rattle.repo_world.specs.Events.{Happens}
+use Rattle.repo_world.specs.Events.{AnswersNobody, Happens}
 use Rattle.repo_store.specs.declared.faults.Fail.{Fail}
-use Rattle.repo_world.specs.World.{World, Message, Asked, Said, IsOneOf, awaited, client}
+use Rattle.repo_world.specs.World.{World, Message, Asked, Said, IsOneOf, awaited, client, instance_of}
 use Rattle.repo_world.specs.declared.events.Applied.{Applied}
 use Rattle.repo_world.specs.declared.events.Event.{Event}
 use Rattle.repo_script.specs.Sorts.{sort_of}
+use Rattle.repo_script.specs.declared.lines.Question.{Question}
 use Rattle.repo_script.specs.declared.sorts.AskSort.{AskSort}
 
 -- one event after another
@@ -87,3 +89,25 @@ abbrev pub deliveries : ℕ → List Message → List Event
 deliveries n [] = []
 deliveries n (Asked k request ∷ messages) = Event.Deliver n ∷ deliveries (n + 1) messages
 deliveries n (Said k reply ∷ messages) = deliveries (n + 1) messages
+
+-- ---- somebody asks who is no client
+
+-- what is asked for: a lock from the machine `play`, at the moment 0
+abbrev pub asks : Question → Ask
+asks Question.Ticket = Ask.Ticket
+asks (Question.Lock token exclusive) = Ask.Lock (record { token = token; exclusive = exclusive; time = 0; host = codes "play" })
+asks (Question.Refresh token time) = Ask.Refresh token time
+asks Question.Locks = Ask.Locks
+
+-- the request, with a number that no client's has
+abbrev pub stranger : Ask → Request
+stranger ask = record { instance = instance_of 0; sequence = 0; ask = ask }
+
+-- the line that tells what the store said to it
+abbrev pub ask_line : Say → List ℕ
+ask_line say = codes "ask " ++ (say_word say ++ codes "\n")
+
+-- the store answers it, and what it says is told
+pub record IsAnswered (w : World) (question : Question) (text : List ℕ) (v : World) : Type 0 where
+  pub answered : AnswersNobody ⊥ w (stranger (asks question)) v
+  pub told : text ≡ ask_line answered.reply.say

@@ -11,6 +11,7 @@
 //! `Laws`; `Scripts` says where a script stands that comes in pieces.
 #![tactic(auto)]
 
+mod asking;
 mod beginnings;
 mod carriers;
 mod exchanges;

@@ -9,6 +9,7 @@ ghost use Rattle.repo_play.specs.Steps.{HasClient};
 ghost use Rattle.repo_play.specs.declared.faults.Halt.{Halt};
 ghost use Rattle.repo_script.specs.declared.lines.Line.{Line};
 
+use crate::asking::stranger;
 use crate::carriers::Carrier;
 use crate::exchanges::{last_request, pass};
 use crate::faults::Halt;
@@ -16,6 +17,7 @@ use crate::going::{go, step};
 use crate::later::replay;
 use repo_script::Line;
 use repo_store::Shelf;
+use repo_wire::Ask;
 use repo_world::{Event, World};
 
 /// A client stops for good.
@@ -51,7 +53,7 @@ pub fn move_on<S: Shelf + Drop, C: Carrier>(
         Line::Until { client, sort } => go(world, carrier, *client, Some(*sort)),
         Line::Crash(client) => crash(world, *client),
         Line::Deliver(message) => Ok(pass(world, Event::Deliver(*message))?),
-        Line::Unlock(token) => Ok(pass(world, Event::Unlock(*token))?),
+        Line::Unlock(token) => Ok(pass(world, Event::Ask(stranger(Ask::Unlock(*token))))?),
         Line::Restart => Ok(pass(world, Event::Restart)?),
         Line::Replay => Ok(replay(world)?),
         _ => Err(Halt::Nonsense),

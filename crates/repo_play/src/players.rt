@@ -8,6 +8,7 @@ ghost use Rattle.repo_play.specs.inner.Scripts.{HaltsBy};
 ghost use Rattle.repo_play.specs.declared.faults.Halt.{Halt};
 ghost use Rattle.repo_script.specs.declared.lines.Line.{Line};
 
+use crate::asking::ask;
 use crate::carriers::Carrier;
 use crate::exchanges::happen;
 use crate::faults::Halt;
@@ -131,6 +132,7 @@ impl<S: Shelf + Drop> Player<S> {
             Line::Entry(entry) => self.enter(entry),
             Line::Start { start, old } => self.start(&start, old),
             Line::Late(client) => late(self.alloc, &mut self.world, client),
+            Line::Ask(question) => ask(self.alloc, &mut self.world, question),
             Line::Report => self.report(),
             other => self.go_on(carrier, &other),
         }

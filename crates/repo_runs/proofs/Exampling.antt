@@ -1,7 +1,8 @@
 -- The example is a run.
 use Rattle.std.specs.Prelude.{⊤}
-use Rattle.std.proofs.Common.{◌≡◌, ◌⊎◌, ◌<◌, ◌^◌, inl, inr, ⊎_elim, ℕ, zero, suc, true, false, ◌++◌, ◌∷◌, [], List, refl, sym, ◌∙◌, ap, subst, Some, None, arith, Ok}
+use Rattle.std.proofs.Common.{◌≡◌, ◌⊎◌, ◌<◌, ◌^◌, inl, inr, ⊎_elim, ℕ, zero, suc, true, false, ◌++◌, ◌∷◌, [], List, refl, sym, ◌∙◌, ap, subst, Some, None, arith, lit≤, replicate, Ok}
 use Rattle.std.proofs.lemmas.Option.{none-some, same_Some}
+use Rattle.hex.specs.Hex.{IsBytes}
 use Rattle.repo_name.specs.Rows.{IsHost}
 use Rattle.repo_name.specs.declared.tokens.Token.{Token}
 use Rattle.repo_wire.specs.declared.messages.Ask.{Ask}
@@ -9,6 +10,9 @@ use Rattle.repo_wire.specs.declared.messages.Code.{Code}
 use Rattle.repo_wire.specs.declared.messages.Reply.{Reply}
 use Rattle.repo_wire.specs.declared.messages.Request.{Request}
 use Rattle.repo_wire.specs.declared.messages.Say.{Say}
+use Rattle.repo_wire.specs.Messages.{requests}
+use Rattle.repo_wire.specs.Stream.{FitsFrame}
+use Rattle.repo_wire.proofs.Fitting.{request_fits}
 use Rattle.repo_locks.specs.declared.outcomes.Grant.{Grant}
 use Rattle.repo_locks.specs.TokenMachine.{start, issued, granted}
 use Rattle.repo_store.specs.declared.faults.Fail.{Fail}
@@ -23,7 +27,7 @@ use Rattle.repo_session.specs.declared.outcomes.End.{End}
 use Rattle.repo_session.specs.declared.outcomes.Outcome.{Outcome}
 use Rattle.repo_world.specs.Clients.{task_of, JobAllows, JobConcludes, Client, IsDutiful}
 use Rattle.repo_world.specs.Events.{Happens, Run}
-use Rattle.repo_runs.specs.Example.{host, token, given, row, second, failed, done, with_tokens, refused, last, events, ExampleIsARun}
+use Rattle.repo_runs.specs.Example.{host, token, given, row, second, failed, done, removal, with_tokens, refused, last, events, ExampleIsARun}
 use Rattle.repo_world.specs.Safe.{IsSpoken, by_put, by_reply, IsKnown, known_spoken, known_part, known_made, HasNoClash}
 use Rattle.repo_world.specs.World.{World, instance_of, first_of, started, beginning, IsOneOf, Asked, Said}
 use Rattle.repo_world.specs.declared.jobs.Job.{Job}
@@ -189,8 +193,27 @@ step_6 = inl (
   },
 )
 
-step_7 : Happens ⊤ w6 (Event.Unlock token) Applied.Done last
-step_7 = (refl, inl (record { store = last.store; saves = (refl, refl, refl, refl); is = refl }))
+zeros : (n : ℕ) → IsBytes (replicate n 0)
+zeros zero i = lit≤ tt
+zeros (suc n) zero = lit≤ tt
+zeros (suc n) (suc i) = zeros n i
+
+removal_fits : FitsFrame requests removal
+removal_fits = request_fits removal (record { instance = (refl, zeros 16); sequence = omega arith; ask = omega arith }) tt
+
+step_7 : Happens ⊤ w6 (Event.Ask removal) Applied.Done last
+step_7 = inl (
+  refl,
+  record {
+    may = (removal_fits, tt);
+    reply = done;
+    store = last.store;
+    answers = (refl, refl);
+    step = (inl (record { result = true; tokens = last.store.tokens; step = (refl, refl); says = refl; saves = (refl, refl, refl, refl) }), λ e. tt);
+    memory = λ e. absurd (cc);
+    is = refl;
+  },
+)
 
 run : Run (beginning empty) events last
 run = (w1, (Applied.Done, step_1), (w2, (Applied.Done, step_2), (w3, (Applied.Done, step_3), (w4, (Applied.Done, step_4), (w5, (Applied.Done, step_5), (w6, (Applied.Done, step_6), (last, (Applied.Done, step_7), (last, (Applied.Done, (refl, refl)), refl))))))))

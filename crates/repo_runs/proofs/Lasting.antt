@@ -36,8 +36,8 @@ module _ (Lasts : Store → Store → Type 0) (stays : (a b : Store) → b.objec
   happened w (Event.Start job host time old) r v (inr h) = same w v h.3
   happened w (Event.Deliver i) r v h = delivered (Plainly ⊤) (λ s a y t p. p.0) w (slice_get w.messages i) r v h
   happened w (Event.Fault i f) r v h = delivered (Failing ⊤ f) (failing_step ⊤ f) w (slice_get w.messages i) r v h
-  happened w (Event.Unlock t) r v (a, inl u) = then_on w.store u.store v.store (stays w.store u.store u.saves.1 u.saves.3) (same_store u.store v.store (ap (λ (x : World). x.store) u.is))
-  happened w (Event.Unlock t) r v (a, inr h) = same w v h.1
+  happened w (Event.Ask request) r v (inl (d, a)) = then_on w.store a.store v.store (steps w.store a.store request.ask a.reply.say a.step.0) (same_store a.store v.store (ap (λ (x : World). x.store) a.is))
+  happened w (Event.Ask request) r v (inr h) = same w v h.2
   happened w (Event.Crash k) r v (inl (a, c)) = same_store w.store v.store (ap (λ (u : World). u.store) c.is)
   happened w (Event.Crash k) r v (inr h) = same w v h.2
   happened w Event.Restart r v h = same w v h.1

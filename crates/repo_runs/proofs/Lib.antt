@@ -1,9 +1,13 @@
 mod Requests
 mod Outcomes
+mod Strangers
 mod Lasting
 mod Appending
 mod Resting
 mod Joining
+mod Connecting
+mod Owning
+mod Hosting
 mod Exampling
 mod WrongRules
 mod Calming

@@ -62,8 +62,8 @@ module _ (w : World) (b : AllBehave w) where
   happened (Event.Start job host time old) r v (inr h) = stays_went w v b h.3
   happened (Event.Deliver i) r v h = delivered (Plainly ⊤) (slice_get w.messages i) r v h
   happened (Event.Fault i f) r v h = delivered (Failing ⊤ f) (slice_get w.messages i) r v h
-  happened (Event.Unlock t) r v (a, inl u) = subst (Went w) (sym u.is) (λ j. (b j, λ o e. e))
-  happened (Event.Unlock t) r v (a, inr h) = stays_went w v b h.1
+  happened (Event.Ask request) r v (inl (d, a)) = subst (Went w) (sym a.is) (λ j. (b j, λ o e. e))
+  happened (Event.Ask request) r v (inr h) = stays_went w v b h.2
   happened (Event.Crash k) r v (inl (a, c)) = subst (Went w) (sym c.is)
       (one_went w (slice_set w.clients k (crashed_one (client w k))) w.messages k (crashed_one (client w k)) b (changed_set w.clients k (crashed_one (client w k)) c.running) (crashed_behaves (client w k) c.running (b k), λ o e. e))
   happened (Event.Crash k) r v (inr h) = stays_went w v b h.2

@@ -6,7 +6,9 @@ use Rattle.repo_name.specs.declared.tokens.Token.{Token}
 use Rattle.repo_wire.specs.declared.messages.Ask.{Ask}
 use Rattle.repo_wire.specs.declared.messages.Reply.{Reply}
 use Rattle.repo_wire.specs.declared.messages.Request.{Request}
-use Rattle.repo_store.specs.Stores.{Store}
+use Rattle.repo_wire.specs.declared.messages.Say.{Say}
+use Rattle.repo_locks.specs.TokenMachine.{unlocked}
+use Rattle.repo_store.specs.Stores.{Store, SavesTokens}
 use Rattle.repo_tree.specs.declared.snapshots.Snapshot.{Snapshot}
 use Rattle.repo_tree.specs.SnapshotText.{IsSnapshotText}
 use Rattle.repo_session.specs.declared.versions.Versions.{Versions}
@@ -15,9 +17,9 @@ use Rattle.repo_session.specs.declared.outcomes.Outcome.{Outcome}
 use Rattle.repo_world.specs.Clients.{task_of}
 use Rattle.repo_world.specs.Bag.{IsLive, IsExclusive, HasUpgraded, IsOfVersion, IsVersioned, HasBag}
 use Rattle.repo_world.specs.BagLaws.{IsServed}
-use Rattle.repo_world.specs.Events.{Run, Takes, Starts, Crashes, Unlocks}
+use Rattle.repo_world.specs.Events.{AnswersNobody, Run, Takes, Starts, Crashes}
 use Rattle.repo_world.specs.Laws.{IsEmpty}
-use Rattle.repo_world.specs.Safe.{HasNoClash}
+use Rattle.repo_world.specs.Safe.{HasNoClash, Took}
 use Rattle.repo_world.specs.World.{World, client, IsOneOf, Asked, Said, beginning}
 use Rattle.repo_world.specs.declared.jobs.Job.{Job}
 use Rattle.repo_world.specs.declared.events.Event.{Event}
@@ -91,9 +93,21 @@ StartsKeepBag = (w v : World) (job : Job) (host : List ℕ) (time : ℕ) (old : 
 abbrev pub CrashesKeepBag : Type 0
 CrashesKeepBag = (w v : World) (k : ℕ) → HasBag w → Crashes w k v → HasBag v
 
--- a lock is removed
-abbrev pub RemovedLocksKeepBag : Type 0
-RemovedLocksKeepBag = (w v : World) (t : Token) → HasBag w → Unlocks w t v → HasBag v
+-- ---- somebody who is no client asks
+
+-- it changes no object, and not the config, no client and no message
+abbrev pub StrangersKeepBag : Type 0
+StrangersKeepBag = (w v : World) (request : Request) → HasBag w → AnswersNobody ⊤ w request v
+    → HasBag v × (v.store.objects ≡ w.store.objects) × (v.store.config ≡ w.store.config) × (v.clients ≡ w.clients) × (v.messages ≡ w.messages)
+
+-- a lock that is removed so is gone: its number, if it was issued, is neither fresh nor live then; where the device doesn't fail
+abbrev pub RemovedLocksAreGone : Type 0
+RemovedLocksAreGone = (w v : World) (request : Request) (t : Token) → request.ask ≡ Ask.Unlock t → AnswersNobody ⊥ w request v → SavesTokens (unlocked w.store.tokens t) w.store v.store
+
+-- the number of a ticket that was given so is never that of a client's ticket; where there is no clash in the last world
+abbrev pub StrangersTicketsAreTheirs : Type 0
+StrangersTicketsAreTheirs = (store : Store) → IsEmpty store → (events more : List Event) (w v last : World) (request : Request) (t : Token) → Run (beginning store) events w
+    → (a : AnswersNobody ⊤ w request v) → a.reply.say ≡ Say.Token t → Run v more last → HasNoClash last → (k : ℕ) → ¬ Took last k t
 
 -- ---- versions
 

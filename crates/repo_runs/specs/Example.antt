@@ -46,6 +46,10 @@ failed = record { instance = instance_of 0; sequence = 2; say = Say.Refused Code
 abbrev pub done : Reply
 done = record { instance = instance_of 0; sequence = 2; say = Say.Done }
 
+-- somebody who is no client removes the lock, under the client's own instance and number
+abbrev pub removal : Request
+removal = record { instance = instance_of 0; sequence = 2; ask = Ask.Unlock token }
+
 -- the store without objects, with these tokens
 abbrev pub with_tokens : Tokens → Store
 with_tokens tokens = record { config = None; objects = λ k n. None; tokens = tokens; append_only = false }
@@ -66,7 +70,7 @@ abbrev pub last : World
 last = record { store = with_tokens (unlocked (granted (issued start) row) token); clients = refused ∷ []; messages = Asked 0 (first_of 0) ∷ Said 0 given ∷ Asked 0 second ∷ Said 0 failed ∷ Said 0 done ∷ [] }
 
 abbrev pub events : List Event
-events = Event.Start (Job.Backup []) host 5 false ∷ Event.Deliver 0 ∷ Event.Deliver 1 ∷ Event.Fault 2 (Fail.Write true) ∷ Event.Deliver 2 ∷ Event.Deliver 3 ∷ Event.Unlock token ∷ Event.Restart ∷ []
+events = Event.Start (Job.Backup []) host 5 false ∷ Event.Deliver 0 ∷ Event.Deliver 1 ∷ Event.Fault 2 (Fail.Write true) ∷ Event.Deliver 2 ∷ Event.Deliver 3 ∷ Event.Ask removal ∷ Event.Restart ∷ []
 
 -- these events are a run from an empty store to this world, in which nothing clashes
 abbrev pub ExampleIsARun : Type 0

@@ -2,6 +2,7 @@
 pub mod Laws
 pub mod BagLaws
 pub mod Lone
+pub mod Connected
 pub mod Example
 pub mod Backed
 pub mod SomeTexts

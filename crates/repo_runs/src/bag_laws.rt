@@ -1,7 +1,7 @@
 //! What keeps the bag of messages in order, by the kind of the event; and what that gives of versions. Each function is empty,
 //! and its contract is the law.
 
-ghost use Rattle.repo_runs.specs.BagLaws.{CrashesKeepBag, DeadKeepBag, DeleteKeepsBag, EachUpgradeHolds, EverySnapshotIsVersioned, LocksKeepBag, OldClientsAreFenced, PutKeepsBag, PutsAreOfVersion, ReadsKeepBag, RemovedLocksKeepBag, RepliesKeepBag, StartsKeepBag, UpgradeKeepsBag, UpgradedIsOfVersion};
+ghost use Rattle.repo_runs.specs.BagLaws.{CrashesKeepBag, DeadKeepBag, DeleteKeepsBag, EachUpgradeHolds, EverySnapshotIsVersioned, LocksKeepBag, OldClientsAreFenced, PutKeepsBag, PutsAreOfVersion, ReadsKeepBag, RemovedLocksAreGone, RepliesKeepBag, StartsKeepBag, StrangersKeepBag, StrangersTicketsAreTheirs, UpgradeKeepsBag, UpgradedIsOfVersion};
 
 /// A put that is delivered while its token is live keeps it so.
 pub fn put_keeps_bag()
@@ -49,9 +49,20 @@ pub fn crashes_keep_bag()
     ensures { CrashesKeepBag }
 {}
 
-/// So does a lock that is removed.
-pub fn removed_locks_keep_bag()
-    ensures { RemovedLocksKeepBag }
+/// So does the store's answer to somebody who is no client and asks for anything that is no put, no deletion and no upgrade;
+/// and it changes no object, not the config, no client and no message.
+pub fn strangers_keep_bag()
+    ensures { StrangersKeepBag }
+{}
+
+/// A lock that is removed so is gone, where the store's device doesn't fail.
+pub fn removed_locks_are_gone()
+    ensures { RemovedLocksAreGone }
+{}
+
+/// The number of a ticket that was given to somebody who is no client is never that of a client's ticket.
+pub fn strangers_tickets_are_theirs()
+    ensures { StrangersTicketsAreTheirs }
 {}
 
 /// A snapshot that is put under a live token is of the version that the store's config has then.

@@ -6,7 +6,8 @@
 //! config has, or of a lower one, and an upgrade that was reported holds ([`each_upgrade_holds`]). Of any world: which requests and events
 //! keep the bag of messages in order, and what each of them leaves as it was.
 //!
-//! And that the rules can be met: what a client does that is alone with its store is a part of a run ([`lone_talk_is_a_run`]); a run
+//! And that the rules can be met: what a client does that is alone with its store is a part of a run ([`lone_talk_is_a_run`]), and so is
+//! all that a server answers over connections, one after another or many at once ([`connections_are_a_run`]); a run
 //! in which a call of the device fails, a message is delivered late and a lock is removed ([`example_is_a_run`]); runs of a backup, a
 //! restore, a forget and prunes to their ends ([`backup_is_a_run`]), in whose last worlds nothing clashes
 //! ([`nothing_clashes_in_runs`]). And wrong rules, with what they break.
@@ -17,10 +18,11 @@
 //! law of that crate.
 //!
 //! The definitions of the world stand in `repo_world`. Those of the laws stand in `specs/`: `Laws`, `BagLaws`; for how the rules are met,
-//! `Lone`, `Example`, `Backed`, `SomeTexts`; and wrong rules, a file each.
+//! `Lone`, `Connected`, `Example`, `Backed`, `SomeTexts`; and wrong rules, a file each.
 #![tactic(auto)]
 
 mod bag_laws;
+mod connections;
 mod examples;
 mod laws;
 mod wrong_rules;
@@ -28,9 +30,10 @@ mod wrong_rules;
 pub use bag_laws::{
     crashes_keep_bag, dead_tokens_keep_bag, delete_keeps_bag, each_upgrade_holds,
     every_snapshot_is_versioned, locks_keep_bag, old_clients_are_fenced, put_keeps_bag,
-    puts_are_of_version, reads_keep_bag, removed_locks_keep_bag, replies_keep_bag, starts_keep_bag,
-    upgrade_keeps_bag, upgraded_is_of_version,
+    puts_are_of_version, reads_keep_bag, removed_locks_are_gone, replies_keep_bag, starts_keep_bag,
+    strangers_keep_bag, strangers_tickets_are_theirs, upgrade_keeps_bag, upgraded_is_of_version,
 };
+pub use connections::{connections_are_a_run, owned_guests_go, serving_is_hosting};
 pub use examples::{
     backup_is_a_run, example_is_a_run, forget_is_a_run, lone_talk_is_a_run,
     nothing_clashes_in_runs, prune_is_a_run, restore_is_a_run, some_texts_are_apart,

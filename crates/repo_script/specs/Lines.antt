@@ -6,11 +6,13 @@ use Rattle.hex.specs.Hex.{decode_of}
 use Rattle.repo_tree.specs.declared.entries.EntryKind.{EntryKind}
 use Rattle.repo_script.specs.Cuts.{words, components}
 use Rattle.repo_script.specs.Numbers.{number, numbers}
-use Rattle.repo_script.specs.Tables.{word_in, verbs, purposes, sorts, fails}
+use Rattle.repo_script.specs.Tables.{word_in, verbs, purposes, topics, kinds, sorts, fails}
 use Rattle.repo_script.specs.declared.faults.LineError.{LineError}
 use Rattle.repo_script.specs.declared.lines.Line.{Line}
+use Rattle.repo_script.specs.declared.lines.Question.{Question}
 use Rattle.repo_script.specs.declared.lines.Start.{Start}
 use Rattle.repo_script.specs.declared.verbs.Purpose.{Purpose}
+use Rattle.repo_script.specs.declared.verbs.Topic.{Topic}
 use Rattle.repo_script.specs.declared.verbs.Verb.{Verb}
 
 -- the host that a word is: it has 1 to 255 bytes
@@ -62,6 +64,18 @@ abbrev pub old_start_of : List (List ℕ) → Option Start
 old_start_of [] = None
 old_start_of (word ∷ left) = if bytes_eq word (codes "start") then start_of left else None
 
+-- what is asked for of a topic, by the words left
+abbrev pub question_with : Topic → List (List ℕ) → Option Question
+question_with Topic.Ticket left = alone Question.Ticket left
+question_with Topic.Lock left = option_map (λ x. Question.Lock (record { 0 = x.0 }) x.1) (two (number 64) (word_in kinds) left)
+question_with Topic.Refresh left = option_map (λ x. Question.Refresh (record { 0 = x.0 }) x.1) (two (number 64) (number 64) left)
+question_with Topic.Locks left = alone Question.Locks left
+
+-- what some words ask for
+abbrev pub question_of : List (List ℕ) → Option Question
+question_of [] = None
+question_of (word ∷ left) = option_and_then (λ topic. question_with topic left) (word_in topics word)
+
 -- the entry of a path
 abbrev pub entry : List ℕ → EntryKind → Line
 entry path what = Line.Entry (record { path = components path; what = what })
@@ -75,6 +89,7 @@ event_with Verb.Late left = option_map Line.Late (one (number 64) left)
 event_with Verb.Fault left = option_map (λ x. Line.Fault x.0 x.1) (two (number 64) (word_in fails) left)
 event_with Verb.Deliver left = option_map Line.Deliver (one (number 64) left)
 event_with Verb.Unlock left = option_map (λ n. Line.Unlock (record { 0 = n })) (one (number 64) left)
+event_with Verb.Ask left = option_map Line.Ask (question_of left)
 event_with Verb.Crash left = option_map Line.Crash (one (number 64) left)
 event_with Verb.Restart left = alone Line.Restart left
 event_with Verb.Report left = alone Line.Report left

@@ -1,10 +1,11 @@
 -- The words that scripts have.
-use Rattle.std.specs.Prelude.{ℕ, true, false, List, [], ◌∷◌, codes, bytes_eq, Option}
+use Rattle.std.specs.Prelude.{ℕ, Bool, true, false, List, [], ◌∷◌, codes, bytes_eq, Option}
 use Rattle.std.specs.Map.{lookup}
 use Rattle.repo_name.specs.declared.kinds.Kind.{Kind}
 use Rattle.repo_store.specs.declared.faults.Fail.{Fail}
 use Rattle.repo_script.specs.declared.sorts.AskSort.{AskSort}
 use Rattle.repo_script.specs.declared.verbs.Purpose.{Purpose}
+use Rattle.repo_script.specs.declared.verbs.Topic.{Topic}
 use Rattle.repo_script.specs.declared.verbs.Verb.{Verb}
 
 -- what a table has for a word
@@ -25,6 +26,7 @@ verbs =
     ∷ (codes "fault", Verb.Fault)
     ∷ (codes "deliver", Verb.Deliver)
     ∷ (codes "unlock", Verb.Unlock)
+    ∷ (codes "ask", Verb.Ask)
     ∷ (codes "crash", Verb.Crash)
     ∷ (codes "restart", Verb.Restart)
     ∷ (codes "report", Verb.Report)
@@ -44,6 +46,14 @@ purposes =
     ∷ (codes "keep", Purpose.Keep)
     ∷ (codes "upgrade", Purpose.Upgrade)
     ∷ []
+
+-- what somebody who is no client asks for
+abbrev pub topics : List (List ℕ × Topic)
+topics = (codes "ticket", Topic.Ticket) ∷ (codes "lock", Topic.Lock) ∷ (codes "refresh", Topic.Refresh) ∷ (codes "locks", Topic.Locks) ∷ []
+
+-- whether a lock of a kind is exclusive
+abbrev pub kinds : List (List ℕ × Bool)
+kinds = (codes "shared", false) ∷ (codes "exclusive", true) ∷ []
 
 -- the sorts of requests
 abbrev pub sorts : List (List ℕ × AskSort)

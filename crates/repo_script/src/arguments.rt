@@ -3,13 +3,13 @@
 ghost use Rattle.std.specs.Prelude.{◌≡◌, Some, IfOk, map, option_map};
 ghost use Rattle.repo_script.specs.Lines.{alone, one, two, host, bytes, clients, GivesLine};
 ghost use Rattle.repo_script.specs.Numbers.{number, numbers};
-ghost use Rattle.repo_script.specs.Tables.{word_in, sorts, fails};
+ghost use Rattle.repo_script.specs.Tables.{word_in, kinds, sorts, fails};
 
 use crate::faults::LineError;
 use crate::lines::Clients;
 use crate::numbers::{count, index, number};
 use crate::sorts::AskSort;
-use crate::tables::{fail_of, sort_of};
+use crate::tables::{fail_of, kind_of, sort_of};
 use hex::FromHexError;
 use repo_name::{Bytes, Text, is_host};
 use repo_prune::Policy;
@@ -52,6 +52,26 @@ pub fn one_number(left: &[&str]) -> Option<u64>
 {
     match left {
         [word] => number(*word),
+        _ => None,
+    }
+}
+
+/// The two numbers that the two words left are.
+pub fn two_numbers(left: &[&str]) -> Option<(u64, u64)>
+    ensures { result ≡ two (number 64) (number 64) (map (λ w. w.now) left.now) }
+{
+    match left {
+        [first, second] => Some((number(*first)?, number(*second)?)),
+        _ => None,
+    }
+}
+
+/// A number, and whether a lock is exclusive.
+pub fn number_and_kind(left: &[&str]) -> Option<(u64, bool)>
+    ensures { result ≡ two (number 64) (word_in kinds) (map (λ w. w.now) left.now) }
+{
+    match left {
+        [first, second] => Some((number(*first)?, kind_of(*second)?)),
         _ => None,
     }
 }

@@ -16,6 +16,7 @@ mod cuts;
 mod faults;
 mod lines;
 mod numbers;
+mod questions;
 mod reading;
 mod sorts;
 mod starts;
@@ -24,7 +25,7 @@ mod tables;
 mod verbs;
 
 pub use faults::LineError;
-pub use lines::{Clients, Line, Start};
+pub use lines::{Clients, Line, Question, Start};
 pub use reading::read_line;
 pub use sorts::AskSort;
 pub use streams::{LineCutter, lines_go_on};

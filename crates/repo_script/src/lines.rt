@@ -60,6 +60,8 @@ pub enum Line {
     Deliver(usize),
     /// Somebody removes the lock of this token.
     Unlock(Token),
+    /// Somebody asks the store for this.
+    Ask(Question),
     /// This client stops for good.
     Crash(usize),
     /// The store is closed and opened.
@@ -70,6 +72,19 @@ pub enum Line {
     Replay,
     /// The store deletes nothing.
     AppendOnly,
+}
+
+/// What somebody who is no client asks the store for.
+#[derive(Clone, Copy, Debug, PartialEq, Eq)]
+pub enum Question {
+    /// A new token.
+    Ticket,
+    /// The lock of this token, exclusive or not.
+    Lock { token: Token, exclusive: bool },
+    /// A later time, in seconds since 1970, for this token's live lock.
+    Refresh { token: Token, time: u64 },
+    /// The rows of all live locks.
+    Locks,
 }
 
 /// What a client starts for.

@@ -12,6 +12,7 @@ use crate::arguments::{
 use crate::cuts::{are_words, path_of, words_of};
 use crate::faults::LineError;
 use crate::lines::Line;
+use crate::questions::question_of;
 use crate::starts::{old_start_of, start_of};
 use crate::tables::verb_of;
 use crate::verbs::Verb;
@@ -54,6 +55,7 @@ fn event_with(verb: Verb, left: &[&str]) -> Option<Line>
         Verb::Deliver => Some(Line::Deliver(one_index(left)?)),
         Verb::Crash => Some(Line::Crash(one_index(left)?)),
         Verb::Unlock => Some(Line::Unlock(Token(one_number(left)?))),
+        Verb::Ask => Some(Line::Ask(question_of(left)?)),
         Verb::Until => {
             let (client, sort) = index_and_sort(left)?;
             Some(Line::Until { client, sort })

@@ -1,10 +1,10 @@
 //! The words that scripts have.
 
 ghost use Rattle.std.specs.Prelude.{◌≡◌};
-ghost use Rattle.repo_script.specs.Tables.{word_in, verbs, purposes, sorts, fails};
+ghost use Rattle.repo_script.specs.Tables.{word_in, verbs, purposes, topics, kinds, sorts, fails};
 
 use crate::sorts::AskSort;
-use crate::verbs::{Purpose, Verb};
+use crate::verbs::{Purpose, Topic, Verb};
 use repo_name::Kind;
 use repo_store::Fail;
 
@@ -24,6 +24,7 @@ pub fn verb_of(word: &str) -> Option<Verb>
         "fault" => Some(Verb::Fault),
         "deliver" => Some(Verb::Deliver),
         "unlock" => Some(Verb::Unlock),
+        "ask" => Some(Verb::Ask),
         "crash" => Some(Verb::Crash),
         "restart" => Some(Verb::Restart),
         "report" => Some(Verb::Report),
@@ -46,6 +47,30 @@ pub fn purpose_of(word: &str) -> Option<Purpose>
         "forget" => Some(Purpose::Forget),
         "keep" => Some(Purpose::Keep),
         "upgrade" => Some(Purpose::Upgrade),
+        _ => None,
+    }
+}
+
+/// What somebody who is no client asks for by this word.
+pub fn topic_of(word: &str) -> Option<Topic>
+    ensures { result ≡ word_in topics word.now }
+{
+    match word {
+        "ticket" => Some(Topic::Ticket),
+        "lock" => Some(Topic::Lock),
+        "refresh" => Some(Topic::Refresh),
+        "locks" => Some(Topic::Locks),
+        _ => None,
+    }
+}
+
+/// Whether a lock of this kind is exclusive.
+pub fn kind_of(word: &str) -> Option<bool>
+    ensures { result ≡ word_in kinds word.now }
+{
+    match word {
+        "shared" => Some(false),
+        "exclusive" => Some(true),
         _ => None,
     }
 }

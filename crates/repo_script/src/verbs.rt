@@ -14,6 +14,7 @@ pub enum Verb {
     Fault,
     Deliver,
     Unlock,
+    Ask,
     Crash,
     Restart,
     Report,
@@ -32,4 +33,13 @@ pub enum Purpose {
     Forget,
     Keep,
     Upgrade,
+}
+
+/// What somebody who is no client asks for.
+#[derive(Clone, Copy)]
+pub enum Topic {
+    Ticket,
+    Lock,
+    Refresh,
+    Locks,
 }

@@ -1,29 +1,29 @@
 -- A world in code, over an event.
-use Rattle.std.proofs.Common.{◌≡◌, ◌≢◌, ◌⊎◌, inl, inr, ◌∙◌, ◌<◌, ◌+◌, ◌++◌, ◌∷◌, [], ℕ, zero, suc, Bool, true, false, List, length, map, take, get_or, Option, Some, None, refl, sym, ap, subst, slice_get}
+use Rattle.std.proofs.Common.{◌≡◌, ◌≢◌, ◌⊎◌, inl, inr, ⊎_elim, ◌∙◌, ◌<◌, ◌+◌, ◌++◌, ◌∷◌, [], ℕ, zero, suc, true, false, List, length, map, take, get_or, Option, Some, None, refl, sym, ap, subst, slice_get}
 use Rattle.std.specs.Prelude.{⊤, Result, Ok, Err, IfOk, OnErr}
 use Rattle.std.specs.Result.{is_err}
 use Rattle.std.proofs.lemmas.List.{take_more}
 use Rattle.std.proofs.lemmas.Option.{get_or_from_slice_get}
-use Rattle.repo_name.specs.declared.tokens.Token.{Token}
-use Rattle.repo_locks.specs.TokenMachine.{Tokens, UnlockStep, unlocked}
-use Rattle.repo_locks.proofs.Numbers.{unlocked_same}
 use Rattle.repo_wire.specs.declared.messages.Ask.{Ask}
 use Rattle.repo_wire.specs.declared.messages.Code.{Code}
+use Rattle.repo_wire.specs.declared.messages.Reply.{Reply}
+use Rattle.repo_wire.specs.declared.messages.Request.{Request}
 use Rattle.repo_wire.specs.declared.messages.Say.{Say}
 use Rattle.repo_store.specs.Failing.{Failing, FailsItself, HasFailed, IsLeft, Plainly}
-use Rattle.repo_store.specs.StoreMachine.{Step, UnlockAnswer}
 use Rattle.repo_store.specs.Stores.{Store}
 use Rattle.repo_store.specs.declared.faults.Armed.{Armed}
 use Rattle.repo_store.specs.declared.faults.Fail.{Fail}
-use Rattle.repo_world.specs.Events.{Delivers, Happens, Run, Unlocks}
+use Rattle.repo_session.specs.Clients.{IsReplyTo}
+use Rattle.repo_world.specs.Events.{AnswersNobody, AnybodySends, Delivers, Happens, MayAnybodySend, Run}
 use Rattle.repo_world.specs.Flows.{Flow, seat_at, world_of}
 use Rattle.repo_world.specs.Laws.{IsEmpty}
 use Rattle.repo_world.specs.inner.Seating.{StepsAsArmed}
 use Rattle.repo_world.specs.Seats.{Seated, empty_seat}
-use Rattle.repo_world.specs.Stages.{IsReachable, IsSafely, Leads, LeadsOn, Shelf, Stage, seen}
+use Rattle.repo_world.specs.Stages.{IsReachable, IsSafely, Leads, LeadsOn, Shelf, Stage, Tells, seen}
 use Rattle.repo_world.specs.World.{Asked, Message, Said, World, beginning, client_at}
 use Rattle.repo_world.specs.declared.events.Applied.{Applied}
 use Rattle.repo_world.specs.declared.events.Event.{Event}
+use Rattle.repo_world.proofs.Asking.{memory_or, unchanged}
 use Rattle.repo_world.proofs.Flowing.{client_there}
 use Rattle.repo_world.proofs.Running.{every_run_is_safe}
 
@@ -50,30 +50,32 @@ steps_plainly own owned left old ask say new (s, armed) = (s, caused armed.0)
 pub steps_failing : (own owned : ℕ) (fail : Fail) (left : Armed) (old : Store) (ask : Ask) (say : Say) (new : Store) → StepsAsArmed (Armed.Next fail) own left owned old ask say new → Failing (HasFailed own owned) fail old ask say new
 steps_failing own owned fail left old ask say new (s, armed) = armed.1 fail refl
 
--- ---- a lock is removed
+-- ---- anybody asks
 
 -- the world with another store
 abbrev pub over : World → Store → World
 over w store = record { store = store; clients = w.clients; messages = w.messages }
 
--- the answer to its removal removes it
-unlocks : (w : World) (t : Token) (say : Say) (new : Store) → UnlockAnswer w.store t say new → Unlocks w t (over w new)
-unlocks w t say new a = record { store = new; saves = (a.saves.0, a.saves.1, a.saves.2 ∙ removed a.result a.tokens a.step, a.saves.3); is = refl }
-  where
-    removed : (b : Bool) (tokens : Tokens) → UnlockStep w.store.tokens t b tokens → tokens ≡ unlocked w.store.tokens t
-    removed true tokens s = s.1
-    removed false tokens s = s.1 ∙ sym (unlocked_same w.store.tokens t s.0)
-
 -- nothing is armed, and there was memory
-pub unlocks_plainly : (own owned : ℕ) (left : Armed) (w : World) (t : Token) (say : Say) (new : Store) → StepsAsArmed Armed.Nothing own left owned w.store (Ask.Unlock t) say new → say ≢ Say.Refused Code.NoMemory
-    → Happens (HasFailed own owned) w (Event.Unlock t) Applied.Done (over w new)
-unlocks_plainly own owned left w t say new s other = let p = steps_plainly own owned left w.store (Ask.Unlock t) say new s in (refl, go p.0 p.1)
-  where
-    go : Step w.store (Ask.Unlock t) say new → (say ≡ Say.Refused Code.Fault → HasFailed own owned) → Unlocks w t (over w new) ⊎ (HasFailed own owned × (over w new ≡ w))
-    go (inl a) own_fault = inl (unlocks w t say new a)
-    go (inr (l, inl (e, inl same))) own_fault = inr (own_fault e, ap (over w) same)
-    go (inr (l, inl (e, inr (told, a)))) own_fault = inl (unlocks w t told new a)
-    go (inr (l, inr (e, same))) own_fault = absurd (other e)
+pub answers_plainly : (own owned : ℕ) (left : Armed) (w : World) (request : Request) (reply : Reply) (new : Store) → MayAnybodySend request → IsReplyTo request reply
+    → StepsAsArmed Armed.Nothing own left owned w.store request.ask reply.say new → reply.say ≢ Say.Refused Code.NoMemory → (a : AnswersNobody (HasFailed own owned) w request (over w new)) × (reply ≡ a.reply)
+answers_plainly own owned left w request reply new may answers s other = (
+  record {
+    may = may;
+    reply = reply;
+    store = new;
+    answers = answers;
+    step = steps_plainly own owned left w.store request.ask reply.say new s;
+    memory = other;
+    is = refl;
+  },
+  refl,
+)
+
+-- it is the same whatever the device's own failures are counted from
+pub sends_so : (Own Other : Type 0) → (Own → Other) → (w : World) (request : Request) (a : Applied) (v : World) → AnybodySends Own w request a v → AnybodySends Other w request a v
+sends_so Own Other f w request a v (inl (d, s)) = inl (d, record { may = s.may; reply = s.reply; store = s.store; answers = s.answers; step = (s.step.0, λ e. f (s.step.1 e)); memory = s.memory; is = s.is })
+sends_so Own Other f w request a v (inr h) = inr h
 
 -- ---- in a run the device may have failed
 
@@ -96,8 +98,7 @@ module _ (Own : Type 0) where
   happens_any w (Event.Start job host time old) a v h = h
   happens_any w (Event.Deliver i) a v h = delivers_so (Plainly Own) (Plainly ⊤) plainly_any w (slice_get w.messages i) a v h
   happens_any w (Event.Fault i fail) a v h = delivers_so (Failing Own fail) (Failing ⊤ fail) (failing_any fail) w (slice_get w.messages i) a v h
-  happens_any w (Event.Unlock t) a v (d, inl u) = (d, inl u)
-  happens_any w (Event.Unlock t) a v (d, inr u) = (d, inr (tt, u.1))
+  happens_any w (Event.Ask request) a v h = sends_so Own ⊤ (λ own. tt) w request a v h
   happens_any w (Event.Crash k) a v h = h
   happens_any w Event.Restart a v h = h
 
@@ -180,30 +181,39 @@ module _ (S : Type 0) (store : S → Store) (failed : S → ℕ) where
   reached_by (Ok a) old e new reached leads same = reached_more (HasFailed (failed old.device) (failed new.device)) (seen store old) e a (seen store new) reached leads
   reached_by (Err x) old e new reached leads same = subst IsReachable (sym same) reached
 
+-- ---- what somebody is told who is no client
+
+pub told_done : {S : Type 0} (store : S → Store) (failed : S → ℕ) (old : Stage S) (request : Request) {reply : Reply} (new : Stage S) → Tells store failed old request (Some reply) new
+    → Leads store failed old (Event.Ask request) Applied.Done new
+told_done store failed old request new t = inl (refl, t.0)
+
+pub told_ignored : {S : Type 0} (store : S → Store) (failed : S → ℕ) (old : Stage S) (request : Request) (new : Stage S) → Tells store failed old request None new
+    → Leads store failed old (Event.Ask request) Applied.Ignored new
+told_ignored store failed old request new t = inr (refl, t.0, ap (seen store) t.1)
+
 -- ---- a call that failed, or didn't
 
 pub if_failed : {T E : Type 0} (r : Result T E) (P : Type 0) → is_err r ≡ true → OnErr r P → P
 if_failed (Ok x) P e h = absurd (cc)
 if_failed (Err x) P e h = h
 
+pub seen_same : {S E T : Type 0} (store : S → Store) (r : Result T E) (old new : Stage S) → OnErr r (new ≡ old) → OnErr r (seen store new ≡ seen store old)
+seen_same store (Ok x) old new h = tt
+seen_same store (Err e) old new h = ap (seen store) h
+
 -- ---- what holds of some values holds of equal ones
 
 pub carried : {A B C : Type 0} (P : A → B → C → Type 0) {a x : A} {b y : B} {c z : C} → x ≡ a → y ≡ b → z ≡ c → P a b c → P x y z
 carried P {a} {x} {b} {y} {c} {z} p q r h = subst (λ k. P k y z) (sym p) (subst (λ k. P a k z) (sym q) (subst (λ k. P a b k) (sym r) h))
 
--- ---- a lock's removal, whatever is said to it
+-- ---- what anybody asks, whatever is said to it
 
-pub unlock_reached : (own owned : ℕ) (left : Armed) (w : World) (t : Token) (say : Say) (new : Store) → StepsAsArmed Armed.Nothing own left owned w.store (Ask.Unlock t) say new → IsReachable w → IsReachable (over w new)
-unlock_reached own owned left w t say new s reached = let p = steps_plainly own owned left w.store (Ask.Unlock t) say new s in go p.0 p.1
-  where
-    by : Unlocks w t (over w new) ⊎ (HasFailed own owned × (over w new ≡ w)) → IsReachable (over w new)
-    by u = reached_more (HasFailed own owned) w (Event.Unlock t) Applied.Done (over w new) reached (refl, u)
-
-    go : Step w.store (Ask.Unlock t) say new → (say ≡ Say.Refused Code.Fault → HasFailed own owned) → IsReachable (over w new)
-    go (inl a) own_fault = by (inl (unlocks w t say new a))
-    go (inr (l, inl (e, inl same))) own_fault = by (inr (own_fault e, ap (over w) same))
-    go (inr (l, inl (e, inr (told, a)))) own_fault = by (inl (unlocks w t told new a))
-    go (inr (l, inr (e, same))) own_fault = subst IsReachable (sym (ap (over w) same)) reached
+pub answer_reached : (own owned : ℕ) (left : Armed) (w : World) (request : Request) (reply : Reply) (new : Store) → MayAnybodySend request → IsReplyTo request reply
+    → StepsAsArmed Armed.Nothing own left owned w.store request.ask reply.say new → IsReachable w → IsReachable (over w new)
+answer_reached own owned left w request reply new may answers s reached = ⊎_elim
+    (λ none. subst IsReachable (sym (ap (over w) (unchanged w.store request.ask reply.say new may.1 none s.0))) reached)
+    (λ other. reached_more (HasFailed own owned) w (Event.Ask request) Applied.Done (over w new) reached (inl (refl, (answers_plainly own owned left w request reply new may answers s other).0)))
+    (memory_or reply.say)
 
 -- nothing was armed, and nothing is
 pub nothing_left : (own owned : ℕ) (say : Say) (left : Armed) → IsLeft (HasFailed own owned) Armed.Nothing say left → left ≡ Armed.Nothing

@@ -85,6 +85,7 @@ forgot_listed choice es names h = go choice h.chosen.decided where
   go : (c : Choice) → IsDecided c es h.chosen.rows → is_complete Kind.Snapshot es ≡ true
   go (Choice.Names given) k = k.complete
   go (Choice.Keep policy) k = k.listed.complete
+  go (Choice.KeepOf host policy) k = k.listed.complete
 
 no_outcome : (job : Job) (o : Outcome) → JobConcludes job [] o → ⊥
 no_outcome job (Outcome.Ended end) h = no_end job end h

@@ -1,5 +1,7 @@
 -- What a world in code is made of, and the world for which it stands.
-use Rattle.std.specs.Prelude.{◌≡◌, ◌<◌, ◌⊎◌, ◌∷◌, [], ℕ, List, None}
+use Rattle.std.specs.Prelude.{◌≡◌, ◌<◌, ◌⊎◌, ◌∷◌, [], ℕ, List, Option, Some, None}
+use Rattle.repo_wire.specs.declared.messages.Reply.{Reply}
+use Rattle.repo_wire.specs.declared.messages.Request.{Request}
 use Rattle.repo_store.specs.Failing.{HasFailed}
 use Rattle.repo_store.specs.Kept.{Agrees}
 use Rattle.repo_store.specs.Laws.{greatest_count}
@@ -7,7 +9,7 @@ use Rattle.repo_store.specs.Stores.{Store, SavesConfig}
 use Rattle.repo_store.specs.declared.faults.Armed.{Armed}
 use Rattle.repo_store.specs.declared.faults.FaultShelf.{FaultShelf}
 use Rattle.repo_store.specs.declared.kept.Kept.{Kept}
-use Rattle.repo_world.specs.Events.{Happens, Run}
+use Rattle.repo_world.specs.Events.{AnswersNobody, Happens, MayAnybodySend, Run}
 use Rattle.repo_world.specs.Flows.{Flow, world_of}
 use Rattle.repo_world.specs.Laws.{IsEmpty}
 use Rattle.repo_world.specs.Safe.{HandedIsOne, HasNoClash, IsSafe}
@@ -27,6 +29,11 @@ seen store stage = world_of (store stage.device) stage.flow
 -- an event leads from a stage to another, and comes to this; the device may fail by itself where its count of failures says that it did
 abbrev pub Leads : {S : Type 0} → (S → Store) → (S → ℕ) → Stage S → Event → Applied → Stage S → Type 0
 Leads store failed old event applied new = Happens (HasFailed (failed old.device) (failed new.device)) (seen store old) event applied (seen store new)
+
+-- somebody who is no client sends a request, and is told this reply; or none, where nobody may send it
+abbrev pub Tells : {S : Type 0} → (S → Store) → (S → ℕ) → Stage S → Request → Option Reply → Stage S → Type 0
+Tells store failed old request (Some reply) new = (a : AnswersNobody (HasFailed (failed old.device) (failed new.device)) (seen store old) request (seen store new)) × (reply ≡ a.reply)
+Tells store failed old request None new = (¬ MayAnybodySend request) × (new ≡ old)
 
 -- events lead from a stage to another, one after another
 abbrev pub LeadsOn : {S : Type 0} → (S → Store) → (S → ℕ) → Stage S → List Event → Stage S → Type 0

@@ -46,6 +46,10 @@ fn copy_of_choice(choice: &Choice) -> Result<Choice, AllocError>
     match choice {
         Choice::Names(names) => Ok(Choice::Names(names.clone()?)),
         Choice::Keep(policy) => Ok(Choice::Keep(*policy)),
+        Choice::KeepOf { host, policy } => Ok(Choice::KeepOf {
+            host: host.clone()?,
+            policy: *policy,
+        }),
     }
 }
 
@@ -64,7 +68,7 @@ fn copy_of_job(alloc: Global, job: &Job) -> Result<Job, AllocError>
     }
 }
 
-/// An equal event. It fails for memory alone, and takes some for a start alone.
+/// An equal event. It fails for memory alone, and takes some for a start, or for what is asked, alone.
 pub fn copy_of_event(alloc: Global, event: &Event) -> Result<Event, AllocError>
     ensures { IfOk result (λ copy. copy ≡ event.now) }
 {
@@ -85,7 +89,7 @@ pub fn copy_of_event(alloc: Global, event: &Event) -> Result<Event, AllocError>
             message: *message,
             fail: *fail,
         }),
-        Event::Unlock(token) => Ok(Event::Unlock(*token)),
+        Event::Ask(request) => Ok(Event::Ask(request.copy()?)),
         Event::Crash(client) => Ok(Event::Crash(*client)),
         Event::Restart => Ok(Event::Restart),
     }

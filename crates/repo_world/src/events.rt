@@ -1,8 +1,8 @@
 //! What may happen in a world, and what comes of it.
 
 use crate::jobs::{Host, Job, Refusal};
-use repo_name::Token;
 use repo_store::Fail;
+use repo_wire::Request;
 
 /// What may happen in a world. Clients and messages are numbered from 0 on, as they come.
 #[derive(Debug, Drop)]
@@ -22,8 +22,9 @@ pub enum Event {
         message: usize,
         fail: Fail,
     },
-    /// Somebody removes the lock of this token.
-    Unlock(Token),
+    /// Somebody who is no client asks the store for something, under any instance and with any number; the reply goes to
+    /// nobody. It is no put, no deletion and no upgrade.
+    Ask(Request),
     /// The client of this number stops for good.
     Crash(usize),
     /// The store is closed and opened: what it keeps outside its device is lost.
@@ -35,7 +36,7 @@ pub enum Event {
 pub enum Applied {
     /// It happened.
     Done,
-    /// There is no such message, or no such client runs. Nothing changed.
+    /// There is no such message, or no such client runs; or nobody may send such a request. Nothing changed.
     Ignored,
     /// The client isn't begun, for this reason. Nothing changed.
     Refused(Refusal),

@@ -2,13 +2,13 @@
 //! its runs; and a value that makes them.
 //!
 //! A [`World`] has a store in a device, its clients and all messages. An [`Event`] happens to it by [`World::apply`], and what
-//! comes of that is an [`Applied`]. A client is started with a [`Job`], under a [`Host`]; a [`Message`] stands for a request or
+//! comes of that is an [`Applied`]; what the store says to somebody who is no client is given by [`World::ask`]. A client is started with a [`Job`], under a [`Host`]; a [`Message`] stands for a request or
 //! a reply, by its place. A report is a [`client_line`] for each client, by its [`Role`], and a [`store_line`]. What a client gave out
 //! ([`World::emitted`]) and what the store has under a name ([`World::object`]) can be looked at, too.
 //!
 //! Promised: from a store without objects, over every list of events (clients start and stop for good, messages are
-//! delivered late, again, in any order or never, calls of the store's device fail, locks are removed by anybody, the store is
-//! closed and opened), every world is safe ([`every_run_is_safe`]): each snapshot in the store has all its blobs there and
+//! delivered late, again, in any order or never, calls of the store's device fail, anybody asks the store for anything that is no
+//! put, no deletion and no upgrade, such as a lock or a lock's end, the store is closed and opened), every world is safe ([`every_run_is_safe`]): each snapshot in the store has all its blobs there and
 //! spells just the names and the bytes that were handed to its backup, each restore that is complete gave out just these,
 //! and a snapshot that was reported as stored is there until its deletion is asked for.
 //!

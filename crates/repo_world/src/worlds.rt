@@ -2,18 +2,17 @@
 
 ghost use Rattle.std.specs.Prelude.{◌≡◌, ◌≢◌, ◌<◌, ◌↔◌, [], ℕ, List, IfOk, IfErr, IsErrOf, IsOk, IsTrue, OnErr, OnOk, None, length, option_map, slice_get, string_bytes, take, Some, ⊤};
 ghost use Rattle.repo_tree.specs.ConfigText.{config_text, IsTarget};
-ghost use Rattle.repo_wire.specs.declared.messages.Ask.{Ask};
 ghost use Rattle.repo_wire.specs.declared.messages.Code.{Code};
 ghost use Rattle.repo_wire.specs.declared.messages.Say.{Say};
 ghost use Rattle.repo_store.specs.declared.making.InitError.{InitError};
 ghost use Rattle.repo_world.specs.Calmness.{IsCalm};
-ghost use Rattle.repo_world.specs.Events.{Happens, Run};
+ghost use Rattle.repo_world.specs.Events.{Happens, MayAnybodySend, Run};
 ghost use Rattle.repo_store.specs.Laws.{HasCause};
 ghost use Rattle.repo_store.specs.Memory.{store_of};
 ghost use Rattle.repo_store.specs.Stores.{empty};
 ghost use Rattle.repo_world.specs.Laws.{IsEmpty};
 ghost use Rattle.repo_world.specs.Reports.{IsReport};
-ghost use Rattle.repo_world.specs.Stages.{BeginsWithConfig, HasFailedSince, IsSafely, Leads, LeadsOn, StopsAfter, seen};
+ghost use Rattle.repo_world.specs.Stages.{BeginsWithConfig, HasFailedSince, IsSafely, Leads, LeadsOn, StopsAfter, Tells, seen};
 ghost use Rattle.repo_world.specs.Flows.{seat_at};
 ghost use Rattle.repo_world.specs.World as world;
 ghost use Rattle.repo_world.specs.World.{awaited, given_out};
@@ -26,7 +25,7 @@ use crate::jobs::{Host, Job};
 use crate::messages::Message;
 use crate::reports::store_line;
 use crate::traffic::Traffic;
-use repo_name::{Bytes, Instance, Kind, Name, Token};
+use repo_name::{Bytes, Kind, Name};
 use repo_session::{Emission, Outcome};
 use repo_store::{Fail, FaultShelf, InitError, Kept, MemShelf, Shelf, ShelfError, answer, init};
 use repo_tree::Config;
@@ -59,14 +58,17 @@ impl<S: Shelf + Drop> Model for World<S> {
     ghost invariant = { λ w. WorldStands S.honest S.store w.shelf w.flow };
 }
 
-/// The removal of a token's lock, as it is asked of the store.
-fn removal(token: Token) -> Request
-    ensures { result.ask ≡ Ask.Unlock token }
+/// Whether anybody may send a request: it fits a frame, and is no put, no deletion and no upgrade.
+fn may_anybody_send(request: &Request) -> bool
+    ensures { IsTrue result ↔ MayAnybodySend request.now }
 {
-    Request {
-        instance: Instance([0; 16]),
-        sequence: 0,
-        ask: Ask::Unlock(token),
+    if !request.fits() {
+        return false;
+    }
+    match &request.ask {
+        Ask::Put { .. } | Ask::Delete { .. } | Ask::Upgrade(_) => false,
+        Ask::Ticket | Ask::Lock(_) | Ask::Refresh { .. } | Ask::Unlock(_) | Ask::Locks => true,
+        Ask::List { .. } | Ask::Get { .. } | Ask::Range { .. } | Ask::Config => true,
     }
 }
 
@@ -156,16 +158,42 @@ impl<S: Shelf + Drop> World<S> {
         applied
     }
 
-    /// A lock is removed. It goes the way of a request, so that what is remembered of the device agrees with it.
-    fn unlock(&mut self, token: Token) -> Result<Applied, AllocError>
-        ensures happens { IfOk result (λ applied. Leads S.store S.failed self.old (Event.Unlock token) applied self.new) }
+    /// Somebody who is no client sends a request. It goes the way of a client's, so that what is remembered of the device
+    /// agrees with it.
+    fn answered(&mut self, request: &Request) -> Result<Option<Reply>, AllocError>
+        ensures told { IfOk result (λ found. Tells S.store S.failed self.old request.now found self.new) }
         ensures err { OnErr result (seen S.store self.new ≡ seen S.store self.old) }
+        ensures calm { ¬ MayAnybodySend request.now → IsOk result }
     {
-        let reply = answer(self.alloc, &mut self.shelf, &removal(token));
+        if !may_anybody_send(request) {
+            return Ok(None);
+        }
+        let reply = answer(self.alloc, &mut self.shelf, request);
         if wants_memory(&reply.say) {
             return Err(AllocError);
         }
-        Ok(Applied::Done)
+        Ok(Some(reply))
+    }
+
+    /// Somebody who is no client sends a request that is lent, and the reply goes to nobody.
+    fn sent_lent(&mut self, request: &Request) -> Result<Applied, AllocError>
+        ensures happens { IfOk result (λ applied. Leads S.store S.failed self.old (Event.Ask request.now) applied self.new) }
+        ensures err { OnErr result (seen S.store self.new ≡ seen S.store self.old) }
+        ensures calm { IsCalm (seen S.store self.old) (Event.Ask request.now) → IsOk result }
+    {
+        match self.answered(request)? {
+            Some(_) => Ok(Applied::Done),
+            None => Ok(Applied::Ignored),
+        }
+    }
+
+    /// Somebody who is no client sends a request, and the reply goes to nobody.
+    fn sent(&mut self, request: Request) -> Result<Applied, AllocError>
+        ensures happens { IfOk result (λ applied. Leads S.store S.failed self.old (Event.Ask request) applied self.new) }
+        ensures err { OnErr result (seen S.store self.new ≡ seen S.store self.old) }
+        ensures calm { IsCalm (seen S.store self.old) (Event.Ask request) → IsOk result }
+    {
+        self.sent_lent(&request)
     }
 
     /// The store is closed and opened.
@@ -193,7 +221,7 @@ impl<S: Shelf + Drop> World<S> {
             } => self.start(job, &host, time, old),
             Event::Deliver(message) => self.deliver(message),
             Event::Fault { message, fail } => self.fault(message, fail),
-            Event::Unlock(token) => self.unlock(token),
+            Event::Ask(request) => self.sent(request),
             Event::Crash(client) => Ok(self.crash(client)),
             Event::Restart => Ok(self.restart()),
         };
@@ -212,6 +240,21 @@ impl<S: Shelf + Drop> World<S> {
         let _ = &self.shelf;
         let copy = copy_of_event(self.alloc, event)?;
         self.apply(copy)
+    }
+
+    /// Somebody who is no client sends a request, as in [`Event::Ask`], and is told the reply; none is where nobody may send
+    /// such a request, and then nothing changed. It fails for memory alone, and then nothing changed; no memory is asked for
+    /// where there is no reply.
+    pub fn ask(&mut self, request: &Request) -> Result<Option<Reply>, AllocError>
+        ensures told { IfOk result (λ found. Tells S.store S.failed self.old request.now found self.new) }
+        ensures safe { IsSafely (seen S.store self.new) }
+        ensures err { OnErr result (seen S.store self.new ≡ seen S.store self.old) }
+        ensures calm { ¬ MayAnybodySend request.now → IsOk result }
+    {
+        let found = self.answered(request);
+        // A look at a field tells the prover the invariant.
+        let _ = &self.shelf;
+        found
     }
 
     /// The events happen, one after another, as [`World::apply`] has each of them happen, until there is no memory. The

@@ -1,0 +1,120 @@
+-- What is answered over connections, to clients of a world and to others, one after another or many at once, as a run of the world.
+use Rattle.std.specs.Prelude.{◌≡◌, ◌≢◌, ◌⊎◌, ◌∷◌, [], ℕ, false, List, Option, Some, None}
+use Rattle.repo_wire.specs.declared.messages.Reply.{Reply}
+use Rattle.repo_wire.specs.declared.messages.Request.{Request}
+use Rattle.repo_store.specs.Serving.{Moment, Past, SomeServed, plain}
+use Rattle.repo_store.specs.Stores.{Store}
+use Rattle.repo_session.specs.Clients.{IsReplyTo, exchange}
+use Rattle.repo_session.specs.Talks.{Said, Talk, Turn}
+use Rattle.repo_session.specs.Traces.{Each}
+use Rattle.repo_session.specs.declared.outcomes.Outcome.{Outcome}
+use Rattle.repo_hall.specs.Halls.{Hosted}
+use Rattle.repo_hall.specs.Happenings.{Log, Brought, Answered, Given, Stay, all_asked, all_replies, no_stay, stay}
+use Rattle.repo_hall.specs.Joined.{TalksAlong}
+use Rattle.repo_world.specs.Clients.{Client, IsDutiful}
+use Rattle.repo_world.specs.Events.{MayAnybodySend, Run, Takes}
+use Rattle.repo_world.specs.World.{Message, World, Asked, IsOneOf, client_at}
+use Rattle.repo_world.specs.declared.events.Event.{Event}
+
+-- the clients, and the requests that they sent so far
+pub record Senders : Type 0 where
+  pub clients : List Client
+  pub sent : List Message
+
+-- as a world with this store
+abbrev pub with_store : Store → Senders → World
+with_store store s = record { store = store; clients = s.clients; messages = s.sent }
+
+-- the reply is taken by a client which waits for it, and which may send one more request
+pub record IsTaken (old : Senders) (request : Request) (reply : Reply) (new : Senders) : Type 0 where
+  pub by : ℕ
+  pub sent : IsOneOf old.sent (Asked by request)
+  pub waits : (client_at old.clients by).next ≡ Some request
+  pub takes : (store : Store) → Takes (with_store store old) by reply (with_store store new)
+
+-- a client sent the request, be it long ago, and the reply to it is lost; or somebody sent it who is no client
+abbrev pub IsForNoClient : Senders → Request → Type 0
+IsForNoClient s request = ((k : ℕ) × IsOneOf s.sent (Asked k request)) ⊎ MayAnybodySend request
+
+-- one answer
+abbrev pub AnswerGoes : Senders → Request → Reply → Senders → Type 0
+AnswerGoes old request reply new = IsTaken old request reply new ⊎ (IsForNoClient old request × (new ≡ old))
+
+-- all answers of a hall, in the order in which they were given, to whichever guests
+abbrev pub HallGoes : Senders → Log → Senders → Type 0
+HallGoes old [] new = new ≡ old
+HallGoes old (Brought n piece ∷ log) new = HallGoes old log new
+HallGoes old (Answered n request reply ∷ log) new = (mid : Senders) × HallGoes old log mid × AnswerGoes mid request reply new
+HallGoes old (Given n piece ∷ log) new = HallGoes old log new
+
+-- halls, one after another, each over the store that the one before it left, with the clients as they were then: the server is closed and opened between
+-- them. (One connection by itself is a hall with one guest.)
+abbrev pub HallsGo : Store → Senders → List Log → Store → Senders → Type 0
+HallsGo from old [] to new = (to ≡ from) × (new ≡ old)
+HallsGo from old (log ∷ logs) to new =
+    (mid : Store) × (between : Senders) × ((failed failing : ℕ) × Hosted from failed log mid failing) × HallGoes old log between × HallsGo mid between logs to new
+
+-- some events lead from a world to one with this store and these clients, in which they sent what they did
+pub record LeadsTo (w : World) (store : Store) (s : Senders) : Type 0 where
+  pub events : List Event
+  pub last : World
+  pub run : Run w events last
+  pub store_is : last.store ≡ store
+  pub clients_are : last.clients ≡ s.clients
+  pub sent : (m : Message) → IsOneOf s.sent m → IsOneOf last.messages m
+
+-- whatever was answered so, from the world's store on, is a part of a run of the world
+abbrev pub ConnectionsAreARun : Type 0
+ConnectionsAreARun = (w : World) (logs : List Log) (to : Store) (s : Senders) → HallsGo w.store (record { clients = w.clients; sent = w.messages }) logs to s → LeadsTo w to s
+
+-- ---- guests at whose other end are clients of the world
+
+-- a client takes the reply of a turn, which is to its pending request, and stands so then
+pub record TakesTurn (old : Client) (turn : Turn) (new : Client) : Type 0 where
+  pub running : old.crashed ≡ false
+  pub pending : old.next ≡ Some turn.request
+  pub answers : IsReplyTo turn.request turn.reply
+  pub job : new.job ≡ old.job
+  pub who : new.who ≡ old.who
+  pub trace : new.trace ≡ exchange turn.request turn.reply turn.emitted ∷ old.trace
+  pub up : new.crashed ≡ false
+  pub dutiful : IsDutiful new
+  pub stays : (o : Outcome) → old.outcome ≡ Some o → new.outcome ≡ Some o
+
+-- it goes by a talk
+abbrev pub GoesBy : Client → Talk → Client → Type 0
+GoesBy old [] new = new ≡ old
+GoesBy old (turn ∷ talk) new = (mid : Client) × GoesBy old talk mid × TakesTurn mid turn new
+
+-- what a client said over its connection goes along with what happened to the guest; it goes by that talk to where it ends; and the request that was
+-- pending before was sent
+pub record IsClients (old : Senders) (k : ℕ) (s : Stay) (end : Client) : Type 0 where
+  pub said : Said
+  pub along : TalksAlong said end.next s
+  pub goes : GoesBy (client_at old.clients k) said.talk end
+  pub sent : (request : Request) → (client_at old.clients k).next ≡ Some request → IsOneOf old.sent (Asked k request)
+
+-- each guest is a client's, and no client has two; or it is somebody's who is no client
+pub record AreOwned (old : Senders) (log : Log) (who : ℕ → Option ℕ) (end : ℕ → Client) : Type 0 where
+  pub apart : (i j k : ℕ) → who i ≡ Some k → who j ≡ Some k → i ≡ j
+  pub clients : (g k : ℕ) → who g ≡ Some k → IsClients old k (stay g log) (end g)
+  pub others : (g : ℕ) → who g ≡ None → Each MayAnybodySend (stay g log).asked
+
+-- then the answers go so, each client of a guest ends where its talk ends, and the other clients are as they were
+abbrev pub OwnedGuestsGo : Type 0
+OwnedGuestsGo = (old : Senders) (log : Log) (who : ℕ → Option ℕ) (end : ℕ → Client) → AreOwned old log who end
+    → (new : Senders) × HallGoes old log new × ((g k : ℕ) → who g ≡ Some k → client_at new.clients k ≡ end g) × ((j : ℕ) → ((g : ℕ) → who g ≢ Some j) → client_at new.clients j ≡ client_at old.clients j)
+
+-- ---- one connection by itself
+
+-- what serving one connection gave is a hall with one guest, which brought its bytes, and was answered so
+pub record IsHosted (before : Moment) (past : Past) (after : Moment) : Type 0 where
+  pub log : Log
+  pub hosted : Hosted before.store before.failures log after.store after.failures
+  pub bytes : (stay 0 log).bytes ≡ past.bytes
+  pub asked : all_asked log ≡ past.asked
+  pub replies : all_replies log ≡ past.replies
+  pub alone : (k : ℕ) → k ≢ 0 → stay k log ≡ no_stay
+
+abbrev pub ServingIsHosting : Type 0
+ServingIsHosting = (before after : Moment) (past : Past) → SomeServed plain before past after → IsHosted before past after
