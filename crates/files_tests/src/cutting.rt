@@ -174,6 +174,12 @@ impl<'a> Files for Cut<'a> {
         self.fuse.note(What::Make, path)
     }
 
+    fn create_dir_with_mode(&self, path: &str, mode: u32) -> io::Result<()> {
+        self.fuse.burn(What::Look, path)?;
+        self.inner.create_dir_with_mode(path, mode)?;
+        self.fuse.note(What::Make, path)
+    }
+
     fn remove_dir(&self, path: &str) -> io::Result<()> {
         self.fuse.burn(What::Remove, path)?;
         self.inner.remove_dir(path)

@@ -1,4 +1,4 @@
-use Rattle.std.specs.Prelude.{◌≡◌, ◌⊎◌, ◌<◌, ◌≤◌, ◌++◌, ◌∷◌, [], ⊤, ℕ, List, Option, Some, None, Ok, Err, codes}
+use Rattle.std.specs.Prelude.{◌≡◌, ◌≢◌, ◌⊎◌, ◌<◌, ◌≤◌, ◌++◌, ◌∷◌, [], ⊤, ℕ, List, Option, Some, None, Ok, Err, codes}
 use Rattle.std.specs.Duration.{as_nanos}
 use Rattle.std.specs.declared.time.Duration.{Duration}
 use Rattle.std.specs.Io.KnownBytes.{Appends}
@@ -12,6 +12,8 @@ use Rattle.repo_tree.specs.declared.configs.Config.{Config}
 use Rattle.repo_tree.specs.ConfigText.{IsTarget, config_text}
 use Rattle.repo_tree.specs.Versions.{greatest_version, IsKnownTo}
 use Rattle.repo_name.specs.Rows.{IsHost}
+use Rattle.repo_prune.specs.declared.choices.Choice.{Choice}
+use Rattle.repo_prune.specs.declared.keeping.Policy.{Policy}
 use Rattle.repo_play.specs.Plays.{Plays, uncarried}
 use Rattle.repo_play.specs.declared.faults.LoopError.{LoopError}
 use Rattle.repo_play.specs.declared.faults.PlayError.{PlayError}
@@ -52,6 +54,7 @@ errand_word (Errand.Backup host folder) = codes "backup"
 errand_word Errand.Snapshots = codes "snapshots"
 errand_word (Errand.Restore name folder) = codes "restore"
 errand_word (Errand.Forget choice) = codes "forget"
+errand_word (Errand.Foresee choice) = codes "forget"
 errand_word Errand.Prune = codes "prune"
 errand_word Errand.Upgrade = codes "upgrade"
 errand_word Errand.Check = codes "check"
@@ -59,12 +62,28 @@ errand_word (Errand.Locks LockErrand.List) = codes "locks"
 errand_word (Errand.Locks (LockErrand.Refresh token)) = codes "refresh"
 errand_word (Errand.Locks (LockErrand.Remove all)) = codes "unlock"
 
+-- a choice within its limits: a host has 1 to 255 bytes
+abbrev pub IsChoice : Choice → Type 0
+IsChoice (Choice.Names names) = ⊤
+IsChoice (Choice.Keep policy) = ⊤
+IsChoice (Choice.KeepOf host policy) = IsHost host
+
+-- what a policy chooses: of one host, where one is named, and else of all
+abbrev pub choice_for : Option (List ℕ) → Policy → Choice
+choice_for None policy = Choice.Keep policy
+choice_for (Some host) policy = Choice.KeepOf host policy
+
+-- a policy is given, or a host
+abbrev pub HasPolicy : Option (List ℕ) → Policy → Type 0
+HasPolicy host policy = (host ≢ None) ⊎ ((policy.last ≢ 0) ⊎ (policy.daily ≢ 0))
+
 -- an errand within its limits
 abbrev pub IsErrand : Errand → Type 0
 IsErrand (Errand.Backup host folder) = IsHost host
 IsErrand Errand.Snapshots = ⊤
 IsErrand (Errand.Restore name folder) = ⊤
-IsErrand (Errand.Forget choice) = ⊤
+IsErrand (Errand.Forget choice) = IsChoice choice
+IsErrand (Errand.Foresee choice) = IsChoice choice
 IsErrand Errand.Prune = ⊤
 IsErrand Errand.Upgrade = ⊤
 IsErrand Errand.Check = ⊤

@@ -17,7 +17,7 @@ use Rattle.repo_prog.specs.Commands.{IsEnd, created_line, listening_line}
 use Rattle.repo_files.specs.Scanned.{AreScanned}
 use Rattle.repo_dial.specs.Dialing.{Coming, ConnectionEnds, Dials}
 use Rattle.repo_prog.specs.Jobs.{ListObeyed, RestoreObeyed, ForgetObeyed, PruneObeyed, UpgradeObeyed, CheckObeyed, BackupObeyed}
-use Rattle.repo_prog.specs.Shown.{TellsStored, TellsListed, TellsRestored, TellsForgotten, TellsPruned, TellsUpgraded, TellsChecked, unflawed}
+use Rattle.repo_prog.specs.Shown.{TellsStored, TellsListed, TellsRestored, TellsForeseen, TellsForgotten, TellsPruned, TellsUpgraded, TellsChecked, unflawed}
 
 -- what is asked about the locks over a connection, and told
 abbrev pub LockGives : LockErrand → Caller → Streams → Status → Streams → Type 0
@@ -46,6 +46,9 @@ ErrandGives (Errand.Restore name folder) caller retry coming after start status 
     RestoreObeyed caller name retry coming after × TellsRestored caller name retry coming after status start contents
 ErrandGives (Errand.Forget choice) caller retry coming after start status contents =
     ForgetObeyed caller choice retry coming after × TellsForgotten caller choice retry coming after status start contents
+    × (IsNoPolicy choice → (status ≡ Status.Failed) × (contents ≡ start))
+ErrandGives (Errand.Foresee choice) caller retry coming after start status contents =
+    ListObeyed caller retry coming after × TellsForeseen caller choice retry coming after status start contents
     × (IsNoPolicy choice → (status ≡ Status.Failed) × (contents ≡ start))
 ErrandGives Errand.Prune caller retry coming after start status contents =
     PruneObeyed caller retry coming after × TellsPruned caller retry coming after status start contents

@@ -11,7 +11,7 @@ use Rattle.repo_dial.specs.Dialing.{Coming}
 use Rattle.repo_backup.specs.BackupStates.{backup_rule}
 use Rattle.repo_check.specs.Checking.{check_rule}
 use Rattle.repo_prune.specs.declared.choices.Choice.{Choice}
-use Rattle.repo_prune.specs.Forgetting.{forget_rule}
+use Rattle.repo_prune.specs.Forgetting.{WouldForget, forget_rule}
 use Rattle.repo_prune.specs.Pruning.{prune_rule}
 use Rattle.repo_prune.specs.Upgrading.{upgrade_rule}
 use Rattle.repo_restore.specs.Listing.{list_rule}
@@ -41,6 +41,10 @@ RestoresSnapshot caller name entries retry coming after = Ended (restore_rule na
 -- the chosen snapshots were forgotten: those of these names
 abbrev pub Forgets : Caller → Choice → List Name → ℕ → Coming → Coming → Type 0
 Forgets caller choice names retry coming after = Ended (forget_rule choice) (vault_asker caller) (Outcome.Forgotten names) retry coming after
+
+-- the snapshots were listed, and of them the chosen ones would be forgotten: those of these names
+abbrev pub Foresees : Caller → Choice → List Name → ℕ → Coming → Coming → Type 0
+Foresees caller choice names retry coming after = (rows : List (Name × Snapshot)) × ListsSnapshots caller rows retry coming after × WouldForget choice rows names
 
 -- what no snapshot needs was removed: so many packs were deleted, and so many bytes of blobs put
 abbrev pub Prunes : Caller → ℕ → ℕ → ℕ → Coming → Coming → Type 0

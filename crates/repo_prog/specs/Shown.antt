@@ -1,13 +1,14 @@
 -- What commands show of their jobs.
 use Rattle.std.specs.Prelude.{◌≡◌, ⊤, ◌⊎◌, Option, ℕ, List, Some}
-use Rattle.repo_prog.specs.Tellings.{snapshot_lines, complete_line, stored_line, forgotten_lines, pruned_line, upgraded_line, fault_lines, clean_line}
+use Rattle.repo_prog.specs.Tellings.{snapshot_lines, complete_line, stored_line, foreseen_lines, forgotten_lines, pruned_line, upgraded_line, fault_lines, clean_line}
 use Rattle.repo_dial.specs.Dialing.{Coming}
 use Rattle.repo_prog.specs.declared.callers.Caller.{Caller}
 use Rattle.repo_prog.specs.declared.status.Status.{Status}
-use Rattle.repo_prog.specs.Jobs.{RestoresSnapshot, Prunes, Checks, Stores, Forgets, ListsSnapshots, Upgrades}
+use Rattle.repo_prog.specs.Jobs.{RestoresSnapshot, Prunes, Checks, Stores, Foresees, Forgets, ListsSnapshots, Upgrades}
 use Rattle.repo_tree.specs.declared.entries.Entry.{Entry}
 use Rattle.std.specs.Io.KnownBytes.{Appends}
 use Rattle.repo_prune.specs.declared.choices.Choice.{Choice}
+use Rattle.repo_prune.specs.Forgetting.{WouldForget}
 use Rattle.repo_session.specs.declared.outcomes.CheckFault.{CheckFault}
 use Rattle.repo_name.specs.declared.names.Name.{Name}
 use Rattle.repo_store.specs.Output.{AppendsPart}
@@ -78,6 +79,10 @@ ShowsRestored outcome status before after = Tells (λ (entries : ℕ). outcome �
 abbrev pub ShowsForgotten : Option Outcome → Status → Option (List ℕ) → Option (List ℕ) → Type 0
 ShowsForgotten outcome status before after = Tells (λ (names : List Name). outcome ≡ Some (Outcome.Forgotten names)) forgotten_lines status before after
 
+abbrev pub ShowsForeseen : Choice → Option Outcome → Status → Option (List ℕ) → Option (List ℕ) → Type 0
+ShowsForeseen choice outcome status before after =
+    Tells (λ (names : List Name). (rows : List (Name × Snapshot)) × (outcome ≡ Some (Outcome.Listed rows)) × WouldForget choice rows names) foreseen_lines status before after
+
 abbrev pub ShowsPruned : Option Outcome → Status → Option (List ℕ) → Option (List ℕ) → Type 0
 ShowsPruned outcome status before after = Tells (λ (p : Pruned). outcome ≡ Some (Outcome.Pruned p.0 p.1)) pruned_lines status before after
 
@@ -102,6 +107,9 @@ TellsRestored caller name retry coming left status before after = Tells (λ entr
 
 abbrev pub TellsForgotten : Caller → Choice → ℕ → Coming → Coming → Status → Option (List ℕ) → Option (List ℕ) → Type 0
 TellsForgotten caller choice retry coming left status before after = Tells (λ names. Forgets caller choice names retry coming left) forgotten_lines status before after
+
+abbrev pub TellsForeseen : Caller → Choice → ℕ → Coming → Coming → Status → Option (List ℕ) → Option (List ℕ) → Type 0
+TellsForeseen caller choice retry coming left status before after = Tells (λ names. Foresees caller choice names retry coming left) foreseen_lines status before after
 
 abbrev pub TellsPruned : Caller → ℕ → Coming → Coming → Status → Option (List ℕ) → Option (List ℕ) → Type 0
 TellsPruned caller retry coming left status before after = Tells (λ (p : Pruned). Prunes caller p.0 p.1 retry coming left) pruned_lines status before after

@@ -52,6 +52,14 @@ forgotten_line name = codes "forgotten " ++ (hex_of name ++ codes "\n")
 abbrev pub forgotten_lines : List Name → List ℕ
 forgotten_lines names = flat_map forgotten_line names
 
+-- a snapshot would be forgotten
+abbrev pub foreseen_line : Name → List ℕ
+foreseen_line name = codes "would forget " ++ (hex_of name ++ codes "\n")
+
+-- snapshots would be forgotten, a line each
+abbrev pub foreseen_lines : List Name → List ℕ
+foreseen_lines names = flat_map foreseen_line names
+
 -- what snapshots don't need was removed: so many packs, and so many bytes of blobs were put into new ones
 abbrev pub pruned_line : ℕ → ℕ → List ℕ
 pruned_line packs bytes = codes "pruned " ++ (decimal packs ++ (codes " " ++ (decimal bytes ++ codes "\n")))

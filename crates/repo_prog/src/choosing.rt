@@ -1,12 +1,14 @@
 //! What the words of `vault forget` choose.
 
-ghost use Rattle.std.specs.Prelude.{◌≡◌, ◌≢◌, ◌⊎◌, ◌↔◌, [], IfOk, IsErr};
+ghost use Rattle.std.specs.Prelude.{◌≡◌, ◌≢◌, ◌↔◌, [], IfOk, IfSome, IsErr, IsTrue};
+ghost use Rattle.repo_name.specs.Rows.{IsHost};
+ghost use Rattle.repo_prog.specs.Commands.{HasPolicy, IsChoice, choice_for};
 ghost use Rattle.repo_prune.specs.declared.choices.Choice.{Choice};
 
-use crate::meanings::{FORGOTTEN, KEEP_DAILY, KEEP_LAST};
-use crate::words::{WordsError, number, with_word};
-use clap::{Arg, ArgMatches, Command};
-use repo_name::{Name, Names};
+use crate::meanings::{DRY_RUN, FORGOTTEN, KEEP_DAILY, KEEP_LAST, OF_HOST};
+use crate::words::{WordsError, flag, number, with_word};
+use clap::{Arg, ArgAction, ArgMatches, Command};
+use repo_name::{Name, Names, Text, is_host};
 use repo_prune::{Choice, Policy};
 use std::alloc::{AllocError, Global};
 
@@ -18,10 +20,23 @@ fn count<'a>(alloc: Global, name: &'a str, meaning: &'a str) -> Result<Arg<'a>, 
     }
 }
 
+/// The option whose word is the host that a policy is for.
+fn of_host<'a>(alloc: Global) -> Result<Arg<'a>, AllocError> {
+    Ok(
+        Arg::new(alloc, "host")
+            .long("host")
+            .value_name("HOST")
+            .action(ArgAction::Set)
+            .help(OF_HOST),
+    )
+}
+
 /// The words of a choice, added to those of a command.
 pub fn choice_words<'a>(alloc: Global, command: Command<'a>) -> Result<Command<'a>, AllocError> {
     let command = with_word(command, count(alloc, "keep-last", KEEP_LAST))?;
     let command = with_word(command, count(alloc, "keep-daily", KEEP_DAILY))?;
+    let command = with_word(command, of_host(alloc))?;
+    let command = with_word(command, Ok(flag(alloc, "dry-run", DRY_RUN)))?;
     let names = Arg::new(alloc, "NAME").num_args(0..).help(FORGOTTEN);
     with_word(command, Ok(names))
 }
@@ -46,28 +61,62 @@ fn named(alloc: Global, words: &[&str]) -> Result<Vec<Name>, WordsError> {
     Ok(names)
 }
 
-/// What these counts and names choose: the names, where there are any, and else by a policy of the counts. Both
-/// together are refused.
-fn choice_by(last: u32, daily: u32, names: Vec<Name>) -> Result<Choice, WordsError>
-    ensures refused { IsErr result ↔ ((names.items ≢ []) × ((last ≢ 0) ⊎ (daily ≢ 0))) }
+/// The host that a policy is for, where the words name one: 1 to 255 bytes.
+fn host_of(alloc: Global, words: &ArgMatches) -> Result<Option<Text>, WordsError>
+    ensures { IfOk result (λ host. IfSome host IsHost) }
+{
+    let Some(word) = words.get_str("host") else {
+        return Ok(None);
+    };
+    if !is_host(word) {
+        return Err(WordsError::BadArgument);
+    }
+    Ok(Some(Text::of(String::from_str(alloc, word)?)))
+}
+
+/// What a policy chooses, for one host or for all.
+fn choice_for(host: Option<Text>, policy: Policy) -> Choice
+    ensures { result ≡ choice_for host policy }
+{
+    match host {
+        Some(host) => Choice::KeepOf { host, policy },
+        None => Choice::Keep(policy),
+    }
+}
+
+/// Whether a policy is given, or a host.
+fn has_policy(host: &Option<Text>, policy: &Policy) -> bool
+    ensures { IsTrue result ↔ HasPolicy host.now policy.now }
+{
+    host.is_some() || policy.last != 0 || policy.daily != 0
+}
+
+/// What these counts, this host and these names choose: the names, where there are any, and else by a policy of the counts,
+/// for the host where there is one. Names and any of the others together are refused.
+fn choice_by(host: Option<Text>, policy: Policy, names: Vec<Name>) -> Result<Choice, WordsError>
+    ensures refused { IsErr result ↔ ((names.items ≢ []) × HasPolicy host policy) }
     ensures names { IfOk result (λ choice. names.items ≢ [] → choice ≡ Choice.Names names.items) }
-    ensures policy { IfOk result (λ choice. names.items ≡ [] → choice ≡ Choice.Keep (record { last = last; daily = daily })) }
+    ensures policy { IfOk result (λ choice. names.items ≡ [] → choice ≡ choice_for host policy) }
+    ensures within { IfSome host IsHost → IfOk result IsChoice }
 {
     if names.is_empty() {
-        return Ok(Choice::Keep(Policy { last, daily }));
+        return Ok(choice_for(host, policy));
     }
-    if last != 0 || daily != 0 {
+    if has_policy(&host, &policy) {
         return Err(WordsError::NamesAndPolicy);
     }
     Ok(Choice::Names(Names::of(names)))
 }
 
 /// What the words choose.
-pub fn choice_of(alloc: Global, words: &ArgMatches) -> Result<Choice, WordsError> {
+pub fn choice_of(alloc: Global, words: &ArgMatches) -> Result<Choice, WordsError>
+    ensures { IfOk result IsChoice }
+{
+    let policy = Policy {
+        last: count_of(words, "keep-last")?,
+        daily: count_of(words, "keep-daily")?,
+    };
+    let host = host_of(alloc, words)?;
     let names = named(alloc, words.get_strs("NAME").unwrap_or(&[]))?;
-    choice_by(
-        count_of(words, "keep-last")?,
-        count_of(words, "keep-daily")?,
-        names,
-    )
+    choice_by(host, policy, names)
 }

@@ -9,6 +9,7 @@ use crate::backing::backup_command;
 use crate::callers::{Caller, caller_now};
 use crate::checking::check_command;
 use crate::errands::{Errand, LockErrand};
+use crate::foreseeing::foresee_command;
 use crate::forgetting::forget_command;
 use crate::locking::{locks_command, refresh_command, unlock_command};
 use crate::pruning::prune_command;
@@ -77,6 +78,9 @@ pub fn do_errand<T: Files + AllocGlobal + Clone + Drop, D: Dial, O: Write, F: Wr
         }
         Errand::Forget(choice) => forget_command(
             alloc, caller, choice, dial, retry, output, faults,
+        ),
+        Errand::Foresee(choice) => foresee_command(
+            alloc, caller, &choice, dial, retry, output, faults,
         ),
         Errand::Prune => prune_command(alloc, caller, dial, retry, output, faults),
         Errand::Upgrade => upgrade_command(alloc, caller, dial, retry, output, faults),

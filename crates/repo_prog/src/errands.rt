@@ -23,8 +23,10 @@ pub enum Errand {
     Snapshots,
     /// Restore a snapshot into a folder.
     Restore { name: Name, folder: String },
-    /// Forget the chosen snapshots.
+    /// Forget the chosen snapshots. A host is 1 to 255 bytes.
     Forget(Choice),
+    /// Tell which snapshots would be forgotten. A host is 1 to 255 bytes.
+    Foresee(Choice),
     /// Remove what no snapshot needs.
     Prune,
     /// Make the store's config one of version 2.
@@ -186,6 +188,17 @@ fn restore_errand(alloc: Global, words: &ArgMatches) -> Result<Errand, WordsErro
     Ok(Errand::Restore { name, folder })
 }
 
+fn forget_errand(alloc: Global, words: &ArgMatches) -> Result<Errand, WordsError>
+    ensures within { IfOk result IsErrand }
+    ensures word { IfOk result (λ errand. errand_word errand ≡ codes "forget") }
+{
+    let choice = choice_of(alloc, words)?;
+    if words.get_flag("dry-run") {
+        return Ok(Errand::Foresee(choice));
+    }
+    Ok(Errand::Forget(choice))
+}
+
 /// How often it is connected again, by the words of one of these commands: 0 where it has no word for that.
 pub fn retry_of(words: &ArgMatches) -> u64 {
     words.get_one::<u64>("retry").unwrap_or(0)
@@ -200,7 +213,7 @@ pub fn errand_of(alloc: Global, command: &str, words: &ArgMatches) -> Result<Err
         "backup" => backup_errand(alloc, words),
         "snapshots" => Ok(Errand::Snapshots),
         "restore" => restore_errand(alloc, words),
-        "forget" => Ok(Errand::Forget(choice_of(alloc, words)?)),
+        "forget" => forget_errand(alloc, words),
         "prune" => Ok(Errand::Prune),
         "check" => Ok(Errand::Check),
         "upgrade" => Ok(Errand::Upgrade),

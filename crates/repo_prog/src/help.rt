@@ -80,21 +80,27 @@ Exit status:
 pub const FORGET: &str = "\
 Either NAMEs are given, or a policy, of which one count at least isn't 0. Of each host a policy keeps the last
 snapshots, so many as --keep-last says, and the last one of each of the last days that have one, so many days
-as --keep-daily says; all others are forgotten. What was stored for them stays in the store.
+as --keep-daily says; all others are forgotten. What was stored for them stays in the store. With --host HOST the
+policy goes over the snapshots of that host alone.
+
+With --dry-run it lists the snapshots, tells which ones would be forgotten, and forgets none. Others may use the store
+meanwhile, and what they store or forget may change what a forget does later.
 
 With --retry N it connects again where a connection ends or can't be had, N times at most and without a pause, and
 goes on where it stood. The error of the last try is told.
 
 Example:
+  vault forget 127.0.0.1:7070 --keep-last 3 --keep-daily 14 --dry-run
   vault forget 127.0.0.1:7070 --keep-last 3 --keep-daily 14
+  vault forget 127.0.0.1:7070 --keep-last 1 --host laptop
   vault forget 127.0.0.1:7070 --keep-last 3 --retry 3
   vault forget 127.0.0.1:7070 NAME
 where NAME is the 64 digits that `backup` and `snapshots` print. One that isn't there is passed over.
 
 Exit status:
-  0  each of these snapshots is forgotten, and its name printed
-  1  it ended before, and standard error says why; some may be forgotten
-  2  the words make no command, a NAME is no name, or there are names and a policy";
+  0  each of these snapshots is forgotten, and its name printed; or with --dry-run each that would be is printed
+  1  it ended before, and standard error says why; some may be forgotten, but with --dry-run none
+  2  the words make no command, a NAME is no name, or there are names and a policy or a host";
 
 /// Below the help of `vault prune`.
 pub const PRUNE: &str = "\
@@ -217,6 +223,9 @@ Each line of the input is one of:
   fault K applied               a step in which the device fails, after a change or, with unapplied, before it, or,
                                 with read, where it reads
   unlock T, crash K, restart    token T's lock is removed; client K stops; the store is closed and opened
+  ask ticket, ask locks         somebody who is no client asks the store for that, and what it says is told
+  ask lock T shared             .. for token T's lock, shared or exclusive
+  ask refresh T TIME            .. for a later time of it
   append-only                   as the first line: the store deletes nothing
   report                        how all clients stand, and what the store has
 

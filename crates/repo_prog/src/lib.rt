@@ -5,7 +5,7 @@
 //! connections of the machine to itself. [`init_command`] makes a store, and [`serve_connections`] serves one.
 //!
 //! The others are a client's: [`backup_command`], [`snapshots_command`], [`restore_command`], [`forget_command`],
-//! [`prune_command`], [`upgrade_command`] and [`check_command`] bring a job to its end, over connections that are made one after
+//! [`foresee_command`], [`prune_command`], [`upgrade_command`] and [`check_command`] bring a job to its end, over connections that are made one after
 //! another ([`Dial`]),
 //! by [`drive_again`]; [`locks_command`], [`refresh_command`] and [`unlock_command`] ask themselves, over one. [`run_errand`]
 //! connects, and [`run`] goes by the words.
@@ -32,6 +32,7 @@ mod commands;
 mod connecting;
 mod errands;
 mod errors;
+mod foreseeing;
 mod forgetting;
 mod frames_engine;
 mod help;
@@ -57,6 +58,7 @@ pub use commands::{frames_command, perform, run};
 pub use connecting::{do_errand, run_errand};
 pub use errands::{Errand, LockErrand};
 pub use errors::FramesError;
+pub use foreseeing::foresee_command;
 pub use forgetting::forget_command;
 pub use frames_engine::frames;
 pub use listening::{Serving, serve_connections, serve_folder};

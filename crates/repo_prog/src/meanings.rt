@@ -50,6 +50,11 @@ pub const KEEP_LAST: &str = "How many of the last snapshots of each host are kep
 /// `--keep-daily`.
 pub const KEEP_DAILY: &str =
     "How many days, of those that have a snapshot, keep their last one of each host";
+/// `--host`.
+pub const OF_HOST: &str =
+    "The policy goes over the snapshots of this host alone, and all others stay; 1 to 255 bytes";
+/// `--dry-run`.
+pub const DRY_RUN: &str = "Tells which snapshots would be forgotten, and forgets none";
 /// `--remove-all`.
 pub const REMOVE_ALL: &str = "Removes all locks, and not the stale ones alone";
 /// `--retry`.

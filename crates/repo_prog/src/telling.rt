@@ -2,7 +2,7 @@
 
 ghost use Rattle.std.specs.Prelude.{◌≡◌, ℕ, List, IfOk, string_bytes};
 ghost use Rattle.repo_prog.specs.Commands.{IsEnd};
-ghost use Rattle.repo_prog.specs.Tellings.{lock_word, lock_line, lock_lines, snapshot_line, snapshot_lines, stored_line, complete_line, forgotten_line, forgotten_lines, pruned_line, upgraded_line, clean_line, fault_word, fault_line, fault_lines, removed_line, Shows};
+ghost use Rattle.repo_prog.specs.Tellings.{lock_word, lock_line, lock_lines, snapshot_line, snapshot_lines, stored_line, complete_line, foreseen_line, foreseen_lines, forgotten_line, forgotten_lines, pruned_line, upgraded_line, clean_line, fault_word, fault_line, fault_lines, removed_line, Shows};
 ghost use Rattle.repo_prog.specs.declared.status.Status.{Status};
 
 use crate::printing::printed;
@@ -94,6 +94,26 @@ pub fn forgotten_lines(alloc: Global, names: &[Name]) -> Result<String, AllocErr
     let mut lines = String::new(alloc);
     for name in names {
         let line = forgotten_line(alloc, name)?;
+        lines.push_str(line.as_str())?;
+    }
+    Ok(lines)
+}
+
+/// The line of a snapshot that would be forgotten.
+fn foreseen_line(alloc: Global, name: &Name) -> Result<String, AllocError>
+    ensures { IfOk result (λ line. string_bytes line ≡ foreseen_line name.now) }
+{
+    let name = name.to_hex(alloc)?;
+    format!(in alloc; "would forget {name}\n")
+}
+
+/// The lines of snapshots that would be forgotten.
+pub fn foreseen_lines(alloc: Global, names: &[Name]) -> Result<String, AllocError>
+    ensures { IfOk result (λ lines. string_bytes lines ≡ foreseen_lines names.now) }
+{
+    let mut lines = String::new(alloc);
+    for name in names {
+        let line = foreseen_line(alloc, name)?;
         lines.push_str(line.as_str())?;
     }
     Ok(lines)
