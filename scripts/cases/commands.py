@@ -4,7 +4,7 @@ from dataclasses import dataclass, field
 
 from checks import Check
 from frames import REPLIES, REQUESTS, Malformed, Message, Stream
-from jobs import Backup, Client, Forget, List, Restore, StartRefused
+from jobs import Backup, Client, Forget, List, Restore, StartRefused, gone
 from prunes import Prune, Upgrade
 
 INSTANCE = bytes([1]) * 16
@@ -177,9 +177,17 @@ def check(talk):
     talk.run.status = 3
 
 
-def forget(talk, names, policy=None):
+def would_forget(talk, names, policy=None, host=None):
+    if policy == (0, 0):
+        raise Failed("no policy")
+    rows = job(talk, List(), "vault").rows
+    chosen = gone(rows, policy, host) if policy else [row[0] for row in rows if row[0] in names]
+    talk.show("".join(f"would forget {name.hex()}\n" for name in chosen))
+
+
+def forget(talk, names, policy=None, host=None):
     try:
-        core = Forget(names, policy)
+        core = Forget(names, policy, host)
     except StartRefused:
         raise Failed("no policy")
     talk.show("".join(f"forgotten {name.hex()}\n" for name in job(talk, core, "vault").forgotten))

@@ -87,6 +87,47 @@ def chosen_by_days(script):
         script.keep(last, daily, says(*OPENED, page_of(texts), *[("bytes", one) for one in texts.values()], *[DONE] * len(rows)))
 
 
+# Snapshots of three hosts, two of which begin alike.
+HOSTS = texts_of(*[(host, DAY * day + second) for host in ("a", "aa", "é b") for day in (1, 2) for second in (0, 9)])
+
+
+def of_one_host(script):
+    """A policy for one host: what is of the others stays, whatever their times."""
+    rows = [("bytes", text) for text in HOSTS.values()]
+    good = OPENED + [page_of(HOSTS), *rows, DONE, DONE, DONE, DONE]
+    for last, daily, host in ((1, 0, "a"), (0, 1, "a"), (0, 2, "aa"), (1, 2, "aa"), (3, 0, "é b"), (0, 1, "é b"), (GREATEST, 0, "a"), (1, 0, "b"),
+                              (0, 1, "A"), (1, 0, "h" * 255)):
+        script.heading(f"keep-of: {last} and {daily} days of {host[:9]}")
+        script.keep_of(last, daily, host, says(*good))
+    script.heading("keep-of: a policy that keeps nothing")
+    script.keep_of(0, 0, "a", says(*good))
+    script.heading("keep-of: no snapshot is listed")
+    script.keep_of(1, 1, "a", says(*OPENED, page_of([]), DONE))
+    script.heading("keep-of: a snapshot of another host that doesn't read")
+    both = dict(sorted({name_of(one): one for one in (b"{}", *THREE.values())}.items()))
+    script.keep_of(1, 0, "a", says(*OPENED, page_of(both), *[("bytes", one) for one in both.values()], *[DONE] * 4))
+
+
+def foreseen(script):
+    """What a forget would forget: it lists, and deletes nothing."""
+    rows = [("bytes", text) for text in HOSTS.values()]
+    good = OPENED + [page_of(HOSTS), *rows, DONE]
+    run = lambda *a, **k: script.would_keep(1, 0, None, *a, **k)
+    places(script, "would keep", run, good)
+    for last, daily, host in ((1, 0, None), (0, 1, None), (1, 2, None), (GREATEST, 0, None), (0, 0, None), (1, 0, "a"), (0, 1, "aa"), (0, 2, "é b"), (1, 1, "b"),
+                              (0, 0, "a")):
+        script.heading(f"would keep: {last} and {daily} days of {host}")
+        script.would_keep(last, daily, host, says(*good))
+    names = list(HOSTS)
+    for text, given in (("two", names[3:1:-1]), ("one twice and one of nothing", [names[5], ABC, names[5]]), ("none of them", [ABC]), ("all", names)):
+        script.heading("would forget: " + text)
+        script.would_forget(given, says(*good))
+    script.heading("would forget: no snapshot is listed")
+    script.would_forget(names, says(*OPENED, page_of([]), DONE))
+    script.heading("would forget: a snapshot that doesn't read")
+    script.would_forget([ABC], says(*OPENED, page_of([name_of(b"{}")]), ("bytes", b"{}"), DONE))
+
+
 def equal_times(script):
     """Of snapshots of one time the one of the greater name is the later one."""
     texts = [snapshot_text("a", 7, token, name_of(TREE)) for token in range(4)]
@@ -246,4 +287,4 @@ def by_chance(script):
         script.report()
 
 
-ALL = [by_names, by_policy, chosen_by_days, equal_times, worked, interrupted, beside, many, by_chance]
+ALL = [by_names, by_policy, chosen_by_days, of_one_host, foreseen, equal_times, worked, interrupted, beside, many, by_chance]

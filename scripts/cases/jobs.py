@@ -195,21 +195,26 @@ def kept(rows, last, daily):
     return names
 
 
+def gone(rows, policy, host=None):
+    """The names of those of the rows that a policy doesn't keep, in their order; with a host of its rows alone."""
+    own = [row for row in rows if host is None or row[1] == host]
+    stay = kept(own, *policy)
+    return [row[0] for row in own if row[0] not in stay]
+
+
 class Forget:
-    """A forget of the snapshots of some names, or of those that a policy doesn't keep: (last, daily)."""
+    """A forget of the snapshots of some names, or of those that a policy doesn't keep: (last, daily), of one host or of all."""
     role, exclusive = "forget", True
 
-    def __init__(self, names=(), policy=None):
+    def __init__(self, names=(), policy=None, host=None):
         if policy == (0, 0):
             raise StartRefused(1)
-        self.names, self.policy = names, policy
+        self.names, self.policy, self.host = names, policy, host
 
     def chosen(self):
         if self.policy is None:
             return [name for name in (yield from listed("snapshot")) if name in self.names]
-        rows = yield from snapshots_read()
-        stay = kept(rows, *self.policy)
-        return [row[0] for row in rows if row[0] not in stay]
+        return gone((yield from snapshots_read()), self.policy, self.host)
 
     def run(self, client):
         chosen = yield from self.chosen()
@@ -374,7 +379,7 @@ def spelled(word, what):
     """An item as a word of a line."""
     if what is None:
         return word
-    return f"{word}:{what if word != 'bytes' else what.hex() or '-'}"
+    return f"{word}:{what.hex() or '-' if word in ('bytes', 'rest') else what}"
 
 
 class Pieces(Backup):
@@ -408,7 +413,10 @@ class Pieces(Backup):
     def fed(self, word, what):
         """Feeds an item, a piece as often as it takes."""
         code = self.fault(word, what)
-        if code is not None:
+        if code is not None and word == "rest":
+            self.says(spelled(word, what), "place", 0)
+            self.said.append(("refused", code))
+        elif code is not None:
             self.says(spelled(word, what), "refused", code)
         elif word == "abandon":
             self.says(word, "took", 0)
@@ -421,6 +429,8 @@ class Pieces(Backup):
             return (yield from self.finished((yield from self.add("tree", tree_text(self.nodes)))))
         elif word == "bytes":
             yield from self.pieces(what)
+        elif word == "rest":
+            yield from self.rest_of_file(what)
         else:
             yield from self.told(spelled(word, what), {"dir": self.enter, "file": self.begin, "close": self.close}[word](what))
 
@@ -442,6 +452,15 @@ class Pieces(Backup):
             if not data:
                 return
 
+    def rest_of_file(self, data):
+        """Feeds the rest of the open file and its end as a list, which is answered at once."""
+        puts = self.puts
+        taken = yield from self.piece(data)
+        while taken < len(data):
+            taken += yield from self.piece(data[taken:])
+        yield from self.close(None)
+        self.says(spelled("rest", data), "answered", self.puts - puts)
+
     def fault(self, word, what):
         """The number of the first reason why an item isn't taken."""
         if word in ("dir", "file"):
@@ -451,7 +470,7 @@ class Pieces(Backup):
                 return 2
             if len(self.above) >= DEEPEST:
                 return 3
-        wrong = {"bytes": self.file is None, "close": self.file is None and not self.above,
+        wrong = {"bytes": self.file is None, "rest": self.file is None, "close": self.file is None and not self.above,
                  "end": self.file is not None or bool(self.above)}
         return 2 if wrong.get(word) else None
 

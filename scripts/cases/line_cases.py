@@ -120,17 +120,46 @@ def waits(script):
         plays(script, f"a list that waits to {word}, which it may never", f"start list\nuntil 0 {word}\nlate 0\nreport\n")
 
 
+def asked(script):
+    """What somebody asks who is no client, before a client, in the middle of its job, and after it."""
+    begun = "file x 616263\nstart backup a 5\nuntil 0 put-pack\n"
+    for text, lines in (
+            ("a refresh", "ask refresh 1 9\nask refresh 1 3\nask refresh 001 9\n"),
+            ("a refresh of a number that was never issued, of the greatest, and of none", f"ask refresh 2 9\nask refresh {GREATEST} {GREATEST}\nask refresh 0 0\n"),
+            ("a refresh of a number that is fresh, and of one that is dead", "ask ticket\nask refresh 2 9\nunlock 2\nask refresh 2 9\n"),
+            ("the locks", "ask locks\nask locks\n"),
+            ("a lock of the client's own number", "ask lock 1 shared\nask lock 1 exclusive\n"),
+            ("a shared lock beside it", "ask ticket\nask lock 2 shared\nask locks\nreport\n"),
+            ("an exclusive lock beside it", "ask ticket\nask lock 2 exclusive\nreport\n"),
+            ("an exclusive lock where its own is removed", "ask ticket\nunlock 1\nask lock 2 exclusive\nask refresh 1 9\nreport\n"),
+            ("a lock of a number that was never issued", "ask lock 2 shared\nask lock 0 exclusive\n")):
+        plays(script, f"what somebody asks in the middle of a backup: {text}",
+              begun + lines + "late 0\nfinish 0\nask locks\nstart restore 0\nfinish 1\nstart prune\nfinish 2\nreport\n")
+    for kind in ("shared", "exclusive"):
+        plays(script, f"what somebody asks: a {kind} lock, and then clients come", f"ask ticket\nask lock 1 {kind}\n" + backups(("a", 1))
+              + "start prune\nfinish 1\nreport\nask refresh 1 5\nunlock 1\nask refresh 1 6\nstart prune\nfinish 2\nreport\n")
+        plays(script, f"what somebody asks: the {kind} lock of a client's own number, before it does",
+              f"start list\nstep 0\nask lock 1 {kind}\nreport\nfinish 0\nlate 0\nreport\nrestart\nstart list\nfinish 1\nreport\n")
+    plays(script, "what somebody asks: as many tickets as a store keeps, between a client's ticket and its lock",
+          "start list\nstep 0\n" + "ask ticket\n" * 1_024 + "ask lock 2 shared\nfinish 0\nreport\n")
+    locks = "".join(f"ask ticket\nask lock {token} shared\n" for token in range(1, 257))
+    plays(script, "what somebody asks: as many locks as there may be, before a client's", locks + "start list\nfinish 0\nask locks\nreport\n")
+    plays(script, "what somebody asks: where the store only appends", "append-only\nask ticket\nask lock 1 exclusive\nask refresh 1 1\nask locks\nreport\n")
+
+
 SPACES = (" ", " report", "report ", "step  1", "step 1 ", "step\t1", "report\r", "\r", "\t", "dir  a", "file a  00", "start  list", "old  start list")
 WORDS = ("stop 1", "Step 1", "REPORT", "step", "finish", "late", "crash", "deliver", "unlock", "step 1 2", "finish 1 2", "late 1 2", "crash 1 2", "deliver 0 0",
          "unlock 1 1", "report 1", "restart 1", "replay 1", "append-only", "append-only 1", "start", "start list 1", "start prune 1", "start check 1",
          "start upgrade 1", "start restore", "start restore 0 0", "start List", "old", "old start", "old report", "old list", "old old start list",
          "old start forget", "start forget", "start keep 1", "start keep 1 1 1", "start pieces a 1", "start backup a", "start backup a 1 2", "until 1 put",
          "until 1 delete", "until 1 Ticket", "until 1 refresh", "until 1 locks", "until ticket", "until 1", "until 1 ticket lock", "fault 1 write", "fault 1",
-         "fault 1 read read", "dir", "dir a b", "file", "file a", "file a 00 00", "feed 0 end", "# report")
+         "fault 1 read read", "ask", "ask ticket 1", "ask Ticket", "ask lock", "ask lock 1", "ask lock 1 both", "ask lock shared 1", "ask lock 1 shared 1",
+         "ask refresh", "ask refresh 1", "ask refresh 1 1 1", "ask locks 1", "ask unlock 1", "ask list pack", "ask config", "ask put", "dir", "dir a b", "file", "file a", "file a 00 00", "feed 0 end", "# report")
 NUMBERS = ("step +1", "step -1", "step 1x", "step x", "step 0x1", "step 1.0", "step 1_0", "step 18446744073709551616", "step 18446744073709551617",
            "deliver 18446744073709551616", "unlock 18446744073709551616", "unlock +1", "unlock -1", "start keep 4294967296 0", "start keep 0 4294967296",
            "start keep 4294967297 1", "start keep +1 1", "start keep 1 -1", "start forget 0 x", "start forget 0 +0", "start forget x", "start restore +0",
-           "start backup a +1", "start backup a 18446744073709551616", "start backup a -", "step \u0661", "until x ticket", "fault +1 read")
+           "start backup a +1", "start backup a 18446744073709551616", "start backup a -", "step \u0661", "until x ticket", "fault +1 read", "ask lock +1 shared",
+           "ask lock 18446744073709551616 shared", "ask refresh 1 18446744073709551616", "ask refresh 18446744073709551616 1", "ask refresh -1 1", "ask refresh 1 x")
 # Each of the characters from \udc80 to \udcff stands for one byte that is no text.
 BYTES = ("file a 6", "file a 6g", "file a --", "file a 0x61", "file a -1", "file a 616", "file a é0", "dir \udcff", "dir \udcc3", "dir \udced\udca0\udc80",
          "dir \udcc0\udcaf", "report\0", "\ufeffreport", "\0")
@@ -199,4 +228,4 @@ def jobs(script):
           "file g 736f6d65206279746573\nstart backup a 5\nfinish 4\nstart keep 1 0\nfinish 5\nstart prune\nfinish 6\nstart upgrade\nfinish 7\nreport\n")
 
 
-ALL = [entries, hosts_and_times, starts, happenings, waits, refused, streams, events, by_hand, jobs]
+ALL = [entries, hosts_and_times, starts, happenings, waits, asked, refused, streams, events, by_hand, jobs]

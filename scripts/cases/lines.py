@@ -157,6 +157,25 @@ class Lines:
         self.line("keep", last, daily)
         self.ran(commands.run(commands.forget, server, (), (last, daily)))
 
+    def keep_of(self, last, daily, host, *replies, **shape):
+        """A forget by a policy for one host."""
+        server = self.server(*replies, **shape)
+        self.line("keep-of", last, daily, host)
+        self.ran(commands.run(commands.forget, server, (), (last, daily), host))
+
+    def would_forget(self, names, *replies, **shape):
+        """Which of the snapshots of some names a forget would forget."""
+        server = self.server(*replies, **shape)
+        self.line("would", "forget", *[name.hex() for name in names])
+        self.ran(commands.run(commands.would_forget, server, names))
+
+    def would_keep(self, last, daily, host, *replies, **shape):
+        """Which snapshots a forget by a policy would forget, of one host or of all."""
+        server = self.server(*replies, **shape)
+        words = ["keep", last, daily] if host is None else ["keep-of", last, daily, host]
+        self.line("would", *words)
+        self.ran(commands.run(commands.would_forget, server, (), (last, daily), host))
+
     def backup(self, host, entries, *replies, skipped=(), **shape):
         server = self.server(*replies, **shape)
         for path in skipped:

@@ -75,6 +75,16 @@ def packs(script):
     script.report()
 
 
+def lists(script):
+    """What is left of a file, and its end, as a list of items."""
+    script.heading("a backup that is fed what is left of files as lists of items, over several packs; and where no file is open")
+    script.fresh()
+    items = [("rest", b"abc"), ("file", "a"), ("rest", stream(6_000)), ("rest", b""), ("file", "b"), ("bytes", stream(700)), ("rest", stream(1_500)[700:])]
+    items += [("file", "c"), ("rest", b""), ("dir", "d")] + [("file", "e"), ("rest", stream(90)), ("close", None), ("end", None)]
+    restored(script, script.pieces(items))
+    script.report()
+
+
 def abandoned(script):
     """A backup that is given up."""
     script.heading("a backup that is fed: given up before anything, in a file, and behind a pack")
@@ -85,4 +95,4 @@ def abandoned(script):
     script.report()
 
 
-ALL = [order, deep, packs, abandoned]
+ALL = [order, deep, packs, lists, abandoned]

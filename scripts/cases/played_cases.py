@@ -64,6 +64,13 @@ REFUSED = [
 ENDED = [
     ("nothing", "", ""),
     ("lines of which nothing comes", "\n\ndeliver 7\nunlock 9\nrestart\nreplay\n", ""),
+    ("what somebody asks who is no client, in the middle of a backup and behind it; its exclusive lock keeps a list out until it is removed",
+     "file x 616263\nstart backup a 1\nuntil 0 put-pack\nask refresh 1 9\nask refresh 2 9\nask locks\nask ticket\nask lock 2 exclusive\n"
+     "ask lock 1 exclusive\nask lock 1 shared\nfinish 0\nask lock 2 exclusive\nask lock 3 shared\nstart list\nfinish 1\nreport\nunlock 2\n"
+     "start list\nfinish 2\nreport\n",
+     "ask done\nask refused 2\nask other\nask other\nask refused 3\nask refused 9\nask done\nask done\nask refused 2\n"
+     "client 0 backup stored 2 129\nclient 1 list busy\nstore packs 1 indexes 1 snapshots 1 live 1\n"
+     "client 0 backup stored 2 129\nclient 1 list busy\nclient 2 list listed 1\nstore packs 1 indexes 1 snapshots 1 live 0\n"),
     ("a client that crashed is still there",
      "start check\ncrash 0\ncrash 0\nstep 0\nfinish 0\nlate 0\nuntil 0 get\nfault 0 read\nreport",
      "late 0 other\nclient 0 check crashed\nstore packs 0 indexes 0 snapshots 0 live 0\n"),
@@ -122,7 +129,7 @@ def refused(script):
     """Lines that aren't understood; `vault loop` understands fewer."""
     for heading, text, prints, line in REFUSED:
         played(script, "play", heading, text, prints, f"line {line}: not understood")
-    for word in ("step 0", "until 0 get", "late 0", "fault 0 read", "deliver 0", "unlock 1", "crash 0", "restart", "replay", "append-only"):
+    for word in ("step 0", "until 0 get", "late 0", "fault 0 read", "deliver 0", "unlock 1", "ask locks", "crash 0", "restart", "replay", "append-only"):
         played(script, "loop", "a line that is none where messages are carried", f"start list\n{word}\n", "", "line 2: not understood")
     # The tree of so many files, in a pack, makes a frame that is too large.
     entries = "".join(f"file {place:04} {place:08x}\n" for place in range(700))

@@ -67,6 +67,8 @@ BEHIND = {"dir": [path], "file": [path, data], "step": [number], "finish": [numb
           "fault": [number, one_of(FAILURES)], "deliver": [number], "unlock": [number], "crash": [number], "restart": [], "report": [],
           "replay": [], "append-only": []}
 STARTS = {"backup": [host, number], "restore": [number], "list": [], "prune": [], "check": [], "keep": [count, count], "upgrade": []}
+# What somebody asks who is no client.
+QUESTIONS = {"ticket": [], "lock": [number, one_of(("shared", "exclusive"))], "refresh": [number, number], "locks": []}
 MAY_BE_CARRIED = ("dir", "file", "start", "finish", "report")
 
 
@@ -98,7 +100,14 @@ def line_of(line):
         return start_of(words[1:], False)
     if words[:2] == ["old", "start"]:
         return start_of(words[2:], True)
+    if words[0] == "ask":
+        return "ask", [words_by(QUESTIONS, words[1:] or [""])]
     return words_by(BEHIND, words)
+
+
+def told(say):
+    """What the store said, in words."""
+    return f"refused {say[1]}" if say[0] == "refused" else "done" if say == ("done",) else "other"
 
 
 def sort_of(ask):
@@ -222,9 +231,7 @@ class Player:
     def on_late(self, client):
         reply = len(self.messages)
         self.on_deliver(self.seat(client).last)
-        say = self.messages[reply][1].what
-        told = f"refused {say[1]}" if say[0] == "refused" else "done" if say == ("done",) else "other"
-        return f"late {client} {told}\n"
+        return f"late {client} {told(self.messages[reply][1].what)}\n"
 
     def on_crash(self, client):
         self.seat(client).crashed = True
@@ -239,6 +246,15 @@ class Player:
 
     def on_unlock(self, token):
         self.store.on_unlock(token)
+
+    def on_ask(self, question):
+        word, values = question
+        if word == "lock":
+            values = [values[0], values[1] == "exclusive", 0, "play"]
+        say = self.store.answer((word, *values))
+        if say == ("refused", 11):
+            raise Ended("out of memory")
+        return f"ask {told(say)}\n"
 
     def on_restart(self):
         self.store.restart()
@@ -255,8 +271,8 @@ class Player:
         lines = []
         for place, seat in enumerate(self.seats):
             outcome = seat.client.outcome
-            told = outcome.text if outcome else "crashed" if seat.crashed else "running"
-            lines.append(f"client {place} {seat.client.job.role} {told}\n")
+            result = outcome.text if outcome else "crashed" if seat.crashed else "running"
+            lines.append(f"client {place} {seat.client.job.role} {result}\n")
         packs, indexes, snapshots = (len(self.store.objects[kind]) for kind in ("pack", "index", "snapshot"))
         for what in ("pack", "index", "snapshot", "ledger"):
             self.store.needs(what)

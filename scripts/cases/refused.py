@@ -100,7 +100,7 @@ ALL_JOBS = ("start backup a 5\nfinish 0\nstart restore 0\nfinish 1\nstart list\n
             "start keep 1 0\nfinish 5\nstart prune\nfinish 6\nstart forget 4\nfinish 7\nstart upgrade\nfinish 8\nreport\n")
 # A line of each sort.
 LINES = ("dir a\nfile a/b 616263\nfile c -\nold start backup h 5\nstart restore 0\n", "start list\nstart prune\nstart check\nstart keep 2 3\nstart upgrade\n"
-         "step 0\nuntil 1 lock\nfinish 2\nlate 3\nfault 4 applied\ndeliver 0\nunlock 5\ncrash 0\nrestart\n\nreplay\nreport\n",
+         "step 0\nuntil 1 lock\nfinish 2\nlate 3\nfault 4 applied\ndeliver 0\nunlock 5\nask ticket\nask lock 6 shared\nask refresh 6 9\nask locks\ncrash 0\nrestart\n\nreplay\nreport\n",
          "start backup a 5\nfinish 0\nstart forget 0 0 0\nfinish 1\nreport\n", "append-only\nreport\n", "report\nstep  1\n", "report\nfile a 6g\n",
          "start backup " + "h" * 256 + " 5\n", "start backup " + "h" * 255 + " 5\nreport\nstart restore 0\n")
 

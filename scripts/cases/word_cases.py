@@ -22,7 +22,8 @@ def bad_arguments(script):
                   "init x --bits 33", "init x --target 1023", "init x --target 16777217", "init x --format 0", "init x --format 3", "serve x y --connections 0",
                   "backup x  p", "backup x " + "h" * 256 + " p", "backup x " + "é" * 128 + " p",
                   "restore x 12 d", "restore x " + UPPER + " d", "restore x " + A.hex() + "0 d", "restore x " + "g" * 64 + " d",
-                  "forget x 12", "forget x " + UPPER, "forget x " + A.hex() + " " + "g" * 64, "forget x " + A.hex() + "0 " + A.hex()):
+                  "forget x --keep-last 1 --host " + "h" * 256, "forget x --host " + "é" * 128 + " --dry-run",
+                  "forget x 12", "forget x --dry-run 12", "forget x " + UPPER, "forget x " + A.hex() + " " + "g" * 64, "forget x " + A.hex() + "0 " + A.hex()):
         script.heading("words that make no command")
         script.vault("vault " + words)
         script.ended(2, "", "bad argument\n")
@@ -30,7 +31,8 @@ def bad_arguments(script):
 
 def both(script):
     """Names and a policy."""
-    for words in ("--keep-last 1 " + A.hex(), A.hex() + " --keep-daily 1", f"--keep-last 0 --keep-daily 4294967295 {A.hex()} {E.hex()}"):
+    for words in ("--keep-last 1 " + A.hex(), A.hex() + " --keep-daily 1", f"--keep-last 0 --keep-daily 4294967295 {A.hex()} {E.hex()}",
+                  "--host a " + A.hex(), "--dry-run --keep-last 1 " + A.hex()):
         script.heading("snapshots to be forgotten by their names and by a policy")
         script.vault("vault forget nowhere " + words)
         script.ended(2, "", "names and a policy exclude each other\n")
@@ -57,6 +59,9 @@ def claps(script):
             ("vault forget x --keep-daily 4294967296", "error: invalid value '4294967296' for '--keep-daily <N>': 4294967296 is not in 0..=4294967295"),
             ("vault forget x --keep-daily 1 --keep-daily 1", "error: the argument '--keep-daily <N>' cannot be used multiple times"),
             ("vault forget x --keep-weekly 1", "error: unexpected argument '--keep-weekly' found"),
+            ("vault forget x --host", "error: a value is required for '--host <HOST>' but none was supplied"),
+            ("vault forget x --host a --host b", "error: the argument '--host <HOST>' cannot be used multiple times"),
+            ("vault forget x --dry-run --dry-run", "error: the argument '--dry-run' cannot be used multiple times"),
             ("vault refresh x y", f"error: invalid value 'y' for '<TOKEN>': {digits}"),
             ("vault refresh x 18446744073709551616",
              "error: invalid value '18446744073709551616' for '<TOKEN>': number too large to fit in target type"),

@@ -2,15 +2,15 @@
 
 ghost use Rattle.std.specs.Prelude.{◌↔◌, IfOk, IsTrue};
 ghost use Rattle.repo_name.specs.Rows.{IsHost};
-ghost use Rattle.repo_prog.specs.Commands.{IsErrand};
+ghost use Rattle.repo_prog.specs.Commands.{IsChoice, IsErrand};
 
-use crate::lines::{ScriptError, cut, name, names, number, policy};
+use crate::lines::{ScriptError, count, cut, name, names, number, policy};
 use crate::streams::{Inlet, Outlet, Pace};
 use crate::told::Told;
 use repo_files::{Scan, Skipped};
-use repo_name::{Instance, Name, Names, Token};
+use repo_name::{Instance, Name, Names, Text, Token};
 use repo_prog::{Caller, Errand, LockErrand, Once, Status, backup_found, do_errand, restore_into};
-use repo_prune::Choice;
+use repo_prune::{Choice, Policy};
 use repo_session::Emission;
 use repo_tree::Entry;
 use std::alloc::{AllocError, Global};
@@ -84,6 +84,35 @@ fn is_host(word: &str) -> bool
     !word.is_empty() && word.len() <= 255
 }
 
+/// What a policy for one host chooses: `LAST DAILY HOST`.
+fn keep_of(alloc: Global, words: &str) -> Result<Choice, ScriptError>
+    ensures { IfOk result IsChoice }
+{
+    let (last, rest) = cut(words);
+    let (daily, host) = cut(rest);
+    if !is_host(host) {
+        return Err(ScriptError::Line);
+    }
+    let policy = Policy {
+        last: count(last)?,
+        daily: count(daily)?,
+    };
+    let host = Text::of(String::from_str(alloc, host)?);
+    Ok(Choice::KeepOf { host, policy })
+}
+
+/// What these words of a forget choose: `forget NAME..`, `keep LAST DAILY` or `keep-of LAST DAILY HOST`.
+fn choice(alloc: Global, word: &str, rest: &str) -> Result<Choice, ScriptError>
+    ensures { IfOk result IsChoice }
+{
+    match word {
+        "forget" => Ok(Choice::Names(Names::of(names(alloc, rest)?))),
+        "keep" => Ok(Choice::Keep(policy(rest)?)),
+        "keep-of" => keep_of(alloc, rest),
+        _ => Err(ScriptError::Line),
+    }
+}
+
 /// What is asked for by the words of a command that needs no folder and gives nothing out.
 fn errand(alloc: Global, word: &str, rest: &str) -> Result<Errand, ScriptError>
     ensures { IfOk result IsErrand }
@@ -96,12 +125,14 @@ fn errand(alloc: Global, word: &str, rest: &str) -> Result<Errand, ScriptError>
             Ok(Errand::Locks(LockErrand::Remove { all }))
         }
         "snapshots" => Ok(Errand::Snapshots),
-        "forget" => Ok(Errand::Forget(Choice::Names(Names::of(names(alloc, rest)?)))),
-        "keep" => Ok(Errand::Forget(Choice::Keep(policy(rest)?))),
+        "would" => {
+            let (word, rest) = cut(rest);
+            Ok(Errand::Foresee(choice(alloc, word, rest)?))
+        }
         "prune" => Ok(Errand::Prune),
         "check" => Ok(Errand::Check),
         "upgrade" => Ok(Errand::Upgrade),
-        _ => Err(ScriptError::Line),
+        _ => Ok(Errand::Forget(choice(alloc, word, rest)?)),
     }
 }
 

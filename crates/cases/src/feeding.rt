@@ -3,7 +3,7 @@
 use crate::clients::told_end;
 use crate::lines::{ScriptError, bytes, cut, number};
 use crate::told::Told;
-use repo_backup::{FeedError, Item, PieceBackup, lockstep_fed};
+use repo_backup::{FeedError, Item, ItemsError, PieceBackup, lockstep_fed, lockstep_items};
 use repo_name::Instance;
 use repo_session::{Client, Who};
 use repo_store::Shelf;
@@ -57,7 +57,30 @@ fn go<S: Shelf>(alloc: Global, backup: &mut PieceBackup, shelf: &mut S) -> Resul
     }
 }
 
-/// Feeds the items of these words one after another, and answers what is pending at each `go`; tells how it ended.
+/// Feeds the open file these bytes and its end, as a list, and answers what is pending; tells how many requests were answered, or
+/// which item wasn't taken, and why.
+fn feed_rest<S: Shelf>(
+    alloc: Global,
+    hex: &str,
+    backup: &mut PieceBackup,
+    shelf: &mut S,
+    told: &mut Told,
+) -> Result<(), ScriptError> {
+    let piece = bytes(alloc, hex)?;
+    let items = [Item::Bytes(piece.as_slice()), Item::Close];
+    match lockstep_items(alloc, backup, &items, shelf) {
+        Ok(asked) => told.number("answered", asked)?,
+        Err(ItemsError::Feed(place, error)) => {
+            told.number("place", place as u64)?;
+            told.number("refused", reason(error))?;
+        }
+        Err(_) => return Err(ScriptError::Memory),
+    }
+    Ok(())
+}
+
+/// Feeds the items of these words one after another, `rest:HEX` for all that is left of a file, and answers what is pending at each
+/// `go`; tells how it ended.
 fn feed_all<S: Shelf>(
     alloc: Global,
     words: &str,
@@ -68,7 +91,10 @@ fn feed_all<S: Shelf>(
     for word in words.split(' ') {
         match word {
             "go" => go(alloc, backup, shelf)?,
-            _ => feed(alloc, word, backup, told)?,
+            _ => match word.strip_prefix("rest:") {
+                Some(hex) => feed_rest(alloc, hex, backup, shelf, told)?,
+                None => feed(alloc, word, backup, told)?,
+            },
         }
     }
     told.pair("backup", told_end(alloc, backup.outcome())?.as_str())?;

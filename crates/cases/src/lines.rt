@@ -87,7 +87,7 @@ pub fn names(alloc: Global, words: &str) -> Result<Vec<Name>, ScriptError> {
 }
 
 /// A count that a word spells.
-fn count(word: &str) -> Result<u32, ScriptError> {
+pub fn count(word: &str) -> Result<u32, ScriptError> {
     match word.parse::<u32>() {
         Ok(count) => Ok(count),
         Err(_) => Err(ScriptError::Line),
