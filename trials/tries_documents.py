@@ -108,7 +108,8 @@ NOT_RUN = {
     "laptop$ sudo install": "it wants another machine",
     "laptop$  ssh": "it wants two more machines",
     "sudo nft": "it changes what this machine lets through",
-    "sudo systemctl": "it stops a service of this machine",
+    "sudo systemctl": "it stops or starts services of this machine",
+    "sudo cp -a": "it puts a store in its place, and starts a service of this machine",
     "vault check 127.0.0.1:7070\nfault": "it shows a store with faults",
 }
 # Those that run in the store's folder, while no server runs.

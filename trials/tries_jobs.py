@@ -64,6 +64,46 @@ def a_policy_goes_host_by_host_and_day_by_day(yard):
 
 
 @in_store
+def a_policy_for_one_host_lets_all_others_be(yard):
+    """Of the named host alone snapshots go; one that begins alike is another one, and one that has none loses none."""
+    rows = [(host, DAY * day + second) for host in ("a", "aa", "é b") for day in (1, 2, 5) for second in (0, 9)]
+    names = lays_snapshots(yard, rows)
+    with Server(yard.root, connections=99) as server:
+        left = set(names.values())
+        for host, words, kept in (("é b", ["--keep-last", 1], [DAY * 5 + 9]), ("a", ["--keep-daily", 2], [DAY * 2 + 9, DAY * 5 + 9]),
+                                  ("A", ["--keep-last", 1], []), ("aa", ["--keep-last", 4294967295], [row[1] for row in rows if row[0] == "aa"])):
+            gone = sorted(name for (of, moment), name in names.items() if of == host and moment not in kept)
+            same(rows_of(told("forget", server.address, "--host", host, *words, "--dry-run")), [f"would forget {name}" for name in gone], host)
+            same({row.split()[0] for row in rows_of(told("snapshots", server.address))}, left)
+            same(rows_of(told("forget", server.address, *words, "--host", host)), [f"forgotten {name}" for name in gone], host)
+            left -= set(gone)
+            same({row.split()[0] for row in rows_of(told("snapshots", server.address))}, left)
+        same(told("forget", server.address, "--host", "a"), "1||no policy\n")
+
+
+@in_store
+def a_dry_run_tells_and_forgets_nothing(yard):
+    """It needs no lock of its own, and a store that only appends lets it be; what it tells is what a forget does then."""
+    names = lays_snapshots(yard, [(host, DAY * day) for host in "ab" for day in range(4)])
+    given = [names["a", DAY], "0" * 64, names["b", 0], names["a", DAY]]
+    choices = (["--keep-last", 1], ["--keep-daily", 2, "--host", "b"], given, ["--keep-last", 9])
+    was = entries(yard.root)
+    with Server(yard.root, "--append-only", connections=99) as server:
+        told_before = [rows_of(told("forget", server.address, *words, "--dry-run")) for words in choices]
+        same([len(rows) for rows in told_before], [6, 2, 2, 0])
+        same(told_before[2], [f"would forget {name}" for name in sorted(set(given) - {"0" * 64})])
+        holds(all(row.startswith("would forget ") for rows in told_before for row in rows), told_before)
+        same(told("forget", server.address, "--dry-run"), "1||no policy\n")
+    with Server(yard.root, connections=99) as server:
+        held = lock(server)
+        same(told("forget", server.address, *choices[0]), "1||busy\n")
+        same([rows_of(told("forget", server.address, *words, "--dry-run", "--retry", 1)) for words in choices], told_before)
+        same({name: data for name, data in entries(yard.root).items() if name != "ledger"}, {name: data for name, data in was.items() if name != "ledger"})
+        same(told("unlock", server.address, "--remove-all"), f"0|removed {held}\n|")
+        same(rows_of(told("forget", server.address, *choices[1])), [row.replace("would forget", "forgotten") for row in told_before[1]])
+
+
+@in_store
 def more_snapshots_than_a_page_are_listed_and_forgotten(yard):
     names = lays_snapshots(yard, [("a", moment) for moment in range(300)])
     with Server(yard.root, connections=9) as server:

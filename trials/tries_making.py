@@ -1,6 +1,7 @@
 """`vault init` in folders in which something is already: a store is made beside it, or it is refused and nothing is changed."""
 import fcntl
 import os
+import stat
 import subprocess
 
 from program import Server, matches, told
@@ -46,6 +47,24 @@ def files_of_others_beside_a_new_store_stay(yard):
     yard.has("lock", "")
     yard.holds("tmp", 0)
     yard.holds("", 9)
+
+
+@in_folder
+def a_folder_that_is_made_is_its_owners_alone(yard):
+    """The store's folder, whatever the mask is; folders above it are as the mask says, and one that is there keeps its mode."""
+    for mask, above in ((0o000, 0o777), (0o022, 0o755), (0o077, 0o700)):
+        store = yard.at(f"{mask}/of/store")
+        run = subprocess.run([OPTIONS.program, "init", store], umask=mask, capture_output=True, timeout=WAIT)
+        same(run.returncode, 0, run)
+        same([stat.S_IMODE(it.stat().st_mode) for it in (store, store.parent, store.parent.parent)], [0o700, above, above])
+    for number, end in enumerate(("/", "//", "/.", "/././")):
+        store = yard.at(f"ends/{number}/store")
+        run = subprocess.run([OPTIONS.program, "init", f"{store}{end}"], umask=0o022, capture_output=True, timeout=WAIT)
+        same(run.returncode, 0, run)
+        same([stat.S_IMODE(it.stat().st_mode) for it in (store, store.parent)], [0o700, 0o755], end)
+    yard.root.chmod(0o750)
+    inits(yard, CREATED)
+    same(stat.S_IMODE(yard.root.stat().st_mode), 0o750)
 
 
 @in_folder

@@ -7,8 +7,8 @@ import sys
 
 from program import told
 from trying import ROOT, WAIT, holds, needs, same, trial
+from units import UNITS, commands_of
 
-UNITS = ROOT / "examples/systemd"
 COMPLETION = ROOT / "examples/completion/vault.bash"
 
 
@@ -118,22 +118,10 @@ def the_completion_offers_each_word():
     same(completed("vault", "snapshots", ""), [])
 
 
-def started():
-    """The commands of vault that the units start, with their words: what systemd puts in for a variable is the word it has there."""
-    for unit in sorted(UNITS.glob("*.service")):
-        text = unit.read_text()
-        values = dict(re.findall(r"^Environment=(\w+)=(.*)$", text, re.M))
-        for line in re.findall(r"^ExecStart=(.*)$", text, re.M):
-            line = re.sub(r"\$(\w+)", lambda name: values.get(name[1], name[0]), line)
-            words = [values.get(word[2:-1], word) if word.startswith("${") else word for word in shlex.split(line)]
-            if words[0].endswith("/vault"):
-                yield unit.name, words[1:]
-
-
 @trial
 def units_start_commands_that_are_there():
     """Their words make commands: each option is in the help, and each command gets as many words as it wants."""
-    found = list(started())
+    found = [(unit.name, words) for unit in sorted(UNITS.glob("*.service")) for words in commands_of(unit.name)]
     same(sorted({words[0] for _, words in found}), ["backup", "check", "forget", "prune", "serve", "unlock"])
     for unit, words in found:
         given = told(words[0], "--help")
@@ -142,7 +130,7 @@ def units_start_commands_that_are_there():
         wanted = re.findall(r"<(\w+)>", re.search(r"^Usage:.*$", given, re.M).group(0))
         plain_words = [word for at, word in enumerate(words[1:]) if not word.startswith("--") and not words[at].startswith("--")]
         same(len(plain_words), len(wanted), f"{unit}: {words}")
-        text = [word.replace("127.0.0.1:7070", "127.0.0.1:1").replace("/var/lib/vault/store", "/nowhere") for word in words]
+        text = [word.replace("127.0.0.1:7070", "127.0.0.1:1").replace("/var/lib/jibrekt/store", "/nowhere") for word in words]
         got = told(*text)
         same(got[:2], "1|", f"{unit}: {got}")
 

@@ -42,13 +42,15 @@ def words_that_make_no_command():
 def words_out_of_bounds():
     """`bad argument`, or a text of the parser's own where a number is none; before anything is opened."""
     for words in (["backup", ANY, "", "x"], ["backup", ANY, "h" * 256, "x"], ["backup", ANY, "ä" * 128, "x"], ["restore", ANY, "0" * 63, "x"],
-                  ["restore", ANY, "A" * 64, "x"], ["restore", ANY, "", "x"], ["forget", ANY, "0"], ["forget", ANY, NAME, NAME[:-1] + "G"]):
+                  ["restore", ANY, "A" * 64, "x"], ["restore", ANY, "", "x"], ["forget", ANY, "0"], ["forget", ANY, NAME, NAME[:-1] + "G"],
+                  ["forget", ANY, "--keep-last", "1", "--host", ""], ["forget", ANY, "--keep-last", "1", "--dry-run", "--host", "h" * 256]):
         same(told(*words), "2||bad argument\n", words)
     for words in (["refresh", ANY, "one"], ["refresh", ANY, "-1"], ["refresh", ANY, "18446744073709551616"], ["forget", ANY, "--keep-last", "4294967296"],
                   ["forget", ANY, "--keep-daily", "x"], ["backup", ANY, "h", "x", "--retry", "no"], ["serve", "x", ANY, "--connections", "0"]):
         matches(told(*words), r"2\|\|.+", words)
     same(told("forget", ANY, "--keep-last", 1, NAME), "2||names and a policy exclude each other\n")
     same(told("forget", ANY, NAME, "--keep-daily", 1), "2||names and a policy exclude each other\n")
+    same(told("forget", ANY, NAME, "--host", "h", "--dry-run"), "2||names and a policy exclude each other\n")
 
 
 @in_store
@@ -64,6 +66,8 @@ def words_at_their_bounds(yard):
         same(told("forget", server.address, "--keep-last", 0, NAME), "0||")
         same(told("forget", server.address, "--keep-last", 0, "--keep-daily", 0), "1||no policy\n")
         same(told("forget", server.address), "1||no policy\n")
+        for host in ("h" * 255, "ä" * 127 + "h", "nobody"):
+            same(told("forget", server.address, "--keep-last", 1, "--host", host), "0||")
         same(told("refresh", server.address, 18446744073709551615), "1||refused 2\n")
         same(told("backup", server.address, "h", root, "--retry", 18446744073709551615)[:9], "0|stored ")
 

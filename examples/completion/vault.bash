@@ -20,7 +20,7 @@ _vault() {
         backup) options="--idle --retry" folder=3 ;;
         snapshots) options="--idle --retry" ;;
         restore) options="--idle --retry" folder=3 ;;
-        forget) options="--idle --retry --keep-last --keep-daily" ;;
+        forget) options="--idle --retry --keep-last --keep-daily --host --dry-run" ;;
         prune) options="--idle --retry" ;;
         check) options="--idle --retry" ;;
         upgrade) options="--idle --retry" ;;
@@ -32,7 +32,7 @@ _vault() {
     # At which place this word stands among those that are no options. A word goes on behind a colon, at which bash parts it.
     for ((at = 2; at < COMP_CWORD; at++)); do
         case ${COMP_WORDS[at]} in
-            --remove-all | --help) ;;
+            --append-only | --dry-run | --remove-all | --help) ;;
             --* | :*) at=$((at + 1)) ;;
             *) place=$((place + 1)) ;;
         esac

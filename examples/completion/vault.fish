@@ -31,6 +31,8 @@ complete -c vault -n '__fish_seen_subcommand_from forget' -l idle -x -d 'How lon
 complete -c vault -n '__fish_seen_subcommand_from forget' -l retry -x -d 'How often it connects again at most, where a connection ends or can'\''t be had'
 complete -c vault -n '__fish_seen_subcommand_from forget' -l keep-last -x -d 'How many of the last snapshots of each host are kept'
 complete -c vault -n '__fish_seen_subcommand_from forget' -l keep-daily -x -d 'How many days, of those that have a snapshot, keep their last one of each host'
+complete -c vault -n '__fish_seen_subcommand_from forget' -l host -x -d 'The policy goes over the snapshots of this host alone, and all others stay; 1 to 255 bytes'
+complete -c vault -n '__fish_seen_subcommand_from forget' -l dry-run -d 'Tells which snapshots would be forgotten, and forgets none'
 complete -c vault -n __fish_use_subcommand -a prune -d 'Removes what no snapshot needs'
 complete -c vault -n '__fish_seen_subcommand_from prune' -l idle -x -d 'How long a connection may be idle; with 0 there is no limit'
 complete -c vault -n '__fish_seen_subcommand_from prune' -l retry -x -d 'How often it connects again at most, where a connection ends or can'\''t be had'

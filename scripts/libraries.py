@@ -1,0 +1,127 @@
+#!/usr/bin/env python3
+"""Proves the crates that vault is built of, and tells how far it is: a line for each crate, with how many are left.
+
+Usage: scripts/libraries.py [--jobs N] [CRATE]
+
+It goes along the crates from below (crates.txt), and works on as many at once as processors and memory allow: one for each
+processor, with 3 GB free for each; --jobs says another number. What was proved before, and changed in nothing, takes a second.
+CRATE is the one for which it is done, vault without the word; that one itself isn't built. Exit status 1 where a crate isn't
+proved: what rt said of it is printed.
+"""
+import argparse
+import os
+import signal
+import subprocess
+import sys
+import tempfile
+import time
+from pathlib import Path
+
+ROOT = Path(__file__).resolve().parents[1]
+# What the proof of a crate may take, in bytes.
+MEMORY = 3_000_000_000
+
+
+def graph():
+    """Of each crate of the repository those of the repository that it stands on."""
+    lines = [line.split(":") for line in (ROOT / "crates.txt").read_text().splitlines() if line and not line.startswith("#")]
+    named = {name.strip() for name, _ in lines}
+    return {name.strip(): [word for word in below.split() if word in named] for name, below in lines}
+
+
+def needed(crate, below):
+    """The crates that one stands on, and those that these stand on."""
+    found = set()
+    todo = [crate]
+    while todo:
+        for name in below[todo.pop()]:
+            if name not in found:
+                found.add(name)
+                todo.append(name)
+    return found
+
+
+def heights(names, below):
+    """Of each crate how long the longest chain of crates above it is."""
+    height = {}
+
+    def of(name):
+        if name not in height:
+            height[name] = max((of(above) + 1 for above in names if name in below[above]), default=0)
+        return height[name]
+    return {name: of(name) for name in names}
+
+
+def jobs_here():
+    """As many jobs as this machine has processors and free memory for, at least one."""
+    free = next(int(line.split()[1]) * 1024 for line in open("/proc/meminfo") if line.startswith("MemAvailable:"))
+    return max(1, min(len(os.sched_getaffinity(0)), free // MEMORY))
+
+
+class Job:
+    """The proof of one crate, which goes on beside others."""
+
+    def __init__(self, name):
+        self.name, self.begun, self.said = name, time.monotonic(), tempfile.TemporaryFile()
+        self.process = subprocess.Popen(["rt", "lib", "--jobs", "1"], cwd=ROOT / "crates" / name, stdin=subprocess.DEVNULL,
+                                        stdout=self.said, stderr=subprocess.STDOUT, start_new_session=True)
+
+    def seconds(self):
+        return round(time.monotonic() - self.begun)
+
+    def text(self):
+        self.said.seek(0)
+        return self.said.read().decode(errors="replace")
+
+    def ends(self):
+        """Ends it, with all that it started."""
+        if self.process.poll() is None:
+            os.killpg(self.process.pid, signal.SIGTERM)
+            self.process.wait()
+
+
+def proves(names, below, jobs):
+    """Proves the crates, those with the longest chains above them first; the one that isn't proved, if there is one."""
+    height, left, done, running = heights(names, below), set(names), set(), []
+    try:
+        while left or running:
+            ready = [name for name in left if done >= set(below[name])]
+            for name in sorted(ready, key=lambda name: (-height[name], name))[:jobs - len(running)]:
+                left.remove(name)
+                running.append(Job(name))
+            ended = [job for job in running if job.process.poll() is not None]
+            for job in ended:
+                running.remove(job)
+                if job.process.returncode != 0:
+                    return job
+                done.add(job.name)
+                beside = ", ".join(sorted(other.name for other in running))
+                print(f"proved {job.name} in {job.seconds()} s, {len(names) - len(done)} of {len(names)} left"
+                      + (f"; under way: {beside}" if beside else ""), flush=True)
+            if not ended:
+                time.sleep(0.2)
+    finally:
+        for job in running:
+            job.ends()
+    return None
+
+
+def main():
+    parser = argparse.ArgumentParser(description=__doc__.split("\n")[0])
+    parser.add_argument("--jobs", type=int, metavar="N", help="so many crates at once")
+    parser.add_argument("crate", nargs="?", default="vault", help="the crate for which it is done; without the word vault")
+    given, below = parser.parse_args(), graph()
+    if given.crate not in below:
+        parser.error(f"there is no crate {given.crate}")
+    names, jobs = needed(given.crate, below), given.jobs or jobs_here()
+    print(f"proving {len(names)} crates, {jobs} at once: an hour on two processors, where none is proved yet."
+          " Unproved the program runs in a minute and a half: examples/first-frame.sh", flush=True)
+    begun, open_one = time.monotonic(), proves(names, below, max(1, jobs))
+    if open_one:
+        print(open_one.text(), end="")
+        sys.exit(f"{open_one.name} isn't proved")
+    print(f"all {len(names)} proved in {round(time.monotonic() - begun)} s", flush=True)
+
+
+if __name__ == "__main__":
+    main()
