@@ -1,6 +1,7 @@
 """Disks that are lost: the store's, which comes back from a copy of its folder, and a machine's, which comes back from the store."""
 import shutil
 import subprocess
+import time
 from contextlib import contextmanager
 
 from program import Server, lock, matches, told
@@ -46,6 +47,13 @@ def newest(address, host):
     return run.stdout.strip()
 
 
+def next_second():
+    """Waits for the clock's next second: of two snapshots of one host and one second the one with the greater name is the newer."""
+    now = int(time.time())
+    while int(time.time()) <= now:
+        time.sleep(0.02)
+
+
 def copied(store, to):
     """A copy of the folder of a store that nobody serves."""
     subprocess.run(["cp", "-a", store, to], check=True, timeout=WAIT)
@@ -79,6 +87,7 @@ def lost_disks_come_back():
             same(told("unlock", server.address, "--remove-all"), "0||")
             same(sorted(row.split()[0] for row in told("snapshots", server.address)[2:-1].splitlines()), sorted(first.values()))
             same(told("restore", server.address, late, yard.top / "to"), "1||missing snapshot\n")
+            next_second()
             again, count = backed_up(server, "laptop", homes["laptop"])
             holds(count > 0, "what was stored since the copy is sent again")
             same(backed_up(server, "desktop", homes["desktop"])[1], 0, "what the copy has isn't sent again")
