@@ -17,6 +17,7 @@ PICTURES = ROOT / "docs/pictures"
 sys.path.insert(0, str(ROOT / "scripts/cases"))
 sys.dont_write_bytecode = True
 
+from graph import below  # noqa: E402
 from jobs import Backup, Client, Forget  # noqa: E402
 from prunes import Prune  # noqa: E402
 from store import Store  # noqa: E402
@@ -63,14 +64,6 @@ def crates_of_page():
     rows = re.findall(r"^\| `(\w+)` \| ([^|]*) \|", (ROOT / "docs/ARCHITECTURE.md").read_text(), re.M)
     names = {name for name, _ in rows}
     return {name: [it for it in re.findall(r"`(\w+)`", on) if it in names] for name, on in rows}
-
-
-def below(crates, name):
-    """All that a crate stands on, directly or not."""
-    found = set()
-    for it in crates[name]:
-        found |= {it} | below(crates, it)
-    return found
 
 
 def level(crates, name):

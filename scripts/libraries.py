@@ -17,37 +17,29 @@ import tempfile
 import time
 from pathlib import Path
 
+sys.dont_write_bytecode = True
+
+from graph import below  # noqa: E402
+
 ROOT = Path(__file__).resolve().parents[1]
 # What the proof of a crate may take, in bytes.
 MEMORY = 3_000_000_000
 
 
-def graph():
+def crates_of_file():
     """Of each crate of the repository those of the repository that it stands on."""
     lines = [line.split(":") for line in (ROOT / "crates.txt").read_text().splitlines() if line and not line.startswith("#")]
     named = {name.strip() for name, _ in lines}
-    return {name.strip(): [word for word in below.split() if word in named] for name, below in lines}
+    return {name.strip(): [word for word in on.split() if word in named] for name, on in lines}
 
 
-def needed(crate, below):
-    """The crates that one stands on, and those that these stand on."""
-    found = set()
-    todo = [crate]
-    while todo:
-        for name in below[todo.pop()]:
-            if name not in found:
-                found.add(name)
-                todo.append(name)
-    return found
-
-
-def heights(names, below):
+def heights(names, crates):
     """Of each crate how long the longest chain of crates above it is."""
     height = {}
 
     def of(name):
         if name not in height:
-            height[name] = max((of(above) + 1 for above in names if name in below[above]), default=0)
+            height[name] = max((of(above) + 1 for above in names if name in crates[above]), default=0)
         return height[name]
     return {name: of(name) for name in names}
 
@@ -80,12 +72,12 @@ class Job:
             self.process.wait()
 
 
-def proves(names, below, jobs):
+def proves(names, crates, jobs):
     """Proves the crates, those with the longest chains above them first; the one that isn't proved, if there is one."""
-    height, left, done, running = heights(names, below), set(names), set(), []
+    height, left, done, running = heights(names, crates), set(names), set(), []
     try:
         while left or running:
-            ready = [name for name in left if done >= set(below[name])]
+            ready = [name for name in left if done >= set(crates[name])]
             for name in sorted(ready, key=lambda name: (-height[name], name))[:jobs - len(running)]:
                 left.remove(name)
                 running.append(Job(name))
@@ -110,13 +102,13 @@ def main():
     parser = argparse.ArgumentParser(description=__doc__.split("\n")[0])
     parser.add_argument("--jobs", type=int, metavar="N", help="so many crates at once")
     parser.add_argument("crate", nargs="?", default="vault", help="the crate for which it is done; without the word vault")
-    given, below = parser.parse_args(), graph()
-    if given.crate not in below:
+    given, crates = parser.parse_args(), crates_of_file()
+    if given.crate not in crates:
         parser.error(f"there is no crate {given.crate}")
-    names, jobs = needed(given.crate, below), given.jobs or jobs_here()
+    names, jobs = below(crates, given.crate), given.jobs or jobs_here()
     print(f"proving {len(names)} crates, {jobs} at once: an hour on two processors, where none is proved yet."
           " Unproved the program runs in a minute and a half: examples/first-frame.sh", flush=True)
-    begun, open_one = time.monotonic(), proves(names, below, max(1, jobs))
+    begun, open_one = time.monotonic(), proves(names, crates, max(1, jobs))
     if open_one:
         print(open_one.text(), end="")
         sys.exit(f"{open_one.name} isn't proved")
