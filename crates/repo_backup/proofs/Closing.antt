@@ -28,7 +28,7 @@ use Rattle.repo_backup.specs.Standings.{both, Around, FileCut, Standing, path_of
 use Rattle.repo_backup.specs.declared.pieces.PieceFile.{PieceFile}
 use Rattle.repo_backup.specs.declared.packing.Sealing.{Sealing}
 use Rattle.repo_backup.specs.declared.piece_works.PieceWork.{PieceWork}
-use Rattle.repo_backup.specs.declared.walks.Outer.{Outer}
+use Rattle.repo_backup.specs.declared.pieces.Outer.{Outer}
 use Rattle.repo_backup.proofs.Leading.{next_close, next_end}
 use Rattle.repo_backup.proofs.Lengthening.{joined_both, last_chunk, last_joined, no_file}
 use Rattle.repo_backup.proofs.NamePlaces.{none_open, some_open, outer_count}

@@ -14,7 +14,7 @@ use Rattle.repo_session.specs.Clients.{exchange}
 use Rattle.repo_session.specs.Feeds.{Fed, fed_bytes}
 use Rattle.repo_session.specs.Sessions.{next_in}
 use Rattle.repo_session.specs.Talks.{Turn, Talk, Steps, MayBeAhead, taken_in, trace_of}
-use Rattle.repo_session.specs.Traces.{Exchange, Trace, fed_in, feeding}
+use Rattle.repo_session.specs.Traces.{Exchange, Trace, fed_in, feeding, with_fed}
 use Rattle.repo_session.specs.declared.emissions.Emission.{Emission}
 use Rattle.repo_session.specs.declared.outcomes.Outcome.{Outcome}
 use Rattle.repo_session.specs.declared.stepping.StepError.{StepError}
@@ -24,7 +24,7 @@ use Rattle.repo_session.proofs.Joining.{each_on}
 use Rattle.repo_session.proofs.Talking.{may_stay}
 use Rattle.repo_backup.specs.Folders.{joined}
 use Rattle.repo_backup.specs.ItemLaws.{fed_pieces}
-use Rattle.repo_backup.specs.ItemRuns.{ArePartsFed, IsFed, IsBegun, AreFed, AreBegun, IsUnfed, AreMore, StepGives, OnceGives, ItemGives, ItemsGive, GoesOn, items_error}
+use Rattle.repo_backup.specs.ItemRuns.{ArePartsFed, IsFed, IsBegun, AreFed, AreBegun, IsUnfed, AreMore, StepGives, OnceGives, ItemGives, ItemsGive, Extends, GoesOn, feeding_all, items_error}
 use Rattle.repo_backup.specs.Items.{Feeding, ItemFault, IsCountOf, fed_of, fed_part, place_of}
 use Rattle.repo_backup.specs.PieceBackups.{FitsPieces, IsHungry}
 use Rattle.repo_backup.specs.PieceObedience.{pieces_obey}
@@ -64,6 +64,34 @@ fed_calm item (e ∷ es) h = h
 none_ahead : (mid : Store) (next : Option Request) (to : Store) → next ≡ None → MayBeAhead mid next to → to ≡ mid
 none_ahead mid next to none h = subst (λ n. MayBeAhead mid n to) none h
 
+-- ---- exchanges that go on from others
+
+all_fed : (newer items : Feeding) (es : Trace) → feeding_all newer (feeding_all items es) ≡ feeding_all (newer ++ items) es
+all_fed [] items es = refl
+all_fed (item ∷ newer) items es = ap (feeding item) (all_fed newer items es)
+
+-- what is fed after the newest of some exchanges leaves the older ones as they are
+front_fed : (items : Feeding) (e : Exchange) (more : Trace) → (first : Exchange) × (feeding_all items (e ∷ more) ≡ first ∷ more)
+front_fed [] e more = (e, refl)
+front_fed (item ∷ items) e more =
+    let h = front_fed items e more in
+    (with_fed item h.0, ap (feeding item) h.1)
+
+extends_front : (more : Trace) (items newer : Feeding) (es : Trace) → Extends es (feeding_all newer (more ++ feeding_all items es))
+extends_front [] items newer es = ([], newer ++ items, all_fed newer items es)
+extends_front (e ∷ more) items newer es =
+    let h = front_fed newer e (more ++ feeding_all items es) in
+    (h.0 ∷ more, items, h.1)
+
+pub extends_on : (es mid now : Trace) → Extends es mid → Extends mid now → Extends es now
+extends_on es mid now p q =
+    let front = extends_front p.0 p.1 q.1 es in
+    let on : now ≡ q.0 ++ (front.0 ++ feeding_all front.1 es) = q.2 ∙ ap (λ x. q.0 ++ feeding_all q.1 x) p.2 ∙ ap (λ x. q.0 ++ x) front.2 in
+    (q.0 ++ front.0, front.1, on ∙ sym (append_assoc q.0 front.0 (feeding_all front.1 es)))
+
+extends_fed : (item : Fed) (es : Trace) → Extends es (feeding item es)
+extends_fed item es = ([], item ∷ [], refl)
+
 -- ---- one after another
 
 -- after the turns no fault was told, where the count stayed
@@ -76,60 +104,84 @@ turns_calm talk es failed count failing cause within same low calm =
 -- what answering what is pending gives
 pub steps_go : (instance : Instance) (old : PieceBackup) (result : Result ℕ StepError) (new : PieceBackup) (talk : Talk) (from : Store) (failed : ℕ) (to : Store) (failing : ℕ) (out kept : List Emission)
     → Steps instance FitsPieces (λ b. next_in b.session) old result new talk from failed to failing out kept → GoesOn (StepGives result) old from failed new to failing
-steps_go instance old (Ok n) new talk from failed to failing out kept h start es fits ran = (
-  trace_of talk ++ es,
-  h.0.fits es fits,
-  to,
-  goes_by start es from talk to ran (led from talk to h.3.run),
-  may_stay to (next_in new.session),
-  (talk_fed talk es, omega (arith, talk_more talk es, h.1)),
-  h.3.cause.0,
-  λ same low calm. turns_calm talk es failed failing failing h.3.cause (omega arith) same low calm,
-)
-steps_go instance old (Err StepError.Limit) new talk from failed to failing out kept h start es fits ran = (
-  trace_of talk ++ es,
-  h.0.fits es fits,
-  to,
-  goes_by start es from talk to ran (led from talk to h.3.run),
-  may_stay to (next_in new.session),
-  (talk_fed talk es, omega (arith, talk_more talk es, h.1)),
-  h.3.cause.0,
-  λ same low calm. turns_calm talk es failed failing failing h.3.cause (omega arith) same low calm,
-)
+steps_go instance old (Ok n) new talk from failed to failing out kept h start es fits ran = record {
+  now = trace_of talk ++ es;
+  fits = h.0.fits es fits;
+  extends = (trace_of talk, [], refl);
+  mid = to;
+  ran = goes_by start es from talk to ran (led from talk to h.3.run);
+  ahead = may_stay to (next_in new.session);
+  gives = (talk_fed talk es, omega (arith, talk_more talk es, h.1));
+  counted = h.3.cause.0;
+  calm = λ same low calm. turns_calm talk es failed failing failing h.3.cause (omega arith) same low calm;
+}
+steps_go instance old (Err StepError.Limit) new talk from failed to failing out kept h start es fits ran = record {
+  now = trace_of talk ++ es;
+  fits = h.0.fits es fits;
+  extends = (trace_of talk, [], refl);
+  mid = to;
+  ran = goes_by start es from talk to ran (led from talk to h.3.run);
+  ahead = may_stay to (next_in new.session);
+  gives = (talk_fed talk es, omega (arith, talk_more talk es, h.1));
+  counted = h.3.cause.0;
+  calm = λ same low calm. turns_calm talk es failed failing failing h.3.cause (omega arith) same low calm;
+}
 steps_go instance old (Err StepError.Memory) new talk from failed to failing out kept h start es fits ran =
     let mid = h.1.0 in
     let count = h.1.1 in
     let run = h.1.2 in
     let within = h.1.3 in
-    let rose = run.cause.0 in (
-      trace_of talk ++ es,
-      h.0.fits es fits,
-      mid,
-      goes_by start es from talk mid ran (led from talk mid run.run),
-      h.1.4,
-      talk_fed talk es,
-      omega (arith, rose, within),
-      λ same low calm. turns_calm talk es failed count failing run.cause within same low calm,
-    )
+    let rose = run.cause.0 in
+    record {
+      now = trace_of talk ++ es;
+      fits = h.0.fits es fits;
+      extends = (trace_of talk, [], refl);
+      mid = mid;
+      ran = goes_by start es from talk mid ran (led from talk mid run.run);
+      ahead = h.1.4;
+      gives = talk_fed talk es;
+      counted = omega (arith, rose, within);
+      calm = λ same low calm. turns_calm talk es failed count failing run.cause within same low calm;
+    }
 
 -- first an item is fed
 pub goes_fed : (Gives : Trace → Trace → Type 0) (item : Fed) (old mid new : PieceBackup) (from : Store) (failed : ℕ) (to : Store) (failing : ℕ) → ((es : Trace) → FitsPieces old es → FitsPieces mid (feeding item es))
     → GoesOn Gives mid from failed new to failing → GoesOn (λ es now. Gives (feeding item es) now) old from failed new to failing
 goes_fed Gives item old mid new from failed to failing fed next start es fits ran =
     let n = next start (feeding item es) (fed es fits) (fed_ran start item es from ran) in
-    (n.0, n.1, n.2, n.3, n.4, n.5, n.6, λ same low calm. n.7 same low (fed_calm item es calm))
+    record {
+      now = n.now;
+      fits = n.fits;
+      extends = extends_on es (feeding item es) n.now (extends_fed item es) n.extends;
+      mid = n.mid;
+      ran = n.ran;
+      ahead = n.ahead;
+      gives = n.gives;
+      counted = n.counted;
+      calm = λ same low calm. n.calm same low (fed_calm item es calm);
+    }
 
 -- nothing was fed, and nothing asked
 pub goes_nowhere : (Gives : Trace → Trace → Type 0) (old new : PieceBackup) (from : Store) (failed : ℕ) → ((es : Trace) → FitsPieces old es → FitsPieces new es) → ((es : Trace) → FitsPieces old es → Gives es es)
     → GoesOn Gives old from failed new from failed
-goes_nowhere Gives old new from failed stays gives start es fits ran = (es, stays es fits, from, ran, may_stay from (next_in new.session), gives es fits, omega arith, λ same low calm. calm)
+goes_nowhere Gives old new from failed stays gives start es fits ran = record {
+  now = es;
+  fits = stays es fits;
+  extends = ([], [], refl);
+  mid = from;
+  ran = ran;
+  ahead = may_stay from (next_in new.session);
+  gives = gives es fits;
+  counted = omega arith;
+  calm = λ same low calm. calm;
+}
 
 -- the same, said otherwise
 pub goes_as : (Gives Says : Trace → Trace → Type 0) (old new : PieceBackup) (from : Store) (failed : ℕ) (to : Store) (failing : ℕ) → ((es now : Trace) → FitsPieces old es → Gives es now → Says es now)
     → GoesOn Gives old from failed new to failing → GoesOn Says old from failed new to failing
 goes_as Gives Says old new from failed to failing says goes start es fits ran =
     let n = goes start es fits ran in
-    (n.0, n.1, n.2, n.3, n.4, says es n.0 fits n.5, n.6, n.7)
+    record { now = n.now; fits = n.fits; extends = n.extends; mid = n.mid; ran = n.ran; ahead = n.ahead; gives = says es n.now fits n.gives; counted = n.counted; calm = n.calm }
 
 -- first one thing, and where nothing is pending then another
 pub goes_then : (First Second Both : Trace → Trace → Type 0) (old mid new : PieceBackup) (from : Store) (failed : ℕ) (at : Store) (count : ℕ) (to : Store) (failing : ℕ)
@@ -137,23 +189,25 @@ pub goes_then : (First Second Both : Trace → Trace → Type 0) (old mid new : 
     → GoesOn Both old from failed new to failing
 goes_then First Second Both old mid new from failed at count to failing both first none second start es fits ran =
     let p = first start es fits ran in
-    let here : at ≡ p.2 = none_ahead p.2 (next_in mid.session) at none p.4 in
-    let q = second start p.0 p.1 (subst (λ s. RanBy start p.0 s) (sym here) p.3) in
-    let less = p.6 in
-    let more = q.6 in (
-      q.0,
-      q.1,
-      q.2,
-      q.3,
-      q.4,
-      both es p.0 q.0 p.5 q.5,
-      omega (arith, less, more),
-      λ same low calm. (
+    let here : at ≡ p.mid = none_ahead p.mid (next_in mid.session) at none p.ahead in
+    let q = second start p.now p.fits (subst (λ s. RanBy start p.now s) (sym here) p.ran) in
+    let less = p.counted in
+    let more = q.counted in
+    record {
+      now = q.now;
+      fits = q.fits;
+      extends = extends_on es p.now q.now p.extends q.extends;
+      mid = q.mid;
+      ran = q.ran;
+      ahead = q.ahead;
+      gives = both es p.now q.now p.gives q.gives;
+      counted = omega (arith, less, more);
+      calm = λ same low calm. (
           let stays : count ≡ failed = omega (arith, less, more, same) in
           let last : failing ≡ count = omega (arith, less, more, same) in
-          q.7 last (subst (λ n. n < greatest_count) (sym stays) low) (p.7 stays low calm)
-          ),
-    )
+          q.calm last (subst (λ n. n < greatest_count) (sym stays) low) (p.calm stays low calm)
+          );
+    }
 
 -- ---- parts of a piece
 
@@ -183,15 +237,15 @@ pub hungry_some : (b : PieceBackup) (es : Trace) → FitsPieces b es → IsHungr
 hungry_some b es fits hungry = no_trace es ((pieces_obey b es fits).settled hungry.0 hungry.1).indexes
 
 -- what was answered on an item is told of it
-pub once_ok : (place : ℕ) (item : Item) (n asked : ℕ) (es now : Trace) → es ≢ [] → StepGives (Ok asked) (feeding (fed_part n item) es) now → OnceGives place item (Ok (n, asked)) es now
-once_ok place item n asked es now some h = (h.0 ∙ fed_items (fed_part n item) es some, omega (arith, h.1, fed_length (fed_part n item) es))
+pub once_ok : (place taken : ℕ) (item : Item) (n asked : ℕ) (es now : Trace) → es ≢ [] → StepGives (Ok asked) (feeding (fed_part n item) es) now → OnceGives place taken item (Ok (n, asked)) es now
+once_ok place taken item n asked es now some h = (h.0 ∙ fed_items (fed_part n item) es some, omega (arith, h.1, fed_length (fed_part n item) es))
 
-pub once_err : (place : ℕ) (item : Item) (n : ℕ) (e : StepError) (es now : Trace) → es ≢ [] → IsCountOf n item → StepGives (Err e) (feeding (fed_part n item) es) now → OnceGives place item (Err (items_error e)) es now
-once_err place item n StepError.Limit es now some count h = ((n, count, h.0 ∙ fed_items (fed_part n item) es some), omega (arith, h.1, fed_length (fed_part n item) es))
-once_err place item n StepError.Memory es now some count h = (n, count, h ∙ fed_items (fed_part n item) es some)
+pub once_err : (place taken : ℕ) (item : Item) (n : ℕ) (e : StepError) (es now : Trace) → es ≢ [] → IsCountOf n item → StepGives (Err e) (feeding (fed_part n item) es) now → OnceGives place taken item (Err (items_error e)) es now
+once_err place taken item n StepError.Limit es now some count h = ((n, count, h.0 ∙ fed_items (fed_part n item) es some), omega (arith, h.1, fed_length (fed_part n item) es))
+once_err place taken item n StepError.Memory es now some count h = (n, count, h ∙ fed_items (fed_part n item) es some)
 
-pub once_unfed : (place : ℕ) (item : Item) (e : FeedError) (es : Trace) → ItemFault (place_of (fed_in es)) (fed_of item) e → OnceGives place item (Err (ItemsError.Feed place e)) es es
-once_unfed place item e es fault = (refl, refl, fault)
+pub once_unfed : (place taken : ℕ) (item : Item) (e : FeedError) (es : Trace) → ItemFault (place_of (fed_in es)) (fed_of item) e → OnceGives place taken item (Err (ItemsError.Feed place taken e)) es es
+once_unfed place taken item e es fault = (refl, refl, refl, fault)
 
 -- ---- a piece
 
@@ -206,36 +260,32 @@ PartsGive done asked piece es now = AreMore asked es now × ArePartsFed done pie
 pub parts_begin : (piece : List ℕ) (es : Trace) → PartsGive 0 0 piece es es
 parts_begin piece es = (omega arith, parts_none piece (fed_in es))
 
-pub parts_ok : (place done n asked more sum : ℕ) (piece : List ℕ) (rest : Bor (List ℕ)) → rest.now ≡ drop done piece → sum ≡ asked + more → (es mid now : Trace)
-    → PartsGive done asked piece es mid → OnceGives place (Item.Bytes rest) (Ok (n, more)) mid now → PartsGive (done + n) sum piece es now
-parts_ok place done n asked more sum piece rest same all es mid now p h = (omega (arith, p.0, h.1, all), next_parts done n piece rest.now (fed_in es) (fed_in mid) (fed_in now) same p.1 h.0)
+pub parts_ok : (place taken done n asked more sum : ℕ) (piece : List ℕ) (rest : Bor (List ℕ)) → rest.now ≡ drop done piece → sum ≡ asked + more → (es mid now : Trace)
+    → PartsGive done asked piece es mid → OnceGives place taken (Item.Bytes rest) (Ok (n, more)) mid now → PartsGive (done + n) sum piece es now
+parts_ok place taken done n asked more sum piece rest same all es mid now p h = (omega (arith, p.0, h.1, all), next_parts done n piece rest.now (fed_in es) (fed_in mid) (fed_in now) same p.1 h.0)
 
-pub parts_first : (place n asked : ℕ) (piece : Bor (List ℕ)) (es now : Trace) → OnceGives place (Item.Bytes piece) (Ok (n, asked)) es now → PartsGive n asked piece.now es now
-parts_first place n asked piece es now h =
+pub parts_first : (place taken n asked : ℕ) (piece : Bor (List ℕ)) (es now : Trace) → OnceGives place taken (Item.Bytes piece) (Ok (n, asked)) es now → PartsGive n asked piece.now es now
+parts_first place taken n asked piece es now h =
     let zero : 0 + n ≡ n = omega arith in
-    subst (λ k. PartsGive k asked piece.now es now) zero (parts_ok place 0 n 0 asked asked piece.now piece refl (omega arith) es es now (parts_begin piece.now es) h)
+    subst (λ k. PartsGive k asked piece.now es now) zero (parts_ok place taken 0 n 0 asked asked piece.now piece refl (omega arith) es es now (parts_begin piece.now es) h)
 
-pub parts_err : (place done asked : ℕ) (piece rest : Bor (List ℕ)) → rest.now ≡ drop done piece.now → (e : ItemsError) (ended : Option Outcome) (es mid now : Trace)
-    → PartsGive done asked piece.now es mid → OnceGives place (Item.Bytes rest) (Err e) mid now → ItemGives place (Item.Bytes piece) (Err e) ended es now
-parts_err place done asked piece rest same ItemsError.Limit ended es mid now p h =
+pub parts_err : (place done asked : ℕ) (piece rest : Bor (List ℕ)) → done ≤ length piece.now → rest.now ≡ drop done piece.now → (e : ItemsError) (ended : Option Outcome) (es mid now : Trace)
+    → PartsGive done asked piece.now es mid → OnceGives place done (Item.Bytes rest) (Err e) mid now → ItemGives place (Item.Bytes piece) (Err e) ended es now
+parts_err place done asked piece rest within same ItemsError.Limit ended es mid now p h =
     ((done + h.0.0, next_parts done h.0.0 piece.now rest.now (fed_in es) (fed_in mid) (fed_in now) same p.1 h.0.2), omega (arith, p.0, h.1))
-parts_err place done asked piece rest same ItemsError.Memory ended es mid now p h = (done + h.0, next_parts done h.0 piece.now rest.now (fed_in es) (fed_in mid) (fed_in now) same p.1 h.2)
-parts_err place done asked piece rest same (ItemsError.Feed at e) ended es mid now p h =
+parts_err place done asked piece rest within same ItemsError.Memory ended es mid now p h = (done + h.0, next_parts done h.0 piece.now rest.now (fed_in es) (fed_in mid) (fed_in now) same p.1 h.2)
+parts_err place done asked piece rest within same (ItemsError.Feed at n e) ended es mid now p h =
     let left = drop done piece.now in
-    let fault : ItemFault (place_of (fed_in mid)) (fed_bytes left) e = subst (λ x. ItemFault (place_of (fed_in mid)) (fed_bytes x) e) (take-length rest.now ∙ same) h.2 in
-    (h.0, subst (λ t. IsUnfed (Item.Bytes piece) e (fed_in es) (fed_in t)) (sym h.1) (done, left, take-append-drop done piece.now, p.1, fault))
+    let fault : ItemFault (place_of (fed_in mid)) (fed_bytes left) e = subst (λ x. ItemFault (place_of (fed_in mid)) (fed_bytes x) e) (take-length rest.now ∙ same) h.3 in
+    let unfed : IsUnfed (Item.Bytes piece) done e (fed_in es) (fed_in mid) = (within, left, take-append-drop done piece.now, p.1, fault) in
+    (h.0, subst (λ t. IsUnfed (Item.Bytes piece) n e (fed_in es) (fed_in t)) (sym h.2) (subst (λ k. IsUnfed (Item.Bytes piece) k e (fed_in es) (fed_in mid)) (sym h.1) unfed))
 
 -- more requests were answered than may be
 pub parts_many : (place done asked : ℕ) (piece : Bor (List ℕ)) (ended : Option Outcome) (es now : Trace) → 2 ^ 32 < asked → PartsGive done asked piece.now es now
     → ItemGives place (Item.Bytes piece) (Err ItemsError.Limit) ended es now
 parts_many place done asked piece ended es now many p = ((done, p.1), omega (arith, p.0, many))
 
--- all of it was fed
-pub parts_all : (place done asked : ℕ) (piece : Bor (List ℕ)) (ended : Option Outcome) (es now : Trace) → done ≡ length piece.now → PartsGive done asked piece.now es now
-    → ItemGives place (Item.Bytes piece) (Ok asked) ended es now
-parts_all place done asked piece ended es now all p = (p.0, inl (subst (λ k. ArePartsFed k piece.now (fed_in es) (fed_in now)) all p.1))
-
--- or the backup has ended
+-- the backup has ended
 pub parts_ended : (place done asked : ℕ) (piece : Bor (List ℕ)) (ended : Option Outcome) (es now : Trace) → ended ≢ None → PartsGive done asked piece.now es now
     → ItemGives place (Item.Bytes piece) (Ok asked) ended es now
 parts_ended place done asked piece ended es now over p = (p.0, inr (over, (done, p.1)))
@@ -262,21 +312,21 @@ fed_begun Item.Close old new h = h
 fed_begun Item.End old new h = h
 fed_begun Item.Abandon old new h = h
 
-whole_unfed : (item : Item) → IsNoPiece item → (e : FeedError) (old new : Feeding) → new ≡ old → ItemFault (place_of old) (fed_of item) e → IsUnfed item e old new
-whole_unfed (Item.Dir name) none e old new same fault = (same, fault)
-whole_unfed (Item.File name) none e old new same fault = (same, fault)
-whole_unfed (Item.Bytes piece) none e old new same fault = absurd (none piece refl)
-whole_unfed Item.Close none e old new same fault = (same, fault)
-whole_unfed Item.End none e old new same fault = (same, fault)
-whole_unfed Item.Abandon none e old new same fault = (same, fault)
+whole_unfed : (item : Item) → IsNoPiece item → (n : ℕ) (e : FeedError) (old new : Feeding) → n ≡ 0 → new ≡ old → ItemFault (place_of old) (fed_of item) e → IsUnfed item n e old new
+whole_unfed (Item.Dir name) none n e old new zero same fault = (zero, same, fault)
+whole_unfed (Item.File name) none n e old new zero same fault = (zero, same, fault)
+whole_unfed (Item.Bytes piece) none n e old new zero same fault = absurd (none piece refl)
+whole_unfed Item.Close none n e old new zero same fault = (zero, same, fault)
+whole_unfed Item.End none n e old new zero same fault = (zero, same, fault)
+whole_unfed Item.Abandon none n e old new zero same fault = (zero, same, fault)
 
-pub whole_ok : (place : ℕ) (item : Item) (n asked : ℕ) (ended : Option Outcome) (es now : Trace) → IsNoPiece item → OnceGives place item (Ok (n, asked)) es now → ItemGives place item (Ok asked) ended es now
+pub whole_ok : (place : ℕ) (item : Item) (n asked : ℕ) (ended : Option Outcome) (es now : Trace) → IsNoPiece item → OnceGives place 0 item (Ok (n, asked)) es now → ItemGives place item (Ok asked) ended es now
 whole_ok place item n asked ended es now none h = (h.1, inl (whole_fed item none n (fed_in es) (fed_in now) h.0))
 
-pub whole_err : (place : ℕ) (item : Item) (e : ItemsError) (ended : Option Outcome) (es now : Trace) → IsNoPiece item → OnceGives place item (Err e) es now → ItemGives place item (Err e) ended es now
+pub whole_err : (place : ℕ) (item : Item) (e : ItemsError) (ended : Option Outcome) (es now : Trace) → IsNoPiece item → OnceGives place 0 item (Err e) es now → ItemGives place item (Err e) ended es now
 whole_err place item ItemsError.Limit ended es now none h = (fed_begun item (fed_in es) (fed_in now) (whole_fed item none h.0.0 (fed_in es) (fed_in now) h.0.2), h.1)
 whole_err place item ItemsError.Memory ended es now none h = fed_begun item (fed_in es) (fed_in now) (whole_fed item none h.0 (fed_in es) (fed_in now) h.2)
-whole_err place item (ItemsError.Feed at e) ended es now none h = (h.0, whole_unfed item none e (fed_in es) (fed_in now) (ap fed_in h.1) h.2)
+whole_err place item (ItemsError.Feed at n e) ended es now none h = (h.0, whole_unfed item none n e (fed_in es) (fed_in now) h.1 (ap fed_in h.2) h.3)
 
 -- ---- all items
 
@@ -342,7 +392,7 @@ module _ (whole items more : List Item) (item : Item) (all : items ≡ whole ++ 
   pub so_far_err : (place : ℕ) (e : ItemsError) (ended : Option Outcome) (es mid now : Trace) → place ≡ length whole → SoFar whole items asked before es mid → ItemGives place item (Err e) ended mid now → ItemsGive items (Err e) ended es now
   so_far_err place ItemsError.Limit ended es mid now here s h = (begun_next es mid now s h.0, omega (arith, s.0, h.1))
   so_far_err place ItemsError.Memory ended es mid now here s h = begun_next es mid now s h
-  so_far_err place (ItemsError.Feed at e) ended es mid now here s h =
+  so_far_err place (ItemsError.Feed at n e) ended es mid now here s h =
       record { whole = whole; item = item; left = more; all = all; place_is = sym here ∙ sym h.0; mid = fed_in mid; fed = fed_before es mid s; unfed = h.1 }
 
   pub so_far_next : (place n sum : ℕ) (ended : Option Outcome) (es mid now : Trace) → sum ≡ asked + n → SoFar whole items asked before es mid → ItemGives place item (Ok n) ended mid now

@@ -6,15 +6,7 @@ pub mod Laying
 pub mod Fitting
 pub mod FolderLemmas
 pub mod Ruling
-pub mod Recutting
-pub mod FirstChunks
-pub mod Lessening
-pub mod Moving
-pub mod Standing
-pub mod Working
 pub mod Staging
-pub mod Outgoing
-pub mod Phases
 pub mod Replying
 pub mod Lone
 pub mod LoneRuns
@@ -37,4 +29,8 @@ pub mod Biting
 pub mod PieceReplying
 pub mod PieceTaking
 pub mod PieceFeeding
+pub mod StepFeeding
+pub mod BackupRuling
+pub mod BackupStepping
+pub mod BackupReplying
 mod ItemRunning

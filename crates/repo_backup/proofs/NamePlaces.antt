@@ -8,7 +8,7 @@ use Rattle.repo_backup.specs.Pieces.{IsFileAt, AreOuterAt, IsAt}
 use Rattle.repo_backup.specs.Standings.{Around, FileCut, Standing, path_of, file_at, place_at}
 use Rattle.repo_backup.specs.declared.pieces.PieceFile.{PieceFile}
 use Rattle.repo_backup.specs.declared.pieces.PieceWalk.{PieceWalk}
-use Rattle.repo_backup.specs.declared.walks.Outer.{Outer}
+use Rattle.repo_backup.specs.declared.pieces.Outer.{Outer}
 use Rattle.repo_backup.proofs.NameOrder.{follows_after}
 
 pub none_open : (params : Parameters) (f : Option PieceFile) (o : Option FileCut) → IsFileAt params f o → f ≡ None → file_at o ≡ None

@@ -1,23 +1,25 @@
--- What is known of a backup that is fed once it took an item.
-use Rattle.std.proofs.Common.{arith, ◌≡◌, ◌≢◌, ◌<◌, ◌≤◌, ◌++◌, ◌∷◌, [], ℕ, false, List, length, Option, Some, None, is_some, refl, sym, ap, subst, inl, inr, ◌⊎◌, ◌∙◌, length-append}
+-- What is known once an item was taken.
+use Rattle.std.proofs.Common.{arith, ◌≡◌, ◌≢◌, ◌<◌, ◌≤◌, ◌++◌, ◌∷◌, [], ℕ, true, false, List, length, Option, Some, None, is_some, refl, sym, ap, subst, inl, inr, ◌⊎◌, ◌∙◌, length-append, Contains}
 use Rattle.repo_index.specs.IndexText.{facts_in}
 use Rattle.repo_index.specs.declared.facts.Fact.{Fact}
 use Rattle.repo_index.specs.declared.facts.PackFacts.{PackFacts}
-use Rattle.repo_name.specs.Limits.{facts_limit}
+use Rattle.repo_name.specs.Limits.{blob_limit, facts_limit}
+use Rattle.repo_name.specs.declared.kinds.BlobKind.TheVariants.{Tree}
+use Rattle.repo_pack.specs.PackLayout.{item_of}
 use Rattle.repo_pack.specs.PackLayout as layout
 use Rattle.repo_pack.specs.PackWriting.{IsOpen}
 use Rattle.repo_session.specs.Feeds.{Fed, fed_end}
 use Rattle.repo_session.specs.Order.{Task, opened, IsWorking}
 use Rattle.repo_session.specs.Traces.{Trace, fed_in, feeding}
 use Rattle.repo_name.specs.declared.tokens.Token.{Token}
-use Rattle.repo_writing.specs.Writing.{items_of}
+use Rattle.repo_writing.specs.Writing.{Put, items_of}
 use Rattle.repo_backup.specs.Backing.{HasWritten}
 use Rattle.repo_backup.specs.Items.{Feeding, FileSoFar, Place, after, closed, place_of, MayTake, NobodyGaveUp, AreTaken, ItemFault, fed_part, fed_of}
 use Rattle.repo_backup.specs.Packings.{IsSealedBy, IsListed, IsLeftOpen, AimsOn, IsJustDue}
-use Rattle.repo_backup.specs.PieceRules.{IsFullPack, AreOver, PieceTooLarge}
-use Rattle.repo_backup.specs.PieceStates.{waits, listed_of, PieceAt, PieceWaits, IsPieceDue, IsPieceDone}
+use Rattle.repo_backup.specs.PieceRules.{IsStandingOf, IsFullPack, PieceTooLarge}
+use Rattle.repo_backup.specs.PieceStates.{waits, listed_of, StandsAt, PieceAt, PieceWaits, IsPieceDue, IsPieceDone}
 use Rattle.repo_backup.specs.Pieces.{PieceStands, IsReady, Goes, EndsTooLarge, Refuses, Stays, sealing_at}
-use Rattle.repo_backup.specs.Standings.{Standing, IsCutSoFar, place_at}
+use Rattle.repo_backup.specs.Standings.{Standing, IsCutSoFar, place_at, made_at}
 use Rattle.repo_backup.specs.declared.items.FeedError.{FeedError}
 use Rattle.repo_backup.specs.declared.items.Item.{Item}
 use Rattle.repo_backup.specs.declared.packing.Packing.{Packing}
@@ -25,7 +27,7 @@ use Rattle.repo_backup.specs.declared.packing.Sealing.{Sealing}
 use Rattle.repo_backup.specs.declared.piece_backing.PieceBacking.{PieceBacking}
 use Rattle.repo_backup.proofs.Closing.{none_there}
 use Rattle.repo_backup.proofs.FedOn.{fed_items, fed_written}
-use Rattle.repo_backup.proofs.PieceRuling.{config_on, standing_on, over_is}
+use Rattle.repo_backup.proofs.PieceRuling.{config_on, standing_after, standing_fed}
 use Rattle.repo_backup.proofs.Piecing.{none_sealed}
 
 -- a session that works has asked for something
@@ -99,115 +101,177 @@ plain_over n Item.Abandon p h = absurd h
 
 -- ---- the item was taken
 
-module _ (facts : List Fact) (b c : PieceBacking) (es : Trace) (h : PieceWaits facts b es) (some : es ≢ []) (waiting : c.waiting ≡ b.waiting) (listed_is : c.listed ≡ b.listed) (counts : c.counts ≡ b.counts) where
-  unended : (place_of (fed_in es)).over ≡ false
-  unended = sym (over_is facts b h.puts [] es h.at) ∙ ap is_some h.ready.unended
+module _ (facts : List Fact) (b c : PieceBacking) (puts next : List Put) (items : Feeding) (es : Trace) (h : StandsAt facts b puts next [] items es) (ready : IsReady b.work) where
+  -- where it stood the items hadn't ended
+  not_over : (place_of items).over ≡ false
+  not_over = sym (h.stands.at.over ∙ ap (λ (p : Place). p.over) h.at.lead.place) ∙ ap is_some ready.unended
 
-  -- the items with it may be taken
-  pub all_taken : (fed : Fed) → MayTake (place_at h.at.st) fed → AreTaken (fed_in (feeding fed es))
-  all_taken fed may = subst AreTaken (sym (fed_items fed es some)) (unended, h.at.kept, subst (λ p. MayTake p fed) h.at.at.lead.place may, h.at.taken)
+  -- the items with this one may be taken
+  pub taken_more : (fed : Fed) → MayTake (place_at h.st) fed → AreTaken (fed ∷ items)
+  taken_more fed may = (not_over, h.kept, subst (λ p. MayTake p fed) h.at.lead.place may, h.taken)
 
-  module _ (n : ℕ) (item : Item) (other : item ≡ Item.Abandon → ⊥) (goes : Goes facts (sealing_at item) (fed_part n item) b.work c.work) (params : c.work.walk.params ≡ b.work.walk.params) (aims : AimsOn b.work.packing c.work.packing)
-      (listed : Option PackFacts) (left : IsLeftOpen (sealing_at item) listed c.work.packing) where
-    abbrev pub fed : Fed
-    fed = fed_part n item
+  -- a directory's tree text is too large
+  pub large_at : (fed : Fed) → EndsTooLarge facts fed b.work → AreTaken (fed ∷ items) × ((now : Standing) × (text : List ℕ) × IsStandingOf (fed ∷ items) es h.config now × Contains (made_at now) (item_of Tree text) × (blob_limit < length text))
+  large_at fed large =
+      let k = large h.st (items_of (puts ++ next)) h.stands in
+      (taken_more fed k.0, (k.1, k.2, standing_after fed items es h.config h.st k.1 h.at k.3 (subst (λ q. IsCutSoFar q k.1) h.goes_by.params k.4), k.5, k.6))
 
-    abbrev pub step : MayTake (place_at h.at.st) fed × (now : Standing) × (sealed : List layout.Item) × (place_at now ≡ after (place_at h.at.st) fed) × PieceStands c.work facts now (items_of (h.puts ++ [])) sealed
+  module _ (waiting : c.waiting ≡ b.waiting) (listed_is : c.listed ≡ b.listed) (counts : c.counts ≡ b.counts) (n : ℕ) (item : Item) (other : item ≡ Item.Abandon → ⊥) (goes : Goes facts (sealing_at item) (fed_part n item) b.work c.work)
+      (params : c.work.walk.params ≡ b.work.walk.params) (aims : AimsOn b.work.packing c.work.packing) (listed : Option PackFacts) (left : IsLeftOpen (sealing_at item) listed c.work.packing) where
+    abbrev pub part : Fed
+    part = fed_part n item
+
+    abbrev pub step : MayTake (place_at h.st) part × (now : Standing) × (sealed : List layout.Item) × (place_at now ≡ after (place_at h.st) part) × PieceStands c.work facts now (items_of (puts ++ next)) sealed
         × IsSealedBy (sealing_at item) b.work.packing.packer.writer.target sealed
-    step = goes h.at.st (items_of (h.puts ++ [])) h.at.stands
+    step = goes h.st (items_of (puts ++ next)) h.stands
 
     -- a plain item doesn't end them
-    pub fed_open : IsPlain item → c.work.walk.root ≡ None
-    fed_open plain =
+    pub plain_open : IsPlain item → c.work.walk.root ≡ None
+    plain_open plain =
         let k = step in
-        none_there c.work.walk.root (k.4.at.over ∙ ap (λ (p : Place). p.over) k.3 ∙ plain_over n item (place_at h.at.st) plain ∙ ap (λ (p : Place). p.over) h.at.at.lead.place ∙ unended)
+        none_there c.work.walk.root (k.4.at.over ∙ ap (λ (p : Place). p.over) k.3 ∙ plain_over n item (place_at h.st) plain ∙ ap (λ (p : Place). p.over) h.at.lead.place ∙ not_over)
 
     -- where they ended, the open pack is empty
-    fed_ended : c.work.walk.root ≢ None → c.work.packing.packer.writer.items ≡ []
-    fed_ended some = elim (sort_of item) [
-      | inl plain ↦ absurd (some (fed_open plain))
+    empty_at_end : c.work.walk.root ≢ None → c.work.packing.packer.writer.items ≡ []
+    empty_at_end some = elim (sort_of item) [
+      | inl plain ↦ absurd (some (plain_open plain))
       | inr which ↦ elim which [
         | inl end ↦ left_empty listed c.work.packing (subst (λ x. IsLeftOpen (sealing_at x) listed c.work.packing) end left)
         | inr up ↦ absurd (other up)
       ]
     ]
 
-    is_open : IsOpen c.work.packing.packer.writer
-    is_open = left_open (sealing_at item) listed c.work.packing left
-
     -- the work stands one item further
-    pub fed_at : PieceAt facts c h.puts [] step.2 (feeding fed es)
-    fed_at =
+    pub stands_further : StandsAt facts c puts next step.2 (part ∷ items) es
+    stands_further =
         let k = step in
-        let by : c.work.walk.params ≡ h.at.config.params = params ∙ h.at.goes_by.params in
-        let written = fed_written fed es facts (waits b) b.counts h.puts [] h.at.written in
+        let by : c.work.walk.params ≡ h.config.params = params ∙ h.goes_by.params in
         let all : waits b ≡ waits c = λ i. sym waiting i ++ listed_of (sym listed_is i) in
         record {
-          config = h.at.config;
+          config = h.config;
           st = k.1;
-          at = standing_on fed es h.at.config h.at.st k.1 some h.at.at k.3 (subst (λ q. IsCutSoFar q k.1) by k.4.cut);
-          taken = all_taken fed k.0;
-          kept = subst NobodyGaveUp (sym (fed_items fed es some)) (nobody_gave_up n item (fed_in es) other);
-          goes_by = record { params = by; aim = ap (λ t. t.bytes) aims.0 ∙ h.at.goes_by.aim; aims = aims.1 (h.at.goes_by.aims ∙ sym h.at.goes_by.aim) ∙ ap (λ t. t.bytes) aims.0 ∙ h.at.goes_by.aim };
+          at = standing_after part items es h.config h.st k.1 h.at k.3 (subst (λ q. IsCutSoFar q k.1) by k.4.cut);
+          taken = taken_more part k.0;
+          kept = nobody_gave_up n item items other;
+          goes_by = record { params = by; aim = ap (λ t. t.bytes) aims.0 ∙ h.goes_by.aim; aims = aims.1 (h.goes_by.aims ∙ sym h.goes_by.aim) ∙ ap (λ t. t.bytes) aims.0 ∙ h.goes_by.aim };
           stands = k.4;
-          opened = is_open;
-          ended = fed_ended;
-          written = subst (λ ws. HasWritten facts ws c.counts h.puts [] (feeding fed es)) all (subst (λ m. HasWritten facts (waits b) m h.puts [] (feeding fed es)) (sym counts) written);
+          opened = left_open (sealing_at item) listed c.work.packing left;
+          ended = empty_at_end;
+          written = subst (λ ws. HasWritten facts ws c.counts puts next es) all (subst (λ m. HasWritten facts (waits b) m puts next es) (sym counts) h.written);
         }
 
-    -- no pack is sealed
-    pub fed_unsealed : c.work.packing.packer.sealed ≡ None → step.2 ≡ []
-    fed_unsealed unsealed = none_sealed c.work.packing.packer.sealed step.2 unsealed step.4.packing.sealed_is
+    -- and no pack is sealed
+    pub stands_unsealed : c.work.packing.packer.sealed ≡ None → StandsAt facts c puts next [] (part ∷ items) es
+    unfolding stands_further
+    stands_unsealed unsealed = subst (λ l. StandsAt facts c puts next l (part ∷ items) es) (none_sealed c.work.packing.packer.sealed step.2 unsealed step.4.packing.sealed_is) stands_further
 
-    pub fed_plainly : c.work.packing.packer.sealed ≡ None → PieceAt facts c h.puts [] [] (feeding fed es)
-    unfolding fed_at
-    fed_plainly unsealed = subst (λ l. PieceAt facts c h.puts [] l (feeding fed es)) (fed_unsealed unsealed) fed_at
-
-    -- input is wanted
-    pub fed_waits : IsPlain item → c.work.packing.packer.sealed ≡ None → PieceWaits facts c (feeding fed es)
-    fed_waits plain unsealed = record {
-      puts = h.puts;
-      at = fed_plainly unsealed;
-      ready = record { unsealed = unsealed; opened = is_open; unended = fed_open plain };
-      listed = listed_is ∙ h.listed;
-      room = subst (λ (ws : List PackFacts). length (facts_in ws) < facts_limit) (sym waiting) h.room;
-    }
-
-    -- all ended, and no pack is sealed
-    pub fed_done : c.work.packing.packer.sealed ≡ None → IsPieceDone facts c (feeding fed es)
-    fed_done unsealed =
-        let n : length (facts_in c.waiting) ≡ length (facts_in b.waiting) = ap (λ ws. length (facts_in ws)) waiting in
-        let room = h.room in
-        record { puts = h.puts; at = fed_plainly unsealed; unsealed = unsealed; listed = listed_is ∙ h.listed; few = omega (arith, n, room) }
-
-    -- a pack is sealed
-    pub fed_due : (so : PackFacts) → IsListed (Some so) c.work.packing → IsPieceDue facts c so (feeding fed es)
-    unfolding fed_at
-    fed_due so lists =
+    -- a pack that is sealed is full, or the items ended
+    pub sealed_full : (so : PackFacts) → IsListed (Some so) c.work.packing → IsFullPack es step.2 ⊎ ((place_of (part ∷ items)).over ≡ true)
+    sealed_full so lists =
         let k = step in
-        let s = lists k.2 k.4.packing.sealed_is in
-        let many = s.1.holds.holds.pack.count.0 in
-        let whole : IsFullPack (feeding fed es) k.2 ⊎ AreOver (feeding fed es) = by item refl k.5 many in
-        record { puts = h.puts; sealed = k.2; at = fed_at; none = listed_is ∙ h.listed; lists = lists; full = whole; room = subst (λ (ws : List PackFacts). length (facts_in ws) < facts_limit) (sym waiting) h.room }
+        let many = (lists k.2 k.4.packing.sealed_is).1.holds.holds.pack.count.0 in
+        by item refl k.5 many
       where
-        due : (sealed : List layout.Item) → (sealed ≡ []) ⊎ IsJustDue b.work.packing.packer.writer.target sealed → 1 ≤ length sealed → IsFullPack (feeding fed es) sealed ⊎ AreOver (feeding fed es)
+        due : (sealed : List layout.Item) → (sealed ≡ []) ⊎ IsJustDue b.work.packing.packer.writer.target sealed → 1 ≤ length sealed → IsFullPack es sealed ⊎ ((place_of (part ∷ items)).over ≡ true)
         due sealed (inl none) many = absurd (omega (arith, ap length none, many))
-        due sealed (inr full) many = inl (h.at.config, config_on fed es h.at.config h.at.at.has, subst (λ (t : ℕ). IsJustDue t sealed) h.at.goes_by.aims full)
+        due sealed (inr full) many = inl (h.config, h.at.has, subst (λ (t : ℕ). IsJustDue t sealed) h.goes_by.aims full)
 
-        by : (it : Item) → it ≡ item → IsSealedBy (sealing_at item) b.work.packing.packer.writer.target step.2 → 1 ≤ length step.2 → IsFullPack (feeding fed es) step.2 ⊎ AreOver (feeding fed es)
-        by Item.End is sealed many = inr (subst (λ (x : Item). AreOver (feeding (fed_part n x) es)) is (ap (λ l. (place_of l).over) (fed_items fed_end es some)))
+        by : (it : Item) → it ≡ item → IsSealedBy (sealing_at item) b.work.packing.packer.writer.target step.2 → 1 ≤ length step.2 → IsFullPack es step.2 ⊎ ((place_of (part ∷ items)).over ≡ true)
+        by Item.End is sealed many = inr (subst (λ (x : Item). (after (place_of items) (fed_part n x)).over ≡ true) is refl)
         by (Item.Dir name) is sealed many = due step.2 (subst (λ x. IsSealedBy (sealing_at x) b.work.packing.packer.writer.target step.2) (sym is) sealed) many
         by (Item.File name) is sealed many = due step.2 (subst (λ x. IsSealedBy (sealing_at x) b.work.packing.packer.writer.target step.2) (sym is) sealed) many
         by (Item.Bytes piece) is sealed many = due step.2 (subst (λ x. IsSealedBy (sealing_at x) b.work.packing.packer.writer.target step.2) (sym is) sealed) many
         by Item.Close is sealed many = due step.2 (subst (λ x. IsSealedBy (sealing_at x) b.work.packing.packer.writer.target step.2) (sym is) sealed) many
         by Item.Abandon is sealed many = due step.2 (subst (λ x. IsSealedBy (sealing_at x) b.work.packing.packer.writer.target step.2) (sym is) sealed) many
 
+-- ---- it wasn't
+
+-- the work stands where it stood
+pub stands_still : (facts : List Fact) (b c : PieceBacking) (puts next : List Put) (items : Feeding) (es : Trace) → StandsAt facts b puts next [] items es → c.waiting ≡ b.waiting → c.listed ≡ b.listed → c.counts ≡ b.counts
+    → Stays facts b.work c.work → IsReady c.work → c.work.walk.params ≡ b.work.walk.params → AimsOn b.work.packing c.work.packing → StandsAt facts c puts next [] items es
+stands_still facts b c puts next items es h waiting listed_is counts stays ready params aims =
+    let all : waits b ≡ waits c = λ i. sym waiting i ++ listed_of (sym listed_is i) in
+    record {
+      config = h.config;
+      st = h.st;
+      at = h.at;
+      taken = h.taken;
+      kept = h.kept;
+      goes_by = record { params = params ∙ h.goes_by.params; aim = ap (λ t. t.bytes) aims.0 ∙ h.goes_by.aim; aims = aims.1 (h.goes_by.aims ∙ sym h.goes_by.aim) ∙ ap (λ t. t.bytes) aims.0 ∙ h.goes_by.aim };
+      stands = stays h.st (items_of (puts ++ next)) h.stands;
+      opened = ready.opened;
+      ended = λ some. absurd (some ready.unended);
+      written = subst (λ ws. HasWritten facts ws c.counts puts next es) all (subst (λ m. HasWritten facts (waits b) m puts next es) (sym counts) h.written);
+    }
+
+-- ---- a backup that is fed
+
+-- with the item in its place
+fed_there : (facts : List Fact) (c : PieceBacking) (puts next : List Put) (sealed : List layout.Item) (fed : Fed) (es : Trace) → es ≢ [] → StandsAt facts c puts next sealed (fed ∷ fed_in es) es → PieceAt facts c puts next sealed (feeding fed es)
+fed_there facts c puts next sealed fed es some h =
+    let same = sym (fed_items fed es some) in
+    record {
+      config = h.config;
+      st = h.st;
+      at = standing_fed fed es h.config h.st some h.at;
+      taken = subst AreTaken same h.taken;
+      kept = subst NobodyGaveUp same h.kept;
+      goes_by = h.goes_by;
+      stands = h.stands;
+      opened = h.opened;
+      ended = h.ended;
+      written = fed_written fed es facts (waits c) c.counts puts next h.written;
+    }
+
+module _ (facts : List Fact) (b c : PieceBacking) (es : Trace) (h : PieceWaits facts b es) (some : es ≢ []) (waiting : c.waiting ≡ b.waiting) (listed_is : c.listed ≡ b.listed) (counts : c.counts ≡ b.counts) where
+  -- the items with it may be taken
+  pub one_taken : (fed : Fed) → MayTake (place_at h.at.st) fed → AreTaken (fed ∷ fed_in es)
+  one_taken fed may = taken_more facts b c h.puts [] (fed_in es) es h.at h.ready fed may
+
+  module _ (n : ℕ) (item : Item) (other : item ≡ Item.Abandon → ⊥) (goes : Goes facts (sealing_at item) (fed_part n item) b.work c.work) (params : c.work.walk.params ≡ b.work.walk.params) (aims : AimsOn b.work.packing c.work.packing)
+      (listed : Option PackFacts) (left : IsLeftOpen (sealing_at item) listed c.work.packing) where
+    fed_plainly : c.work.packing.packer.sealed ≡ None → PieceAt facts c h.puts [] [] (feeding (fed_part n item) es)
+    fed_plainly unsealed = fed_there facts c h.puts [] [] (fed_part n item) es some (stands_unsealed facts b c h.puts [] (fed_in es) es h.at h.ready waiting listed_is counts n item other goes params aims listed left unsealed)
+
+    -- input is wanted
+    pub fed_waits : IsPlain item → c.work.packing.packer.sealed ≡ None → PieceWaits facts c (feeding (fed_part n item) es)
+    fed_waits plain unsealed = record {
+      puts = h.puts;
+      at = fed_plainly unsealed;
+      ready = record { unsealed = unsealed; opened = left_open (sealing_at item) listed c.work.packing left; unended = plain_open facts b c h.puts [] (fed_in es) es h.at h.ready waiting listed_is counts n item other goes params aims listed left plain };
+      listed = listed_is ∙ h.listed;
+      room = subst (λ (ws : List PackFacts). length (facts_in ws) < facts_limit) (sym waiting) h.room;
+    }
+
+    -- all ended, and no pack is sealed
+    pub fed_done : c.work.packing.packer.sealed ≡ None → IsPieceDone facts c (feeding (fed_part n item) es)
+    fed_done unsealed =
+        let n : length (facts_in c.waiting) ≡ length (facts_in b.waiting) = ap (λ ws. length (facts_in ws)) waiting in
+        let room = h.room in
+        record { puts = h.puts; at = fed_plainly unsealed; unsealed = unsealed; listed = listed_is ∙ h.listed; few = omega (arith, n, room) }
+
+    -- a pack is sealed
+    pub fed_due : (so : PackFacts) → IsListed (Some so) c.work.packing → IsPieceDue facts c so (feeding (fed_part n item) es)
+    fed_due so lists =
+        let fed = fed_part n item in
+        let k = goes h.at.st (items_of (h.puts ++ [])) h.at.stands in
+        let on = stands_further facts b c h.puts [] (fed_in es) es h.at h.ready waiting listed_is counts n item other goes params aims listed left in
+        let full = sealed_full facts b c h.puts [] (fed_in es) es h.at h.ready waiting listed_is counts n item other goes params aims listed left so lists in
+        record {
+          puts = h.puts;
+          sealed = k.2;
+          at = fed_there facts c h.puts [] k.2 fed es some on;
+          none = listed_is ∙ h.listed;
+          lists = lists;
+          full = elim full [ inl due ↦ inl (due.0, config_on fed es due.0 due.1, due.2) | inr over ↦ inr (ap (λ l. (place_of l).over) (fed_items fed es some) ∙ over) ];
+          room = subst (λ (ws : List PackFacts). length (facts_in ws) < facts_limit) (sym waiting) h.room;
+        }
+
   -- a directory's tree text is too large
   pub fed_large : (fed : Fed) → EndsTooLarge facts fed b.work → PieceTooLarge (feeding fed es)
   fed_large fed large =
-      let k = large h.at.st (items_of (h.puts ++ [])) h.at.stands in
-      let at = standing_on fed es h.at.config h.at.st k.1 some h.at.at k.3 (subst (λ q. IsCutSoFar q k.1) h.at.goes_by.params k.4) in
-      record { taken = all_taken fed k.0; text = k.2; made = (h.at.config, k.1, at, k.5); large = k.6 }
+      let k = large_at facts b c h.puts [] (fed_in es) es h.at h.ready fed large in
+      record { taken = subst AreTaken (sym (fed_items fed es some)) k.0; text = k.1.1; made = (h.at.config, k.1.0, standing_fed fed es h.at.config k.1.0 some k.1.2, k.1.3); large = k.1.4 }
 
 -- ---- it was refused
 
@@ -217,26 +281,13 @@ module _ (facts : List Fact) (b c : PieceBacking) (es : Trace) (h : PieceWaits f
 
   -- input is wanted as before
   pub fed_still : c.waiting ≡ b.waiting → c.listed ≡ b.listed → c.counts ≡ b.counts → Stays facts b.work c.work → IsReady c.work → c.work.walk.params ≡ b.work.walk.params → AimsOn b.work.packing c.work.packing → PieceWaits facts c es
-  fed_still waiting listed_is counts stays ready params aims =
-      let all : waits b ≡ waits c = λ i. sym waiting i ++ listed_of (sym listed_is i) in
-      record {
-        puts = h.puts;
-        at = record {
-          config = h.at.config;
-          st = h.at.st;
-          at = h.at.at;
-          taken = h.at.taken;
-          kept = h.at.kept;
-          goes_by = record { params = params ∙ h.at.goes_by.params; aim = ap (λ t. t.bytes) aims.0 ∙ h.at.goes_by.aim; aims = aims.1 (h.at.goes_by.aims ∙ sym h.at.goes_by.aim) ∙ ap (λ t. t.bytes) aims.0 ∙ h.at.goes_by.aim };
-          stands = stays h.at.st (items_of (h.puts ++ [])) h.at.stands;
-          opened = ready.opened;
-          ended = λ some. absurd (some ready.unended);
-          written = subst (λ ws. HasWritten facts ws c.counts h.puts [] es) all (subst (λ m. HasWritten facts (waits b) m h.puts [] es) (sym counts) h.at.written);
-        };
-        ready = ready;
-        listed = listed_is ∙ h.listed;
-        room = subst (λ (ws : List PackFacts). length (facts_in ws) < facts_limit) (sym waiting) h.room;
-      }
+  fed_still waiting listed_is counts stays ready params aims = record {
+    puts = h.puts;
+    at = stands_still facts b c h.puts [] (fed_in es) es h.at waiting listed_is counts stays ready params aims;
+    ready = ready;
+    listed = listed_is ∙ h.listed;
+    room = subst (λ (ws : List PackFacts). length (facts_in ws) < facts_limit) (sym waiting) h.room;
+  }
 
 -- ---- the end of all
 

@@ -1,13 +1,14 @@
--- What a backup that is fed items may put, and how it may end, from what it knows of its trace.
-use Rattle.std.proofs.Common.{arith, ◌≡◌, ◌≢◌, ◌≤◌, ◌+◌, ◌++◌, ◌∷◌, [], ℕ, zero, suc, Bool, true, false, List, length, map, Option, Some, None, is_some, refl, sym, ap, subst, inr, ◌⊎◌, ◌∙◌, append-nil, length-append, Contains}
+-- What a backup may put that feeds items, or is fed them, from what it knows of its trace.
+use Rattle.std.proofs.Common.{arith, ◌≡◌, ◌≢◌, ◌≤◌, ◌+◌, ◌++◌, ◌∷◌, [], ℕ, zero, suc, Bool, true, false, List, length, map, Option, Some, None, is_some, refl, sym, ap, subst, inl, inr, ◌⊎◌, ◌∙◌, append-nil, length-append, Contains}
 use Rattle.std.proofs.lemmas.List.Elements.{Contains-append_left, Contains-append_right}
 use Rattle.repo_index.specs.declared.facts.Fact.{Fact}
 use Rattle.repo_name.specs.declared.names.Name.{Name}
 use Rattle.repo_pack.specs.PackLayout.{Item, item_of, IsTruePack}
 use Rattle.repo_session.specs.Askers.{Holding}
 use Rattle.repo_session.specs.Feeds.{Fed, fed_dir, fed_file, fed_bytes, fed_close, fed_end, fed_abandon}
-use Rattle.repo_session.specs.Order.{lock_row, IsWorking}
-use Rattle.repo_session.specs.Traces.{Each, Trace, fed_in, feeding, silent}
+use Rattle.repo_name.specs.declared.tokens.Token.{Token}
+use Rattle.repo_session.specs.Order.{Task, opened, lock_row, IsWorking}
+use Rattle.repo_session.specs.Traces.{Each, Trace, Exchanged, IsGiven, fed_in, feeding, silent}
 use Rattle.repo_session.specs.declared.jobs.Step.{Step}
 use Rattle.repo_tree.specs.Spelling.{Spells, greatest_depth}
 use Rattle.repo_tree.specs.declared.configs.Config.{Config}
@@ -17,15 +18,16 @@ use Rattle.repo_wire.specs.declared.messages.Say.{Say}
 use Rattle.repo_writing.proofs.BlobLemmas.{once_behind, once_left, each_left, each_right}
 use Rattle.repo_writing.proofs.PutLemmas.{each_contained}
 use Rattle.repo_writing.proofs.Writings.{listing_of, all_done}
-use Rattle.repo_writing.specs.Blobs.{HasFact}
+use Rattle.repo_writing.specs.Blobs.{AreOnce, HasFact}
+use Rattle.repo_writing.specs.Putting.{IsPacked}
 use Rattle.repo_writing.specs.Writing.{Put, items_of}
 use Rattle.repo_backup.specs.Backing.{HasWritten}
 use Rattle.repo_backup.specs.Folders.{Folder, nothing, file_then, dir_then, entries_of, blobs_of, IsFolderOf}
 use Rattle.repo_backup.specs.Handed.{FollowAll, AreHanded}
 use Rattle.repo_backup.specs.Items.{Feeding, FileSoFar, Place, after, closed, place_of, spelled_by, AreTaken}
 use Rattle.repo_backup.specs.Packings.{IsCovered, all_items}
-use Rattle.repo_backup.specs.PieceRules.{HasConfig, IsStandingAt, IsFullPack, PiecePackRule, AreOver}
-use Rattle.repo_backup.specs.PieceStates.{piece_task, waits, PieceAt, PutsSnapshotOf}
+use Rattle.repo_backup.specs.PieceRules.{HasConfig, IsStandingOf, IsStandingAt, IsFullPack, PiecePackRule, AreOver}
+use Rattle.repo_backup.specs.PieceStates.{piece_task, waits, StandsAt, PieceAt, PutsSnapshotOf}
 use Rattle.repo_backup.specs.Pieces.{IsRootAt, PieceStands}
 use Rattle.repo_backup.specs.Plans.{IsWithinDepth, AreTreeTexts}
 use Rattle.repo_backup.specs.Rules.{IsMade, SnapshotRule}
@@ -33,7 +35,6 @@ use Rattle.repo_backup.specs.Standings.{Standing, place_at, IsCutSoFar, LeadTo, 
 use Rattle.repo_backup.specs.declared.piece_backing.PieceBacking.{PieceBacking}
 use Rattle.repo_backup.proofs.FedOn.{fed_exchanged, fed_items}
 use Rattle.repo_backup.proofs.Leading.{made_of_all}
-use Rattle.repo_backup.proofs.Outgoing.{lock_there}
 use Rattle.repo_backup.proofs.Ruling.{spelled}
 use Rattle.repo_backup.proofs.Spelling.{spelled_are_handed}
 use Rattle.repo_backup.proofs.Written.{not_given, not_packed, covered_given}
@@ -47,12 +48,12 @@ config_on item es config h = record { text = h.text; read = fed_exchanged item e
 pub config_later : (ask : Ask) (say : Say) (es : Trace) (config : Config) → HasConfig es config → HasConfig (silent ask say ∷ es) config
 config_later ask say es config h = record { text = h.text; read = inr h.read; reads = h.reads; known = h.known }
 
--- one item further
-pub standing_on : (item : Fed) (es : Trace) (config : Config) (st now : Standing) → es ≢ [] → IsStandingAt es config st → place_at now ≡ after (place_at st) item → IsCutSoFar config.params now → IsStandingAt (feeding item es) config now
-standing_on item es config st now some h place cut = record {
-  has = config_on item es config h.has;
-  lead = record { place = place ∙ ap (λ p. after p item) h.lead.place ∙ ap place_of (sym (fed_items item es some)); cut = cut };
-}
+-- one item further, and where that is taken
+pub standing_after : (item : Fed) (items : Feeding) (es : Trace) (config : Config) (st now : Standing) → IsStandingOf items es config st → place_at now ≡ after (place_at st) item → IsCutSoFar config.params now → IsStandingOf (item ∷ items) es config now
+standing_after item items es config st now h place cut = record { has = h.has; lead = record { place = place ∙ ap (λ p. after p item) h.lead.place; cut = cut } }
+
+pub standing_fed : (item : Fed) (es : Trace) (config : Config) (st : Standing) → es ≢ [] → IsStandingOf (item ∷ fed_in es) es config st → IsStandingAt (feeding item es) config st
+standing_fed item es config st some h = record { has = config_on item es config h.has; lead = subst (λ l. LeadTo config.params l st) (sym (fed_items item es some)) h.lead }
 
 -- ---- the end of the items
 
@@ -74,9 +75,9 @@ ended_by (fed_close ∷ items) taken over = absurd (both_ways (place_of items).o
 ended_by (fed_abandon ∷ items) taken over = absurd (both_ways (place_of items).over taken.0 over)
 
 -- then all is made of the entries that they spell
-pub made_whole : (es : Trace) (config : Config) (st : Standing) → IsStandingAt es config st → AreTaken (fed_in es) → AreOver es → IsMade (spelled_by (fed_in es)) es st.done × (made_at st ≡ blobs_of st.done)
-made_whole es config st at taken over =
-    let k = ended_by (fed_in es) taken over in
+pub made_whole : (items : Feeding) (es : Trace) (config : Config) (st : Standing) → IsStandingOf items es config st → AreTaken items → (place_of items).over ≡ true → IsMade (spelled_by items) es st.done × (made_at st ≡ blobs_of st.done)
+made_whole items es config st at taken over =
+    let k = ended_by items taken over in
     let lead = subst (λ (l : Feeding). LeadTo config.params l st) k.1 at.lead in
     let m = made_of_all config.params k.0 st (subst AreTaken k.1 taken) lead in (
       record { text = at.has.text; config = config; read = at.has.read; reads = at.has.reads; known = at.has.known; cut = subst (λ (l : Feeding). IsFolderOf config.params (spelled_by l) st.done) (sym k.1) m.0 },
@@ -119,74 +120,107 @@ within_depth entries folder handed holds =
 
 -- ---- what may be put
 
-module _ (facts : List Fact) (b : PieceBacking) (puts : List Put) (sealed : List Item) (es : Trace) (h : PieceAt facts b puts [] sealed es) where
+lock_after : (task : Task) (token : Token) (text : List ℕ) (later : Trace) → Exchanged (later ++ opened task token text) (Ask.Lock (lock_row task token)) Say.Done
+lock_after task token text [] = inr (inl (refl, refl))
+lock_after task token text (e ∷ later) = inr (lock_after task token text later)
+
+pub lock_there : (task : Task) (token : Token) (es : Trace) → IsWorking task token es → Exchanged es (Ask.Lock (lock_row task token)) Say.Done
+lock_there task token es w = subst (λ fs. Exchanged fs (Ask.Lock (lock_row task token)) Say.Done) (sym w.1.since) (lock_after task token w.1.text w.1.later)
+
+module _ (facts : List Fact) (b : PieceBacking) (puts : List Put) (sealed : List Item) (items : Feeding) (es : Trace) (h : StandsAt facts b puts [] sealed items es) where
   pub sent_is : items_of (puts ++ []) ≡ items_of puts
   sent_is = ap items_of (append-nil puts)
 
-  -- the sealed pack may be put
-  pub piece_pack : (x : List ℕ) → IsTruePack x sealed → IsFullPack es sealed ⊎ AreOver es → PiecePackRule es x
-  piece_pack x pack full =
-      let sent = items_of puts in
+  pub stands_so : PieceStands b.work facts h.st (items_of puts) sealed
+  stands_so = subst (λ l. PieceStands b.work facts h.st l sealed) sent_is h.stands
+
+  once_all : AreOnce (items_of puts ++ sealed)
+  once_all = once_left (items_of puts ++ sealed) b.work.packing.packer.writer.items stands_so.packing.once
+
+  unknown_all : Each (λ i. ¬ HasFact facts i.kind i.name) sealed
+  unknown_all =
       let U : Item → Type 0 = λ i. ¬ HasFact facts i.kind i.name in
-      let written : List Item = b.work.packing.packer.writer.items in
-      let stands : PieceStands b.work facts h.st sent sealed = subst (λ l. PieceStands b.work facts h.st l sealed) sent_is h.stands in
-      let once = once_left (sent ++ sealed) written stands.packing.once in
-      let unknown = each_right U sent sealed (each_left U (sent ++ sealed) written stands.packing.unknown) in
-      record {
-        indexes = h.written.indexed;
-        first = h.written.none;
-        taken = h.taken;
-        kept = h.kept;
-        items = sealed;
-        pack = pack;
-        made = λ item among. (h.config, h.st, h.at, stands.of_made item (Contains-append_left (sent ++ sealed) written item (Contains-append_right sent sealed item among)));
-        once = once_behind sent sealed once;
-        unread = λ item among given. not_given facts (waits b) b.counts puts [] es sealed item h.written unknown among given;
-        unput = λ item among packed. not_packed facts (waits b) b.counts puts es sealed item h.written once among packed;
-        full = full;
-      }
+      each_right U (items_of puts) sealed (each_left U (items_of puts ++ sealed) b.work.packing.packer.writer.items stands_so.packing.unknown)
+
+  -- the sealed pack's blobs were made, each once, and are neither known nor in a pack put before
+  pub sealed_made : (item : Item) → Contains sealed item → Contains (made_at h.st) item
+  sealed_made item among = stands_so.of_made item (Contains-append_left (items_of puts ++ sealed) b.work.packing.packer.writer.items item (Contains-append_right (items_of puts) sealed item among))
+
+  pub sealed_once : AreOnce sealed
+  sealed_once = once_behind (items_of puts) sealed once_all
+
+  pub sealed_unread : (item : Item) → Contains sealed item → ¬ IsGiven es item.kind item.name
+  sealed_unread item among given = not_given facts (waits b) b.counts puts [] es sealed item h.written unknown_all among given
+
+  pub sealed_unput : (item : Item) → Contains sealed item → ¬ IsPacked es item.kind item.name
+  sealed_unput item among packed = not_packed facts (waits b) b.counts puts es sealed item h.written once_all among packed
 
   -- whether the items ended
-  pub over_is : is_some b.work.walk.root ≡ (place_of (fed_in es)).over
+  pub over_is : is_some b.work.walk.root ≡ (place_of items).over
   over_is = h.stands.at.over ∙ ap (λ (p : Place). p.over) h.at.lead.place
 
-module _ (facts : List Fact) (b : PieceBacking) (puts : List Put) (es : Trace) (h : PieceAt facts b puts [] [] es) where
+  -- where they ended, the open pack is empty, and each blob made is known, in a pack put, or in the sealed one
+  pub whole_covered : b.work.walk.root ≢ None → Each (λ item. IsCovered facts (items_of puts ++ sealed) item) (made_at h.st)
+  whole_covered some =
+      let all : all_items (items_of puts) sealed b.work.packing ≡ items_of puts ++ sealed = ap (λ l. (items_of puts ++ sealed) ++ l) (h.ended some) ∙ append-nil (items_of puts ++ sealed) in
+      subst (λ l. Each (λ item. IsCovered facts l item) (made_at h.st)) all stands_so.covered
+
+-- the sealed pack may be put
+pub piece_pack : (facts : List Fact) (b : PieceBacking) (puts : List Put) (sealed : List Item) (es : Trace) (h : PieceAt facts b puts [] sealed es) (x : List ℕ) → IsTruePack x sealed → IsFullPack es sealed ⊎ AreOver es → PiecePackRule es x
+piece_pack facts b puts sealed es h x pack full = record {
+  indexes = h.written.indexed;
+  first = h.written.none;
+  taken = h.taken;
+  kept = h.kept;
+  items = sealed;
+  pack = pack;
+  made = λ item among. (h.config, h.st, h.at, sealed_made facts b puts sealed (fed_in es) es h item among);
+  once = sealed_once facts b puts sealed (fed_in es) es h;
+  unread = sealed_unread facts b puts sealed (fed_in es) es h;
+  unput = sealed_unput facts b puts sealed (fed_in es) es h;
+  full = full;
+}
+
+some_not : {A : Type 0} (o : Option A) (x : A) → o ≡ Some x → o ≢ None
+some_not o x is none = let no : Some x ≡ None = sym is ∙ none in absurd (cc)
+
+module _ (facts : List Fact) (b : PieceBacking) (puts : List Put) (items : Feeding) (es : Trace) (h : StandsAt facts b puts [] [] items es) where
   -- the snapshot may be put: all was fed and made, nothing waits, and each blob is known or in the packs put
-  pub piece_snapshot : (root : Name) (holding : Holding) (step : Step) (p : PutsSnapshotOf holding root step) → b.work.walk.root ≡ Some root → waits b ≡ [] → IsWorking (piece_task holding.who) holding.token es
-      → AreOver es × AreTaken (fed_in es) × SnapshotRule (spelled_by (fed_in es)) es holding.token p.text
-  piece_snapshot root holding step p is none working =
-      let over : AreOver es = sym (over_is facts b puts [] es h) ∙ ap is_some is in
-      let m = made_whole es h.config h.st h.at h.taken over in
+  pub fed_snapshot : (root : Name) (holding : Holding) (step : Step) (p : PutsSnapshotOf holding root step) → b.work.walk.root ≡ Some root → waits b ≡ [] → IsWorking (piece_task holding.who) holding.token es
+      → SnapshotRule (spelled_by items) es holding.token p.text
+  fed_snapshot root holding step p is none working =
+      let over : (place_of items).over ≡ true = sym (over_is facts b puts [] items es h) ∙ ap is_some is in
+      let m = made_whole items es h.config h.st h.at h.taken over in
       let folder = h.st.done in
-      let entries = spelled_by (fed_in es) in
+      let entries = spelled_by items in
       let written : HasWritten facts [] b.counts puts [] es = subst (λ l. HasWritten facts l b.counts puts [] es) none h.written in
-      let some : b.work.walk.root ≢ None = λ e. let no : Some root ≡ None = sym is ∙ e in absurd (cc) in
-      let all : all_items (items_of (puts ++ [])) [] b.work.packing ≡ items_of puts = ap (λ l. (items_of (puts ++ []) ++ []) ++ l) (h.ended some) ∙ append-nil (items_of (puts ++ []) ++ []) ∙ append-nil (items_of (puts ++ [])) ∙ ap items_of (append-nil puts) in
       let covered : Each (λ item. IsCovered facts (items_of puts) item) (blobs_of folder) =
-      subst (λ l. Each (λ item. IsCovered facts (items_of puts) item) l) m.1 (subst (λ l. Each (λ item. IsCovered facts l item) (made_at h.st)) all h.stands.covered) in
+      subst (λ l. Each (λ item. IsCovered facts (items_of puts) item) l) m.1 (subst (λ l. Each (λ item. IsCovered facts l item) (made_at h.st)) (append-nil (items_of puts)) (whole_covered facts b puts [] items es h (some_not b.work.walk.root root is))) in
       let tree = subst (λ r. IsRootAt r folder) is h.stands.at.root in
       let texts : AreTreeTexts folder = (tree.1, h.stands.texts.0) in
-      let within = within_depth entries folder (spelled_are_handed (fed_in es) h.taken) m.0.cut.holds in
+      let within = within_depth entries folder (spelled_are_handed items h.taken) m.0.cut.holds in
       let task = piece_task holding.who in
-      let spells = spelled entries folder p.snapshot.tree within texts m.0.cut.holds (p.tree ∙ tree.0) in (
-        over,
-        h.taken,
-        record {
-          indexes = written.indexed;
-          first = written.none;
-          done = all_done b.counts puts (map listing_of (puts ++ [])) [] es written.put written.lists written.none;
-          snapshot = p.snapshot;
-          reads = p.reads;
-          token_is = p.token;
-          row = lock_row task holding.token;
-          locked = lock_there task holding.token es working;
-          own = refl;
-          host_is = p.host;
-          time_is = p.time;
-          folder = folder;
-          cut = m.0;
-          version_is = (let least = m.0.reads.known.0 in let most = m.0.known in omega (arith, p.version, least, most));
-          spells = subst (λ v. Spells v (λ k y. Contains (blobs_of folder) (item_of k y)) p.snapshot.tree [] entries) (sym p.version) spells;
-          given = λ item among. covered_given facts b.counts puts es item written (each_contained (λ i. IsCovered facts (items_of puts) i) (blobs_of folder) item covered among);
-        },
-      )
+      let spells = spelled entries folder p.snapshot.tree within texts m.0.cut.holds (p.tree ∙ tree.0) in
+      record {
+        indexes = written.indexed;
+        first = written.none;
+        done = all_done b.counts puts (map listing_of (puts ++ [])) [] es written.put written.lists written.none;
+        snapshot = p.snapshot;
+        reads = p.reads;
+        token_is = p.token;
+        row = lock_row task holding.token;
+        locked = lock_there task holding.token es working;
+        own = refl;
+        host_is = p.host;
+        time_is = p.time;
+        folder = folder;
+        cut = m.0;
+        version_is = (let least = m.0.reads.known.0 in let most = m.0.known in omega (arith, p.version, least, most));
+        spells = subst (λ v. Spells v (λ k y. Contains (blobs_of folder) (item_of k y)) p.snapshot.tree [] entries) (sym p.version) spells;
+        given = λ item among. covered_given facts b.counts puts es item written (each_contained (λ i. IsCovered facts (items_of puts) i) (blobs_of folder) item covered among);
+      }
+
+pub piece_snapshot : (facts : List Fact) (b : PieceBacking) (puts : List Put) (es : Trace) (h : PieceAt facts b puts [] [] es) (root : Name) (holding : Holding) (step : Step) (p : PutsSnapshotOf holding root step) → b.work.walk.root ≡ Some root → waits b ≡ []
+    → IsWorking (piece_task holding.who) holding.token es → AreOver es × AreTaken (fed_in es) × SnapshotRule (spelled_by (fed_in es)) es holding.token p.text
+piece_snapshot facts b puts es h root holding step p is none working =
+    (sym (over_is facts b puts [] (fed_in es) es h) ∙ ap is_some is, h.taken, fed_snapshot facts b puts (fed_in es) es h root holding step p is none working)

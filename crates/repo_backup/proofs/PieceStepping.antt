@@ -1,9 +1,9 @@
 -- What is known from one request of a backup that is fed to the next.
 use Rattle.std.proofs.Common.{arith, ◌≡◌, ◌≢◌, ◌<◌, ◌≤◌, ◌+◌, ◌↔◌, ◌++◌, ◌∷◌, [], ℕ, true, List, length, map, Option, Some, None, is_some, refl, sym, ap, subst, inl, inr, ◌⊎◌, ◌∙◌, append-nil, Contains}
-use Rattle.repo_index.specs.IndexText.{facts_in}
+use Rattle.repo_index.specs.IndexText.{IsIndexText, facts_in}
 use Rattle.repo_index.specs.declared.facts.Fact.{Fact}
 use Rattle.repo_index.specs.declared.facts.PackFacts.{PackFacts}
-use Rattle.repo_name.specs.Limits.{facts_limit, pack_limit}
+use Rattle.repo_name.specs.Limits.{facts_limit, index_limit, pack_limit}
 use Rattle.repo_name.specs.Naming as naming
 use Rattle.repo_name.specs.declared.kinds.Kind.{Kind}
 use Rattle.repo_name.specs.declared.names.Name.{Name}
@@ -12,7 +12,7 @@ use Rattle.repo_pack.specs.PackLayout.{Item}
 use Rattle.repo_pack.specs.PackWriting.{IsOpen}
 use Rattle.repo_pack.specs.declared.writers.Sealed.{Sealed}
 use Rattle.repo_session.specs.Askers.{Asker, Holding}
-use Rattle.repo_session.specs.Jobs.{MayTurn, MayGoOn}
+use Rattle.repo_session.specs.Jobs.{Rule, MayTurn, MayGoOn}
 use Rattle.repo_session.specs.Catalogs.{AreIndexed}
 use Rattle.repo_session.specs.Order.{IsReading, IsWorking}
 use Rattle.repo_session.specs.Readings.{KnowsIndexes}
@@ -26,11 +26,12 @@ use Rattle.repo_writing.specs.Sealing.{IsSealedOf, IsListedAs}
 use Rattle.repo_writing.specs.Writing.{Put, items_of, AreCounts, FewWait}
 use Rattle.repo_writing.proofs.Writings.{listing_of, items_push, put_of, is_put, puts_lawful, waits_lawful, waits_few}
 use Rattle.repo_backup.specs.Backing.{HasWritten}
-use Rattle.repo_backup.specs.Items.{NobodyGaveUp, AreTaken, place_of}
+use Rattle.repo_backup.specs.Items.{Feeding}
 use Rattle.repo_backup.specs.Packings.{IsCovered}
 use Rattle.repo_backup.specs.PieceRules.{IsFullIndex, PiecePackRule, PieceAllows, AreOver, WantsInput, piece_rule}
-use Rattle.repo_backup.specs.PieceStates.{piece_task, listed_of, waits, GoesBy, PieceAt, NothingFed, KnowsPiecePut, PieceWaits, PiecePutsPack, PiecePutsIndex, KnowsPieces, WantsPieces, IsPieceDue, IsPieceDone, PutsSnapshotOf}
+use Rattle.repo_backup.specs.PieceStates.{piece_task, listed_of, waits, GoesBy, StandsAt, HasBegun, NothingFed, KnowsPiecePut, PieceWaits, PutsPack, PutsIndex, KnowsPieces, WantsPieces, IsDueAt, IsDoneAt, IsPieceDone, PutsSnapshotOf}
 use Rattle.repo_backup.specs.Pieces.{IsAt, PieceStands, at_beginning}
+use Rattle.repo_backup.specs.Rules.{IndexRule}
 use Rattle.repo_backup.specs.Standings.{Standing, IsCutSoFar, made_at}
 use Rattle.repo_backup.specs.declared.piece_backing.PieceBacking.{PieceBacking}
 use Rattle.repo_backup.specs.declared.piece_works.PieceWork.{PieceWork}
@@ -57,7 +58,7 @@ stands_out w v known st sent items walk writer added none h =
       covered = subst (λ is. Each (λ item. IsCovered known is item) (made_at st)) (sym all) h.covered;
     }
 
-module _ (facts : List Fact) (b c : PieceBacking) (listed : PackFacts) (es : Trace) (h : IsPieceDue facts b listed es) (walk : c.work.walk ≡ b.work.walk) (writer : c.work.packing.packer.writer ≡ b.work.packing.packer.writer)
+module _ (facts : List Fact) (b c : PieceBacking) (listed : PackFacts) (items : Feeding) (es : Trace) (h : IsDueAt facts b listed items es) (walk : c.work.walk ≡ b.work.walk) (writer : c.work.packing.packer.writer ≡ b.work.packing.packer.writer)
     (added : c.work.packing.added ≡ b.work.packing.added) (target : c.work.packing.packer.target ≡ b.work.packing.packer.target) (none : c.work.packing.packer.sealed ≡ None) (is : c.listed ≡ Some listed) (waiting : c.waiting ≡ b.waiting)
     (counted : (sealed : Sealed) → b.work.packing.packer.sealed ≡ Some sealed → (before items : List Item) → IsSealedOf sealed items → AreCounts b.counts before → AreCounts c.counts (before ++ items)) where
   -- the pack, and how it is listed
@@ -65,7 +66,7 @@ module _ (facts : List Fact) (b c : PieceBacking) (listed : PackFacts) (es : Tra
   pack_of = h.lists h.sealed h.at.stands.packing.sealed_is
 
   -- it is being put
-  pub pack_goes_out : PiecePutsPack facts c pack_of.0.name pack_of.0.bytes es
+  pub pack_goes_out : PutsPack facts c pack_of.0.name pack_of.0.bytes items es
   pack_goes_out =
       let s = pack_of.0 in
       let l = pack_of.1 in
@@ -74,7 +75,7 @@ module _ (facts : List Fact) (b c : PieceBacking) (listed : PackFacts) (es : Tra
       let all : waits c ≡ waits b ++ listed ∷ [] = (λ i. waiting i ++ listed_of (is i)) ∙ ap (λ ws. ws ++ listed ∷ []) (sym (append-nil b.waiting) ∙ ap (λ o. b.waiting ++ listed_of o) (sym h.none)) in
       let written = pack_next facts (waits b) b.counts puts c.counts p es h.at.written (is_put b.work.packing.packer.sealed h.sealed s listed l) (counted s l.is (items_of puts) h.sealed l.holds) in
       let stands : PieceStands c.work facts h.at.st (items_of puts ++ h.sealed) [] =
-      stands_out b.work c.work facts h.at.st (items_of puts) h.sealed walk writer added none (subst (λ x. PieceStands b.work facts h.at.st x h.sealed) (sent_is facts b puts h.sealed es h.at) h.at.stands) in
+      stands_out b.work c.work facts h.at.st (items_of puts) h.sealed walk writer added none (subst (λ x. PieceStands b.work facts h.at.st x h.sealed) (sent_is facts b puts h.sealed items es h.at) h.at.stands) in
       let count : length listed.facts ≡ length h.sealed = l.exact.count in
       let few = l.holds.holds.pack.count.1 in
       let long : length (facts_in (waits c)) ≡ length (facts_in b.waiting) + length listed.facts =
@@ -102,32 +103,32 @@ module _ (facts : List Fact) (b c : PieceBacking) (listed : PackFacts) (es : Tra
 -- ---- an exchange later
 
 -- where the work stands after a put
-pub at_later : (facts : List Fact) (b c : PieceBacking) (puts next puts' : List Put) (ask : Ask) (say : Say) (es : Trace) → c.work ≡ b.work → items_of (puts' ++ []) ≡ items_of (puts ++ next) → PieceAt facts b puts next [] es
-    → HasWritten facts (waits c) c.counts puts' [] (silent ask say ∷ es) → PieceAt facts c puts' [] [] (silent ask say ∷ es)
-at_later facts b c puts next puts' ask say es work items h written = record {
+pub at_later : (facts : List Fact) (b c : PieceBacking) (puts next puts' : List Put) (ask : Ask) (say : Say) (items : Feeding) (es : Trace) → c.work ≡ b.work → items_of (puts' ++ []) ≡ items_of (puts ++ next) → StandsAt facts b puts next [] items es
+    → HasWritten facts (waits c) c.counts puts' [] (silent ask say ∷ es) → StandsAt facts c puts' [] [] items (silent ask say ∷ es)
+at_later facts b c puts next puts' ask say items es work sent h written = record {
   config = h.config;
   st = h.st;
   at = record { has = config_later ask say es h.config h.at.has; lead = h.at.lead };
   taken = h.taken;
   kept = h.kept;
   goes_by = subst (λ w. GoesBy h.config w) (sym work) h.goes_by;
-  stands = subst (λ w. PieceStands w facts h.st (items_of (puts' ++ [])) []) (sym work) (subst (λ l. PieceStands b.work facts h.st l []) (sym items) h.stands);
+  stands = subst (λ w. PieceStands w facts h.st (items_of (puts' ++ [])) []) (sym work) (subst (λ l. PieceStands b.work facts h.st l []) (sym sent) h.stands);
   opened = subst (λ w. IsOpen w.packing.packer.writer) (sym work) h.opened;
   ended = λ some. (let same = ap (λ w. w.packing.packer.writer.items) work in same ∙ h.ended (λ e. some (ap (λ w. w.walk.root) work ∙ e)));
   written = written;
 }
 
 -- the put of a pack is done, and it is listed behind those that wait
-pub pack_is_put : (facts : List Fact) (b c : PieceBacking) (token : Token) (n : Name) (x : List ℕ) (es : Trace) → PiecePutsPack facts b n x es → c.work ≡ b.work → c.counts ≡ b.counts → c.waiting ≡ waits b → c.listed ≡ None
-    → IsPieceDone facts c (silent (Ask.Put token Kind.Pack n x) Say.Done ∷ es)
-pack_is_put facts b c token n x es h work counts waiting none =
+pub pack_is_put : (facts : List Fact) (b c : PieceBacking) (token : Token) (n : Name) (x : List ℕ) (items : Feeding) (es : Trace) → PutsPack facts b n x items es → c.work ≡ b.work → c.counts ≡ b.counts → c.waiting ≡ waits b → c.listed ≡ None
+    → IsDoneAt facts c items (silent (Ask.Put token Kind.Pack n x) Say.Done ∷ es)
+pack_is_put facts b c token n x items es h work counts waiting none =
     let ask = Ask.Put token Kind.Pack n x in
     let named : Ask.Put token Kind.Pack n x ≡ Ask.Put token Kind.Pack h.put.pack.name h.put.pack.bytes = ap (λ o. Ask.Put token Kind.Pack o.name o.bytes) (sym h.pack_is) in
     let all : waits c ≡ waits b = (λ i. waiting i ++ listed_of (none i)) ∙ append-nil (waits b) in
     let written = pack_written facts (waits b) b.counts h.puts h.put token (silent ask Say.Done) es h.at.written named refl in
     record {
       puts = h.puts ++ h.put ∷ [];
-      at = at_later facts b c h.puts (h.put ∷ []) (h.puts ++ h.put ∷ []) ask Say.Done es work (ap items_of (append-nil (h.puts ++ h.put ∷ []))) h.at
+      at = at_later facts b c h.puts (h.put ∷ []) (h.puts ++ h.put ∷ []) ask Say.Done items es work (ap items_of (append-nil (h.puts ++ h.put ∷ []))) h.at
           (subst (λ ws. HasWritten facts ws c.counts (h.puts ++ h.put ∷ []) [] (silent ask Say.Done ∷ es)) (sym all) (subst (λ k. HasWritten facts (waits b) k (h.puts ++ h.put ∷ []) [] (silent ask Say.Done ∷ es)) (sym counts) written));
       unsealed = ap (λ w. w.packing.packer.sealed) work ∙ h.unsealed;
       listed = none;
@@ -135,9 +136,9 @@ pack_is_put facts b c token n x es h work counts waiting none =
     }
 
 -- the put of an index is done, and nothing waits
-pub index_is_put : (facts : List Fact) (b c : PieceBacking) (token : Token) (n : Name) (x : List ℕ) (es : Trace) → PiecePutsIndex facts b x es → c.work ≡ b.work → c.counts ≡ b.counts → c.waiting ≡ [] → c.listed ≡ b.listed
-    → IsPieceDone facts c (silent (Ask.Put token Kind.Index n x) Say.Done ∷ es)
-index_is_put facts b c token n x es h work counts waiting same =
+pub index_is_put : (facts : List Fact) (b c : PieceBacking) (token : Token) (n : Name) (x : List ℕ) (items : Feeding) (es : Trace) → PutsIndex facts b x items es → c.work ≡ b.work → c.counts ≡ b.counts → c.waiting ≡ [] → c.listed ≡ b.listed
+    → IsDoneAt facts c items (silent (Ask.Put token Kind.Index n x) Say.Done ∷ es)
+index_is_put facts b c token n x items es h work counts waiting same =
     let ask = Ask.Put token Kind.Index n x in
     let none : c.listed ≡ None = same ∙ h.listed in
     let before : waits b ≡ b.waiting = ap (λ o. b.waiting ++ listed_of o) h.listed ∙ append-nil b.waiting in
@@ -145,7 +146,7 @@ index_is_put facts b c token n x es h work counts waiting same =
     let written = index_written facts b.waiting b.counts h.puts token n x (silent ask Say.Done) es (subst (λ ws. HasWritten facts ws b.counts h.puts [] es) before h.at.written) h.reads refl refl in
     record {
       puts = h.puts;
-      at = at_later facts b c h.puts [] h.puts ask Say.Done es work refl h.at
+      at = at_later facts b c h.puts [] h.puts ask Say.Done items es work refl h.at
           (subst (λ ws. HasWritten facts ws c.counts h.puts [] (silent ask Say.Done ∷ es)) (sym now) (subst (λ k. HasWritten facts [] k h.puts [] (silent ask Say.Done ∷ es)) (sym counts) written));
       unsealed = ap (λ w. w.packing.packer.sealed) work ∙ h.unsealed;
       listed = none;
@@ -154,28 +155,41 @@ index_is_put facts b c token n x es h work counts waiting same =
 
 -- ---- what comes next
 
+pub none_being_put : (b : PieceBacking) → b.listed ≡ None → waits b ≡ b.waiting
+none_being_put b none = ap (λ o. b.waiting ++ listed_of o) none ∙ append-nil b.waiting
+
+-- an index of what waits may be put, and is known then
+pub index_out : (facts : List Fact) (b : PieceBacking) (token : Token) (step : Step) (items : Feeding) (es : Trace) (h : IsDoneAt facts b items es) → b.waiting ≢ [] → PutsIndexOf token b.waiting step
+    → (x : List ℕ) × IsIndexText x b.waiting × (length x ≤ index_limit) × IndexRule es x × PutsIndex facts b x items es × (step ≡ Step.Ask (Ask.Put token Kind.Index (naming.name x) x))
+index_out facts b token step items es h some puts =
+    let written : HasWritten facts b.waiting b.counts h.puts [] es = subst (λ ws. HasWritten facts ws b.counts h.puts [] es) (none_being_put b h.listed) h.at.written in
+    let all = map listing_of (h.puts ++ []) in
+    let lawful = puts_lawful b.counts h.puts [] es written.put in
+    let k = puts (waits_lawful all b.waiting es written.lists lawful) (waits_few all b.waiting es written.lists lawful h.few) in
+    (k.0, k.1, k.2, index_may facts b.waiting b.counts h.puts es k.0 written k.1 some, record { puts = h.puts; at = h.at; unsealed = h.unsealed; listed = h.listed; reads = k.1 }, k.3)
+
 -- the job goes on after the exchange as after its trace
-pub turns_on : (who : Asker) (Knows : Ask → Trace → Type 0) (Wants : Trace → Type 0) (e : Exchange) (es : Trace) (step : Step) → e.emitted ≡ [] → MayGoOn piece_rule who Knows Wants (e ∷ es) step → MayTurn piece_rule who Knows Wants es e step
-turns_on who Knows Wants e es (Step.Ask ask) none h = (inl none, h)
-turns_on who Knows Wants e es (Step.Finish outcome) none h = (inl none, h)
-turns_on who Knows Wants e es Step.Want none h = (inl none, h.0, h.1)
-turns_on who Knows Wants e es Step.Away none h = absurd h
+pub turns_on : (rule : Rule) (who : Asker) (Knows : Ask → Trace → Type 0) (Wants : Trace → Type 0) (e : Exchange) (es : Trace) (step : Step) → e.emitted ≡ [] → MayGoOn rule who Knows Wants (e ∷ es) step → MayTurn rule who Knows Wants es e step
+turns_on rule who Knows Wants e es (Step.Ask ask) none h = (inl none, h)
+turns_on rule who Knows Wants e es (Step.Finish outcome) none h = (inl none, h)
+turns_on rule who Knows Wants e es Step.Want none h = (inl none, h.0, h.1)
+turns_on rule who Knows Wants e es Step.Away none h = absurd h
 
 module _ (c : Catalog) (backing : Option PieceBacking) (b : PieceBacking) (is : backing ≡ Some b) (holding : Holding) (es : Trace) (working : IsWorking (piece_task holding.who) holding.token es) where
   -- a pack is put
-  pub pack_step : (n : Name) (x : List ℕ) → naming.name x ≡ n → length x ≤ pack_limit → PiecePackRule es x → PiecePutsPack c.lookup b n x es
+  pub pack_step : (n : Name) (x : List ℕ) → naming.name x ≡ n → length x ≤ pack_limit → PiecePackRule es x → PutsPack c.lookup b n x (fed_in es) es
       → MayGoOn piece_rule holding.who (KnowsPieces c backing) (WantsPieces c backing) es (Step.Ask (Ask.Put holding.token Kind.Pack n x))
   pack_step n x named small rule puts = record { work = tt; may = (working, named, small); allowed = rule; knows = inr (b, is, puts) }
 
   module _ (h : IsPieceDone c.lookup b es) where
     wait_for : waits b ≡ b.waiting
-    wait_for = ap (λ o. b.waiting ++ listed_of o) h.listed ∙ append-nil b.waiting
+    wait_for = none_being_put b h.listed
 
     written_so : HasWritten c.lookup b.waiting b.counts h.puts [] es
     written_so = subst (λ ws. HasWritten c.lookup ws b.counts h.puts [] es) wait_for h.at.written
 
     over_by : b.work.walk.root ≢ None → AreOver es
-    over_by some = sym (over_is c.lookup b h.puts [] es h.at) ∙ some_is b.work.walk.root some
+    over_by some = sym (over_is c.lookup b h.puts [] (fed_in es) es h.at) ∙ some_is b.work.walk.root some
       where
         some_is : (o : Option Name) → o ≢ None → is_some o ≡ true
         some_is None e = absurd (e refl)
@@ -184,7 +198,7 @@ module _ (c : Catalog) (backing : Option PieceBacking) (b : PieceBacking) (is : 
     -- input is wanted
     pub input_step : b.work.walk.root ≡ None → length (facts_in b.waiting) < facts_limit → MayGoOn piece_rule holding.who (KnowsPieces c backing) (WantsPieces c backing) es Step.Want
     input_step unended room = (
-      record { indexes = h.at.written.indexed; taken = h.at.taken; goes_on = sym (over_is c.lookup b h.puts [] es h.at) ∙ ap is_some unended; kept = h.at.kept },
+      record { indexes = h.at.written.indexed; taken = h.at.taken; goes_on = sym (over_is c.lookup b h.puts [] (fed_in es) es h.at) ∙ ap is_some unended; kept = h.at.kept },
       (b, is, record { puts = h.puts; at = h.at; ready = record { unsealed = h.unsealed; opened = h.at.opened; unended = unended }; listed = h.listed; room = room }),
     )
 
@@ -192,9 +206,7 @@ module _ (c : Catalog) (backing : Option PieceBacking) (b : PieceBacking) (is : 
     pub index_step : (token : Token) (step : Step) → token ≡ holding.token → b.waiting ≢ [] → (facts_limit ≤ length (facts_in b.waiting)) ⊎ (b.work.walk.root ≢ None) → PutsIndexOf token b.waiting step
         → MayGoOn piece_rule holding.who (KnowsPieces c backing) (WantsPieces c backing) es step
     index_step token step own some why puts =
-        let all = map listing_of (h.puts ++ []) in
-        let lawful = puts_lawful b.counts h.puts [] es written_so.put in
-        let k = puts (waits_lawful all b.waiting es written_so.lists lawful) (waits_few all b.waiting es written_so.lists lawful h.few) in
+        let k = index_out c.lookup b token step (fed_in es) es h some puts in
         let x = k.0 in
         let S : Step → Type 0 = λ s. MayGoOn piece_rule holding.who (KnowsPieces c backing) (WantsPieces c backing) es s in
         let T : Token → Type 0 = λ t. S (Step.Ask (Ask.Put t Kind.Index (naming.name x) x)) in
@@ -202,10 +214,10 @@ module _ (c : Catalog) (backing : Option PieceBacking) (b : PieceBacking) (is : 
         let may : T holding.token = record {
           work = tt;
           may = (working, refl, k.2);
-          allowed = (index_may c.lookup b.waiting b.counts h.puts es x written_so k.1 some, h.at.kept, full);
-          knows = inr (b, is, record { puts = h.puts; at = h.at; unsealed = h.unsealed; listed = h.listed; reads = k.1 });
+          allowed = (k.3, h.at.kept, full);
+          knows = inr (b, is, k.4);
         } in
-        subst S (sym k.3) (subst T (sym own) may)
+        subst S (sym k.5) (subst T (sym own) may)
 
     -- the snapshot is put
     pub snapshot_step : (root : Name) (step : Step) → b.work.walk.root ≡ Some root → b.waiting ≡ [] → PutsSnapshotOf holding root step → MayGoOn piece_rule holding.who (KnowsPieces c backing) (WantsPieces c backing) es step
@@ -238,11 +250,10 @@ may_read_pieces es (Ask.Upgrade token) r none = absurd r
 may_read_pieces es Ask.Config r none = (r, none)
 
 -- still nothing was fed or put
-pub nothing_still : (c : Catalog) (b : PieceBacking) (ask : Ask) (say : Say) (es : Trace) → KnowsIndexes c ask es → NothingFed b es → NothingFed b (silent ask say ∷ es)
-nothing_still c b ask say es known h = record {
+pub begun_still : (c : Catalog) (b : PieceBacking) (ask : Ask) (say : Say) (es : Trace) → KnowsIndexes c ask es → HasBegun b es → HasBegun b (silent ask say ∷ es)
+begun_still c b ask say es known h = record {
   config = h.config;
   has = config_later ask say es h.config h.has;
-  none = h.none;
   none_put = λ k. objects_put_other k (silent ask say) es (reading_puts c ask es known k) ∙ h.none_put k;
   goes_by = h.goes_by;
   stands = h.stands;
@@ -252,33 +263,43 @@ nothing_still c b ask say es known h = record {
   counted = h.counted;
 }
 
--- where every index was read, input is wanted
-pub input_first : (facts : List Fact) (b : PieceBacking) (es : Trace) → NothingFed b es → AreIndexed es → ((fact : Fact) → Contains facts fact ↔ ReadFact es fact) → PieceWaits facts b es
-input_first facts b es h indexed gives =
+pub nothing_still : (c : Catalog) (b : PieceBacking) (ask : Ask) (say : Say) (es : Trace) → KnowsIndexes c ask es → NothingFed b es → NothingFed b (silent ask say ∷ es)
+nothing_still c b ask say es known h = (begun_still c b ask say es known h.0, h.1)
+
+-- where every index was read, it stands before the first item
+pub stands_first : (facts : List Fact) (b : PieceBacking) (es : Trace) → HasBegun b es → AreIndexed es → ((fact : Fact) → Contains facts fact ↔ ReadFact es fact) → StandsAt facts b [] [] [] [] es
+stands_first facts b es h indexed gives =
     let none : waits b ≡ [] = λ i. h.waiting i ++ listed_of (h.listed i) in
     record {
-      puts = [];
-      at = record {
-        config = h.config;
-        st = at_beginning;
-        at = record { has = h.has; lead = record { place = ap place_of (sym h.none); cut = record { done = tt; above = tt; file = tt } } };
-        taken = subst AreTaken (sym h.none) tt;
-        kept = subst NobodyGaveUp (sym h.none) tt;
-        goes_by = h.goes_by;
-        stands = h.stands facts;
-        opened = h.ready.opened;
-        ended = λ some. absurd (some h.ready.unended);
-        written = subst (λ ws. HasWritten facts ws b.counts [] [] es) (sym none) (begin_written facts b.counts es indexed gives h.none_put h.counted);
-      };
-      ready = h.ready;
-      listed = h.listed;
-      room = (let n : length (facts_in b.waiting) ≡ 0 = ap (λ ws. length (facts_in ws)) h.waiting in omega (arith, n));
+      config = h.config;
+      st = at_beginning;
+      at = record { has = h.has; lead = record { place = refl; cut = record { done = tt; above = tt; file = tt } } };
+      taken = tt;
+      kept = tt;
+      goes_by = h.goes_by;
+      stands = h.stands facts;
+      opened = h.ready.opened;
+      ended = λ some. absurd (some h.ready.unended);
+      written = subst (λ ws. HasWritten facts ws b.counts [] [] es) (sym none) (begin_written facts b.counts es indexed gives h.none_put h.counted);
     }
+
+pub none_waits : (waiting : List PackFacts) → waiting ≡ [] → length (facts_in waiting) < facts_limit
+none_waits waiting none = let n : length (facts_in waiting) ≡ 0 = ap (λ ws. length (facts_in ws)) none in omega (arith, n)
+
+-- and input is wanted
+pub input_first : (facts : List Fact) (b : PieceBacking) (es : Trace) → NothingFed b es → AreIndexed es → ((fact : Fact) → Contains facts fact ↔ ReadFact es fact) → PieceWaits facts b es
+input_first facts b es h indexed gives = record {
+  puts = [];
+  at = subst (λ l. StandsAt facts b [] [] [] l es) (sym h.1) (stands_first facts b es h.0 indexed gives);
+  ready = h.0.ready;
+  listed = h.0.listed;
+  room = none_waits b.waiting h.0.waiting;
+}
 
 -- what may be done where input is wanted
 pub input_wanted : (c : Catalog) (backing : Option PieceBacking) (b : PieceBacking) (es : Trace) → backing ≡ Some b → PieceWaits c.lookup b es → WantsInput es × WantsPieces c backing es
 input_wanted c backing b es is h = (
-  record { indexes = h.at.written.indexed; taken = h.at.taken; goes_on = sym (over_is c.lookup b h.puts [] es h.at) ∙ ap is_some h.ready.unended; kept = h.at.kept },
+  record { indexes = h.at.written.indexed; taken = h.at.taken; goes_on = sym (over_is c.lookup b h.puts [] (fed_in es) es h.at) ∙ ap is_some h.ready.unended; kept = h.at.kept },
   (b, is, h),
 )
 
@@ -290,8 +311,8 @@ piece_known c backing token k n x es (inl reading) = absurd reading.0
 piece_known c backing token k n x es (inr put) = put
 
 -- the pack that is being put is listed, and what was known is known
-pub pack_noted : (facts : List Fact) (b c : PieceBacking) (n : Name) (x : List ℕ) (es : Trace) → c.work ≡ b.work → c.counts ≡ b.counts → waits c ≡ waits b → PiecePutsPack facts b n x es → PiecePutsPack facts c n x es
-pack_noted facts b c n x es work counts all h = record {
+pub pack_noted : (facts : List Fact) (b c : PieceBacking) (n : Name) (x : List ℕ) (items : Feeding) (es : Trace) → c.work ≡ b.work → c.counts ≡ b.counts → waits c ≡ waits b → PutsPack facts b n x items es → PutsPack facts c n x items es
+pack_noted facts b c n x items es work counts all h = record {
   puts = h.puts;
   put = h.put;
   at = record {

@@ -2,12 +2,10 @@
 pub mod Folders
 pub mod Handed
 pub mod Plans
+pub mod Filling
 pub mod Rules
 pub mod Packings
-pub mod Works
 pub mod Backing
-pub mod Readying
-pub mod Stages
 pub mod BackupStates
 pub mod Backups
 pub mod BackupObedience

@@ -1,5 +1,5 @@
 -- A backup that is fed items, and its job.
-use Rattle.std.specs.Prelude.{◌≡◌, ◌≢◌, ◌<◌, [], ℕ, List, Some, None}
+use Rattle.std.specs.Prelude.{◌≡◌, ◌≢◌, ◌<◌, ◌∷◌, [], ℕ, List, Some, None}
 use Rattle.repo_name.specs.declared.kinds.Kind.{Kind}
 use Rattle.repo_name.specs.declared.names.Name.{Name}
 use Rattle.repo_name.specs.declared.tokens.Token.{Token}
@@ -13,7 +13,7 @@ use Rattle.repo_session.specs.Traces.{Trace, silent, fed_in, feeding}
 use Rattle.repo_session.specs.declared.jobs.Step.{Step}
 use Rattle.repo_wire.specs.declared.messages.Ask.{Ask}
 use Rattle.repo_wire.specs.declared.messages.Say.{Say}
-use Rattle.repo_backup.specs.Items.{ItemFault, place_of, fed_part, fed_of, size_of}
+use Rattle.repo_backup.specs.Items.{AreTaken, ItemFault, place_of, fed_part, fed_of, size_of}
 use Rattle.repo_backup.specs.PieceRules.{piece_rule}
 use Rattle.repo_backup.specs.PieceStates.{piece_task, KnowsPieceReading, KnowsPieces, WantsPieces, IsPieceDue}
 use Rattle.repo_backup.specs.Pieces.{IsReady}
@@ -63,10 +63,10 @@ PieceBusy listed old step = (b : PieceBacking) (es : Trace) → old.backing ≡ 
 abbrev pub KeepsPut : Kind → PieceJob → PieceJob → Type 0
 KeepsPut kind old new = (token : Token) (n : Name) (x : List ℕ) (es : Trace) → PieceKnows old (Ask.Put token kind n x) es → PieceKnows new (Ask.Put token kind n x) es
 
--- what it does on an item of which so many bytes were taken, after each trace where it wanted input
+-- what it does on an item of which so many bytes were taken, after each trace where it wanted input; and the items with this one may be taken
 abbrev pub PieceFeeds : PieceJob → Holding → Item → ℕ → Step → PieceJob → Type 0
 PieceFeeds old holding item n step new = (es : Trace) → IsWorking (piece_task holding.who) holding.token es → PieceWants old es
-    → MayGoOn piece_rule holding.who (PieceKnows new) (PieceWants new) (feeding (fed_part n item) es) step × (n < size_of item → step ≢ Step.Want)
+    → MayGoOn piece_rule holding.who (PieceKnows new) (PieceWants new) (feeding (fed_part n item) es) step × (n < size_of item → step ≢ Step.Want) × AreTaken (fed_part n item ∷ fed_in es)
 
 -- after each trace where it wanted input this is the item's first fault, and it wants input as before
 abbrev pub PieceRefuses : PieceJob → Item → FeedError → PieceJob → Type 0

@@ -1,8 +1,6 @@
 -- What a backup that is fed items may put, and how it may end.
-use Rattle.std.specs.Prelude.{◌≡◌, ◌≤◌, ◌<◌, ◌⊎◌, ◌∷◌, [], ⊤, true, false, ℕ, List, length, None, Contains}
-use Rattle.repo_index.specs.IndexText.{IsIndexText, facts_in}
-use Rattle.repo_index.specs.declared.facts.PackFacts.{PackFacts}
-use Rattle.repo_name.specs.Limits.{blob_limit, facts_limit}
+use Rattle.std.specs.Prelude.{◌≡◌, ◌<◌, ◌⊎◌, ◌∷◌, [], ⊤, true, false, ℕ, List, length, None, Contains}
+use Rattle.repo_name.specs.Limits.{blob_limit}
 use Rattle.repo_name.specs.declared.kinds.BlobKind.TheVariants.{Tree}
 use Rattle.repo_name.specs.declared.kinds.Kind.{Kind}
 use Rattle.repo_pack.specs.PackLayout.{Item, item_of, IsTruePack}
@@ -10,33 +8,27 @@ use Rattle.repo_session.specs.Catalogs.{AreIndexed}
 use Rattle.repo_session.specs.Feeds.{fed_abandon}
 use Rattle.repo_session.specs.Jobs.{Rule}
 use Rattle.repo_session.specs.Order.{IsReading}
-use Rattle.repo_session.specs.Traces.{Trace, Exchanged, fed_in, objects_put, IsGiven}
-use Rattle.repo_session.specs.Versions.{upto}
+use Rattle.repo_session.specs.Traces.{Trace, fed_in, objects_put, IsGiven}
 use Rattle.repo_session.specs.declared.outcomes.End.{End}
 use Rattle.repo_session.specs.declared.outcomes.Outcome.{Outcome}
 use Rattle.repo_session.specs.declared.versions.Versions.{Versions}
-use Rattle.repo_tree.specs.ConfigText.{IsConfigText}
 use Rattle.repo_tree.specs.declared.configs.Config.{Config}
 use Rattle.repo_wire.specs.declared.messages.Ask.{Ask}
-use Rattle.repo_wire.specs.declared.messages.Say.{Say}
 use Rattle.repo_writing.specs.Blobs.{AreOnce}
 use Rattle.repo_writing.specs.Putting.{IsPacked}
-use Rattle.repo_backup.specs.Packings.{IsJustDue}
+pub use Rattle.repo_backup.specs.Filling.{HasConfig, IsFullPack, IsFullIndex}
 use Rattle.repo_backup.specs.Items.{Feeding, NobodyGaveUp, AreTaken, place_of, spelled_by}
 use Rattle.repo_backup.specs.Rules.{IndexRule, SnapshotRule, IsStored}
 use Rattle.repo_backup.specs.Standings.{Standing, LeadTo, made_at}
 
--- the config was read, and is of a version that a backup knows
-pub record HasConfig (es : Trace) (config : Config) : Type 0 where
-  pub text : List ℕ
-  pub read : Exchanged es Ask.Config (Say.Bytes text)
-  pub reads : IsConfigText text config
-  pub known : config.version ≤ upto Versions.One
-
--- by the config that was read, the items so far lead here, in chunks
-pub record IsStandingAt (es : Trace) (config : Config) (st : Standing) : Type 0 where
+-- by the config that was read, these items lead here, in chunks
+pub record IsStandingOf (items : Feeding) (es : Trace) (config : Config) (st : Standing) : Type 0 where
   pub has : HasConfig es config
-  pub lead : LeadTo config.params (fed_in es) st
+  pub lead : LeadTo config.params items st
+
+-- the items so far do
+abbrev pub IsStandingAt : Trace → Config → Standing → Type 0
+IsStandingAt es config st = IsStandingOf (fed_in es) es config st
 
 -- the blob was made of the items so far
 abbrev pub IsMadeSoFar : Trace → Item → Type 0
@@ -45,10 +37,6 @@ IsMadeSoFar es item = (config : Config) × (st : Standing) × IsStandingAt es co
 -- the items ended
 abbrev pub AreOver : Trace → Type 0
 AreOver es = (place_of (fed_in es)).over ≡ true
-
--- with their last one, and not before, the blobs reach what the config wants of a pack, or are as many as a pack may have
-abbrev pub IsFullPack : Trace → List Item → Type 0
-IsFullPack es items = (config : Config) × HasConfig es config × IsJustDue config.target items
 
 -- a pack may be put: every index was read, and no snapshot put; nobody gave up; it is a true pack, of blobs made of the items so far, each once, which no index read gives, and no pack put before
 -- has; and it is full, or the items ended
@@ -64,10 +52,6 @@ pub record PiecePackRule (es : Trace) (x : List ℕ) : Type 0 where
   pub unread : (item : Item) → Contains items item → ¬ IsGiven es item.kind item.name
   pub unput : (item : Item) → Contains items item → ¬ IsPacked es item.kind item.name
   pub full : IsFullPack es items ⊎ AreOver es
-
--- an index lists 20,000 blobs or more
-abbrev pub IsFullIndex : List ℕ → Type 0
-IsFullIndex x = (packs : List PackFacts) × IsIndexText x packs × (facts_limit ≤ length (facts_in packs))
 
 -- what it may ask for: before it was fed it reads; it puts packs, and while nobody gave up indexes that are full or as the items ended; and a snapshot of the entries that the items spell, once they ended
 abbrev pub PieceAllows : Trace → Ask → Type 0

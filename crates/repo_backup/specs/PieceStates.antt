@@ -1,5 +1,5 @@
 -- What is known while a backup is fed items.
-use Rattle.std.specs.Prelude.{◌≡◌, ◌≢◌, ◌⊎◌, ◌<◌, ◌≤◌, ◌++◌, ◌∷◌, [], ℕ, false, List, length, Option, Some, None}
+use Rattle.std.specs.Prelude.{◌≡◌, ◌≢◌, ◌⊎◌, ◌<◌, ◌≤◌, ◌++◌, ◌∷◌, [], ℕ, true, false, List, length, Option, Some, None}
 use Rattle.repo_name.specs.Limits.{facts_limit}
 use Rattle.repo_name.specs.Naming as naming
 use Rattle.repo_name.specs.declared.kinds.Kind.{Kind}
@@ -22,9 +22,10 @@ use Rattle.repo_tree.specs.declared.snapshots.Snapshot.{Snapshot}
 use Rattle.repo_wire.specs.declared.messages.Ask.{Ask}
 use Rattle.repo_writing.specs.Writing.{Put, items_of, AreCounts, FewWait}
 use Rattle.repo_backup.specs.Backing.{HasWritten}
-use Rattle.repo_backup.specs.Items.{NobodyGaveUp, AreTaken}
+use Rattle.repo_backup.specs.Items.{Feeding, NobodyGaveUp, AreTaken, place_of}
 use Rattle.repo_backup.specs.Packings.{IsListed}
-use Rattle.repo_backup.specs.PieceRules.{HasConfig, IsStandingAt, IsFullPack, AreOver}
+use Rattle.repo_backup.specs.Filling.{HasConfig, IsFullPack}
+use Rattle.repo_backup.specs.PieceRules.{IsStandingOf}
 use Rattle.repo_backup.specs.Pieces.{PieceStands, IsReady, reopened, at_beginning}
 use Rattle.repo_backup.specs.Standings.{Standing}
 use Rattle.repo_backup.specs.declared.piece_backing.PieceBacking.{PieceBacking}
@@ -52,26 +53,29 @@ pub record GoesBy (config : Config) (w : PieceWork) : Type 0 where
   pub aim : w.packing.packer.target.bytes ≡ config.target
   pub aims : w.packing.packer.writer.target ≡ config.target
 
--- it stands where the items lead that were taken: of the packs put, and of the one that is put next, if one is, these are the blobs; this pack is sealed
-pub record PieceAt (facts : List Fact) (b : PieceBacking) (puts next : List Put) (sealed : List Item) (es : Trace) : Type 0 where
+-- it stands where these items lead, which may be taken: of the packs put, and of the one that is put next, if one is, these are the blobs; this pack is sealed
+pub record StandsAt (facts : List Fact) (b : PieceBacking) (puts next : List Put) (sealed : List Item) (items : Feeding) (es : Trace) : Type 0 where
   pub config : Config
   pub st : Standing
-  pub at : IsStandingAt es config st
-  pub taken : AreTaken (fed_in es)
-  pub kept : NobodyGaveUp (fed_in es)
+  pub at : IsStandingOf items es config st
+  pub taken : AreTaken items
+  pub kept : NobodyGaveUp items
   pub goes_by : GoesBy config b.work
   pub stands : PieceStands b.work facts st (items_of (puts ++ next)) sealed
   pub opened : IsOpen b.work.packing.packer.writer
   pub ended : b.work.walk.root ≢ None → b.work.packing.packer.writer.items ≡ []
   pub written : HasWritten facts (waits b) b.counts puts next es
 
+-- it stands where the items lead that were taken so far
+abbrev pub PieceAt : List Fact → PieceBacking → List Put → List Put → List Item → Trace → Type 0
+PieceAt facts b puts next sealed es = StandsAt facts b puts next sealed (fed_in es) es
+
 -- ---- what is pending
 
--- nothing was fed or put
-pub record NothingFed (b : PieceBacking) (es : Trace) : Type 0 where
+-- it was begun by the config, and nothing was put
+pub record HasBegun (b : PieceBacking) (es : Trace) : Type 0 where
   pub config : Config
   pub has : HasConfig es config
-  pub none : fed_in es ≡ []
   pub none_put : (k : Kind) → objects_put k es ≡ []
   pub goes_by : GoesBy config b.work
   pub stands : (facts : List Fact) → PieceStands b.work facts at_beginning [] []
@@ -79,6 +83,10 @@ pub record NothingFed (b : PieceBacking) (es : Trace) : Type 0 where
   pub waiting : b.waiting ≡ []
   pub listed : b.listed ≡ None
   pub counted : AreCounts b.counts []
+
+-- and nothing was fed
+abbrev pub NothingFed : PieceBacking → Trace → Type 0
+NothingFed b es = HasBegun b es × (fed_in es ≡ [])
 
 -- input is wanted
 pub record PieceWaits (facts : List Fact) (b : PieceBacking) (es : Trace) : Type 0 where
@@ -88,25 +96,25 @@ pub record PieceWaits (facts : List Fact) (b : PieceBacking) (es : Trace) : Type
   pub listed : b.listed ≡ None
   pub room : length (facts_in b.waiting) < facts_limit
 
--- a pack is being put
-pub record PiecePutsPack (facts : List Fact) (b : PieceBacking) (n : Name) (x : List ℕ) (es : Trace) : Type 0 where
+-- these items were taken, and a pack is being put
+pub record PutsPack (facts : List Fact) (b : PieceBacking) (n : Name) (x : List ℕ) (items : Feeding) (es : Trace) : Type 0 where
   pub puts : List Put
   pub put : Put
-  pub at : PieceAt facts b puts (put ∷ []) [] es
+  pub at : StandsAt facts b puts (put ∷ []) [] items es
   pub unsealed : b.work.packing.packer.sealed ≡ None
   pub pack_is : put.pack ≡ record { name = n; bytes = x }
   pub few : FewWait (waits b)
 
--- an index of the packs that wait is being put
-pub record PiecePutsIndex (facts : List Fact) (b : PieceBacking) (x : List ℕ) (es : Trace) : Type 0 where
+-- these items were taken, and an index of the packs that wait is being put
+pub record PutsIndex (facts : List Fact) (b : PieceBacking) (x : List ℕ) (items : Feeding) (es : Trace) : Type 0 where
   pub puts : List Put
-  pub at : PieceAt facts b puts [] [] es
+  pub at : StandsAt facts b puts [] [] items es
   pub unsealed : b.work.packing.packer.sealed ≡ None
   pub listed : b.listed ≡ None
   pub reads : IsIndexText x b.waiting
 
 -- the snapshot is being put
-pub record PiecePutsSnapshot (facts : List Fact) (b : PieceBacking) (es : Trace) : Type 0 where
+pub record PutsSnapshot (facts : List Fact) (b : PieceBacking) (es : Trace) : Type 0 where
   pub puts : List Put
   pub written : HasWritten facts [] b.counts puts [] es
 
@@ -120,9 +128,9 @@ KnowsPieceReading c backing ask es = KnowsIndexes c ask es × AtPieces backing (
 
 -- what is known while this is put
 abbrev pub KnowsPiecePut : List Fact → Option PieceBacking → Ask → Trace → Type 0
-KnowsPiecePut facts backing (Ask.Put token Kind.Pack n x) es = AtPieces backing (λ b. PiecePutsPack facts b n x es)
-KnowsPiecePut facts backing (Ask.Put token Kind.Index n x) es = AtPieces backing (λ b. PiecePutsIndex facts b x es)
-KnowsPiecePut facts backing (Ask.Put token Kind.Snapshot n x) es = AtPieces backing (λ b. PiecePutsSnapshot facts b es)
+KnowsPiecePut facts backing (Ask.Put token Kind.Pack n x) es = AtPieces backing (λ b. PutsPack facts b n x (fed_in es) es)
+KnowsPiecePut facts backing (Ask.Put token Kind.Index n x) es = AtPieces backing (λ b. PutsIndex facts b x (fed_in es) es)
+KnowsPiecePut facts backing (Ask.Put token Kind.Snapshot n x) es = AtPieces backing (λ b. PutsSnapshot facts b es)
 KnowsPiecePut facts backing ask es = ⊥
 
 -- what is known where this is pending, and where input is wanted
@@ -134,23 +142,30 @@ WantsPieces c backing es = AtPieces backing (λ b. PieceWaits c.lookup b es)
 
 -- ---- what is sent next
 
--- a pack is sealed and listed so, which is full, or the last one
-pub record IsPieceDue (facts : List Fact) (b : PieceBacking) (listed : PackFacts) (es : Trace) : Type 0 where
+-- after these items a pack is sealed and listed so, which is full, or the last one
+pub record IsDueAt (facts : List Fact) (b : PieceBacking) (listed : PackFacts) (items : Feeding) (es : Trace) : Type 0 where
   pub puts : List Put
   pub sealed : List Item
-  pub at : PieceAt facts b puts [] sealed es
+  pub at : StandsAt facts b puts [] sealed items es
   pub none : b.listed ≡ None
   pub lists : IsListed (Some listed) b.work.packing
-  pub full : IsFullPack es sealed ⊎ AreOver es
+  pub full : IsFullPack es sealed ⊎ ((place_of items).over ≡ true)
   pub room : length (facts_in b.waiting) < facts_limit
 
--- no pack is sealed or being put
-pub record IsPieceDone (facts : List Fact) (b : PieceBacking) (es : Trace) : Type 0 where
+-- after these items no pack is sealed or being put
+pub record IsDoneAt (facts : List Fact) (b : PieceBacking) (items : Feeding) (es : Trace) : Type 0 where
   pub puts : List Put
-  pub at : PieceAt facts b puts [] [] es
+  pub at : StandsAt facts b puts [] [] items es
   pub unsealed : b.work.packing.packer.sealed ≡ None
   pub listed : b.listed ≡ None
   pub few : FewWait b.waiting
+
+-- and after the items so far
+abbrev pub IsPieceDue : List Fact → PieceBacking → PackFacts → Trace → Type 0
+IsPieceDue facts b listed es = IsDueAt facts b listed (fed_in es) es
+
+abbrev pub IsPieceDone : List Fact → PieceBacking → Trace → Type 0
+IsPieceDone facts b es = IsDoneAt facts b (fed_in es) es
 
 -- what puts the snapshot of a tree
 pub record PutsSnapshotOf (holding : Holding) (root : Name) (step : Step) : Type 0 where

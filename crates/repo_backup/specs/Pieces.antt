@@ -29,7 +29,7 @@ use Rattle.repo_backup.specs.declared.pieces.Scanned.{Scanned}
 use Rattle.repo_backup.specs.declared.pieces.PieceWalk.{PieceWalk}
 use Rattle.repo_backup.specs.declared.piece_works.PieceWork.{PieceWork}
 use Rattle.repo_backup.specs.declared.piece_works.Took.{Took}
-use Rattle.repo_backup.specs.declared.walks.Outer.{Outer}
+use Rattle.repo_backup.specs.declared.pieces.Outer.{Outer}
 
 -- ---- where the walk stands
 

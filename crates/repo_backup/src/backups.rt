@@ -9,7 +9,7 @@ use crate::checks::check;
 use crate::faults::BackupError;
 use crate::jobs::BackupJob;
 use crate::plans::plan;
-use crate::stages::Stage;
+use crate::steps::Position;
 use repo_name::Token;
 use repo_session::{Catalog, Client, Emission, Outcome, Session, Who};
 use repo_tree::Entry;
@@ -36,7 +36,9 @@ impl Backup {
         check(entries.as_slice())?;
         let steps = plan(alloc, entries)?;
         let job = BackupJob {
-            stage: Stage::Planned(steps),
+            steps,
+            position: Position::beginning(),
+            backing: None,
             catalog: Catalog::new(alloc),
             alloc,
         };

@@ -3,7 +3,7 @@
 ghost use Rattle.std.specs.Prelude.{◌≡◌, ◌≢◌, ◌≤◌, ◌<◌, ◌+◌, ◌^◌, ℕ, None, IfOk, IfErr, length};
 ghost use Rattle.repo_session.specs.Sessions.{who_in, next_in, ended_in};
 ghost use Rattle.repo_backup.specs.Items.{IsCountOf};
-ghost use Rattle.repo_backup.specs.ItemRuns.{StepGives, OnceGives, ItemGives, ItemsGive, GoesOn};
+ghost use Rattle.repo_backup.specs.ItemRuns.{StepGives, OnceGives, ItemGives, ItemsGive, GoesOn, WantsStill};
 ghost use Rattle.repo_backup.specs.PieceBackups.{IsHungry};
 ghost use Rattle.repo_backup.specs.declared.item_steps.ItemsError.{ItemsError};
 ghost use Rattle.repo_backup.specs.declared.items.Item.{Item};
@@ -25,9 +25,14 @@ pub enum ItemsError {
     /// There was no memory for a reply: the backup may take the reply to the pending request again.
     #[error("out of memory")]
     Memory,
-    /// The item at this place, counted from 0, wasn't taken, for this reason. Those before it were.
+    /// The item at this place, counted from 0, wasn't taken, for this reason. Those before it were, and of it, where it is a
+    /// piece, so many first bytes. The backup wants input as before.
     #[error("not taken")]
-    Feed(usize, FeedError),
+    Feed {
+        place: usize,
+        taken: usize,
+        error: FeedError,
+    },
 }
 
 impl From<StepError> for ItemsError {
@@ -77,25 +82,33 @@ fn answered<S: Shelf>(
     lockstep_fed(alloc, backup, shelf)
 }
 
-/// Feeds an item once, and answers what is pending then. It gives how many bytes of a piece were taken, and how many requests
-/// were answered.
+/// Feeds an item once, or what is left of a piece of which so many bytes were taken, and answers what is pending then. It
+/// gives how many bytes of a piece were taken, and how many requests were answered.
 fn feed_once<S: Shelf>(
     alloc: Global,
     backup: &mut PieceBackup,
     place: usize,
+    taken: usize,
     item: Item,
     shelf: &mut S,
 ) -> Result<(usize, u64), ItemsError>
     requires { IsHungry backup.old }
-    ensures goes { S.honest shelf.old → GoesOn (OnceGives place item.entry result) backup.old (S.store shelf.old) (S.failed shelf.old) backup.new (S.store shelf.new) (S.failed shelf.new) }
+    ensures goes { S.honest shelf.old → GoesOn (OnceGives place taken item.entry result) backup.old (S.store shelf.old) (S.failed shelf.old) backup.new (S.store shelf.new) (S.failed shelf.new) }
     ensures settled { S.honest shelf.old → IfOk result (λ r. next_in backup.new.session ≡ None) }
+    ensures wants { IfErr result (λ e. WantsStill e backup.new) }
     ensures few { IfOk result (λ r. IsCountOf r.0 item.entry × (r.1 ≤ 2 ^ 32)) }
     ensures honest { S.honest shelf.old → S.honest shelf.new }
     ensures who { who_in backup.new.session ≡ who_in backup.old.session }
 {
     let count = match backup.feed(item) {
         Ok(count) => count,
-        Err(error) => return Err(ItemsError::Feed(place, error)),
+        Err(error) => {
+            return Err(ItemsError::Feed {
+                place,
+                taken,
+                error,
+            });
+        }
     };
     let asked = answered(alloc, backup, shelf)?;
     Ok((count, asked))
@@ -112,14 +125,15 @@ fn feed_piece<S: Shelf>(
     requires { IsHungry backup.old }
     ensures goes { S.honest shelf.old → GoesOn (ItemGives place (Item.Bytes piece.entry) result (ended_in backup.new.session)) backup.old (S.store shelf.old) (S.failed shelf.old) backup.new (S.store shelf.new) (S.failed shelf.new) }
     ensures settled { S.honest shelf.old → IfOk result (λ n. next_in backup.new.session ≡ None) }
+    ensures wants { IfErr result (λ e. WantsStill e backup.new) }
     ensures few { IfOk result (λ n. n ≤ 2 ^ 32) }
     ensures honest { S.honest shelf.old → S.honest shelf.new }
     ensures who { who_in backup.new.session ≡ who_in backup.old.session }
 {
-    let (mut done, mut asked) = feed_once(alloc, backup, place, Item::Bytes(piece), shelf)?;
+    let (mut done, mut asked) = feed_once(alloc, backup, place, 0, Item::Bytes(piece), shelf)?;
     while done < piece.len() && backup.wants() {
         let (_, rest) = piece.split_at(done);
-        let (count, more) = feed_once(alloc, backup, place, Item::Bytes(rest), shelf)?;
+        let (count, more) = feed_once(alloc, backup, place, done, Item::Bytes(rest), shelf)?;
         done += count;
         asked = sum_of(asked, more)?;
     }
@@ -137,6 +151,7 @@ fn feed_item<S: Shelf>(
     requires { IsHungry backup.old }
     ensures goes { S.honest shelf.old → GoesOn (ItemGives place item.now result (ended_in backup.new.session)) backup.old (S.store shelf.old) (S.failed shelf.old) backup.new (S.store shelf.new) (S.failed shelf.new) }
     ensures settled { S.honest shelf.old → IfOk result (λ n. next_in backup.new.session ≡ None) }
+    ensures wants { IfErr result (λ e. WantsStill e backup.new) }
     ensures few { IfOk result (λ n. n ≤ 2 ^ 32) }
     ensures honest { S.honest shelf.old → S.honest shelf.new }
     ensures who { who_in backup.new.session ≡ who_in backup.old.session }
@@ -144,15 +159,15 @@ fn feed_item<S: Shelf>(
     if let Item::Bytes(piece) = item {
         return feed_piece(alloc, backup, place, piece, shelf);
     }
-    let (_, asked) = feed_once(alloc, backup, place, *item, shelf)?;
+    let (_, asked) = feed_once(alloc, backup, place, 0, *item, shelf)?;
     Ok(asked)
 }
 
 /// Feeds a backup the items, one after another, and answers what is pending before, between and after them from a shelf,
 /// until all were fed or the backup has ended. It gives how many requests were answered, at most 2^32.
 ///
-/// Where an item isn't taken the backup wants input as before, and its lock is live. Without memory the store may have
-/// made one step more than the backup has taken.
+/// Where an item isn't taken the backup wants input as before, and its lock is live; the error tells how much of a piece was
+/// taken. Without memory the store may have made one step more than the backup has taken.
 pub fn lockstep_items<S: Shelf>(
     alloc: Global,
     backup: &mut PieceBackup,
@@ -161,6 +176,7 @@ pub fn lockstep_items<S: Shelf>(
 ) -> Result<u64, ItemsError>
     ensures goes { S.honest shelf.old → GoesOn (ItemsGive items.now result (ended_in backup.new.session)) backup.old (S.store shelf.old) (S.failed shelf.old) backup.new (S.store shelf.new) (S.failed shelf.new) }
     ensures settled { S.honest shelf.old → IfOk result (λ n. next_in backup.new.session ≡ None) }
+    ensures wants { IfErr result (λ e. WantsStill e backup.new) }
     ensures few { IfOk result (λ n. n ≤ 2 ^ 32) }
     ensures honest { S.honest shelf.old → S.honest shelf.new }
     ensures who { who_in backup.new.session ≡ who_in backup.old.session }

@@ -1,63 +1,178 @@
 //! The job of a backup: what it makes of each reply.
 
-ghost use Rattle.std.specs.Prelude.{◌≡◌, false, List, IfOk, OnErr};
+ghost use Rattle.std.specs.Prelude.{◌≡◌, ◌≤◌, ◌↔◌, [], List, ℕ, length, None, Some, IsTrue, IfOk, OnErr};
+ghost use Rattle.repo_index.specs.IndexText.{facts_in};
+ghost use Rattle.repo_name.specs.Limits.{facts_limit};
+ghost use Rattle.repo_name.specs.declared.names.Name.{Name};
+ghost use Rattle.repo_name.specs.declared.tokens.Token.{Token};
 ghost use Rattle.repo_name.specs.declared.kinds.Kind.{Kind};
 ghost use Rattle.repo_wire.specs.declared.messages.Ask.{Ask};
 ghost use Rattle.repo_wire.specs.declared.messages.Say.{Say};
+ghost use Rattle.repo_session.specs.Askers.{Holding};
 ghost use Rattle.repo_session.specs.Jobs.{IsShortStep};
 ghost use Rattle.repo_session.specs.Readings.{HasNotedFacts, KnowsStill};
 ghost use Rattle.repo_session.specs.Traces.{Trace};
 ghost use Rattle.repo_session.specs.declared.catalogs.Catalog.{Catalog};
-ghost use Rattle.repo_backup.specs.Backups.{handed_to, Knows, BackupReads, BackupGoesOn, BackupReplies};
-ghost use Rattle.repo_backup.specs.Stages.{StaysReady, BeginsAgain};
-ghost use Rattle.repo_backup.specs.declared.stages.Stage.{Stage};
-ghost use Rattle.repo_backup.specs.inner.Putting.{StageGoes, PackPut, SnapshotPut, ObjectPut, KnowsPackPut, KnowsObjectPut};
+ghost use Rattle.repo_backup.specs.BackupStates.{IsBegunAnew, IsFullNow};
+ghost use Rattle.repo_backup.specs.Plans.{beginning};
+ghost use Rattle.repo_backup.specs.Backups.{left_in, Knows, WalksOn, BackupReads, BackupDoes, BackupSends, BackupGoesOn, BackupReplies, StaysPut};
+ghost use Rattle.repo_backup.specs.declared.walks.Went.{Went};
 
-use crate::backing::Next;
-use crate::stages::Stage;
-use repo_index::Facts;
-use repo_name::{Kind, Name, Thing};
+use crate::piece_backing::{PieceBacking, PieceNext};
+use crate::piece_works::PieceWork;
+use crate::sending::put_snapshot;
+use crate::steps::{Position, WalkStep};
+use crate::walks::Went;
+use repo_index::{Facts, IndexText, PackFacts};
+use repo_name::{GREATEST_TARGET, Kind, LEAST_TARGET, Name, Thing};
 use repo_session::{Catalog, Emission, End, Holder, Job, Outcome, Reading, Step, Versions};
 use repo_tree::Config;
 use repo_wire::{Ask, Say};
-use repo_writing::Counts;
+use repo_writing::{Counts, Target, is_full, put_index, put_pack};
 use std::alloc::{AllocError, Global};
 
-/// A backup under its lock: how far it is, and what the store's indexes give.
+/// A backup under its lock: its steps, and how far they are fed; the work, once the config was read; and what the store's
+/// indexes give.
 #[derive(Drop)]
 pub struct BackupJob {
-    pub stage: Stage,
+    pub steps: Vec<WalkStep>,
+    pub position: Position,
+    pub backing: Option<PieceBacking>,
     pub catalog: Catalog,
     pub alloc: Global,
 }
 
 impl BackupJob {
-    /// Goes on with the work until something is sent: where `anew` is set, the packs that waited are indexed. It fails
-    /// for memory alone, and then some of the work may be done.
-    fn go_on(&mut self, holder: &Holder, anew: bool) -> Result<Step, AllocError>
-        ensures ok { IfOk result (λ step. BackupGoesOn self.old holder.now anew step self.new) }
-        ensures short { IfOk result IsShortStep }
-        ensures err { OnErr result (StageGoes (StaysReady self.old.catalog.lookup) self.old.stage self.new.stage) }
+    /// Puts the pack that is sealed, which is listed so. It takes no memory.
+    fn send_pack(&mut self, holder: &Holder, listed: PackFacts) -> Step
+        ensures sends { BackupSends self.old holder.now (Went.Pack listed) result self.new }
+        ensures short { IsShortStep result }
         ensures catalog { self.new.catalog ≡ self.old.catalog }
-        ensures handed { handed_to self.new ≡ handed_to self.old }
+        ensures steps { self.new.steps ≡ self.old.steps }
     {
-        let next = self.stage.ready(&self.catalog.lookup, anew)?;
-        self.send(holder, next)
+        let Some(backing) = &mut self.backing else {
+            return Step::Away;
+        };
+        match backing.take_pack(listed) {
+            Some(sealed) => put_pack(holder.token(), sealed),
+            None => Step::Away,
+        }
+    }
+
+    /// Puts an index of the packs that wait, or the snapshot where none does, as all was fed. It fails for memory alone.
+    fn send_last(&self, holder: &Holder) -> Result<Step, AllocError>
+        ensures sends { IfOk result (λ step. BackupSends self.now holder.now Went.On step self.now) }
+        ensures short { IfOk result IsShortStep }
+    {
+        let Some(backing) = &self.backing else {
+            return Ok(Step::Away);
+        };
+        match backing.next() {
+            PieceNext::Input => Ok(Step::Away),
+            PieceNext::Index => put_index(self.alloc, holder.token(), &backing.waiting),
+            PieceNext::Snapshot(root) => put_snapshot(self.alloc, holder, root),
+        }
+    }
+
+    /// Sends what is sent next where the work went so. It fails for memory alone, and then nothing changed.
+    fn send(&mut self, holder: &Holder, went: Went) -> Result<Step, AllocError>
+        ensures sends { IfOk result (λ step. BackupSends self.old holder.now went step self.new) }
+        ensures short { IfOk result IsShortStep }
+        ensures err { OnErr result ((self.new ≡ self.old) × (went ≡ Went.On)) }
+        ensures catalog { self.new.catalog ≡ self.old.catalog }
+        ensures steps { self.new.steps ≡ self.old.steps }
+    {
+        match went {
+            Went::On => self.send_last(holder),
+            Went::Pack(listed) => Ok(self.send_pack(holder, listed)),
+            Went::TooLarge => Ok(Step::Finish(Outcome::Ended(End::DirectoryTooLarge))),
+            Went::Nothing => Ok(Step::Away),
+        }
+    }
+}
+
+impl BackupJob {
+    /// Whether 20,000 blobs or more wait for an index.
+    fn is_full(&self) -> bool
+        ensures { (b : PieceBacking) → self.now.backing ≡ Some b → IsTrue result ↔ (facts_limit ≤ length (facts_in b.waiting)) }
+    {
+        match &self.backing {
+            Some(backing) => is_full(&backing.waiting),
+            None => false,
+        }
+    }
+
+    /// Puts an index of the packs that wait, where there are 20,000 blobs or more in them. It fails for memory alone.
+    fn send_index(&self, holder: &Holder) -> Result<Step, AllocError>
+        ensures sends { IfOk result (λ step. BackupDoes IsFullNow self.now holder.now step self.now) }
+        ensures short { IfOk result IsShortStep }
+    {
+        let Some(backing) = &self.backing else {
+            return Ok(Step::Away);
+        };
+        put_index(self.alloc, holder.token(), &backing.waiting)
+    }
+
+    /// Feeds what is left until a pack is sealed or all was fed. It fails for memory alone, and then some of it may be fed.
+    fn walk_on(&mut self) -> Result<Went, AllocError>
+        ensures ok { IfOk result (λ went. WalksOn went self.old self.new) }
+        ensures all { IfOk result (λ went. (b : PieceBacking) → self.old.backing ≡ Some b → went ≡ Went.On → left_in self.new ≡ []) }
+        ensures err { OnErr result (WalksOn Went.On self.old self.new) }
+        ensures steps { self.new.steps ≡ self.old.steps }
+        ensures catalog { self.new.catalog ≡ self.old.catalog }
+    {
+        let Some(backing) = &mut self.backing else {
+            return Ok(Went::Nothing);
+        };
+        backing.walk(&self.steps, &mut self.position, &self.catalog.lookup)
+    }
+
+    /// Goes on with the work until something is sent, where no pack is being put: an index where 20,000 blobs wait for one.
+    /// It fails for memory alone, and then some of the work may be done.
+    fn go_on(&mut self, holder: &Holder) -> Result<Step, AllocError>
+        ensures ok { IfOk result (λ step. BackupGoesOn self.old holder.now step self.new) }
+        ensures short { IfOk result IsShortStep }
+        ensures err { OnErr result (WalksOn Went.On self.old self.new) }
+        ensures steps { self.new.steps ≡ self.old.steps }
+        ensures catalog { self.new.catalog ≡ self.old.catalog }
+    {
+        if self.is_full() {
+            return self.send_index(holder);
+        }
+        let went = self.walk_on()?;
+        self.send(holder, went)
+    }
+
+    /// Begins the work anew, over the same steps, by the same config. It takes no memory.
+    fn begin_again(&mut self)
+        ensures begun { (b : PieceBacking) → self.old.backing ≡ Some b → (c : PieceBacking) × (self.new.backing ≡ Some c) × IsBegunAnew b c }
+        ensures position { self.new.position ≡ beginning }
+        ensures steps { self.new.steps ≡ self.old.steps }
+        ensures catalog { self.new.catalog ≡ self.old.catalog }
+    {
+        self.position = Position::beginning();
+        let Some(backing) = &self.backing else {
+            return;
+        };
+        let (params, target) = (backing.work.walk.params, backing.work.packing.packer.target);
+        let work = PieceWork::new(self.alloc, params, target);
+        self.backing = Some(PieceBacking::new(self.alloc, work));
     }
 
     /// The first step of the work, once every index was read; these facts are those that the last one added. It fails
     /// for memory alone, and then the last reading is undone, and the work begun anew.
     fn go_first(&mut self, holder: &Holder, noted: &Facts) -> Result<Step, AllocError>
-        ensures ok { IfOk result (λ step. BackupGoesOn self.old holder.now false step self.new) }
+        ensures ok { IfOk result (λ step. BackupGoesOn self.old holder.now step self.new) }
         ensures short { IfOk result IsShortStep }
-        ensures err { OnErr result (StageGoes (BeginsAgain self.old.catalog.lookup) self.old.stage self.new.stage) }
+        ensures again { OnErr result ((b : PieceBacking) → self.old.backing ≡ Some b → (c : PieceBacking) × (self.new.backing ≡ Some c) × IsBegunAnew b c) }
+        ensures position { OnErr result (self.new.position ≡ beginning) }
         ensures back { OnErr result ((old : Catalog) → HasNotedFacts old noted.now self.old.catalog → KnowsStill old self.new.catalog) }
-        ensures handed { handed_to self.new ≡ handed_to self.old }
+        ensures steps { self.new.steps ≡ self.old.steps }
     {
-        match self.go_on(holder, false) {
+        match self.go_on(holder) {
             Ok(step) => Ok(step),
             Err(error) => {
-                self.stage.begin_again(self.alloc);
+                self.begin_again();
                 self.catalog.take_back(noted);
                 Err(error)
             }
@@ -67,10 +182,10 @@ impl BackupJob {
     /// Takes the reply to a request for a page of indexes, or for an index. It fails for memory alone, and then what
     /// was known is known.
     fn read_on(&mut self, holder: &Holder, ask: &Ask, say: &Say) -> Result<Step, AllocError>
-        ensures ok { IfOk result (λ step. BackupReplies self.old BackupReads holder.now ask.now say.now step self.new) }
+        ensures ok { IfOk result (λ step. BackupReplies BackupReads self.old holder.now ask.now say.now step self.new) }
         ensures short { IfOk result IsShortStep }
         ensures err { OnErr result ((es : Trace) → BackupReads self.old ask.now es → BackupReads self.new ask.now es) }
-        ensures handed { handed_to self.new ≡ handed_to self.old }
+        ensures steps { self.new.steps ≡ self.old.steps }
     {
         match self.catalog.read_on(self.alloc, ask, say)? {
             Reading::Ask(ask) => Ok(Step::Ask(ask)),
@@ -83,55 +198,79 @@ impl BackupJob {
             Reading::Unwelcome => Ok(Step::Away),
         }
     }
+}
 
+impl BackupJob {
     /// Goes on where the put of a pack is done. It fails for memory alone, and then what was known is known.
     fn pack_done(&mut self, holder: &Holder) -> Result<Step, AllocError>
-        ensures ok { IfOk result (λ step. PackPut self.old holder.now step self.new) }
+        ensures ok { IfOk result (λ step. (token : Token) (n : Name) (x : List ℕ) → BackupReplies Knows self.old holder.now (Ask.Put token Kind.Pack n x) Say.Done step self.new) }
         ensures short { IfOk result IsShortStep }
-        ensures err { OnErr result (KnowsPackPut self.old self.new) }
-        ensures handed { handed_to self.new ≡ handed_to self.old }
+        ensures err { OnErr result (StaysPut Kind.Pack self.old self.new) }
+        ensures steps { self.new.steps ≡ self.old.steps }
     {
-        if self.stage.is_full() {
-            return self.send(holder, Next::Index);
+        let Some(backing) = &mut self.backing else {
+            return Ok(Step::Away);
+        };
+        backing.note_put()?;
+        self.go_on(holder)
+    }
+
+    /// Goes on where the put of an index is done. It fails for memory alone, and then what was known is known.
+    fn index_done(&mut self, holder: &Holder) -> Result<Step, AllocError>
+        ensures ok { IfOk result (λ step. (token : Token) (n : Name) (x : List ℕ) → BackupReplies Knows self.old holder.now (Ask.Put token Kind.Index n x) Say.Done step self.new) }
+        ensures short { IfOk result IsShortStep }
+        ensures err { OnErr result (StaysPut Kind.Index self.old self.new) }
+        ensures steps { self.new.steps ≡ self.old.steps }
+    {
+        let Some(backing) = &mut self.backing else {
+            return Ok(Step::Away);
+        };
+        let waiting = backing.take_waiting(self.alloc);
+        match self.go_on(holder) {
+            Ok(step) => Ok(step),
+            Err(error) => {
+                self.wait_for(waiting);
+                Err(error)
+            }
         }
-        self.go_on(holder, false)
+    }
+
+    /// These packs wait for an index. It takes no memory.
+    fn wait_for(&mut self, waiting: IndexText)
+        ensures back { (b : PieceBacking) → self.old.backing ≡ Some b → self.new.backing ≡ Some (record b { waiting = waiting }) }
+        ensures same { self.new ≡ record self.old { backing = self.new.backing } }
+    {
+        if let Some(backing) = &mut self.backing {
+            backing.wait_for(waiting);
+        }
     }
 
     /// Ends where the snapshot is stored under this name.
     fn conclude(&self, name: Name) -> Step
-        ensures ends { SnapshotPut self.now name result }
+        ensures ends { (token : Token) (holding : Holding) (x : List ℕ) → BackupReplies Knows self.now holding (Ask.Put token Kind.Snapshot name x) Say.Done result self.now }
         ensures short { IsShortStep result }
     {
-        let Counts { blobs, bytes } = self.stage.counts();
+        let Some(backing) = &self.backing else {
+            return Step::Away;
+        };
+        let Counts { blobs, bytes } = backing.counts;
         Step::Finish(Outcome::Stored { name, blobs, bytes })
-    }
-
-    /// Goes on where a put is done. It fails for memory alone, and then what was known is known.
-    fn put_done(&mut self, holder: &Holder, kind: Kind, name: Name) -> Result<Step, AllocError>
-        ensures ok { IfOk result (λ step. ObjectPut kind name self.old holder.now step self.new) }
-        ensures short { IfOk result IsShortStep }
-        ensures err { OnErr result (KnowsObjectPut kind name self.old self.new) }
-        ensures handed { handed_to self.new ≡ handed_to self.old }
-    {
-        match kind {
-            Kind::Pack => self.pack_done(holder),
-            Kind::Index => self.go_on(holder, true),
-            Kind::Snapshot => Ok(self.conclude(name)),
-        }
     }
 
     /// Takes a reply that is no refusal. It fails for memory alone, and then what was known is known.
     fn take(&mut self, holder: &Holder, ask: &Ask, say: &Say) -> Result<Step, AllocError>
-        ensures ok { IfOk result (λ step. BackupReplies self.old Knows holder.now ask.now say.now step self.new) }
+        ensures ok { IfOk result (λ step. BackupReplies Knows self.old holder.now ask.now say.now step self.new) }
         ensures short { IfOk result IsShortStep }
         ensures err { OnErr result ((es : Trace) → Knows self.old ask.now es → Knows self.new ask.now es) }
-        ensures handed { handed_to self.new ≡ handed_to self.old }
+        ensures steps { self.new.steps ≡ self.old.steps }
     {
         let Ask::Put { kind, name, .. } = ask else {
             return self.read_on(holder, ask, say);
         };
-        match say {
-            Say::Done => self.put_done(holder, *kind, *name),
+        match (say, kind) {
+            (Say::Done, Kind::Pack) => self.pack_done(holder),
+            (Say::Done, Kind::Index) => self.index_done(holder),
+            (Say::Done, Kind::Snapshot) => Ok(self.conclude(*name)),
             _ => Ok(Step::Away),
         }
     }
@@ -166,7 +305,9 @@ impl Job for BackupJob {
     }
 
     fn opened(&mut self, _holder: &Holder, config: &Config) -> Step {
-        self.stage.begin(self.alloc, config);
+        let target = Target::of(config.target.clamp(LEAST_TARGET, GREATEST_TARGET) as u32);
+        let work = PieceWork::new(self.alloc, config.params, target);
+        self.backing = Some(PieceBacking::new(self.alloc, work));
         Step::Ask(self.catalog.page_ask())
     }
 

@@ -1,9 +1,10 @@
 //! Backup of entries into a store.
 //!
 //! A [`Backup`] is a client of repo_session. The entries handed in are checked, and laid out as the steps of a walk
-//! through their folder. Once the store's indexes were read, the walk cuts files into chunks and makes the trees of
-//! directories; each of these blobs is added to a pack, unless an index gives it or it was added before. Packs are put
-//! as they are due, an index whenever 20,000 blobs or more wait for one and at the end, and the snapshot last.
+//! through their folder. Once the store's indexes were read, the walk feeds the steps' items to the work, which cuts
+//! files into chunks and makes the trees of directories; each of these blobs is added to a pack, unless an index gives it
+//! or it was added before. A pack is put as soon as it is full, and the last one at the end; an index whenever 20,000 blobs
+//! or more wait for one and at the end; and the snapshot last.
 //!
 //! Promised: entries are refused for the first fault of the first one that has one; each pack, index and snapshot that
 //! is put is one that the rule of a backup allows after the exchanges before it, whoever answers; `Stored` comes only
@@ -11,11 +12,10 @@
 //! backup ends well.
 //!
 //! The definitions stand in `specs/`: `Handed` (which entries may be handed in), `Folders` (a folder, its entries, nodes
-//! and blobs), `Rules` (what a backup may put, and how it may end); and what is known on the way: `Plans` and `Walking`
-//! (a folder's steps), `Chunks`, `Packings` (the packs), `Works` and `Advancing` (where the work stands), `Readying`
-//! (what is sent next), `Backing` (what is known of the trace), `Stages`, `BackupStates`, `Backups` and
-//! `BackupObedience` (where the job and the client stand). What any job knows that puts packs and indexes stands in
-//! repo_writing.
+//! and blobs), `Filling` (when a pack is full, and an index), `Rules` (what a backup may put, and how it may end); and what
+//! is known on the way: `Plans` (a folder's steps, and the items that they feed), `Packings` (the packs), `Backing` (what
+//! is known of the trace), `BackupStates`, `Backups` and `BackupObedience` (where the job and the client stand). What any
+//! job knows that puts packs and indexes stands in repo_writing.
 //!
 //! A [`PieceBackup`] does the same for a folder that nobody holds whole: it is fed items, one after another, that spell
 //! the entries. It wants them once every index was read, while nothing is pending. An item is taken, of a piece maybe a
@@ -25,15 +25,13 @@
 //!
 //! `Items` says where items lead, which may be taken, and the first fault of others; `Standings` the same in chunks, and
 //! what is made so far; `ItemLaws` that what they spell may be handed in. `PieceRules` says what such a backup may ask for,
-//! when it may want input, and how it may end; what is known on the way stands in `Pieces`, `PieceStates`, `PieceBackups`
-//! and `PieceObedience`.
+//! when it may want input, and how it may end; what is known on the way stands in `Pieces` (the work, which both share),
+//! `PieceStates`, `PieceBackups` and `PieceObedience`.
 #![tactic(auto)]
 
 mod added;
-mod backing;
 mod backups;
 mod checks;
-mod chunks;
 mod faults;
 mod item_laws;
 mod item_steps;
@@ -49,10 +47,8 @@ mod piece_works;
 mod pieces;
 mod plans;
 mod sending;
-mod stages;
 mod steps;
 mod walks;
-mod works;
 
 pub use backups::Backup;
 pub use faults::BackupError;

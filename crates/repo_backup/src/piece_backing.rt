@@ -1,21 +1,27 @@
 //! What a backup that is fed items keeps between two of them: the work, the packs that no index lists yet, and the counts.
 
-ghost use Rattle.std.specs.Prelude.{◌≡◌, ◌++◌, [], List, Some, None, IfOk, IfErr, OnOk, OnErr, IfSome};
+ghost use Rattle.std.specs.Prelude.{◌≡◌, ◌++◌, [], true, List, Some, None, IfOk, IfErr, OnOk, OnErr, IfSome};
 ghost use Rattle.repo_pack.specs.PackLayout as layout;
 ghost use Rattle.repo_writing.specs.Sealing.{IsSealedOf};
 ghost use Rattle.repo_writing.specs.Writing.{AreCounts};
+ghost use Rattle.repo_backup.specs.BackupStates.{GoesSo, IsSameWay};
 ghost use Rattle.repo_backup.specs.Items.{fed_of};
+ghost use Rattle.repo_backup.specs.Plans.{left_fed};
+ghost use Rattle.repo_backup.specs.declared.walks.Went.{Went};
 ghost use Rattle.repo_backup.specs.Packings.{AimsOn};
 ghost use Rattle.repo_backup.specs.Pieces.{IsReady, WorkTakes, LeavesPacked, ReopensAt, Refuses, Stays, sealing_at};
 ghost use Rattle.repo_backup.specs.PieceStates.{waits, IsNextPiece};
 
 use crate::items::{FeedError, Item};
 use crate::piece_works::{PieceWork, Took};
+use crate::steps::{Position, WalkStep};
+use crate::walks::{Went, walk};
 use repo_index::{IndexText, Lookup, PackFacts};
 use repo_name::Name;
 use repo_pack::Sealed;
 use repo_writing::{Counts, is_full};
 use std::alloc::{AllocError, Global};
+use std::mem;
 
 /// The work; how an index lists the pack that is being put; the packs that were put and that no index lists yet, in their
 /// order; and the counts of the packs.
@@ -70,6 +76,22 @@ impl PieceBacking {
         self.work.feed(lookup, item)
     }
 
+    /// Feeds it steps from a position on: see [`walk`].
+    pub fn walk(
+        &mut self,
+        steps: &[WalkStep],
+        position: &mut Position,
+        lookup: &Lookup,
+    ) -> Result<Went, AllocError>
+        ensures ok { IfOk result (λ went. GoesSo lookup.now self.old.work (left_fed position.old steps.now) went self.new.work (left_fed position.new steps.now)) }
+        ensures all { IfOk result (λ went. went ≡ Went.On → position.new.over ≡ true) }
+        ensures err { OnErr result (GoesSo lookup.now self.old.work (left_fed position.old steps.now) Went.On self.new.work (left_fed position.new steps.now)) }
+        ensures way { IsSameWay self.old.work self.new.work }
+        ensures same { self.new ≡ record self.old { work = self.new.work } }
+    {
+        walk(steps, position, &mut self.work, lookup)
+    }
+
     /// Takes the sealed pack out, to be put, which is listed so: its blobs and their bytes are counted. `None` where none is
     /// sealed, and then nothing changed but how one is listed.
     pub fn take_pack(&mut self, listed: PackFacts) -> Option<Sealed>
@@ -108,6 +130,21 @@ impl PieceBacking {
         ensures { self.new ≡ record self.old { waiting = [] } }
     {
         self.waiting = IndexText::of(Vec::new(alloc));
+    }
+
+    /// Takes out the packs that wait, so that none does. It takes no memory.
+    pub fn take_waiting(&mut self, alloc: Global) -> IndexText
+        ensures taken { result ≡ self.old.waiting }
+        ensures none { self.new ≡ record self.old { waiting = [] } }
+    {
+        mem::replace(&mut self.waiting, IndexText::of(Vec::new(alloc)))
+    }
+
+    /// These packs wait. It takes no memory.
+    pub fn wait_for(&mut self, waiting: IndexText)
+        ensures { self.new ≡ record self.old { waiting = waiting } }
+    {
+        self.waiting = waiting;
     }
 
     /// What comes next where no pack is sealed or being put.

@@ -1,9 +1,9 @@
 //! The backup that is fed items.
 
-ghost use Rattle.std.specs.Prelude.{◌≡◌, ◌<◌, ◌↔◌, [], IsTrue, IfOk, IfErr};
+ghost use Rattle.std.specs.Prelude.{◌≡◌, ◌<◌, ◌↔◌, ◌∷◌, [], IsTrue, IfOk, IfErr};
 ghost use Rattle.repo_session.specs.Sessions.{who_in, next_in, ended_in};
 ghost use Rattle.repo_session.specs.Traces.{Trace, fed_in, feeding};
-ghost use Rattle.repo_backup.specs.Items.{ItemFault, place_of, IsCountOf, fed_of, fed_part, size_of};
+ghost use Rattle.repo_backup.specs.Items.{AreTaken, ItemFault, place_of, IsCountOf, fed_of, fed_part, size_of};
 ghost use Rattle.repo_backup.specs.PieceBackups.{FitsPieces, IsHungry};
 ghost use Rattle.repo_backup.specs.declared.items.FeedError.{FeedError};
 
@@ -46,12 +46,13 @@ impl PieceBackup {
     }
 
     /// Takes an item. It gives how many bytes of a piece were taken: all, or fewer where a pack became due, right behind the
-    /// chunk that made it due, and is pending now; none of another item.
+    /// chunk that made it due, and is pending now; none of another item. What was taken has no fault.
     ///
     /// An error is the first of [`FeedError`], in its order, that stands. Then it is as before, nothing of the item is put
     /// ever, and it may be fed again.
     pub fn feed(&mut self, item: Item) -> Result<usize, FeedError>
         ensures took { IfOk result (λ n. IsHungry self.old × IsCountOf n item.entry × ((es : Trace) → FitsPieces self.old es → FitsPieces self.new (feeding (fed_part n item.entry) es))) }
+        ensures may { IfOk result (λ n. (es : Trace) → FitsPieces self.old es → AreTaken (fed_part n item.entry ∷ fed_in es)) }
         ensures part { IfOk result (λ n. (es : Trace) → FitsPieces self.old es → n < size_of item.entry → ¬ IsHungry self.new) }
         ensures unwanted { IfErr result (λ e. ¬ IsHungry self.old → e ≡ FeedError.NotWanted) }
         ensures fault { IfErr result (λ e. IsHungry self.old → (es : Trace) → FitsPieces self.old es → ItemFault (place_of (fed_in es)) (fed_of item.entry) e) }

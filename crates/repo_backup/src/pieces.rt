@@ -9,13 +9,19 @@ ghost use Rattle.repo_chunk.specs.Parameters.{AreLawful};
 ghost use Rattle.repo_name.specs.Limits.{blob_limit, file_end};
 
 use crate::items::FeedError;
-use crate::walks::Outer;
 use repo_chunk::{Chunker, Params, Scan};
 use repo_name::{Name, Names, Text};
 use repo_tree::{Node, NodeKind, is_component};
 use std::alloc::{AllocError, Global};
 use std::cmp::Ordering;
 use std::mem;
+
+/// A directory around the open one: the nodes made in it so far, and the name of the directory entered.
+#[derive(Drop)]
+pub struct Outer {
+    pub nodes: Vec<Node>,
+    pub name: Text,
+}
 
 /// A file that is open: its name, how many bytes it has so far, the names of its chunks so far, the bytes behind these,
 /// and the chunker that holds them.
@@ -199,7 +205,7 @@ impl PieceWalk {
     ghost use Rattle.repo_backup.specs.Items.{MayOpen, NameFault};
     ghost use Rattle.repo_backup.specs.Pieces.{AreOuterAt, IsAt};
     ghost use Rattle.repo_backup.specs.Standings.{Around, Standing, place_at};
-    ghost use Rattle.repo_backup.specs.declared.walks.Outer.{Outer};
+    ghost use Rattle.repo_backup.specs.declared.pieces.Outer.{Outer};
 
     /// Whether something of this name may begin. Else the first fault, in the order `BadPath`, `Order`, `TooDeep`.
     pub fn check_name(&self, name: &str) -> Result<(), FeedError>

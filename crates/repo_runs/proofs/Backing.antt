@@ -38,7 +38,7 @@ use Rattle.repo_session.proofs.Holding.{working_more, holds_of, opened_working}
 use Rattle.repo_session.proofs.Meeting.{first_page}
 use Rattle.repo_session.proofs.Rolling.{same_self}
 use Rattle.repo_session.proofs.Receiving.{kinds_same}
-use Rattle.repo_writing.specs.Putting.{PutDone, AreDone, IsIndexed, IsListedPack}
+use Rattle.repo_writing.specs.Putting.{PutDone, AreDone, IsPacked, IsIndexed, IsListedPack}
 use Rattle.repo_writing.specs.Writing.{bytes_of}
 use Rattle.repo_writing.proofs.PutLemmas.{indexed_later}
 use Rattle.repo_backup.specs.Folders.{nothing, tree_of, blobs_of}
@@ -191,7 +191,15 @@ module _ (host : List ℕ) (time : ℕ) (config pack index snapshot : List ℕ) 
     once = ((λ h. none_contained h.0 h.1), tt);
     unread = λ item c g. none_got g.1.index g.1.text g.1.read.0;
     unput = λ item c p. none_contained p.pack p.put;
+    full = inr (record { folder = nothing; cut = made listing (inr (inl (refl, refl))); all = λ item c. inr (inr (item, c, refl, refl)) });
   }
+
+  -- all its blobs are in the pack that was put
+  all_packed : (item : Item) → Contains (blobs_of nothing) item → IsPacked packing item.kind item.name
+  all_packed item c = record { pack = record { name = naming.name pack; bytes = pack }; items = tree_of nothing ∷ []; put = first_contained (record { name = naming.name pack; bytes = pack }) []; holds = texts.packed; among = (item, c, refl, refl) }
+
+  nothing_waits : backing.AreLast [] packing []
+  nothing_waits = record { folder = nothing; cut = made packing (inr (inr (inl (refl, refl)))); all = λ item c. inr (inl (all_packed item c)) }
 
   index_rule : backing.IndexRule packing index
   index_rule = record {
@@ -271,7 +279,7 @@ module _ (host : List ℕ) (time : ℕ) (config pack index snapshot : List ℕ) 
       inl refl,
       (
         (works_2, refl, texts.index_short),
-        (λ w. index_rule),
+        (λ w. (index_rule, inr nothing_waits)),
         inl refl,
         (
           (works_1, refl, texts.pack_short),
@@ -407,7 +415,7 @@ module _ (host : List ℕ) (time : ℕ) (config pack index snapshot : List ℕ) 
 
   pub is_backed_up : IsBackedUp config pack index snapshot
   is_backed_up =
-      let found = finished (beginning (configured config)) (Job.Backup []) host time tt limits (silent (Ask.Unlock token) Say.Done) storing last_store (Some (stored snapshot)) steps all_unfed dutiful in
+      let found = finished (beginning (configured config)) (Job.Backup []) host time tt limits (silent (Ask.Unlock token) Say.Done) storing last_store (stored snapshot) steps all_unfed dutiful in
       backed_up_at _ found.0 found.1 refl refl quiet
 
 pub backup_is_a_run : BackupIsARun

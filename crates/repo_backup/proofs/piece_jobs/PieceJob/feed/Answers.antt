@@ -8,7 +8,7 @@ use Rattle.repo_backup.specs.PieceStates.{PieceWaits, reopened_backing}
 use Rattle.repo_backup.specs.Pieces.{Goes, Stays, IsReady, WorkTakes, LeavesPacked, ReopensAt, sealing_at}
 use Rattle.repo_backup.specs.declared.piece_works.Took.{Took}
 use Rattle.repo_backup.proofs.FedOn.{fed_working}
-use Rattle.repo_backup.proofs.PieceFeeding.{works_on, plain_item, fed_waits, fed_done, fed_due, fed_large, fed_fault, fed_still, ended_once, end_memory, left_open}
+use Rattle.repo_backup.proofs.PieceFeeding.{works_on, plain_item, fed_waits, fed_done, fed_due, fed_large, fed_fault, fed_still, ended_once, end_memory, left_open, one_taken}
 use Rattle.repo_backup.proofs.PieceStepping.{input_wanted}
 use Rattle.repo_backup.proofs.piece_jobs.PieceJob.feed.Goals as goal
 
@@ -33,7 +33,7 @@ returns-in-Ok-All-default-Some c =
           let some = works_on _ c.args.holder.now.token es working in
           let due = fed_due facts a d es h some (ap (λ b. b.waiting) same) (ap (λ b. b.listed) same) (ap (λ b. b.counts) same) n item c.in_default.not-Abandon takes.2 e.params e.aims (Some k.listed) left.1 k.listed left.0 in
           let held = fed_working _ c.args.holder.now.token (fed_part n item) es h.at.written.indexed.listed.complete working in
-          (c.send_pack.ensures.sends d (feeding (fed_part n item) es) held refl due, λ less. c.send_pack.ensures.busy d (feeding (fed_part n item) es) refl due));
+          (c.send_pack.ensures.sends d (feeding (fed_part n item) es) held refl due, (λ less. c.send_pack.ensures.busy d (feeding (fed_part n item) es) refl due), one_taken facts a d es h some (ap (λ b. b.waiting) same) (ap (λ b. b.listed) same) (ap (λ b. b.counts) same) (fed_part n item) (takes.2 h.at.st (items_of (h.puts ++ [])) h.at.stands).0));
       short = c.send_pack.ensures.short;
       count = takes.0;
       refused = tt;
@@ -62,7 +62,7 @@ returns-in-Ok c =
           let goes = subst (λ f. Goes facts (sealing_at item) f a.work d.work) (sym part) takes.2 in
           let done = fed_done facts a d es h some (ap (λ b. b.waiting) same) (ap (λ b. b.listed) same) (ap (λ b. b.counts) same) 0 item c.in_default.not-Abandon goes e.params e.aims None left.1 left.0 in
           let held = fed_working _ c.args.holder.now.token (fed_part 0 item) es h.at.written.indexed.listed.complete working in
-          (c.in-Ok.ensures.sends d (feeding (fed_part 0 item) es) held refl done, λ less. absurd (omega (arith, none, less))));
+          (c.in-Ok.ensures.sends d (feeding (fed_part 0 item) es) held refl done, (λ less. absurd (omega (arith, none, less))), one_taken facts a d es h some (ap (λ b. b.waiting) same) (ap (λ b. b.listed) same) (ap (λ b. b.counts) same) (fed_part 0 item) (goes h.at.st (items_of (h.puts ++ [])) h.at.stands).0));
       short = c.in-Ok.ensures.short;
       count = (omega (arith, none), λ some. absurd (omega (arith, none, some)));
       refused = tt;
@@ -121,7 +121,7 @@ returns-in_default-item c =
           let some = works_on _ c.args.holder.now.token es working in
           let plain = plain_item item c.in_default-item.not-End c.in_default.not-Abandon in
           let waits = fed_waits facts a d es h some (ap (λ b. b.waiting) same) (ap (λ b. b.listed) same) (ap (λ b. b.counts) same) n item c.in_default.not-Abandon takes.2 e.params e.aims None left.1 plain left.0 in
-          (input_wanted old.catalog (Some d) d (feeding (fed_part n item) es) refl waits, λ less. absurd (takes.1 less refl)));
+          (input_wanted old.catalog (Some d) d (feeding (fed_part n item) es) refl waits, (λ less. absurd (takes.1 less refl)), one_taken facts a d es h some (ap (λ b. b.waiting) same) (ap (λ b. b.listed) same) (ap (λ b. b.counts) same) (fed_part n item) (takes.2 h.at.st (items_of (h.puts ++ [])) h.at.stands).0));
       short = tt;
       count = takes.0;
       refused = tt;
@@ -141,7 +141,7 @@ returns-in-Ok-TooLarge c =
       ok = λ es working wants. (
           let h : PieceWaits facts a es = subst (λ b. PieceWaits facts b es) (same_Some wants.0 a (sym wants.1 ∙ c.in-Some.is)) wants.2 in
           let some = works_on _ c.args.holder.now.token es working in
-          (inr (fed_large facts a d es h some (ap (λ b. b.waiting) same) (ap (λ b. b.listed) same) (ap (λ b. b.counts) same) (fed_part 0 item) takes.1), λ less. absurd (omega (arith, takes.0, less))));
+          (inr (fed_large facts a d es h some (ap (λ b. b.waiting) same) (ap (λ b. b.listed) same) (ap (λ b. b.counts) same) (fed_part 0 item) takes.1), (λ less. absurd (omega (arith, takes.0, less))), one_taken facts a d es h some (ap (λ b. b.waiting) same) (ap (λ b. b.listed) same) (ap (λ b. b.counts) same) (fed_part 0 item) (takes.1 h.at.st (items_of (h.puts ++ [])) h.at.stands).0));
       short = tt;
       count = (omega (arith, takes.0), λ some. absurd (omega (arith, takes.0, some)));
       refused = tt;

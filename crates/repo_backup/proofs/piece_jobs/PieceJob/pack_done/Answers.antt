@@ -3,10 +3,11 @@ use Rattle.std.proofs.lemmas.Option.{same_Some}
 use Rattle.repo_name.specs.declared.kinds.Kind.{Kind}
 use Rattle.repo_wire.specs.declared.messages.Ask.{Ask}
 use Rattle.repo_wire.specs.declared.messages.Say.{Say}
-use Rattle.repo_session.specs.Traces.{Exchange, silent}
+use Rattle.repo_session.specs.Traces.{Exchange, fed_in, silent}
 use Rattle.repo_session.specs.declared.jobs.Step.{Step}
+use Rattle.repo_backup.specs.PieceRules.{piece_rule}
 use Rattle.repo_backup.specs.PieceBackups.{PieceKnows, PieceWants}
-use Rattle.repo_backup.specs.PieceStates.{listed_of, waits, PiecePutsPack}
+use Rattle.repo_backup.specs.PieceStates.{listed_of, waits, PutsPack}
 use Rattle.repo_backup.specs.declared.piece_backing.PieceBacking.{PieceBacking}
 use Rattle.repo_backup.specs.declared.piece_jobs.PieceJob.{PieceJob}
 use Rattle.repo_backup.proofs.PackingLemmas.{on_any}
@@ -23,9 +24,9 @@ returns-clause-ok c = if_ok _ _ c.go_on.result (λ (step : Step) sends token n x
     let new : PieceJob = record old { backing = Some d } in
     let e : Exchange = silent (Ask.Put token Kind.Pack n x) Say.Done in
     let k = piece_known old.catalog old.backing token Kind.Pack n x es asked.knows in
-    let h : PiecePutsPack facts a n x es = subst (λ (b : PieceBacking). PiecePutsPack facts b n x es) (same_Some k.0 a (sym k.1 ∙ c.in-Some.is)) k.2 in
-    let done = pack_is_put facts a d token n x es h c.in_ok-note_put.ensures.work c.in_ok-note_put.ensures.counts c.in_ok-note_put.ensures.ok c.in_ok-note_put.ensures.listed in
-    turns_on c.args.holder.now.who (PieceKnows new) (PieceWants new) e es step refl (sends d (e ∷ es) working refl done)) c.go_on.ensures.sends
+    let h : PutsPack facts a n x (fed_in es) es = subst (λ (b : PieceBacking). PutsPack facts b n x (fed_in es) es) (same_Some k.0 a (sym k.1 ∙ c.in-Some.is)) k.2 in
+    let done = pack_is_put facts a d token n x (fed_in es) es h c.in_ok-note_put.ensures.work c.in_ok-note_put.ensures.counts c.in_ok-note_put.ensures.ok c.in_ok-note_put.ensures.listed in
+    turns_on piece_rule c.args.holder.now.who (PieceKnows new) (PieceWants new) e es step refl (sends d (e ∷ es) working refl done)) c.go_on.ensures.sends
 
 pub returns-in_err-note_put-clause-err : goal.returns-in_err-note_put-clause-err
 returns-in_err-note_put-clause-err c = on_any _ c.from_residual.result (λ token n x es known.
@@ -34,8 +35,8 @@ returns-in_err-note_put-clause-err c = on_any _ c.from_residual.result (λ token
     let a = c.in-Some.backing in
     let d = c.note_put.new.self in
     let k = piece_known old.catalog old.backing token Kind.Pack n x es known in
-    let h : PiecePutsPack facts a n x es = subst (λ (b : PieceBacking). PiecePutsPack facts b n x es) (same_Some k.0 a (sym k.1 ∙ c.in-Some.is)) k.2 in
-    inr (d, refl, pack_noted facts a d n x es c.in_err-note_put.ensures.work c.in_err-note_put.ensures.counts c.in_err-note_put.ensures.err h))
+    let h : PutsPack facts a n x (fed_in es) es = subst (λ (b : PieceBacking). PutsPack facts b n x (fed_in es) es) (same_Some k.0 a (sym k.1 ∙ c.in-Some.is)) k.2 in
+    inr (d, refl, pack_noted facts a d n x (fed_in es) es c.in_err-note_put.ensures.work c.in_err-note_put.ensures.counts c.in_err-note_put.ensures.err h))
 
 pub returns-clause-err : goal.returns-clause-err
 returns-clause-err c = on_any _ c.go_on.result (λ token n x es known.
@@ -44,6 +45,6 @@ returns-clause-err c = on_any _ c.go_on.result (λ token n x es known.
     let a = c.in-Some.backing in
     let d = c.note_put.new.self in
     let k = piece_known old.catalog old.backing token Kind.Pack n x es known in
-    let h : PiecePutsPack facts a n x es = subst (λ (b : PieceBacking). PiecePutsPack facts b n x es) (same_Some k.0 a (sym k.1 ∙ c.in-Some.is)) k.2 in
+    let h : PutsPack facts a n x (fed_in es) es = subst (λ (b : PieceBacking). PutsPack facts b n x (fed_in es) es) (same_Some k.0 a (sym k.1 ∙ c.in-Some.is)) k.2 in
     let all : waits d ≡ waits a = (λ i. c.in_ok-note_put.ensures.ok i ++ listed_of (c.in_ok-note_put.ensures.listed i)) ∙ append-nil (waits a) in
-    inr (d, refl, pack_noted facts a d n x es c.in_ok-note_put.ensures.work c.in_ok-note_put.ensures.counts all h))
+    inr (d, refl, pack_noted facts a d n x (fed_in es) es c.in_ok-note_put.ensures.work c.in_ok-note_put.ensures.counts all h))

@@ -14,7 +14,7 @@ returns-in-Ask-clause-ok c = λ holding es working obeys asked.
     let due = reads (piece_task holding.who) holding.token [] es working asked.may asked.knows.0 in
     let work = asked.knows.1 in (
       inl refl,
-      record { work = due.work; may = due.may; allowed = may_read_pieces (silent ask say ∷ es) c.in-Ask.ask due.reads work.2.none; knows = inl (due.knows, (work.0, work.1, nothing_still old.catalog work.0 ask say es asked.knows.0 work.2)) },
+      record { work = due.work; may = due.may; allowed = may_read_pieces (silent ask say ∷ es) c.in-Ask.ask due.reads work.2.1; knows = inl (due.knows, (work.0, work.1, nothing_still old.catalog work.0 ask say es asked.knows.0 work.2)) },
     )
 
 pub returns-in-All-clause-ok : goal.returns-in-All-clause-ok

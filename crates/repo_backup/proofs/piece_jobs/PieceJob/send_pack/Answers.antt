@@ -5,6 +5,7 @@ use Rattle.repo_name.specs.declared.tokens.Token.{Token}
 use Rattle.repo_pack.specs.PackLayout.{Item}
 use Rattle.repo_pack.specs.declared.writers.Sealed.{Sealed}
 use Rattle.repo_session.specs.Jobs.{MayGoOn}
+use Rattle.repo_session.specs.Traces.{fed_in}
 use Rattle.repo_session.specs.declared.jobs.Step.{Step}
 use Rattle.repo_wire.specs.declared.messages.Ask.{Ask}
 use Rattle.repo_writing.specs.Sealing.{IsSealedOf}
@@ -30,8 +31,8 @@ returns-in-Some-take_pack-clause-sends c = λ b es working is due.
     let work = c.take_pack.ensures.work in
     let counted : (sealed : Sealed) → a.work.packing.packer.sealed ≡ Some sealed → (before items : List Item) → IsSealedOf sealed items → AreCounts a.counts before → AreCounts d.counts (before ++ items) =
     λ sealed e before items of counts. c.in-Some-take_pack.ensures.counted before items (subst (λ x. IsSealedOf x items) (same_Some sealed s (sym e ∙ there)) of) counts in
-    let k = pack_of facts a d listed es h (ap (λ x. x.walk) work) (ap (λ x. x.packing.packer.writer) work) (ap (λ x. x.packing.added) work) (ap (λ x. x.packing.packer.target) work) (ap (λ x. x.packing.packer.sealed) work) c.take_pack.ensures.listed c.take_pack.ensures.waiting counted in
-    let out = pack_goes_out facts a d listed es h (ap (λ x. x.walk) work) (ap (λ x. x.packing.packer.writer) work) (ap (λ x. x.packing.added) work) (ap (λ x. x.packing.packer.target) work) (ap (λ x. x.packing.packer.sealed) work) c.take_pack.ensures.listed c.take_pack.ensures.waiting counted in
+    let k = pack_of facts a d listed (fed_in es) es h (ap (λ x. x.walk) work) (ap (λ x. x.packing.packer.writer) work) (ap (λ x. x.packing.added) work) (ap (λ x. x.packing.packer.target) work) (ap (λ x. x.packing.packer.sealed) work) c.take_pack.ensures.listed c.take_pack.ensures.waiting counted in
+    let out = pack_goes_out facts a d listed (fed_in es) es h (ap (λ x. x.walk) work) (ap (λ x. x.packing.packer.writer) work) (ap (λ x. x.packing.added) work) (ap (λ x. x.packing.packer.target) work) (ap (λ x. x.packing.packer.sealed) work) c.take_pack.ensures.listed c.take_pack.ensures.waiting counted in
     let holds = k.1.holds in
     let rule = piece_pack facts a h.puts h.sealed es h.at k.0.bytes holds.holds h.full in
     let S : Step → Type 0 = λ step. MayGoOn piece_rule holding.who (KnowsPieces catalog (Some d)) (WantsPieces catalog (Some d)) es step in

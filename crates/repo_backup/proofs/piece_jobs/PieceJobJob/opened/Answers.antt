@@ -2,7 +2,7 @@ use Rattle.std.proofs.Common.{rules, arith, ◌≡◌, [], refl, sym, ap, subst,
 use Rattle.repo_session.specs.Order.{opened, IsWorking}
 use Rattle.repo_session.specs.Traces.{Trace}
 use Rattle.repo_session.proofs.Cataloguing.{catalog_fresh}
-use Rattle.repo_backup.specs.PieceStates.{piece_task, NothingFed}
+use Rattle.repo_backup.specs.PieceStates.{piece_task, HasBegun}
 use Rattle.repo_backup.specs.Pieces.{PieceStands, IsReady, at_beginning}
 use Rattle.repo_backup.proofs.PieceStepping.{may_read_pieces}
 use Rattle.repo_backup.proofs.piece_jobs.PieceJobJob.opened.Goals as goal
@@ -18,10 +18,9 @@ returns-clause-begins c = λ text fresh reads known.
     let b = c.new.result in
     let work = c.new.ensures.work in
     let aim : c.of-target.result.bytes ≡ config.target = let bounds = reads.allowed.1 in search (rules, arith) in
-    let begun : NothingFed b es = record {
+    let begun : HasBegun b es = record {
       config = config;
       has = record { text = text; read = inl (refl, refl); reads = reads; known = known };
-      none = refl;
       none_put = λ k. refl;
       goes_by = record {
         params = ap (λ w. w.walk.params) work ∙ c.new-work.ensures.params;
@@ -37,4 +36,4 @@ returns-clause-begins c = λ text fresh reads known.
     let catalog = catalog_fresh task holding.token text l.roll.kind l.roll.names.items l.roll.read l.lookup es fresh.of_indexes fresh.no_names fresh.none_read fresh.no_facts refl in
     let working : IsWorking task holding.token es = (config, record { later = []; text = text; since = refl; reads = reads; known = known; held = record { unfenced = tt; unended = tt } }) in
     let due = c.page_ask.ensures.due task holding.token es working fresh.none_read catalog in
-    record { work = due.work; may = due.may; allowed = may_read_pieces es c.page_ask.result due.reads begun.none; knows = inl (due.knows, (b, refl, begun)) }
+    record { work = due.work; may = due.may; allowed = may_read_pieces es c.page_ask.result due.reads refl; knows = inl (due.knows, (b, refl, (begun, refl))) }

@@ -1,7 +1,7 @@
 use Rattle.std.proofs.Common.{rules, ◌≡◌, ◌++◌, ◌∷◌, [], refl, sym, subst, ◌∙◌}
 use Rattle.repo_backup.specs.Folders.{nothing}
 use Rattle.repo_backup.specs.Pieces.{IsRootAt}
-use Rattle.repo_backup.specs.declared.walks.Outer.{Outer}
+use Rattle.repo_backup.specs.declared.pieces.Outer.{Outer}
 use Rattle.repo_backup.proofs.pieces.PieceWalk.begin_dir.Goals as goal
 
 pub returns-clause-ok : goal.returns-clause-ok

@@ -1,7 +1,7 @@
 use Rattle.std.proofs.Common.{rules, ◌≡◌, ◌≤◌, ◌+◌, ◌++◌, ◌∷◌, [], OnOk, refl, sym, subst}
 use Rattle.std.specs.Prelude.{vec_len, vec_capacity}
 use Rattle.repo_backup.specs.Pieces.{AreOuterAt}
-use Rattle.repo_backup.specs.declared.walks.Outer.{Outer}
+use Rattle.repo_backup.specs.declared.pieces.Outer.{Outer}
 use Rattle.repo_backup.proofs.Closing.{outer_again}
 use Rattle.repo_backup.proofs.PackingLemmas.{on_ok}
 use Rattle.repo_backup.proofs.pieces.PieceWalk.make_room_around.Goals as goal

@@ -1,0 +1,29 @@
+-- When a pack is full, and an index.
+use Rattle.std.specs.Prelude.{◌≤◌, ℕ, List, length}
+use Rattle.repo_index.specs.IndexText.{IsIndexText, facts_in}
+use Rattle.repo_index.specs.declared.facts.PackFacts.{PackFacts}
+use Rattle.repo_name.specs.Limits.{facts_limit}
+use Rattle.repo_pack.specs.PackLayout.{Item}
+use Rattle.repo_session.specs.Traces.{Trace, Exchanged}
+use Rattle.repo_session.specs.Versions.{upto}
+use Rattle.repo_session.specs.declared.versions.Versions.{Versions}
+use Rattle.repo_tree.specs.ConfigText.{IsConfigText}
+use Rattle.repo_tree.specs.declared.configs.Config.{Config}
+use Rattle.repo_wire.specs.declared.messages.Ask.{Ask}
+use Rattle.repo_wire.specs.declared.messages.Say.{Say}
+use Rattle.repo_backup.specs.Packings.{IsJustDue}
+
+-- the config was read, and is of a version that a backup knows
+pub record HasConfig (es : Trace) (config : Config) : Type 0 where
+  pub text : List ℕ
+  pub read : Exchanged es Ask.Config (Say.Bytes text)
+  pub reads : IsConfigText text config
+  pub known : config.version ≤ upto Versions.One
+
+-- with their last one, and not before, the blobs reach what the config wants of a pack, or are as many as a pack may have
+abbrev pub IsFullPack : Trace → List Item → Type 0
+IsFullPack es items = (config : Config) × HasConfig es config × IsJustDue config.target items
+
+-- an index lists 20,000 blobs or more
+abbrev pub IsFullIndex : List ℕ → Type 0
+IsFullIndex x = (packs : List PackFacts) × IsIndexText x packs × (facts_limit ≤ length (facts_in packs))
