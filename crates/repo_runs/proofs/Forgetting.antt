@@ -517,7 +517,7 @@ module _ (host : List ℕ) (time : ℕ) (config pack index snapshot : List ℕ) 
   module _ (w : World) (events : List Event) (run : Run (beginning (configured config)) events w) (same : w.store ≡ from) (one : w.clients ≡ backer ∷ []) (quiet : IsQuiet config pack index snapshot w) where
     after_forget : (v : World) (more : List Event) → Run w more v → (next : v.store ≡ left w same) → v.clients ≡ backer ∷ forgetter w same ∷ [] → IsQuiet config pack index snapshot v → IsForgottenInRun names config pack index snapshot
     after_forget v more begun next two still =
-        let done = finished v Job.Prune host time tt limits (silent (Ask.Unlock third) Say.Done) (p6 w same v next) (store_of w same (without_pack w same) (unlocked (last_tokens w same v next) third)) (Some (Outcome.Pruned 1 0)) (prune_steps w same v next) (refl, (refl, (refl, (refl, (refl, (refl, (refl, (refl, (refl, (refl, tt)))))))))) (prunes_well w same v next) in
+        let done = finished v Job.Prune host time tt limits (silent (Ask.Unlock third) Say.Done) (p6 w same v next) (store_of w same (without_pack w same) (unlocked (last_tokens w same v next) third)) (Outcome.Pruned 1 0) (prune_steps w same v next) (refl, (refl, (refl, (refl, (refl, (refl, (refl, (refl, (refl, (refl, tt)))))))))) (prunes_well w same v next) in
         let trace = ap (λ (cs : List Client). (client_at (cs ++ pruner w same v next ∷ []) 2).trace) two in
         record {
           backup = backup.backed_up_at host time config pack index snapshot limits texts w events run same one quiet;
@@ -542,14 +542,14 @@ module _ (host : List ℕ) (time : ℕ) (config pack index snapshot : List ℕ) 
 
     after_backup : IsForgottenInRun names config pack index snapshot
     after_backup =
-        let done = finished w (Job.Forget choice) host time (λ none. none) limits (silent (Ask.Unlock token) Say.Done) (f2 w same) (left w same) (Some (Outcome.Forgotten (ns ∷ []))) (steps w same) (refl, (refl, (refl, (refl, (refl, (refl, tt)))))) (dutiful w same) in
+        let done = finished w (Job.Forget choice) host time (λ none. none) limits (silent (Ask.Unlock token) Say.Done) (f2 w same) (left w same) (Outcome.Forgotten (ns ∷ [])) (steps w same) (refl, (refl, (refl, (refl, (refl, (refl, tt)))))) (dutiful w same) in
         after_forget _ done.0 done.1 refl
         (ap (λ (cs : List Client). cs ++ forgetter w same ∷ []) one)
         (quiet_more config pack index snapshot w (forgetter w same) (forgetting w same) (left w same) quiet (forgetting_few w same) (λ x none. absurd none))
 
   all_forgotten : IsForgottenInRun names config pack index snapshot
   all_forgotten =
-      let first = finished (beginning (configured config)) (Job.Backup []) host time tt limits (silent (Ask.Unlock backup.token) Say.Done) (backup.storing host time config pack index snapshot limits texts) from (Some (stored snapshot))
+      let first = finished (beginning (configured config)) (Job.Backup []) host time tt limits (silent (Ask.Unlock backup.token) Say.Done) (backup.storing host time config pack index snapshot limits texts) from (stored snapshot)
       (backup.steps host time config pack index snapshot limits texts) (backup.all_unfed host time config pack index snapshot limits texts) (backup.dutiful host time config pack index snapshot limits texts) in
       after_backup _ first.0 first.1 refl refl (backup.quiet host time config pack index snapshot limits texts)
 

@@ -313,13 +313,9 @@ module _ (w : World) (job : Job) (host : List ℕ) (time : ℕ) (accepted : Acce
         run_more w before.0 last.0 (at es (Some (asked_of (length w.clients) es e.ask)) p steps.0) (at (e ∷ es) None outcome to) before.1 last.1,
       )
 
-  pub finished : (e : Exchange) (es : Trace) (to : Store) (outcome : Option Outcome) → Stepped w.store (e ∷ es) to → AreUnfed (e ∷ es) → IsDutiful (talking (e ∷ es) None outcome) → (events : List Event) × Run w events (at (e ∷ es) None outcome to)
+  pub finished : (e : Exchange) (es : Trace) (to : Store) (outcome : Outcome) → Stepped w.store (e ∷ es) to → AreUnfed (e ∷ es) → IsDutiful (talking (e ∷ es) None (Some outcome)) → (events : List Event) × Run w events (at (e ∷ es) None (Some outcome) to)
   finished e es to outcome steps unfed dutiful = by_end (is_unlock e.ask)
     where
-      some_of : (o : Option Outcome) → o ≢ None → (x : Outcome) × (o ≡ Some x)
-      some_of None h = absurd (h refl)
-      some_of (Some x) h = (x, refl)
-
       is_unlock : (a : Ask) → (¬ IsUnlock a) ⊎ IsUnlock a
       is_unlock (Ask.Unlock t) = inr tt
       is_unlock Ask.Ticket = inl (λ u. u)
@@ -348,12 +344,11 @@ module _ (w : World) (job : Job) (host : List ℕ) (time : ℕ) (accepted : Acce
       older (Ask.Upgrade t) u = absurd u
       older Ask.Config u = absurd u
 
-      by_end : (¬ IsUnlock e.ask) ⊎ IsUnlock e.ask → (events : List Event) × Run w events (at (e ∷ es) None outcome to)
-      by_end (inl other) = ends_so e es to outcome None steps unfed dutiful (inl (other, refl)) (λ x q. absurd (none-some x q))
+      by_end : (¬ IsUnlock e.ask) ⊎ IsUnlock e.ask → (events : List Event) × Run w events (at (e ∷ es) None (Some outcome) to)
+      by_end (inl other) = ends_so e es to (Some outcome) None steps unfed dutiful (inl (other, refl)) (λ x q. absurd (none-some x q))
       by_end (inr u) =
-          let there = some_of outcome (dutiful.settled refl) in
-          let concluded = dutiful.concluded there.0 there.1 in
-          ends_so e es to outcome outcome steps unfed dutiful (inr (u, (there.0, there.1, subst (λ fs. ends.MayConclude (upto (task_of job who).versions) (task_of job who).notes (JobConcludes job) fs there.0) (older e.ask u) concluded))) (λ x q. q)
+          let concluded = dutiful.concluded outcome refl in
+          ends_so e es to (Some outcome) (Some outcome) steps unfed dutiful (inr (u, (outcome, refl, subst (λ fs. ends.MayConclude (upto (task_of job who).versions) (task_of job who).notes (JobConcludes job) fs outcome) (older e.ask u) concluded))) (λ x q. q)
 
 -- ---- a talk
 

@@ -1,12 +1,13 @@
 -- What lasts over each step of the store lasts over every run.
 use Rattle.std.specs.Prelude.{⊤}
-use Rattle.std.proofs.Common.{slice_get, ◌≡◌, ◌∷◌, [], List, Option, Some, None, inl, inr, ap}
+use Rattle.std.proofs.Common.{slice_get, ◌≡◌, ◌∷◌, [], ℕ, List, Option, Some, None, inl, inr, ap}
 use Rattle.repo_wire.specs.declared.messages.Ask.{Ask}
 use Rattle.repo_wire.specs.declared.messages.Say.{Say}
 use Rattle.repo_store.specs.Failing.{Plainly, Failing}
 use Rattle.repo_store.specs.StoreMachine.{Step}
 use Rattle.repo_store.specs.Stores.{Store}
-use Rattle.repo_world.specs.Events.{Delivers, Happens, Run}
+use Rattle.repo_backup.specs.declared.items.Item.{Item}
+use Rattle.repo_world.specs.Events.{Delivers, Gives, Happens, Run}
 use Rattle.repo_world.specs.World.{World, Message, Asked, Said}
 use Rattle.repo_world.proofs.Failing.{failing_step}
 use Rattle.repo_world.specs.declared.events.Event.{Event}
@@ -31,6 +32,12 @@ module _ (Lasts : Store → Store → Type 0) (stays : (a b : Store) → b.objec
     delivered w (Some (Said k reply)) r v (inr (inl h)) = same w v h.3
     delivered w (Some (Said k reply)) r v (inr (inr h)) = same w v h.2
 
+  gave : (w : World) (k : ℕ) (item : Item) (r : Applied) (v : World) → Gives w k item r v → Lasts w.store v.store
+  gave w k item r v (inl h) = same_store w.store v.store (ap (λ (u : World). u.store) h.1.is)
+  gave w k item r v (inr (inl h)) = same_store w.store v.store (ap (λ (u : World). u.store) h.2.part.is)
+  gave w k item r v (inr (inr (inl h))) = same w v h.2.is
+  gave w k item r v (inr (inr (inr h))) = same w v h.2
+
   happened : (w : World) (e : Event) (r : Applied) (v : World) → Happens ⊤ w e r v → Lasts w.store v.store
   happened w (Event.Start job host time old) r v (inl (a, s)) = same_store w.store v.store (ap (λ (u : World). u.store) s.is)
   happened w (Event.Start job host time old) r v (inr h) = same w v h.3
@@ -38,6 +45,7 @@ module _ (Lasts : Store → Store → Type 0) (stays : (a b : Store) → b.objec
   happened w (Event.Fault i f) r v h = delivered (Failing ⊤ f) (failing_step ⊤ f) w (slice_get w.messages i) r v h
   happened w (Event.Ask request) r v (inl (d, a)) = then_on w.store a.store v.store (steps w.store a.store request.ask a.reply.say a.step.0) (same_store a.store v.store (ap (λ (x : World). x.store) a.is))
   happened w (Event.Ask request) r v (inr h) = same w v h.2
+  happened w (Event.Feed k item) r v h = gave w k item r v h
   happened w (Event.Crash k) r v (inl (a, c)) = same_store w.store v.store (ap (λ (u : World). u.store) c.is)
   happened w (Event.Crash k) r v (inr h) = same w v h.2
   happened w Event.Restart r v h = same w v h.1

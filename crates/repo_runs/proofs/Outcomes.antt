@@ -9,7 +9,10 @@ use Rattle.repo_store.specs.Stores.{Store}
 use Rattle.repo_session.specs.declared.outcomes.Outcome.{Outcome}
 use Rattle.repo_world.specs.Bag.{HasBag}
 use Rattle.repo_world.specs.Clients.{Client}
-use Rattle.repo_world.specs.Events.{Delivers, Happens, Run}
+use Rattle.repo_session.specs.Feeds.{Fed}
+use Rattle.repo_backup.specs.Items.{fed_of, fed_part}
+use Rattle.repo_backup.specs.declared.items.Item.{Item}
+use Rattle.repo_world.specs.Events.{Delivers, Feeds, Gives, Happens, Run}
 use Rattle.repo_world.specs.Laws.{Behaves, AllBehave}
 use Rattle.repo_world.specs.Safe.{HasNoClash}
 use Rattle.repo_world.specs.World.{World, Message, client, Asked, Said, sends, started, first_of, crashed_one, beginning}
@@ -54,6 +57,16 @@ module _ (w : World) (b : AllBehave w) where
   delivered How (Some (Said k reply)) r v (inr (inl h)) = stays_went w v b h.3
   delivered How (Some (Said k reply)) r v (inr (inr h)) = stays_went w v b h.2
 
+  fed : (k : ℕ) (item : Fed) (v : World) → Feeds w k item v → Went w v
+  fed k item v f = subst (Went w) (sym f.is)
+      (one_went w (slice_set w.clients k f.new) (w.messages ++ sends k f.new.next) k f.new b (changed_set w.clients k f.new f.fed.0) (inr f.dutiful, λ o e. absurd (none-some o (sym f.waits.1 ∙ e))))
+
+  gave : (k : ℕ) (item : Item) (r : Applied) (v : World) → Gives w k item r v → Went w v
+  gave k item r v (inl h) = fed k (fed_of item) v h.1
+  gave k item r v (inr (inl h)) = fed k (fed_part h.0 item) v h.2.part
+  gave k item r v (inr (inr (inl h))) = stays_went w v b h.2.is
+  gave k item r v (inr (inr (inr h))) = stays_went w v b h.2
+
   happened : (e : Event) (r : Applied) (v : World) → Happens ⊤ w e r v → Went w v
   happened (Event.Start job host time old) r v (inl (a, s)) = subst (Went w) (sym s.is)
       (one_went w (w.clients ++ started (length w.clients) job host time old ∷ []) (w.messages ++ Asked (length w.clients) (first_of (length w.clients)) ∷ []) (length w.clients) (started (length w.clients) job host time old) b
@@ -64,6 +77,7 @@ module _ (w : World) (b : AllBehave w) where
   happened (Event.Fault i f) r v h = delivered (Failing ⊤ f) (slice_get w.messages i) r v h
   happened (Event.Ask request) r v (inl (d, a)) = subst (Went w) (sym a.is) (λ j. (b j, λ o e. e))
   happened (Event.Ask request) r v (inr h) = stays_went w v b h.2
+  happened (Event.Feed k item) r v h = gave k item r v h
   happened (Event.Crash k) r v (inl (a, c)) = subst (Went w) (sym c.is)
       (one_went w (slice_set w.clients k (crashed_one (client w k))) w.messages k (crashed_one (client w k)) b (changed_set w.clients k (crashed_one (client w k)) c.running) (crashed_behaves (client w k) c.running (b k), λ o e. e))
   happened (Event.Crash k) r v (inr h) = stays_went w v b h.2

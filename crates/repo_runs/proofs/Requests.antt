@@ -149,6 +149,7 @@ upgraded_of_version w k bag told = by_job (client w k).job refl
     by_job : (b : Job) → (client w k).job ≡ b → IsOfVersion w.store 2
     by_job Job.Upgrade e = second (subst (λ j. JobConcludes j (before_unlock (client w k).trace) Outcome.Upgraded) e ended)
     by_job (Job.Backup entries) e = absurd (subst (λ j. JobConcludes j (before_unlock (client w k).trace) Outcome.Upgraded) e ended)
+    by_job Job.Pieces e = absurd (subst (λ j. JobConcludes j (before_unlock (client w k).trace) Outcome.Upgraded) e ended)
     by_job (Job.Restore s) e = absurd (subst (λ j. JobConcludes j (before_unlock (client w k).trace) Outcome.Upgraded) e ended)
     by_job Job.List e = absurd (subst (λ j. JobConcludes j (before_unlock (client w k).trace) Outcome.Upgraded) e ended)
     by_job (Job.Forget choice) e = absurd (subst (λ j. JobConcludes j (before_unlock (client w k).trace) Outcome.Upgraded) e ended)

@@ -14,7 +14,10 @@ use Rattle.repo_store.specs.StoreMachine.{Step}
 use Rattle.repo_store.specs.Stores.{Store, SavesTokens}
 use Rattle.repo_store.specs.Failing.{Failing, Plainly}
 use Rattle.repo_world.specs.Bag.{HasBag}
-use Rattle.repo_world.specs.Events.{AnswersNobody, Delivers, Happens, Run, Serves}
+use Rattle.repo_session.specs.Feeds.{Fed}
+use Rattle.repo_backup.specs.Items.{fed_of, fed_part}
+use Rattle.repo_backup.specs.declared.items.Item.{Item}
+use Rattle.repo_world.specs.Events.{AnswersNobody, Delivers, Feeds, Gives, Happens, Run, Serves}
 use Rattle.repo_world.specs.Safe.{HasNoClash}
 use Rattle.repo_world.specs.World.{World, Message, Asked, Said, IsOneOf, beginning, first_of, sends}
 use Rattle.repo_world.specs.declared.events.Applied.{Applied}
@@ -104,6 +107,16 @@ module _ (u : World) (bag : HasBag u) (t : Token) (a : IsApart u t) where
   delivered_apart How how x (Some (Said k reply)) has r (inr (inl h)) = same_apart u x t h.3 a
   delivered_apart How how x (Some (Said k reply)) has r (inr (inr h)) = same_apart u x t h.2 a
 
+  fed_apart : (k : ℕ) (item : Fed) (x : World) → Feeds u k item x → IsApart x t
+  fed_apart k item x h =
+      quiet_apart u x t (ap (λ (y : World). y.store) h.is) (λ j other m. before u.messages (sends k h.new.next) j other (sent_only k h.new.next j other) (subst (λ (y : World). IsOneOf y.messages (Said j other)) h.is m)) a
+
+  given_so : (k : ℕ) (item : Item) (r : Applied) (x : World) → Gives u k item r x → IsApart x t
+  given_so k item r x (inl h) = fed_apart k (fed_of item) x h.1
+  given_so k item r x (inr (inl h)) = fed_apart k (fed_part h.0 item) x h.2.part
+  given_so k item r x (inr (inr (inl h))) = same_apart u x t h.2.is a
+  given_so k item r x (inr (inr (inr h))) = same_apart u x t h.2 a
+
   happened_apart : (e : Event) (r : Applied) (x : World) → Happens ⊤ u e r x → IsApart x t
   happened_apart (Event.Start job host time old) r x (inl h) =
       let first = Asked (length u.clients) (first_of (length u.clients)) ∷ [] in
@@ -117,6 +130,7 @@ module _ (u : World) (bag : HasBag u) (t : Token) (a : IsApart u t) where
     λ j other m. a.1 j other (subst (λ (y : World). IsOneOf y.messages (Said j other)) h.is m),
   )
   happened_apart (Event.Ask request) r x (inr h) = same_apart u x t h.2 a
+  happened_apart (Event.Feed k item) r x h = given_so k item r x h
   happened_apart (Event.Crash k) r x (inl h) = quiet_apart u x t (ap (λ (y : World). y.store) h.1.is) (λ j other m. subst (λ (y : World). IsOneOf y.messages (Said j other)) h.1.is m) a
   happened_apart (Event.Crash k) r x (inr h) = same_apart u x t h.2 a
   happened_apart Event.Restart r x h = same_apart u x t h.1 a

@@ -475,7 +475,7 @@ module _ (host : List ℕ) (time : ℕ) (config pack index snapshot : List ℕ) 
 
   after : (w : World) (events : List Event) → Run (beginning (configured config)) events w → (same : w.store ≡ from) → w.clients ≡ backer ∷ [] → IsQuiet config pack index snapshot w → IsTidied config pack index snapshot
   after w events run same one quiet =
-      let second = finished w Job.Prune host time tt limits (silent (Ask.Unlock token) Say.Done) (t7 w same) (store_of w same (unlocked (tokens w same) token)) (Some (Outcome.Pruned 0 0)) (steps w same) (refl, (refl, (refl, (refl, (refl, (refl, (refl, (refl, (refl, (refl, (refl, tt))))))))))) (dutiful w same) in
+      let second = finished w Job.Prune host time tt limits (silent (Ask.Unlock token) Say.Done) (t7 w same) (store_of w same (unlocked (tokens w same) token)) (Outcome.Pruned 0 0) (steps w same) (refl, (refl, (refl, (refl, (refl, (refl, (refl, (refl, (refl, (refl, (refl, tt))))))))))) (dutiful w same) in
       record {
         backup = backup.backed_up_at host time config pack index snapshot limits texts w events run same one quiet;
         more = second.0;
@@ -491,7 +491,7 @@ module _ (host : List ℕ) (time : ℕ) (config pack index snapshot : List ℕ) 
 
   tidied : IsTidied config pack index snapshot
   tidied =
-      let first = finished (beginning (configured config)) (Job.Backup []) host time tt limits (silent (Ask.Unlock backup.token) Say.Done) (backup.storing host time config pack index snapshot limits texts) from (Some (stored snapshot))
+      let first = finished (beginning (configured config)) (Job.Backup []) host time tt limits (silent (Ask.Unlock backup.token) Say.Done) (backup.storing host time config pack index snapshot limits texts) from (stored snapshot)
       (backup.steps host time config pack index snapshot limits texts) (backup.all_unfed host time config pack index snapshot limits texts) (backup.dutiful host time config pack index snapshot limits texts) in
       after _ first.0 first.1 refl refl (backup.quiet host time config pack index snapshot limits texts)
 

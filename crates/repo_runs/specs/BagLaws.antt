@@ -17,7 +17,8 @@ use Rattle.repo_session.specs.declared.outcomes.Outcome.{Outcome}
 use Rattle.repo_world.specs.Clients.{task_of}
 use Rattle.repo_world.specs.Bag.{IsLive, IsExclusive, HasUpgraded, IsOfVersion, IsVersioned, HasBag}
 use Rattle.repo_world.specs.BagLaws.{IsServed}
-use Rattle.repo_world.specs.Events.{AnswersNobody, Run, Takes, Starts, Crashes}
+use Rattle.repo_session.specs.Feeds.{Fed}
+use Rattle.repo_world.specs.Events.{AnswersNobody, Feeds, Run, Takes, Starts, Crashes}
 use Rattle.repo_world.specs.Laws.{IsEmpty}
 use Rattle.repo_world.specs.Safe.{HasNoClash, Took}
 use Rattle.repo_world.specs.World.{World, client, IsOneOf, Asked, Said, beginning}
@@ -84,6 +85,10 @@ LocksKeepBag = (w v : World) (k : ℕ) (request : Request) → HasBag w → HasN
 -- a reply among the messages is taken
 abbrev pub RepliesKeepBag : Type 0
 RepliesKeepBag = (w v : World) (k : ℕ) (reply : Reply) → HasBag w → IsOneOf w.messages (Said k reply) → Takes w k reply v → HasBag v
+
+-- a client takes an item
+abbrev pub FeedsKeepBag : Type 0
+FeedsKeepBag = (w v : World) (k : ℕ) (item : Fed) → HasBag w → Feeds w k item v → HasBag v × (v.store ≡ w.store)
 
 -- a client starts
 abbrev pub StartsKeepBag : Type 0

@@ -1,5 +1,5 @@
 -- A client that is alone with its store, as a part of a run: so a world may come to whatever jobs come to that are alone with their store, one after another.
-use Rattle.std.specs.Prelude.{◌≡◌, ◌<◌, ◌^◌, ◌++◌, ◌∷◌, [], ℕ, false, List, length, Option, None}
+use Rattle.std.specs.Prelude.{◌≡◌, ◌<◌, ◌^◌, ◌++◌, ◌∷◌, [], ℕ, false, List, length, Option, Some, None}
 use Rattle.repo_name.specs.Rows.{IsHost}
 use Rattle.repo_store.specs.Stores.{Store}
 use Rattle.repo_session.specs.declared.versions.Versions.{Versions}
@@ -27,6 +27,6 @@ pub record JoinsWorld (w : World) (store : Store) (c : Client) : Type 0 where
 
 -- a client that talked alone with the world's store, one turn or more, to its end, as it owes it: that is a part of a run
 abbrev pub LoneTalkIsARun : Type 0
-LoneTalkIsARun = (w : World) (job : Job) (host : List ℕ) (time : ℕ) (turn : Turn) (talk : Talk) (to : Store) (failed failing : ℕ) (outcome : Option Outcome)
-    → Accepts job → (time < 2 ^ 64) × IsHost host → TalkRan w.store failed (turn ∷ talk) to failing → IsDutiful (ended (length w.clients) job host time (trace_of (turn ∷ talk)) outcome)
-    → JoinsWorld w to (ended (length w.clients) job host time (trace_of (turn ∷ talk)) outcome)
+LoneTalkIsARun = (w : World) (job : Job) (host : List ℕ) (time : ℕ) (turn : Turn) (talk : Talk) (to : Store) (failed failing : ℕ) (outcome : Outcome)
+    → Accepts job → (time < 2 ^ 64) × IsHost host → TalkRan w.store failed (turn ∷ talk) to failing → IsDutiful (ended (length w.clients) job host time (trace_of (turn ∷ talk)) (Some outcome))
+    → JoinsWorld w to (ended (length w.clients) job host time (trace_of (turn ∷ talk)) (Some outcome))

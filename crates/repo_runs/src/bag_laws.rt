@@ -1,7 +1,7 @@
 //! What keeps the bag of messages in order, by the kind of the event; and what that gives of versions. Each function is empty,
 //! and its contract is the law.
 
-ghost use Rattle.repo_runs.specs.BagLaws.{CrashesKeepBag, DeadKeepBag, DeleteKeepsBag, EachUpgradeHolds, EverySnapshotIsVersioned, LocksKeepBag, OldClientsAreFenced, PutKeepsBag, PutsAreOfVersion, ReadsKeepBag, RemovedLocksAreGone, RepliesKeepBag, StartsKeepBag, StrangersKeepBag, StrangersTicketsAreTheirs, UpgradeKeepsBag, UpgradedIsOfVersion};
+ghost use Rattle.repo_runs.specs.BagLaws.{CrashesKeepBag, DeadKeepBag, DeleteKeepsBag, EachUpgradeHolds, EverySnapshotIsVersioned, FeedsKeepBag, LocksKeepBag, OldClientsAreFenced, PutKeepsBag, PutsAreOfVersion, ReadsKeepBag, RemovedLocksAreGone, RepliesKeepBag, StartsKeepBag, StrangersKeepBag, StrangersTicketsAreTheirs, UpgradeKeepsBag, UpgradedIsOfVersion};
 
 /// A put that is delivered while its token is live keeps it so.
 pub fn put_keeps_bag()
@@ -37,6 +37,11 @@ pub fn upgrade_keeps_bag()
 /// So does a client that takes the reply which it awaits.
 pub fn replies_keep_bag()
     ensures { RepliesKeepBag }
+{}
+
+/// So does a client that takes an item; and it changes nothing in the store.
+pub fn feeds_keep_bag()
+    ensures { FeedsKeepBag }
 {}
 
 /// So does a client that starts.

@@ -29,9 +29,10 @@ mod wrong_rules;
 
 pub use bag_laws::{
     crashes_keep_bag, dead_tokens_keep_bag, delete_keeps_bag, each_upgrade_holds,
-    every_snapshot_is_versioned, locks_keep_bag, old_clients_are_fenced, put_keeps_bag,
-    puts_are_of_version, reads_keep_bag, removed_locks_are_gone, replies_keep_bag, starts_keep_bag,
-    strangers_keep_bag, strangers_tickets_are_theirs, upgrade_keeps_bag, upgraded_is_of_version,
+    every_snapshot_is_versioned, feeds_keep_bag, locks_keep_bag, old_clients_are_fenced,
+    put_keeps_bag, puts_are_of_version, reads_keep_bag, removed_locks_are_gone, replies_keep_bag,
+    starts_keep_bag, strangers_keep_bag, strangers_tickets_are_theirs, upgrade_keeps_bag,
+    upgraded_is_of_version,
 };
 pub use connections::{connections_are_a_run, owned_guests_go, serving_is_hosting};
 pub use examples::{

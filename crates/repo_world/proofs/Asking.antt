@@ -79,6 +79,7 @@ module _ (w : World) (bag : HasBag w) (ask : Ask) (say : Say) (store : Store) (m
     versions = λ n x h. versioned_same w.store store x config (bag.versions n x (ap (λ (o : Objects). o Kind.Snapshot n) (sym objects) ∙ h));
     behave = bag.behave;
     within = bag.within;
+    taken = bag.taken;
     told = λ j a s h. (let g = bag.told j a s h in let q = sent_as_asked (client w j) a s h in (kept j q.0 a s q.1 g.0, g.1));
     asked = bag.asked;
     sent = bag.sent;

@@ -13,10 +13,16 @@ use Rattle.repo_name.specs.Rows.{IsHost}
 use Rattle.repo_session.specs.Askers.{asker}
 use Rattle.repo_session.specs.Clients.{AnswersNext, exchange}
 use Rattle.repo_world.specs.AnyClients.{FitsAny, any_next, client_of, given_to}
-use Rattle.repo_world.specs.Clients.{Accepts, Client}
-use Rattle.repo_world.specs.Events.{Arrives, Crashes, Serves, Starts, Takes}
+use Rattle.repo_session.specs.Feeds.{Fed}
+use Rattle.repo_session.specs.Traces.{fed_in, feeding}
+use Rattle.repo_backup.specs.Items.{AreTaken, IsCountOf, fed_part, size_of}
+use Rattle.repo_backup.specs.declared.items.FeedError.{FeedError}
+use Rattle.repo_backup.specs.declared.items.Item.{Item}
+use Rattle.repo_world.specs.Clients.{Accepts, Client, IsWaiting, MayBeFed}
+use Rattle.repo_world.specs.Events.{Arrives, Crashes, Feeds, Gives, RefusesItem, Serves, Starts, Takes, Unfeeds}
 use Rattle.repo_world.specs.Flows.{EachIsThere, Flow, IsThere, messages_in, seat_at, spoken, world_of}
-use Rattle.repo_world.specs.inner.Seating.{Answered, Crashed, StepsAsArmed, TookReply}
+use Rattle.repo_world.specs.inner.Flowing.{TellsTaken}
+use Rattle.repo_world.specs.inner.Seating.{Answered, Crashed, StepsAsArmed, TookItem, TookReply}
 use Rattle.repo_world.specs.Seats.{Seated, empty_seat, listed, nothing, silence}
 use Rattle.repo_world.specs.World as world
 use Rattle.repo_world.specs.World.{versions_of, World, client_at, crashed_one, first_of, instance_of, sends, started}
@@ -48,6 +54,13 @@ got_copied N H messages n (Some x) m e same less = slice_get_read messages (leng
 pub said_there_as : (flow : Flow) (n k place : ℕ) → slice_get flow.messages n ≡ Some (Message.Said k place)
     → slice_get (messages_in flow) n ≡ Some (world.Said k (slice_index_or (seat_at flow.seats k).replies place silence))
 said_there_as flow n k place e = slice_get-map (spoken flow.seats) flow.messages n ∙ ap (option_map (spoken flow.seats)) e
+
+-- ---- what comes of an item that was taken
+
+told_taken : (w : World) (k : ℕ) (item : Item) (n : ℕ) (v : World) (applied : Applied) → IsCountOf n item → (f : Feeds w k (fed_part n item) v) → (n < size_of item → ¬ IsWaiting f.new)
+    → TellsTaken n item applied → Gives w k item applied v
+told_taken w k item n v applied count f busy (inl (done, all)) = inl (done, subst (λ m. Feeds w k (fed_part m item) v) all f)
+told_taken w k item n v applied count f busy (inr (took, less)) = inr (inl (n, took, record { some = count.1 (let l = less in omega (arith, l)); less = less; part = f; busy = busy less }))
 
 -- ---- a seat of a flow becomes another one
 
@@ -125,27 +138,66 @@ module _ (seats : List Seated) (messages : List Message) (k : ℕ) (there : Each
       };
     }
 
-  -- ---- a reply was taken
+  -- ---- a client went on, and may have sent one request more
 
-  module _ (reply : Reply) (s : Seated) (t : TookReply (seat_at seats k) reply s) where
-    asked_on : GoesOn (seat_at seats k).requests s.requests
-    asked_on = (listed s.client.next, t.requests)
-
-    said_on : GoesOn (seat_at seats k).replies s.replies
-    said_on = goes_same _ _ t.replies
-
+  module _ (s : Seated) (requests : s.requests ≡ (seat_at seats k).requests ++ listed s.client.next) (replies : s.replies ≡ (seat_at seats k).replies) where
     grown : Grows seats (with_seat s)
-    grown = grows_set seats k s less asked_on said_on
+    grown = grows_set seats k s less (listed s.client.next, requests) (goes_same _ _ replies)
 
     clients_now : map (λ (x : Seated). x.client) (with_seat s) ≡ slice_set (map (λ (x : Seated). x.client) seats) k s.client
     clients_now = map-set (λ (x : Seated). x.client) seats k s
 
+    -- the world in which it did
+    abbrev pub gone_on : Store → World
+    gone_on store = record { store = store; clients = slice_set (map (λ (x : Seated). x.client) seats) k s.client; messages = map (spoken seats) messages ++ sends k s.client.next }
+
+    -- nothing more is asked
+    pub last_there : EachIsThere (with_seat s) messages
+    last_there = all_there seats (with_seat s) grown messages there
+
+    pub last_is : s.client.next ≡ None → (store : Store) → world_of store (record { seats = with_seat s; messages = messages }) ≡ gone_on store
+    last_is none store = λ i. record {
+      store = store;
+      clients = clients_now i;
+      messages = (messages_same seats (with_seat s) grown messages there ∙ sym (append-nil (map (spoken seats) messages)) ∙ ap (λ n. map (spoken seats) messages ++ sends k n) (sym none)) i;
+    }
+
+    -- one request more is
+    module _ (request : Request) (some : s.client.next ≡ Some request) where
+      asked_now : s.requests ≡ (seat_at seats k).requests ++ request ∷ []
+      asked_now = requests ∙ ap (λ n. (seat_at seats k).requests ++ listed n) some
+
+      abbrev last : ℕ
+      last = length s.requests - 1
+
+      last_place : last ≡ length (seat_at seats k).requests
+      last_place = let e = ap length asked_now in omega (arith, e, length-append (seat_at seats k).requests (request ∷ []))
+
+      asked : spoken (with_seat s) (Message.Asked k last) ≡ world.Asked k request
+      asked = ap (world.Asked k) (ap (λ (x : Seated). slice_index_or x.requests last nothing) (here s)
+          ∙ (λ i. slice_index_or (asked_now i) (last_place i) nothing)
+          ∙ get_or-append_seam (seat_at seats k).requests request [] nothing)
+
+      asked_there : IsThere (with_seat s) (Message.Asked k last)
+      asked_there = subst (λ (x : Seated). last < length x.requests) (sym (here s))
+          (let e = ap length asked_now in omega (arith, e, last_place, length-append (seat_at seats k).requests (request ∷ [])))
+
+      pub more_there : EachIsThere (with_seat s) (messages ++ Message.Asked k (length s.requests - 1) ∷ [])
+      more_there = there_more seats (with_seat s) grown messages there (Message.Asked k last) asked_there
+
+      pub more_is : (store : Store) → world_of store (record { seats = with_seat s; messages = messages ++ Message.Asked k (length s.requests - 1) ∷ [] }) ≡ gone_on store
+      more_is store = λ i. record {
+        store = store;
+        clients = clients_now i;
+        messages = (messages_more seats (with_seat s) grown messages there (Message.Asked k last) (world.Asked k request) asked ∙ ap (λ n. map (spoken seats) messages ++ sends k n) (sym some)) i;
+      }
+
+  -- a reply was taken
+  module _ (reply : Reply) (s : Seated) (t : TookReply (seat_at seats k) reply s) where
     at_k : client_at (map (λ (x : Seated). x.client) seats) k ≡ (seat_at seats k).client
     at_k = client_there seats k
 
-    takes : (store : Store) (v : World)
-        → v ≡ record { store = store; clients = slice_set (map (λ (x : Seated). x.client) seats) k s.client; messages = map (spoken seats) messages ++ sends k s.client.next }
-        → Takes (world_of store (record { seats = seats; messages = messages })) k reply v
+    pub takes : (store : Store) (v : World) → v ≡ gone_on s t.requests t.replies store → Takes (world_of store (record { seats = seats; messages = messages })) k reply v
     takes store v is = record {
       running = ap (λ (c : Client). c.crashed) at_k ∙ t.running;
       request = t.request;
@@ -162,48 +214,39 @@ module _ (seats : List Seated) (messages : List Message) (k : ℕ) (there : Each
       is = is;
     }
 
-    -- nothing more is asked
-    pub took_last_there : EachIsThere (with_seat s) messages
-    took_last_there = all_there seats (with_seat s) grown messages there
+  -- an item was taken
+  module _ (item : Fed) (s : Seated) (t : TookItem (seat_at seats k) item s) where
+    fed_at : (seat_at seats k).client ≡ client_at (map (λ (x : Seated). x.client) seats) k
+    fed_at = sym (client_there seats k)
 
-    pub took_last : s.client.next ≡ None → (store : Store)
-        → Takes (world_of store (record { seats = seats; messages = messages })) k reply (world_of store (record { seats = with_seat s; messages = messages }))
-    took_last none store = takes store _ (λ i. record {
-      store = store;
-      clients = clients_now i;
-      messages = (messages_same seats (with_seat s) grown messages there ∙ sym (append-nil (map (spoken seats) messages)) ∙ ap (λ n. map (spoken seats) messages ++ sends k n) (sym none)) i;
-    })
+    pub feeds : (store : Store) (v : World) → v ≡ gone_on s t.requests t.replies store → Feeds (world_of store (record { seats = seats; messages = messages })) k item v
+    feeds store v is = record {
+      fed = subst MayBeFed fed_at t.fed;
+      waits = subst IsWaiting fed_at t.waits;
+      may = subst (λ (c : Client). AreTaken (item ∷ fed_in c.trace)) fed_at t.may;
+      new = s.client;
+      job = t.job ∙ ap (λ (c : Client). c.job) fed_at;
+      who = t.who ∙ ap (λ (c : Client). c.who) fed_at;
+      trace = t.trace ∙ ap (λ (c : Client). feeding item c.trace) fed_at;
+      up = t.up;
+      dutiful = t.dutiful;
+      is = is;
+    }
 
-    -- one request more is
-    module _ (request : Request) (some : s.client.next ≡ Some request) where
-      asked_now : s.requests ≡ (seat_at seats k).requests ++ request ∷ []
-      asked_now = t.requests ∙ ap (λ n. (seat_at seats k).requests ++ listed n) some
+  -- what comes of it
+  pub fed_told : (item : Item) (n : ℕ) (s : Seated) (t : TookItem (seat_at seats k) (fed_part n item) s) (applied : Applied) → IsCountOf n item → (n < size_of item → ¬ IsWaiting s.client) → TellsTaken n item applied
+      → (store : Store) (v : World) → v ≡ gone_on s t.requests t.replies store → Gives (world_of store (record { seats = seats; messages = messages })) k item applied v
+  unfolding feeds
+  fed_told item n s t applied count busy tells store v is = told_taken (world_of store (record { seats = seats; messages = messages })) k item n v applied count (feeds (fed_part n item) s t store v is) busy tells
 
-      abbrev last : ℕ
-      last = length s.requests - 1
-
-      last_is : last ≡ length (seat_at seats k).requests
-      last_is = let e = ap length asked_now in omega (arith, e, length-append (seat_at seats k).requests (request ∷ []))
-
-      asked : spoken (with_seat s) (Message.Asked k last) ≡ world.Asked k request
-      asked = ap (world.Asked k) (ap (λ (x : Seated). slice_index_or x.requests last nothing) (here s)
-          ∙ (λ i. slice_index_or (asked_now i) (last_is i) nothing)
-          ∙ get_or-append_seam (seat_at seats k).requests request [] nothing)
-
-      asked_there : IsThere (with_seat s) (Message.Asked k last)
-      asked_there = subst (λ (x : Seated). last < length x.requests) (sym (here s))
-          (let e = ap length asked_now in omega (arith, e, last_is, length-append (seat_at seats k).requests (request ∷ [])))
-
-      pub took_more_there : EachIsThere (with_seat s) (messages ++ Message.Asked k (length s.requests - 1) ∷ [])
-      took_more_there = there_more seats (with_seat s) grown messages there (Message.Asked k last) asked_there
-
-      pub took_more : (store : Store) → Takes (world_of store (record { seats = seats; messages = messages })) k reply
-          (world_of store (record { seats = with_seat s; messages = messages ++ Message.Asked k (length s.requests - 1) ∷ [] }))
-      took_more store = takes store _ (λ i. record {
-        store = store;
-        clients = clients_now i;
-        messages = (messages_more seats (with_seat s) grown messages there (Message.Asked k last) (world.Asked k request) asked ∙ ap (λ n. map (spoken seats) messages ++ sends k n) (sym some)) i;
-      })
+  -- no item was
+  pub unfeeds : (item : Item) (e : FeedError) (s : Seated) → s ≡ seat_at seats k → MayBeFed (seat_at seats k).client → RefusesItem (seat_at seats k).client item e → (store : Store)
+      → Unfeeds (world_of store (record { seats = seats; messages = messages })) k item e (world_of store (record { seats = with_seat s; messages = messages }))
+  unfeeds item e s same fed refuses store = record {
+    fed = subst MayBeFed (sym (client_there seats k)) fed;
+    refuses = subst (λ (c : Client). RefusesItem c item e) (sym (client_there seats k)) refuses;
+    is = same_world s same store;
+  }
 
   -- ---- a client stopped for good
 

@@ -3,7 +3,8 @@ use Rattle.std.proofs.Common.{◌≡◌, ◌∙◌, ◌<◌, ◌≤◌, ◌++◌
 use Rattle.std.proofs.lemmas.List.{reverse-append}
 use Rattle.repo_wire.specs.declared.messages.Reply.{Reply}
 use Rattle.repo_session.specs.declared.emissions.Emission.{Emission}
-use Rattle.repo_world.specs.Seats.{trace_back, trace_of}
+use Rattle.repo_session.specs.Feeds.{Fed}
+use Rattle.repo_world.specs.Seats.{kept_items, trace_back, trace_of}
 use Rattle.repo_world.specs.World.{given_out}
 use Rattle.repo_world.specs.declared.pasts.Past.{Past}
 
@@ -13,16 +14,16 @@ last_given given [] = given
 last_given given (p ∷ older) = last_given p.before.items older
 
 -- of one exchange more, the oldest
-given_back : (replies : List Reply) (given : List Emission) (ps : List Past) (p : Past) → given_out (trace_back replies given (ps ++ p ∷ [])) ≡ last_given given ps ∷ given_out (trace_back replies given ps)
-given_back replies given [] p = refl
-given_back replies given (q ∷ ps) p = ap (λ l. l ++ given ∷ []) (given_back replies q.before.items ps p)
+given_back : (replies : List Reply) (given : List Emission) (fed : List Fed) (ps : List Past) (p : Past) → given_out (trace_back replies given fed (ps ++ p ∷ [])) ≡ last_given given ps ∷ given_out (trace_back replies given fed ps)
+given_back replies given fed [] p = refl
+given_back replies given fed (q ∷ ps) p = ap (λ l. l ++ given ∷ []) (given_back replies q.before.items (kept_items q.fed.items) ps p)
 
 last_end : (given : List Emission) (ps : List Past) (p : Past) → last_given given (ps ++ p ∷ []) ≡ p.before.items
 last_end given [] p = refl
 last_end given (q ∷ ps) p = last_end q.before.items ps p
 
-given_first : (replies : List Reply) (given : List Emission) (p : Past) (pasts : List Past) → given_out (trace_of replies given (p ∷ pasts)) ≡ last_given given (reverse pasts) ∷ given_out (trace_of replies given pasts)
-given_first replies given p pasts = ap (λ l. given_out (trace_back replies given l)) (reverse-append (p ∷ []) pasts) ∙ given_back replies given (reverse pasts) p
+given_first : (replies : List Reply) (given : List Emission) (fed : List Fed) (p : Past) (pasts : List Past) → given_out (trace_of replies given fed (p ∷ pasts)) ≡ last_given given (reverse pasts) ∷ given_out (trace_of replies given fed pasts)
+given_first replies given fed p pasts = ap (λ l. given_out (trace_back replies given fed l)) (reverse-append (p ∷ []) pasts) ∙ given_back replies given fed (reverse pasts) p
 
 -- what was given out on the exchange of a place: it stands beside the next one, or is what was given out last
 abbrev pub given_at : List Emission → List Past → ℕ → Option (List Emission)
@@ -32,14 +33,14 @@ given_at given (p ∷ []) (suc n) = None
 given_at given (p ∷ q ∷ rest) zero = Some q.before.items
 given_at given (p ∷ q ∷ rest) (suc n) = given_at given (q ∷ rest) n
 
-pub given_is : (replies : List Reply) (given : List Emission) (pasts : List Past) (n : ℕ) → slice_get (given_out (trace_of replies given pasts)) n ≡ given_at given pasts n
-given_is replies given [] zero = refl
-given_is replies given [] (suc n) = refl
-given_is replies given (p ∷ []) zero = refl
-given_is replies given (p ∷ []) (suc zero) = refl
-given_is replies given (p ∷ []) (suc (suc n)) = refl
-given_is replies given (p ∷ q ∷ rest) zero = ap (λ l. slice_get l 0) (given_first replies given p (q ∷ rest)) ∙ ap Some (ap (last_given given) (reverse-append (q ∷ []) rest) ∙ last_end given (reverse rest) q)
-given_is replies given (p ∷ q ∷ rest) (suc n) = ap (λ l. slice_get l (suc n)) (given_first replies given p (q ∷ rest)) ∙ given_is replies given (q ∷ rest) n
+pub given_is : (replies : List Reply) (given : List Emission) (fed : List Fed) (pasts : List Past) (n : ℕ) → slice_get (given_out (trace_of replies given fed pasts)) n ≡ given_at given pasts n
+given_is replies given fed [] zero = refl
+given_is replies given fed [] (suc n) = refl
+given_is replies given fed (p ∷ []) zero = refl
+given_is replies given fed (p ∷ []) (suc zero) = refl
+given_is replies given fed (p ∷ []) (suc (suc n)) = refl
+given_is replies given fed (p ∷ q ∷ rest) zero = ap (λ l. slice_get l 0) (given_first replies given fed p (q ∷ rest)) ∙ ap Some (ap (last_given given) (reverse-append (q ∷ []) rest) ∙ last_end given (reverse rest) q)
+given_is replies given fed (p ∷ q ∷ rest) (suc n) = ap (λ l. slice_get l (suc n)) (given_first replies given fed p (q ∷ rest)) ∙ given_is replies given fed (q ∷ rest) n
 
 pub given_none : (given : List Emission) (pasts : List Past) (n : ℕ) → length pasts ≤ n → given_at given pasts n ≡ None
 given_none given [] n h = refl

@@ -1,14 +1,16 @@
 -- What only grows.
-use Rattle.std.proofs.Common.{◌≡◌, ◌⊎◌, ◌++◌, ◌∷◌, [], ℕ, List, sym, subst, inl, inr, ⊎_elim}
+use Rattle.std.proofs.Common.{◌≡◌, ◌⊎◌, ◌++◌, ◌∷◌, [], ℕ, List, sym, ap, subst, inl, inr, ⊎_elim}
 use Rattle.repo_name.specs.declared.kinds.Kind.{Kind}
 use Rattle.repo_name.specs.declared.names.Name.{Name}
 use Rattle.repo_wire.specs.declared.messages.Ask.{Ask}
 use Rattle.repo_wire.specs.declared.messages.Say.{Say}
-use Rattle.repo_session.specs.Traces.{Trace, Exchanged}
+use Rattle.repo_pack.specs.PackLayout.{item_of}
+use Rattle.repo_session.specs.Traces.{Trace, Exchanged, fed_in}
 use Rattle.repo_world.specs.Bag.{AskedAt, AskedIn, with_next, HasPut, HasDeleted, HasUpgraded}
 use Rattle.repo_world.specs.Clients.{MadeOf, Client}
 use Rattle.repo_world.specs.Safe.{IsPutBy, IsAsked, IsSpoken, by_put, by_reply, IsKnown, known_spoken, known_part, known_made, HasNoClash}
 use Rattle.repo_world.specs.World.{World, client, Message, IsOneOf, Asked, Said}
+use Rattle.repo_world.proofs.PieceMaking.{made_same}
 use Rattle.repo_world.proofs.Sending.{Within}
 use Rattle.repo_world.specs.declared.jobs.Job.{Job}
 
@@ -23,24 +25,25 @@ pub record Later (w v : World) : Type 0 where
   pub grows : (k : ℕ) → Grows (client w k) (client v k)
   pub messages : (m : Message) → IsOneOf w.messages m → IsOneOf v.messages m
 
--- what was made of what was handed is made of it as the trace grows
-pub made_more : (b : Job) (es fs : Trace) → Within es fs → (x : List ℕ) → MadeOf b es x → MadeOf b fs x
-made_more (Job.Backup entries) es fs within x m =
+-- what was made of what was handed is made of it as the trace grows, where nothing was fed between
+pub made_more : (b : Job) (es fs : Trace) → Within es fs → fed_in fs ≡ fed_in es → (x : List ℕ) → MadeOf b es x → MadeOf b fs x
+made_more (Job.Backup entries) es fs within same x m =
     let c = m.cut in
     record { folder = m.folder; kind = m.kind; cut = record { text = c.text; config = c.config; read = within Ask.Config (Say.Bytes c.text) c.read; reads = c.reads; known = c.known; cut = c.cut }; among = m.among }
-made_more (Job.Restore s) es fs within x m = m
-made_more Job.List es fs within x m = m
-made_more (Job.Forget choice) es fs within x m = m
-made_more Job.Prune es fs within x m = m
-made_more Job.Check es fs within x m = m
-made_more Job.Upgrade es fs within x m = m
+made_more Job.Pieces es fs within same x m = (m.0, made_same es fs within same (item_of m.0 x) m.1)
+made_more (Job.Restore s) es fs within same x m = m
+made_more Job.List es fs within same x m = m
+made_more (Job.Forget choice) es fs within same x m = m
+made_more Job.Prune es fs within same x m = m
+made_more Job.Check es fs within same x m = m
+made_more Job.Upgrade es fs within same x m = m
 
 -- a client of the same job that took more
-pub grows_with : (c d : Client) → d.job ≡ c.job → Within c.trace d.trace → ((q : ℕ) (a : Ask) → AskedAt c q a → AskedAt d q a) → Grows c d
-grows_with c d j t a = record { trace = t; asked = a; made = λ x m. subst (λ (b : Job). MadeOf b d.trace x) (sym j) (made_more c.job c.trace d.trace t x m) }
+pub grows_with : (c d : Client) → d.job ≡ c.job → Within c.trace d.trace → fed_in d.trace ≡ fed_in c.trace → ((q : ℕ) (a : Ask) → AskedAt c q a → AskedAt d q a) → Grows c d
+grows_with c d j t f a = record { trace = t; asked = a; made = λ x m. subst (λ (b : Job). MadeOf b d.trace x) (sym j) (made_more c.job c.trace d.trace t f x m) }
 
 pub grows_same : (c d : Client) → d.job ≡ c.job → d.trace ≡ c.trace → d.next ≡ c.next → Grows c d
-grows_same c d j t n = grows_with c d j (λ a s h. subst (λ es. Exchanged es a s) (sym t) h) (λ q a h. subst (λ es. AskedIn (with_next d.next es) q a) (sym t) (subst (λ b. AskedIn (with_next b c.trace) q a) (sym n) h))
+grows_same c d j t n = grows_with c d j (λ a s h. subst (λ es. Exchanged es a s) (sym t) h) (ap fed_in t) (λ q a h. subst (λ es. AskedIn (with_next d.next es) q a) (sym t) (subst (λ b. AskedIn (with_next b c.trace) q a) (sym n) h))
 
 pub later_put : (w v : World) → Later w v → (k : Kind) (n : Name) (x : List ℕ) → IsPutBy w k n x → IsPutBy v k n x
 later_put w v l k n x h = record { by = h.by; request = h.request; token = h.token; message = l.messages (Asked h.by h.request) h.message; asks = h.asks }

@@ -1,5 +1,6 @@
 -- What is put under a live token leaves the store sound.
 use Rattle.std.proofs.Common.{◌≡◌, ◌⊎◌, inl, inr, ⊎_elim, ℕ, ◌+◌, List, [], ◌∷◌, length, refl, sym, subst, Some, Contains}
+use Rattle.repo_name.specs.declared.kinds.BlobKind.{BlobKind}
 use Rattle.repo_name.specs.declared.kinds.Kind.{Kind}
 use Rattle.repo_name.specs.declared.names.Name.{Name}
 use Rattle.repo_name.specs.declared.tokens.Token.{Token}
@@ -10,10 +11,11 @@ use Rattle.repo_tree.specs.declared.entries.Entry.{Entry}
 use Rattle.repo_store.specs.Stores.{Objects, Added}
 use Rattle.repo_session.specs.Changes.{IsSoundObject}
 use Rattle.repo_session.specs.Soundness.{IsSound, IsSoundIndex, IsSoundSnapshot}
-use Rattle.repo_session.specs.Traces.{Trace, WasAsked, Object}
+use Rattle.repo_session.specs.Traces.{Trace, WasAsked, Object, fed_in}
 use Rattle.repo_session.proofs.Changing.{adding_keeps_sound}
 use Rattle.repo_backup.specs.Folders.{blobs_of}
-use Rattle.repo_backup.specs.Laws.{IsMadeOf}
+use Rattle.repo_backup.specs.Items.{AreTaken, spelled_by}
+use Rattle.repo_backup.specs.PieceRules.{AreOver, PiecePackRule}
 use Rattle.repo_backup.specs.Rules as backing
 use Rattle.repo_prune.specs.Pruning.{MayPutPack, MayPutIndex}
 use Rattle.repo_writing.specs.Laws.{IsPutOrKept}
@@ -21,11 +23,12 @@ use Rattle.repo_writing.specs.Putting.{PutDone, IsIndexOf}
 use Rattle.repo_writing.proofs.Keeping.{IsKept, index_put_is_sound, snapshot_put_is_sound}
 use Rattle.repo_writing.proofs.PutLemmas.{asked_put}
 use Rattle.repo_world.specs.Bag.{AskedIn, AskedAt, with_next, HasDeleted, IsLive, HasBag}
-use Rattle.repo_world.specs.Clients.{MadeOf}
-use Rattle.repo_world.specs.Safe.{IsPutBy, Took, IsKnown, known_made, HasNoClash}
+use Rattle.repo_world.specs.Clients.{JobAllows, MadeOf}
+use Rattle.repo_world.specs.Safe.{IsPutBy, Took, known_made, HasNoClash}
 use Rattle.repo_world.specs.World.{World, client}
 use Rattle.repo_world.proofs.Deleting.{delete_of, keeps_put}
 use Rattle.repo_world.proofs.Knowing.{sent_as, held_in, held_known, held_apart, stand_of, put_named, told_of}
+use Rattle.repo_world.proofs.PieceMaking.{all_made, made_on}
 use Rattle.repo_world.proofs.Sending.{Within, Sending}
 use Rattle.repo_world.specs.declared.jobs.Job.{Job}
 
@@ -68,35 +71,52 @@ module _ (w : World) (bag : HasBag w) (clash : HasNoClash w) (k : ℕ) (t : Toke
   lists_sound : (es : Trace) → Within es (client w k).trace → IsKept (HasDeleted w k) es → IsIndexOf (IsPutOrKept es) x → IsSoundIndex w.store.objects x
   lists_sound es within kept lists = index_put_is_sound (HasDeleted w k) es w.store.objects bag.sound (told_of w bag k es t within took live) (stand_of w bag clash k es within) kept x lists
 
-  -- ---- of a backup
+  -- ---- of a client that deletes nothing
 
-  module _ (entries : List Entry) (job : (client w k).job ≡ Job.Backup entries) where
+  module _ (b : Job) (job : (client w k).job ≡ b) (never : (es : Trace) (u : Token) (m : Kind) (i : Name) → JobAllows b es (Ask.Delete u m i) → ⊥) where
     none_deleted : (m : Kind) (i : Name) → ¬ HasDeleted w k m i
-    none_deleted m i d = (sent_as w bag k d.0 (Ask.Delete d.1 m i) (Job.Backup entries) job d.2).permitted tt
+    none_deleted m i d = let s = sent_as w bag k d.0 (Ask.Delete d.1 m i) b job d.2 in never s.older d.1 m i (s.permitted tt)
 
     kept_by : (es : Trace) → IsKept (HasDeleted w k) es
     kept_by es = record { put = λ m i y p. none_deleted m i; indexes = λ i. none_deleted Kind.Index i }
 
-    backup_index : Sending (Job.Backup entries) (client w k).who (client w k).trace (Ask.Put t Kind.Index n x) → IsSoundIndex w.store.objects x
-    backup_index s =
-        let r : backing.IndexRule s.older x = s.permitted tt in
-        lists_sound s.older s.within (kept_by s.older) (record { packs = r.lists.packs; reads = r.lists.reads; some = r.lists.some; each = λ listed among. inl (r.lists.each listed among) })
+    new_index : (es : Trace) → Within es (client w k).trace → backing.IndexRule es x → IsSoundIndex w.store.objects x
+    new_index es within r =
+        lists_sound es within (kept_by es) (record { packs = r.lists.packs; reads = r.lists.reads; some = r.lists.some; each = λ listed among. inl (r.lists.each listed among) })
 
-    made_known : (es : Trace) → Within es (client w k).trace → (y : List ℕ) → IsMadeOf entries es y → IsKnown w y
-    made_known es within y m = known_made k (subst (λ (b : Job). MadeOf b (client w k).trace y) (sym job) (record {
-      folder = m.folder;
-      kind = m.kind;
-      cut = record { text = m.cut.text; config = m.cut.config; read = within Ask.Config (Say.Bytes m.cut.text) m.cut.read; reads = m.cut.reads; known = m.cut.known; cut = m.cut.cut };
-      among = m.among;
-    }))
+    new_snapshot : (es : Trace) → Within es (client w k).trace → (entries : List Entry) (r : backing.SnapshotRule entries es t x)
+        → ((c : BlobKind) (y : List ℕ) → Contains (blobs_of r.folder) (item_of c y) → MadeOf b (client w k).trace y) → IsSoundSnapshot w.store.objects x
+    new_snapshot es within entries r made =
+        snapshot_put_is_sound (HasDeleted w k) es w.store.objects bag.sound (told_of w bag k es t within took live) (stand_of w bag clash k es within) (kept_by es) (held_apart w bag clash)
+        (λ c y. Contains (blobs_of r.folder) (item_of c y))
+        (λ c y z held among. clash y z (held_known w bag c y held) (known_made k (subst (λ (j : Job). MadeOf j (client w k).trace z) (sym job) (made c z among))))
+        (λ c y among. r.given (item_of c y) among) x r.snapshot entries r.reads r.spells
+
+  -- ---- of a backup
+
+  module _ (entries : List Entry) (job : (client w k).job ≡ Job.Backup entries) where
+    backup_index : Sending (Job.Backup entries) (client w k).who (client w k).trace (Ask.Put t Kind.Index n x) → IsSoundIndex w.store.objects x
+    backup_index s = new_index (Job.Backup entries) job (λ es u m i h. h) s.older s.within (s.permitted tt).0
 
     backup_snapshot : Sending (Job.Backup entries) (client w k).who (client w k).trace (Ask.Put t Kind.Snapshot n x) → IsSoundSnapshot w.store.objects x
     backup_snapshot s =
         let r : backing.SnapshotRule entries s.older t x = s.permitted tt in
-        snapshot_put_is_sound (HasDeleted w k) s.older w.store.objects bag.sound (told_of w bag k s.older t s.within took live) (stand_of w bag clash k s.older s.within) (kept_by s.older) (held_apart w bag clash)
-        (λ b y. Contains (blobs_of r.folder) (item_of b y))
-        (λ b y z held among. clash y z (held_known w bag b y held) (made_known s.older s.within z (record { folder = r.folder; kind = b; cut = r.cut; among = among })))
-        (λ b y among. r.given (item_of b y) among) x r.snapshot entries r.reads r.spells
+        let cut : backing.IsMade entries (client w k).trace r.folder = record { text = r.cut.text; config = r.cut.config; read = s.within Ask.Config (Say.Bytes r.cut.text) r.cut.read; reads = r.cut.reads; known = r.cut.known; cut = r.cut.cut } in
+        new_snapshot (Job.Backup entries) job (λ es u m i h. h) s.older s.within entries r (λ c y among. record { folder = r.folder; kind = c; cut = cut; among = among })
+
+  -- ---- of a backup that is fed
+
+  module _ (job : (client w k).job ≡ Job.Pieces) where
+    pieces_index : Sending Job.Pieces (client w k).who (client w k).trace (Ask.Put t Kind.Index n x) → IsSoundIndex w.store.objects x
+    pieces_index s = new_index Job.Pieces job (λ es u m i h. h) s.older s.within (s.permitted tt).0
+
+    pieces_snapshot : Sending Job.Pieces (client w k).who (client w k).trace (Ask.Put t Kind.Snapshot n x) → IsSoundSnapshot w.store.objects x
+    pieces_snapshot s =
+        let over : AreOver s.older = (s.permitted tt).0 in
+        let taken : AreTaken (fed_in s.older) = (s.permitted tt).1 in
+        let r : backing.SnapshotRule (spelled_by (fed_in s.older)) s.older t x = (s.permitted tt).2 in
+        new_snapshot Job.Pieces job (λ es u m i h. h) s.older s.within (spelled_by (fed_in s.older)) r
+        (λ c y among. (c, made_on s.older (client w k).trace s.within s.since (bag.taken k) (item_of c y) (all_made s.older r.folder taken over r.cut (item_of c y) among)))
 
   -- ---- of a prune
 
@@ -131,6 +151,12 @@ module _ (w : World) (bag : HasBag w) (clash : HasNoClash w) (k : ℕ) (t : Toke
       (r.items, r.pack)
   object_ok (Job.Backup entries) e Kind.Index q h = backup_index entries e (sent_as w bag k q (Ask.Put t Kind.Index n x) (Job.Backup entries) e h)
   object_ok (Job.Backup entries) e Kind.Snapshot q h = backup_snapshot entries e (sent_as w bag k q (Ask.Put t Kind.Snapshot n x) (Job.Backup entries) e h)
+  object_ok Job.Pieces e Kind.Pack q h =
+      let s = sent_as w bag k q (Ask.Put t Kind.Pack n x) Job.Pieces e h in
+      let r : PiecePackRule s.older x = s.permitted tt in
+      (r.items, r.pack)
+  object_ok Job.Pieces e Kind.Index q h = pieces_index e (sent_as w bag k q (Ask.Put t Kind.Index n x) Job.Pieces e h)
+  object_ok Job.Pieces e Kind.Snapshot q h = pieces_snapshot e (sent_as w bag k q (Ask.Put t Kind.Snapshot n x) Job.Pieces e h)
   object_ok Job.Prune e Kind.Pack q h =
       let s = sent_as w bag k q (Ask.Put t Kind.Pack n x) Job.Prune e h in
       let r : MayPutPack s.older x = s.permitted tt in

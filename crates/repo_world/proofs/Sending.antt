@@ -1,5 +1,5 @@
 -- What a client had done when it sent a request.
-use Rattle.std.proofs.Common.{◌≡◌, inl, inr, ⊎_elim, ℕ, ◌+◌, List, [], ◌∷◌, ◌++◌, length, refl, sym, subst, Option, Some, None}
+use Rattle.std.proofs.Common.{◌≡◌, inl, inr, ⊎_elim, ℕ, ◌+◌, List, [], ◌∷◌, ◌++◌, length, refl, sym, ap, ◌∙◌, append_assoc, subst, Option, Some, None}
 use Rattle.std.proofs.lemmas.Option.{none-some}
 use Rattle.repo_name.specs.declared.kinds.Kind.{Kind}
 use Rattle.repo_name.specs.declared.names.Name.{Name}
@@ -14,7 +14,8 @@ use Rattle.repo_session.specs.Clients.{IsNextRequest}
 use Rattle.repo_session.specs.Deletions.{NoneDeleted}
 use Rattle.repo_session.specs.Ends as ends
 use Rattle.repo_session.specs.Order.{Task, May, IsPermitted, Obeys, IsWorking, opened, lock_row}
-use Rattle.repo_session.specs.Traces.{Exchange, Trace, Exchanged, WasAsked}
+use Rattle.repo_session.specs.Traces.{Exchange, Trace, Exchanged, WasAsked, fed_in}
+use Rattle.repo_backup.specs.Items.{Feeding}
 use Rattle.repo_session.proofs.Concluding.{IsUndeleted}
 use Rattle.repo_session.proofs.Spoken.{was_asked}
 use Rattle.repo_prune.specs.Pruning.{PruneAllows}
@@ -27,6 +28,10 @@ use Rattle.repo_world.specs.World.{nobody}
 use Rattle.repo_world.specs.declared.jobs.Job.{Job}
 
 -- ---- traces
+
+-- the items taken in es are the last ones of those taken in fs
+abbrev pub FedSince : Trace → Trace → Type 0
+FedSince es fs = (more : Feeding) × (fed_in fs ≡ more ++ fed_in es)
 
 -- every exchange of es is one of fs
 abbrev pub Within : Trace → Trace → Type 0
@@ -110,9 +115,13 @@ ruled_as c b e h = subst (λ (j : Job). IsRuled j c) e (ruled c h)
 pub record Sending (b : Job) (who : Asker) (es : Trace) (a : Ask) : Type 0 where
   pub older : Trace
   pub within : Within older es
+  pub since : FedSince older es
   pub obeys : Obeys (task_of b who) (JobAllows b) (JobGives b) older
   pub may : May (task_of b who) older a
   pub permitted : IsPermitted (JobAllows b) older a
+
+fed_more : (e : Exchange) (es older : Trace) → FedSince older es → FedSince older (e ∷ es)
+fed_more e es older since = (e.fed ++ since.0, ap (λ l. e.fed ++ l) since.1 ∙ sym (append_assoc e.fed since.0 (fed_in older)))
 
 module _ (b : Job) (who : Asker) where
   sending_in : (es : Trace) (q : ℕ) (a : Ask) → Obeys (task_of b who) (JobAllows b) (JobGives b) es → AskedIn es q a → Sending b who es a
@@ -120,19 +129,21 @@ module _ (b : Job) (who : Asker) where
   sending_in (e ∷ es) q a o (inl h) = record {
     older = es;
     within = λ c s g. inr g;
+    since = (e.fed, refl);
     obeys = o.3;
     may = subst (λ c. May (task_of b who) es c) h.0 o.0;
     permitted = subst (λ c. IsPermitted (JobAllows b) es c) h.0 o.1;
   }
   sending_in (e ∷ es) q a o (inr h) =
       let g = sending_in es q a o.3 h in
-      record { older = g.older; within = λ c s x. inr (g.within c s x); obeys = g.obeys; may = g.may; permitted = g.permitted }
+      record { older = g.older; within = λ c s x. inr (g.within c s x); since = fed_more e es g.older g.since; obeys = g.obeys; may = g.may; permitted = g.permitted }
 
   sending_next : (next : Option Request) (es : Trace) (q : ℕ) (a : Ask) → Obeys (task_of b who) (JobAllows b) (JobGives b) es → ((r : Request) → next ≡ Some r → IsNextRequest (task_of b who) (JobAllows b) es r) → AskedIn (with_next next es) q a → Sending b who es a
   sending_next None es q a o m h = sending_in es q a o h
   sending_next (Some r) es q a o m (inl h) = record {
     older = es;
     within = λ c s g. g;
+    since = ([], refl);
     obeys = o;
     may = subst (λ c. May (task_of b who) es c) h.0 (m r refl).may;
     permitted = subst (λ c. IsPermitted (JobAllows b) es c) h.0 (m r refl).permitted;

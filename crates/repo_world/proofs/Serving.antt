@@ -18,7 +18,9 @@ use Rattle.repo_world.proofs.Staying.{Move, turn_of, served, still_served, says_
 use Rattle.repo_world.proofs.Moving.{StoreMoves, step_moves, ObjectsMove, ConfigMoves}
 use Rattle.repo_world.proofs.Knowing.{sent_as, put_took}
 use Rattle.repo_store.proofs.Upgrading.{Raises}
+use Rattle.repo_backup.specs.Items.{spelled_by}
 use Rattle.repo_backup.specs.Rules as backing
+use Rattle.repo_session.specs.Traces.{fed_in}
 use Rattle.repo_tree.specs.declared.configs.Config.{Config}
 use Rattle.repo_tree.specs.declared.snapshots.Snapshot.{Snapshot}
 use Rattle.repo_tree.specs.ConfigText.{IsConfigText, config_text, upgraded}
@@ -57,6 +59,11 @@ module _ (w : World) (bag : HasBag w) where
       let r : backing.SnapshotRule entries s.older t x = s.permitted tt in
       let there = (bag.told k Ask.Config (Say.Bytes r.cut.text) (s.within Ask.Config (Say.Bytes r.cut.text) r.cut.read)).0.configured r.cut.text refl refl t took live in
       (r.cut.text, r.cut.config, r.snapshot, ⊎_elim (λ u. absurd ((sent_as w bag k u.0 (Ask.Upgrade u.1) (Job.Backup entries) e u.2).permitted tt)) (λ c. c) there, r.cut.reads, r.reads, r.version_is)
+  source_versioned k q t n x Job.Pieces e h took live =
+      let s = sent_as w bag k q (Ask.Put t Kind.Snapshot n x) Job.Pieces e h in
+      let r : backing.SnapshotRule (spelled_by (fed_in s.older)) s.older t x = (s.permitted tt).2 in
+      let there = (bag.told k Ask.Config (Say.Bytes r.cut.text) (s.within Ask.Config (Say.Bytes r.cut.text) r.cut.read)).0.configured r.cut.text refl refl t took live in
+      (r.cut.text, r.cut.config, r.snapshot, ⊎_elim (λ u. absurd ((sent_as w bag k u.0 (Ask.Upgrade u.1) Job.Pieces e u.2).permitted tt)) (λ c. c) there, r.cut.reads, r.reads, r.version_is)
   source_versioned k q t n x Job.Prune e h took live = absurd ((sent_as w bag k q (Ask.Put t Kind.Snapshot n x) Job.Prune e h).permitted tt)
   source_versioned k q t n x (Job.Restore s) e h took live = absurd ((sent_as w bag k q (Ask.Put t Kind.Snapshot n x) (Job.Restore s) e h).permitted tt)
   source_versioned k q t n x Job.List e h took live = absurd ((sent_as w bag k q (Ask.Put t Kind.Snapshot n x) Job.List e h).permitted tt)
@@ -129,6 +136,7 @@ module _ (w : World) (bag : HasBag w) (clash : HasNoClash w) (k : ℕ) (request 
     versions = λ n x h. versioned_after w.store request.ask store x moves.config (versions_moved w bag k request m store.objects moves.objects n x h);
     behave = bag.behave;
     within = bag.within;
+    taken = bag.taken;
     told = λ j a s h.
         let t = bag.told j a s h in
         let q = sent_as_asked (client w j) a s h in

@@ -99,6 +99,7 @@ module _ (Own : Type 0) where
   happens_any w (Event.Deliver i) a v h = delivers_so (Plainly Own) (Plainly ⊤) plainly_any w (slice_get w.messages i) a v h
   happens_any w (Event.Fault i fail) a v h = delivers_so (Failing Own fail) (Failing ⊤ fail) (failing_any fail) w (slice_get w.messages i) a v h
   happens_any w (Event.Ask request) a v h = sends_so Own ⊤ (λ own. tt) w request a v h
+  happens_any w (Event.Feed k item) a v h = h
   happens_any w (Event.Crash k) a v h = h
   happens_any w Event.Restart a v h = h
 

@@ -7,7 +7,7 @@ use Rattle.repo_name.specs.declared.kinds.Kind.{Kind}
 use Rattle.repo_name.specs.declared.names.Name.{Name}
 use Rattle.repo_tree.specs.declared.entries.Entry.{Entry}
 use Rattle.repo_session.specs.Versions.{upto}
-use Rattle.repo_session.specs.Clients.{IsObedient}
+use Rattle.repo_session.specs.Clients.{IsObedientWith}
 use Rattle.repo_session.specs.Order.{May, Task}
 use Rattle.repo_session.specs.Traces.{Trace, is_complete}
 use Rattle.repo_session.specs.declared.outcomes.End.{End}
@@ -17,7 +17,7 @@ use Rattle.repo_prune.specs.Forgetting.{IsForgotten, IsDecided}
 use Rattle.repo_prune.specs.declared.choices.Choice.{Choice}
 use Rattle.repo_session.proofs.GoingOn.{concluded_of}
 use Rattle.repo_world.specs.AnyClients.{FitsAny, any_ended, any_next, any_obeys, given_to}
-use Rattle.repo_world.specs.Clients.{JobAllows, JobConcludes, JobGives, task_of}
+use Rattle.repo_world.specs.Clients.{JobAllows, JobConcludes, JobGives, JobWants, task_of}
 use Rattle.repo_world.specs.declared.any_clients.AnyClient.{AnyClient}
 use Rattle.repo_world.specs.declared.jobs.Job.{Job}
 
@@ -70,9 +70,22 @@ backup_ends entries (End.Refused code) h = h
 backup_ends entries End.BadReply h = h
 backup_ends entries End.Version h = h
 
+pieces_ends : (end : End) → JobConcludes Job.Pieces [] (Outcome.Ended end) → ⊥
+pieces_ends End.DirectoryTooLarge h = h.made.2.has.read
+pieces_ends End.FileTooLarge h = h
+pieces_ends End.Abandoned h = h.1
+pieces_ends (End.Missing thing name) h = h
+pieces_ends (End.BadObject thing name) h = h
+pieces_ends End.Busy h = h
+pieces_ends End.Fenced h = h
+pieces_ends (End.Refused code) h = h
+pieces_ends End.BadReply h = h
+pieces_ends End.Version h = h
+
 -- an end of a job's own has something that was asked
 no_end : (job : Job) (end : End) → JobConcludes job [] (Outcome.Ended end) → ⊥
 no_end (Job.Backup entries) end h = backup_ends entries end h
+no_end Job.Pieces end h = pieces_ends end h
 no_end (Job.Restore snapshot) end h = restore_ends snapshot end h
 no_end Job.List end h = h
 no_end (Job.Forget choice) end h = h
@@ -90,6 +103,7 @@ forgot_listed choice es names h = go choice h.chosen.decided where
 no_outcome : (job : Job) (o : Outcome) → JobConcludes job [] o → ⊥
 no_outcome job (Outcome.Ended end) h = no_end job end h
 no_outcome (Job.Backup entries) (Outcome.Stored name blobs bytes) h = h.put.1
+no_outcome Job.Pieces (Outcome.Stored name blobs bytes) h = h.put.1
 no_outcome (Job.Restore snapshot) (Outcome.Complete entries) h = h.2.2.0
 no_outcome Job.List (Outcome.Listed rows) h = unlisted h.listed.complete
 no_outcome (Job.Forget choice) (Outcome.Forgotten names) h = unlisted (forgot_listed choice [] names h)
@@ -99,6 +113,7 @@ no_outcome Job.Check (Outcome.Faults faults) h = unlisted (h.received.objects Ki
 no_outcome Job.Upgrade Outcome.Upgraded (inl h) = h.read
 no_outcome Job.Upgrade Outcome.Upgraded (inr h) = h.1
 no_outcome (Job.Backup entries) _ h = h
+no_outcome Job.Pieces _ h = h
 no_outcome (Job.Restore snapshot) _ h = h
 no_outcome Job.List _ h = h
 no_outcome (Job.Forget choice) _ h = h
@@ -117,6 +132,17 @@ not_concluded known job (Outcome.Pruned packs bytes) h = no_outcome job (Outcome
 not_concluded known job (Outcome.Clean snapshots indexes packs blobs) h = no_outcome job (Outcome.Clean snapshots indexes packs blobs) h
 not_concluded known job (Outcome.Faults faults) h = no_outcome job (Outcome.Faults faults) h
 not_concluded known job Outcome.Upgraded h = no_outcome job Outcome.Upgraded h
+
+-- and it wants no input
+no_wish : (job : Job) → JobWants job [] → ⊥
+no_wish (Job.Backup entries) h = h
+no_wish Job.Pieces h = unlisted h.indexes.listed.complete
+no_wish (Job.Restore snapshot) h = h
+no_wish Job.List h = h
+no_wish (Job.Forget choice) h = h
+no_wish Job.Prune h = h
+no_wish Job.Check h = h
+no_wish Job.Upgrade h = h
 
 -- ---- and what is pending is the ticket
 
@@ -139,7 +165,7 @@ only_ticket task (Ask.Refresh token time) h = absurd h
 only_ticket task Ask.Locks h = absurd h
 
 module _ (c : AnyClient) (f : FitsAny c []) where
-  owes : IsObedient (task_of (given_to c).handed (given_to c).who) (JobAllows (given_to c).handed) (JobGives (given_to c).handed) (JobConcludes (given_to c).handed) (any_next c) (any_ended c) []
+  owes : IsObedientWith (task_of (given_to c).handed (given_to c).who) (JobAllows (given_to c).handed) (JobGives (given_to c).handed) (JobConcludes (given_to c).handed) (JobWants (given_to c).handed) (any_next c) (any_ended c) []
   owes = any_obeys c [] f
 
   pub no_outcome_yet : any_ended c ≡ None
@@ -152,7 +178,7 @@ module _ (c : AnyClient) (f : FitsAny c []) where
   pub ticket_pending : any_next c ≡ Some (record { instance = (given_to c).who.instance; sequence = 1; ask = Ask.Ticket })
   ticket_pending = go (any_next c) refl where
     go : (o : Option Request) → any_next c ≡ o → any_next c ≡ Some (record { instance = (given_to c).who.instance; sequence = 1; ask = Ask.Ticket })
-    go None e = absurd (owes.settled e no_outcome_yet)
+    go None e = absurd (no_wish (given_to c).handed (owes.settled e no_outcome_yet))
     go (Some request) e =
         let n = owes.pending request e in
         let t = only_ticket (task_of (given_to c).handed (given_to c).who) request.ask n.may in

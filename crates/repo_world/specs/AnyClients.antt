@@ -1,15 +1,17 @@
 -- A client of any job, as its job's own client stands.
-use Rattle.std.specs.Prelude.{[], Bool, List, Option}
+use Rattle.std.specs.Prelude.{◌≡◌, [], Bool, List, Option, None}
 use Rattle.repo_wire.specs.declared.messages.Request.{Request}
 use Rattle.repo_name.specs.declared.tokens.Token.{Token}
 use Rattle.repo_session.specs.declared.emissions.Emission.{Emission}
 use Rattle.repo_session.specs.declared.outcomes.Outcome.{Outcome}
-use Rattle.repo_session.specs.Clients.{IsObedient, TellsToken}
+use Rattle.repo_session.specs.Clients.{IsObedientWith, TellsToken}
 use Rattle.repo_session.specs.Sessions.{Given, who_in, next_in, ended_in, given_by, token_in}
 use Rattle.repo_session.specs.Traces.{Trace}
 use Rattle.repo_backup.specs.BackupObedience.{backup_obeys, backup_tells}
 use Rattle.repo_backup.specs.Backups as backups
 use Rattle.repo_backup.specs.Backups.{FitsBackup}
+use Rattle.repo_backup.specs.PieceBackups.{FitsPieces}
+use Rattle.repo_backup.specs.PieceObedience.{pieces_obey, pieces_tell}
 use Rattle.repo_restore.specs.ListObedience.{list_obeys, list_tells}
 use Rattle.repo_restore.specs.ListStates as lists
 use Rattle.repo_restore.specs.ListStates.{FitsList}
@@ -24,13 +26,14 @@ use Rattle.repo_prune.specs.UpgradeObedience.{upgrade_obeys, upgrade_tells}
 use Rattle.repo_prune.specs.UpgradeStates.{FitsUpgrade, who_of_upgrade}
 use Rattle.repo_check.specs.CheckObedience.{check_obeys, check_tells}
 use Rattle.repo_check.specs.CheckStates.{FitsCheck, checker_of}
-use Rattle.repo_world.specs.Clients.{JobAllows, Client, JobConcludes, JobGives, task_of}
+use Rattle.repo_world.specs.Clients.{JobAllows, Client, JobConcludes, JobGives, JobWants, task_of}
 use Rattle.repo_world.specs.declared.any_clients.AnyClient.{AnyClient}
 use Rattle.repo_world.specs.declared.jobs.Job.{Job}
 
 -- who asks, and the job
 abbrev pub given_to : AnyClient → Given Job
 given_to (AnyClient.Backup c) = record { who = who_in c.session; handed = Job.Backup (backups.handed_to c.session.job) }
+given_to (AnyClient.Pieces c) = record { who = who_in c.session; handed = Job.Pieces }
 given_to (AnyClient.Restore c) = record { who = (wish_of c).who; handed = Job.Restore (wish_of c).snapshot }
 given_to (AnyClient.List c) = record { who = lists.who_of c; handed = Job.List }
 given_to (AnyClient.Forget c) = record { who = forgets.who_of c; handed = Job.Forget (choice_of c) }
@@ -41,6 +44,7 @@ given_to (AnyClient.Upgrade c) = record { who = who_of_upgrade c; handed = Job.U
 -- it stands where the trace leaves it
 abbrev pub FitsAny : AnyClient → Trace → Type 0
 FitsAny (AnyClient.Backup c) es = FitsBackup c es
+FitsAny (AnyClient.Pieces c) es = FitsPieces c es
 FitsAny (AnyClient.Restore c) es = FitsRestore c es
 FitsAny (AnyClient.List c) es = FitsList c es
 FitsAny (AnyClient.Forget c) es = FitsForget c es
@@ -51,6 +55,7 @@ FitsAny (AnyClient.Upgrade c) es = FitsUpgrade c es
 -- what is pending
 abbrev pub any_next : AnyClient → Option Request
 any_next (AnyClient.Backup c) = next_in c.session
+any_next (AnyClient.Pieces c) = next_in c.session
 any_next (AnyClient.Restore c) = next_in c.session
 any_next (AnyClient.List c) = next_in c.session
 any_next (AnyClient.Forget c) = next_in c.session
@@ -61,6 +66,7 @@ any_next (AnyClient.Upgrade c) = next_in c.session
 -- how it ended
 abbrev pub any_ended : AnyClient → Option Outcome
 any_ended (AnyClient.Backup c) = ended_in c.session
+any_ended (AnyClient.Pieces c) = ended_in c.session
 any_ended (AnyClient.Restore c) = ended_in c.session
 any_ended (AnyClient.List c) = ended_in c.session
 any_ended (AnyClient.Forget c) = ended_in c.session
@@ -68,9 +74,14 @@ any_ended (AnyClient.Prune c) = ended_in c.session
 any_ended (AnyClient.Check c) = ended_in c.session
 any_ended (AnyClient.Upgrade c) = ended_in c.session
 
+-- it waits: nothing is pending, and it hasn't ended
+abbrev pub AnyWaits : AnyClient → Type 0
+AnyWaits c = (any_next c ≡ None) × (any_ended c ≡ None)
+
 -- what it gave out last
 abbrev pub any_given : AnyClient → List Emission
 any_given (AnyClient.Backup c) = []
+any_given (AnyClient.Pieces c) = []
 any_given (AnyClient.Restore c) = given_by (λ j. j.given.items) c.session
 any_given (AnyClient.List c) = given_by (λ j. []) c.session
 any_given (AnyClient.Forget c) = given_by (λ j. []) c.session
@@ -81,6 +92,7 @@ any_given (AnyClient.Upgrade c) = given_by (λ j. []) c.session
 -- the token that it tells
 abbrev pub any_token : AnyClient → Option Token
 any_token (AnyClient.Backup c) = token_in c.session
+any_token (AnyClient.Pieces c) = token_in c.session
 any_token (AnyClient.Restore c) = token_in c.session
 any_token (AnyClient.List c) = token_in c.session
 any_token (AnyClient.Forget c) = token_in c.session
@@ -89,9 +101,10 @@ any_token (AnyClient.Check c) = token_in c.session
 any_token (AnyClient.Upgrade c) = token_in c.session
 
 -- it owes what its job owes
-pub any_obeys : (c : AnyClient) (es : Trace) → FitsAny c es → IsObedient (task_of (given_to c).handed (given_to c).who) (JobAllows (given_to c).handed) (JobGives (given_to c).handed)
-    (JobConcludes (given_to c).handed) (any_next c) (any_ended c) es
+pub any_obeys : (c : AnyClient) (es : Trace) → FitsAny c es → IsObedientWith (task_of (given_to c).handed (given_to c).who) (JobAllows (given_to c).handed) (JobGives (given_to c).handed)
+    (JobConcludes (given_to c).handed) (JobWants (given_to c).handed) (any_next c) (any_ended c) es
 any_obeys (AnyClient.Backup c) es f = backup_obeys c es f
+any_obeys (AnyClient.Pieces c) es f = pieces_obey c es f
 any_obeys (AnyClient.Restore c) es f = restore_obeys c es f
 any_obeys (AnyClient.List c) es f = list_obeys c es f
 any_obeys (AnyClient.Forget c) es f = forget_obeys c es f
@@ -101,6 +114,7 @@ any_obeys (AnyClient.Upgrade c) es f = upgrade_obeys c es f
 
 pub any_tells : (c : AnyClient) (es : Trace) → FitsAny c es → TellsToken (any_token c) (any_ended c) es
 any_tells (AnyClient.Backup c) es f = backup_tells c es f
+any_tells (AnyClient.Pieces c) es f = pieces_tell c es f
 any_tells (AnyClient.Restore c) es f = restore_tells c es f
 any_tells (AnyClient.List c) es f = list_tells c es f
 any_tells (AnyClient.Forget c) es f = forget_tells c es f

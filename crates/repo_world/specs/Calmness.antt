@@ -1,5 +1,6 @@
 -- Which events take no memory.
 use Rattle.std.specs.Prelude.{◌≡◌, ⊤, true, Option, Some, None, slice_get}
+use Rattle.repo_world.specs.Clients.{MayBeFed}
 use Rattle.repo_world.specs.Events.{MayAnybodySend}
 use Rattle.repo_world.specs.World.{Message, Asked, Said, World, client}
 use Rattle.repo_world.specs.declared.events.Event.{Event}
@@ -18,3 +19,4 @@ IsCalm w (Event.Crash k) = ⊤
 IsCalm w Event.Restart = ⊤
 IsCalm w (Event.Start job host time old) = ⊥
 IsCalm w (Event.Ask request) = ¬ MayAnybodySend request
+IsCalm w (Event.Feed k item) = ¬ MayBeFed (client w k)

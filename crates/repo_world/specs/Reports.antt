@@ -16,6 +16,7 @@ use Rattle.repo_world.specs.declared.reports.Role.{Role}
 -- what a client with a job is
 abbrev pub role_of : Job → Role
 role_of (Job.Backup entries) = Role.Backup
+role_of Job.Pieces = Role.Backup
 role_of (Job.Restore snapshot) = Role.Restore
 role_of Job.List = Role.List
 role_of (Job.Forget choice) = Role.Forget

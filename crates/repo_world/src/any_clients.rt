@@ -1,9 +1,12 @@
 //! Clients of any job.
 
-ghost use Rattle.std.specs.Prelude.{◌≡◌, [], List, IfOk, IfErr};
+ghost use Rattle.std.specs.Prelude.{◌≡◌, ◌<◌, ◌↔◌, ◌∷◌, [], List, IfOk, IfErr, IsTrue};
 ghost use Rattle.repo_tree.specs.declared.entries.Entry.{Entry};
 ghost use Rattle.repo_backup.specs.Handed.{IsRefusalOf};
-ghost use Rattle.repo_world.specs.AnyClients.{FitsAny, given_to};
+ghost use Rattle.repo_backup.specs.Items.{AreTaken, IsCountOf, ItemFault, fed_of, fed_part, place_of, size_of};
+ghost use Rattle.repo_backup.specs.declared.items.FeedError.{FeedError};
+ghost use Rattle.repo_session.specs.Traces.{Trace, fed_in, feeding};
+ghost use Rattle.repo_world.specs.AnyClients.{AnyWaits, FitsAny, any_ended, any_given, any_next, given_to};
 ghost use Rattle.repo_world.specs.Clients.{Accepts};
 ghost use Rattle.repo_world.specs.Reports.{role_of};
 ghost use Rattle.repo_world.specs.Starting.{IsNotBegun};
@@ -11,7 +14,7 @@ ghost use Rattle.repo_world.specs.declared.jobs.Job.{Job};
 
 use crate::jobs::{Job, Refusal};
 use crate::reports::Role;
-use repo_backup::{Backup, BackupError};
+use repo_backup::{Backup, BackupError, FeedError, Item, PieceBackup};
 use repo_check::Check;
 use repo_name::Token;
 use repo_prune::{Forget, ForgetError, Prune, Upgrade};
@@ -24,6 +27,7 @@ use std::alloc::{AllocError, Global};
 #[derive(Drop)]
 pub enum AnyClient {
     Backup(Backup),
+    Pieces(PieceBackup),
     Restore(Restore),
     List(SnapshotList),
     Forget(Forget),
@@ -65,6 +69,7 @@ impl AnyClient {
                 Ok(backup) => Ok(AnyClient::Backup(backup)),
                 Err(error) => Err(entries_refused(error)),
             },
+            Job::Pieces => Ok(AnyClient::Pieces(PieceBackup::new(alloc, who))),
             Job::Restore(name) => Ok(AnyClient::Restore(Restore::new(alloc, who, name))),
             Job::List => Ok(AnyClient::List(SnapshotList::new(alloc, who))),
             Job::Forget(choice) => match Forget::new(alloc, who, choice) {
@@ -82,7 +87,7 @@ impl AnyClient {
         ensures { result ≡ role_of (given_to self.now).handed }
     {
         match self {
-            AnyClient::Backup(_) => Role::Backup,
+            AnyClient::Backup(_) | AnyClient::Pieces(_) => Role::Backup,
             AnyClient::Restore(_) => Role::Restore,
             AnyClient::List(_) => Role::List,
             AnyClient::Forget(_) => Role::Forget,
@@ -91,12 +96,42 @@ impl AnyClient {
             AnyClient::Upgrade(_) => Role::Upgrade,
         }
     }
+
+    /// Whether it is a backup that is fed.
+    pub fn is_fed(&self) -> bool
+        ensures { IsTrue result ↔ ((given_to self.now).handed ≡ Job.Pieces) }
+    {
+        match self {
+            AnyClient::Pieces(_) => true,
+            AnyClient::Backup(_) | AnyClient::Restore(_) | AnyClient::List(_) => false,
+            AnyClient::Forget(_) | AnyClient::Prune(_) => false,
+            AnyClient::Check(_) | AnyClient::Upgrade(_) => false,
+        }
+    }
+
+    /// Takes an item, if it is a backup that is fed: see [`PieceBackup::feed`]. Another one wants none, and nothing changed.
+    pub fn feed(&mut self, item: Item) -> Result<usize, FeedError>
+        ensures took { IfOk result (λ n. AnyWaits self.old × IsCountOf n item.entry × ((es : Trace) → FitsAny self.old es → FitsAny self.new (feeding (fed_part n item.entry) es))) }
+        ensures may { IfOk result (λ n. (es : Trace) → FitsAny self.old es → AreTaken (fed_part n item.entry ∷ fed_in es)) }
+        ensures part { IfOk result (λ n. (es : Trace) → FitsAny self.old es → n < size_of item.entry → ¬ AnyWaits self.new) }
+        ensures unwanted { IfErr result (λ e. ¬ AnyWaits self.old → e ≡ FeedError.NotWanted) }
+        ensures fault { (given_to self.old).handed ≡ Job.Pieces → IfErr result (λ e. AnyWaits self.old → (es : Trace) → FitsAny self.old es → ItemFault (place_of (fed_in es)) (fed_of item.entry) e) }
+        ensures stays { IfErr result (λ e. (es : Trace) → FitsAny self.old es → FitsAny self.new es) }
+        ensures next { IfErr result (λ e. (any_next self.new ≡ any_next self.old) × (any_ended self.new ≡ any_ended self.old)) }
+        ensures given { given_to self.new ≡ given_to self.old }
+        ensures emitted { any_given self.new ≡ any_given self.old }
+    {
+        match self {
+            AnyClient::Pieces(client) => client.feed(item),
+            _ => Err(FeedError::NotWanted),
+        }
+    }
 }
 
 impl Client for AnyClient {
     ghost use Rattle.repo_session.specs.Sessions.{Given};
     ghost use Rattle.repo_world.specs.AnyClients.{FitsAny, any_ended, any_given, any_next, any_obeys, any_tells, any_token, given_to};
-    ghost use Rattle.repo_world.specs.Clients.{JobAllows, JobConcludes, JobGives, rule_of, task_of};
+    ghost use Rattle.repo_world.specs.Clients.{JobAllows, JobConcludes, JobGives, JobWants, rule_of, task_of};
     ghost use Rattle.repo_world.specs.declared.jobs.Job.{Job as AnyJob};
 
     ghost Job = { Given AnyJob };
@@ -113,7 +148,7 @@ impl Client for AnyClient {
 
     ghost calm = { λ j. (rule_of j.handed).calm };
 
-    ghost wanting = { λ j es. ⊥ };
+    ghost wanting = { λ j. JobWants j.handed };
 
     ghost fits = { FitsAny };
 
@@ -132,6 +167,7 @@ impl Client for AnyClient {
     fn pending(&self) -> Option<&Request> {
         match self {
             AnyClient::Backup(client) => client.pending(),
+            AnyClient::Pieces(client) => client.pending(),
             AnyClient::Restore(client) => client.pending(),
             AnyClient::List(client) => client.pending(),
             AnyClient::Forget(client) => client.pending(),
@@ -144,6 +180,7 @@ impl Client for AnyClient {
     fn take(&mut self, reply: &Reply) -> Result<(), AllocError> {
         match self {
             AnyClient::Backup(client) => client.take(reply),
+            AnyClient::Pieces(client) => client.take(reply),
             AnyClient::Restore(client) => client.take(reply),
             AnyClient::List(client) => client.take(reply),
             AnyClient::Forget(client) => client.take(reply),
@@ -156,6 +193,7 @@ impl Client for AnyClient {
     fn outcome(&self) -> Option<&Outcome> {
         match self {
             AnyClient::Backup(client) => client.outcome(),
+            AnyClient::Pieces(client) => client.outcome(),
             AnyClient::Restore(client) => client.outcome(),
             AnyClient::List(client) => client.outcome(),
             AnyClient::Forget(client) => client.outcome(),
@@ -168,6 +206,7 @@ impl Client for AnyClient {
     fn emitted(&self) -> &[Emission] {
         match self {
             AnyClient::Backup(client) => client.emitted(),
+            AnyClient::Pieces(client) => client.emitted(),
             AnyClient::Restore(client) => client.emitted(),
             AnyClient::List(client) => client.emitted(),
             AnyClient::Forget(client) => client.emitted(),
@@ -180,6 +219,7 @@ impl Client for AnyClient {
     fn token(&self) -> Option<Token> {
         match self {
             AnyClient::Backup(client) => client.token(),
+            AnyClient::Pieces(client) => client.token(),
             AnyClient::Restore(client) => client.token(),
             AnyClient::List(client) => client.token(),
             AnyClient::Forget(client) => client.token(),

@@ -59,6 +59,7 @@ fn copy_of_job(alloc: Global, job: &Job) -> Result<Job, AllocError>
 {
     match job {
         Job::Backup(entries) => Ok(Job::Backup(copy_of_entries(alloc, entries)?)),
+        Job::Pieces => Ok(Job::Pieces),
         Job::Restore(name) => Ok(Job::Restore(*name)),
         Job::List => Ok(Job::List),
         Job::Forget(choice) => Ok(Job::Forget(copy_of_choice(choice)?)),
@@ -69,7 +70,7 @@ fn copy_of_job(alloc: Global, job: &Job) -> Result<Job, AllocError>
 }
 
 /// An equal event. It fails for memory alone, and takes some for a start, or for what is asked, alone.
-pub fn copy_of_event(alloc: Global, event: &Event) -> Result<Event, AllocError>
+pub fn copy_of_event<'a>(alloc: Global, event: &Event<'a>) -> Result<Event<'a>, AllocError>
     ensures { IfOk result (λ copy. copy ≡ event.now) }
 {
     match event {
@@ -90,6 +91,10 @@ pub fn copy_of_event(alloc: Global, event: &Event) -> Result<Event, AllocError>
             fail: *fail,
         }),
         Event::Ask(request) => Ok(Event::Ask(request.copy()?)),
+        Event::Feed { client, item } => Ok(Event::Feed {
+            client: *client,
+            item: *item,
+        }),
         Event::Crash(client) => Ok(Event::Crash(*client)),
         Event::Restart => Ok(Event::Restart),
     }

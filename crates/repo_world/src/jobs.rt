@@ -54,6 +54,8 @@ impl Entries {
 pub enum Job {
     /// It backs up entries.
     Backup(Entries),
+    /// It backs up what it is fed, item by item.
+    Pieces,
     /// It restores the snapshot of this name.
     Restore(Name),
     /// It lists the snapshots.

@@ -6,10 +6,10 @@
 //! a reply, by its place. A report is a [`client_line`] for each client, by its [`Role`], and a [`store_line`]. What a client gave out
 //! ([`World::emitted`]) and what the store has under a name ([`World::object`]) can be looked at, too.
 //!
-//! Promised: from a store without objects, over every list of events (clients start and stop for good, messages are
-//! delivered late, again, in any order or never, calls of the store's device fail, anybody asks the store for anything that is no
+//! Promised: from a store without objects, over every list of events (clients start and stop for good, a backup that is fed is
+//! given an item, messages are delivered late, again, in any order or never, calls of the store's device fail, anybody asks the store for anything that is no
 //! put, no deletion and no upgrade, such as a lock or a lock's end, the store is closed and opened), every world is safe ([`every_run_is_safe`]): each snapshot in the store has all its blobs there and
-//! spells just the names and the bytes that were handed to its backup, each restore that is complete gave out just these,
+//! spells just the names and the bytes that were handed to its backup, at its start or as the items spell them that it was fed, each restore that is complete gave out just these,
 //! and a snapshot that was reported as stored is there until its deletion is asked for.
 //!
 //! A [`World`] makes just such runs, and is safe at every moment.
@@ -30,6 +30,7 @@ mod any_clients;
 mod bag_laws;
 mod copies;
 mod events;
+mod fed_items;
 mod jobs;
 mod laws;
 mod messages;

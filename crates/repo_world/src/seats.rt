@@ -1,6 +1,6 @@
 //! A client with all that it sent, and all replies to it.
 
-ghost use Rattle.std.specs.Prelude.{◌≡◌, ◌<◌, ◌++◌, ◌∷◌, [], false, List, Option, Some, IfOk, IfSome, OnErr, length, option_map, slice_get, string_bytes};
+ghost use Rattle.std.specs.Prelude.{◌≡◌, ◌<◌, ◌↔◌, ◌++◌, ◌∷◌, [], false, List, Option, Some, IfOk, IfSome, IsTrue, OnErr, length, option_map, slice_get, string_bytes};
 ghost use Rattle.repo_wire.specs.Messages.{requests as request_sort};
 ghost use Rattle.repo_wire.specs.Stream.{FitsFrame};
 ghost use Rattle.repo_wire.specs.declared.messages.Reply.{Reply};
@@ -10,23 +10,29 @@ ghost use Rattle.repo_world.specs.AnyClients.{FitsAny, any_next, client_of};
 ghost use Rattle.repo_world.specs.Reports.{line_of};
 ghost use Rattle.repo_world.specs.Seats.{Seated, listed};
 ghost use Rattle.repo_world.specs.World.{given_out};
-ghost use Rattle.repo_world.specs.inner.Seating.{Answered, Crashed, Replied, SeatTook};
+ghost use Rattle.repo_world.specs.Clients.{MayBeFed};
+ghost use Rattle.repo_world.specs.inner.Seating.{Answered, Crashed, Replied, SeatFed, SeatTook};
 
 use crate::any_clients::AnyClient;
+use crate::fed_items::FedItem;
 use crate::pasts::Past;
 use crate::reports::client_line;
+use repo_backup::{FeedError, Item};
 use repo_session::{Client, Emission, Letter, Outcome, answers, keep};
 use repo_store::{Shelf, answer};
 use repo_wire::{Reply, Request};
 use std::alloc::{AllocError, Global};
 use std::marker::Model;
+use std::mem;
 
-/// A client, its exchanges that are over, all replies to it, and whether it stopped for good. A clause sees what
+/// A client, its exchanges that are over, the items that it took on the newest one, the oldest first, all replies to it,
+/// and whether it stopped for good. A clause sees what
 /// `Seated` has.
 #[derive(Drop)]
 pub struct Seat {
     client: AnyClient,
     pasts: Vec<Past>,
+    fed: Vec<FedItem>,
     replies: Vec<Reply>,
     crashed: bool,
     alloc: Global,
@@ -37,9 +43,9 @@ impl Model for Seat {
 
     ghost Value = { Seated };
 
-    ghost view = { λ s. seated s.client s.pasts.items s.replies.items s.crashed };
+    ghost view = { λ s. seated s.client s.pasts.items s.fed.items s.replies.items s.crashed };
 
-    ghost invariant = { λ s. IsSeated s.client s.pasts.items s.replies.items };
+    ghost invariant = { λ s. IsSeated s.client s.pasts.items s.fed.items s.replies.items };
 }
 
 /// What came of a reply that was delivered to a client.
@@ -53,6 +59,15 @@ pub enum Arrival {
     Taken,
 }
 
+/// What came of an item that was given to a client.
+#[derive(Clone, Copy, Debug, PartialEq, Eq)]
+pub enum Intake {
+    /// The client doesn't take it, for this reason, which is never want of memory. Nothing changed.
+    Unfed(FeedError),
+    /// The client took it: so many bytes of a piece, none of another item.
+    Taken(usize),
+}
+
 impl Seat {
     /// The seat of a client that has just been made. It takes no memory.
     pub fn new(alloc: Global, client: AnyClient) -> Seat
@@ -62,6 +77,7 @@ impl Seat {
         Seat {
             client,
             pasts: Vec::new(alloc),
+            fed: Vec::new(alloc),
             replies: Vec::new(alloc),
             crashed: false,
             alloc,
@@ -137,6 +153,13 @@ impl Seat {
         self.crashed
     }
 
+    /// Whether the client runs, and is a backup that is fed.
+    pub fn may_be_fed(&self) -> bool
+        ensures { IsTrue result ↔ MayBeFed self.now.client }
+    {
+        !self.crashed && self.client.is_fed()
+    }
+
     /// The client's line in a report, under its number. It fails for memory alone.
     pub fn line(&self, number: usize) -> Result<String, AllocError>
         ensures { IfOk result (λ line. string_bytes line ≡ line_of number self.now.client) }
@@ -199,11 +222,31 @@ impl Seat {
         let mut before = Vec::new(self.alloc);
         keep(self.client.emitted(), &mut before)?;
         self.client.take(reply)?;
+        let fed = mem::replace(&mut self.fed, Vec::new(self.alloc));
         self.pasts.push(Past {
             letter,
             reply: place,
             before,
+            fed,
         })?;
         Ok(Arrival::Taken)
+    }
+
+    /// An item is given to the client, which runs, and is fed. It fails for memory alone, and then nothing changed.
+    pub fn feed(&mut self, item: Item) -> Result<Intake, AllocError>
+        requires { MayBeFed self.old.client }
+        ensures fed { IfOk result (SeatFed self.old item.entry self.new) }
+        ensures err { OnErr result (self.new ≡ self.old) }
+    {
+        let kept = FedItem::of(self.alloc, item)?;
+        self.fed.reserve(1)?;
+        match self.client.feed(item) {
+            Ok(count) => {
+                self.fed.push(kept.part(count))?;
+                Ok(Intake::Taken(count))
+            }
+            Err(FeedError::Memory) => Err(AllocError),
+            Err(error) => Ok(Intake::Unfed(error)),
+        }
     }
 }

@@ -7,20 +7,23 @@ ghost use Rattle.repo_wire.specs.Stream.{FitsFrame};
 ghost use Rattle.repo_store.specs.Stores.{Store};
 ghost use Rattle.repo_store.specs.declared.faults.Armed.{Armed};
 ghost use Rattle.repo_session.specs.Askers.{asker};
-ghost use Rattle.repo_world.specs.Events.{BeginsJob, Stops};
+ghost use Rattle.repo_backup.specs.Items.{IsCountOf};
+ghost use Rattle.repo_world.specs.Clients.{MayBeFed};
+ghost use Rattle.repo_world.specs.Events.{BeginsJob, Gives, Stops};
 ghost use Rattle.repo_world.specs.Flows.{clients_in, messages_in, seat_at, world_of};
 ghost use Rattle.repo_world.specs.Reports.{client_lines};
 ghost use Rattle.repo_world.specs.inner.Seating.{StepsAsArmed};
 ghost use Rattle.repo_world.specs.World.{instance_of, client, versions_of};
 ghost use Rattle.repo_world.specs.Calmness.{IsIgnored};
 ghost use Rattle.repo_world.specs.declared.events.Applied.{Applied};
-ghost use Rattle.repo_world.specs.inner.Flowing.{FlowServes, ReplyArrives, FlowDelivers};
+ghost use Rattle.repo_world.specs.inner.Flowing.{FlowServes, ReplyArrives, FlowDelivers, TellsTaken};
 
 use crate::any_clients::{AnyClient, NotBegun};
 use crate::events::Applied;
 use crate::jobs::{Host, Job};
 use crate::messages::Message;
-use crate::seats::{Arrival, Seat};
+use crate::seats::{Arrival, Intake, Seat};
+use repo_backup::Item;
 use repo_name::Instance;
 use repo_session::{Outcome, Who, WhoError};
 use repo_store::Shelf;
@@ -62,6 +65,20 @@ fn who_of(
         Ok(who) => Ok(if old { who.as_version_1() } else { who }),
         Err(WhoError::Host) => unreachable!(),
         Err(WhoError::Memory) => Err(AllocError),
+    }
+}
+
+/// What comes of an item of which so many bytes were taken.
+fn taken(count: usize, item: Item) -> Applied
+    ensures { IsCountOf count item.entry → TellsTaken count item.entry result }
+{
+    let Item::Bytes(piece) = item else {
+        return Applied::Done;
+    };
+    if count < piece.len() {
+        Applied::Took(count)
+    } else {
+        Applied::Done
     }
 }
 
@@ -187,6 +204,35 @@ impl Traffic {
                     self.messages.push(Message::Asked { client, request })?;
                 }
                 Ok(Applied::Done)
+            }
+        }
+    }
+
+    /// An item is given to a client. It fails for memory alone, and then nothing changed; no memory is asked for where it is
+    /// ignored.
+    pub fn feed(&mut self, client: usize, item: Item) -> Result<Applied, AllocError>
+        ensures gives { (store : Store) → IfOk result (λ applied. Gives (world_of store self.old) client item.entry applied (world_of store self.new)) }
+        ensures err { OnErr result (self.new ≡ self.old) }
+        ensures calm { ¬ MayBeFed (seat_at self.old.seats client).client → IsOk result }
+    {
+        if client >= self.seats.len() {
+            return Ok(Applied::Ignored);
+        }
+        let seat = &mut self.seats[client];
+        if !seat.may_be_fed() {
+            return Ok(Applied::Ignored);
+        }
+        self.messages.reserve(1)?;
+        match seat.feed(item)? {
+            Intake::Unfed(error) => Ok(Applied::Unfed(error)),
+            Intake::Taken(count) => {
+                let told = taken(count, item);
+                let asks = seat.pending().is_some();
+                if asks {
+                    let request = seat.requests() - 1;
+                    self.messages.push(Message::Asked { client, request })?;
+                }
+                Ok(told)
             }
         }
     }

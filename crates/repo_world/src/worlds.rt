@@ -25,6 +25,7 @@ use crate::jobs::{Host, Job};
 use crate::messages::Message;
 use crate::reports::store_line;
 use crate::traffic::Traffic;
+use repo_backup::Item;
 use repo_name::{Bytes, Kind, Name};
 use repo_session::{Emission, Outcome};
 use repo_store::{Fail, FaultShelf, InitError, Kept, MemShelf, Shelf, ShelfError, answer, init};
@@ -196,6 +197,15 @@ impl<S: Shelf + Drop> World<S> {
         self.sent_lent(&request)
     }
 
+    /// An item is given to a client.
+    fn feed(&mut self, client: usize, item: Item) -> Result<Applied, AllocError>
+        ensures happens { IfOk result (λ applied. Leads S.store S.failed self.old (Event.Feed client item.entry) applied self.new) }
+        ensures err { OnErr result (self.new ≡ self.old) }
+        ensures calm { IsCalm (seen S.store self.old) (Event.Feed client item.entry) → IsOk result }
+    {
+        self.flow.feed(client, item)
+    }
+
     /// The store is closed and opened.
     fn restart(&mut self) -> Applied
         ensures { Leads S.store S.failed self.old Event.Restart result self.new }
@@ -207,10 +217,10 @@ impl<S: Shelf + Drop> World<S> {
     /// An event happens. It fails for memory alone, and then nothing changed; no memory is asked for where it is ignored, nor
     /// for a crash and a restart.
     pub fn apply(&mut self, event: Event) -> Result<Applied, AllocError>
-        ensures happens { IfOk result (λ applied. Leads S.store S.failed self.old event applied self.new) }
+        ensures happens { IfOk result (λ applied. Leads S.store S.failed self.old event.entry applied self.new) }
         ensures safe { IsSafely (seen S.store self.new) }
         ensures err { OnErr result (seen S.store self.new ≡ seen S.store self.old) }
-        ensures calm { IsCalm (seen S.store self.old) event → IsOk result }
+        ensures calm { IsCalm (seen S.store self.old) event.entry → IsOk result }
     {
         let applied = match event {
             Event::Start {
@@ -222,6 +232,7 @@ impl<S: Shelf + Drop> World<S> {
             Event::Deliver(message) => self.deliver(message),
             Event::Fault { message, fail } => self.fault(message, fail),
             Event::Ask(request) => self.sent(request),
+            Event::Feed { client, item } => self.feed(client, item),
             Event::Crash(client) => Ok(self.crash(client)),
             Event::Restart => Ok(self.restart()),
         };

@@ -1,5 +1,5 @@
 -- What becomes of a seat.
-use Rattle.std.specs.Prelude.{◌≡◌, ◌++◌, ◌∷◌, [], ℕ, true, false, List, slice_index_or, Some}
+use Rattle.std.specs.Prelude.{◌≡◌, ◌<◌, ◌++◌, ◌∷◌, [], ℕ, true, false, List, slice_index_or, Some}
 use Rattle.repo_wire.specs.declared.messages.Ask.{Ask}
 use Rattle.repo_wire.specs.declared.messages.Reply.{Reply}
 use Rattle.repo_wire.specs.declared.messages.Request.{Request}
@@ -11,10 +11,16 @@ use Rattle.repo_store.specs.declared.faults.Armed.{Armed}
 use Rattle.repo_session.specs.Clients.{IsReplyTo, AnswersNext, exchange}
 use Rattle.repo_session.specs.declared.emissions.Emission.{Emission}
 use Rattle.repo_session.specs.declared.outcomes.Outcome.{Outcome}
-use Rattle.repo_world.specs.Clients.{IsDutiful}
+use Rattle.repo_session.specs.Feeds.{Fed}
+use Rattle.repo_session.specs.Traces.{fed_in, feeding}
+use Rattle.repo_backup.specs.Items.{AreTaken, IsCountOf, fed_part, size_of}
+use Rattle.repo_backup.specs.declared.items.Item.{Item}
+use Rattle.repo_world.specs.Clients.{IsDutiful, IsWaiting, MayBeFed}
+use Rattle.repo_world.specs.Events.{RefusesItem}
 use Rattle.repo_world.specs.Seats.{Seated, listed, nothing, silence}
 use Rattle.repo_world.specs.World.{crashed_one}
 use Rattle.repo_world.specs.declared.seats.Arrival.{Arrival}
+use Rattle.repo_world.specs.declared.seats.Intake.{Intake}
 
 -- the client stopped for good
 abbrev pub Crashed : Seated → Seated → Type 0
@@ -50,6 +56,24 @@ pub record TookReply (old : Seated) (reply : Reply) (new : Seated) : Type 0 wher
   pub stays : (o : Outcome) → old.client.outcome ≡ Some o → new.client.outcome ≡ Some o
   pub requests : new.requests ≡ old.requests ++ listed new.client.next
   pub replies : new.replies ≡ old.replies
+
+-- the client took an item, and may have sent a request
+pub record TookItem (old : Seated) (item : Fed) (new : Seated) : Type 0 where
+  pub fed : MayBeFed old.client
+  pub waits : IsWaiting old.client
+  pub may : AreTaken (item ∷ fed_in old.client.trace)
+  pub job : new.client.job ≡ old.client.job
+  pub who : new.client.who ≡ old.client.who
+  pub trace : new.client.trace ≡ feeding item old.client.trace
+  pub up : new.client.crashed ≡ false
+  pub dutiful : IsDutiful new.client
+  pub requests : new.requests ≡ old.requests ++ listed new.client.next
+  pub replies : new.replies ≡ old.replies
+
+-- what came of an item that was given to the client; where fewer bytes of a piece were taken than given, the client waits no more
+abbrev pub SeatFed : Seated → Item → Seated → Intake → Type 0
+SeatFed old item new (Intake.Unfed e) = RefusesItem old.client item e × (new ≡ old)
+SeatFed old item new (Intake.Taken n) = IsCountOf n item × TookItem old (fed_part n item) new × (n < size_of item → ¬ IsWaiting new.client)
 
 -- what came of a reply that was delivered
 abbrev pub SeatTook : Seated → ℕ → Seated → Arrival → Type 0

@@ -5,6 +5,9 @@ use Rattle.repo_world.proofs.any_clients.AnyClientClient.pending.Goals as goal
 pub returns-in-Backup-clause-frame : goal.returns-in-Backup-clause-frame
 returns-in-Backup-clause-frame c = λ request h. c.pending.ensures.frame request (sym (ap any_next c.in-Backup.is) ∙ h)
 
+pub returns-in-Pieces-clause-frame : goal.returns-in-Pieces-clause-frame
+returns-in-Pieces-clause-frame c = λ request h. c.pending-in-Pieces.ensures.frame request (sym (ap any_next c.in-Pieces.is) ∙ h)
+
 pub returns-in-Restore-clause-frame : goal.returns-in-Restore-clause-frame
 returns-in-Restore-clause-frame c = λ request h. c.pending-in-Restore.ensures.frame request (sym (ap any_next c.in-Restore.is) ∙ h)
 

@@ -3,6 +3,9 @@ use Rattle.repo_world.proofs.any_clients.AnyClientClient.take.Goals as goal
 pub returns-in-Backup-clause-taken : goal.returns-in-Backup-clause-taken
 returns-in-Backup-clause-taken c = rw c.in-Backup.is c.take.ensures.taken
 
+pub returns-in-Pieces-clause-taken : goal.returns-in-Pieces-clause-taken
+returns-in-Pieces-clause-taken c = rw c.in-Pieces.is c.take-in-Pieces.ensures.taken
+
 pub returns-in-Restore-clause-taken : goal.returns-in-Restore-clause-taken
 returns-in-Restore-clause-taken c = rw c.in-Restore.is c.take-in-Restore.ensures.taken
 

@@ -1,6 +1,6 @@
 use Rattle.std.proofs.Common.{arith, ◌≡◌, ◌∙◌, ◌≤◌, ◌<◌, ◌+◌, None, Some, length, suc, slice_get, slice_index_or, sym, ap, subst, List}
 use Rattle.repo_world.specs.AnyClients.{any_given}
-use Rattle.repo_world.specs.Seats.{Seated}
+use Rattle.repo_world.specs.Seats.{Seated, kept_items}
 use Rattle.repo_world.specs.World.{given_out}
 use Rattle.repo_world.specs.declared.pasts.Past.{Past}
 use Rattle.repo_world.proofs.Giving.{given_is, given_last, given_next, given_none}
@@ -11,7 +11,7 @@ returns-then-place-len c =
     let pasts = c.self.inside.pasts.items in
     let given = any_given c.self.inside.client in
     let beyond : length pasts ≤ c.args.place = omega (arith, c.len.ensures, c.if-place-len.true) in
-    subst (λ (s : Seated). None ≡ slice_get (given_out s.client.trace) c.args.place) c.self.view_is (sym (given_is c.self.inside.replies.items given pasts c.args.place ∙ given_none given pasts c.args.place beyond))
+    subst (λ (s : Seated). None ≡ slice_get (given_out s.client.trace) c.args.place) c.self.view_is (sym (given_is c.self.inside.replies.items given (kept_items c.self.inside.fed.items) pasts c.args.place ∙ given_none given pasts c.args.place beyond))
 
 pub returns-in-Some : goal.returns-in-Some
 returns-in-Some c =
@@ -24,7 +24,7 @@ returns-in-Some c =
     (subst (λ (l : List Past). c.in-Some.next.now ≡ slice_index_or l (c.args.place + 1) c.in-Some.next.now) c.as_slice.ensures.value (found.1 c.in-Some.next.now)) in
     let lent : c.as_slice-in-Some.result.now ≡ c.in-Some.next.now.before.items = c.as_slice-in-Some.ensures.value in
     subst (λ (s : Seated). Some c.as_slice-in-Some.result.now ≡ slice_get (given_out s.client.trace) c.args.place) c.self.view_is
-    (ap (λ l. Some l) lent ∙ (ap (λ (p : Past). Some p.before.items) there ∙ sym (given_is c.self.inside.replies.items given pasts c.args.place ∙ given_next given pasts c.args.place c.in-Some.next.now within)))
+    (ap (λ l. Some l) lent ∙ (ap (λ (p : Past). Some p.before.items) there ∙ sym (given_is c.self.inside.replies.items given (kept_items c.self.inside.fed.items) pasts c.args.place ∙ given_next given pasts c.args.place c.in-Some.next.now within)))
 
 pub returns-in-None : goal.returns-in-None
 returns-in-None c =
@@ -35,4 +35,4 @@ returns-in-None c =
     let last : length pasts ≤ suc c.args.place = omega (arith, end) in
     let lent : c.emitted.result.now ≡ given = c.emitted.ensures in
     subst (λ (s : Seated). Some c.emitted.result.now ≡ slice_get (given_out s.client.trace) c.args.place) c.self.view_is
-    (ap (λ l. Some l) lent ∙ sym (given_is c.self.inside.replies.items given pasts c.args.place ∙ given_last given pasts c.args.place within last))
+    (ap (λ l. Some l) lent ∙ sym (given_is c.self.inside.replies.items given (kept_items c.self.inside.fed.items) pasts c.args.place ∙ given_last given pasts c.args.place within last))

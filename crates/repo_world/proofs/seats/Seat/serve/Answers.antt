@@ -12,15 +12,15 @@ pub invariant_of-self-3 : goal.invariant_of-self-3
 invariant_of-self-3 g c =
     let seat = c.self.inside in
     let pushed : c.push.new.self.items ≡ seat.replies.items ++ c.answer-reply.result ∷ [] = search rules in
-    subst (IsSeated seat.client seat.pasts.items) (sym pushed) (replied_seated seat.client seat.pasts.items seat.replies.items seat.crashed c.self.invariant c.answer-reply.result)
+    subst (IsSeated seat.client seat.pasts.items seat.fed.items) (sym pushed) (replied_seated seat.client seat.pasts.items seat.fed.items seat.replies.items seat.crashed c.self.invariant c.answer-reply.result)
 
 pub returns-clause-replied : goal.returns-clause-replied
 returns-clause-replied g c =
     let seat = c.self.inside in
     let reply = c.answer-reply.result in
     let pushed : c.push.new.self.items ≡ seat.replies.items ++ reply ∷ [] = search rules in
-    let State : List Reply → Seated = λ rs. seated seat.client seat.pasts.items rs seat.crashed in
-    subst (λ (o : Seated). Replied o (State c.push.new.self.items)) c.self.view_is (reply, ap State pushed ∙ replied_is seat.client seat.pasts.items seat.replies.items seat.crashed c.self.invariant reply)
+    let State : List Reply → Seated = λ rs. seated seat.client seat.pasts.items seat.fed.items rs seat.crashed in
+    subst (λ (o : Seated). Replied o (State c.push.new.self.items)) c.self.view_is (reply, ap State pushed ∙ replied_is seat.client seat.pasts.items seat.fed.items seat.replies.items seat.crashed c.self.invariant reply)
 
 pub returns-clause-answered : goal.returns-clause-answered
 returns-clause-answered g c h =
@@ -40,10 +40,10 @@ returns-clause-answered g c h =
     let says = c.answer-reply.ensures.replies h in
     let Is : Request → Type 0 = λ q. IsReplyTo q reply × StepsAsArmed armed own left owned from q.ask reply.say to in
     let both : Is (slice_index_or requests place nothing) = subst Is (sym same) ((says.instance, says.sequence), (says.step, c.answer-reply.ensures.armed h)) in
-    let State : List Reply → Seated = λ rs. seated seat.client seat.pasts.items rs seat.crashed in
+    let State : List Reply → Seated = λ rs. seated seat.client seat.pasts.items seat.fed.items rs seat.crashed in
     subst (λ (o : Seated). Answered o place (State c.push.new.self.items) from armed own to left owned) c.self.view_is (record {
       reply = reply;
       answers = both.0;
       step = both.1;
-      is = ap State pushed ∙ replied_is seat.client seat.pasts.items seat.replies.items seat.crashed c.self.invariant reply;
+      is = ap State pushed ∙ replied_is seat.client seat.pasts.items seat.fed.items seat.replies.items seat.crashed c.self.invariant reply;
     })

@@ -8,7 +8,7 @@ use Rattle.repo_world.specs.Seats.{Seated, empty_seat, silence}
 use Rattle.repo_world.specs.declared.events.Applied.{Applied}
 use Rattle.repo_world.specs.declared.messages.Message.{Message}
 use Rattle.repo_world.specs.declared.seats.Arrival.{Arrival}
-use Rattle.repo_world.proofs.FlowParts.{asked_from, kept_there, none_from, stopped, took_last, took_last_there, took_more, took_more_there, unawaited}
+use Rattle.repo_world.proofs.FlowParts.{asked_from, kept_there, none_from, last_is, last_there, more_is, more_there, stopped, takes, unawaited}
 use Rattle.repo_world.proofs.Flowing.{within_replies}
 use Rattle.repo_world.proofs.traffic.Traffic.take.Goals as goal
 
@@ -86,7 +86,7 @@ invariant_of-self-in-Continue-branch-4 c =
     let next = asked_from _ c.pending.result new.client.next c.pending.ensures (sym c.is_some.ensures ∙ c.if-is_some.true) in
     let pushed : c.push.new.self.items ≡ messages ++ Message.Asked k (c.requests-request.result - 1) ∷ [] = search rules in
     let last : c.push.new.self.items ≡ messages ++ Message.Asked k (length new.requests - 1) ∷ [] = pushed ∙ ap (λ n. messages ++ Message.Asked k (n - 1) ∷ []) c.requests-request.ensures in
-    subst (EachIsThere (slice_set seats k new)) (sym last) (took_more_there seats messages k c.self.invariant less reply new t next.0 next.1)
+    subst (EachIsThere (slice_set seats k new)) (sym last) (more_there seats messages k c.self.invariant less new t.requests t.replies next.0 next.1)
 
 pub invariant_of-self-else-is_some : goal.invariant_of-self-else-is_some
 invariant_of-self-else-is_some c =
@@ -102,7 +102,7 @@ invariant_of-self-else-is_some c =
     let took : SeatTook s place new Arrival.Taken = subst (SeatTook s place new) c.in-Taken.is c.in_ok-take.ensures.took in
     let t : TookReply (seat_at seats k) reply new = subst (λ (x : Seated). TookReply x (slice_index_or x.replies place silence) new) (sym found) took in
     let rest : c.reserve.new.self.items ≡ messages = search rules in
-    subst (EachIsThere (slice_set seats k new)) (sym rest) (took_last_there seats messages k c.self.invariant less reply new t)
+    subst (EachIsThere (slice_set seats k new)) (sym rest) (last_there seats messages k c.self.invariant less new t.requests t.replies)
 
 pub returns-in-Unawaited-clause-arrives : goal.returns-in-Unawaited-clause-arrives
 returns-in-Unawaited-clause-arrives c = λ store.
@@ -141,7 +141,7 @@ returns-in_ok-push-in-Taken-clause-arrives c = λ store.
     let last : c.push.new.self.items ≡ messages ++ Message.Asked k (length new.requests - 1) ∷ [] = pushed ∙ ap (λ n. messages ++ Message.Asked k (n - 1) ∷ []) c.requests-request.ensures in
     let Is : Flow → List Message → Type 0 = λ f ms. Arrives (world_of store f) k (slice_index_or (seat_at f.seats k).replies place silence) Applied.Done (world_of store (record { seats = slice_set seats k new; messages = ms })) in
     subst (λ (f : Flow). Is f c.push.new.self.items) c.self.view_is
-    (subst (Is (record { seats = seats; messages = messages })) (sym last) (inl (refl, took_more seats messages k c.self.invariant less reply new t next.0 next.1 store)))
+    (subst (Is (record { seats = seats; messages = messages })) (sym last) (inl (refl, takes seats messages k c.self.invariant less reply new t store _ (more_is seats messages k c.self.invariant less new t.requests t.replies next.0 next.1 store))))
 
 pub returns-else-is_some-clause-arrives : goal.returns-else-is_some-clause-arrives
 returns-else-is_some-clause-arrives c = λ store.
@@ -160,4 +160,4 @@ returns-else-is_some-clause-arrives c = λ store.
     let rest : c.reserve.new.self.items ≡ messages = search rules in
     let Is : Flow → List Message → Type 0 = λ f ms. Arrives (world_of store f) k (slice_index_or (seat_at f.seats k).replies place silence) Applied.Done (world_of store (record { seats = slice_set seats k new; messages = ms })) in
     subst (λ (f : Flow). Is f c.reserve.new.self.items) c.self.view_is
-    (subst (Is (record { seats = seats; messages = messages })) (sym rest) (inl (refl, took_last seats messages k c.self.invariant less reply new t none store)))
+    (subst (Is (record { seats = seats; messages = messages })) (sym rest) (inl (refl, takes seats messages k c.self.invariant less reply new t store _ (last_is seats messages k c.self.invariant less new t.requests t.replies none store))))

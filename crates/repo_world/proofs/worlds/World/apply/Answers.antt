@@ -6,7 +6,7 @@ use Rattle.repo_world.specs.Stages.{IsSafely, Leads, Stage, seen}
 use Rattle.repo_world.specs.declared.events.Applied.{Applied}
 use Rattle.repo_world.specs.declared.events.Event.{Event}
 use Rattle.repo_world.proofs.Standing.{carried, safely, seen_same}
-use Rattle.repo_world.proofs.worlds.World.apply.Goals.{in-Start, in-Deliver, in-Fault, in-Ask, in-Crash, in-Restart}
+use Rattle.repo_world.proofs.worlds.World.apply.Goals.{in-Start, in-Deliver, in-Fault, in-Ask, in-Feed, in-Crash, in-Restart}
 use Rattle.repo_world.proofs.worlds.World.apply.Goals as goal
 
 pub returns-clause-happens : goal.returns-clause-happens
@@ -18,6 +18,7 @@ returns-clause-happens g c =
       | in-Deliver w ↦ carried Comes w.self-is w.applied-is w.in-Deliver.is w.deliver-applied.ensures.happens
       | in-Fault w ↦ carried Comes w.self-is w.applied-is w.in-Fault.is w.fault-applied.ensures.happens
       | in-Ask w ↦ carried Comes w.self-is w.applied-is w.in-Ask.is w.sent-applied.ensures.happens
+      | in-Feed w ↦ carried Comes w.self-is w.applied-is w.in-Feed.is w.feed-applied.ensures.happens
       | in-Crash w ↦ carried Comes w.self-is w.applied-is w.in-Crash.is w.crash.ensures
       | in-Restart w ↦ carried Comes w.self-is w.applied-is w.in-Restart.is w.restart.ensures
     ]
@@ -33,6 +34,7 @@ returns-clause-err g c =
       | in-Deliver w ↦ carried Same w.self-is w.applied-is w.in-Deliver.is (seen_same store w.deliver-applied.result old w.deliver-applied.new.self w.deliver-applied.ensures.err)
       | in-Fault w ↦ carried Same w.self-is w.applied-is w.in-Fault.is w.fault-applied.ensures.err
       | in-Ask w ↦ carried Same w.self-is w.applied-is w.in-Ask.is w.sent-applied.ensures.err
+      | in-Feed w ↦ carried Same w.self-is w.applied-is w.in-Feed.is (seen_same store w.feed-applied.result old w.feed-applied.new.self w.feed-applied.ensures.err)
       | in-Crash w ↦ carried Same w.self-is w.applied-is w.in-Crash.is tt
       | in-Restart w ↦ carried Same w.self-is w.applied-is w.in-Restart.is tt
     ]
