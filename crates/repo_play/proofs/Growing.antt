@@ -7,7 +7,9 @@ use Rattle.repo_wire.specs.declared.messages.Request.{Request}
 use Rattle.repo_wire.specs.declared.messages.Say.{Say}
 use Rattle.repo_store.specs.Failing.{Plainly, Failing}
 use Rattle.repo_store.specs.Stores.{Store}
-use Rattle.repo_world.specs.Events.{Happens, Delivers}
+use Rattle.repo_session.specs.Feeds.{Fed}
+use Rattle.repo_backup.specs.Items.{fed_of, fed_part}
+use Rattle.repo_world.specs.Events.{Happens, Delivers, Feeds}
 use Rattle.repo_world.specs.World.{World, Message, Asked, Said, IsOneOf, client, sends, first_of}
 use Rattle.repo_world.specs.declared.events.Applied.{Applied}
 use Rattle.repo_world.specs.declared.events.Event.{Event}
@@ -53,6 +55,9 @@ delivers_grows How w (Some (Said k reply)) r v (inl h) = (sends k h.1.new.next, 
 delivers_grows How w (Some (Said k reply)) r v (inr (inl h)) = same_grows w v h.3
 delivers_grows How w (Some (Said k reply)) r v (inr (inr h)) = same_grows w v h.2
 
+feeds_grows : (w : World) (k : ℕ) (item : Fed) (v : World) → Feeds w k item v → Grows w v
+feeds_grows w k item v f = (sends k f.new.next, ap (λ (u : World). u.messages) f.is)
+
 pub happens_grows : (Own : Type 0) (w : World) (e : Event) (r : Applied) (v : World) → Happens Own w e r v → Grows w v
 happens_grows Own w (Event.Start job host time old) r v (inl h) = (Asked (length w.clients) (first_of (length w.clients)) ∷ [], ap (λ (u : World). u.messages) h.1.is)
 happens_grows Own w (Event.Start job host time old) r v (inr h) = same_grows w v h.3
@@ -60,6 +65,10 @@ happens_grows Own w (Event.Deliver i) r v h = delivers_grows (Plainly Own) w (sl
 happens_grows Own w (Event.Fault i f) r v h = delivers_grows (Failing Own f) w (slice_get w.messages i) r v h
 happens_grows Own w (Event.Ask request) r v (inl (d, a)) = ([], ap (λ (x : World). x.messages) a.is ∙ sym (append-nil w.messages))
 happens_grows Own w (Event.Ask request) r v (inr h) = same_grows w v h.2
+happens_grows Own w (Event.Feed k item) r v (inl h) = feeds_grows w k (fed_of item) v h.1
+happens_grows Own w (Event.Feed k item) r v (inr (inl h)) = feeds_grows w k (fed_part h.0 item) v h.2.part
+happens_grows Own w (Event.Feed k item) r v (inr (inr (inl h))) = same_grows w v h.2.is
+happens_grows Own w (Event.Feed k item) r v (inr (inr (inr h))) = same_grows w v h.2
 happens_grows Own w (Event.Crash k) r v (inl h) = ([], ap (λ (u : World). u.messages) h.1.is ∙ sym (append-nil w.messages))
 happens_grows Own w (Event.Crash k) r v (inr h) = same_grows w v h.2
 happens_grows Own w Event.Restart r v h = same_grows w v h.1

@@ -41,6 +41,7 @@ moves_reach (Line.Entry entry) w v r h = absurd h
 moves_reach (Line.Start start old) w v r h = absurd h
 moves_reach (Line.Late k) w v r h = absurd h
 moves_reach (Line.Ask question) w v r h = absurd h
+moves_reach (Line.Feed k item) w v r h = absurd h
 moves_reach Line.Report w v r h = absurd h
 moves_reach Line.AppendOnly w v r h = absurd h
 
@@ -49,6 +50,7 @@ does_reach (Line.Entry entry) s text t r h = subst (λ (u : State). IsReachable 
 does_reach (Line.Start start old) s text t r h = reached_more ⊥ s.world (Event.Start h.job (host_of start) (time_of start) old) h.applied t.world r h.happens
 does_reach (Line.Late k) s text t r h = all_reach s.world (Event.Deliver h.0.place ∷ []) t.world r h.0.happen
 does_reach (Line.Ask question) s text t r h = reached_more ⊥ s.world (Event.Ask (stranger (asks question))) Applied.Done t.world r (inl (refl, h.0.answered))
+does_reach (Line.Feed k item) s text t r h = reached_more ⊥ s.world (Event.Feed k h.0.given) h.0.applied t.world r h.0.happens
 does_reach Line.Report s text t r h = subst (λ (u : State). IsReachable u.world) (sym h.1) r
 does_reach line s text t r h = moves_reach line s.world t.world r h.1
 

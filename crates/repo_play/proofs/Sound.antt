@@ -37,6 +37,7 @@ module _ (Own Other : Type 0) (f : Own → Other) where
   happens_so w (Event.Deliver i) a v h = delivers_so (Plainly Own) (Plainly Other) plainly_so w (slice_get w.messages i) a v h
   happens_so w (Event.Fault i fail) a v h = delivers_so (Failing Own fail) (Failing Other fail) (failing_so fail) w (slice_get w.messages i) a v h
   happens_so w (Event.Ask request) a v h = sends_so Own Other f w request a v h
+  happens_so w (Event.Feed k item) a v h = h
   happens_so w (Event.Crash k) a v h = h
   happens_so w Event.Restart a v h = h
 

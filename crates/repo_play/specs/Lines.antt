@@ -21,6 +21,7 @@ use Rattle.repo_world.specs.declared.jobs.Refusal.{Refusal}
 use Rattle.repo_script.specs.declared.lines.Line.{Line}
 use Rattle.repo_script.specs.declared.lines.Start.{Start}
 use Rattle.repo_play.specs.declared.grammars.Grammar.{Grammar}
+use Rattle.repo_play.specs.Feeding.{IsFedTold}
 use Rattle.repo_play.specs.Steps.{AllHappen, HasClient, MayStepClient, StepsClientOn, Goes, IsAnswered, IsLate, asks, deliveries, stranger}
 
 -- where a script stands: its world, and the entries for the next backup
@@ -73,6 +74,7 @@ all_stored w (k ∷ ks) = option_and_then (λ name. option_map (λ names. name �
 -- the job of a client that starts so
 abbrev pub IsJob : Start → State → Job → Type 0
 IsJob (Start.Backup host time) s job = job ≡ Job.Backup s.entries
+IsJob (Start.Pieces host time) s job = job ≡ Job.Pieces
 IsJob (Start.Restore k) s job = (name : Name) × (stored_by s.world k ≡ Some name) × (job ≡ Job.Restore name)
 IsJob Start.List s job = job ≡ Job.List
 IsJob Start.Prune s job = job ≡ Job.Prune
@@ -84,13 +86,15 @@ IsJob (Start.Keep policy) s job = job ≡ Job.Forget (Choice.Keep policy)
 -- its host and its time; all but backups have one host and one time
 abbrev pub host_of : Start → List ℕ
 host_of (Start.Backup host time) = host
+host_of (Start.Pieces host time) = host
 host_of _ = codes "play"
 
 abbrev pub time_of : Start → ℕ
 time_of (Start.Backup host time) = time
+time_of (Start.Pieces host time) = time
 time_of _ = 0
 
--- the entries that are left after it: a backup uses them up
+-- the entries that are left after it: a backup that is handed them uses them up
 abbrev pub left_by : Start → List Entry → List Entry
 left_by (Start.Backup host time) entries = []
 left_by _ entries = entries
@@ -151,6 +155,7 @@ Does (Line.Entry entry) s text t = (text ≡ []) × (t ≡ record { world = s.wo
 Does (Line.Start start old) s text t = DoesStart start old s text t
 Does (Line.Late k) s text t = IsLate s.world k text t.world × (t.entries ≡ s.entries)
 Does (Line.Ask question) s text t = IsAnswered s.world question text t.world × (t.entries ≡ s.entries)
+Does (Line.Feed k item) s text t = IsFedTold s.world k item text t.world × (t.entries ≡ s.entries)
 Does Line.Report s text t = IsReport s.world text × (t ≡ s)
 Does line s text t = (text ≡ []) × MovesWorld line s.world t.world × (t.entries ≡ s.entries)
 
@@ -161,6 +166,7 @@ IsNonsense (Line.Entry entry) s = ⊥
 IsNonsense (Line.Start start old) s = ((job : Job) → ¬ IsJob start s job) ⊎ (¬ IsHost (host_of start))
 IsNonsense (Line.Late k) s = ¬ HasClient s.world k
 IsNonsense (Line.Ask question) s = ¬ MayAnybodySend (stranger (asks question))
+IsNonsense (Line.Feed k item) s = ¬ HasClient s.world k
 IsNonsense Line.Report s = ⊥
 IsNonsense line s = CannotMove line s.world
 

@@ -22,7 +22,7 @@ use std::alloc::AllocError;
 /// An event happens. It fails for memory alone.
 pub fn happen<S: Shelf + Drop>(world: &mut World<S>, event: Event) -> Result<Applied, AllocError>
     requires { NeverFails S.failed }
-    ensures { IfOk result (λ applied. Happens ⊥ (seen S.store world.old) event applied (seen S.store world.new)) }
+    ensures { IfOk result (λ applied. Happens ⊥ (seen S.store world.old) event.entry applied (seen S.store world.new)) }
 {
     world.apply(event)
 }
@@ -30,7 +30,7 @@ pub fn happen<S: Shelf + Drop>(world: &mut World<S>, event: Event) -> Result<App
 /// An event happens, and nothing is told of it. It fails for memory alone.
 pub fn pass<S: Shelf + Drop>(world: &mut World<S>, event: Event) -> Result<(), AllocError>
     requires { NeverFails S.failed }
-    ensures { OnOk result (AllHappen (seen S.store world.old) (event ∷ []) (seen S.store world.new)) }
+    ensures { OnOk result (AllHappen (seen S.store world.old) (event.entry ∷ []) (seen S.store world.new)) }
 {
     happen(world, event)?;
     Ok(())
@@ -75,7 +75,7 @@ pub fn exchange<S: Shelf + Drop, C: Carrier>(
     event: Event,
 ) -> Result<(), Halt>
     requires { NeverFails S.failed }
-    ensures happen { OnOk result (AllHappen (seen S.store world.old) (event ∷ Event.Deliver (length (seen S.store world.old).messages) ∷ [])
+    ensures happen { OnOk result (AllHappen (seen S.store world.old) (event.entry ∷ Event.Deliver (length (seen S.store world.old).messages) ∷ [])
         (seen S.store world.new)) }
     ensures sense { ¬ IsErrOf result Halt.Nonsense }
     ensures few { ¬ IsErrOf result Halt.Limit }

@@ -21,7 +21,7 @@ use repo_world::{Event, World};
 const STEPS: u64 = 1 << 32;
 
 /// The delivery of a message, in which a call of the device fails, if one is to.
-fn delivery(fail: Option<Fail>, message: usize) -> Event
+fn delivery(fail: Option<Fail>, message: usize) -> Event<'static>
     ensures { result ≡ delivery fail message }
 {
     match fail {

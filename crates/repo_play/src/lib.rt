@@ -16,6 +16,7 @@ mod beginnings;
 mod carriers;
 mod exchanges;
 mod faults;
+mod feeding;
 mod frames;
 mod going;
 mod grammars;

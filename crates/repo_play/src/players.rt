@@ -12,6 +12,7 @@ use crate::asking::ask;
 use crate::carriers::Carrier;
 use crate::exchanges::happen;
 use crate::faults::Halt;
+use crate::feeding::feed;
 use crate::later::late;
 use crate::moving::move_on;
 use crate::starting::{all_stored, host_of, start_line, stored_by, time_of};
@@ -47,6 +48,7 @@ impl<S: Shelf + Drop> Player<S> {
                 let entries = mem::replace(&mut self.entries, Vec::new(self.alloc));
                 Ok(Job::Backup(Entries::of(entries)))
             }
+            Start::Pieces { .. } => Ok(Job::Pieces),
             Start::Restore(client) => match stored_by(&self.world, *client) {
                 Some(name) => Ok(Job::Restore(name)),
                 None => Err(Halt::Nonsense),
@@ -133,6 +135,7 @@ impl<S: Shelf + Drop> Player<S> {
             Line::Start { start, old } => self.start(&start, old),
             Line::Late(client) => late(self.alloc, &mut self.world, client),
             Line::Ask(question) => ask(self.alloc, &mut self.world, question),
+            Line::Feed { client, item } => feed(self.alloc, &mut self.world, client, &item),
             Line::Report => self.report(),
             other => self.go_on(carrier, &other),
         }

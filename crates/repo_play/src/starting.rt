@@ -49,7 +49,7 @@ pub fn host_of(alloc: Global, start: &Start) -> Result<Host, Halt>
     ensures carried { IfErr result (HaltsBy (λ _. ⊥)) }
 {
     let host = match start {
-        Start::Backup { host, .. } => host.as_str(),
+        Start::Backup { host, .. } | Start::Pieces { host, .. } => host.as_str(),
         _ => "play",
     };
     match Host::new(alloc, host) {
@@ -64,7 +64,7 @@ pub fn time_of(start: &Start) -> u64
     ensures { result ≡ time_of start.now }
 {
     match start {
-        Start::Backup { time, .. } => *time,
+        Start::Backup { time, .. } | Start::Pieces { time, .. } => *time,
         _ => 0,
     }
 }

@@ -6,11 +6,13 @@ use Rattle.hex.specs.Hex.{decode_of}
 use Rattle.repo_tree.specs.declared.entries.EntryKind.{EntryKind}
 use Rattle.repo_script.specs.Cuts.{words, components}
 use Rattle.repo_script.specs.Numbers.{number, numbers}
-use Rattle.repo_script.specs.Tables.{word_in, verbs, purposes, topics, kinds, sorts, fails}
+use Rattle.repo_script.specs.Tables.{word_in, verbs, purposes, items, topics, kinds, sorts, fails}
 use Rattle.repo_script.specs.declared.faults.LineError.{LineError}
+use Rattle.repo_script.specs.declared.lines.FeedItem.{FeedItem}
 use Rattle.repo_script.specs.declared.lines.Line.{Line}
 use Rattle.repo_script.specs.declared.lines.Question.{Question}
 use Rattle.repo_script.specs.declared.lines.Start.{Start}
+use Rattle.repo_script.specs.declared.verbs.ItemSort.{ItemSort}
 use Rattle.repo_script.specs.declared.verbs.Purpose.{Purpose}
 use Rattle.repo_script.specs.declared.verbs.Topic.{Topic}
 use Rattle.repo_script.specs.declared.verbs.Verb.{Verb}
@@ -46,6 +48,7 @@ clients (word ∷ words) = numbers (word ∷ words)
 -- what a client starts for, by the words left
 abbrev pub start_with : Purpose → List (List ℕ) → Option Start
 start_with Purpose.Backup left = option_map (λ x. Start.Backup x.0 x.1) (two host (number 64) left)
+start_with Purpose.Pieces left = option_map (λ x. Start.Pieces x.0 x.1) (two host (number 64) left)
 start_with Purpose.Restore left = option_map Start.Restore (one (number 64) left)
 start_with Purpose.List left = alone Start.List left
 start_with Purpose.Prune left = alone Start.Prune left
@@ -63,6 +66,25 @@ start_of (word ∷ left) = option_and_then (λ purpose. start_with purpose left)
 abbrev pub old_start_of : List (List ℕ) → Option Start
 old_start_of [] = None
 old_start_of (word ∷ left) = if bytes_eq word (codes "start") then start_of left else None
+
+-- the item of a sort, by the words left
+abbrev pub item_with : ItemSort → List (List ℕ) → Option FeedItem
+item_with ItemSort.Dir left = option_map FeedItem.Dir (one Some left)
+item_with ItemSort.File left = option_map FeedItem.File (one Some left)
+item_with ItemSort.Bytes left = option_map FeedItem.Bytes (one bytes left)
+item_with ItemSort.Close left = alone FeedItem.Close left
+item_with ItemSort.End left = alone FeedItem.End left
+item_with ItemSort.Abandon left = alone FeedItem.Abandon left
+
+-- the item that some words are
+abbrev pub item_of : List (List ℕ) → Option FeedItem
+item_of [] = None
+item_of (word ∷ left) = option_and_then (λ sort. item_with sort left) (word_in items word)
+
+-- the line by which a client is fed, by the words left
+abbrev pub feed_of : List (List ℕ) → Option Line
+feed_of [] = None
+feed_of (word ∷ left) = option_and_then (λ client. option_map (λ item. Line.Feed client item) (item_of left)) (number 64 word)
 
 -- what is asked for of a topic, by the words left
 abbrev pub question_with : Topic → List (List ℕ) → Option Question
@@ -103,6 +125,7 @@ line_with Verb.Dir left = option_map (λ path. entry path EntryKind.Dir) (one So
 line_with Verb.File left = option_map (λ x. entry x.0 (EntryKind.File x.1)) (two Some bytes left)
 line_with Verb.Start left = option_map (λ start. Line.Start start false) (start_of left)
 line_with Verb.Old left = option_map (λ start. Line.Start start true) (old_start_of left)
+line_with Verb.Feed left = feed_of left
 line_with verb left = event_with verb left
 
 -- the line that some words are

@@ -4,6 +4,7 @@ use Rattle.std.specs.Map.{lookup}
 use Rattle.repo_name.specs.declared.kinds.Kind.{Kind}
 use Rattle.repo_store.specs.declared.faults.Fail.{Fail}
 use Rattle.repo_script.specs.declared.sorts.AskSort.{AskSort}
+use Rattle.repo_script.specs.declared.verbs.ItemSort.{ItemSort}
 use Rattle.repo_script.specs.declared.verbs.Purpose.{Purpose}
 use Rattle.repo_script.specs.declared.verbs.Topic.{Topic}
 use Rattle.repo_script.specs.declared.verbs.Verb.{Verb}
@@ -25,6 +26,7 @@ verbs =
     ∷ (codes "late", Verb.Late)
     ∷ (codes "fault", Verb.Fault)
     ∷ (codes "deliver", Verb.Deliver)
+    ∷ (codes "feed", Verb.Feed)
     ∷ (codes "unlock", Verb.Unlock)
     ∷ (codes "ask", Verb.Ask)
     ∷ (codes "crash", Verb.Crash)
@@ -38,6 +40,7 @@ verbs =
 abbrev pub purposes : List (List ℕ × Purpose)
 purposes =
     (codes "backup", Purpose.Backup)
+    ∷ (codes "pieces", Purpose.Pieces)
     ∷ (codes "restore", Purpose.Restore)
     ∷ (codes "list", Purpose.List)
     ∷ (codes "prune", Purpose.Prune)
@@ -45,6 +48,17 @@ purposes =
     ∷ (codes "forget", Purpose.Forget)
     ∷ (codes "keep", Purpose.Keep)
     ∷ (codes "upgrade", Purpose.Upgrade)
+    ∷ []
+
+-- what clients are fed
+abbrev pub items : List (List ℕ × ItemSort)
+items =
+    (codes "dir", ItemSort.Dir)
+    ∷ (codes "file", ItemSort.File)
+    ∷ (codes "bytes", ItemSort.Bytes)
+    ∷ (codes "close", ItemSort.Close)
+    ∷ (codes "end", ItemSort.End)
+    ∷ (codes "abandon", ItemSort.Abandon)
     ∷ []
 
 -- what somebody who is no client asks for

@@ -1,6 +1,7 @@
 //! The lines of scripts, which tell a world what is to happen.
 //!
-//! [`read_line`] reads one: an entry of the next backup, the start of a client, something that happens, or a report.
+//! [`read_line`] reads one: an entry of the next backup, the start of a client, what it is fed, something else that
+//! happens, or a report.
 //! [`LineCutter`] cuts a stream that comes in pieces into lines. [`AskSort`] is what a script waits for.
 //!
 //! Promised: a line is read exactly where its bytes are one by the definition, and as that line; a stream's lines are
@@ -14,6 +15,7 @@
 mod arguments;
 mod cuts;
 mod faults;
+mod feeds;
 mod lines;
 mod numbers;
 mod questions;
@@ -25,7 +27,7 @@ mod tables;
 mod verbs;
 
 pub use faults::LineError;
-pub use lines::{Clients, Line, Question, Start};
+pub use lines::{Clients, FeedItem, Line, Question, Start};
 pub use reading::read_line;
 pub use sorts::AskSort;
 pub use streams::{LineCutter, lines_go_on};

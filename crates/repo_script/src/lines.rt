@@ -1,7 +1,7 @@
 //! The lines of scripts.
 
 use crate::sorts::AskSort;
-use repo_name::{Text, Token};
+use repo_name::{Bytes, Text, Token};
 use repo_prune::Policy;
 use repo_store::Fail;
 use repo_tree::Entry;
@@ -58,6 +58,8 @@ pub enum Line {
     Fault { client: usize, fail: Fail },
     /// The message of this number is delivered.
     Deliver(usize),
+    /// This client is fed this.
+    Feed { client: usize, item: FeedItem },
     /// Somebody removes the lock of this token.
     Unlock(Token),
     /// Somebody asks the store for this.
@@ -72,6 +74,23 @@ pub enum Line {
     Replay,
     /// The store deletes nothing.
     AppendOnly,
+}
+
+/// What a backup is fed. A name is a word, whether or not a path can have it.
+#[derive(Clone, Debug, Drop)]
+pub enum FeedItem {
+    /// A directory of this name begins in the open one, and is open then.
+    Dir(Text),
+    /// A file of this name begins in the open directory.
+    File(Text),
+    /// More bytes of the open file.
+    Bytes(Bytes),
+    /// The end of the open file, else of the open directory.
+    Close,
+    /// The end of all.
+    End,
+    /// The backup is given up.
+    Abandon,
 }
 
 /// What somebody who is no client asks the store for.
@@ -92,6 +111,8 @@ pub enum Question {
 pub enum Start {
     /// It backs up the entries, from a machine of this name at this moment, in seconds since 1970.
     Backup { host: Text, time: u64 },
+    /// It backs up what it is fed, from a machine of this name at this moment, in seconds since 1970.
+    Pieces { host: Text, time: u64 },
     /// It restores the snapshot that this client stored.
     Restore(usize),
     /// It lists the snapshots.

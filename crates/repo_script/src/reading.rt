@@ -11,6 +11,7 @@ use crate::arguments::{
 };
 use crate::cuts::{are_words, path_of, words_of};
 use crate::faults::LineError;
+use crate::feeds::feed_of;
 use crate::lines::Line;
 use crate::questions::question_of;
 use crate::starts::{old_start_of, start_of};
@@ -87,6 +88,7 @@ fn line_with(alloc: Global, verb: Verb, left: &[&str]) -> Result<Line, LineError
             let start = old_start_of(alloc, left)?;
             Ok(Line::Start { start, old: true })
         }
+        Verb::Feed => feed_of(alloc, left),
         _ => event_with(verb, left).ok_or(LineError::NotUnderstood),
     }
 }

@@ -1,10 +1,10 @@
 //! The words that scripts have.
 
 ghost use Rattle.std.specs.Prelude.{◌≡◌};
-ghost use Rattle.repo_script.specs.Tables.{word_in, verbs, purposes, topics, kinds, sorts, fails};
+ghost use Rattle.repo_script.specs.Tables.{word_in, verbs, purposes, items, topics, kinds, sorts, fails};
 
 use crate::sorts::AskSort;
-use crate::verbs::{Purpose, Topic, Verb};
+use crate::verbs::{ItemSort, Purpose, Topic, Verb};
 use repo_name::Kind;
 use repo_store::Fail;
 
@@ -23,6 +23,7 @@ pub fn verb_of(word: &str) -> Option<Verb>
         "late" => Some(Verb::Late),
         "fault" => Some(Verb::Fault),
         "deliver" => Some(Verb::Deliver),
+        "feed" => Some(Verb::Feed),
         "unlock" => Some(Verb::Unlock),
         "ask" => Some(Verb::Ask),
         "crash" => Some(Verb::Crash),
@@ -40,6 +41,7 @@ pub fn purpose_of(word: &str) -> Option<Purpose>
 {
     match word {
         "backup" => Some(Purpose::Backup),
+        "pieces" => Some(Purpose::Pieces),
         "restore" => Some(Purpose::Restore),
         "list" => Some(Purpose::List),
         "prune" => Some(Purpose::Prune),
@@ -47,6 +49,21 @@ pub fn purpose_of(word: &str) -> Option<Purpose>
         "forget" => Some(Purpose::Forget),
         "keep" => Some(Purpose::Keep),
         "upgrade" => Some(Purpose::Upgrade),
+        _ => None,
+    }
+}
+
+/// What a client is fed by this word.
+pub fn item_sort_of(word: &str) -> Option<ItemSort>
+    ensures { result ≡ word_in items word.now }
+{
+    match word {
+        "dir" => Some(ItemSort::Dir),
+        "file" => Some(ItemSort::File),
+        "bytes" => Some(ItemSort::Bytes),
+        "close" => Some(ItemSort::Close),
+        "end" => Some(ItemSort::End),
+        "abandon" => Some(ItemSort::Abandon),
         _ => None,
     }
 }

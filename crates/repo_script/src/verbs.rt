@@ -13,6 +13,7 @@ pub enum Verb {
     Late,
     Fault,
     Deliver,
+    Feed,
     Unlock,
     Ask,
     Crash,
@@ -26,6 +27,7 @@ pub enum Verb {
 #[derive(Clone, Copy)]
 pub enum Purpose {
     Backup,
+    Pieces,
     Restore,
     List,
     Prune,
@@ -33,6 +35,17 @@ pub enum Purpose {
     Forget,
     Keep,
     Upgrade,
+}
+
+/// What a client is fed.
+#[derive(Clone, Copy)]
+pub enum ItemSort {
+    Dir,
+    File,
+    Bytes,
+    Close,
+    End,
+    Abandon,
 }
 
 /// What somebody who is no client asks for.
