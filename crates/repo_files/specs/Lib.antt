@@ -1,3 +1,2 @@
 pub mod Restoring
-pub mod Scanned
 pub mod inner

@@ -1,6 +1,6 @@
 //! Where the entries of a folder lie in the file system.
 
-ghost use Rattle.std.specs.Prelude.{◌≡◌, IfOk, string_bytes};
+ghost use Rattle.std.specs.Prelude.{◌≡◌, ◌∷◌, [], IfOk, string_bytes};
 ghost use Rattle.repo_files.specs.inner.Places.{place_of};
 
 use repo_name::Text;
@@ -15,6 +15,16 @@ pub fn place_below(alloc: Global, folder: &str, path: &[Text]) -> Result<String,
         place.push('/')?;
         place.push_str(name.as_str())?;
     }
+    Ok(place)
+}
+
+/// The place of an entry of a folder: the folder's, then its name after a `/`.
+pub fn place_in(alloc: Global, folder: &str, name: &str) -> Result<String, AllocError>
+    ensures { IfOk result (λ place. string_bytes place ≡ place_of folder.now (name.now ∷ [])) }
+{
+    let mut place = String::from_str(alloc, folder)?;
+    place.push('/')?;
+    place.push_str(name)?;
     Ok(place)
 }
 

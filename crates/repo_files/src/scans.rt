@@ -1,16 +1,6 @@
-//! What a scan gives.
+//! What a walk leaves out, and why it ends.
 
-use repo_tree::Entry;
 use std::alloc::AllocError;
-
-/// What a folder holds, as a backup wants it.
-#[derive(Debug, Drop)]
-pub struct Scan {
-    /// The files, whole, and the directories: ascending by the components of their paths.
-    pub entries: Vec<Entry>,
-    /// What was left out, in the order in which it was met.
-    pub skipped: Vec<Skipped>,
-}
 
 /// What was left out.
 #[derive(Debug, Drop)]
@@ -22,7 +12,7 @@ pub enum Skipped {
     Unnamed(String),
 }
 
-/// Why a folder wasn't scanned.
+/// Why a folder isn't walked through to its end.
 #[derive(Debug, Drop)]
 pub enum ScanError {
     /// The path that can't be read, or whose name no backup can hold.

@@ -1,0 +1,298 @@
+-- A backup that feeds itself goes on, item by item.
+use Rattle.std.specs.Prelude.{IsSome, is_some, string_bytes}
+use Rattle.std.proofs.Common.{arith, ◌≡◌, ◌≢◌, ◌≤◌, ◌∷◌, ◌⊎◌, [], ℕ, Bool, true, false, List, length, take, drop, Option, Some, None, refl, sym, ap, subst, inl, inr, length-append, ◌∙◌}
+use Rattle.std.proofs.lemmas.List.{take-append-drop}
+use Rattle.repo_name.specs.declared.kinds.Kind.{Kind}
+use Rattle.repo_name.specs.declared.tokens.Token.{Token}
+use Rattle.repo_wire.specs.declared.messages.Ask.{Ask}
+use Rattle.repo_wire.specs.declared.messages.Say.{Say}
+use Rattle.repo_session.specs.Ends.{IsCause, before_unlock}
+use Rattle.repo_session.specs.Feeds.{Fed, fed_dir, fed_file, fed_bytes, fed_close, fed_end, fed_abandon}
+use Rattle.repo_session.specs.Order.{Task, opened, IsWork, IsWorking, Obeys}
+use Rattle.repo_session.specs.Askers.{Asker}
+use Rattle.repo_name.specs.declared.names.Name.{Name}
+use Rattle.repo_session.specs.Sessions.{who_in, ended_in}
+use Rattle.repo_session.specs.Traces.{Trace, Exchanged, giving, fed_in, feeding}
+use Rattle.repo_session.specs.Versions.{upto}
+use Rattle.repo_session.specs.declared.emissions.Emission.{Emission}
+use Rattle.repo_session.specs.declared.outcomes.End.{End}
+use Rattle.repo_session.specs.declared.outcomes.Outcome.{Outcome}
+use Rattle.repo_session.proofs.Sessioning.{wants_of}
+use Rattle.repo_backup.specs.declared.items.Item.{Item}
+use Rattle.repo_feeding.specs.Rooms.{Fills, IsItemOf}
+use Rattle.repo_feeding.specs.declared.sources.Found.{Found}
+use Rattle.repo_backup.specs.Items.{fed_of, fed_part, size_of, NobodyGaveUp, Place, after, place_of}
+use Rattle.repo_backup.specs.PieceBackups.{PieceKnows, PieceWants, IsFreshPieces, FitsPieces, IsHungry}
+use Rattle.repo_backup.specs.PieceObedience.{pieces_obey}
+use Rattle.repo_backup.specs.PieceRules.{PieceAllows, PieceConcludes, WantsInput, WasGivenUp, piece_rule}
+use Rattle.repo_backup.specs.PieceStates.{piece_task}
+use Rattle.repo_backup.specs.declared.piece_backups.PieceBackup.{PieceBackup}
+use Rattle.repo_feeding.specs.FedObedience.{right_at, before_right}
+use Rattle.repo_feeding.specs.FedRules.{IsAsTold}
+use Rattle.repo_feeding.specs.FedStates.{Feeder, feeder, IsFedLate, IsFedRight, AreFedRight, LeadsOn, IsFed, IsFedUpto, FitsFed}
+use Rattle.repo_feeding.specs.Sources.{Told, whole_of, IsFresh, Comes}
+use Rattle.repo_feeding.specs.Unfed.{unfed}
+use Rattle.repo_feeding.proofs.Among.{before_exchanged}
+use Rattle.repo_feeding.proofs.Places.{bytes_joined, nothing_more, not_over, over_more, comes_whole, comes_on, comes_told, fresh_on}
+
+-- ---- where a backup wants input
+
+working_long : (task : Task) (token : Token) (es : Trace) → IsWorking task token es → 3 ≤ length es
+working_long task token es (config, h) = omega (arith, ap length h.since, length-append h.later (opened task token h.text))
+
+module _ (b : PieceBackup) (fs : Trace) (hungry : IsHungry b) (fits : FitsPieces b fs) where
+  pub hungry_wants : WantsInput fs
+  hungry_wants = (pieces_obey b fs fits).settled hungry.0 hungry.1
+
+  pub hungry_long : 3 ≤ length fs
+  hungry_long =
+      let s = b.session in
+      let w = wants_of piece_rule s.head.holder s.head.lock (IsFreshPieces s.job) (PieceKnows s.job) (PieceWants s.job) s.head.line fs hungry.0 hungry.1 fits in
+      working_long (piece_task s.head.holder.who) s.head.holder.token fs w.working
+
+-- before anything was said it wants none
+pub full_first : (b : PieceBackup) → FitsPieces b [] → ¬ IsHungry b
+full_first b fits hungry = let complete = (hungry_wants b [] hungry fits).indexes.listed.complete in absurd (cc)
+
+-- once somebody gave up it wants none
+pub full_gone : (b : PieceBackup) (fs : Trace) → 3 ≤ length fs → FitsPieces b (feeding fed_abandon fs) → ¬ IsHungry b
+full_gone b [] long fits hungry = absurd (omega (arith, long))
+full_gone b (e ∷ fs) long fits hungry = (hungry_wants b (feeding fed_abandon (e ∷ fs)) hungry fits).kept
+
+-- ---- what was fed
+
+unfed_fed : (item : Fed) (fs : Trace) → unfed (feeding item fs) ≡ unfed fs
+unfed_fed item [] = refl
+unfed_fed item (e ∷ fs) = refl
+
+late_fed : (item : Fed) (fs : Trace) → 3 ≤ length fs → IsFedLate fs → IsFedLate (feeding item fs)
+late_fed item [] long late = late
+late_fed item (e ∷ fs) long late = (λ some. omega (arith, long), late.1)
+
+right_fed : (whole : Option (List Fed)) (gave : Bool) (item : Fed) (fs : Trace) → AreFedRight whole gave fs → IsFedRight whole gave (feeding item fs) → AreFedRight whole gave (feeding item fs)
+right_fed whole gave item [] h top = tt
+right_fed whole gave item (e ∷ fs) h top = (top, h.1)
+
+-- a reason stays
+right_kept : (whole : Option (List Fed)) (gave : Bool) (fs : Trace) → AreFedRight whole gave fs → AreFedRight whole true fs
+right_kept whole gave [] h = tt
+right_kept whole gave (e ∷ fs) h = (record { told = h.0.told; reason = λ gone. refl }, right_kept whole gave fs h.1)
+
+fed_place : (item : Fed) (fs : Trace) → 3 ≤ length fs → place_of (fed_in (feeding item fs)) ≡ after (place_of (fed_in fs)) item
+fed_place item [] long = absurd (omega (arith, long))
+fed_place item (e ∷ fs) long = refl
+
+-- either nobody gave up or somebody did
+nobody_gone : (items : List Fed) → NobodyGaveUp items → ¬ WasGivenUp items
+nobody_gone [] kept gone = gone
+nobody_gone (fed_dir name ∷ items) kept gone = gone
+nobody_gone (fed_file name ∷ items) kept gone = gone
+nobody_gone (fed_bytes bytes ∷ items) kept gone = gone
+nobody_gone (fed_close ∷ items) kept gone = gone
+nobody_gone (fed_end ∷ items) kept gone = gone
+nobody_gone (fed_abandon ∷ items) kept gone = kept
+
+-- nobody gives up by this item
+abbrev pub GoesOn : Fed → Type 0
+GoesOn item = (items : List Fed) → ¬ WasGivenUp (item ∷ items)
+
+still_kept : (item : Fed) (fs : Trace) → 3 ≤ length fs → GoesOn item → ¬ WasGivenUp (fed_in (feeding item fs))
+still_kept item [] long on gone = absurd (omega (arith, long))
+still_kept item (e ∷ fs) long on gone = on (fed_in (e ∷ fs)) gone
+
+-- ---- one item more
+
+module _ (f : Feeder) (new : PieceBackup) (es fs : Trace) (hungry : IsHungry f.backup) (fed : IsFed f es fs) where
+  -- one by which nobody gives up
+  fed_more : (item : Fed) (told : Option Told) (rest : List ℕ) → GoesOn item → whole_of told ≡ whole_of f.told → FitsPieces new (feeding item fs)
+      → IsAsTold (whole_of told) (after (place_of (fed_in fs)) item) → LeadsOn told (after (after (place_of (fed_in fs)) item) (fed_bytes rest))
+      → IsFedUpto (feeder new told rest f.gave) es (feeding item fs)
+  fed_more item told rest on same fits right leads =
+      let long = hungry_long f.backup fs hungry fed.at in
+      let wants = hungry_wants f.backup fs hungry fed.at in
+      let place = fed_place item fs long in
+      record {
+        fed = record {
+          same = unfed_fed item fs ∙ fed.same;
+          at = fits;
+          late = late_fed item fs long fed.late;
+          right = right_fed (whole_of told) f.gave item fs (subst (λ whole. AreFedRight whole f.gave fs) (sym same) fed.right)
+              (record { told = subst (λ p. IsAsTold (whole_of told) p) (sym place) right; reason = λ gone. absurd (still_kept item fs long on gone) });
+          gone = λ gave. absurd (nobody_gone (fed_in fs) wants.kept (fed.gone gave).0);
+        };
+        leads_on = λ kept. subst (λ p. LeadsOn told (after p (fed_bytes rest))) (sym place) leads;
+      }
+
+  -- one by which somebody does
+  pub fed_up : FitsPieces new (feeding fed_abandon fs) → FitsFed (feeder new f.told f.rest true) es
+  fed_up fits =
+      let long = hungry_long f.backup fs hungry fed.at in
+      let wants = hungry_wants f.backup fs hungry fed.at in
+      let place = fed_place fed_abandon fs long in
+      record {
+        fs = feeding fed_abandon fs;
+        upto = record {
+          fed = record {
+            same = unfed_fed fed_abandon fs ∙ fed.same;
+            at = fits;
+            late = late_fed fed_abandon fs long fed.late;
+            right = right_fed (whole_of f.told) true fed_abandon fs (right_kept (whole_of f.told) f.gave fs fed.right)
+                (record { told = subst (λ p. IsAsTold (whole_of f.told) p) (sym place) (not_over (whole_of f.told) (place_of (fed_in fs)) wants.goes_on); reason = λ gone. refl });
+            gone = λ gave. (abandoned fs long, ap (λ (p : Place). p.over) place ∙ wants.goes_on);
+          };
+          leads_on = λ kept. absurd (gone_up fs long kept);
+        };
+        full = full_gone new fs long fits;
+      }
+    where
+      abandoned : (fs : Trace) → 3 ≤ length fs → WasGivenUp (fed_in (feeding fed_abandon fs))
+      abandoned [] long = absurd (omega (arith, long))
+      abandoned (e ∷ fs) long = tt
+
+      gone_up : (fs : Trace) → 3 ≤ length fs → ¬ NobodyGaveUp (fed_in (feeding fed_abandon fs))
+      gone_up [] long kept = absurd (omega (arith, long))
+      gone_up (e ∷ fs) long kept = kept
+
+module _ (f : Feeder) (new : PieceBackup) (es fs : Trace) (hungry : IsHungry f.backup) (upto : IsFedUpto f es fs) where
+  -- some first bytes of those that wait
+  pub fed_part_of : (n : ℕ) → FitsPieces new (feeding (fed_bytes (take n f.rest)) fs) → IsFedUpto (feeder new f.told (drop n f.rest) f.gave) es (feeding (fed_bytes (take n f.rest)) fs)
+  fed_part_of n fits =
+      let wants = hungry_wants f.backup fs hungry upto.fed.at in
+      let p = place_of (fed_in fs) in
+      let whole : after (after p (fed_bytes (take n f.rest))) (fed_bytes (drop n f.rest)) ≡ after p (fed_bytes f.rest)
+      = bytes_joined p (take n f.rest) (drop n f.rest) ∙ ap (λ bytes. after p (fed_bytes bytes)) (take-append-drop n f.rest) in
+      fed_more f new es fs hungry upto.fed (fed_bytes (take n f.rest)) f.told (drop n f.rest) (λ items gone. gone) refl fits
+      (not_over (whole_of f.told) (after p (fed_bytes (take n f.rest))) wants.goes_on) (subst (λ q. LeadsOn f.told q) (sym whole) (upto.leads_on wants.kept))
+
+  -- what came, where nothing waits
+  pub fed_found_item : (item : Fed) (told : Option Told) → f.rest ≡ [] → GoesOn item → Comes f.told (Some item) told → FitsPieces new (feeding item fs) → IsFedUpto (feeder new told [] f.gave) es (feeding item fs)
+  fed_found_item item told none on comes fits =
+      let wants = hungry_wants f.backup fs hungry upto.fed.at in
+      let p = place_of (fed_in fs) in
+      let here : LeadsOn f.told p = subst (λ q. LeadsOn f.told q) (ap (λ bytes. after p (fed_bytes bytes)) none ∙ nothing_more p) (upto.leads_on wants.kept) in
+      let next = comes_on f.told item told p comes here in
+      fed_more f new es fs hungry upto.fed item told [] on (comes_whole f.told (Some item) told comes) fits
+      (comes_told f.told item told p comes wants.goes_on next) (subst (λ q. LeadsOn told q) (sym (nothing_more (after p item))) next)
+
+-- bytes came, where nothing waits
+pub bytes_found : (f : Feeder) (es fs : Trace) (bytes : List ℕ) (told : Option Told) → f.rest ≡ [] → Comes f.told (Some (fed_bytes bytes)) told → IsFedUpto f es fs → IsFedUpto (feeder f.backup told bytes f.gave) es fs
+bytes_found f es fs bytes told none comes upto =
+    let p = place_of (fed_in fs) in
+    let same = comes_whole f.told (Some (fed_bytes bytes)) told comes in
+    record {
+      fed = record { same = upto.fed.same; at = upto.fed.at; late = upto.fed.late; right = subst (λ whole. AreFedRight whole f.gave fs) (sym same) upto.fed.right; gone = upto.fed.gone };
+      leads_on = λ kept. (
+          let here : LeadsOn f.told p = subst (λ q. LeadsOn f.told q) (ap (λ more. after p (fed_bytes more)) none ∙ nothing_more p) (upto.leads_on kept) in
+          comes_on f.told (fed_bytes bytes) told p comes here);
+    }
+
+-- nothing was fed, and what came is lost
+pub fed_none : (f : Feeder) (new : PieceBackup) (es fs : Trace) (told : Option Told) (rest : List ℕ) → whole_of told ≡ whole_of f.told → FitsPieces new fs → IsFed f es fs → IsFed (feeder new told rest f.gave) es fs
+fed_none f new es fs told rest same fits fed = record { same = fed.same; at = fits; late = fed.late; right = subst (λ whole. AreFedRight whole f.gave fs) (sym same) fed.right; gone = fed.gone }
+
+-- ---- one exchange more
+
+right_next : (whole : Option (List Fed)) (gave : Bool) (ask : Ask) (say : Say) (emitted : List Emission) (fs : Trace) → AreFedRight whole gave fs → AreFedRight whole gave (giving ask say emitted ∷ fs)
+right_next whole gave ask say emitted fs h = let top = right_at whole gave fs h in (record { told = top.told; reason = top.reason }, h)
+
+pub taken_on : (f : Feeder) (new : PieceBackup) (es fs : Trace) (ask : Ask) (say : Say) (emitted : List Emission) → FitsPieces new (giving ask say emitted ∷ fs) → IsFedUpto f es fs
+    → IsFedUpto (feeder new f.told f.rest f.gave) (giving ask say emitted ∷ es) (giving ask say emitted ∷ fs)
+taken_on f new es fs ask say emitted fits upto = record {
+  fed = record {
+    same = ap (λ xs. giving ask say emitted ∷ xs) upto.fed.same;
+    at = fits;
+    late = (λ some. absurd (some refl), upto.fed.late);
+    right = right_next (whole_of f.told) f.gave ask say emitted fs upto.fed.right;
+    gone = upto.fed.gone;
+  };
+  leads_on = upto.leads_on;
+}
+
+-- what stands, stands with a backup that stands there too
+pub stays_on : (f : Feeder) (new : PieceBackup) (es fs : Trace) → FitsPieces new fs → IsFedUpto f es fs → IsFedUpto (feeder new f.told f.rest f.gave) es fs
+stays_on f new es fs fits upto = record { fed = record { same = upto.fed.same; at = fits; late = upto.fed.late; right = upto.fed.right; gone = upto.fed.gone }; leads_on = upto.leads_on }
+
+-- ---- the beginning, and the end
+
+pub fits_first : (b : PieceBackup) (told : Option Told) → FitsPieces b [] → IsFresh told → FitsFed (feeder b told [] false) []
+fits_first b told fits fresh = record {
+  fs = [];
+  upto = record { fed = record { same = refl; at = fits; late = tt; right = tt; gone = λ gave. absurd (cc) }; leads_on = λ kept. fresh_on told fresh };
+  full = full_first b fits;
+}
+
+-- giving up has no other cause
+no_cause : (known : ℕ) (es : Trace) → ¬ IsCause known es End.Abandoned
+no_cause known [] h = h
+no_cause known (e ∷ es) (inl h) = h
+no_cause known (e ∷ es) (inr (is, spent)) = absurd (cc)
+
+-- where it ended as one that was given up there is a reason
+pub reason_of : (f : Feeder) (es : Trace) → FitsFed f es → ended_in f.backup.session ≡ Some (Outcome.Ended End.Abandoned) → f.gave ≡ true
+reason_of f es fits is =
+    let u = fits.upto.fed in
+    own ((pieces_obey f.backup fits.fs u.at).concluded (Outcome.Ended End.Abandoned) is)
+  where
+    own : IsCause (upto (piece_task (who_in f.backup.session)).versions) (before_unlock fits.fs) End.Abandoned ⊎ PieceConcludes (before_unlock fits.fs) (Outcome.Ended End.Abandoned) → f.gave ≡ true
+    own (inl cause) = absurd (no_cause (upto (piece_task (who_in f.backup.session)).versions) (before_unlock fits.fs) cause)
+    own (inr h) =
+        (right_at (whole_of f.told) f.gave (before_unlock fits.fs) (before_right (who_in f.backup.session) (whole_of f.told) f.gave fits.fs fits.upto.fed.right)).reason h.1
+
+-- ---- what was found
+
+-- where it is no other item, bytes were found
+pub found_none : (old : Option Told) (rest : List ℕ) (new : Option Told) (found : Found) → IsItemOf found None → Fills old rest new found → Comes old (Some (fed_bytes rest)) new
+found_none old rest new (Found.Bytes count) item h = h
+found_none old rest new (Found.Dir name) item h = absurd item
+found_none old rest new (Found.File name) item h = absurd item
+found_none old rest new Found.Close item h = absurd item
+found_none old rest new Found.End item h = absurd item
+
+pub fills_whole : (old : Option Told) (rest : List ℕ) (new : Option Told) (found : Found) → Fills old rest new found → whole_of new ≡ whole_of old
+fills_whole old rest new (Found.Bytes count) h = comes_whole old (Some (fed_bytes rest)) new h
+fills_whole old rest new (Found.Dir name) h = comes_whole old (Some (fed_dir (string_bytes name))) new h.1
+fills_whole old rest new (Found.File name) h = comes_whole old (Some (fed_file (string_bytes name))) new h.1
+fills_whole old rest new Found.Close h = comes_whole old (Some fed_close) new h.1
+fills_whole old rest new Found.End h = comes_whole old (Some fed_end) new h.1
+
+-- another item was found, which is fed whole
+pub record FoundOne (old : Option Told) (rest : List ℕ) (new : Option Told) (item : Fed) : Type 0 where
+  pub none : rest ≡ []
+  pub comes : Comes old (Some item) new
+  pub on : GoesOn item
+
+one_found : (old : Option Told) (rest : List ℕ) (new : Option Told) (item : Item) (n : ℕ) (fed : Fed) → size_of item ≡ 0 → fed_of item ≡ fed → n ≤ size_of item → rest ≡ [] → Comes old (Some fed) new → GoesOn fed → FoundOne old rest new (fed_part n item)
+one_found old rest new item n fed size is few none comes on =
+    let all : n ≡ size_of item = omega (arith, size, few) in
+    let same : fed_part n item ≡ fed = ap (λ k. fed_part k item) all ∙ is in
+    record { none = none; comes = subst (λ x. Comes old (Some x) new) (sym same) comes; on = subst (λ x. GoesOn x) (sym same) on }
+
+pub found_some : (old : Option Told) (rest : List ℕ) (new : Option Told) (found : Found) (item : Item) (n : ℕ) → IsItemOf found (Some item) → Fills old rest new found → n ≤ size_of item → FoundOne old rest new (fed_part n item)
+found_some old rest new (Found.Bytes count) item n is h few = absurd (cc)
+found_some old rest new (Found.Dir name) item n is h few = one_found old rest new item n (fed_dir (string_bytes name)) is.0 is.1 few h.0 h.1 (λ items gone. gone)
+found_some old rest new (Found.File name) item n is h few = one_found old rest new item n (fed_file (string_bytes name)) is.0 is.1 few h.0 h.1 (λ items gone. gone)
+found_some old rest new Found.Close item n is h few = one_found old rest new item n fed_close is.0 is.1 few h.0 h.1 (λ items gone. gone)
+found_some old rest new Found.End item n is h few = one_found old rest new item n fed_end is.0 is.1 few h.0 h.1 (λ items gone. gone)
+
+pub some_is : {A : Type 0} (o : Option A) → IsSome o → is_some o ≡ true
+some_is None h = absurd (cc)
+some_is (Some a) h = refl
+
+-- ---- where there is a reason, no snapshot was stored
+
+snapshot_over : (who : Asker) (fs : Trace) (token : Token) (n : Name) (x : List ℕ) (say : Say) → Obeys (piece_task who) PieceAllows (λ before e. ⊥) fs → Exchanged fs (Ask.Put token Kind.Snapshot n x) say → (place_of (fed_in fs)).over ≡ true
+snapshot_over who [] token n x say h was = absurd was
+snapshot_over who (e ∷ fs) token n x say h (inl (is, said)) =
+    let may = subst (λ ask. PieceAllows fs ask) is (h.1 (subst (λ ask. IsWork ask) (sym is) tt)) in
+    over_more e.fed (fed_in fs) may.0
+snapshot_over who (e ∷ fs) token n x say h (inr was) = over_more e.fed (fed_in fs) (snapshot_over who fs token n x say h.3 was)
+
+pub not_stored : (f : Feeder) (es : Trace) (name : Name) (blobs bytes : ℕ) → FitsFed f es → ended_in f.backup.session ≡ Some (Outcome.Stored name blobs bytes) → f.gave ≢ true
+not_stored f es name blobs bytes fits is gave =
+    let u = fits.upto.fed in
+    let o = pieces_obey f.backup fits.fs u.at in
+    let stored = o.concluded (Outcome.Stored name blobs bytes) is in
+    let put = stored.put in
+    let over = snapshot_over (who_in f.backup.session) fits.fs put.0 name stored.text Say.Done o.obeys (before_exchanged fits.fs (Ask.Put put.0 Kind.Snapshot name stored.text) Say.Done put.1) in
+    let open_still = (u.gone gave).1 in
+    absurd (cc)

@@ -1,0 +1,4 @@
+pub mod Among
+pub mod Places
+pub mod Feeding
+pub mod Spelled

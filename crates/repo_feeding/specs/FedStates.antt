@@ -1,0 +1,92 @@
+-- Where a backup that feeds itself stands.
+use Rattle.std.specs.Prelude.{◌≡◌, ◌≢◌, ◌≤◌, ◌∷◌, [], ⊤, ℕ, Bool, true, false, List, length, Option, Some, None}
+use Rattle.repo_session.specs.Askers.{Asker}
+use Rattle.repo_session.specs.Feeds.{Fed, fed_bytes}
+use Rattle.repo_session.specs.Sessions.{who_in}
+use Rattle.repo_session.specs.Traces.{Trace, fed_in}
+use Rattle.repo_backup.specs.Items.{Place, NobodyGaveUp, at_root, after, place_of}
+use Rattle.repo_backup.specs.PieceBackups.{FitsPieces, IsHungry}
+use Rattle.repo_backup.specs.PieceRules.{WasGivenUp}
+use Rattle.repo_backup.specs.declared.piece_backups.PieceBackup.{PieceBackup}
+use Rattle.repo_feeding.specs.FedRules.{IsAsTold}
+use Rattle.repo_feeding.specs.Sources.{Told, whole_of, leads}
+use Rattle.repo_feeding.specs.Unfed.{unfed}
+
+-- what it was made for: who asks, and all that its source was made to give, where that is known
+pub record FedJob : Type 0 where
+  pub who : Asker
+  pub whole : Option (List Fed)
+
+-- a backup, what its source was told to give, the bytes that came and weren't fed yet, and whether there is a reason for which it was given up
+pub record Feeder : Type 0 where
+  pub backup : PieceBackup
+  pub told : Option Told
+  pub rest : List ℕ
+  pub gave : Bool
+
+abbrev pub feeder : PieceBackup → Option Told → List ℕ → Bool → Feeder
+feeder backup told rest gave = record { backup = backup; told = told; rest = rest; gave = gave }
+
+abbrev pub job_of : Feeder → FedJob
+job_of f = record { who = who_in f.backup.session; whole = whole_of f.told }
+
+-- of who asks, with a source that was told this
+abbrev pub fed_job : Asker → Option Told → FedJob
+fed_job who told = record { who = who; whole = whole_of told }
+
+-- nothing was fed on the first two exchanges, those of the ticket and of the lock
+abbrev pub IsFedLate : Trace → Type 0
+IsFedLate [] = ⊤
+IsFedLate (e ∷ es) = (e.fed ≢ [] → 2 ≤ length es) × IsFedLate es
+
+-- the items that were fed are the source's, once they are over, and where somebody gave up by them there is a reason
+pub record IsFedRight (whole : Option (List Fed)) (gave : Bool) (fs : Trace) : Type 0 where
+  pub told : IsAsTold whole (place_of (fed_in fs))
+  pub reason : WasGivenUp (fed_in fs) → gave ≡ true
+
+-- so were those at each exchange
+abbrev pub AreFedRight : Option (List Fed) → Bool → Trace → Type 0
+AreFedRight whole gave [] = ⊤
+AreFedRight whole gave (e ∷ fs) = IsFedRight whole gave (e ∷ fs) × AreFedRight whole gave fs
+
+-- with what is still to come, a place leads where all leads that the source was made to give
+abbrev pub LeadsOn : Option Told → Place → Type 0
+LeadsOn None p = ⊤
+LeadsOn (Some told) p = leads p told.coming ≡ leads at_root told.whole
+
+-- its backup stands where the exchanges leave it, with these items between them; where there is a reason somebody gave up by them, before they ended
+pub record IsFed (f : Feeder) (es fs : Trace) : Type 0 where
+  pub same : unfed fs ≡ es
+  pub at : FitsPieces f.backup fs
+  pub late : IsFedLate fs
+  pub right : AreFedRight (whole_of f.told) f.gave fs
+  pub gone : f.gave ≡ true → WasGivenUp (fed_in fs) × ((place_of (fed_in fs)).over ≡ false)
+
+-- and so far all that came from the source was fed, or waits, unless somebody gave up
+pub record IsFedUpto (f : Feeder) (es fs : Trace) : Type 0 where
+  pub fed : IsFed f es fs
+  pub leads_on : NobodyGaveUp (fed_in fs) → LeadsOn f.told (after (place_of (fed_in fs)) (fed_bytes f.rest))
+
+-- it does so with some items, and wants no input
+pub record FitsFed (f : Feeder) (es : Trace) : Type 0 where
+  pub fs : Trace
+  pub upto : IsFedUpto f es fs
+  pub full : ¬ IsHungry f.backup
+
+-- ---- what its calls do
+
+-- more was fed, or nothing
+abbrev pub FeedsOn : Feeder → Feeder → Type 0
+FeedsOn old new = (es fs : Trace) → IsFedUpto old es fs → (more : Trace) × IsFedUpto new es more
+
+-- nothing was fed, and what came may be lost
+abbrev pub FeedsPart : Feeder → Feeder → Type 0
+FeedsPart old new = (es fs : Trace) → IsFedUpto old es fs → IsFed new es fs
+
+-- it was given up
+abbrev pub GivesUp : Feeder → Feeder → Type 0
+GivesUp old new = (es fs : Trace) → IsFed old es fs → FitsFed new es
+
+-- more was fed, or it was given up, and now it wants no input
+abbrev pub FeedsUp : Feeder → Feeder → Type 0
+FeedsUp old new = (es fs : Trace) → IsFedUpto old es fs → FitsFed new es

@@ -1,0 +1,263 @@
+//! The backup that feeds itself.
+
+ghost use Rattle.std.specs.Prelude.{◌≡◌, ◌↔◌, [], ℕ, IsTrue, IsSome, IfOk, OnOk, OnErr, is_some, Some};
+ghost use Rattle.repo_name.specs.declared.names.Name.{Name};
+ghost use Rattle.repo_session.specs.Clients.{AnswersNext};
+ghost use Rattle.repo_session.specs.Sessions.{who_in, next_in, ended_in};
+ghost use Rattle.repo_session.specs.Traces.{Trace};
+ghost use Rattle.repo_session.specs.declared.outcomes.End.{End};
+ghost use Rattle.repo_session.specs.declared.outcomes.Outcome.{Outcome};
+ghost use Rattle.repo_backup.specs.PieceBackups.{IsHungry};
+ghost use Rattle.repo_feeding.specs.FedStates.{feeder, job_of, fed_job, FitsFed, FeedsOn, FeedsPart, GivesUp, FeedsUp};
+ghost use Rattle.repo_feeding.specs.Rooms.{IsItemOf};
+ghost use Rattle.repo_feeding.specs.Sources.{IsFresh, whole_of};
+
+use crate::rooms::Room;
+use crate::sources::{Found, Source};
+use repo_backup::{FeedError, Item, PieceBackup};
+use repo_name::Token;
+use repo_session::{Client, Emission, Outcome, Who, answers};
+use repo_wire::{Reply, Request};
+use std::alloc::{AllocError, Global};
+
+/// Why a backup was given up.
+#[derive(Debug, Drop)]
+pub enum GivenUp<E: Drop> {
+    /// The source failed, for this reason.
+    Source(E),
+    /// An item that came wasn't taken, for this reason.
+    Refused(FeedError),
+    /// It was fed 2^64 - 1 times on one reply, and wanted more.
+    Endless,
+}
+
+/// A backup that feeds itself from a source. It gives up where the source fails, or an item isn't taken.
+#[derive(Drop)]
+pub struct FedBackup<S: Source> {
+    backup: PieceBackup,
+    source: S,
+    room: Room,
+    given_up: Option<GivenUp<S::Error>>,
+}
+
+/// The item that was found; bytes are none.
+fn item_of(found: &Found) -> Option<Item>
+    ensures { IsItemOf found.now result }
+{
+    match found {
+        Found::Dir(name) => Some(Item::Dir(name.as_str())),
+        Found::File(name) => Some(Item::File(name.as_str())),
+        Found::Bytes(_) => None,
+        Found::Close => Some(Item::Close),
+        Found::End => Some(Item::End),
+    }
+}
+
+impl<S: Source + Drop> FedBackup<S> {
+    /// A backup whose ticket is pending, and that takes its items from this source. It fails for memory alone: it has
+    /// room for 65,536 bytes.
+    pub fn new(alloc: Global, who: Who, source: S) -> Result<FedBackup<S>, AllocError>
+        ensures fits { IsFresh (S.told source) → IfOk result (λ b. FitsFed (feeder b.backup (S.told b.source) b.room (is_some b.given_up)) []) }
+        ensures job { IfOk result (λ b. job_of (feeder b.backup (S.told b.source) b.room (is_some b.given_up)) ≡ fed_job who (S.told source)) }
+    {
+        let room = Room::new(alloc)?;
+        Ok(FedBackup {
+            backup: PieceBackup::new(alloc, who),
+            source,
+            room,
+            given_up: None,
+        })
+    }
+
+    /// Why it was given up, where it was. Where it ended as one that was given up, there is a reason, and where its snapshot
+    /// is stored, there is none.
+    pub fn given_up(&self) -> Option<&GivenUp<S::Error>>
+        ensures abandoned { (es : Trace) → FitsFed (feeder self.now.backup (S.told self.now.source) self.now.room (is_some self.now.given_up)) es → ended_in self.now.backup.session ≡ Some (Outcome.Ended End.Abandoned) → IsSome result }
+        ensures stored { (es : Trace) (name : Name) (blobs bytes : ℕ) → FitsFed (feeder self.now.backup (S.told self.now.source) self.now.room (is_some self.now.given_up)) es → ended_in self.now.backup.session ≡ Some (Outcome.Stored name blobs bytes) → ¬ IsSome result }
+    {
+        self.given_up.as_ref()
+    }
+
+    /// Its source, as it stands.
+    pub fn source(&self) -> &S
+        ensures { result.now ≡ self.now.source }
+    {
+        &self.source
+    }
+
+    /// Its source, and why it was given up, where it was.
+    pub fn into_parts(self) -> (S, Option<GivenUp<S::Error>>)
+        ensures source { result.0 ≡ self.source }
+        ensures reason { result.1 ≡ self.given_up }
+    {
+        (self.source, self.given_up)
+    }
+
+    /// Whether the reply is to the pending request.
+    fn is_answered(&self, reply: &Reply) -> bool
+        ensures { IsTrue result ↔ AnswersNext (next_in self.now.backup.session) reply.now }
+    {
+        match self.backup.pending() {
+            Some(request) => answers(request, reply),
+            None => false,
+        }
+    }
+
+    /// Feeds what is left of a piece, and lets what wasn't taken wait.
+    fn feed_rest(&mut self) -> Result<(), GivenUp<S::Error>>
+        requires { IsHungry self.old.backup }
+        ensures ok { OnOk result (FeedsOn (feeder self.old.backup (S.told self.old.source) self.old.room (is_some self.old.given_up)) (feeder self.new.backup (S.told self.new.source) self.new.room (is_some self.new.given_up))) }
+        ensures err { OnErr result (FeedsPart (feeder self.old.backup (S.told self.old.source) self.old.room (is_some self.old.given_up)) (feeder self.new.backup (S.told self.new.source) self.new.room (is_some self.new.given_up))) }
+        ensures hungry { OnErr result (IsHungry self.new.backup) }
+        ensures job { job_of (feeder self.new.backup (S.told self.new.source) self.new.room (is_some self.new.given_up)) ≡ job_of (feeder self.old.backup (S.told self.old.source) self.old.room (is_some self.old.given_up)) }
+    {
+        match self.backup.feed(Item::Bytes(self.room.rest())) {
+            Ok(count) => {
+                self.room.pass(count);
+                Ok(())
+            }
+            Err(error) => Err(GivenUp::Refused(error)),
+        }
+    }
+
+    /// Takes what comes next, and feeds it; bytes wait in the room.
+    fn feed_found(&mut self) -> Result<(), GivenUp<S::Error>>
+        requires empty { self.old.room ≡ [] }
+        requires hungry { IsHungry self.old.backup }
+        ensures ok { OnOk result (FeedsOn (feeder self.old.backup (S.told self.old.source) self.old.room (is_some self.old.given_up)) (feeder self.new.backup (S.told self.new.source) self.new.room (is_some self.new.given_up))) }
+        ensures err { OnErr result (FeedsPart (feeder self.old.backup (S.told self.old.source) self.old.room (is_some self.old.given_up)) (feeder self.new.backup (S.told self.new.source) self.new.room (is_some self.new.given_up))) }
+        ensures hungry { OnErr result (IsHungry self.new.backup) }
+        ensures job { job_of (feeder self.new.backup (S.told self.new.source) self.new.room (is_some self.new.given_up)) ≡ job_of (feeder self.old.backup (S.told self.old.source) self.old.room (is_some self.old.given_up)) }
+    {
+        let found = match self.room.fill(&mut self.source) {
+            Ok(found) => found,
+            Err(error) => return Err(GivenUp::Source(error)),
+        };
+        match item_of(&found) {
+            None => Ok(()),
+            Some(item) => match self.backup.feed(item) {
+                Ok(_) => Ok(()),
+                Err(error) => Err(GivenUp::Refused(error)),
+            },
+        }
+    }
+
+    /// Feeds what is left of a piece, else what comes next.
+    fn feed_next(&mut self) -> Result<(), GivenUp<S::Error>>
+        requires { IsHungry self.old.backup }
+        ensures ok { OnOk result (FeedsOn (feeder self.old.backup (S.told self.old.source) self.old.room (is_some self.old.given_up)) (feeder self.new.backup (S.told self.new.source) self.new.room (is_some self.new.given_up))) }
+        ensures err { OnErr result (FeedsPart (feeder self.old.backup (S.told self.old.source) self.old.room (is_some self.old.given_up)) (feeder self.new.backup (S.told self.new.source) self.new.room (is_some self.new.given_up))) }
+        ensures hungry { OnErr result (IsHungry self.new.backup) }
+        ensures job { job_of (feeder self.new.backup (S.told self.new.source) self.new.room (is_some self.new.given_up)) ≡ job_of (feeder self.old.backup (S.told self.old.source) self.old.room (is_some self.old.given_up)) }
+    {
+        if self.room.rest().is_empty() {
+            self.feed_found()
+        } else {
+            self.feed_rest()
+        }
+    }
+
+    /// Gives the backup up, and keeps the reason.
+    fn give_up(&mut self, reason: GivenUp<S::Error>)
+        requires { IsHungry self.old.backup }
+        ensures up { GivesUp (feeder self.old.backup (S.told self.old.source) self.old.room (is_some self.old.given_up)) (feeder self.new.backup (S.told self.new.source) self.new.room (is_some self.new.given_up)) }
+        ensures job { job_of (feeder self.new.backup (S.told self.new.source) self.new.room (is_some self.new.given_up)) ≡ job_of (feeder self.old.backup (S.told self.old.source) self.old.room (is_some self.old.given_up)) }
+    {
+        match self.backup.feed(Item::Abandon) {
+            Ok(_) => self.given_up = Some(reason),
+            Err(_) => {}
+        }
+    }
+
+    /// Feeds once, or gives up where that can't be done.
+    fn feed_once(&mut self)
+        requires { IsHungry self.old.backup }
+        ensures goes { FeedsOn (feeder self.old.backup (S.told self.old.source) self.old.room (is_some self.old.given_up)) (feeder self.new.backup (S.told self.new.source) self.new.room (is_some self.new.given_up)) }
+        ensures job { job_of (feeder self.new.backup (S.told self.new.source) self.new.room (is_some self.new.given_up)) ≡ job_of (feeder self.old.backup (S.told self.old.source) self.old.room (is_some self.old.given_up)) }
+    {
+        if let Err(reason) = self.feed_next() {
+            self.give_up(reason);
+        }
+    }
+
+    /// Feeds items until the backup wants no input.
+    fn feed_up(&mut self)
+        ensures up { FeedsUp (feeder self.old.backup (S.told self.old.source) self.old.room (is_some self.old.given_up)) (feeder self.new.backup (S.told self.new.source) self.new.room (is_some self.new.given_up)) }
+        ensures full { ¬ IsHungry self.old.backup → self.new ≡ self.old }
+        ensures job { job_of (feeder self.new.backup (S.told self.new.source) self.new.room (is_some self.new.given_up)) ≡ job_of (feeder self.old.backup (S.told self.old.source) self.old.room (is_some self.old.given_up)) }
+    {
+        for _ in 0..u64::MAX {
+            if !self.backup.wants() {
+                return;
+            }
+            self.feed_once();
+        }
+        if self.backup.wants() {
+            self.give_up(GivenUp::Endless);
+        }
+    }
+}
+
+impl<S: Source + Drop> Client for FedBackup<S> {
+    ghost use Rattle.std.specs.Prelude.{[], ⊤, is_some};
+    ghost use Rattle.repo_session.specs.Sessions.{next_in, ended_in, token_in};
+    ghost use Rattle.repo_backup.specs.PieceStates.{piece_task};
+    ghost use Rattle.repo_feeding.specs.FedObedience.{fed_obeys, fed_tells};
+    ghost use Rattle.repo_feeding.specs.FedRules.{FedAllows, FedConcludes};
+    ghost use Rattle.repo_feeding.specs.FedStates.{FedJob, feeder, job_of, FitsFed};
+
+    ghost Job = { FedJob };
+
+    ghost job = { λ b. job_of (feeder b.backup (S.told b.source) b.room (is_some b.given_up)) };
+
+    ghost task = { λ j. piece_task j.who };
+
+    ghost calm = { λ j. ⊤ };
+
+    ghost wanting = { λ j es. ⊥ };
+
+    ghost allows = { λ j. FedAllows j.who j.whole };
+
+    ghost gives = { λ j es e. ⊥ };
+
+    ghost concludes = { λ j. FedConcludes j.who j.whole };
+
+    ghost fits = { λ b es. FitsFed (feeder b.backup (S.told b.source) b.room (is_some b.given_up)) es };
+
+    ghost next = { λ b. next_in b.backup.session };
+
+    ghost ended = { λ b. ended_in b.backup.session };
+
+    ghost given = { λ b. [] };
+
+    ghost token_of = { λ b. token_in b.backup.session };
+
+    ghost obedient = { λ b es fits. fed_obeys (feeder b.backup (S.told b.source) b.room (is_some b.given_up)) es fits };
+
+    ghost ticketed = { λ b es fits. fed_tells (feeder b.backup (S.told b.source) b.room (is_some b.given_up)) es fits };
+
+    fn pending(&self) -> Option<&Request> {
+        self.backup.pending()
+    }
+
+    fn take(&mut self, reply: &Reply) -> Result<(), AllocError> {
+        if !self.is_answered(reply) {
+            return Ok(());
+        }
+        self.backup.take(reply)?;
+        self.feed_up();
+        Ok(())
+    }
+
+    fn outcome(&self) -> Option<&Outcome> {
+        self.backup.outcome()
+    }
+
+    fn emitted(&self) -> &[Emission] {
+        &[]
+    }
+
+    fn token(&self) -> Option<Token> {
+        self.backup.token()
+    }
+}

@@ -1,0 +1,25 @@
+//! A backup that feeds itself from a source.
+//!
+//! A [`Source`] gives the items of a backup, one after another: what stands in a folder, say. A [`FedBackup`] is a client
+//! of repo_session around a backup of repo_backup that is fed: whenever that wants input, it takes the next items from its
+//! source, until something is pending or it has ended. So it never wants anything of its driver: `drive`, and `drive_again`
+//! of repo_dial with its retries, go over it as over any client, and what was fed isn't asked for again.
+//!
+//! Promised: what it asks for, and how it ends, is what a backup may that was fed some items in their places between its
+//! exchanges, and no snapshot is put but of items that ended. Where the source fails, or an item isn't taken, the backup is
+//! given up, and the reason kept. Where it is known what a source was made to give, a snapshot spells just that.
+//! Not promised: that a source ends. But each reply is taken in fewer than 2^64 turns.
+//!
+//! The definitions stand in `specs/`: `Sources` (what comes from a source), `Unfed` and `FedRules` (what such a backup may
+//! ask for, and how it may end), `FedStates` (where it stands), `FedLaws` (what it stored). `Unseen` and `FedObedience` say
+//! that what was fed isn't seen in its exchanges, and that it obeys.
+#![tactic(auto)]
+
+mod fed_backups;
+mod laws;
+mod rooms;
+mod sources;
+
+pub use fed_backups::{FedBackup, GivenUp};
+pub use laws::stored_is_spelled;
+pub use sources::{Found, Source};

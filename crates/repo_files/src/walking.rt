@@ -1,0 +1,239 @@
+//! A folder as a stream of items.
+
+ghost use Rattle.std.specs.Prelude.{◌≤◌, ℕ, IfOk, IfSome, length};
+ghost use Rattle.repo_feeding.specs.Sources.{FitsRoom};
+
+use crate::listings::{names_in, told, unreadable};
+use crate::places::{place_in, without_slash};
+use crate::scans::{ScanError, Skipped};
+use repo_feeding::{Found, Source};
+use repo_tree::is_component;
+use std::alloc::{AllocError, AllocGlobal, Global};
+use std::fs::{File, Files, Metadata, OpenFile};
+use std::io::{ErrorKind, Read};
+use std::os::unix::fs::MetadataExt;
+use std::{fs, io};
+
+/// A directory that is open, by its place, and the names in it that are left, the next one last.
+#[derive(Drop)]
+struct Level {
+    place: String,
+    names: Vec<String>,
+}
+
+/// A file that is open: its place, how long it was when it was opened, and how much of it was read.
+#[derive(Drop)]
+struct OpenedFile<F> {
+    file: F,
+    place: String,
+    length: u64,
+    read: u64,
+}
+
+/// A walk through a folder, that gives its directories and files one after another, the names of each directory ascending
+/// by their bytes, and what is in a directory before what comes behind it. It holds no list of them all: of each
+/// directory that is open the names that are left.
+///
+/// A link to a directory as the folder itself is followed; below it no link is. What is neither a directory nor a file,
+/// and what has a name that isn't UTF-8, is left out, and noted. The error names the first path that can't be read, or
+/// whose name no backup can hold: the word given, and below it the names joined by `/`.
+///
+/// Nothing is proved of what files hold: a file that is written meanwhile may be read half old, half new, and a directory
+/// may be exchanged for a link between the look at it and its listing. A file is read only where what was opened is the
+/// very file that was looked at. One that ends before the length that it had then can't be read; one that grew is read
+/// to its end.
+#[derive(Drop)]
+pub struct FolderWalk<'a, R: Files> {
+    rt: &'a R,
+    /// The word given.
+    folder: &'a str,
+    /// The directories that are open, the folder itself first.
+    levels: Vec<Level>,
+    file: Option<OpenedFile<R::File>>,
+    skipped: Vec<Skipped>,
+}
+
+impl<'a, R: Files + AllocGlobal + Clone + Drop> FolderWalk<'a, R> {
+    /// A walk through this folder, which is listed. Where that can't be done, the error names the word given.
+    pub fn new(rt: &'a R, folder: &'a str) -> Result<FolderWalk<'a, R>, ScanError> {
+        let mut walk = FolderWalk {
+            rt,
+            folder,
+            levels: Vec::new(rt.alloc()),
+            file: None,
+            skipped: Vec::new(rt.alloc()),
+        };
+        walk.open(folder, without_slash(folder))?;
+        Ok(walk)
+    }
+
+    /// What was left out so far, in the order in which it was met.
+    pub fn skipped(&self) -> &[Skipped] {
+        self.skipped.as_slice()
+    }
+
+    /// What was left out, in the order in which it was met.
+    pub fn into_skipped(self) -> Vec<Skipped> {
+        self.skipped
+    }
+
+    /// Lists a directory, and opens it, by the place that stands before the names in it.
+    fn open(&mut self, word: &str, place: &str) -> Result<(), ScanError> {
+        let alloc = self.rt.alloc();
+        let mut listing = match names_in(self.rt, word) {
+            Ok(listing) => listing,
+            Err(error) => return Err(told(alloc, word, &error)),
+        };
+        for _ in 0..listing.unnamed {
+            let folder = String::from_str(alloc, word)?;
+            self.skip(Skipped::Unnamed(folder))?;
+        }
+        are_possible(alloc, place, listing.names.as_slice())?;
+        listing.names.reverse();
+        self.add_level(Level {
+            place: String::from_str(alloc, place)?,
+            names: listing.names,
+        })?;
+        Ok(())
+    }
+
+    /// Adds an open directory.
+    fn add_level(&mut self, level: Level) -> Result<(), AllocError> {
+        self.levels.push(level)?;
+        Ok(())
+    }
+
+    /// Adds what is left out.
+    fn skip(&mut self, what: Skipped) -> Result<(), AllocError> {
+        self.skipped.push(what)?;
+        Ok(())
+    }
+
+    /// The next directory or file, or the end of a directory, or of all.
+    fn next_entry(&mut self) -> Result<Found, ScanError>
+        ensures { IfOk result (λ found. (room : ℕ) → FitsRoom room found) }
+    {
+        for _ in 0..u64::MAX {
+            let Some(level) = self.levels.last_mut() else {
+                return Ok(Found::End);
+            };
+            let Some(name) = level.names.pop() else {
+                return Ok(self.close());
+            };
+            let place = place_in(self.rt.alloc(), level.place.as_str(), name.as_str())?;
+            if let Some(found) = self.enter(name, place)? {
+                return Ok(found);
+            }
+        }
+        Err(unreadable(self.rt.alloc(), self.folder))
+    }
+
+    /// Closes the directory that was opened last.
+    fn close(&mut self) -> Found
+        ensures { (room : ℕ) → FitsRoom room result }
+    {
+        self.levels.pop();
+        if self.levels.is_empty() {
+            Found::End
+        } else {
+            Found::Close
+        }
+    }
+
+    /// Opens what has this name; `None` where it is left out.
+    fn enter(&mut self, name: String, place: String) -> Result<Option<Found>, ScanError>
+        ensures { IfOk result (λ entered. IfSome entered (λ found. (room : ℕ) → FitsRoom room found)) }
+    {
+        let found = match fs::symlink_metadata(self.rt, place.as_str()) {
+            Ok(found) => found,
+            Err(error) => return Err(told(self.rt.alloc(), place.as_str(), &error)),
+        };
+        if found.is_dir() {
+            self.open(place.as_str(), place.as_str())?;
+            return Ok(Some(Found::Dir(name)));
+        }
+        if !found.is_file() {
+            self.skip(Skipped::Other(place))?;
+            return Ok(None);
+        }
+        match open_file(self.rt, place.as_str(), &found) {
+            Ok((file, length)) => {
+                self.file = Some(OpenedFile {
+                    file,
+                    place,
+                    length,
+                    read: 0,
+                });
+                Ok(Some(Found::File(name)))
+            }
+            Err(error) => Err(told(self.rt.alloc(), place.as_str(), &error)),
+        }
+    }
+}
+
+/// That each of these names may stand in a path of a backup, of what is in this place.
+fn are_possible(alloc: Global, place: &str, names: &[String]) -> Result<(), ScanError> {
+    for name in names {
+        if !is_component(name.as_str()) {
+            return Err(ScanError::Unreadable(place_in(alloc, place, name.as_str())?));
+        }
+    }
+    Ok(())
+}
+
+/// Opens a file, where it is the very file that was looked at: nothing was put in its place since. It gives its length.
+fn open_file<R: Files>(rt: &R, place: &str, found: &Metadata) -> io::Result<(R::File, u64)> {
+    let file = File::open(rt, place)?;
+    let opened = file.metadata()?;
+    if !opened.is_file() || opened.dev() != found.dev() || opened.ino() != found.ino() {
+        return Err(io::Error::from(ErrorKind::Other));
+    }
+    Ok((file, opened.len()))
+}
+
+impl<F: Read> OpenedFile<F> {
+    /// Reads on: how many bytes, none at the end.
+    fn read_on(&mut self, room: &mut [u8]) -> io::Result<usize>
+        ensures { IfOk result (λ count. count ≤ length room.new) }
+    {
+        for _ in 0..u64::MAX {
+            match self.file.read(room) {
+                Ok(count) => {
+                    self.read = self.read.saturating_add(count as u64);
+                    return Ok(count);
+                }
+                Err(error) if error.kind() == ErrorKind::Interrupted => {}
+                Err(error) => return Err(error),
+            }
+        }
+        Err(io::Error::from(ErrorKind::Interrupted))
+    }
+}
+
+impl<R: Files + AllocGlobal + Clone + Drop> Source for FolderWalk<'_, R> {
+    ghost use Rattle.std.specs.Prelude.{None};
+
+    type Error = ScanError;
+
+    ghost told = { λ _. None };
+
+    fn next(&mut self, room: &mut [u8]) -> Result<Found, ScanError> {
+        let Some(opened) = &mut self.file else {
+            return self.next_entry();
+        };
+        if room.is_empty() {
+            return Ok(Found::Bytes(0));
+        }
+        match opened.read_on(room) {
+            Ok(0) if opened.read < opened.length => {
+                Err(unreadable(self.rt.alloc(), opened.place.as_str()))
+            }
+            Ok(0) => {
+                self.file = None;
+                Ok(Found::Close)
+            }
+            Ok(count) => Ok(Found::Bytes(count)),
+            Err(error) => Err(told(self.rt.alloc(), opened.place.as_str(), &error)),
+        }
+    }
+}
