@@ -3,10 +3,12 @@
 
 use crate::replies::{FILE_TREE, Replies, TREE, granted, name_text, one_file, snapshot};
 use crate::runs::{CALLER, Run};
+use repo_feeding::{Found, Source};
+use repo_files::{ScanError, Skipped};
 use repo_name::{Token, name_of};
 use repo_prog::{
-    FramesError, Once, backup_entries, frames as answer_frames, locks_command, refresh_command,
-    restore_into,
+    FramesError, LeavesOut, Once, backup_from, frames as answer_frames, locks_command,
+    refresh_command, restore_into,
 };
 use repo_session::Emission;
 use repo_wire::Say;
@@ -74,6 +76,28 @@ fn refreshed(alloc: Global) -> Result<String, AllocError> {
     run.told(alloc)
 }
 
+/// A source of nothing.
+#[derive(Drop)]
+struct Nothing;
+
+impl Source for Nothing {
+    ghost use Rattle.std.specs.Prelude.{None};
+
+    type Error = ScanError;
+
+    ghost told = { λ _. None };
+
+    fn next(&mut self, _: &mut [u8]) -> Result<Found, ScanError> {
+        Ok(Found::End)
+    }
+}
+
+impl LeavesOut for Nothing {
+    fn left_out(&self) -> &[Skipped] {
+        &[]
+    }
+}
+
 /// What a backup of nothing tells.
 fn backed_up(alloc: Global) -> Result<String, AllocError> {
     let replies = granted(alloc, 4)?;
@@ -83,8 +107,7 @@ fn backed_up(alloc: Global) -> Result<String, AllocError> {
     let mut run = Run::new(alloc);
     let mut dial = Once::new(&mut reader, &mut run.sent);
     let (o, f) = (&mut run.output, &mut run.faults);
-    let nothing = Vec::new(alloc);
-    run.status = backup_entries(alloc, &CALLER, "a", nothing, &mut dial, 0, o, f);
+    run.status = backup_from(alloc, &CALLER, "a", Nothing, &mut dial, 0, o, f);
     run.told(alloc)
 }
 

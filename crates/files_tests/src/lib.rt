@@ -1,4 +1,4 @@
-//! Tests of what has to fail in the middle: shelves in folders whose machine stops, is killed, or fails in a call, scans and
+//! Tests of what has to fail in the middle: shelves in folders whose machine stops, is killed, or fails in a call, walks and
 //! restores that meet the same, jobs whose connections end or lead to another store, and commands whose growth is refused.
 //! What the program does over real folders and sockets otherwise is tried on the program itself (`trials/`).
 //!

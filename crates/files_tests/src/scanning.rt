@@ -1,34 +1,67 @@
-//! What a scan finds in a real folder.
+//! What a walk finds in a real folder.
 
 use crate::cutting::Cut;
 use crate::fuses::{Fuse, Trick};
 use crate::yards::{Yard, text_or_none};
-use repo_files::{Scan, ScanError, Skipped, scan};
-use repo_tree::{Entry, EntryKind};
+use repo_feeding::{Found, Source};
+use repo_files::{FolderWalk, ScanError, Skipped};
 use std::alloc::{AllocError, AllocGlobal, Global};
 use std::fs::Files;
 use std::panic::Expect;
 
-/// Adds the path of an entry.
-fn add_path(lines: &mut String, entry: &Entry) -> Result<(), AllocError> {
-    for (i, name) in entry.path.as_slice().iter().enumerate() {
-        if i > 0 {
-            lines.push('/')?;
-        }
-        lines.push_str(name.as_str())?;
-    }
-    Ok(())
+/// What a walk found, line by line: a line for each directory and each file, its path, and of a file its length and its last
+/// byte.
+#[derive(Drop)]
+struct Lines {
+    text: String,
+    /// How long the path of the directory that is open is, and of those around it.
+    ends: Vec<usize>,
+    path: String,
+    length: usize,
+    last: u8,
 }
 
-/// Adds a line for an entry: its path, and of a file its length and its last byte.
-fn add_entry(lines: &mut String, entry: &Entry) -> Result<(), AllocError> {
-    add_path(lines, entry)?;
-    if let EntryKind::File(bytes) = &entry.what {
-        let length = bytes.as_slice().len();
-        let last = bytes.as_slice().last().copied().unwrap_or(0);
-        lines.push_str(format!(in *lines.allocator(); ":{length}:{last}")?.as_str())?;
+impl Lines {
+    fn new(alloc: Global) -> Lines {
+        Lines {
+            text: String::new(alloc),
+            ends: Vec::new(alloc),
+            path: String::new(alloc),
+            length: 0,
+            last: 0,
+        }
     }
-    lines.push('\n')
+
+    /// The path goes on with this name.
+    fn enter(&mut self, name: &str) -> Result<(), AllocError> {
+        self.ends.push(self.path.len())?;
+        if !self.path.is_empty() {
+            self.path.push('/')?;
+        }
+        self.path.push_str(name)
+    }
+
+    /// The path ends where it did before.
+    fn leave(&mut self) {
+        if let Some(end) = self.ends.pop() {
+            if self.path.is_char_boundary(end) {
+                self.path.truncate(end);
+            }
+        }
+    }
+
+    /// The line of the file that is open, at its end.
+    fn end_file(&mut self) -> Result<(), AllocError> {
+        let (path, length, last) = (self.path.as_str(), self.length, self.last);
+        let line = format!(in *self.text.allocator(); "{path}:{length}:{last}\n")?;
+        self.text.push_str(line.as_str())
+    }
+
+    /// The line of a directory that begins.
+    fn begin_dir(&mut self) -> Result<(), AllocError> {
+        self.text.push_str(self.path.as_str())?;
+        self.text.push('\n')
+    }
 }
 
 /// Adds a line for what was left out.
@@ -42,22 +75,56 @@ fn add_skipped(lines: &mut String, skipped: &Skipped) -> Result<(), AllocError> 
     lines.push('\n')
 }
 
-/// The lines of a scan.
-fn lines_of(alloc: Global, scan: &Scan) -> Result<String, AllocError> {
-    let mut lines = String::new(alloc);
-    for entry in scan.entries.as_slice() {
-        add_entry(&mut lines, entry)?;
+/// Adds what a walk finds to the lines, to its end.
+fn walk_on<R: Files + AllocGlobal + Clone + Drop>(
+    walk: &mut FolderWalk<R>,
+    lines: &mut Lines,
+) -> Result<(), ScanError> {
+    let mut room = [0u8; 64];
+    let mut in_file = false;
+    for _ in 0..u64::MAX {
+        match walk.next(&mut room)? {
+            Found::Dir(name) => {
+                lines.enter(name.as_str())?;
+                lines.begin_dir()?;
+            }
+            Found::File(name) => {
+                lines.enter(name.as_str())?;
+                in_file = true;
+                (lines.length, lines.last) = (0, 0);
+            }
+            Found::Bytes(count) => {
+                lines.length = lines.length.saturating_add(count);
+                lines.last = room[..count].last().copied().unwrap_or(lines.last);
+            }
+            Found::Close => {
+                if in_file {
+                    lines.end_file()?;
+                }
+                in_file = false;
+                lines.leave();
+            }
+            Found::End => return Ok(()),
+        }
     }
-    for skipped in scan.skipped.as_slice() {
-        add_skipped(&mut lines, skipped)?;
-    }
-    Ok(lines)
+    Ok(())
 }
 
-/// What a scan tells: its lines, or the path that can't be read.
+/// What a walk finds: its lines, and then what it left out.
+fn found<R: Files + AllocGlobal + Clone + Drop>(rt: &R, folder: &str) -> Result<String, ScanError> {
+    let mut walk = FolderWalk::new(rt, folder)?;
+    let mut lines = Lines::new(rt.alloc());
+    walk_on(&mut walk, &mut lines)?;
+    for skipped in walk.skipped() {
+        add_skipped(&mut lines.text, skipped)?;
+    }
+    Ok(lines.text)
+}
+
+/// What a walk tells: its lines, or the path that can't be read.
 fn told<R: Files + AllocGlobal + Clone + Drop>(rt: &R, folder: &str) -> Result<String, AllocError> {
-    match scan(rt, folder) {
-        Ok(scan) => lines_of(rt.alloc(), &scan),
+    match found(rt, folder) {
+        Ok(text) => Ok(text),
         Err(ScanError::Unreadable(path)) => format!(in rt.alloc(); "unreadable {path}"),
         Err(ScanError::Memory) => String::from_str(rt.alloc(), "out of memory"),
     }
@@ -73,8 +140,8 @@ fn repeated(alloc: Global, text: &str, count: u64) -> Result<String, AllocError>
 }
 
 impl Yard {
-    /// A scan of a folder over a file system tells this.
-    fn tells_scan<R: Files + AllocGlobal + Clone + Drop>(
+    /// A walk through a folder over a file system tells this.
+    fn tells_walk<R: Files + AllocGlobal + Clone + Drop>(
         &mut self,
         files: &R,
         word: &str,
@@ -84,19 +151,19 @@ impl Yard {
         self.count(is_so);
     }
 
-    /// A scan over a file system that plays a trick tells this, where `$` stands for the path of the root.
-    fn scans_over(&mut self, trick: Trick, word: &str, wanted: &str) {
+    /// A walk over a file system that plays a trick tells this, where `$` stands for the path of the root.
+    fn walks_over(&mut self, trick: Trick, word: &str, wanted: &str) {
         let fuse = Fuse::playing(self.rt.alloc(), trick);
         let files = Cut::new(self.rt, &fuse);
         let (word, wanted) = (
             self.with(word, self.root.as_str()),
             self.with(wanted, self.root.as_str()),
         );
-        self.tells_scan(&files, word.as_str(), wanted.as_str());
+        self.tells_walk(&files, word.as_str(), wanted.as_str());
     }
 
     /// The same on a machine that stops after so many calls: a line, or the path that can't be read.
-    fn scans_until(&mut self, calls: u64, is_whole: bool) {
+    fn walks_until(&mut self, calls: u64, is_whole: bool) {
         let fuse = Fuse::new(self.rt.alloc(), calls);
         let is_so = match told(&Cut::new(self.rt, &fuse), self.root.as_str()) {
             Ok(text) if is_whole => text.as_str() == "d\nd/f:3:99\n",
@@ -116,20 +183,20 @@ impl Yard {
     }
 
     /// So many folders one in another are so many entries.
-    fn scans_levels(&mut self, levels: usize) {
+    fn walks_levels(&mut self, levels: usize) {
         let text = text_or_none(self.rt.alloc(), told(&self.rt, self.root.as_str()));
         self.count(text.as_str().lines().count() == levels);
     }
 }
 
-// A whole scan lists two folders, looks at two entries, and opens the file, looks at it and reads it twice.
+// A whole walk lists two folders, looks at two entries, and opens the file, looks at it and reads it twice.
 #[test]
-fn a_scan_is_whole_or_names_a_path(rt: HostRuntime) {
+fn a_walk_is_whole_or_names_a_path(rt: HostRuntime) {
     let mut yard = Yard::empty(rt, "unread").expect(&rt, "no folder");
     yard.makes("d");
     yard.writes("d/f", "abc");
     for calls in 0..20u64 {
-        yard.scans_until(calls, calls >= 8);
+        yard.walks_until(calls, calls >= 8);
     }
     yard.end(&rt);
 }
@@ -138,7 +205,7 @@ fn a_scan_is_whole_or_names_a_path(rt: HostRuntime) {
 fn a_folder_of_many_levels(rt: HostRuntime) {
     let mut yard = Yard::empty(rt, "levels").expect(&rt, "no folder");
     yard.makes_levels(300);
-    yard.scans_levels(300);
+    yard.walks_levels(300);
     yard.end(&rt);
 }
 
@@ -149,6 +216,6 @@ fn a_file_that_came_in_the_place_of_another_is_not_read(rt: HostRuntime) {
     yard.writes("secret", "abc");
     yard.writes("d/f", "abc");
     yard.links("d/f-other", "../secret");
-    yard.scans_over(Trick::OtherFile, "$/d", "unreadable $/d/f");
+    yard.walks_over(Trick::OtherFile, "$/d", "unreadable $/d/f");
     yard.end(&rt);
 }

@@ -1,24 +1,24 @@
 -- Each job that was brought to its end over one connection after another.
 use Rattle.std.proofs.Common.{◌≡◌, [], ℕ, List, Option, Some, Result, Ok, ap, subst, ◌∙◌}
 use Rattle.repo_name.specs.declared.names.Name.{Name}
-use Rattle.repo_tree.specs.declared.entries.Entry.{Entry}
 use Rattle.repo_tree.specs.declared.snapshots.Snapshot.{Snapshot}
 use Rattle.repo_session.specs.declared.outcomes.Outcome.{Outcome}
 use Rattle.repo_session.specs.Askers.{Asker}
 use Rattle.repo_session.specs.Sessions.{Given, who_in, next_in, ended_in, token_in}
+use Rattle.repo_session.specs.Feeds.{Fed}
 use Rattle.repo_session.specs.Traces.{Trace}
 use Rattle.repo_dial.specs.Bringing.{IsObedientBy}
 use Rattle.repo_dial.specs.Dialing.{Coming, Driven, DrivesAgain, driven_by}
 use Rattle.repo_dial.specs.declared.again.TryError.{TryError}
 use Rattle.repo_dial.proofs.BringLemmas.{ended_over, obeyed_over, obeyed_none}
-use Rattle.repo_backup.specs.BackupObedience.{backup_obeys}
-use Rattle.repo_backup.specs.BackupStates as backing
-use Rattle.repo_backup.specs.Backups.{Handing, FitsBackup, handed_to}
-use Rattle.repo_backup.specs.declared.backups.Backup.{Backup}
+use Rattle.repo_backup.specs.PieceStates.{piece_task}
 use Rattle.repo_check.specs.CheckObedience.{check_obeys}
 use Rattle.repo_check.specs.CheckStates as checking
 use Rattle.repo_check.specs.Checking.{check_rule, check_task}
 use Rattle.repo_check.specs.declared.checks.Check.{Check}
+use Rattle.repo_feeding.specs.FedObedience.{fed_obeys}
+use Rattle.repo_feeding.specs.FedRules.{fed_rule}
+use Rattle.repo_feeding.specs.FedStates.{FedJob, Feeder, FitsFed, job_of}
 use Rattle.repo_prune.specs.declared.choices.Choice.{Choice}
 use Rattle.repo_prune.specs.declared.forgets.Forget.{Forget}
 use Rattle.repo_prune.specs.ForgetObedience.{forget_obeys}
@@ -53,15 +53,8 @@ pub same_wish : (r : Restore) (caller : Caller) (name : Name) → (wish_of r).wh
 same_wish r caller name who snapshot = λ i. record { who = who i; snapshot = snapshot i }
 
 -- what a backup was made for
-abbrev pub handing_of : Backup → Handing
-handing_of b = record { who = who_in b.session; entries = handed_to b.session.job }
-
-abbrev pub handing : Caller → List ℕ → List Entry → Handing
-handing caller host entries = record { who = backup_asker caller host; entries = entries }
-
-pub same_handing : (b : Backup) (caller : Caller) (host : List ℕ) (entries : List Entry) → who_in b.session ≡ backup_asker caller host → handed_to b.session.job ≡ entries
-    → handing_of b ≡ handing caller host entries
-same_handing b caller host entries who handed = λ i. record { who = who i; entries = handed i }
+abbrev pub backup_job : Caller → List ℕ → Option (List Fed) → FedJob
+backup_job caller host whole = record { who = backup_asker caller host; whole = whole }
 
 -- what a forget was made for
 abbrev pub choosing_of : Forget → Given Choice
@@ -81,8 +74,10 @@ list_driven = driven_by list_task who_of FitsList (λ (l : SnapshotList). next_i
 abbrev pub restore_driven : Driven Restore Wish
 restore_driven = driven_by restore_task wish_of FitsRestore (λ (r : Restore). next_in r.session) (λ (r : Restore). token_in r.session)
 
-abbrev pub backup_driven : Driven Backup Handing
-backup_driven = driven_by (λ (h : Handing). backing.backup_task h.who) handing_of FitsBackup (λ (b : Backup). next_in b.session) (λ (b : Backup). token_in b.session)
+-- (a backup by what it stands for)
+abbrev pub backup_driven : {C : Type 0} → (C → Feeder) → Driven C FedJob
+backup_driven {C} feeder_of = driven_by (λ (j : FedJob). piece_task j.who) (λ (c : C). job_of (feeder_of c)) (λ (c : C) es. FitsFed (feeder_of c) es)
+    (λ (c : C). next_in (feeder_of c).backup.session) (λ (c : C). token_in (feeder_of c).backup.session)
 
 abbrev pub forget_driven : Driven Forget (Given Choice)
 forget_driven = driven_by (λ (g : Given Choice). forget_task g.who) choosing_of forgetting.FitsForget (λ (f : Forget). next_in f.session) (λ (f : Forget). token_in f.session)
@@ -118,13 +113,13 @@ restored caller name retry n old new coming after entries fits wish d is =
     old (λ r same es f. subst (P r es) (same ∙ wish) (restore_obeys r es f)) (ap (λ (w : Wish). w.who.instance) wish) fits retry n new coming after (Outcome.Complete entries) d is
 
 -- a backup
-pub stored : (caller : Caller) (host : List ℕ) (entries : List Entry) (retry n : ℕ) (old new : Backup) (coming after : Coming) (name : Name) (blobs bytes : ℕ)
-    → FitsBackup old [] → handing_of old ≡ handing caller host entries → DrivesAgain backup_driven retry old (Ok n) new coming after
-    → ended_in new.session ≡ Some (Outcome.Stored name blobs bytes) → Stores caller host entries name blobs bytes retry coming after
-stored caller host entries retry n old new coming after name blobs bytes fits job d is =
-    let P : Backup → Trace → Handing → Type 0 = λ b es j. IsObedientBy (backing.backup_rule j.entries) j.who (next_in b.session) (ended_in b.session) es in
-    ended_over backup_driven (λ (b : Backup). ended_in b.session) (backing.backup_rule entries) (backup_asker caller host)
-    old (λ b same es f. subst (P b es) (same ∙ job) (backup_obeys b es f)) (ap (λ (h : Handing). h.who.instance) job) fits retry n new coming after (Outcome.Stored name blobs bytes) d is
+pub stored : {C : Type 0} (feeder_of : C → Feeder) (caller : Caller) (host : List ℕ) (whole : Option (List Fed)) (retry n : ℕ) (old new : C) (coming after : Coming) (name : Name) (blobs bytes : ℕ)
+    → FitsFed (feeder_of old) [] → job_of (feeder_of old) ≡ backup_job caller host whole → DrivesAgain (backup_driven feeder_of) retry old (Ok n) new coming after
+    → ended_in (feeder_of new).backup.session ≡ Some (Outcome.Stored name blobs bytes) → Stores caller host whole name blobs bytes retry coming after
+stored {C} feeder_of caller host whole retry n old new coming after name blobs bytes fits job d is =
+    let P : C → Trace → FedJob → Type 0 = λ c es j. IsObedientBy (fed_rule j.who j.whole) j.who (next_in (feeder_of c).backup.session) (ended_in (feeder_of c).backup.session) es in
+    ended_over (backup_driven feeder_of) (λ (c : C). ended_in (feeder_of c).backup.session) (fed_rule (backup_asker caller host) whole) (backup_asker caller host)
+    old (λ c same es h. subst (P c es) (same ∙ job) (fed_obeys (feeder_of c) es h)) (ap (λ (j : FedJob). j.who.instance) job) fits retry n new coming after (Outcome.Stored name blobs bytes) d is
 
 -- a forget
 pub forgotten : (caller : Caller) (choice : Choice) (retry n : ℕ) (old new : Forget) (coming after : Coming) (names : List Name)
@@ -178,12 +173,12 @@ restore_obeyed caller name retry old new result coming after fits wish d =
     obeyed_over restore_driven (λ (r : Restore). ended_in r.session) (restore_rule name) (vault_asker caller)
     old (λ r same es f. subst (P r es) (same ∙ wish) (restore_obeys r es f)) (ap (λ (w : Wish). w.who.instance) wish) fits retry result new coming after d
 
-pub backup_obeyed : (caller : Caller) (host : List ℕ) (entries : List Entry) (retry : ℕ) (old new : Backup) (result : Result ℕ TryError) (coming after : Coming)
-    → FitsBackup old [] → handing_of old ≡ handing caller host entries → DrivesAgain backup_driven retry old result new coming after → BackupObeyed caller host entries retry coming after
-backup_obeyed caller host entries retry old new result coming after fits job d =
-    let P : Backup → Trace → Handing → Type 0 = λ b es w. IsObedientBy (backing.backup_rule w.entries) w.who (next_in b.session) (ended_in b.session) es in
-    obeyed_over backup_driven (λ (b : Backup). ended_in b.session) (backing.backup_rule entries) (backup_asker caller host)
-    old (λ b same es f. subst (P b es) (same ∙ job) (backup_obeys b es f)) (ap (λ (h : Handing). h.who.instance) job) fits retry result new coming after d
+pub backup_obeyed : {C : Type 0} (feeder_of : C → Feeder) (caller : Caller) (host : List ℕ) (whole : Option (List Fed)) (retry : ℕ) (old new : C) (result : Result ℕ TryError) (coming after : Coming)
+    → FitsFed (feeder_of old) [] → job_of (feeder_of old) ≡ backup_job caller host whole → DrivesAgain (backup_driven feeder_of) retry old result new coming after → BackupObeyed caller host whole retry coming after
+backup_obeyed {C} feeder_of caller host whole retry old new result coming after fits job d =
+    let P : C → Trace → FedJob → Type 0 = λ c es j. IsObedientBy (fed_rule j.who j.whole) j.who (next_in (feeder_of c).backup.session) (ended_in (feeder_of c).backup.session) es in
+    obeyed_over (backup_driven feeder_of) (λ (c : C). ended_in (feeder_of c).backup.session) (fed_rule (backup_asker caller host) whole) (backup_asker caller host)
+    old (λ c same es h. subst (P c es) (same ∙ job) (fed_obeys (feeder_of c) es h)) (ap (λ (j : FedJob). j.who.instance) job) fits retry result new coming after d
 
 pub forget_obeyed : (caller : Caller) (choice : Choice) (retry : ℕ) (old new : Forget) (result : Result ℕ TryError) (coming after : Coming)
     → forgetting.FitsForget old [] → choosing_of old ≡ choosing caller choice → DrivesAgain forget_driven retry old result new coming after → ForgetObeyed caller choice retry coming after
@@ -221,8 +216,8 @@ list_none caller retry coming = obeyed_none list_rule (vault_asker caller) retry
 pub restore_none : (caller : Caller) (name : Name) (retry : ℕ) (coming : Coming) → RestoreObeyed caller name retry coming coming
 restore_none caller name retry coming = obeyed_none (restore_rule name) (vault_asker caller) retry coming
 
-pub backup_none : (caller : Caller) (host : List ℕ) (entries : List Entry) (retry : ℕ) (coming : Coming) → BackupObeyed caller host entries retry coming coming
-backup_none caller host entries retry coming = obeyed_none (backing.backup_rule entries) (backup_asker caller host) retry coming
+pub backup_none : (caller : Caller) (host : List ℕ) (whole : Option (List Fed)) (retry : ℕ) (coming : Coming) → BackupObeyed caller host whole retry coming coming
+backup_none caller host whole retry coming = obeyed_none (fed_rule (backup_asker caller host) whole) (backup_asker caller host) retry coming
 
 pub forget_none : (caller : Caller) (choice : Choice) (retry : ℕ) (coming : Coming) → ForgetObeyed caller choice retry coming coming
 forget_none caller choice retry coming = obeyed_none (forget_rule choice) (vault_asker caller) retry coming

@@ -4,7 +4,6 @@ use Rattle.std.specs.Io.KnownBytes.{Appends}
 use Rattle.repo_name.specs.Naming.{IsInstance}
 use Rattle.repo_name.specs.declared.names.Instance.{Instance}
 use Rattle.repo_wire.specs.declared.messages.Ask.{Ask}
-use Rattle.repo_tree.specs.declared.entries.Entry.{Entry}
 use Rattle.repo_prog.specs.declared.callers.Caller.{Caller}
 use Rattle.repo_prog.specs.declared.errands.Errand.{Errand}
 use Rattle.repo_prog.specs.declared.errands.LockErrand.{LockErrand}
@@ -14,7 +13,6 @@ use Rattle.repo_prune.specs.Forgetting.{IsNoPolicy}
 use Rattle.repo_prog.specs.Asking.{Streams, streams, Asked, RemovesLocks, request_of}
 use Rattle.repo_prog.specs.Tellings.{locks_told, refresh_told}
 use Rattle.repo_prog.specs.Commands.{IsEnd, created_line, listening_line}
-use Rattle.repo_files.specs.Scanned.{AreScanned}
 use Rattle.repo_dial.specs.Dialing.{Coming, ConnectionEnds, Dials}
 use Rattle.repo_prog.specs.Jobs.{ListObeyed, RestoreObeyed, ForgetObeyed, PruneObeyed, UpgradeObeyed, CheckObeyed, BackupObeyed}
 use Rattle.repo_prog.specs.Shown.{TellsStored, TellsListed, TellsRestored, TellsForeseen, TellsForgotten, TellsPruned, TellsUpgraded, TellsChecked, unflawed}
@@ -32,10 +30,10 @@ LocksGive errand caller coming after start status contents =
     ⊎ ((came left : ConnectionEnds) × Dials coming (Some came) after
     × LockGives errand caller (streams came.ahead came.sent start) status (streams left.ahead left.sent contents))
 
--- entries with paths of components, each above the one before it, are backed up
+-- what a folder holds is backed up, of which nothing is known
 abbrev pub BacksUp : Caller → List ℕ → ℕ → Coming → Coming → Option (List ℕ) → Status → Option (List ℕ) → Type 0
 BacksUp caller host retry coming after start status contents =
-    (entries : List Entry) × AreScanned entries × BackupObeyed caller host entries retry coming after × TellsStored caller host entries retry coming after (unflawed status) start contents
+    BackupObeyed caller host None retry coming after × TellsStored caller host None retry coming after (unflawed status) start contents
 
 -- what each errand gives, over so many connections at most after the first
 abbrev pub ErrandGives : Errand → Caller → ℕ → Coming → Coming → Option (List ℕ) → Status → Option (List ℕ) → Type 0

@@ -1,14 +1,14 @@
 -- What the commands do that bring a job to its end, over connections that are made one after another.
-use Rattle.std.specs.Prelude.{ℕ, List, codes}
+use Rattle.std.specs.Prelude.{ℕ, List, Option, codes}
 use Rattle.repo_name.specs.declared.names.Name.{Name}
-use Rattle.repo_tree.specs.declared.entries.Entry.{Entry}
 use Rattle.repo_tree.specs.declared.snapshots.Snapshot.{Snapshot}
 use Rattle.repo_session.specs.declared.outcomes.Outcome.{Outcome}
 use Rattle.repo_session.specs.Askers.{Asker, asker}
 use Rattle.repo_session.specs.declared.versions.Versions.{Versions}
 use Rattle.repo_dial.specs.Bringing.{Ended, Obeyed}
 use Rattle.repo_dial.specs.Dialing.{Coming}
-use Rattle.repo_backup.specs.BackupStates.{backup_rule}
+use Rattle.repo_session.specs.Feeds.{Fed}
+use Rattle.repo_feeding.specs.FedRules.{fed_rule}
 use Rattle.repo_check.specs.Checking.{check_rule}
 use Rattle.repo_prune.specs.declared.choices.Choice.{Choice}
 use Rattle.repo_prune.specs.Forgetting.{WouldForget, forget_rule}
@@ -58,9 +58,9 @@ Upgrades caller retry coming after = Ended upgrade_rule (vault_asker caller) Out
 abbrev pub Checks : Caller → Outcome → ℕ → Coming → Coming → Type 0
 Checks caller outcome retry coming after = Ended check_rule (vault_asker caller) outcome retry coming after
 
--- the entries were stored under this name
-abbrev pub Stores : Caller → List ℕ → List Entry → Name → ℕ → ℕ → ℕ → Coming → Coming → Type 0
-Stores caller host entries name blobs bytes retry coming after = Ended (backup_rule entries) (backup_asker caller host) (Outcome.Stored name blobs bytes) retry coming after
+-- what a source gave was stored under this name: all that it was made to give, where that is known
+abbrev pub Stores : Caller → List ℕ → Option (List Fed) → Name → ℕ → ℕ → ℕ → Coming → Coming → Type 0
+Stores caller host whole name blobs bytes retry coming after = Ended (fed_rule (backup_asker caller host) whole) (backup_asker caller host) (Outcome.Stored name blobs bytes) retry coming after
 
 -- ---- by job: however it ended, its rules were met
 
@@ -82,5 +82,5 @@ UpgradeObeyed caller retry coming after = Obeyed upgrade_rule (vault_asker calle
 abbrev pub CheckObeyed : Caller → ℕ → Coming → Coming → Type 0
 CheckObeyed caller retry coming after = Obeyed check_rule (vault_asker caller) retry coming after
 
-abbrev pub BackupObeyed : Caller → List ℕ → List Entry → ℕ → Coming → Coming → Type 0
-BackupObeyed caller host entries retry coming after = Obeyed (backup_rule entries) (backup_asker caller host) retry coming after
+abbrev pub BackupObeyed : Caller → List ℕ → Option (List Fed) → ℕ → Coming → Coming → Type 0
+BackupObeyed caller host whole retry coming after = Obeyed (fed_rule (backup_asker caller host) whole) (backup_asker caller host) retry coming after

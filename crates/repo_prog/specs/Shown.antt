@@ -5,7 +5,7 @@ use Rattle.repo_dial.specs.Dialing.{Coming}
 use Rattle.repo_prog.specs.declared.callers.Caller.{Caller}
 use Rattle.repo_prog.specs.declared.status.Status.{Status}
 use Rattle.repo_prog.specs.Jobs.{RestoresSnapshot, Prunes, Checks, Stores, Foresees, Forgets, ListsSnapshots, Upgrades}
-use Rattle.repo_tree.specs.declared.entries.Entry.{Entry}
+use Rattle.repo_session.specs.Feeds.{Fed}
 use Rattle.std.specs.Io.KnownBytes.{Appends}
 use Rattle.repo_prune.specs.declared.choices.Choice.{Choice}
 use Rattle.repo_prune.specs.Forgetting.{WouldForget}
@@ -95,9 +95,9 @@ ShowsChecked outcome status before after =
 
 -- ---- a command tells what its job came to, over the connections that were made
 
-abbrev pub TellsStored : Caller → List ℕ → List Entry → ℕ → Coming → Coming → Status → Option (List ℕ) → Option (List ℕ) → Type 0
-TellsStored caller host entries retry coming left status before after =
-    Tells (λ (s : Stored). Stores caller host entries s.0 s.1 s.2 retry coming left) stored_lines status before after
+abbrev pub TellsStored : Caller → List ℕ → Option (List Fed) → ℕ → Coming → Coming → Status → Option (List ℕ) → Option (List ℕ) → Type 0
+TellsStored caller host whole retry coming left status before after =
+    Tells (λ (s : Stored). Stores caller host whole s.0 s.1 s.2 retry coming left) stored_lines status before after
 
 abbrev pub TellsListed : Caller → ℕ → Coming → Coming → Status → Option (List ℕ) → Option (List ℕ) → Type 0
 TellsListed caller retry coming left status before after = Tells (λ rows. ListsSnapshots caller rows retry coming left) snapshot_lines status before after

@@ -2,7 +2,8 @@
 
 ghost use Rattle.std.specs.Prelude.{◌≡◌, ◌≢◌, [], option_map};
 ghost use Rattle.repo_name.specs.Rows.{IsHost};
-ghost use Rattle.repo_backup.specs.Handed.{AreHanded};
+ghost use Rattle.repo_session.specs.Sessions.{ended_in};
+ghost use Rattle.repo_feeding.specs.Sources.{IsFresh, whole_of};
 ghost use Rattle.repo_prog.specs.declared.status.Status.{Status};
 ghost use Rattle.repo_prog.specs.Shown.{ShowsStored, TellsStored, unflawed};
 ghost use Rattle.repo_prog.specs.Errands.{BacksUp};
@@ -12,14 +13,26 @@ use crate::callers::Caller;
 use crate::printing::printed;
 use crate::status::{Status, failed, flawed, tell};
 use crate::telling::{show_made, stored_line, unfinished};
-use repo_backup::{Backup, BackupError};
+use repo_backup::FeedError;
 use repo_dial::{Dial, drive_again};
-use repo_files::{Scan, ScanError, Skipped, scan};
+use repo_feeding::{FedBackup, GivenUp, Source};
+use repo_files::{FolderWalk, ScanError, Skipped};
 use repo_session::{Client, DriveError, Outcome};
-use repo_tree::Entry;
 use std::alloc::{AllocGlobal, Global};
 use std::fs::Files;
 use std::io::Write;
+
+/// A source of a backup that leaves some things out.
+pub trait LeavesOut {
+    /// What it left out so far.
+    fn left_out(&self) -> &[Skipped];
+}
+
+impl<R: Files + AllocGlobal + Clone + Drop> LeavesOut for FolderWalk<'_, R> {
+    fn left_out(&self) -> &[Skipped] {
+        self.skipped()
+    }
+}
 
 /// Tells what is the matter with a path, as it is printed.
 fn tell_path<F: Write>(alloc: Global, matter: &str, path: &str, faults: &mut F) {
@@ -29,7 +42,7 @@ fn tell_path<F: Write>(alloc: Global, matter: &str, path: &str, faults: &mut F) 
     }
 }
 
-/// Tells what a scan left out, a line each.
+/// Tells what a source left out, a line each.
 fn tell_skipped<F: Write>(alloc: Global, skipped: &[Skipped], faults: &mut F) {
     for left in skipped {
         match left {
@@ -41,8 +54,8 @@ fn tell_skipped<F: Write>(alloc: Global, skipped: &[Skipped], faults: &mut F) {
     }
 }
 
-/// Tells why a folder can't be backed up.
-fn not_scanned<F: Write>(alloc: Global, error: ScanError, faults: &mut F) -> Status
+/// Tells why a folder can't be read.
+fn not_scanned<F: Write>(alloc: Global, error: &ScanError, faults: &mut F) -> Status
     ensures { result ≡ Status.Failed }
 {
     match error {
@@ -52,16 +65,28 @@ fn not_scanned<F: Write>(alloc: Global, error: ScanError, faults: &mut F) -> Sta
     Status::Failed
 }
 
-/// Tells why entries can't be backed up.
-fn cannot_begin<F: Write>(error: BackupError, faults: &mut F) -> Status
+/// Tells why what was found isn't backed up.
+fn not_taken<F: Write>(error: FeedError, faults: &mut F) -> Status
     ensures { result ≡ Status.Failed }
 {
     match error {
-        BackupError::BadPath => failed(faults, &"start refused 1"),
-        BackupError::Order => failed(faults, &"start refused 2"),
-        BackupError::TooDeep => failed(faults, &"start refused 3"),
-        BackupError::TooLarge => failed(faults, &"start refused 4"),
-        BackupError::Memory => failed(faults, &DriveError::Memory),
+        FeedError::BadPath => failed(faults, &"start refused 1"),
+        FeedError::Order => failed(faults, &"start refused 2"),
+        FeedError::TooDeep => failed(faults, &"start refused 3"),
+        FeedError::TooLarge => failed(faults, &"start refused 4"),
+        FeedError::Memory => failed(faults, &DriveError::Memory),
+        FeedError::NotWanted => failed(faults, &"start refused 6"),
+    }
+}
+
+/// Tells why a backup was given up.
+fn gave_up<F: Write>(alloc: Global, reason: &GivenUp<ScanError>, faults: &mut F) -> Status
+    ensures { result ≡ Status.Failed }
+{
+    match reason {
+        GivenUp::Source(error) => not_scanned(alloc, error, faults),
+        GivenUp::Refused(error) => not_taken(*error, faults),
+        GivenUp::Endless => failed(faults, &DriveError::Limit),
     }
 }
 
@@ -81,69 +106,84 @@ fn show_stored<O: Write, F: Write>(
     show_made(stored_line(alloc, name, *blobs, *bytes), output, faults)
 }
 
-/// Backs up entries under the name of a machine. Where they may not be backed up no connection is asked for.
-pub fn backup_entries<D: Dial, O: Write, F: Write>(
+/// Tells what was left out, and then what was stored, or how else the job ended. Where something was left out the status of
+/// a backup that is done is `Flawed`.
+fn show_with<O: Write, F: Write>(
+    alloc: Global,
+    left_out: &[Skipped],
+    outcome: Option<&Outcome>,
+    output: &mut O,
+    faults: &mut F,
+) -> Status
+    ensures shows { ShowsStored (option_map (λ o. o.now) outcome.entry) (unflawed result) (O.contents output.old) (O.contents output.new) }
+    ensures whole { result ≡ Status.Done → left_out.now ≡ [] }
+    ensures flawed { result ≡ Status.Flawed → left_out.now ≢ [] }
+    ensures silent { result ≡ Status.Done → faults.new ≡ faults.old }
+    ensures status { result ≢ Status.Usage }
+{
+    if left_out.is_empty() {
+        return show_stored(alloc, outcome, output, faults);
+    }
+    tell_skipped(alloc, left_out, faults);
+    let status = show_stored(alloc, outcome, output, faults);
+    flawed(status)
+}
+
+/// Tells how a backup ended: why it was given up, if it was; else what its source left out, and what it stored.
+fn show_ended<S: Source<Error = ScanError> + LeavesOut + Drop, O: Write, F: Write>(
+    alloc: Global,
+    backup: &FedBackup<S>,
+    output: &mut O,
+    faults: &mut F,
+) -> Status
+    ensures shows { ShowsStored (ended_in backup.now.backup.session) (unflawed result) (O.contents output.old) (O.contents output.new) }
+    ensures silent { result ≡ Status.Done → faults.new ≡ faults.old }
+    ensures status { result ≢ Status.Usage }
+{
+    if let Some(reason) = backup.given_up() {
+        return gave_up(alloc, reason, faults);
+    }
+    let left_out = backup.source().left_out();
+    show_with(alloc, left_out, backup.outcome(), output, faults)
+}
+
+/// Backs up what a source gives that gave nothing so far, under the name of a machine. Where the source fails, or an item of
+/// it may not be backed up, the backup is given up, and that is told. After the first connection `retry` more are made at
+/// most.
+pub fn backup_from<S: Source<Error = ScanError> + LeavesOut + Drop, D: Dial, O: Write, F: Write>(
     alloc: Global,
     caller: &Caller,
     host: &str,
-    entries: Vec<Entry>,
+    source: S,
     dial: &mut D,
     retry: u64,
     output: &mut O,
     faults: &mut F,
 ) -> Status
-    requires { IsHost host.now }
-    ensures unlawful { ¬ AreHanded entries.items → (result ≡ Status.Failed) × (dial.new ≡ dial.old) × (output.new ≡ output.old) }
-    ensures obeyed { BackupObeyed caller.now host.now entries.items retry (D.coming dial.old) (D.coming dial.new) }
-    ensures tells { TellsStored caller.now host.now entries.items retry (D.coming dial.old) (D.coming dial.new) result (O.contents output.old) (O.contents output.new) }
+    requires host { IsHost host.now }
+    requires fresh { IsFresh (S.told source) }
+    ensures obeyed { BackupObeyed caller.now host.now (whole_of (S.told source)) retry (D.coming dial.old) (D.coming dial.new) }
+    ensures tells { TellsStored caller.now host.now (whole_of (S.told source)) retry (D.coming dial.old) (D.coming dial.new) (unflawed result) (O.contents output.old) (O.contents output.new) }
     ensures silent { result ≡ Status.Done → faults.new ≡ faults.old }
+    ensures status { result ≢ Status.Usage }
 {
     let Ok(who) = caller.who(alloc, host) else {
         return failed(faults, &DriveError::Memory);
     };
-    let mut backup = match Backup::new(alloc, who, entries) {
-        Ok(backup) => backup,
-        Err(error) => return cannot_begin(error, faults),
+    let Ok(mut backup) = FedBackup::new(alloc, who, source) else {
+        return failed(faults, &DriveError::Memory);
     };
     match drive_again(alloc, &mut backup, dial, retry, |_| true) {
-        Ok(_) => show_stored(alloc, backup.outcome(), output, faults),
+        Ok(_) => show_ended(alloc, &backup, output, faults),
         Err(error) => failed(faults, &error),
     }
 }
 
-/// Backs up what a scan found. Where the scan left something out that is told first, and the status of a backup that
-/// is done is `Flawed`.
-pub fn backup_found<D: Dial, O: Write, F: Write>(
-    alloc: Global,
-    caller: &Caller,
-    host: &str,
-    found: Scan,
-    dial: &mut D,
-    retry: u64,
-    output: &mut O,
-    faults: &mut F,
-) -> Status
-    requires { IsHost host.now }
-    ensures obeyed { BackupObeyed caller.now host.now found.entries.items retry (D.coming dial.old) (D.coming dial.new) }
-    ensures tells { TellsStored caller.now host.now found.entries.items retry (D.coming dial.old) (D.coming dial.new) (unflawed result) (O.contents output.old) (O.contents output.new) }
-    ensures whole { result ≡ Status.Done → found.skipped.items ≡ [] }
-    ensures flawed { result ≡ Status.Flawed → found.skipped.items ≢ [] }
-    ensures silent { result ≡ Status.Done → faults.new ≡ faults.old }
-    ensures status { result ≢ Status.Usage }
-{
-    let Scan { entries, skipped } = found;
-    if skipped.is_empty() {
-        return backup_entries(alloc, caller, host, entries, dial, retry, output, faults);
-    }
-    tell_skipped(alloc, skipped.as_slice(), faults);
-    let status = backup_entries(alloc, caller, host, entries, dial, retry, output, faults);
-    flawed(status)
-}
-
-/// `vault backup`: scans a folder whole, and then stores what it found. A folder that can't be read whole is told as
-/// `unreadable` with the path, and no connection is asked for. After the first connection `retry` more are made at most.
+/// `vault backup`: stores what a folder holds. Of a folder that can't be listed nothing is sent. A file or a folder below it
+/// that can't be read is told as `unreadable` with its path, and the backup is given up. After the first connection `retry`
+/// more are made at most.
 ///
-/// That the entries are what the folder holds is no clause, since no contract sees a file.
+/// That what is stored is what the folder holds is no clause, since no contract sees a file.
 pub fn backup_command<T: Files + AllocGlobal + Clone + Drop, D: Dial, O: Write, F: Write>(
     rt: &T,
     caller: &Caller,
@@ -159,8 +199,9 @@ pub fn backup_command<T: Files + AllocGlobal + Clone + Drop, D: Dial, O: Write, 
     ensures silent { result ≡ Status.Done → faults.new ≡ faults.old }
     ensures status { result ≢ Status.Usage }
 {
-    match scan(rt, folder) {
-        Ok(found) => backup_found(rt.alloc(), caller, host, found, dial, retry, output, faults),
-        Err(error) => not_scanned(rt.alloc(), error, faults),
+    let alloc = rt.alloc();
+    match FolderWalk::new(rt, folder) {
+        Ok(walk) => backup_from(alloc, caller, host, walk, dial, retry, output, faults),
+        Err(error) => not_scanned(alloc, &error, faults),
     }
 }

@@ -209,6 +209,12 @@ pub const PLAY: &str = "\
 Each line of the input is one of:
   dir PATH, file PATH HEX       one more entry for the next backup; - stands for no bytes
   start backup HOST TIME        a client starts; clients are numbered from 0
+  start pieces HOST TIME        a backup of what it is fed
+  feed K dir NAME               client K is fed this: a directory that begins in the open one, and is open then
+  feed K file NAME              .. a file that begins in the open directory
+  feed K bytes HEX              .. more bytes of the open file
+  feed K close, feed K end      .. the end of the open file, else of the open directory; the end of all
+  feed K abandon                .. that it is given up
   start restore K               of the snapshot that client K stored
   start list, start prune, start check, start upgrade
   start forget K..              of the snapshots that these clients stored

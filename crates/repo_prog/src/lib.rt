@@ -51,7 +51,7 @@ mod telling;
 mod upgrading;
 mod words;
 
-pub use backing::{backup_command, backup_entries, backup_found};
+pub use backing::{LeavesOut, backup_command, backup_from};
 pub use callers::{Caller, caller_now};
 pub use checking::check_command;
 pub use commands::{frames_command, perform, run};
