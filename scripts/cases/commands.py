@@ -4,7 +4,7 @@ from dataclasses import dataclass, field
 
 from checks import Check
 from frames import REPLIES, REQUESTS, Malformed, Message, Stream
-from jobs import Backup, Client, Forget, List, Restore, StartRefused, gone
+from jobs import Client, Fed, FedClient, Forget, List, Restore, StartRefused, gone, items_of
 from prunes import Prune, Upgrade
 
 INSTANCE = bytes([1]) * 16
@@ -145,7 +145,11 @@ def unlock(talk, everything):
 
 
 def job(talk, core, host):
-    outcome = talk.drive(Client(core, INSTANCE, host, talk.server.time))
+    return done_by(talk.drive(Client(core, INSTANCE, host, talk.server.time)))
+
+
+def done_by(outcome):
+    """An outcome of a job that did what it was for."""
     word = outcome.text.split(" ")[0]
     if word not in ("stored", "complete", "listed", "forgotten", "pruned", "clean", "faults", "upgraded"):
         raise Failed(outcome.text)
@@ -193,14 +197,29 @@ def forget(talk, names, policy=None, host=None):
     talk.show("".join(f"forgotten {name.hex()}\n" for name in job(talk, core, "vault").forgotten))
 
 
+def fed(talk, client, items):
+    """Feeds a backup while it is driven: the number of the reason why an item isn't taken, for which it is given up."""
+    refused, rest = None, None
+    talk.drive(client)
+    while client.wants and client.outcome is None:
+        word, what = rest or next(items)
+        code, taken = client.feed(word, what)
+        rest = ("bytes", what[taken:]) if word == "bytes" and taken < len(what) else None
+        if code is not None:
+            refused = code
+            client.feed("abandon")
+        talk.drive(client)
+    return refused
+
+
 def backup(talk, host, entries, skipped):
+    client = FedClient(Fed(), INSTANCE, host, talk.server.time)
+    refused = fed(talk, client, items_of(entries))
+    if refused is not None:
+        raise Failed(f"start refused {refused}")
     for text in skipped:
         talk.run.faults += f"skipped {text}\n"
-    try:
-        core = Backup(entries)
-    except StartRefused as refused:
-        raise Failed(f"start refused {refused.args[0]}")
-    outcome = job(talk, core, host)
+    outcome = done_by(client.outcome)
     _, blobs, count = outcome.text.split(" ")
     talk.show(f"stored {outcome.name.hex()} {blobs} {count}\n")
     if skipped:

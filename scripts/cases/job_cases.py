@@ -3,6 +3,7 @@
 from command_cases import (ABC, NO_NAMES, OPENED, SNAPSHOT, TREE, codes, no_texts, places, raw_pages, say, says,
                            snapshots_texts, streams)
 from naming import name_of
+from piece_cases import stream
 from texts import dir_node, dump, file_node, index_text, pack_of, snapshot_text, tree_text
 
 PACK = name_of(b"pack")
@@ -196,10 +197,12 @@ def refused_entries(script):
                         ("a component of 256 bytes", ["n" * 256]), ("a component of 128 letters and 256 bytes", ["é" * 128]), ("names that fall below a directory", ["d/", "d/b", "d/a"]),
                         ("a directory twice", ["d/", "d/"]), ("a bad path behind a wrong order", ["b", "a", ".."])):
         script.heading("backup: " + text)
-        entries = [entry(path) for path in paths]
-        script.backup("a", entries, b"")
-    script.heading("backup: directories nested 101 deep")
-    script.backup("a", nested(101), b"")
+        script.backup("a", [entry(path) for path in paths], says(*OPENED, NO_NAMES, *[("done",)] * 4))
+    for text, depth in (("101", 101), ("100", 100)):
+        script.heading(f"backup: directories nested {text} deep")
+        script.backup("a", nested(depth), says(*OPENED, NO_NAMES, *[("done",)] * 30))
+    script.heading("backup: an entry that isn't taken behind a pack that was put, and a lock that isn't given back")
+    script.backup("a", [(["a"], stream(1_500)), (["a"], b"")], says(*OPENED, NO_NAMES, ("done",), ("refused", 10)))
 
 
 def backups(script):
@@ -240,6 +243,6 @@ def skips(script, good):
     script.heading("backup: entries were skipped, and it is busy")
     script.backup("a", [], says(("token", 1), ("refused", 3)), skipped=skipped)
     script.heading("backup: entries were skipped, and others are refused")
-    script.backup("a", [(["b"], b""), (["a"], b"")], b"", skipped=skipped)
+    script.backup("a", [(["b"], b""), (["a"], b"")], says(*OPENED, NO_NAMES, ("done",)), skipped=skipped)
     script.heading("backup: entries were skipped, and it can't be shown")
     script.backup("a", [], says(*good), skipped=skipped, output_room=9)

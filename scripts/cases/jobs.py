@@ -391,7 +391,7 @@ class Pieces(Backup):
         self.items, self.words, self.said = items, [], []
         self.above, self.name, self.nodes, self.last = [], None, [], ""
         self.file = None
-        self.puts = 0
+        self.puts, self.taken = 0, 0
 
     def run(self, client):
         self.client = client
@@ -426,7 +426,7 @@ class Pieces(Backup):
             self.says(word, "took", 0)
             self.says(word, "refused", 6)
             self.words.append("go")
-            return (yield from self.finished((yield from self.add("tree", tree_text(self.nodes)))))
+            return (yield from self.finished((yield from self.tree())))
         elif word == "bytes":
             yield from self.pieces(what)
         elif word == "rest":
@@ -485,18 +485,25 @@ class Pieces(Backup):
 
     def piece(self, data):
         """Takes a piece, as far as the chunk with which a pack is put: how many bytes."""
-        puts, taken = self.puts, 0
-        while taken < len(data) and self.puts == puts:
-            held = self.rest + data[taken:]
+        puts, self.taken = self.puts, 0
+        while self.taken < len(data) and self.puts == puts:
+            held = self.rest + data[self.taken:]
             length = length_of(held + b"\0", *self.client.config[:3])
             if length > len(held):
-                self.rest, taken = held, len(data)
+                self.rest, self.taken = held, len(data)
             else:
-                taken += length - len(self.rest)
+                self.taken += length - len(self.rest)
                 self.rest = b""
                 self.content.append((yield from self.add("content", held[:length])))
-        self.size += taken
-        return taken
+        self.size += self.taken
+        return self.taken
+
+    def tree(self):
+        """Adds the tree of the open directory."""
+        text = tree_text(self.nodes)
+        if len(text) > BLOB_LARGEST:
+            raise End("directory too large")
+        return (yield from self.add("tree", text))
 
     def close(self, _):
         """Closes the open file, else the open directory."""
@@ -506,7 +513,75 @@ class Pieces(Backup):
             self.nodes.append(file_node(self.file, self.size, self.content))
             self.file = None
         else:
-            node = dir_node(self.name, (yield from self.add("tree", tree_text(self.nodes))))
+            node = dir_node(self.name, (yield from self.tree()))
             self.last = self.name
             self.name, self.nodes = self.above.pop()
             self.nodes.append(node)
+
+
+# What a job asks for that wants an item.
+WANT = ("want",)
+
+
+class Fed(Pieces):
+    """A backup that is fed items by somebody else, one after another."""
+
+    def __init__(self):
+        super().__init__([])
+
+    def run(self, client):
+        self.client = client
+        self.known = {(kind, name) for kind, name, _ in (yield from facts_of_indexes())}
+        while True:
+            word, what = yield WANT
+            if word == "abandon":
+                raise End("abandoned")
+            if word == "end":
+                return (yield from self.finished((yield from self.tree())))
+            yield from {"dir": self.enter, "file": self.begin, "bytes": self.piece, "close": self.close}[word](what)
+
+
+class FedClient(Client):
+    """The client of such a backup."""
+
+    def send(self, ask):
+        self.wants = ask == WANT
+        if self.wants:
+            self.pending = None
+        else:
+            super().send(ask)
+
+    def feed(self, word, what=None):
+        """Feeds an item: the number of the reason why it isn't taken, if it isn't, and how many bytes of a piece were."""
+        if not self.wants or self.outcome:
+            return 6, 0
+        code = self.job.fault(word, what)
+        if code is not None:
+            return code, 0
+        self.job.taken = 0
+        self.send(self.steps.send((word, what)))
+        return None, self.job.taken
+
+
+def items_of(entries):
+    """Entries as items, as they come from a source that lists directories: those on the way to an entry are entered."""
+    path = []
+    for names, data in entries:
+        name, outer = (names or [""])[-1], names[:-1]
+        while path != outer[:len(path)]:
+            path.pop()
+            yield "close", None
+        for below in outer[len(path):]:
+            path.append(below)
+            yield "dir", below
+        if data is None:
+            path.append(name)
+            yield "dir", name
+            continue
+        yield "file", name
+        if data:
+            yield "bytes", data
+        yield "close", None
+    for _ in path:
+        yield "close", None
+    yield "end", None

@@ -151,20 +151,24 @@ SPACES = (" ", " report", "report ", "step  1", "step 1 ", "step\t1", "report\r"
 WORDS = ("stop 1", "Step 1", "REPORT", "step", "finish", "late", "crash", "deliver", "unlock", "step 1 2", "finish 1 2", "late 1 2", "crash 1 2", "deliver 0 0",
          "unlock 1 1", "report 1", "restart 1", "replay 1", "append-only", "append-only 1", "start", "start list 1", "start prune 1", "start check 1",
          "start upgrade 1", "start restore", "start restore 0 0", "start List", "old", "old start", "old report", "old list", "old old start list",
-         "old start forget", "start forget", "start keep 1", "start keep 1 1 1", "start pieces a 1", "start backup a", "start backup a 1 2", "until 1 put",
+         "old start forget", "start forget", "start keep 1", "start keep 1 1 1", "start pieces a", "start pieces a 1 2", "start pieces", "start backup a", "start backup a 1 2", "until 1 put",
          "until 1 delete", "until 1 Ticket", "until 1 refresh", "until 1 locks", "until ticket", "until 1", "until 1 ticket lock", "fault 1 write", "fault 1",
          "fault 1 read read", "ask", "ask ticket 1", "ask Ticket", "ask lock", "ask lock 1", "ask lock 1 both", "ask lock shared 1", "ask lock 1 shared 1",
-         "ask refresh", "ask refresh 1", "ask refresh 1 1 1", "ask locks 1", "ask unlock 1", "ask list pack", "ask config", "ask put", "dir", "dir a b", "file", "file a", "file a 00 00", "feed 0 end", "# report")
+         "ask refresh", "ask refresh 1", "ask refresh 1 1 1", "ask locks 1", "ask unlock 1", "ask list pack", "ask config", "ask put", "dir", "dir a b", "file", "file a", "file a 00 00", "# report",
+         "feed", "feed 0", "feed end", "feed 0 end 1", "feed 0 0 end", "feed 0 close 0", "feed 0 abandon 0", "feed 0 dir", "feed 0 dir a b", "feed 0 file",
+         "feed 0 file a 00", "feed 0 bytes", "feed 0 bytes 61 62", "feed 0 bytes 6", "feed 0 bytes 6g", "feed 0 Dir a", "feed 0 stop", "feed 0 entry a")
 NUMBERS = ("step +1", "step -1", "step 1x", "step x", "step 0x1", "step 1.0", "step 1_0", "step 18446744073709551616", "step 18446744073709551617",
            "deliver 18446744073709551616", "unlock 18446744073709551616", "unlock +1", "unlock -1", "start keep 4294967296 0", "start keep 0 4294967296",
            "start keep 4294967297 1", "start keep +1 1", "start keep 1 -1", "start forget 0 x", "start forget 0 +0", "start forget x", "start restore +0",
            "start backup a +1", "start backup a 18446744073709551616", "start backup a -", "step \u0661", "until x ticket", "fault +1 read", "ask lock +1 shared",
-           "ask lock 18446744073709551616 shared", "ask refresh 1 18446744073709551616", "ask refresh 18446744073709551616 1", "ask refresh -1 1", "ask refresh 1 x")
+           "ask lock 18446744073709551616 shared", "ask refresh 1 18446744073709551616", "ask refresh 18446744073709551616 1", "ask refresh -1 1", "ask refresh 1 x",
+           "feed +1 end", "feed -1 end", "feed x end", "feed 18446744073709551616 end", "start pieces a +1", "start pieces a 18446744073709551616")
 # Each of the characters from \udc80 to \udcff stands for one byte that is no text.
 BYTES = ("file a 6", "file a 6g", "file a --", "file a 0x61", "file a -1", "file a 616", "file a é0", "dir \udcff", "dir \udcc3", "dir \udced\udca0\udc80",
          "dir \udcc0\udcaf", "report\0", "\ufeffreport", "\0")
-HOSTS = ("start backup " + "h" * 256 + " 1", "start backup " + "é" * 128 + " 1", "start backup " + "é" * 127 + "aa 1")
-STRANGERS = ("step 2", f"step {GREATEST}", "finish 2", "until 2 list", "late 2", "crash 2", "fault 2 read", "start restore 1", "start restore 2",
+HOSTS = ("start backup " + "h" * 256 + " 1", "start backup " + "é" * 128 + " 1", "start backup " + "é" * 127 + "aa 1",
+         "start pieces " + "h" * 256 + " 1")
+STRANGERS = ("step 2", f"step {GREATEST}", "finish 2", "until 2 list", "late 2", "crash 2", "fault 2 read", "feed 2 end", f"feed {GREATEST} close", "start restore 1", "start restore 2",
              "start forget 1", "start forget 0 2", "start forget 0 1", "old start restore 1")
 
 

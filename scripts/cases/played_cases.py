@@ -48,6 +48,11 @@ WORKED = [
      TOLD + "client 3 prune refused 10\nclient 4 check clean 1 1 3 2\nstore packs 3 indexes 1 snapshots 1 live 0\n"),
     ("the device fails before it makes a delete", TWO_BACKUPS + CHECKED.format("unapplied"),
      TOLD + "client 3 prune refused 10\nclient 4 check clean 1 2 3 2\nstore packs 3 indexes 2 snapshots 1 live 0\n"),
+    ("a backup that is fed: an item before it wants any, a name out of order, and its end",
+     "start pieces a 5\nfeed 0 end\nfinish 0\nfeed 0 file x\nfeed 0 bytes 61\nfeed 0 bytes 6263\nfeed 0 close\nfeed 0 file a\n"
+     "feed 0 end\nfinish 0\nstart restore 0\nfinish 1\nreport\n",
+     "feed 0 refused 6\nfeed 0 refused 2\nclient 0 backup stored 2 129\nclient 1 restore complete 1\n"
+     "store packs 1 indexes 1 snapshots 1 live 0\n"),
 ]
 REFUSED = [
     ("a line that starts no client, after `old`", "old report\n", "", 1),
@@ -129,7 +134,7 @@ def refused(script):
     """Lines that aren't understood; `vault loop` understands fewer."""
     for heading, text, prints, line in REFUSED:
         played(script, "play", heading, text, prints, f"line {line}: not understood")
-    for word in ("step 0", "until 0 get", "late 0", "fault 0 read", "deliver 0", "unlock 1", "ask locks", "crash 0", "restart", "replay", "append-only"):
+    for word in ("step 0", "until 0 get", "late 0", "fault 0 read", "deliver 0", "unlock 1", "ask locks", "feed 0 end", "crash 0", "restart", "replay", "append-only"):
         played(script, "loop", "a line that is none where messages are carried", f"start list\n{word}\n", "", "line 2: not understood")
     # The tree of so many files, in a pack, makes a frame that is too large.
     entries = "".join(f"file {place:04} {place:08x}\n" for place in range(700))

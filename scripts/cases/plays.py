@@ -5,7 +5,7 @@ from dataclasses import dataclass
 
 from checks import Check
 from commands import written
-from jobs import Backup, Client, Forget, List, Restore, StartRefused
+from jobs import Backup, Client, Fed, FedClient, Forget, List, Restore, StartRefused
 from prunes import Prune, Upgrade
 from store import Store
 from texts import config_text
@@ -66,7 +66,9 @@ def data(word):
 BEHIND = {"dir": [path], "file": [path, data], "step": [number], "finish": [number], "until": [number, one_of(SORTS)], "late": [number],
           "fault": [number, one_of(FAILURES)], "deliver": [number], "unlock": [number], "crash": [number], "restart": [], "report": [],
           "replay": [], "append-only": []}
-STARTS = {"backup": [host, number], "restore": [number], "list": [], "prune": [], "check": [], "keep": [count, count], "upgrade": []}
+STARTS = {"backup": [host, number], "pieces": [host, number], "restore": [number], "list": [], "prune": [], "check": [], "keep": [count, count], "upgrade": []}
+# What a client is fed.
+ITEMS = {"dir": [str], "file": [str], "bytes": [data], "close": [], "end": [], "abandon": []}
 # What somebody asks who is no client.
 QUESTIONS = {"ticket": [], "lock": [number, one_of(("shared", "exclusive"))], "refresh": [number, number], "locks": []}
 MAY_BE_CARRIED = ("dir", "file", "start", "finish", "report")
@@ -100,6 +102,9 @@ def line_of(line):
         return start_of(words[1:], False)
     if words[:2] == ["old", "start"]:
         return start_of(words[2:], True)
+    if words[0] == "feed":
+        client = number((words + [""])[1])
+        return "feed", [client, *words_by(ITEMS, words[2:] or [""])]
     if words[0] == "ask":
         return "ask", [words_by(QUESTIONS, words[1:] or [""])]
     return words_by(BEHIND, words)
@@ -194,16 +199,28 @@ class Player:
             return Forget([self.named(client) for client in values[0]])
         if word == "keep":
             return Forget(policy=tuple(values))
-        return {"list": List, "prune": Prune, "check": Check, "upgrade": Upgrade}[word]()
+        return {"pieces": Fed, "list": List, "prune": Prune, "check": Check, "upgrade": Upgrade}[word]()
 
     def on_start(self, old, word, *values):
-        who = values if word == "backup" else ("play", 0)
+        who = values if word in ("backup", "pieces") else ("play", 0)
+        sort = FedClient if word == "pieces" else Client
         try:
-            client = Client(self.job(word, values), len(self.seats).to_bytes(16, "big"), *who, old)
+            client = sort(self.job(word, values), len(self.seats).to_bytes(16, "big"), *who, old)
         except StartRefused as refused:
             return f"start refused {refused.args[0]}\n"
         self.seats.append(Seat(client))
         self.sends(len(self.seats) - 1)
+
+    def on_feed(self, client, word, values):
+        seat = self.seat(client)
+        if seat.crashed or not isinstance(seat.client, FedClient):
+            return None
+        code, taken = seat.client.feed(word, *values)
+        if code is not None:
+            return f"feed {client} refused {code}\n"
+        if seat.client.pending:
+            self.sends(client)
+        return f"feed {client} took {taken}\n" if word == "bytes" and taken < len(values[0]) else None
 
     def on_step(self, client, armed=None):
         seat = self.seat(client)

@@ -13,6 +13,7 @@ import check_cases
 import command_cases
 import damage_cases
 import event_cases
+import feed_cases
 import folder_cases
 import forget_cases
 import job_cases
@@ -31,7 +32,7 @@ from script import Script
 CRATES = Path(__file__).resolve().parents[2] / "crates"
 PARTS = [command_cases.locks, command_cases.refresh, command_cases.unlock, command_cases.lists, job_cases.restores,
          job_cases.backups, *word_cases.ALL, *world_cases.ALL, *damage_cases.ALL, *folder_cases.ALL, *forget_cases.ALL,
-         *prune_cases.ALL, *check_cases.ALL, *upgrade_cases.ALL, *piece_cases.ALL, *played_cases.ALL, *line_cases.ALL]
+         *prune_cases.ALL, *check_cases.ALL, *upgrade_cases.ALL, *piece_cases.ALL, *played_cases.ALL, *line_cases.ALL, *feed_cases.ALL]
 
 
 def files():

@@ -5,11 +5,12 @@ ghost use Rattle.repo_name.specs.Rows.{IsHost};
 ghost use Rattle.repo_prog.specs.Commands.{IsChoice, IsErrand};
 
 use crate::lines::{ScriptError, count, cut, name, names, number, policy};
+use crate::sources::Listed;
 use crate::streams::{Inlet, Outlet, Pace};
 use crate::told::Told;
-use repo_files::{Scan, Skipped};
+use repo_files::Skipped;
 use repo_name::{Instance, Name, Names, Text, Token};
-use repo_prog::{Caller, Errand, LockErrand, Once, Status, backup_found, do_errand, restore_into};
+use repo_prog::{Caller, Errand, LockErrand, Once, Status, backup_from, do_errand, restore_into};
 use repo_prune::{Choice, Policy};
 use repo_session::Emission;
 use repo_tree::Entry;
@@ -145,13 +146,13 @@ impl Talk<'_> {
         do_errand(self.rt, &self.caller, errand, &mut dial, 0, o, f)
     }
 
-    fn backup(&mut self, host: &str, found: Scan) -> Result<Status, ScriptError> {
+    fn backup(&mut self, host: &str, found: Listed) -> Result<Status, ScriptError> {
         if !is_host(host) {
             return Err(ScriptError::Line);
         }
         let mut dial = Once::new(&mut self.reader, &mut self.sent);
         let (o, f) = (&mut self.output, &mut self.faults);
-        Ok(backup_found(
+        Ok(backup_from(
             self.rt.alloc(),
             &self.caller,
             host,
@@ -181,7 +182,7 @@ impl Talk<'_> {
     }
 
     /// Runs the command of these words.
-    fn run(&mut self, words: &str, found: Scan) -> Result<Status, ScriptError> {
+    fn run(&mut self, words: &str, found: Listed) -> Result<Status, ScriptError> {
         let (word, rest) = cut(words);
         match word {
             "backup" => self.backup(rest, found),
@@ -208,7 +209,7 @@ pub fn run_command(
     rt: &HostRuntime,
     words: &str,
     server: &Server,
-    found: Scan,
+    found: Listed,
     told: &mut Told,
 ) -> Result<(), ScriptError> {
     let alloc = rt.alloc();
@@ -235,7 +236,7 @@ pub fn run_command(
     Ok(())
 }
 
-/// An entry that a scan left out: `skip PATH`, or `skip in PATH`.
+/// An entry that a walk left out: `skip PATH`, or `skip in PATH`.
 pub fn skipped(alloc: Global, words: &str) -> Result<Skipped, AllocError> {
     match words.strip_prefix("in ") {
         Some(folder) => Ok(Skipped::Unnamed(String::from_str(alloc, folder)?)),

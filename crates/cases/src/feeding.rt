@@ -70,7 +70,7 @@ fn feed_rest<S: Shelf>(
     let items = [Item::Bytes(piece.as_slice()), Item::Close];
     match lockstep_items(alloc, backup, &items, shelf) {
         Ok(asked) => told.number("answered", asked)?,
-        Err(ItemsError::Feed(place, error)) => {
+        Err(ItemsError::Feed { place, error, .. }) => {
             told.number("place", place as u64)?;
             told.number("refused", reason(error))?;
         }

@@ -20,7 +20,7 @@ fn events_of(
     job: Job,
     first: usize,
     count: usize,
-) -> Result<Vec<Event>, ScriptError> {
+) -> Result<Vec<Event<'static>>, ScriptError> {
     let mut events = Vec::new(alloc);
     let Ok(host) = Host::new(alloc, "a") else {
         return Err(ScriptError::Memory);

@@ -17,6 +17,7 @@ mod kernels;
 mod lines;
 mod random;
 mod script;
+mod sources;
 mod spoiling;
 mod stored;
 mod stores;

@@ -5,11 +5,12 @@ use crate::feeding::run_pieces;
 use crate::happening::run_world;
 use crate::kernels::run_kernel;
 use crate::lines::{ScriptError, add_dirs, add_files, bytes, cut, dir, file, number};
+use crate::sources::Listed;
 use crate::spoiling::spoil;
 use crate::streams::{Inlet, Outlet};
 use crate::told::Told;
 use crate::worlds::World;
-use repo_files::{Scan, Skipped};
+use repo_files::Skipped;
 use repo_prog::{Status, run};
 use repo_tree::Entry;
 use std::alloc::{AllocError, Global};
@@ -66,10 +67,9 @@ impl Script {
 
     /// Runs a client's command over what the server says, which is used up.
     fn command(&mut self, rt: &HostRuntime, line: &str) -> Result<(), ScriptError> {
-        let found = Scan {
-            entries: self.taken_entries(),
-            skipped: mem::replace(&mut self.skipped, Vec::new(self.alloc)),
-        };
+        let left_out = mem::replace(&mut self.skipped, Vec::new(self.alloc));
+        let entries = self.taken_entries();
+        let found = Listed::new(self.alloc, entries, left_out)?;
         run_command(rt, line, &self.server, found, &mut self.told)?;
         self.server = Server::new(self.alloc);
         Ok(())
