@@ -4,7 +4,7 @@
 Usage: trials/sweep.py [--every N] [VAULT]
 
 Every world is a list of clients that run one after another; in some of them a prune has crashed, a deletion is under way, or a lock
-was removed. Before each step of each of them, once: the client stops for good; it stops, its lock is removed, and its last request
+was removed; some backups are fed, and each item is a step, too. Before each step of each of them, once: the client stops for good; it stops, its lock is removed, and its last request
 comes late, behind all others; its lock is removed and it goes on; or the device fails in that step, after its change, before it, or
 where it reads. The clients after it run on. Then all locks are removed, and a check has to be clean, and each snapshot that was reported as stored, and that no
 forget was asked to delete, has to be restored whole. What is printed has to stay the same where each request so far comes
@@ -26,25 +26,44 @@ PROGRAM = Path(__file__).resolve().parents[1] / "crates/vault/out/vault"
 FAILURES = ("applied", "unapplied", "read")
 # More steps than a client of these worlds takes.
 MANY = 100
+# The bytes of a larger file. All are in one pack, which is put once the items end: that a pack becomes due within a piece is for the cases.
+MANY_BYTES = bytes(number * number // 7 % 256 for number in range(1_500)).hex()
 
 
 @dataclass
 class Client:
     """A client: the lines that start it, how many entries it is handed, the clients whose snapshots it names, those that it may delete,
-    and how it runs where it isn't the one that is disturbed: {0} is its number, and {1} its token."""
+    how it runs where it isn't the one that is disturbed, and where it is fed, its steps: {0} is its number, and {1} its token."""
 
     lines: list
     entries: int = 0
     names: tuple = ()
     forgets: tuple = ()
     runs: tuple = ("finish {0}",)
+    steps: tuple = ()
 
     def run(self, number):
         return [line.format(number, number + 1) for line in self.runs]
 
+    def fed(self, number):
+        """The lines of its steps, where it is fed: more than it takes, since a step does nothing where nothing is pending."""
+        return [line.format(number) for line in self.steps]
+
 
 def backup(host, time, *entries):
     return Client([*entries, f"start backup {host} {time}"], entries=len(entries))
+
+
+def fed(host, time, *items, entries):
+    """A backup that is fed: behind each item come steps for what it may have to put."""
+    feeds = [f"feed {{0}} {item}" for item in items]
+    steps = ["step {0}"] * 8
+    for feed in feeds:
+        steps += [feed, *["step {0}"] * (4 if " end" in feed else 3 if " bytes" in feed else 1)]
+    runs = ["finish {0}"]
+    for feed in feeds:
+        runs += [feed, "finish {0}"]
+    return Client([f"start pieces {host} {time}"], entries=entries, runs=tuple(runs), steps=tuple(steps))
 
 
 def forget(*clients):
@@ -106,6 +125,15 @@ WORLDS = {
         backup("b", 3, "file x 616263", "file z 7a"),
         CHECK,
     ],
+    "backups that are fed": [
+        backup("a", 1, "file x 616263"),
+        fed("b", 2, "dir d", "file x", "bytes 616263", "close", "close", "file y", f"bytes {MANY_BYTES}", "close", "end", entries=3),
+        forget(0),
+        PRUNE,
+        fed("c", 3, "file x", "bytes 6162", "bytes 63", "close", "end", entries=1),
+        restore(1),
+        CHECK,
+    ],
 }
 
 
@@ -153,6 +181,8 @@ def goes_on(program, world, lines, client):
 
 def steps_of(program, world, client):
     """How many steps a client takes that nothing disturbs."""
+    if world[client].steps:
+        return len(world[client].steps)
     for steps in range(MANY):
         printed = play(program, [*lines_before(world, client), *[f"step {client}"] * steps, "report"])
         if told_of(printed, client) != "running":
@@ -160,14 +190,16 @@ def steps_of(program, world, client):
     raise AssertionError("a client takes too many steps")
 
 
-def disturbances(client, steps):
+def disturbances(world, client, steps):
     """Each way to disturb a client before a step: its name, its lines, and those behind all other clients."""
-    before = [f"step {client}"] * steps
+    fed = world[client].fed(client)
+    before = fed[:steps] if fed else [f"step {client}"] * steps
+    rest = [*fed[steps:], f"finish {client}"]
     yield "stops", [*before, f"crash {client}"], []
     yield "is late", [*before, f"crash {client}", f"unlock {client + 1}"], [f"late {client}"]
-    yield "loses its lock", [*before, f"unlock {client + 1}", f"finish {client}"], []
+    yield "loses its lock", [*before, f"unlock {client + 1}", *rest], []
     for failure in FAILURES:
-        yield f"has a device that fails {failure}", [*before, f"fault {client} {failure}", f"finish {client}"], []
+        yield f"has a device that fails {failure}", [*before, f"fault {client} {failure}", *rest], []
 
 
 def stored(world, printed):
@@ -214,7 +246,7 @@ def disturbed(program, world):
     """Each disturbance of a world: the client, the number of its steps before, and what is done."""
     for client in range(len(world)):
         for steps in range(steps_of(program, world, client) + 1):
-            for way in disturbances(client, steps):
+            for way in disturbances(world, client, steps):
                 yield client, steps, *way
 
 

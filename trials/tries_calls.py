@@ -1,4 +1,4 @@
-"""Calls of the system that fail, or at which the program is killed, each in turn: in a making, a scan, a restore and a loop.
+"""Calls of the system that fail, or at which the program is killed, each in turn: in a making, a backup, a restore and a loop.
 
 strace has them fail; where it isn't there, or may not trace, these are skipped.
 """
@@ -53,8 +53,8 @@ def a_making_that_is_killed_is_made_again():
 
 
 @trial(is_early=True)
-def a_scan_whose_calls_fail_names_a_path():
-    """A backup is whole, or names a path in the folder that can't be read, and then nothing was stored."""
+def a_backup_whose_calls_fail_names_a_path():
+    """A backup is whole, or names a path in the folder that can't be read, and then no snapshot was stored, and no lock is left."""
     is_traced()
     with Yard(is_store=True) as yard, Server(yard.root, connections=10**6) as server:
         root, wanted = filled(yard.top / "from", {"d/f": b"abc" * 9, "e/": b"", "g": b"x"}), 0
@@ -71,10 +71,28 @@ def a_scan_whose_calls_fail_names_a_path():
                 is_path = run.returncode == 1 and run.stderr.startswith(f"unreadable {root}") and run.stdout == ""
                 told_so += is_path
                 holds(is_path or run.returncode == 0, f"{call} {place}: {run.returncode}, {run.stdout}{run.stderr}")
+                same(told("locks", server.address), "0||", f"{call} {place}")
             wanted += told_so
         holds(wanted >= 6, f"only {wanted} failures were told")
         for name, _, _ in (line.split() for line in told("snapshots", server.address).split("|")[1].splitlines()):
             restores(server.address, name, yard.top / "to", entries(root))
+
+
+@trial(is_early=True)
+def a_file_that_becomes_shorter_is_unreadable():
+    """One whose bytes end before as many came as it had when it was opened, as a read of none says."""
+    is_traced()
+    with Yard(is_store=True) as yard, Server(yard.root, connections=99) as server:
+        root = filled(yard.top / "from", {"a": b"abc", "d/f": bytes(200_000), "z": b"x"})
+        for place in (1, 2, 3, 4):
+            log = yard.top / "log"
+            words = ["strace", "-f", "-qq", "-o", log, "-e", "trace=read", "-P", root / "d/f", "-e", f"inject=read:retval=0:when={place}",
+                     OPTIONS.program, "backup", server.address, "h", root]
+            run = subprocess.run([str(word) for word in words], capture_output=True, text=True, stdin=subprocess.DEVNULL, timeout=WAIT)
+            holds("(INJECTED)" in log.read_text(), f"there is no read {place}")
+            same((run.returncode, run.stdout, run.stderr), (1, "", f"unreadable {root}/d/f\n"), place)
+            same(told("locks", server.address), "0||")
+        same(told("snapshots", server.address), "0||")
 
 
 @trial(is_early=True)

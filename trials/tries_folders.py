@@ -1,8 +1,10 @@
 """Folders that are backed up and restored: odd names, depths, links, empty ones and large ones; and what can't be read."""
+import filecmp
 import hashlib
 import json
 import os
 import random
+import resource
 import shutil
 import socket
 import subprocess
@@ -128,12 +130,13 @@ def a_folder_of_a_hundred_levels_comes_back(yard):
 def a_folder_of_more_levels_is_refused(yard):
     for deepest in ("d/" * 100 + "x", "d/" * 101):
         root = filled(yard.top / "from", {deepest: b"abc"})
-        with Server(yard.root, connections=1) as server:
+        with Server(yard.root, connections=2) as server:
             same(told("backup", server.address, "h", root), "1||start refused 3\n")
+            same(told("locks", server.address), "0||")
             same(server.end(), "0||")
         shutil.rmtree(root)
     yard.holds("snapshots", 0)
-    yard.serves(TICKET, "0||", token(1))
+    yard.serves(TICKET, "0||", token(3))
 
 
 @in_store
@@ -160,6 +163,28 @@ def large_files_come_back():
             holds(int(sent) < 1_300_000, f"{sent} bytes were sent for ten new ones")
             gives_back(server.address, root, yard.top / "again")
             is_clean(server.address)
+
+
+@trial(is_early=True)
+def a_backup_holds_no_folder_in_memory():
+    """A client that may have 120 MB in all backs up a folder of 340: a file of random bytes, and one of zeros without a block on the disk."""
+    def few():
+        resource.setrlimit(resource.RLIMIT_AS, (120_000_000, 120_000_000))
+
+    with Yard(is_store=True) as yard:
+        root, chance = filled(yard.top / "from", {"d/": b""}), random.Random(7)
+        (root / "d/random").write_bytes(chance.randbytes(40_000_000))
+        with (root / "zeros").open("wb") as zeros:
+            zeros.truncate(300_000_000)
+        with Server(yard.root, connections=3) as server:
+            words = [OPTIONS.program, "backup", server.address, "h", root]
+            run = subprocess.run(words, capture_output=True, text=True, timeout=WAIT, stdin=subprocess.DEVNULL, preexec_fn=few)
+            name, _, sent = matches(f"{run.returncode}|{run.stdout}|{run.stderr}", STORED)
+            holds(40_000_000 < int(sent) < 60_000_000, f"{sent} bytes were sent")
+            same(told("restore", server.address, name, yard.top / "again"), "0|complete 3\n|")
+            is_clean(server.address)
+        same(filecmp.cmp(root / "d/random", yard.top / "again/d/random", shallow=False), True)
+        same(filecmp.cmp(root / "zeros", yard.top / "again/zeros", shallow=False), True)
 
 
 @trial(is_early=True)
@@ -211,10 +236,11 @@ def a_file_that_may_not_be_read_ends_a_backup(yard):
     root = filled(yard.top / "from", {"a/x": b"abc", "b": b"abc"})
     for name, mode in (("b", 0), ("a", 0)):
         (root / name).chmod(mode)
-        with Server(yard.root) as server:
+        with Server(yard.root, connections=2) as server:
             words = [program, "backup", server.address, "h", root]
             run = subprocess.run(words, capture_output=True, text=True, timeout=WAIT, stdin=subprocess.DEVNULL, **who)
             same((run.returncode, run.stdout, run.stderr), (1, "", f"unreadable {root}/{name}\n"))
+            same(told("locks", server.address), "0||")
     for name in ("a", "b"):
         (root / name).chmod(0o755)
     yard.holds("snapshots", 0)
