@@ -85,14 +85,6 @@ impl<S: Source + Drop> FedBackup<S> {
         &self.source
     }
 
-    /// Its source, and why it was given up, where it was.
-    pub fn into_parts(self) -> (S, Option<GivenUp<S::Error>>)
-        ensures source { result.0 ≡ self.source }
-        ensures reason { result.1 ≡ self.given_up }
-    {
-        (self.source, self.given_up)
-    }
-
     /// Whether the reply is to the pending request.
     fn is_answered(&self, reply: &Reply) -> bool
         ensures { IsTrue result ↔ AnswersNext (next_in self.now.backup.session) reply.now }

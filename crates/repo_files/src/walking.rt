@@ -72,11 +72,6 @@ impl<'a, R: Files + AllocGlobal + Clone + Drop> FolderWalk<'a, R> {
         self.skipped.as_slice()
     }
 
-    /// What was left out, in the order in which it was met.
-    pub fn into_skipped(self) -> Vec<Skipped> {
-        self.skipped
-    }
-
     /// Lists a directory, and opens it, by the place that stands before the names in it.
     fn open(&mut self, word: &str, place: &str) -> Result<(), ScanError> {
         let alloc = self.rt.alloc();
