@@ -13,7 +13,6 @@ use Rattle.repo_index.specs.declared.facts.Fact.{Fact}
 use Rattle.repo_index.specs.declared.facts.PackFacts.{PackFacts}
 use Rattle.repo_wire.specs.declared.messages.Ask.{Ask}
 use Rattle.repo_wire.specs.declared.messages.Say.{Say}
-use Rattle.repo_session.specs.Versions.{snapshot_version}
 use Rattle.repo_session.specs.declared.jobs.Step.{Step}
 use Rattle.repo_session.specs.Askers.{Asker}
 use Rattle.repo_session.specs.Jobs.{MayAsk}
@@ -208,8 +207,8 @@ blob_known k m fact ask es at h =
     }
 
 -- it isn't what the fact promises
-pub bad_range : (e : Exchange) (es : Trace) (fact : Fact) (x : List ℕ) → e.ask ≡ range_of fact → e.say ≡ Say.Bytes x → ReadFact es fact → IsBadBlob fact x → IsCause snapshot_version (e ∷ es) (End.BadObject (blob_thing fact.kind) fact.name)
-bad_range e es fact x is said read bad =
+pub bad_range : (known : ℕ) (e : Exchange) (es : Trace) (fact : Fact) (x : List ℕ) → e.ask ≡ range_of fact → e.say ≡ Say.Bytes x → ReadFact es fact → IsBadBlob fact x → IsCause known (e ∷ es) (End.BadObject (blob_thing fact.kind) fact.name)
+bad_range known e es fact x is said read bad =
     let at : IsBad (e ∷ es) (range_of fact) e.say (blob_thing fact.kind) fact.name = (x, fact, said, fact_stays e es fact read, refl, refl, refl, refl, refl, bad) in
     inl (subst (λ a. IsBad (e ∷ es) a e.say (blob_thing fact.kind) fact.name) (sym is) at)
 

@@ -19,7 +19,6 @@ use Rattle.repo_tree.specs.Laws.{Grows}
 use Rattle.repo_tree.specs.Parts.{ListsBy}
 use Rattle.repo_tree.specs.Spelling.{Reach}
 use Rattle.repo_tree.specs.declared.nodes.Node.{Node}
-use Rattle.repo_session.specs.Versions.{snapshot_version}
 use Rattle.repo_session.specs.declared.outcomes.End.{End}
 use Rattle.repo_session.specs.declared.outcomes.Outcome.{Outcome}
 use Rattle.repo_session.specs.Askers.{Asker}
@@ -305,14 +304,14 @@ walk_more k texts trees new fact e es x over a is promised roots =
     }
 
 -- the tree's bytes are bad, or it can't go on
-pub tree_ended : (k : Known) (texts : List (List ℕ)) (trees new : Trees) (fact : Fact) (e : Exchange) (es : Trace) (end : End) → IsWalkOver k texts trees es → Awaits k.facts texts trees fact → e.ask ≡ range_of fact
-    → new.roots ≡ trees.roots → TakesTree k.facts texts fact e.say new (Walked.Ended end) → Concludes snapshot_version PruneConcludes (e ∷ es) (Outcome.Ended end)
-tree_ended k texts trees new fact e es end over a is roots (inl (x, said, bad, same)) =
+pub tree_ended : (known : ℕ) (k : Known) (texts : List (List ℕ)) (trees new : Trees) (fact : Fact) (e : Exchange) (es : Trace) (end : End) → IsWalkOver k texts trees es → Awaits k.facts texts trees fact → e.ask ≡ range_of fact
+    → new.roots ≡ trees.roots → TakesTree k.facts texts fact e.say new (Walked.Ended end) → Concludes known PruneConcludes (e ∷ es) (Outcome.Ended end)
+tree_ended known k texts trees new fact e es end over a is roots (inl (x, said, bad, same)) =
     let given = awaited_read k es texts trees fact over.read a in
     let kind : blob_thing fact.kind ≡ Thing.Tree = ap blob_thing a.next.0 in
     let at : IsBad (e ∷ es) (range_of fact) e.say (blob_thing fact.kind) fact.name = (x, fact, said, fact_stays e es fact given, refl, refl, refl, refl, refl, bad) in
     let there : IsBad (e ∷ es) e.ask e.say Thing.Tree fact.name = subst (λ t. IsBad (e ∷ es) e.ask e.say t fact.name) kind (subst (λ q. IsBad (e ∷ es) q e.say (blob_thing fact.kind) fact.name) (sym is) at) in
-    subst (λ z. Concludes snapshot_version PruneConcludes (e ∷ es) (Outcome.Ended z)) (sym same) (inl (inl there))
-tree_ended k texts trees new fact e es end over a is roots (inr (x, promised, why)) =
+    subst (λ z. Concludes known PruneConcludes (e ∷ es) (Outcome.Ended z)) (sym same) (inl (inl there))
+tree_ended known k texts trees new fact e es end over a is roots (inr (x, promised, why)) =
     let more = walk_more k texts trees new fact e es x over a is promised roots in
     inr (cannot_go_on k (e ∷ es) (texts ++ x ∷ []) new.roots.items more.read more.roots more.received more.untouched end why)

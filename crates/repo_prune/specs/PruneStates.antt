@@ -307,7 +307,7 @@ KnowsPrune j ask es = KnowsStage (known_in j) j.stage ask es
 -- in a stage: this may be asked, and is known then; or it may end so
 abbrev pub IsNextStep : Known → Asker → Stage → Step → Trace → Type 0
 IsNextStep k who stage (Step.Ask ask) es = MayAsk prune_rule who (KnowsStage k stage) es ask
-IsNextStep k who stage (Step.Finish outcome) es = Concludes (upto Versions.One) PruneConcludes es outcome
+IsNextStep k who stage (Step.Finish outcome) es = Concludes (upto who.versions) PruneConcludes es outcome
 IsNextStep k who stage Step.Want es = ⊥
 IsNextStep k who stage Step.Away es = ⊥
 
@@ -341,6 +341,10 @@ IsListingOf k _ = ⊥
 -- the step on an exchange, after each trace at whose end its request was pending
 abbrev pub StepsFrom : PruneJob → Token → Ask → Say → Step → PruneJob → Type 0
 StepsFrom old token ask say step new = (who : Asker) → StepsOn prune_rule (record { who = who; token = token }) (KnowsPrune old) (KnowsPrune new) (silent ask say) step
+
+-- where who prunes knows these versions
+abbrev pub StepsFor : Versions → PruneJob → Token → Ask → Say → Step → PruneJob → Type 0
+StepsFor versions old token ask say step new = (who : Asker) → who.versions ≡ versions → StepsOn prune_rule (record { who = who; token = token }) (KnowsPrune old) (KnowsPrune new) (silent ask say) step
 
 -- where its reply wasn't taken, what was known is known
 abbrev pub KnowsAsMuch : PruneJob → Ask → PruneJob → Type 0

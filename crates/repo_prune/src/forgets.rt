@@ -152,7 +152,7 @@ impl ForgetJob {
         ensures kept { OnErr result ((self.new.chosen ≡ self.old.chosen) × (self.new.deleted ≡ self.old.deleted)) }
     {
         let mark = self.snapshots.mark();
-        match self.snapshots.read_on(ask, say)? {
+        match self.snapshots.read_on(ask, say, holder.versions())? {
             SnapshotReading::Ask(next) => Ok(Step::Ask(next)),
             SnapshotReading::All => {
                 let Ok(picked) = self.choose_read() else {
@@ -196,7 +196,7 @@ impl Job for ForgetJob {
     }
 
     fn versions(&self) -> Versions {
-        Versions::One
+        Versions::Both
     }
 
     fn opened(&mut self, _holder: &Holder, _config: &Config) -> Step {

@@ -6,24 +6,29 @@ ghost use Rattle.repo_name.specs.declared.names.Name.{Name};
 ghost use Rattle.repo_name.specs.declared.tokens.Token.{Token};
 ghost use Rattle.repo_wire.specs.declared.messages.Ask.{Ask};
 ghost use Rattle.repo_session.specs.Jobs.{IsShortStep};
-ghost use Rattle.repo_prune.specs.PruneStates.{IsListingOf, StepsFrom, KnowsAsMuch};
+ghost use Rattle.repo_prune.specs.PruneStates.{IsListingOf, StepsFor, StepsFrom, KnowsAsMuch};
 
 use crate::advancing::end;
 use crate::prunes::PruneJob;
 use repo_name::{Kind, Thing, Token};
-use repo_session::{End, Paging, Reading, SnapshotReading, Step};
+use repo_session::{End, Paging, Reading, SnapshotReading, Step, Versions};
 use repo_wire::{Ask, Say};
 use std::alloc::AllocError;
 
 impl PruneJob {
-    /// Takes the reply to a request of the reading of snapshots. It fails for memory alone, and then what was known is
-    /// known.
-    fn take_snapshots(&mut self, ask: &Ask, say: &Say) -> Result<Step, AllocError>
-        ensures steps { IfOk result (λ step. (token : Token) → IsListingOf Kind.Snapshot ask.now → StepsFrom self.old token ask.now say.now step self.new) }
+    /// Takes the reply to a request of the reading of snapshots, for who knows these versions. It fails for memory alone,
+    /// and then what was known is known.
+    fn take_snapshots(
+        &mut self,
+        versions: Versions,
+        ask: &Ask,
+        say: &Say,
+    ) -> Result<Step, AllocError>
+        ensures steps { IfOk result (λ step. (token : Token) → IsListingOf Kind.Snapshot ask.now → StepsFor versions self.old token ask.now say.now step self.new) }
         ensures short { IfOk result IsShortStep }
         ensures knows { OnErr result (IsListingOf Kind.Snapshot ask.now → KnowsAsMuch self.old ask.now self.new) }
     {
-        match self.snapshots.read_on(ask, say)? {
+        match self.snapshots.read_on(ask, say, versions)? {
             SnapshotReading::Ask(next) => Ok(Step::Ask(next)),
             SnapshotReading::All => Ok(Step::Ask(self.catalog.page_ask())),
             SnapshotReading::Bad(name) => Ok(end(End::BadObject(Thing::Snapshot, name))),
@@ -97,20 +102,22 @@ impl PruneJob {
         }
     }
 
-    /// Takes the reply to a request of the listing. It fails for memory alone, and then what was known is known.
+    /// Takes the reply to a request of the listing, for who knows these versions. It fails for memory alone, and then what
+    /// was known is known.
     pub fn take_listing(
         &mut self,
+        versions: Versions,
         token: Token,
         kind: Kind,
         ask: &Ask,
         say: &Say,
     ) -> Result<Step, AllocError>
-        ensures steps { IfOk result (λ step. IsListingOf kind ask.now → StepsFrom self.old token ask.now say.now step self.new) }
+        ensures steps { IfOk result (λ step. IsListingOf kind ask.now → StepsFor versions self.old token ask.now say.now step self.new) }
         ensures short { IfOk result IsShortStep }
         ensures knows { OnErr result (IsListingOf kind ask.now → KnowsAsMuch self.old ask.now self.new) }
     {
         match kind {
-            Kind::Snapshot => self.take_snapshots(ask, say),
+            Kind::Snapshot => self.take_snapshots(versions, ask, say),
             Kind::Index => self.take_indexes(ask, say),
             Kind::Pack => self.take_packs(token, ask, say),
         }

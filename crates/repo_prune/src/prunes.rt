@@ -2,7 +2,7 @@
 
 ghost use Rattle.std.specs.Prelude.{◌≡◌, [], IfOk, OnErr};
 ghost use Rattle.repo_session.specs.Jobs.{IsShortStep};
-ghost use Rattle.repo_prune.specs.PruneStates.{IsFreshPrune, StepsFrom, KnowsAsMuch, FitsPrune, pruner_of};
+ghost use Rattle.repo_prune.specs.PruneStates.{IsFreshPrune, StepsFor, KnowsAsMuch, FitsPrune, pruner_of};
 
 use crate::deleting::Deleting;
 use crate::moving::Moving;
@@ -67,15 +67,21 @@ impl PruneJob {
         }
     }
 
-    /// Takes a reply that is no refusal. It fails for memory alone, and then what was known is known.
-    fn take(&mut self, token: Token, ask: &Ask, say: &Say) -> Result<Step, AllocError>
-        ensures steps { IfOk result (λ step. StepsFrom self.old token ask.now say.now step self.new) }
+    /// Takes a reply that is no refusal, for who knows these versions. It fails for memory alone, and then what was known is known.
+    fn take(
+        &mut self,
+        versions: Versions,
+        token: Token,
+        ask: &Ask,
+        say: &Say,
+    ) -> Result<Step, AllocError>
+        ensures steps { IfOk result (λ step. StepsFor versions self.old token ask.now say.now step self.new) }
         ensures short { IfOk result IsShortStep }
         ensures knows { OnErr result (KnowsAsMuch self.old ask.now self.new) }
     {
         match ask {
-            Ask::List { kind, .. } => self.take_listing(token, *kind, ask, say),
-            Ask::Get { kind, .. } => self.take_listing(token, *kind, ask, say),
+            Ask::List { kind, .. } => self.take_listing(versions, token, *kind, ask, say),
+            Ask::Get { kind, .. } => self.take_listing(versions, token, *kind, ask, say),
             Ask::Range { .. } => self.take_range(token, say),
             Ask::Put { kind, .. } => self.take_put(token, *kind, say),
             Ask::Delete { kind, .. } => Ok(self.take_delete(token, *kind, say)),
@@ -108,7 +114,7 @@ impl Job for PruneJob {
     }
 
     fn versions(&self) -> Versions {
-        Versions::One
+        Versions::Both
     }
 
     fn opened(&mut self, _holder: &Holder, config: &Config) -> Step {
@@ -119,7 +125,7 @@ impl Job for PruneJob {
     fn reply(&mut self, holder: &Holder, ask: &Ask, say: &Say) -> Result<Step, AllocError> {
         match say {
             Say::Refused(_) => Ok(Step::Away),
-            _ => self.take(holder.token(), ask, say),
+            _ => self.take(holder.versions(), holder.token(), ask, say),
         }
     }
 

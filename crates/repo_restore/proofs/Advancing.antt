@@ -15,7 +15,6 @@ use Rattle.repo_tree.specs.declared.nodes.Node.{Node}
 use Rattle.repo_tree.specs.ConfigText.{IsConfigText}
 use Rattle.repo_tree.specs.Parts.{Blobs}
 use Rattle.repo_tree.specs.Spelling.{Spells}
-use Rattle.repo_session.specs.Versions.{snapshot_version}
 use Rattle.repo_session.specs.declared.catalogs.Catalog.{Catalog}
 use Rattle.repo_session.specs.declared.emissions.Emission.{Emission}
 use Rattle.repo_session.specs.declared.outcomes.End.{End}
@@ -58,19 +57,19 @@ bad_tree c s version root es tree h found b = record { version = version; root =
     uneven nodes u = record { name = u.0; size = u.1; content = u.2; total = u.3; among = u.4; lengths = lengths_of c es u.2 u.3 h u.5; other = u.6 }
 
 -- a walk's end is one that a restore may have
-pub walk_concludes : (c : Catalog) (s : Name) (version : ℕ) (root : Name) (es : Trace) (end : End) → Catalogs c true es → IsAll c → HasRoot es s version root → WalkEnds c.lookup version (Received es) root end
-    → Concludes snapshot_version (RestoreConcludes s) es (Outcome.Ended end)
-walk_concludes c s version root es (End.Missing thing name) h all found e = inr (unindexed c es thing name h all s version root found e)
-walk_concludes c s version root es (End.BadObject thing tree) h all found e =
-    subst (λ t. Concludes snapshot_version (RestoreConcludes s) es (Outcome.Ended (End.BadObject t tree))) (sym e.0) (inr (bad_tree c s version root es tree h found e.1))
-walk_concludes c s version root es End.Busy h all found e = absurd e
-walk_concludes c s version root es End.Fenced h all found e = absurd e
-walk_concludes c s version root es (End.Refused code) h all found e = absurd e
-walk_concludes c s version root es End.BadReply h all found e = absurd e
-walk_concludes c s version root es End.Version h all found e = absurd e
-walk_concludes c s version root es End.DirectoryTooLarge h all found e = absurd e
-walk_concludes c s version root es End.FileTooLarge h all found e = absurd e
-walk_concludes c s version root es End.Abandoned h all found e = absurd e
+pub walk_concludes : (known : ℕ) (c : Catalog) (s : Name) (version : ℕ) (root : Name) (es : Trace) (end : End) → Catalogs c true es → IsAll c → HasRoot es s version root → WalkEnds c.lookup version (Received es) root end
+    → Concludes known (RestoreConcludes s) es (Outcome.Ended end)
+walk_concludes known c s version root es (End.Missing thing name) h all found e = inr (unindexed c es thing name h all s version root found e)
+walk_concludes known c s version root es (End.BadObject thing tree) h all found e =
+    subst (λ t. Concludes known (RestoreConcludes s) es (Outcome.Ended (End.BadObject t tree))) (sym e.0) (inr (bad_tree c s version root es tree h found e.1))
+walk_concludes known c s version root es End.Busy h all found e = absurd e
+walk_concludes known c s version root es End.Fenced h all found e = absurd e
+walk_concludes known c s version root es (End.Refused code) h all found e = absurd e
+walk_concludes known c s version root es End.BadReply h all found e = absurd e
+walk_concludes known c s version root es End.Version h all found e = absurd e
+walk_concludes known c s version root es End.DirectoryTooLarge h all found e = absurd e
+walk_concludes known c s version root es End.FileTooLarge h all found e = absurd e
+walk_concludes known c s version root es End.Abandoned h all found e = absurd e
 
 -- nothing was given out yet
 pub before_on : (walk : Walk) (given : List Emission) (e : Exchange) (es : Trace) → e.emitted ≡ given → IsBefore walk given es → IsBefore walk given (e ∷ es)

@@ -1,5 +1,5 @@
 -- What is known while a snapshot is restored.
-use Rattle.std.specs.Prelude.{◌≡◌, [], true, false, List, length, ◌∷◌, ℕ}
+use Rattle.std.specs.Prelude.{◌≡◌, [], ⊤, true, false, List, length, ◌∷◌, ℕ}
 use Rattle.repo_name.specs.declared.kinds.Kind.{Kind}
 use Rattle.repo_name.specs.declared.names.Name.{Name}
 use Rattle.repo_wire.specs.declared.messages.Ask.{Ask}
@@ -11,10 +11,12 @@ use Rattle.repo_session.specs.declared.jobs.Step.{Step}
 use Rattle.repo_session.specs.Askers.{Holding, Asker}
 use Rattle.repo_session.specs.Catalogs.{Catalogs, IsAll}
 use Rattle.repo_session.specs.Jobs.{StepsOn, MayStep, task_under, GivesBy}
+use Rattle.repo_session.specs.Listings.{IsOfKnownVersion}
 use Rattle.repo_session.specs.Readings.{KnowsIndexes}
 use Rattle.repo_session.specs.Rebuilding.{rebuilt, Follow, AreWhole}
 use Rattle.repo_session.specs.Sessions.{FitsSession}
-use Rattle.repo_session.specs.Traces.{Trace, emitted_in, giving, Exchange}
+use Rattle.repo_session.specs.Traces.{Trace, emitted_in, giving, silent, Exchange}
+use Rattle.repo_session.specs.declared.versions.Versions.{Versions}
 use Rattle.repo_restore.specs.declared.restores.Restore.{Restore}
 use Rattle.repo_restore.specs.declared.restores.RestoreJob.{RestoreJob}
 use Rattle.repo_restore.specs.declared.restores.Stage.{Stage}
@@ -73,9 +75,18 @@ KnowsAtStage j (Stage.Walk fact version) ask es = IsRangeOf fact ask × IsWalkin
 abbrev pub KnowsRestore : RestoreJob → Ask → Trace → Type 0
 KnowsRestore j ask es = KnowsAtStage j j.stage ask es
 
--- the step on the reply to what was pending, with what was given out on it
+-- the step on the reply to what was pending, with what was given out on it, for who holds this lock
+abbrev pub RestoreRepliedTo : Holding → RestoreJob → Ask → Say → Step → RestoreJob → Type 0
+RestoreRepliedTo holding old ask say step new = StepsOn (restore_rule old.snapshot) holding (KnowsRestore old) (KnowsRestore new) (giving ask say new.given.items) step
+
+-- whoever holds it
 abbrev pub RestoreReplied : RestoreJob → Ask → Say → Step → RestoreJob → Type 0
-RestoreReplied old ask say step new = (holding : Holding) → StepsOn (restore_rule old.snapshot) holding (KnowsRestore old) (KnowsRestore new) (giving ask say new.given.items) step
+RestoreReplied old ask say step new = (holding : Holding) → RestoreRepliedTo holding old ask say step new
+
+-- it goes on by no snapshot of a version that isn't among these
+abbrev pub GoesOnKnown : Versions → Name → Say → Step → Type 0
+GoesOnKnown versions n say (Step.Ask ask) = IsOfKnownVersion versions (silent (Ask.Get Kind.Snapshot n) say)
+GoesOnKnown versions n say step = ⊤
 
 -- where nothing was taken, what was known is known
 abbrev pub RestoreStays : RestoreJob → RestoreJob → Type 0

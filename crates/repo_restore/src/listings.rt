@@ -52,15 +52,15 @@ impl Job for ListJob {
     }
 
     fn versions(&self) -> Versions {
-        Versions::One
+        Versions::Both
     }
 
     fn opened(&mut self, _holder: &Holder, _config: &Config) -> Step {
         Step::Ask(self.snapshots.page_ask())
     }
 
-    fn reply(&mut self, _holder: &Holder, ask: &Ask, say: &Say) -> Result<Step, AllocError> {
-        match self.snapshots.read_on(ask, say)? {
+    fn reply(&mut self, holder: &Holder, ask: &Ask, say: &Say) -> Result<Step, AllocError> {
+        match self.snapshots.read_on(ask, say, holder.versions())? {
             SnapshotReading::Ask(next) => Ok(Step::Ask(next)),
             SnapshotReading::All => Ok(Step::Finish(Outcome::Listed(self.snapshots.take_rows()))),
             SnapshotReading::Bad(name) => {

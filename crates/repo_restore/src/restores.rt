@@ -11,14 +11,14 @@ ghost use Rattle.repo_session.specs.Ends.{IsBadBlob};
 ghost use Rattle.repo_session.specs.Jobs.{IsShort, IsShortStep};
 ghost use Rattle.repo_restore.specs.Restoring.{restore_rule};
 ghost use Rattle.repo_restore.specs.RestoreObedience.{wish_of};
-ghost use Rattle.repo_restore.specs.RestoreStates.{FitsRestore, IsNewRestore, KnowsRestore, RestoreReplied, RestoreStays, RestoreGoesOn, RestoreTakesBlob};
+ghost use Rattle.repo_restore.specs.RestoreStates.{FitsRestore, GoesOnKnown, IsNewRestore, KnowsRestore, RestoreReplied, RestoreRepliedTo, RestoreStays, RestoreGoesOn, RestoreTakesBlob};
 
 use crate::walks::{Turn, Walk};
 use repo_index::Fact;
 use repo_name::{Kind, Name, Thing, Token, name_of};
 use repo_session::{
-    Catalog, Client, Emission, End, Fetched, Holder, Job, Outcome, Reading, SNAPSHOT_VERSION,
-    Session, Step, Versions, Who, blob_of, blob_thing, get_ask, range_ask, snapshot_end,
+    Catalog, Client, Emission, End, Fetched, Holder, Job, Outcome, Reading, Session, Step,
+    Versions, Who, blob_of, blob_thing, get_ask, range_ask, snapshot_end,
 };
 use repo_tree::{Config, Snapshot};
 use repo_wire::{Ask, Reply, Request, Say};
@@ -87,9 +87,10 @@ impl RestoreJob {
     }
 
     /// Takes the reply to the request for the snapshot. It fails for memory alone, and then nothing changed.
-    fn take_snapshot(&mut self, say: &Say) -> Result<Step, AllocError>
+    fn take_snapshot(&mut self, holder: &Holder, say: &Say) -> Result<Step, AllocError>
         requires { self.old.stage ≡ Stage.Snapshot }
-        ensures ok { IfOk result (λ step. (ask : Ask) → RestoreReplied self.old ask say.now step self.new) }
+        ensures ok { IfOk result (λ step. (ask : Ask) → RestoreRepliedTo holder.now self.old ask say.now step self.new) }
+        ensures known { IfOk result (GoesOnKnown holder.now.who.versions self.old.snapshot say.now) }
         ensures err { OnErr result (self.new ≡ self.old) }
         ensures short { IfOk result IsShortStep }
         ensures calm { (code : Code) → say.now ≡ Say.Refused code → IsOk result }
@@ -104,7 +105,7 @@ impl RestoreJob {
             let end = End::BadObject(Thing::Snapshot, name);
             return Ok(Step::Finish(Outcome::Ended(end)));
         }
-        match Snapshot::read_upto(self.alloc, bytes, SNAPSHOT_VERSION) {
+        match Snapshot::read_upto(self.alloc, bytes, holder.versions().greatest()) {
             Ok(snapshot) => {
                 self.stage = Stage::Indexes(snapshot.tree, snapshot.version);
                 Ok(Step::Ask(self.catalog.page_ask()))
@@ -216,16 +217,16 @@ impl Job for RestoreJob {
     }
 
     fn versions(&self) -> Versions {
-        Versions::One
+        Versions::Both
     }
 
     fn opened(&mut self, _holder: &Holder, _config: &Config) -> Step {
         Step::Ask(get_ask(Kind::Snapshot, self.snapshot))
     }
 
-    fn reply(&mut self, _holder: &Holder, ask: &Ask, say: &Say) -> Result<Step, AllocError> {
+    fn reply(&mut self, holder: &Holder, ask: &Ask, say: &Say) -> Result<Step, AllocError> {
         match self.stage {
-            Stage::Snapshot => self.take_snapshot(say),
+            Stage::Snapshot => self.take_snapshot(holder, say),
             Stage::Indexes(tree, version) => self.take_reading(tree, version, ask, say),
             Stage::Walk(fact, version) => self.take_range(fact, version, say),
         }

@@ -1,20 +1,16 @@
 -- A fault of a text for who knows fewer versions is one for who knows more, but for the version itself.
-use Rattle.std.proofs.Common.{◌≡◌, ◌≢◌, ◌≤◌, ℕ, List, inl, inr, ⊎_elim, refl, arith}
+use Rattle.std.proofs.Common.{◌≢◌, ◌≤◌, ℕ, List, inl, inr, ⊎_elim, refl, arith}
 use Rattle.repo_tree.specs.ConfigText.{ConfigFault}
 use Rattle.repo_tree.specs.SnapshotText.{SnapshotFault}
 use Rattle.repo_tree.specs.Versions.{greatest_version, IsKnownTo}
 use Rattle.repo_tree.specs.declared.faults.TextError.{TextError}
-use Rattle.repo_session.specs.Versions.{snapshot_version, upto}
+use Rattle.repo_session.specs.Versions.{upto}
 use Rattle.repo_session.specs.declared.versions.Versions.{Versions}
 
 -- no more versions are known than there are
 pub known_exist : (versions : Versions) → upto versions ≤ greatest_version
 known_exist Versions.One = omega arith
 known_exist Versions.Both = omega arith
-
--- of a version that a job reads, it is the first
-pub first_version : (v : ℕ) → IsKnownTo greatest_version v → v ≤ snapshot_version → v ≡ 1
-first_version v known few = let least = known.0 in omega (arith, least, few)
 
 module _ (known : ℕ) (few : known ≤ greatest_version) where
   known_still : (v : ℕ) → IsKnownTo known v → IsKnownTo greatest_version v

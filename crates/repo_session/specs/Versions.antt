@@ -11,7 +11,3 @@ upto Versions.Both = 2
 abbrev pub shared : Versions → Versions → Versions
 shared Versions.One others = Versions.One
 shared Versions.Both others = others
-
--- the greatest version of a snapshot that a job reads: no job follows a directory into further parts
-abbrev pub snapshot_version : ℕ
-snapshot_version = 1

@@ -4,9 +4,6 @@ ghost use Rattle.std.specs.Prelude.{◌≡◌, ◌≤◌};
 ghost use Rattle.repo_tree.specs.Versions.{greatest_version};
 ghost use Rattle.repo_session.specs.Versions.{upto, shared};
 
-/// The greatest version of a snapshot that a job reads: no job follows a directory into further parts.
-pub const SNAPSHOT_VERSION: u64 = 1;
-
 /// The versions that a client knows, or that a job does.
 #[derive(Clone, Copy, Debug, PartialEq, Eq)]
 pub enum Versions {

@@ -1,5 +1,7 @@
-use Rattle.std.proofs.Common.{◌∷◌, [], refl, inl}
+use Rattle.std.proofs.Common.{◌∷◌, [], refl, subst, inl}
+use Rattle.repo_session.specs.Ends.{IsOfOtherVersion}
 use Rattle.repo_session.specs.Traces.{Exchange, silent}
+use Rattle.repo_session.specs.Versions.{upto}
 use Rattle.repo_prune.specs.declared.forgets.ForgetJob.{ForgetJob}
 use Rattle.repo_prune.specs.Forgetting.{forget_task}
 use Rattle.repo_prune.proofs.Choosing.{may_read, none_read, read_chosen}
@@ -11,7 +13,7 @@ returns-in-Ask-clause-steps c = λ es w obeys asked.
     let who = c.args.holder.now.who in
     let e : Exchange = silent c.args.ask.now c.args.say.now in
     let lists = rw c.in-Ask.is at c.in_ok-next.ensures.ok in
-    let due = lists (forget_task who) c.args.holder.now.token [] es w asked.may asked.knows.1 in
+    let due = (lists (forget_task who) c.args.holder.now.token [] es w asked.may asked.knows.1).1 in
     let none = none_read f.snapshots.roll c.args.ask.now c.args.say.now es asked.knows.1.rolls asked.knows.0 in
     let job : ForgetJob = record { choice = f.choice; snapshots = c.read_on.new.self; chosen = f.chosen; deleted = f.deleted; alloc = f.alloc } in
     (inl refl, may_read job who (e ∷ es) c.in-Ask.next none due)
@@ -22,7 +24,7 @@ returns-in-Ok-clause-steps c = λ es w obeys asked.
     let who = c.args.holder.now.who in
     let e : Exchange = silent c.args.ask.now c.args.say.now in
     let lists = rw c.in-All.is at c.in_ok-next.ensures.ok in
-    let listing = lists (forget_task who) c.args.holder.now.token [] es w asked.may asked.knows.1 in
+    let listing = (lists (forget_task who) c.args.holder.now.token [] es w asked.may asked.knows.1).1 in
     c.begin.ensures.begins c.args.ask.now c.args.say.now es w (read_chosen f.choice c.read_on.new.self.rows.items c.in-Ok.picked.items (e ∷ es) listing c.in-Ok.ensures.chosen)
 
 pub returns-in-Bad-clause-steps : goal.returns-in-Bad-clause-steps
@@ -33,7 +35,8 @@ returns-in-Bad-clause-steps c = λ es w obeys asked.
 pub returns-in-Version-clause-steps : goal.returns-in-Version-clause-steps
 returns-in-Version-clause-steps c = λ es w obeys asked.
     let lists = rw c.in-Version.is at c.in_ok-next.ensures.ok in
-    (inl refl, inl (inl (lists (forget_task c.args.holder.now.who) c.args.holder.now.token [] es w asked.may asked.knows.1)))
+    let other = lists (forget_task c.args.holder.now.who) c.args.holder.now.token [] es w asked.may asked.knows.1 in
+    (inl refl, inl (inl (subst (λ versions. IsOfOtherVersion (upto versions) c.args.ask.now c.args.say.now) c.versions.ensures other)))
 
 pub returns-in-Senseless-clause-steps : goal.returns-in-Senseless-clause-steps
 returns-in-Senseless-clause-steps c = λ es w obeys asked.

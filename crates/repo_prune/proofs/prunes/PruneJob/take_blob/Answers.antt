@@ -2,6 +2,7 @@ use Rattle.std.proofs.Common.{◌∷◌, [], refl, subst, inl, inr}
 use Rattle.repo_wire.specs.declared.messages.Ask.{Ask}
 use Rattle.repo_session.specs.Traces.{Exchange, silent}
 use Rattle.repo_writing.specs.Writing.{items_of}
+use Rattle.repo_session.specs.Versions.{upto}
 use Rattle.repo_prune.specs.PruneStates.{KnowsStage, known_in}
 use Rattle.repo_prune.specs.declared.prunes.PruneJob.{PruneJob}
 use Rattle.repo_prune.specs.declared.prunes.Stage.{Stage}
@@ -56,7 +57,7 @@ returns-in-Misnamed-clause-steps c = λ moving pack offset len is who es w obeys
     let e : Exchange = silent ask c.args.say.now in
     let known = blob_known k m fact ask es c.in-Some.ensures (subst (λ s. KnowsStage k s ask es) c.in-Moving.is asked.knows) in
     let bad = c.in-Misnamed.ensures in
-    rw c.bad_blob.ensures.end (inl refl, inl (bad_range e es fact bad.0 known.asks bad.1 known.read (inr bad.2)))
+    rw c.bad_blob.ensures.end (inl refl, inl (bad_range (upto who.versions) e es fact bad.0 known.asks bad.1 known.read (inr bad.2)))
 
 pub returns-in-Uneven-clause-steps : goal.returns-in-Uneven-clause-steps
 returns-in-Uneven-clause-steps c = λ moving pack offset len is who es w obeys asked.
@@ -68,4 +69,4 @@ returns-in-Uneven-clause-steps c = λ moving pack offset len is who es w obeys a
     let e : Exchange = silent ask c.args.say.now in
     let known = blob_known k m fact ask es c.in-Some.ensures (subst (λ s. KnowsStage k s ask es) c.in-Moving.is asked.knows) in
     let bad = c.in-Uneven.ensures in
-    rw c.bad_blob-in-Uneven.ensures.end (inl refl, inl (bad_range e es fact bad.0 known.asks bad.1 known.read (inl bad.3)))
+    rw c.bad_blob-in-Uneven.ensures.end (inl refl, inl (bad_range (upto who.versions) e es fact bad.0 known.asks bad.1 known.read (inl bad.3)))

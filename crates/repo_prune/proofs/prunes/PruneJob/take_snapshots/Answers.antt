@@ -1,6 +1,8 @@
-use Rattle.std.proofs.Common.{◌∷◌, [], refl, subst, inl}
+use Rattle.std.proofs.Common.{◌∷◌, [], refl, sym, subst, inl}
 use Rattle.repo_name.specs.declared.kinds.Kind.{Kind}
+use Rattle.repo_session.specs.Ends.{IsOfOtherVersion}
 use Rattle.repo_session.specs.Traces.{Exchange, silent}
+use Rattle.repo_session.specs.Versions.{upto}
 use Rattle.repo_prune.specs.Pruning.{prune_task}
 use Rattle.repo_prune.specs.PruneStates.{IsListingOf}
 use Rattle.repo_prune.specs.declared.prunes.PruneJob.{PruneJob}
@@ -22,12 +24,12 @@ returns-in_err-next-clause-knows c = on_any c.from_residual.result (λ is es kno
     }))
 
 pub returns-in-Ask-clause-steps : goal.returns-in-Ask-clause-steps
-returns-in-Ask-clause-steps c = λ token is who es w obeys asked.
+returns-in-Ask-clause-steps c = λ token is who knows es w obeys asked.
     let old = c.args.self.now in
     let e : Exchange = silent c.args.ask.now c.args.say.now in
     let h = snapshots_known old c.args.ask.now es is asked.knows in
     let lists = rw c.in-Ask.is at c.in_ok-next.ensures.ok in
-    let due = lists (prune_task who) token [] es w asked.may h.snapshots in
+    let due = (lists (prune_task who) token [] es w asked.may h.snapshots).1 in
     let untouched = listing_untouched Kind.Snapshot e es is h.untouched in
     let next = c.in-Ask.next in
     let listing : IsListingOf Kind.Snapshot next = subst (λ k. IsListingOf k next) due.knows.of_kind (roll_listing c.read_on.new.self.roll next (e ∷ es) due.knows.rolls) in
@@ -48,12 +50,12 @@ returns-in-Ask-clause-steps c = λ token is who es w obeys asked.
     )
 
 pub returns-in-All-clause-steps : goal.returns-in-All-clause-steps
-returns-in-All-clause-steps c = λ token is who es w obeys asked.
+returns-in-All-clause-steps c = λ token is who knows es w obeys asked.
     let old = c.args.self.now in
     let e : Exchange = silent c.args.ask.now c.args.say.now in
     let h = snapshots_known old c.args.ask.now es is asked.knows in
     let lists = rw c.in-All.is at c.in_ok-next.ensures.ok in
-    let listing = lists (prune_task who) token [] es w asked.may h.snapshots in
+    let listing = (lists (prune_task who) token [] es w asked.may h.snapshots).1 in
     let untouched = listing_untouched Kind.Snapshot e es is h.untouched in
     let indexes = catalog_same Kind.Snapshot e es old.catalog _ refl is h.indexes in
     let due = c.page_ask.ensures.due (prune_task who) token (e ∷ es) w h.none_read indexes in
@@ -75,25 +77,26 @@ returns-in-All-clause-steps c = λ token is who es w obeys asked.
     )
 
 pub returns-in-Bad-clause-steps : goal.returns-in-Bad-clause-steps
-returns-in-Bad-clause-steps c = λ token is who es w obeys asked.
+returns-in-Bad-clause-steps c = λ token is who knows es w obeys asked.
     let h = snapshots_known c.args.self.now c.args.ask.now es is asked.knows in
     let lists = rw c.in-Bad.is at c.in_ok-next.ensures.ok in
     rw c.end.ensures.end (inl refl, inl (inl (lists (prune_task who) token [] es w asked.may h.snapshots)))
 
 pub returns-in-Version-clause-steps : goal.returns-in-Version-clause-steps
-returns-in-Version-clause-steps c = λ token is who es w obeys asked.
+returns-in-Version-clause-steps c = λ token is who knows es w obeys asked.
     let h = snapshots_known c.args.self.now c.args.ask.now es is asked.knows in
     let lists = rw c.in-Version.is at c.in_ok-next.ensures.ok in
-    rw c.end-in-Version.ensures.end (inl refl, inl (inl (lists (prune_task who) token [] es w asked.may h.snapshots)))
+    let other = subst (λ versions. IsOfOtherVersion (upto versions) c.args.ask.now c.args.say.now) (sym knows) (lists (prune_task who) token [] es w asked.may h.snapshots) in
+    rw c.end-in-Version.ensures.end (inl refl, inl (inl other))
 
 pub returns-in-Senseless-clause-steps : goal.returns-in-Senseless-clause-steps
-returns-in-Senseless-clause-steps c = λ token is who es w obeys asked.
+returns-in-Senseless-clause-steps c = λ token is who knows es w obeys asked.
     let h = snapshots_known c.args.self.now c.args.ask.now es is asked.knows in
     let lists = rw c.in-Senseless.is at c.in_ok-next.ensures.ok in
     rw c.end-in-Senseless.ensures.end (inl refl, inl (inl (lists (prune_task who) token [] es w asked.may h.snapshots)))
 
 pub returns-in-Unwelcome-clause-steps : goal.returns-in-Unwelcome-clause-steps
-returns-in-Unwelcome-clause-steps c = λ token is who es w obeys asked.
+returns-in-Unwelcome-clause-steps c = λ token is who knows es w obeys asked.
     let h = snapshots_known c.args.self.now c.args.ask.now es is asked.knows in
     let lists = rw c.in-Unwelcome.is at c.in_ok-next.ensures.ok in
     lists (prune_task who) token [] es w asked.may h.snapshots

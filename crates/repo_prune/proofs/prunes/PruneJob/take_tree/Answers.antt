@@ -5,6 +5,7 @@ use Rattle.repo_session.specs.Traces.{Exchange, silent}
 use Rattle.repo_session.specs.declared.jobs.Step.{Step}
 use Rattle.repo_session.specs.Jobs.{MayAsk}
 use Rattle.repo_reach.specs.declared.roots.Root.{Root}
+use Rattle.repo_session.specs.Versions.{upto}
 use Rattle.repo_prune.specs.Pruning.{prune_rule}
 use Rattle.repo_prune.specs.PruneStates.{KnowsStage, KnowsWalking, known_in}
 use Rattle.repo_prune.specs.declared.prunes.PruneJob.{PruneJob}
@@ -77,4 +78,4 @@ returns-in-Ended-clause-steps c = λ trees fact pack offset len is who es w obey
     let f = c.in-Walking.fact in
     let known = subst (λ s. KnowsStage k s ask es) c.in-Walking.is asked.knows in
     let takes = rw c.in-Ended.is at c.in_ok-next.ensures.takes in
-    rw c.end.ensures.end (inl refl, tree_ended k known.texts t c.take_tree.new.trees f e es c.in-Ended.why known.over known.awaits known.asks c.take_tree.ensures.roots (takes known.texts known.awaits))
+    rw c.end.ensures.end (inl refl, tree_ended (upto who.versions) k known.texts t c.take_tree.new.trees f e es c.in-Ended.why known.over known.awaits known.asks c.take_tree.ensures.roots (takes known.texts known.awaits))
