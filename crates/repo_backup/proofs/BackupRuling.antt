@@ -1,5 +1,5 @@
 -- What a backup of entries may put, and how it may end, from what it knows of its trace.
-use Rattle.std.proofs.Common.{◌≡◌, ◌++◌, [], ℕ, true, List, sym, ap, subst, inl, inr, ◌⊎◌, ◌∙◌, Contains}
+use Rattle.std.proofs.Common.{◌≡◌, ◌++◌, [], ℕ, true, List, None, refl, sym, ap, subst, inl, inr, ◌⊎◌, ◌∙◌, Contains}
 use Rattle.repo_index.specs.declared.facts.Fact.{Fact}
 use Rattle.repo_pack.specs.PackLayout.{Item, IsTruePack}
 use Rattle.repo_session.specs.Feeds.{Fed}
@@ -10,7 +10,7 @@ use Rattle.repo_writing.proofs.BlobLemmas.{has_either}
 use Rattle.repo_writing.proofs.PutLemmas.{each_contained}
 use Rattle.repo_writing.specs.Writing.{Put, items_of}
 use Rattle.repo_backup.specs.Filling.{IsFullPack}
-use Rattle.repo_backup.specs.Folders.{Folder, blobs_of}
+use Rattle.repo_backup.specs.Folders.{Folder, IsFolderOf, blobs_of}
 use Rattle.repo_backup.specs.Items.{Feeding, place_of, spelled_by, AreTaken}
 use Rattle.repo_backup.specs.Packings.{IsCovered}
 use Rattle.repo_backup.specs.PieceRules.{IsStandingOf}
@@ -25,15 +25,20 @@ use Rattle.repo_backup.proofs.PieceRuling.{made_whole, sealed_made, sealed_once,
 use Rattle.repo_backup.proofs.StepFeeding.{fed_after}
 use Rattle.repo_backup.proofs.Written.{known_given, put_packed}
 
+-- by the same config it is made of the same entries
+pub made_so : {es : Trace} {folder : Folder} {spelled entries : List Entry} → spelled ≡ entries → (m : IsMade spelled es folder) → (k : IsMade entries es folder) × (k.config ≡ m.config)
+made_so {folder = folder} same m = (record { text = m.text; config = m.config; read = m.read; reads = m.reads; known = m.known; cut = subst (λ en. IsFolderOf m.config.params en folder) same m.cut }, refl)
+
 -- what was made of some first items is made of the entries
 pub made_through : (entries : List Entry) (left : List Fed) (items : Feeding) (es : Trace) (config : Config) (st : Standing) → LeadThrough entries left items → IsStandingOf items es config st
-    → (folder : Folder) × IsMade entries es folder × ((x : Item) → Contains (made_at st) x → Contains (blobs_of folder) x)
+    → (folder : Folder) × (m : IsMade entries es folder) × (m.config ≡ config) × ((x : Item) → Contains (made_at config.version st) x → Contains (blobs_of config.version folder) x)
 made_through entries left items es config st leads at =
     let all = fed_on left items in
     let f = fed_after left items in
-    let k = made_later config.params at.has.reads.allowed.0 f.0 items st (subst AreTaken f.1 leads.taken) at.lead in
+    let k = made_later config.params at.has.reads.allowed.0 config.version f.0 items st (subst AreTaken f.1 leads.taken) at.lead in
     let m = made_whole all es config k.0 (record { has = at.has; lead = subst (λ l. LeadTo config.params l k.0) (sym f.1) k.1 }) leads.taken leads.ends in
-    (k.0.done, subst (λ en. IsMade en es k.0.done) leads.spells m.0, λ x c. subst (λ l. Contains l x) m.1 (k.2 x c))
+    let t = made_so leads.spells m.0 in
+    (k.0.done, t.0, t.1 ∙ m.1, λ x c. subst (λ l. Contains l x) m.2 (k.2 x c))
 
 -- items that ended spell them
 pub ended_spell : (entries : List Entry) (left : List Fed) (items : Feeding) → LeadThrough entries left items → (place_of items).over ≡ true → spelled_by items ≡ entries
@@ -45,15 +50,17 @@ ended_spell entries left items leads over =
 
 module _ (entries : List Entry) (left : List Fed) (facts : List Fact) (b : PieceBacking) (puts : List Put) (sealed : List Item) (items : Feeding) (es : Trace) (leads : LeadThrough entries left items) (h : StandsAt facts b puts [] sealed items es) where
   -- then nothing more waits
-  pub are_last : (place_of items).over ≡ true → AreLast entries es sealed
-  are_last over =
+  pub are_last : b.work.parts ≡ None → (place_of items).over ≡ true → AreLast entries es sealed
+  are_last unlaid over =
+      let V = h.config.version in
       let m = made_whole items es h.config h.st h.at h.taken over in
-      let some = some_here b.work.walk.root (over_is facts b puts sealed items es h ∙ over) in
-      let covered : Each (λ item. IsCovered facts (items_of puts ++ sealed) item) (blobs_of h.st.done) = subst (λ l. Each (λ item. IsCovered facts (items_of puts ++ sealed) item) l) m.1 (whole_covered facts b puts sealed items es h some) in
+      let t = made_so (ended_spell entries left items leads over) m.0 in
+      let some = some_here b.work.walk.root (over_is facts b puts sealed items es h unlaid ∙ over) in
+      let covered : Each (λ item. IsCovered facts (items_of puts ++ sealed) item) (blobs_of V h.st.done) = subst (λ l. Each (λ item. IsCovered facts (items_of puts ++ sealed) item) l) m.2 (whole_covered facts b puts sealed items es h unlaid some) in
       record {
         folder = h.st.done;
-        cut = subst (λ en. IsMade en es h.st.done) (ended_spell entries left items leads over) m.0;
-        all = λ item among. elim (each_contained (λ i. IsCovered facts (items_of puts ++ sealed) i) (blobs_of h.st.done) item covered among) [
+        cut = t.0;
+        all = λ item among. elim (each_contained (λ i. IsCovered facts (items_of puts ++ sealed) i) (blobs_of V h.st.done) item covered (subst (λ (c : Config). Contains (blobs_of c.version h.st.done) item) (t.1 ∙ m.1) among)) [
           | inl fact ↦ inl (known_given facts es item.kind item.name h.written.gives fact)
           | inr has ↦ elim (has_either (items_of puts) sealed item.kind item.name has) [
             | inl sent ↦ inr (inl (put_packed facts (waits b) b.counts puts es item.kind item.name h.written sent))
@@ -63,7 +70,7 @@ module _ (entries : List Entry) (left : List Fed) (facts : List Fact) (b : Piece
       }
 
   -- the sealed pack may be put
-  pub backup_pack : (x : List ℕ) → IsTruePack x sealed → IsFullPack es sealed ⊎ ((place_of items).over ≡ true) → PackRule entries es x
+  pub backup_pack : (x : List ℕ) → IsTruePack x sealed → IsFullPack es sealed ⊎ (((place_of items).over ≡ true) × (b.work.parts ≡ None)) → PackRule entries es x
   backup_pack x pack full =
       let t = made_through entries left items es h.config h.st leads h.at in
       record {
@@ -73,9 +80,9 @@ module _ (entries : List Entry) (left : List Fed) (facts : List Fact) (b : Piece
         pack = pack;
         folder = t.0;
         cut = t.1;
-        made = λ item among. t.2 item (sealed_made facts b puts sealed items es h item among);
+        made = λ item among. subst (λ (c : Config). Contains (blobs_of c.version t.0) item) (sym t.2) (t.3 item (sealed_made facts b puts sealed items es h item among));
         once = sealed_once facts b puts sealed items es h;
         unread = sealed_unread facts b puts sealed items es h;
         unput = sealed_unput facts b puts sealed items es h;
-        full = elim full [ inl due ↦ inl due | inr over ↦ inr (are_last over) ];
+        full = elim full [ inl due ↦ inl due | inr over ↦ inr (are_last over.1 over.0) ];
       }

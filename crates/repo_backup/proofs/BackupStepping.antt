@@ -1,10 +1,10 @@
 -- What is known from one item of a backup's steps to the next, and from one request to the next.
-use Rattle.std.proofs.Common.{arith, ◌≡◌, ◌≢◌, ◌<◌, ◌≤◌, ◌-◌, ◌↔◌, ◌++◌, ◌∷◌, [], ℕ, Bool, IsTrue, true, false, cond, List, length, drop, Some, None, is_some, slice_get, refl, sym, ap, subst, inl, inr, ◌⊎◌, ◌∙◌, Vec, Global}
+use Rattle.std.proofs.Common.{arith, ◌≡◌, ◌≢◌, ◌<◌, ◌≤◌, ◌-◌, ◌↔◌, ◌++◌, ◌∷◌, [], ℕ, Bool, IsTrue, true, false, cond, List, length, drop, Some, None, is_some, slice_get, refl, sym, ap, subst, inl, inr, ◌⊎◌, ◌∙◌, Vec, Global, Contains}
 use Rattle.std.proofs.lemmas.Option.{same_Some}
 use Rattle.repo_index.specs.IndexText.{facts_in}
 use Rattle.repo_index.specs.declared.facts.Fact.{Fact}
 use Rattle.repo_index.specs.declared.facts.PackFacts.{PackFacts}
-use Rattle.repo_name.specs.Limits.{facts_limit, pack_limit}
+use Rattle.repo_name.specs.Limits.{blob_limit, facts_limit, pack_limit}
 use Rattle.repo_name.specs.Naming as naming
 use Rattle.repo_name.specs.declared.kinds.Kind.{Kind}
 use Rattle.repo_name.specs.declared.names.Name.{Name}
@@ -25,10 +25,17 @@ use Rattle.repo_backup.specs.BackupStates.{backup_task, backup_rule, IsUnderWay,
 use Rattle.repo_backup.specs.Backups.{handed_to, left_in, Knows, WalksOn, BackupSends}
 use Rattle.repo_backup.specs.Items.{Feeding, Place, place_of, ItemFault, fed_part, fed_of, size_of}
 use Rattle.repo_backup.specs.Packings.{AimsOn}
-use Rattle.repo_backup.specs.PieceStates.{waits, HasBegun, PutsPack, PutsIndex, IsDoneAt, PutsSnapshotOf}
-use Rattle.repo_backup.specs.Pieces.{IsReady, Goes, EndsTooLarge, Refuses, Stays, WorkTakes, LeavesPacked, sealing_at}
+use Rattle.repo_backup.specs.PieceStates.{waits, HasBegun, PutsPack, PutsIndex, IsIdleAt, PutsSnapshotOf, LaysSo, large_end}
+use Rattle.repo_session.specs.declared.outcomes.Outcome.{Outcome}
+use Rattle.repo_backup.specs.Pieces.{IsReady, PieceStands, Goes, EndsTooLarge, Refuses, Stays, WorkTakes, LeavesPacked, sealing_at}
 use Rattle.repo_backup.specs.Plans.{walked, left_fed, next_fed, behind, before, steps_left, LeadThrough}
-use Rattle.repo_backup.specs.Rules.{AreLast, PackRule, SnapshotRule}
+use Rattle.repo_backup.specs.Rules.{AreLast, IsTooLarge, PackRule, SnapshotRule, BackupConcludes}
+use Rattle.repo_backup.specs.Folders.{blobs_of}
+use Rattle.repo_backup.specs.PieceRules.{IsStandingOf}
+use Rattle.repo_backup.specs.Standings.{Standing, made_at}
+use Rattle.repo_name.specs.declared.kinds.BlobKind.TheVariants.{Tree}
+use Rattle.repo_pack.specs.PackLayout.{item_of}
+use Rattle.repo_tree.specs.declared.configs.Config.{Config}
 use Rattle.repo_backup.specs.Filling.{IsFullIndex}
 use Rattle.repo_backup.specs.declared.items.FeedError.{FeedError}
 use Rattle.repo_backup.specs.declared.items.Item.{Item}
@@ -42,18 +49,26 @@ use Rattle.repo_backup.specs.declared.walks.Went.{Went}
 use Rattle.repo_backup.proofs.BackupRuling.{made_through, ended_spell, are_last}
 use Rattle.repo_backup.proofs.Closing.{none_there}
 use Rattle.repo_backup.proofs.Forbidding.{faults_forbid}
-use Rattle.repo_backup.proofs.PieceFeeding.{large_at, stands_further, stands_unsealed, sealed_full, stands_still}
+use Rattle.repo_backup.proofs.PieceFeeding.{large_at, stands_plain, stands_further, stands_unsealed, sealed_full, stands_still}
+use Rattle.repo_backup.proofs.Piecing.{plain}
 use Rattle.repo_backup.proofs.PieceRuling.{over_is, fed_snapshot}
-use Rattle.repo_backup.proofs.PieceStepping.{none_being_put, index_out, none_waits}
+use Rattle.repo_backup.proofs.PieceStepping.{none_being_put, index_out, none_waits, large_ends}
 use Rattle.repo_backup.proofs.StepFeeding.{lead_further, item_may, going_open, next_no_abandon}
 
 -- ---- one item
+
+-- of what some first items made, the text of a tree is too large
+large_so : (entries : List Entry) (left : List Fed) (items : Feeding) (es : Trace) (config : Config) (st : Standing) → LeadThrough entries left items → IsStandingOf items es config st → (text : List ℕ) → Contains (made_at config.version st) (item_of Tree text)
+    → blob_limit < length text → IsTooLarge config.version entries es
+large_so entries left items es config st leads at text made large =
+    let t = made_through entries left items es config st leads at in
+    record { folder = t.0; cut = t.1; of_version = ap (λ (c : Config). c.version) t.2; text = text; made = subst (λ (c : Config). Contains (blobs_of c.version t.0) (item_of Tree text)) (sym t.2) (t.3 (item_of Tree text) made); large = large }
 
 module _ (facts : List Fact) (steps : List WalkStep) (p : Position) (item : Item) (old new : PieceWork) (going : p.over ≡ false) (is : fed_of item ≡ next_fed p.within (slice_get steps p.at)) where
   no_abandon : item ≡ Item.Abandon → ⊥
   no_abandon = next_no_abandon p.within (slice_get steps p.at) item is
 
-  module _ (ready : IsReady old) (aims : AimsOn old.packing new.packing) (params : new.walk.params ≡ old.walk.params) where
+  module _ (ready : IsReady old) (aims : AimsOn old.packing new.packing) (params : new.walk.params ≡ old.walk.params) (version : new.walk.version ≡ old.walk.version) where
     -- it was taken, and no pack is sealed
     pub went_on : (n : ℕ) → WorkTakes facts item old (Took.All n None) new → LeavesPacked (sealing_at item) (Took.All n None) new
         → GoesSo facts old (left_fed p steps) Went.On new (left_fed (before (size_of item - n) (behind p (fed_of item))) steps)
@@ -61,7 +76,7 @@ module _ (facts : List Fact) (steps : List WalkStep) (p : Position) (item : Item
       items = fed_part n item ∷ h.items;
       leads = lead_further entries steps p going n item h.items takes.0.0 is h.leads;
       at = stands_unsealed facts b (record b { work = new }) puts next h.items es h.at (subst IsReady (sym work) ready) refl refl refl n item no_abandon (subst (λ w. Goes facts (sealing_at item) (fed_part n item) w new) (sym work) takes.2)
-          (params ∙ ap (λ w. w.walk.params) (sym work)) (subst (λ (w : PieceWork). AimsOn w.packing new.packing) (sym work) aims) None left.1 left.0;
+          (params ∙ ap (λ w. w.walk.params) (sym work)) (version ∙ ap (λ w. w.walk.version) (sym work)) (subst (λ (w : PieceWork). AimsOn w.packing new.packing) (sym work) aims) None left.1 left.0;
       unsealed = left.0;
     }
 
@@ -72,15 +87,16 @@ module _ (facts : List Fact) (steps : List WalkStep) (p : Position) (item : Item
         let c : PieceBacking = record b { work = new } in
         let goes = subst (λ w. Goes facts (sealing_at item) (fed_part n item) w new) (sym work) takes.2 in
         let by = params ∙ ap (λ w. w.walk.params) (sym work) in
+        let of_version = version ∙ ap (λ w. w.walk.version) (sym work) in
         let to = subst (λ (w : PieceWork). AimsOn w.packing new.packing) (sym work) aims in
         let able = subst IsReady (sym work) ready in
         record {
           items = fed_part n item ∷ h.items;
           leads = lead_further entries steps p going n item h.items takes.0.0 is h.leads;
-          sealed = (goes h.at.st (items_of (puts ++ next)) h.at.stands).2;
-          at = stands_further facts b c puts next h.items es h.at able refl refl refl n item no_abandon goes by to (Some listed) left.1;
+          sealed = (goes h.at.st (items_of (puts ++ next)) (stands_plain facts b c puts next h.items es h.at able)).2;
+          at = stands_further facts b c puts next h.items es h.at able refl refl refl n item no_abandon goes by of_version to (Some listed) left.1;
           lists = left.0;
-          full = sealed_full facts b c puts next h.items es h.at able refl refl refl n item no_abandon goes by to (Some listed) left.1 listed left.0;
+          full = sealed_full facts b c puts next h.items es h.at able refl refl refl n item no_abandon goes by of_version to (Some listed) left.1 listed left.0;
         }
 
     -- there was no memory for it
@@ -88,33 +104,48 @@ module _ (facts : List Fact) (steps : List WalkStep) (p : Position) (item : Item
     went_nowhere stays able entries b puts next es work h = record {
       items = h.items;
       leads = h.leads;
-      at = stands_still facts b (record b { work = new }) puts next h.items es h.at refl refl refl (subst (λ w. Stays facts w new) (sym work) stays) able (params ∙ ap (λ w. w.walk.params) (sym work))
+      at = stands_still facts b (record b { work = new }) puts next h.items es h.at refl refl refl (subst (λ w. Stays facts w new) (sym work) stays) (subst IsReady (sym work) ready) able (params ∙ ap (λ w. w.walk.params) (sym work)) (version ∙ ap (λ w. w.walk.version) (sym work))
           (subst (λ (w : PieceWork). AimsOn w.packing new.packing) (sym work) aims);
       unsealed = able.unsealed;
     }
 
   module _ (ready : IsReady old) (left : List Fed) where
-    -- a directory's tree text is too large
-    pub went_large : WorkTakes facts item old Took.TooLarge new → GoesSo facts old (left_fed p steps) Went.TooLarge new left
-    went_large takes entries b puts next es work h =
+    -- the text of a tree is too large
+    pub went_large : new.walk.version ≡ old.walk.version → WorkTakes facts item old Took.TooLarge new → GoesSo facts old (left_fed p steps) Went.TooLarge new left
+    went_large version takes entries b puts next es work h =
         let fed = fed_part 0 item in
         let k = large_at facts b b puts next h.items es h.at (subst IsReady (sym work) ready) fed (subst (λ w. EndsTooLarge facts fed w) (sym work) takes.1) in
         let leads = lead_further entries steps p going 0 item h.items (omega arith) is h.leads in
-        let t = made_through entries (left_fed (before (size_of item - 0) (behind p (fed_of item))) steps) (fed ∷ h.items) es h.at.config k.1.0 leads k.1.2 in
-        record { folder = t.0; cut = t.1; text = k.1.1; made = t.2 _ k.1.3; large = k.1.4 }
+        let is_version : new.walk.version ≡ h.at.config.version = version ∙ ap (λ w. w.walk.version) (sym work) ∙ h.at.goes_by.version in
+        subst (λ (v : ℕ). IsTooLarge v entries es) (sym is_version) (large_so entries (left_fed (before (size_of item - 0) (behind p (fed_of item))) steps) (fed ∷ h.items) es h.at.config k.1.0 leads k.1.2 k.1.1 k.1.3 k.1.4)
 
     -- an item of the steps has no fault
     pub went_wrong : (e : FeedError) → e ≢ FeedError.Memory → Refuses facts (fed_of item) old e → GoesSo facts old (left_fed p steps) Went.Nothing new left
     went_wrong e other refuses entries b puts next es work h =
-        let fault = subst (λ q. ItemFault q (fed_of item) e) h.at.at.lead.place (subst (λ w. Refuses facts (fed_of item) w e) (sym work) refuses h.at.st (items_of (puts ++ next)) h.at.stands) in
+        let fault = subst (λ q. ItemFault q (fed_of item) e) h.at.at.lead.place (refuses h.at.st (items_of (puts ++ next)) (subst (λ w. PieceStands w facts h.at.st (items_of (puts ++ next)) []) work (stands_plain facts b b puts next h.items es h.at (subst IsReady (sym work) ready)))) in
         faults_forbid (place_of h.items) (fed_of item) e other fault (item_may entries steps p going item h.items is h.leads)
 
--- where the work is under way, and not all was fed, it may be fed
-pub way_ready : (facts : List Fact) (steps : List WalkStep) (p : Position) (old : PieceWork) (left : List Fed) → p.over ≡ false → ¬ IsReady old → GoesSo facts old (left_fed p steps) Went.Nothing old left
-way_ready facts steps p old left going not entries b puts next es work h =
-    let over : is_some b.work.walk.root ≡ false = h.at.stands.at.over ∙ ap (λ (q : Place). q.over) h.at.at.lead.place ∙ going_open entries steps p going h.items h.leads in
-    let ready : IsReady b.work = record { unsealed = h.unsealed; opened = h.at.opened; unended = none_there b.work.walk.root over } in
+-- where the work is under way, no part is left, and not all was fed, it may be fed
+pub way_ready : (facts : List Fact) (steps : List WalkStep) (p : Position) (old : PieceWork) (left : List Fed) → p.over ≡ false → old.parts ≡ None → ¬ IsReady old → GoesSo facts old (left_fed p steps) Went.Nothing old left
+way_ready facts steps p old left going unlaid not entries b puts next es work h =
+    let none : b.work.parts ≡ None = ap (λ w. w.parts) work ∙ unlaid in
+    let stands = plain b.work facts h.at.st (items_of (puts ++ next)) [] none h.at.stands in
+    let over : is_some b.work.walk.root ≡ false = stands.at.over ∙ ap (λ (q : Place). q.over) h.at.at.lead.place ∙ going_open entries steps p going h.items h.leads in
+    let ready : IsReady b.work = record { unsealed = h.unsealed; unlaid = none; opened = h.at.opened; unended = none_there b.work.walk.root over } in
     absurd (not (subst IsReady work ready))
+
+-- where parts were made, it went so
+pub goes_laid : (facts : List Fact) (old new : PieceWork) (left : List Fed) (went : Went) → LaysSo facts old went new → GoesSo facts old left went new left
+goes_laid facts old new left Went.On lays entries b puts next es work h =
+    let k = lays b puts next h.items es work h.at (ap (λ w. w.packing.packer.sealed) (sym work) ∙ h.unsealed) in
+    record { items = h.items; leads = h.leads; at = k.0; unsealed = k.1 }
+goes_laid facts old new left (Went.Pack listed) lays entries b puts next es work h =
+    let k = lays b puts next h.items es work h.at (ap (λ w. w.packing.packer.sealed) (sym work) ∙ h.unsealed) in
+    record { items = h.items; leads = h.leads; sealed = k.0; at = k.1; lists = k.2; full = k.3 }
+goes_laid facts old new left Went.TooLarge lays entries b puts next es work h =
+    let k = lays b puts next h.items es work h.at (ap (λ w. w.packing.packer.sealed) (sym work) ∙ h.unsealed) in
+    subst (λ (v : ℕ). IsTooLarge v entries es) (sym k.version_is) (large_so entries left h.items es k.config k.st h.leads k.at k.text k.made k.large)
+goes_laid facts old new left Went.Nothing lays entries b puts next es work h = lays b puts next h.items es work h.at (ap (λ w. w.packing.packer.sealed) (sym work) ∙ h.unsealed)
 
 -- ---- one after another
 
@@ -125,7 +156,7 @@ pub goes_same : (facts : List Fact) (w : PieceWork) (l : List Fed) → GoesSo fa
 goes_same facts w l entries b puts next es work h = subst (λ x. IsUnderWay entries facts (record b { work = x }) l puts next es) work h
 
 pub way_then : (a b c : PieceWork) → IsSameWay a b → IsSameWay b c → IsSameWay a c
-way_then a b c p q = record { params = q.params ∙ p.params; target = q.target ∙ p.target }
+way_then a b c p q = record { params = q.params ∙ p.params; version = q.version ∙ p.version; target = q.target ∙ p.target }
 
 pub all_fed : (p : Position) (steps : List WalkStep) → p.over ≡ true → left_fed p steps ≡ []
 all_fed p steps over = ap (λ b. cond b [] (steps_left p.within (drop p.at steps))) over
@@ -155,26 +186,26 @@ module _ (j : BackupJob) (holding : Holding) (es : Trace) (working : IsWorking (
   pub pack_sent : (n : Name) (x : List ℕ) → naming.name x ≡ n → length x ≤ pack_limit → PackRule (handed_to j) es x → PutsPack j.catalog.lookup b n x items es → Does (Step.Ask (Ask.Put holding.token Kind.Pack n x))
   pack_sent n x named small rule puts = record { work = tt; may = (working, named, small); allowed = rule; knows = inr (b, is, (items, leads, puts)) }
 
-  module _ (h : IsDoneAt j.catalog.lookup b items es) where
-    last_now : (place_of items).over ≡ true → AreLast (handed_to j) es []
-    last_now over = are_last (handed_to j) (left_in j) j.catalog.lookup b h.puts [] items es leads h.at over
+  module _ (h : IsIdleAt j.catalog.lookup b items es) where
+    last_now : b.work.parts ≡ None → (place_of items).over ≡ true → AreLast (handed_to j) es []
+    last_now unlaid over = are_last (handed_to j) (left_in j) j.catalog.lookup b h.puts [] items es leads h.at unlaid over
 
     -- an index is put
-    pub index_sent : (token : Token) (step : Step) → token ≡ holding.token → b.waiting ≢ [] → (facts_limit ≤ length (facts_in b.waiting)) ⊎ ((place_of items).over ≡ true) → PutsIndexOf token b.waiting step → Does step
+    pub index_sent : (token : Token) (step : Step) → token ≡ holding.token → b.waiting ≢ [] → (facts_limit ≤ length (facts_in b.waiting)) ⊎ (((place_of items).over ≡ true) × (b.work.parts ≡ None)) → PutsIndexOf token b.waiting step → Does step
     index_sent token step own some why puts =
         let k = index_out j.catalog.lookup b token step items es h some puts in
         let x = k.0 in
-        let full : IsFullIndex x ⊎ AreLast (handed_to j) es [] = elim why [ inl many ↦ inl (b.waiting, k.1, many) | inr over ↦ inr (last_now over) ] in
+        let full : IsFullIndex x ⊎ AreLast (handed_to j) es [] = elim why [ inl many ↦ inl (b.waiting, k.1, many) | inr over ↦ inr (last_now over.1 over.0) ] in
         let T : Token → Type 0 = λ t. Does (Step.Ask (Ask.Put t Kind.Index (naming.name x) x)) in
         let may : T holding.token = record { work = tt; may = (working, refl, k.2); allowed = (k.3, full); knows = inr (b, is, (items, leads, k.4)) } in
         subst Does (sym k.5) (subst T (sym own) may)
 
     -- the snapshot is put
-    pub snapshot_sent : (root : Name) (step : Step) → b.work.walk.root ≡ Some root → b.waiting ≡ [] → PutsSnapshotOf holding root step → Does step
-    snapshot_sent root step root_is none p =
+    pub snapshot_sent : (root : Name) (step : Step) → b.work.parts ≡ None → b.work.walk.root ≡ Some root → b.waiting ≡ [] → PutsSnapshotOf holding root b.work.walk.version step → Does step
+    snapshot_sent root step unlaid root_is none p =
         let all : waits b ≡ [] = none_being_put b h.listed ∙ none in
-        let over : (place_of items).over ≡ true = sym (over_is j.catalog.lookup b h.puts [] items es h.at) ∙ ap is_some root_is in
-        let rule = subst (λ en. SnapshotRule en es holding.token p.text) (ended_spell (handed_to j) (left_in j) items leads over) (fed_snapshot j.catalog.lookup b h.puts items es h.at root holding step p root_is all working) in
+        let over : (place_of items).over ≡ true = sym (over_is j.catalog.lookup b h.puts [] items es h.at unlaid) ∙ ap is_some root_is in
+        let rule = subst (λ en. SnapshotRule en es holding.token p.text) (ended_spell (handed_to j) (left_in j) items leads over) (fed_snapshot j.catalog.lookup b h.puts items es h.at unlaid root holding step p root_is all working) in
         let may : Does (Step.Ask (Ask.Put holding.token Kind.Snapshot (naming.name p.text) p.text)) = record {
           work = tt;
           may = (working, refl, p.reads.json.short);
@@ -182,6 +213,14 @@ module _ (j : BackupJob) (holding : Holding) (es : Trace) (working : IsWorking (
           knows = inr (b, is, record { puts = h.puts; written = subst (λ ws. HasWritten j.catalog.lookup ws b.counts h.puts [] es) all h.at.written });
         } in
         subst Does (sym p.puts) may
+
+-- where the text of a tree is too large, it ends so
+pub backup_large : (entries : List Entry) (es : Trace) (of_version version : ℕ) → version ≡ of_version → IsTooLarge of_version entries es → BackupConcludes entries es (Outcome.Ended (large_end version))
+backup_large entries es of_version version is h =
+    large_ends (BackupConcludes entries es) h.cut.config es version (record { text = h.cut.text; read = h.cut.read; reads = h.cut.reads; known = h.cut.known }) (is ∙ sym h.of_version) (λ v. too_large v) (λ v. too_large v)
+  where
+    too_large : {n : ℕ} → h.cut.config.version ≡ n → IsTooLarge n entries es
+    too_large v = record { folder = h.folder; cut = h.cut; of_version = v; text = h.text; made = h.made; large = h.large }
 
 -- where all was fed, the items ended
 pub all_ended : (entries : List Entry) (left : List Fed) (items : Feeding) → left ≡ [] → LeadThrough entries left items → (place_of items).over ≡ true
@@ -192,6 +231,7 @@ all_ended entries left items none leads = (subst (λ l. LeadThrough entries l it
 pub anew_after : (b c d : PieceBacking) → IsSameWay b.work c.work → IsBegunAnew c d → IsBegunAnew b d
 anew_after b c d way anew = record {
   params = anew.params ∙ way.params;
+  version = anew.version ∙ way.version;
   aim = anew.aim ∙ way.target;
   aims = anew.aims ∙ ap (λ t. t.bytes) way.target;
   stands = anew.stands;
@@ -206,7 +246,7 @@ anew_begun b d es anew h = record {
   config = h.config;
   has = h.has;
   none_put = h.none_put;
-  goes_by = record { params = anew.params ∙ h.goes_by.params; aim = ap (λ t. t.bytes) anew.aim ∙ h.goes_by.aim; aims = anew.aims ∙ h.goes_by.aim };
+  goes_by = record { params = anew.params ∙ h.goes_by.params; version = anew.version ∙ h.goes_by.version; aim = ap (λ t. t.bytes) anew.aim ∙ h.goes_by.aim; aims = anew.aims ∙ h.goes_by.aim };
   stands = anew.stands;
   ready = anew.ready;
   waiting = anew.waiting;
@@ -215,16 +255,16 @@ anew_begun b d es anew h = record {
 }
 
 -- where the work was under way, and went so, what is due next is sent
-pub sent_so : (old mid new : BackupJob) (holding : Holding) (went : Went) (step : Step) → mid.steps ≡ old.steps → mid.catalog ≡ old.catalog → WalksOn went old mid → ((b : PieceBacking) → old.backing ≡ Some b → went ≡ Went.On → left_in mid ≡ [])
+pub sent_so : (old mid new : BackupJob) (holding : Holding) (went : Went) (step : Step) → mid.steps ≡ old.steps → mid.catalog ≡ old.catalog → WalksOn went old mid → ((b : PieceBacking) → old.backing ≡ Some b → went ≡ Went.On → left_in mid ≡ []) → ((b : PieceBacking) → mid.backing ≡ Some b → went ≡ Went.On → b.work.parts ≡ None)
     → BackupSends mid holding went step new → (b : PieceBacking) (es : Trace) → IsWorking (backup_task holding.who) holding.token es → old.backing ≡ Some b → IsGoingOn (handed_to old) old.catalog.lookup b (left_in old) es
     → length (facts_in b.waiting) < facts_limit → MayGoOn (backup_rule (handed_to old)) holding.who (Knows new) (λ fs. ⊥) es step
-sent_so old mid new holding went step steps catalog walks all sends b es working is due room =
+sent_so old mid new holding went step steps catalog walks all laid sends b es working is due room =
     let k = walks b is in
     let c : PieceBacking = record b { work = k.0.work } in
     let handed : handed_to mid ≡ handed_to old = ap (λ (s : Vec WalkStep Global). walked [] s.items) steps in
     let facts : mid.catalog.lookup ≡ old.catalog.lookup = ap (λ (x : Catalog). x.lookup) catalog in
     let goes = k.4 (handed_to old) b due.puts [] es refl due.goes in
-    let next : IsDueNext (handed_to old) old.catalog.lookup went c (left_in mid) es = record { puts = due.puts; goes = goes; none = due.none; all = all b is; room = room } in
+    let next : IsDueNext (handed_to old) old.catalog.lookup went c (left_in mid) es = record { puts = due.puts; goes = goes; none = due.none; all = all b is; unlaid = laid k.0 k.1; room = room } in
     let D : List Entry → List Fact → PieceBacking → Type 0 = λ en fs d. IsDueNext en fs went d (left_in mid) es in
     let there : D (handed_to mid) mid.catalog.lookup k.0 = subst (λ en. D en mid.catalog.lookup k.0) (sym handed) (subst (λ fs. D (handed_to old) fs k.0) (sym facts) (subst (λ d. D (handed_to old) old.catalog.lookup d) (sym k.2) next)) in
     subst (λ en. MayGoOn (backup_rule en) holding.who (Knows new) (λ fs. ⊥) es step) handed (sends k.0 es working k.1 there)

@@ -28,16 +28,16 @@ front_stays m xs ys r front size =
 
 module _ (known : List Fact) (piece : List ℕ) (f g : PieceFile) (p q : Packing) (n : ℕ) (listed : Option PackFacts) where
   -- the work goes on over what was taken
-  pub bites_go : (w : PieceWork) (chunk : Option (List ℕ)) → w.walk.root ≡ None → f.size + length piece < file_end → 1 ≤ n → n ≤ length piece → g.name ≡ f.name → g.size ≡ f.size + n → g.params ≡ f.params
+  pub bites_go : (w : PieceWork) (chunk : Option (List ℕ)) → w.walk.root ≡ None → w.parts ≡ None → f.size + length piece < file_end → 1 ≤ n → n ≤ length piece → g.name ≡ f.name → g.size ≡ f.size + n → g.params ≡ f.params
       → Bites known piece f p n chunk listed g q → Goes known Sealing.Due (fed_bytes (take n piece)) (with_file w f p) (with_file w g q)
-  bites_go w None unended small some within name size by b =
+  bites_go w None unended unlaid small some within name size by b =
       let whole : take n piece ≡ piece = ap (λ k. take k piece) b.0 ∙ take_all (length piece) piece (omega arith) in
       let uncut : HasNoCut f.params g.rest.items = subst (λ x. HasNoCut x g.rest.items) by (uncut_of g) in
       subst (λ (x : List ℕ). Goes known Sealing.Due (fed_bytes x) (with_file w f p) (with_file w g q)) (sym whole)
-      (more_taken (with_file w f p) (with_file w g q) f g known refl (record { params = refl; above = refl; nodes = refl; root = refl }) refl piece small b.4 name (size ∙ ap (λ k. f.size + k) b.0) b.3 b.2 by uncut)
-  bites_go w (Some chunk) unended small some within name size by b =
+      (more_taken (with_file w f p) (with_file w g q) f g known refl (record { params = refl; version = refl; above = refl; nodes = refl; root = refl }) refl unlaid piece small b.4 name (size ∙ ap (λ k. f.size + k) b.0) b.3 b.2 by uncut)
+  bites_go w (Some chunk) unended unlaid small some within name size by b =
       let called : g.content.items ≡ f.content.items ++ naming.name (f.rest.items ++ take n piece) ∷ [] = b.3 ∙ ap (λ x. f.content.items ++ naming.name x ∷ []) b.0 in
-      chunk_taken (with_file w f p) (with_file w g q) f g known refl (record { params = refl; above = refl; nodes = refl; root = refl }) refl piece n small unended some within name size called b.2 by b.1
+      chunk_taken (with_file w f p) (with_file w g q) f g known refl (record { params = refl; version = refl; above = refl; nodes = refl; root = refl }) refl unlaid piece n small unended some within name size called b.2 by b.1
       (subst (λ (x : List ℕ). PacksOn known Sealing.Due (item_of Content x) p q) b.0 b.6)
 
   -- what the file had behind its chunks is still the front of what was kept
@@ -83,14 +83,14 @@ module _ (known : List Fact) (piece : List ℕ) (f g : PieceFile) (p q : Packing
 -- after what was taken before, so is what was taken now
 pub bites_on : (known : List Fact) (piece rest : List ℕ) (taken n : ℕ) (f0 f g : PieceFile) (p0 p q : Packing) (chunk : Option (List ℕ)) (listed : Option PackFacts) → rest ≡ drop taken piece → taken ≤ length piece → f.size ≡ f0.size + taken
     → f0.size + length piece < file_end → p.packer.sealed ≡ None → GrowsBy p0 p → 1 ≤ n → n ≤ length rest → g.name ≡ f.name → g.size ≡ f.size + n → g.params ≡ f.params → Bites known rest f p n chunk listed g q
-    → ((w : PieceWork) → w.walk.root ≡ None → Goes known Sealing.Due (fed_bytes (take taken piece)) (with_file w f0 p0) (with_file w f p))
-    → (w : PieceWork) → w.walk.root ≡ None → Goes known Sealing.Due (fed_bytes (take (taken + n) piece)) (with_file w f0 p0) (with_file w g q)
-bites_on known piece rest taken n f0 f g p0 p q chunk listed is within size small unsealed grows some few name sized by b before w unended =
+    → ((w : PieceWork) → w.walk.root ≡ None → w.parts ≡ None → Goes known Sealing.Due (fed_bytes (take taken piece)) (with_file w f0 p0) (with_file w f p))
+    → (w : PieceWork) → w.walk.root ≡ None → w.parts ≡ None → Goes known Sealing.Due (fed_bytes (take (taken + n) piece)) (with_file w f0 p0) (with_file w g q)
+bites_on known piece rest taken n f0 f g p0 p q chunk listed is within size small unsealed grows some few name sized by b before w unended unlaid =
     let long : length rest + taken ≡ length piece = omega (arith, ap length is, length-drop taken piece, within) in
     let room : f.size + length rest < file_end = omega (arith, long, size, small) in
-    let now = bites_go known rest f g p q n listed w chunk unended room some few name sized by b in
+    let now = bites_go known rest f g p q n listed w chunk unended unlaid room some few name sized by b in
     subst (λ (x : List ℕ). Goes known Sealing.Due (fed_bytes x) (with_file w f0 p0) (with_file w g q)) (sym (take_both taken n piece))
-    (bytes_on known (take taken piece) (take n (drop taken piece)) (with_file w f0 p0) (with_file w f p) (with_file w g q) unsealed grows.1 (before w unended)
+    (bytes_on known (take taken piece) (take n (drop taken piece)) (with_file w f0 p0) (with_file w f p) (with_file w g q) unlaid unsealed grows.1 (before w unended unlaid)
     (subst (λ (x : List ℕ). Goes known Sealing.Due (fed_bytes (take n x)) (with_file w f p) (with_file w g q)) is now))
 
 -- ---- what is kept to go back

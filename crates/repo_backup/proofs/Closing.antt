@@ -1,6 +1,5 @@
 -- A work that is fed still stands after the end of a file or of a directory.
-use Rattle.std.proofs.Common.{arith, ◌≡◌, ◌≢◌, ◌≤◌, ◌<◌, ◌++◌, ◌∷◌, [], ℕ, true, false, List, length, map, Option, Some, None, is_some, refl, sym, ap, subst, inl, inr, ◌⊎◌, ◌∙◌, append-nil, length-append, Contains}
-use Rattle.std.proofs.lemmas.List.Elements.{Contains-push}
+use Rattle.std.proofs.Common.{arith, ◌≡◌, ◌≢◌, ◌≤◌, ◌++◌, ◌∷◌, [], ℕ, true, false, List, length, map, Option, Some, None, is_some, refl, sym, ap, subst, inl, inr, ◌⊎◌, ◌∙◌, append-nil, length-append, Contains}
 use Rattle.std.proofs.lemmas.List.{map-append, same_from_push}
 use Rattle.repo_chunk.proofs.CutLaws.{uncut_is_short}
 use Rattle.repo_chunk.specs.Chunkers.{Holds, params_of}
@@ -8,41 +7,39 @@ use Rattle.repo_chunk.specs.Cuts.{HasNoCut}
 use Rattle.repo_chunk.specs.Parameters.{AreLawful}
 use Rattle.repo_index.specs.declared.facts.Fact.{Fact}
 use Rattle.repo_name.specs.Naming as naming
-use Rattle.repo_name.specs.declared.kinds.BlobKind.TheVariants.{Content, Tree}
+use Rattle.repo_name.specs.declared.kinds.BlobKind.TheVariants.{Content}
 use Rattle.repo_name.specs.declared.names.Name.{Name}
 use Rattle.repo_pack.specs.PackLayout.{Item, item_of}
 use Rattle.repo_name.specs.Limits.{blob_limit}
-use Rattle.repo_session.specs.Feeds.{fed_close, fed_end}
+use Rattle.repo_session.specs.Feeds.{fed_close}
 use Rattle.repo_session.specs.Traces.{Each}
-use Rattle.repo_tree.specs.TreeText.{IsTreeText}
-use Rattle.repo_tree.specs.TreeWriting.{TreeIsUnwritable, tree_text}
-use Rattle.repo_tree.specs.declared.faults.TreeError.{TreeError}
+use Rattle.repo_tree.specs.PartWriting.{root_text}
 use Rattle.repo_tree.specs.declared.nodes.Node.{Node}
 use Rattle.repo_tree.specs.declared.nodes.NodeKind.TheVariants.{File, Dir}
 use Rattle.repo_backup.specs.Folders.{Folder, nothing, file_then, dir_then, joined, nodes_of}
 use Rattle.repo_backup.specs.Items.{after, MayTake}
 use Rattle.repo_backup.specs.Packings.{IsPacking, IsCovered, PacksOn, all_items}
-use Rattle.repo_backup.specs.Pieces.{IsFileAt, AreOuterAt, AreTextsAround, IsRootAt, IsAt, PieceStands, Goes, Stays, EndsTooLarge}
+use Rattle.repo_backup.specs.Pieces.{IsFileAt, AreOuterAt, AreTextsAround, IsRootAt, IsAt, PieceStands, Goes, Stays}
 use Rattle.repo_backup.specs.Plans.{AreTreeTextsBelow}
 use Rattle.repo_backup.specs.Standings.{both, Around, FileCut, Standing, path_of, file_at, place_at, IsCutSoFar, chunk_items, made_at}
 use Rattle.repo_backup.specs.declared.pieces.PieceFile.{PieceFile}
 use Rattle.repo_backup.specs.declared.packing.Sealing.{Sealing}
 use Rattle.repo_backup.specs.declared.piece_works.PieceWork.{PieceWork}
 use Rattle.repo_backup.specs.declared.pieces.Outer.{Outer}
-use Rattle.repo_backup.proofs.Leading.{next_close, next_end}
-use Rattle.repo_backup.proofs.Lengthening.{joined_both, last_chunk, last_joined, no_file}
+use Rattle.repo_backup.proofs.Leading.{next_close}
+use Rattle.repo_backup.proofs.Lengthening.{joined_both, last_chunk, last_joined}
 use Rattle.repo_backup.proofs.NamePlaces.{none_open, some_open, outer_count}
-use Rattle.repo_backup.proofs.Piecing.{opened, stands_on, stands_more}
+use Rattle.repo_backup.proofs.Piecing.{opened, make_at, stands_on, stands_more}
 
-pub nodes_both : (a b : Folder) → nodes_of (both a b) ≡ nodes_of a ++ nodes_of b
-nodes_both nothing b = refl
-nodes_both (file_then name chunks rest) b = ap (λ l. record { name = name; what = File (length (joined chunks)) (map naming.name chunks) } ∷ l) (nodes_both rest b)
-nodes_both (dir_then name inside rest) b = ap (λ l. record { name = name; what = Dir (naming.name (tree_text (nodes_of inside))) } ∷ l) (nodes_both rest b)
+pub nodes_both : (version : ℕ) (a b : Folder) → nodes_of version (both a b) ≡ nodes_of version a ++ nodes_of version b
+nodes_both version nothing b = refl
+nodes_both version (file_then name chunks rest) b = ap (λ l. record { name = name; what = File (length (joined chunks)) (map naming.name chunks) } ∷ l) (nodes_both version rest b)
+nodes_both version (dir_then name inside rest) b = ap (λ l. record { name = name; what = Dir (naming.name (root_text version (nodes_of version inside))) } ∷ l) (nodes_both version rest b)
 
-pub texts_both : (a b : Folder) → AreTreeTextsBelow a → AreTreeTextsBelow b → AreTreeTextsBelow (both a b)
-texts_both nothing b h k = k
-texts_both (file_then name chunks rest) b h k = texts_both rest b h k
-texts_both (dir_then name inside rest) b h k = (h.0, h.1, texts_both rest b h.2 k)
+pub texts_both : (version : ℕ) (a b : Folder) → AreTreeTextsBelow version a → AreTreeTextsBelow version b → AreTreeTextsBelow version (both a b)
+texts_both version nothing b h k = k
+texts_both version (file_then name chunks rest) b h k = texts_both version rest b h k
+texts_both version (dir_then name inside rest) b h k = (h.0, h.1, texts_both version rest b h.2 k)
 
 last_none : (rest : List ℕ) → rest ≡ [] → last_chunk rest ≡ []
 last_none [] e = refl
@@ -55,15 +52,18 @@ last_some (b ∷ bytes) some = refl
 some_there : (f : FileCut) → file_at (Some f) ≢ None
 some_there f e = absurd (cc)
 
-pub top_path : (above : List Around) → AreOuterAt [] above → path_of above ≡ []
-top_path [] h = refl
-top_path (a ∷ above) h = absurd (omega (arith, ap length h.2, length-append h.0 (h.1 ∷ [])))
+pub top_path : (version : ℕ) (above : List Around) → AreOuterAt version [] above → path_of above ≡ []
+top_path version [] h = refl
+top_path version (a ∷ above) h = absurd (omega (arith, ap length h.2, length-append h.0 (h.1 ∷ [])))
 
 -- ---- a file
 
-module _ (w v : PieceWork) (f : PieceFile) (node : Node) (names : List Name) (known : List Fact) (is : w.walk.file ≡ Some f) (params : v.walk.params ≡ w.walk.params) (above : v.walk.above.items ≡ w.walk.above.items)
+module _ (w v : PieceWork) (f : PieceFile) (node : Node) (names : List Name) (known : List Fact) (is : w.walk.file ≡ Some f) (params : v.walk.params ≡ w.walk.params) (version : v.walk.version ≡ w.walk.version) (unlaid : v.parts ≡ None) (above : v.walk.above.items ≡ w.walk.above.items)
     (none : v.walk.file ≡ None) (root : v.walk.root ≡ w.walk.root) (nodes : v.walk.nodes.items ≡ w.walk.nodes.items ++ node ∷ []) (node_is : node ≡ record { name = f.name; what = File f.size names })
     (names_are : names ≡ f.content.items ++ map naming.name (last_chunk f.rest.items)) (lawful : AreLawful w.walk.params) (unended : w.walk.root ≡ None) where
+  abbrev pub V : ℕ
+  V = w.walk.version
+
   -- where the walk stands then
   pub record Closed (st : Standing) (sent : List Item) : Type 0 where
     pub c : FileCut
@@ -73,9 +73,9 @@ module _ (w v : PieceWork) (f : PieceFile) (node : Node) (names : List Name) (kn
     pub now : Standing
     pub place : place_at now ≡ after (place_at st) fed_close
     pub cut : IsCutSoFar w.walk.params now
-    pub made : made_at now ≡ made_at (record { done = st.done; above = st.above; file = Some c; over = st.over }) ++ chunk_items (last_chunk c.rest)
+    pub made : made_at w.walk.version now ≡ made_at w.walk.version (record { done = st.done; above = st.above; file = Some c; over = st.over }) ++ chunk_items (last_chunk c.rest)
     pub at : IsAt v.walk now
-    pub texts : AreTreeTextsBelow now.done × AreTextsAround now.above
+    pub texts : AreTreeTextsBelow w.walk.version now.done × AreTextsAround w.walk.version now.above
 
   pub closed_at : (st : Standing) (sent : List Item) → PieceStands w known st sent [] → Closed st sent
   unfolding next_close
@@ -84,7 +84,7 @@ module _ (w v : PieceWork) (f : PieceFile) (node : Node) (names : List Name) (kn
       let c = o.0 in
       let p = o.2 in
       let was : PieceStands w known (record { done = st.done; above = st.above; file = Some c; over = st.over }) sent [] = subst (λ x. PieceStands w known (record { done = st.done; above = st.above; file = x; over = st.over }) sent []) o.1 h in
-      let n = next_close w.walk.params lawful st.done st.above (Some c) st.over was.cut (sym h.at.over ∙ ap is_some unended) (inl (some_there c)) in
+      let n = next_close w.walk.params lawful V st.done st.above (Some c) st.over was.cut (sym h.at.over ∙ ap is_some unended) (inl (some_there c)) in
       let chunks = c.chunks ++ last_chunk c.rest in
       let mine : Folder = file_then c.name chunks nothing in
       let bytes : joined chunks ≡ joined c.chunks ++ c.rest = joined_both c.chunks (last_chunk c.rest) ∙ ap (λ l. joined c.chunks ++ l) (last_joined c.rest) in
@@ -100,14 +100,9 @@ module _ (w v : PieceWork) (f : PieceFile) (node : Node) (names : List Name) (kn
         place = n.place ∙ ap (λ x. after (place_at (record { done = st.done; above = st.above; file = x; over = st.over })) fed_close) (sym o.1);
         cut = n.cut;
         made = n.made;
-        at = record {
-          outers = subst (λ l. AreOuterAt l st.above) (sym above) h.at.outers;
-          nodes = nodes ∙ (λ i. h.at.nodes i ++ is_node i ∷ []) ∙ sym (nodes_both st.done mine);
-          file = subst (λ x. IsFileAt v.walk.params x None) (sym none) tt;
-          over = ap is_some root ∙ h.at.over;
-          root = subst (λ r. IsRootAt r n.now.done) (sym (root ∙ unended)) tt;
-        };
-        texts = (texts_both st.done mine h.texts.0 tt, h.texts.1);
+        at = make_at v.walk V n.now version (subst (λ l. AreOuterAt V l st.above) (sym above) h.at.outers) (nodes ∙ (λ i. h.at.nodes i ++ is_node i ∷ []) ∙ sym (nodes_both V st.done mine))
+            (subst (λ x. IsFileAt v.walk.params x None) (sym none) tt) (ap is_some root ∙ h.at.over) (subst (λ r. IsRootAt V r n.now.done) (sym (root ∙ unended)) tt);
+        texts = (texts_both V st.done mine h.texts.0 tt, h.texts.1);
       }
 
   -- no byte was left behind the chunks
@@ -115,138 +110,18 @@ module _ (w v : PieceWork) (f : PieceFile) (node : Node) (names : List Name) (kn
   closed_whole empty packed st sent h =
       let k = closed_at st sent h in
       let old : Standing = record { done = st.done; above = st.above; file = Some k.c; over = st.over } in
-      let made : made_at k.now ≡ made_at old = k.made ∙ ap (λ l. made_at old ++ chunk_items l) (last_none k.c.rest (sym k.at_rest ∙ empty)) ∙ append-nil (made_at old) in
-      (k.may, k.now, [], k.place, stands_on w v known old k.now sent [] packed made k.at (subst (λ q. IsCutSoFar q k.now) (sym params) k.cut) k.texts k.was, inl refl)
+      let made : made_at V k.now ≡ made_at V old = k.made ∙ ap (λ l. made_at V old ++ chunk_items l) (last_none k.c.rest (sym k.at_rest ∙ empty)) ∙ append-nil (made_at V old) in
+      (k.may, k.now, [], k.place, inl (unlaid, stands_on w v known old k.now sent [] packed version made k.at (subst (λ q. IsCutSoFar q k.now) (sym params) k.cut) k.texts k.was), inl (inl refl))
 
   -- what was left is the last chunk
   pub closed_chunk : f.rest.items ≢ [] → PacksOn known Sealing.Due (item_of Content f.rest.items) w.packing v.packing → Goes known Sealing.Due fed_close w v
   closed_chunk some packs st sent h =
       let k = closed_at st sent h in
       let old : Standing = record { done = st.done; above = st.above; file = Some k.c; over = st.over } in
-      let made : made_at k.now ≡ made_at old ++ item_of Content f.rest.items ∷ [] =
-      k.made ∙ ap (λ l. made_at old ++ chunk_items l) (last_some k.c.rest (λ e. some (k.at_rest ∙ e))) ∙ ap (λ b. made_at old ++ item_of Content b ∷ []) (sym k.at_rest) in
-      let m = stands_more w v known old k.now sent (item_of Content f.rest.items) Sealing.Due packs made k.at (subst (λ q. IsCutSoFar q k.now) (sym params) k.cut) k.texts k.was in
-      (k.may, k.now, m.0, k.place, m.1, m.2)
-
--- ---- a directory
-
-module _ (w v : PieceWork) (outer : Outer) (subtree : Name) (known : List Fact) (params : v.walk.params ≡ w.walk.params) (above : w.walk.above.items ≡ v.walk.above.items ++ outer ∷ []) (was_none : w.walk.file ≡ None)
-    (none : v.walk.file ≡ None) (root : v.walk.root ≡ w.walk.root) (nodes : v.walk.nodes.items ≡ outer.nodes.items ++ record { name = outer.name; what = Dir subtree } ∷ [])
-    (text : IsTreeText (tree_text w.walk.nodes.items) w.walk.nodes.items) (tree : subtree ≡ naming.name (tree_text w.walk.nodes.items)) (lawful : AreLawful w.walk.params) (unended : w.walk.root ≡ None)
-    (packs : PacksOn known Sealing.Due (item_of Tree (tree_text w.walk.nodes.items)) w.packing v.packing) where
-  push_same : {A : Type 0} (xs ys : List A) (x y : A) → xs ++ x ∷ [] ≡ ys ++ y ∷ [] → (xs ≡ ys) × (x ≡ y)
-  push_same xs ys x y e = same_from_push xs ys x y e
-
-  -- the directory around the one that is closed
-  around : (outers : List Outer) (around : List Around) → outers ≡ v.walk.above.items ++ outer ∷ [] → AreOuterAt outers around
-      → (a : Around) × (rest : List Around) × (around ≡ a ∷ rest) × (outer.name ≡ a.name) × (outer.nodes.items ≡ nodes_of a.done) × AreOuterAt v.walk.above.items rest
-  around outers [] e h = absurd (omega (arith, ap length (sym h ∙ e), length-append v.walk.above.items (outer ∷ [])))
-  around outers (a ∷ rest) e h =
-      let same = push_same v.walk.above.items h.0 outer h.1 (sym e ∙ h.2) in
-      (a, rest, refl, ap (λ (x : Outer). x.name) same.1 ∙ h.3, ap (λ (x : Outer). x.nodes.items) same.1 ∙ h.4, subst (λ l. AreOuterAt l rest) (sym same.0) h.5)
-
-  pub dir_closed : Goes known Sealing.Due fed_close w v
-  unfolding next_close
-  dir_closed st sent h =
-      let file : st.file ≡ None = no_file st.file (none_open w.walk.params w.walk.file st.file h.at.file was_none) in
-      let r = around w.walk.above.items st.above above h.at.outers in
-      let a = r.0 in
-      let rest = r.1 in
-      let old : Standing = record { done = st.done; above = a ∷ rest; file = None; over = st.over } in
-      let was : PieceStands w known old sent [] =
-      subst (λ l. PieceStands w known (record { done = st.done; above = l; file = None; over = st.over }) sent []) r.2 (subst (λ x. PieceStands w known (record { done = st.done; above = st.above; file = x; over = st.over }) sent []) file h) in
-      let n = next_close w.walk.params lawful st.done (a ∷ rest) None st.over was.cut (sym h.at.over ∙ ap is_some unended) (inr (some_path rest a)) in
-      let mine : Folder = dir_then a.name st.done nothing in
-      let here : w.walk.nodes.items ≡ nodes_of st.done = h.at.nodes in
-      let is_node : record { name = outer.name; what = Dir subtree } ≡ record { name = a.name; what = Dir (naming.name (tree_text (nodes_of st.done))) } =
-      λ i. record { name = r.3 i; what = Dir ((tree ∙ ap (λ ns. naming.name (tree_text ns)) here) i) } in
-      let is_text : IsTreeText (tree_text (nodes_of st.done)) (nodes_of st.done) = subst (λ ns. IsTreeText (tree_text ns) ns) here text in
-      let at : IsAt v.walk n.now = record {
-        outers = r.5;
-        nodes = nodes ∙ (λ i. r.4 i ++ is_node i ∷ []) ∙ sym (nodes_both a.done mine);
-        file = subst (λ x. IsFileAt v.walk.params x None) (sym none) tt;
-        over = ap is_some root ∙ h.at.over;
-        root = subst (λ x. IsRootAt x n.now.done) (sym (root ∙ unended)) tt;
-      } in
-      let made : made_at n.now ≡ made_at old ++ item_of Tree (tree_text w.walk.nodes.items) ∷ [] = n.made ∙ ap (λ ns. made_at old ++ item_of Tree (tree_text ns) ∷ []) (sym here) in
-      let m = stands_more w v known old n.now sent (item_of Tree (tree_text w.walk.nodes.items)) Sealing.Due packs made at (subst (λ q. IsCutSoFar q n.now) (sym params) n.cut)
-      (texts_both a.done mine was.texts.1.0 (is_text, was.texts.0, tt), was.texts.1.1) was in (
-        inr (subst (λ l. path_of l ≢ []) (sym r.2) (some_path rest a)),
-        n.now,
-        m.0,
-        n.place ∙ (λ i. after (place_at (record { done = st.done; above = sym r.2 i; file = sym file i; over = st.over })) fed_close),
-        m.1,
-        m.2,
-      )
-    where
-      some_path : (rest : List Around) (a : Around) → path_of (a ∷ rest) ≡ [] → ⊥
-      some_path rest a e = absurd (omega (arith, ap length e, length-append (path_of rest) (a.name ∷ [])))
-
--- ---- all
-
--- the items ended: the root's tree is a blob
-pub all_ended : (w v : PieceWork) (known : List Fact) (tree : Name) → v.walk.params ≡ w.walk.params → v.walk.above.items ≡ w.walk.above.items → v.walk.nodes.items ≡ w.walk.nodes.items → v.walk.file ≡ None → w.walk.file ≡ None
-    → w.walk.above.items ≡ [] → v.walk.root ≡ Some tree → tree ≡ naming.name (tree_text w.walk.nodes.items) → IsTreeText (tree_text w.walk.nodes.items) w.walk.nodes.items
-    → AreLawful w.walk.params → w.walk.root ≡ None → PacksOn known Sealing.Last (item_of Tree (tree_text w.walk.nodes.items)) w.packing v.packing → Goes known Sealing.Last fed_end w v
-unfolding next_end
-all_ended w v known tree params above nodes file was_none at_top root called text lawful unended packs st sent h =
-    let none : st.file ≡ None = no_file st.file (none_open w.walk.params w.walk.file st.file h.at.file was_none) in
-    let n = next_end w.walk.params lawful st h.cut (sym h.at.over ∙ ap is_some unended) in
-    let made : made_at n.now ≡ made_at st ++ item_of Tree (tree_text w.walk.nodes.items) ∷ [] = n.made ∙ ap (λ ns. made_at st ++ item_of Tree (tree_text ns) ∷ []) (sym h.at.nodes) in
-    let at : IsAt v.walk n.now = record {
-      outers = subst (λ l. AreOuterAt l st.above) (sym above) h.at.outers;
-      nodes = nodes ∙ h.at.nodes;
-      file = subst (λ x. IsFileAt v.walk.params x st.file) (sym file) (subst (λ x. IsFileAt v.walk.params None x) (sym none) tt);
-      over = ap is_some root;
-      root = subst (λ x. IsRootAt x st.done) (sym root) (called ∙ ap (λ ns. naming.name (tree_text ns)) h.at.nodes, subst (λ ns. IsTreeText (tree_text ns) ns) h.at.nodes text);
-    } in
-    let m = stands_more w v known st n.now sent (item_of Tree (tree_text w.walk.nodes.items)) Sealing.Last packs made at (subst (λ q. IsCutSoFar q n.now) (sym params) n.cut) h.texts h in
-    ((ap file_at none, top_path st.above (subst (λ l. AreOuterAt l st.above) at_top h.at.outers)), n.now, m.0, n.place, m.1, m.2)
-
--- ---- a directory whose tree text is too large
-
--- the root
-pub root_large : (w : PieceWork) (known : List Fact) → w.walk.file ≡ None → w.walk.above.items ≡ [] → AreLawful w.walk.params → w.walk.root ≡ None → blob_limit < length (tree_text w.walk.nodes.items) → EndsTooLarge known fed_end w
-unfolding next_end
-root_large w known was_none at_top lawful unended large st sent h =
-    let none : st.file ≡ None = no_file st.file (none_open w.walk.params w.walk.file st.file h.at.file was_none) in
-    let n = next_end w.walk.params lawful st h.cut (sym h.at.over ∙ ap is_some unended) in
-    let text = tree_text (nodes_of st.done) in (
-      (ap file_at none, top_path st.above (subst (λ l. AreOuterAt l st.above) at_top h.at.outers)),
-      n.now,
-      text,
-      n.place,
-      n.cut,
-      subst (λ l. Contains l (item_of Tree text)) (sym n.made) (Contains-push (made_at st) (item_of Tree text)),
-      subst (λ ns. blob_limit < length (tree_text ns)) h.at.nodes large,
-    )
-
--- another one
-pub dir_large : (w : PieceWork) (known : List Fact) → w.walk.file ≡ None → 1 ≤ length w.walk.above.items → AreLawful w.walk.params → w.walk.root ≡ None → blob_limit < length (tree_text w.walk.nodes.items) → EndsTooLarge known fed_close w
-unfolding next_close
-dir_large w known was_none deep lawful unended large st sent h = by st.above refl
-  where
-    file : st.file ≡ None
-    file = no_file st.file (none_open w.walk.params w.walk.file st.file h.at.file was_none)
-
-    some_path : (rest : List Around) (a : Around) → path_of (a ∷ rest) ≢ []
-    some_path rest a e = absurd (omega (arith, ap length e, length-append (path_of rest) (a.name ∷ [])))
-
-    by : (above : List Around) → above ≡ st.above → MayTake (place_at st) fed_close × (now : Standing) × (text : List ℕ) × (place_at now ≡ after (place_at st) fed_close) × IsCutSoFar w.walk.params now × Contains (made_at now) (item_of Tree text) × (blob_limit < length text)
-    by [] e = absurd (omega (arith, deep, ap length (subst (λ l. AreOuterAt w.walk.above.items l) (sym e) h.at.outers)))
-    by (a ∷ rest) e =
-        let old : Standing = record { done = st.done; above = a ∷ rest; file = None; over = st.over } in
-        let cut : IsCutSoFar w.walk.params old = subst (λ l. IsCutSoFar w.walk.params (record { done = st.done; above = l; file = None; over = st.over })) (sym e) (subst (λ x. IsCutSoFar w.walk.params (record { done = st.done; above = st.above; file = x; over = st.over })) file h.cut) in
-        let n = next_close w.walk.params lawful st.done (a ∷ rest) None st.over cut (sym h.at.over ∙ ap is_some unended) (inr (some_path rest a)) in
-        let text = tree_text (nodes_of st.done) in (
-          inr (subst (λ l. path_of l ≢ []) e (some_path rest a)),
-          n.now,
-          text,
-          n.place ∙ (λ i. after (place_at (record { done = st.done; above = e i; file = sym file i; over = st.over })) fed_close),
-          n.cut,
-          subst (λ l. Contains l (item_of Tree text)) (sym n.made) (Contains-push (made_at old) (item_of Tree text)),
-          subst (λ ns. blob_limit < length (tree_text ns)) h.at.nodes large,
-        )
+      let made : made_at V k.now ≡ made_at V old ++ item_of Content f.rest.items ∷ [] =
+      k.made ∙ ap (λ l. made_at V old ++ chunk_items l) (last_some k.c.rest (λ e. some (k.at_rest ∙ e))) ∙ ap (λ b. made_at V old ++ item_of Content b ∷ []) (sym k.at_rest) in
+      let m = stands_more w v known old k.now sent (item_of Content f.rest.items) Sealing.Due packs version made k.at (subst (λ q. IsCutSoFar q k.now) (sym params) k.cut) k.texts k.was in
+      (k.may, k.now, m.0, k.place, inl (unlaid, m.1), inl m.2)
 
 -- ---- the names of a file's chunks
 
@@ -257,18 +132,18 @@ pub names_more : (names content : List Name) (rest : List ℕ) (name : Name) →
 names_more names content rest name some called more = more ∙ ap (λ n. content ++ n ∷ []) called ∙ ap (λ l. content ++ map naming.name l) (sym (last_some rest some))
 
 -- a file is closed: what was left is its last chunk, where something was
-pub file_closed : (w v : PieceWork) (f : PieceFile) (node : Node) (names : List Name) (known : List Fact) → w.walk.file ≡ Some f → v.walk.params ≡ w.walk.params → v.walk.above.items ≡ w.walk.above.items → v.walk.file ≡ None
+pub file_closed : (w v : PieceWork) (f : PieceFile) (node : Node) (names : List Name) (known : List Fact) → w.walk.file ≡ Some f → v.walk.params ≡ w.walk.params → v.walk.version ≡ w.walk.version → v.parts ≡ None → v.walk.above.items ≡ w.walk.above.items → v.walk.file ≡ None
     → v.walk.root ≡ w.walk.root → v.walk.nodes.items ≡ w.walk.nodes.items ++ node ∷ [] → node ≡ record { name = f.name; what = File f.size names } → AreLawful w.walk.params → w.walk.root ≡ None
     → (f.rest.items ≡ [] → (v.packing ≡ w.packing) × (names ≡ f.content.items))
     → (f.rest.items ≢ [] → PacksOn known Sealing.Due (item_of Content f.rest.items) w.packing v.packing × (names ≡ f.content.items ++ naming.name f.rest.items ∷ []))
     → Goes known Sealing.Due fed_close w v
-file_closed w v f node names known is params above none root nodes node_is lawful unended whole chunk = by f.rest.items refl
+file_closed w v f node names known is params version unlaid above none root nodes node_is lawful unended whole chunk = by f.rest.items refl
   where
     by : (rest : List ℕ) → f.rest.items ≡ rest → Goes known Sealing.Due fed_close w v
-    by [] e = closed_whole w v f node names known is params above none root nodes node_is (names_none names f.content.items f.rest.items e (whole e).1) lawful unended e (whole e).0
+    by [] e = closed_whole w v f node names known is params version unlaid above none root nodes node_is (names_none names f.content.items f.rest.items e (whole e).1) lawful unended e (whole e).0
     by (b ∷ bytes) e =
         let some : f.rest.items ≢ [] = λ n. absurd (cc) in
-        closed_chunk w v f node names known is params above none root nodes node_is (names_more names f.content.items f.rest.items (naming.name f.rest.items) some refl (chunk some).1) lawful unended some (chunk some).0
+        closed_chunk w v f node names known is params version unlaid above none root nodes node_is (names_more names f.content.items f.rest.items (naming.name f.rest.items) some refl (chunk some).1) lawful unended some (chunk some).0
 
 -- ---- a chunk that isn't ended is short
 
@@ -282,29 +157,25 @@ held_short f = omega (arith, uncut_is_short f.params f.rest.items f.lawful (uncu
 
 -- ---- nothing changed but how much room there is
 
-pub outer_again : (before : List Outer) (outer again : Outer) (above : List Around) → again.name ≡ outer.name → again.nodes.items ≡ outer.nodes.items → AreOuterAt (before ++ outer ∷ []) above → AreOuterAt (before ++ again ∷ []) above
-outer_again before outer again [] name nodes h = absurd (omega (arith, ap length h, length-append before (outer ∷ [])))
-outer_again before outer again (a ∷ above) name nodes h =
+pub outer_again : (version : ℕ) (before : List Outer) (outer again : Outer) (above : List Around) → again.name ≡ outer.name → again.nodes.items ≡ outer.nodes.items → AreOuterAt version (before ++ outer ∷ []) above → AreOuterAt version (before ++ again ∷ []) above
+outer_again version before outer again [] name nodes h = absurd (omega (arith, ap length h, length-append before (outer ∷ [])))
+outer_again version before outer again (a ∷ above) name nodes h =
     let same = same_from_push before h.0 outer h.1 h.2 in
-    (before, again, refl, name ∙ ap (λ (x : Outer). x.name) same.1 ∙ h.3, nodes ∙ ap (λ (x : Outer). x.nodes.items) same.1 ∙ h.4, subst (λ l. AreOuterAt l above) (sym same.0) h.5)
+    (before, again, refl, name ∙ ap (λ (x : Outer). x.name) same.1 ∙ h.3, nodes ∙ ap (λ (x : Outer). x.nodes.items) same.1 ∙ h.4, subst (λ l. AreOuterAt version l above) (sym same.0) h.5)
 
-pub room_stays : (w v : PieceWork) (known : List Fact) → v.walk.params ≡ w.walk.params → ((above : List Around) → AreOuterAt w.walk.above.items above → AreOuterAt v.walk.above.items above) → v.walk.nodes.items ≡ w.walk.nodes.items
-    → v.walk.file ≡ w.walk.file → v.walk.root ≡ w.walk.root → ((sent : List Item) → IsPacking w.packing known sent [] → IsPacking v.packing known sent []) → v.packing.packer.writer.items ≡ w.packing.packer.writer.items → Stays known w v
-room_stays w v known params outers nodes file root packs written st sent h =
+pub room_stays : (w v : PieceWork) (known : List Fact) → v.walk.params ≡ w.walk.params → v.walk.version ≡ w.walk.version → ((n : ℕ) (above : List Around) → AreOuterAt n w.walk.above.items above → AreOuterAt n v.walk.above.items above)
+    → v.walk.nodes.items ≡ w.walk.nodes.items → v.walk.file ≡ w.walk.file → v.walk.root ≡ w.walk.root → ((sent : List Item) → IsPacking w.packing known sent [] → IsPacking v.packing known sent []) → v.packing.packer.writer.items ≡ w.packing.packer.writer.items → Stays known w v
+room_stays w v known params version outers nodes file root packs written st sent h =
+    let V = w.walk.version in
     let all : all_items sent [] v.packing ≡ all_items sent [] w.packing = ap (λ l. (sent ++ []) ++ l) written in
+    let same_file = subst (λ q. IsFileAt q v.walk.file st.file) (sym params) (subst (λ x. IsFileAt w.walk.params x st.file) (sym file) h.at.file) in
     record {
       packing = packs sent h.packing;
-      of_made = λ item among. h.of_made item (subst (λ l. Contains l item) all among);
-      at = record {
-        outers = outers st.above h.at.outers;
-        nodes = nodes ∙ h.at.nodes;
-        file = subst (λ q. IsFileAt q v.walk.file st.file) (sym params) (subst (λ x. IsFileAt w.walk.params x st.file) (sym file) h.at.file);
-        over = ap is_some root ∙ h.at.over;
-        root = subst (λ x. IsRootAt x st.done) (sym root) h.at.root;
-      };
+      of_made = λ item among. subst (λ n. Contains (made_at n st) item) (sym version) (h.of_made item (subst (λ l. Contains l item) all among));
+      at = make_at v.walk V st version (outers V st.above h.at.outers) (nodes ∙ h.at.nodes) same_file (ap is_some root ∙ h.at.over) (subst (λ x. IsRootAt V x st.done) (sym root) h.at.root);
       cut = subst (λ q. IsCutSoFar q st) (sym params) h.cut;
-      texts = h.texts;
-      covered = subst (λ l. Each (λ item. IsCovered known l item) (made_at st)) (sym all) h.covered;
+      texts = subst (λ n. AreTreeTextsBelow n st.done × AreTextsAround n st.above) (sym version) h.texts;
+      covered = subst (λ n. Each (λ item. IsCovered known (all_items sent [] v.packing) item) (made_at n st)) (sym version) (subst (λ l. Each (λ item. IsCovered known l item) (made_at V st)) (sym all) h.covered);
     }
 
 -- ---- what is open
@@ -323,23 +194,19 @@ some_here (Some x) e = λ none. absurd (cc)
 
 -- where neither a file nor a directory is open, the place is the root
 pub at_top : (w : PieceWork) (known : List Fact) (st : Standing) (sent : List Item) → w.walk.file ≡ None → w.walk.above.items ≡ [] → PieceStands w known st sent [] → (file_at st.file ≡ None) × (path_of st.above ≡ [])
-at_top w known st sent none top h = (none_open w.walk.params w.walk.file st.file h.at.file none, top_path st.above (subst (λ l. AreOuterAt l st.above) top h.at.outers))
+at_top w known st sent none top h = (none_open w.walk.params w.walk.file st.file h.at.file none, top_path w.walk.version st.above (subst (λ l. AreOuterAt w.walk.version l st.above) top h.at.outers))
 
 -- where something is, it may be closed
 pub may_close : (w : PieceWork) (known : List Fact) (st : Standing) (sent : List Item) → (w.walk.file ≢ None) ⊎ (1 ≤ length w.walk.above.items) → PieceStands w known st sent [] → MayTake (place_at st) fed_close
 may_close w known st sent (inl some) h = inl (λ none. some (some_open w.walk.params w.walk.file st.file h.at.file none))
-may_close w known st sent (inr deep) h = inr (λ top. absurd (omega (arith, deep, ap length top, outer_count w.walk.above.items st.above h.at.outers)))
+may_close w known st sent (inr deep) h = inr (λ top. absurd (omega (arith, deep, ap length top, outer_count w.walk.version w.walk.above.items st.above h.at.outers)))
 
 -- and the items don't end
 pub no_end : (w : PieceWork) (known : List Fact) (st : Standing) (sent : List Item) → (w.walk.file ≢ None) ⊎ (1 ≤ length w.walk.above.items) → PieceStands w known st sent [] → (file_at st.file ≡ None) × (path_of st.above ≡ []) → ⊥
 no_end w known st sent (inl some) h top = some (some_open w.walk.params w.walk.file st.file h.at.file top.0)
-no_end w known st sent (inr deep) h top = absurd (omega (arith, deep, ap length top.1, outer_count w.walk.above.items st.above h.at.outers))
+no_end w known st sent (inr deep) h top = absurd (omega (arith, deep, ap length top.1, outer_count w.walk.version w.walk.above.items st.above h.at.outers))
 
 -- a list whose length is that of none has no front
 pub no_front : {A : Type 0} (xs ys : List A) → xs ++ ys ≡ [] → xs ≡ []
 no_front [] ys e = refl
 no_front (x ∷ xs) ys e = absurd (cc)
-
--- a tree that can't be written as its text is too large
-pub too_large : (nodes : List Node) (e : TreeError) → e ≡ TreeError.TooLarge → TreeIsUnwritable nodes e → blob_limit < length (tree_text nodes)
-too_large nodes e is h = (subst (λ x. TreeIsUnwritable nodes x) is h).1

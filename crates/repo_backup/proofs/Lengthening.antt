@@ -20,13 +20,13 @@ entries_both path (dir_then name inside rest) b =
     let mine = dir_entry (path ++ name ∷ []) ∷ entries_of (path ++ name ∷ []) inside in
     ap (λ l. mine ++ l) (entries_both path rest b) ∙ sym (append_assoc mine (entries_of path rest) (entries_of path b))
 
-pub blobs_both : (a b : Folder) → blobs_below (both a b) ≡ blobs_below a ++ blobs_below b
-blobs_both nothing b = refl
-blobs_both (file_then name chunks rest) b =
+pub blobs_both : (version : ℕ) (a b : Folder) → blobs_below version (both a b) ≡ blobs_below version a ++ blobs_below version b
+blobs_both version nothing b = refl
+blobs_both version (file_then name chunks rest) b =
     let mine = chunk_items chunks in
-    ap (λ l. mine ++ l) (blobs_both rest b) ∙ sym (append_assoc mine (blobs_below rest) (blobs_below b))
-blobs_both (dir_then name inside rest) b =
-    ap (λ l. blobs_of inside ++ l) (blobs_both rest b) ∙ sym (append_assoc (blobs_of inside) (blobs_below rest) (blobs_below b))
+    ap (λ l. mine ++ l) (blobs_both version rest b) ∙ sym (append_assoc mine (blobs_below version rest) (blobs_below version b))
+blobs_both version (dir_then name inside rest) b =
+    ap (λ l. blobs_of version inside ++ l) (blobs_both version rest b) ∙ sym (append_assoc (blobs_of version inside) (blobs_below version rest) (blobs_below version b))
 
 pub cut_both : (params : Parameters) (a b : Folder) → IsCutBy params a → IsCutBy params b → IsCutBy params (both a b)
 cut_both params nothing b h k = k
@@ -42,11 +42,11 @@ entries_more (a ∷ above) done more =
     let front = entries_at a.done above ++ dir_entry path ∷ [] in
     ap (λ l. front ++ l) (entries_both path done more) ∙ sym (append_assoc front (entries_of path done) (entries_of path more))
 
-pub made_more : (above : List Around) (done more : Folder) → made_below (both done more) above ≡ made_below done above ++ blobs_below more
-made_more [] done more = blobs_both done more
-made_more (a ∷ above) done more =
-    let before = made_below a.done above in
-    ap (λ l. before ++ l) (blobs_both done more) ∙ sym (append_assoc before (blobs_below done) (blobs_below more))
+pub made_more : (version : ℕ) (above : List Around) (done more : Folder) → made_below version (both done more) above ≡ made_below version done above ++ blobs_below version more
+made_more version [] done more = blobs_both version done more
+made_more version (a ∷ above) done more =
+    let before = made_below version a.done above in
+    ap (λ l. before ++ l) (blobs_both version done more) ∙ sym (append_assoc before (blobs_below version done) (blobs_below version more))
 
 pub outer_path : (p : List (List ℕ)) (n : List ℕ) → outer_of (p ++ n ∷ []) ≡ p
 outer_path p n =

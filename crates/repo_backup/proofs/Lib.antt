@@ -34,3 +34,8 @@ pub mod BackupRuling
 pub mod BackupStepping
 pub mod BackupReplying
 mod ItemRunning
+pub mod FolderOrder
+pub mod PartLists
+pub mod PartLaying
+pub mod LayingOn
+pub mod Bounding

@@ -11,7 +11,7 @@ use Rattle.repo_tree.specs.Paths.{IsBelow}
 use Rattle.repo_tree.specs.Spelling.{dir_entry, file_entry}
 use Rattle.repo_tree.specs.TreeText.{last_name, Follows}
 use Rattle.repo_tree.specs.declared.entries.Entry.{Entry}
-use Rattle.repo_tree.specs.TreeWriting.{tree_text}
+use Rattle.repo_tree.specs.PartWriting.{root_text}
 use Rattle.repo_tree.specs.declared.nodes.Node.{Node}
 use Rattle.repo_tree.specs.declared.nodes.NodeKind.TheVariants.{File, Dir}
 use Rattle.repo_backup.specs.Folders.{Folder, nothing, file_then, dir_then, joined, entries_of, nodes_of}
@@ -63,12 +63,12 @@ stands_by before l path = (
 )
 
 -- the last entry of what a directory holds, and its last name
-pub record Lasts (path : List (List ℕ)) (folder : Folder) : Type 0 where
+pub record Lasts (version : ℕ) (path : List (List ℕ)) (folder : Folder) : Type 0 where
   pub front : List Entry
   pub entry : Entry
   pub split : entries_of path folder ≡ front ++ entry ∷ []
   pub name : List ℕ
-  pub last : last_name (nodes_of folder) ≡ Some name
+  pub last : last_name (nodes_of version folder) ≡ Some name
   pub tail : List (List ℕ)
   pub at : entry.path ≡ (path ++ name ∷ []) ++ tail
 
@@ -76,33 +76,33 @@ last_behind : (node : Node) (nodes : List Node) (name : List ℕ) → last_name 
 last_behind node [] name e = absurd (cc)
 last_behind node (x ∷ xs) name e = e
 
-pub last_in : (path : List (List ℕ)) (folder : Folder) → (folder ≡ nothing) ⊎ Lasts path folder
-last_in path nothing = inl refl
-last_in path (file_then name chunks rest) =
+pub last_in : (version : ℕ) (path : List (List ℕ)) (folder : Folder) → (folder ≡ nothing) ⊎ Lasts version path folder
+last_in version path nothing = inl refl
+last_in version path (file_then name chunks rest) =
     let e : Entry = file_entry (path ++ name ∷ []) (joined chunks) in
-    elim (last_in path rest) [
+    elim (last_in version path rest) [
       | inl none ↦ inr (record {
         front = [];
         entry = e;
         split = ap (λ f. e ∷ entries_of path f) none;
         name = name;
-        last = ap (λ f. last_name (nodes_of (file_then name chunks f))) none;
+        last = ap (λ f. last_name (nodes_of version (file_then name chunks f))) none;
         tail = [];
         at = sym (append-nil (path ++ name ∷ []));
       })
-      | inr l ↦ inr (record { front = e ∷ l.front; entry = l.entry; split = ap (λ es. e ∷ es) l.split; name = l.name; last = last_behind (record { name = name; what = File (length (joined chunks)) (map naming.name chunks) }) (nodes_of rest) l.name l.last; tail = l.tail; at = l.at })
+      | inr l ↦ inr (record { front = e ∷ l.front; entry = l.entry; split = ap (λ es. e ∷ es) l.split; name = l.name; last = last_behind (record { name = name; what = File (length (joined chunks)) (map naming.name chunks) }) (nodes_of version rest) l.name l.last; tail = l.tail; at = l.at })
     ]
-last_in path (dir_then name inside rest) =
+last_in version path (dir_then name inside rest) =
     let deeper = path ++ name ∷ [] in
     let e : Entry = dir_entry deeper in
-    elim (last_in path rest) [
-      | inl none ↦ elim (last_in deeper inside) [
+    elim (last_in version path rest) [
+      | inl none ↦ elim (last_in version deeper inside) [
         | inl empty ↦ inr (record {
           front = [];
           entry = e;
           split = (λ i. e ∷ entries_of deeper (empty i) ++ entries_of path (none i));
           name = name;
-          last = ap (λ f. last_name (nodes_of (dir_then name inside f))) none;
+          last = ap (λ f. last_name (nodes_of version (dir_then name inside f))) none;
           tail = [];
           at = sym (append-nil deeper);
         })
@@ -111,7 +111,7 @@ last_in path (dir_then name inside rest) =
           entry = l.entry;
           split = ap (λ f. e ∷ entries_of deeper inside ++ entries_of path f) none ∙ ap (λ es. e ∷ es) (append-nil (entries_of deeper inside) ∙ l.split);
           name = name;
-          last = ap (λ f. last_name (nodes_of (dir_then name inside f))) none;
+          last = ap (λ f. last_name (nodes_of version (dir_then name inside f))) none;
           tail = l.name ∷ l.tail;
           at = l.at ∙ append_assoc deeper (l.name ∷ []) l.tail;
         })
@@ -121,7 +121,7 @@ last_in path (dir_then name inside rest) =
         entry = l.entry;
         split = ap (λ es. (e ∷ entries_of deeper inside) ++ es) l.split ∙ sym (append_assoc (e ∷ entries_of deeper inside) l.front (l.entry ∷ []));
         name = l.name;
-        last = last_behind (record { name = name; what = Dir (naming.name (tree_text (nodes_of inside))) }) (nodes_of rest) l.name l.last;
+        last = last_behind (record { name = name; what = Dir (naming.name (root_text version (nodes_of version inside))) }) (nodes_of version rest) l.name l.last;
         tail = l.tail;
         at = l.at;
       })
@@ -132,21 +132,21 @@ front_at : (done : Folder) (above : List Around) → (front : List Entry) × (en
 front_at done [] = ([], refl)
 front_at done (a ∷ above) = (entries_at a.done above ++ dir_entry (path_of above ++ a.name ∷ []) ∷ [], refl)
 
-pub follows_after : (done : Folder) (above : List Around) (name : List ℕ) → (StandsAfter (entries_at done above) (path_of above ++ name ∷ []) → Follows (nodes_of done) name)
-    × (Follows (nodes_of done) name → StandsAfter (entries_at done above) (path_of above ++ name ∷ []))
-follows_after done above name = elim (last_in (path_of above) done) [ inl none ↦ empty above none | inr l ↦ some l ]
+pub follows_after : (version : ℕ) (done : Folder) (above : List Around) (name : List ℕ) → (StandsAfter (entries_at done above) (path_of above ++ name ∷ []) → Follows (nodes_of version done) name)
+    × (Follows (nodes_of version done) name → StandsAfter (entries_at done above) (path_of above ++ name ∷ []))
+follows_after version done above name = elim (last_in version (path_of above) done) [ inl none ↦ empty above none | inr l ↦ some l ]
   where
-    empty : (above : List Around) → done ≡ nothing → (StandsAfter (entries_at done above) (path_of above ++ name ∷ []) → Follows (nodes_of done) name) × (Follows (nodes_of done) name → StandsAfter (entries_at done above) (path_of above ++ name ∷ []))
-    empty [] none = ((λ h. subst (λ f. Follows (nodes_of f) name) (sym none) tt), (λ h. subst (λ f. StandsAfter (entries_of [] f) (name ∷ [])) (sym none) tt))
+    empty : (above : List Around) → done ≡ nothing → (StandsAfter (entries_at done above) (path_of above ++ name ∷ []) → Follows (nodes_of version done) name) × (Follows (nodes_of version done) name → StandsAfter (entries_at done above) (path_of above ++ name ∷ []))
+    empty [] none = ((λ h. subst (λ f. Follows (nodes_of version f) name) (sym none) tt), (λ h. subst (λ f. StandsAfter (entries_of [] f) (name ∷ [])) (sym none) tt))
     empty (a ∷ above) none =
         let path = path_of above ++ a.name ∷ [] in
         let front = entries_at a.done above in
         let at : entries_at done (a ∷ above) ≡ front ++ dir_entry path ∷ [] = ap (λ f. (front ++ dir_entry path ∷ []) ++ entries_of path f) none ∙ append-nil (front ++ dir_entry path ∷ []) in (
-          (λ h. subst (λ f. Follows (nodes_of f) name) (sym none) tt),
+          (λ h. subst (λ f. Follows (nodes_of version f) name) (sym none) tt),
           (λ h. subst (λ es. StandsAfter es (path ++ name ∷ [])) (sym at) ((stands_by front (dir_entry path) (path ++ name ∷ [])).1 (child_above path name))),
         )
 
-    some : Lasts (path_of above) done → (StandsAfter (entries_at done above) (path_of above ++ name ∷ []) → Follows (nodes_of done) name) × (Follows (nodes_of done) name → StandsAfter (entries_at done above) (path_of above ++ name ∷ []))
+    some : Lasts version (path_of above) done → (StandsAfter (entries_at done above) (path_of above ++ name ∷ []) → Follows (nodes_of version done) name) × (Follows (nodes_of version done) name → StandsAfter (entries_at done above) (path_of above ++ name ∷ []))
     some l =
         let f = front_at done above in
         let at : entries_at done above ≡ (f.0 ++ l.front) ++ l.entry ∷ [] = f.1 ∙ ap (λ es. f.0 ++ es) l.split ∙ sym (append_assoc f.0 l.front (l.entry ∷ [])) in

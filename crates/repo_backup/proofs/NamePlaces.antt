@@ -21,19 +21,19 @@ some_open params None o h e = refl
 some_open params (Some f) None h e = absurd h
 some_open params (Some f) (Some c) h e = absurd (cc)
 
-pub outer_count : (outers : List Outer) (above : List Around) → AreOuterAt outers above → length outers ≡ length (path_of above)
-outer_count outers [] h = ap length h
-outer_count outers (a ∷ above) h =
-    omega (arith, ap length h.2, length-append h.0 (h.1 ∷ []), outer_count h.0 above h.5, length-append (path_of above) (a.name ∷ []))
+pub outer_count : (version : ℕ) (outers : List Outer) (above : List Around) → AreOuterAt version outers above → length outers ≡ length (path_of above)
+outer_count version outers [] h = ap length h
+outer_count version outers (a ∷ above) h =
+    omega (arith, ap length h.2, length-append h.0 (h.1 ∷ []), outer_count version h.0 above h.5, length-append (path_of above) (a.name ∷ []))
 
 pub depth_of : (w : PieceWalk) (st : Standing) (name : List ℕ) → IsAt w st → length (path_of st.above ++ name ∷ []) ≡ length w.above.items + 1
-depth_of w st name at = omega (arith, outer_count w.above.items st.above at.outers, length-append (path_of st.above) (name ∷ []))
+depth_of w st name at = omega (arith, outer_count w.version w.above.items st.above at.outers, length-append (path_of st.above) (name ∷ []))
 
 pub may_begin : (w : PieceWalk) (st : Standing) (name : List ℕ) → IsAt w st → w.file ≡ None → Follows w.nodes.items name → MayBegin (place_at st) name
-may_begin w st name at none follows = (none_open w.params w.file st.file at.file none, (follows_after st.done st.above name).1 (subst (λ ns. Follows ns name) at.nodes follows))
+may_begin w st name at none follows = (none_open w.params w.file st.file at.file none, (follows_after w.version st.done st.above name).1 (subst (λ ns. Follows ns name) at.nodes follows))
 
 pub no_begin : (w : PieceWalk) (st : Standing) (name : List ℕ) → IsAt w st → (Follows w.nodes.items name → ⊥) → MayBegin (place_at st) name → ⊥
-no_begin w st name at never may = never (subst (λ ns. Follows ns name) (sym at.nodes) ((follows_after st.done st.above name).0 may.1))
+no_begin w st name at never may = never (subst (λ ns. Follows ns name) (sym at.nodes) ((follows_after w.version st.done st.above name).0 may.1))
 
 pub no_open : (w : PieceWalk) (st : Standing) (name : List ℕ) → IsAt w st → w.file ≢ None → MayBegin (place_at st) name → ⊥
 no_open w st name at some may = some (some_open w.params w.file st.file at.file may.0)

@@ -15,10 +15,10 @@ use Rattle.repo_name.specs.declared.tokens.Token.{Token}
 use Rattle.repo_writing.specs.Writing.{Put, items_of}
 use Rattle.repo_backup.specs.Backing.{HasWritten}
 use Rattle.repo_backup.specs.Items.{Feeding, FileSoFar, Place, after, closed, place_of, MayTake, NobodyGaveUp, AreTaken, ItemFault, fed_part, fed_of}
-use Rattle.repo_backup.specs.Packings.{IsSealedBy, IsListed, IsLeftOpen, AimsOn, IsJustDue}
-use Rattle.repo_backup.specs.PieceRules.{IsStandingOf, IsFullPack, PieceTooLarge}
-use Rattle.repo_backup.specs.PieceStates.{waits, listed_of, StandsAt, PieceAt, PieceWaits, IsPieceDue, IsPieceDone}
-use Rattle.repo_backup.specs.Pieces.{PieceStands, IsReady, Goes, EndsTooLarge, Refuses, Stays, sealing_at}
+use Rattle.repo_backup.specs.Packings.{IsSealedBy, IsListed, IsLeftOpen, AimsOn}
+use Rattle.repo_backup.specs.PieceRules.{IsStandingOf, HasConfig, IsFullPack}
+use Rattle.repo_backup.specs.PieceStates.{waits, listed_of, StandsAt, PieceAt, PieceWaits, IsPieceDue, IsPieceDone, IsPieceLarge}
+use Rattle.repo_backup.specs.Pieces.{PieceStands, WorkStands, IsReady, IsSealedAs, Goes, EndsTooLarge, Refuses, Stays, sealing_at}
 use Rattle.repo_backup.specs.Standings.{Standing, IsCutSoFar, place_at, made_at}
 use Rattle.repo_backup.specs.declared.items.FeedError.{FeedError}
 use Rattle.repo_backup.specs.declared.items.Item.{Item}
@@ -28,7 +28,9 @@ use Rattle.repo_backup.specs.declared.piece_backing.PieceBacking.{PieceBacking}
 use Rattle.repo_backup.proofs.Closing.{none_there}
 use Rattle.repo_backup.proofs.FedOn.{fed_items, fed_written}
 use Rattle.repo_backup.proofs.PieceRuling.{config_on, standing_after, standing_fed}
-use Rattle.repo_backup.proofs.Piecing.{none_sealed}
+use Rattle.repo_backup.proofs.Piecing.{plain, packing_in, cut_in, none_sealed}
+use Rattle.repo_tree.specs.declared.configs.Config.{Config}
+use Rattle.repo_backup.specs.declared.piece_works.PieceWork.{PieceWork}
 
 -- a session that works has asked for something
 pub works_on : (task : Task) (token : Token) (es : Trace) → IsWorking task token es → es ≢ []
@@ -73,7 +75,7 @@ left_open Sealing.Due listed p h = h
 left_open Sealing.Last None p h = h.0
 left_open Sealing.Last (Some x) p h = h.0
 
-left_empty : (listed : Option PackFacts) (p : Packing) → IsLeftOpen Sealing.Last listed p → p.packer.writer.items ≡ []
+pub left_empty : (listed : Option PackFacts) (p : Packing) → IsLeftOpen Sealing.Last listed p → p.packer.writer.items ≡ []
 left_empty None p h = h.1
 left_empty (Some x) p h = h.1
 
@@ -90,6 +92,25 @@ closed_over : (file : Option FileSoFar) (p : Place) → (closed file p).over ≡
 closed_over None p = refl
 closed_over (Some f) p = refl
 
+-- where no more blob comes, they end by it
+ends_by : (n : ℕ) (item : Item) (p : Place) → sealing_at item ≡ Sealing.Last → (after p (fed_part n item)).over ≡ true
+ends_by n Item.End p e = refl
+ends_by n (Item.Dir name) p e = absurd (cc)
+ends_by n (Item.File name) p e = absurd (cc)
+ends_by n (Item.Bytes piece) p e = absurd (cc)
+ends_by n Item.Close p e = absurd (cc)
+ends_by n Item.Abandon p e = absurd (cc)
+
+-- a pack that was sealed where it was just due is full
+pub full_by : (config : Config) (es : Trace) (sealed : List layout.Item) → HasConfig es config → IsSealedBy Sealing.Due config.target sealed → 1 ≤ length sealed → IsFullPack es sealed
+full_by config es sealed has (inl none) many = absurd (omega (arith, ap length none, many))
+full_by config es sealed has (inr full) many = (config, has, full)
+
+-- where the items haven't ended, the root is open
+pub open_root : (w : PieceWork) (facts : List Fact) (st : Standing) (sent sealed : List layout.Item) → WorkStands w facts st sent sealed → st.over ≡ false → w.walk.root ≡ None
+open_root w facts st sent sealed (inl h) e = none_there w.walk.root (h.1.at.over ∙ e)
+open_root w facts st sent sealed (inr h) e = none_there w.walk.root h.at.over
+
 -- they don't end by it
 plain_over : (n : ℕ) (item : Item) (p : Place) → IsPlain item → (after p (fed_part n item)).over ≡ p.over
 plain_over n (Item.Dir name) p h = refl
@@ -102,34 +123,38 @@ plain_over n Item.Abandon p h = absurd h
 -- ---- the item was taken
 
 module _ (facts : List Fact) (b c : PieceBacking) (puts next : List Put) (items : Feeding) (es : Trace) (h : StandsAt facts b puts next [] items es) (ready : IsReady b.work) where
+  -- it stands there
+  pub stands_plain : PieceStands b.work facts h.st (items_of (puts ++ next)) []
+  stands_plain = plain b.work facts h.st (items_of (puts ++ next)) [] ready.unlaid h.stands
+
   -- where it stood the items hadn't ended
   not_over : (place_of items).over ≡ false
-  not_over = sym (h.stands.at.over ∙ ap (λ (p : Place). p.over) h.at.lead.place) ∙ ap is_some ready.unended
+  not_over = sym (stands_plain.at.over ∙ ap (λ (p : Place). p.over) h.at.lead.place) ∙ ap is_some ready.unended
 
   -- the items with this one may be taken
   pub taken_more : (fed : Fed) → MayTake (place_at h.st) fed → AreTaken (fed ∷ items)
   taken_more fed may = (not_over, h.kept, subst (λ p. MayTake p fed) h.at.lead.place may, h.taken)
 
   -- a directory's tree text is too large
-  pub large_at : (fed : Fed) → EndsTooLarge facts fed b.work → AreTaken (fed ∷ items) × ((now : Standing) × (text : List ℕ) × IsStandingOf (fed ∷ items) es h.config now × Contains (made_at now) (item_of Tree text) × (blob_limit < length text))
+  pub large_at : (fed : Fed) → EndsTooLarge facts fed b.work → AreTaken (fed ∷ items) × ((now : Standing) × (text : List ℕ) × IsStandingOf (fed ∷ items) es h.config now × Contains (made_at h.config.version now) (item_of Tree text) × (blob_limit < length text))
   large_at fed large =
-      let k = large h.st (items_of (puts ++ next)) h.stands in
-      (taken_more fed k.0, (k.1, k.2, standing_after fed items es h.config h.st k.1 h.at k.3 (subst (λ q. IsCutSoFar q k.1) h.goes_by.params k.4), k.5, k.6))
+      let k = large h.st (items_of (puts ++ next)) stands_plain in
+      (taken_more fed k.0, (k.1, k.2, standing_after fed items es h.config h.st k.1 h.at k.3 (subst (λ q. IsCutSoFar q k.1) h.goes_by.params k.4), subst (λ n. Contains (made_at n k.1) (item_of Tree k.2)) h.goes_by.version k.5, k.6))
 
   module _ (waiting : c.waiting ≡ b.waiting) (listed_is : c.listed ≡ b.listed) (counts : c.counts ≡ b.counts) (n : ℕ) (item : Item) (other : item ≡ Item.Abandon → ⊥) (goes : Goes facts (sealing_at item) (fed_part n item) b.work c.work)
-      (params : c.work.walk.params ≡ b.work.walk.params) (aims : AimsOn b.work.packing c.work.packing) (listed : Option PackFacts) (left : IsLeftOpen (sealing_at item) listed c.work.packing) where
+      (params : c.work.walk.params ≡ b.work.walk.params) (version : c.work.walk.version ≡ b.work.walk.version) (aims : AimsOn b.work.packing c.work.packing) (listed : Option PackFacts) (left : IsLeftOpen (sealing_at item) listed c.work.packing) where
     abbrev pub part : Fed
     part = fed_part n item
 
-    abbrev pub step : MayTake (place_at h.st) part × (now : Standing) × (sealed : List layout.Item) × (place_at now ≡ after (place_at h.st) part) × PieceStands c.work facts now (items_of (puts ++ next)) sealed
-        × IsSealedBy (sealing_at item) b.work.packing.packer.writer.target sealed
-    step = goes h.st (items_of (puts ++ next)) h.stands
+    abbrev pub step : MayTake (place_at h.st) part × (now : Standing) × (sealed : List layout.Item) × (place_at now ≡ after (place_at h.st) part) × WorkStands c.work facts now (items_of (puts ++ next)) sealed
+        × IsSealedAs (sealing_at item) b.work.packing.packer.writer.target sealed c.work
+    step = goes h.st (items_of (puts ++ next)) stands_plain
 
     -- a plain item doesn't end them
     pub plain_open : IsPlain item → c.work.walk.root ≡ None
-    plain_open plain =
+    plain_open is_plain =
         let k = step in
-        none_there c.work.walk.root (k.4.at.over ∙ ap (λ (p : Place). p.over) k.3 ∙ plain_over n item (place_at h.st) plain ∙ ap (λ (p : Place). p.over) h.at.lead.place ∙ not_over)
+        open_root c.work facts k.1 (items_of (puts ++ next)) k.2 k.4 (ap (λ (p : Place). p.over) k.3 ∙ plain_over n item (place_at h.st) is_plain ∙ ap (λ (p : Place). p.over) h.at.lead.place ∙ not_over)
 
     -- where they ended, the open pack is empty
     empty_at_end : c.work.walk.root ≢ None → c.work.packing.packer.writer.items ≡ []
@@ -150,10 +175,10 @@ module _ (facts : List Fact) (b c : PieceBacking) (puts next : List Put) (items 
         record {
           config = h.config;
           st = k.1;
-          at = standing_after part items es h.config h.st k.1 h.at k.3 (subst (λ q. IsCutSoFar q k.1) by k.4.cut);
+          at = standing_after part items es h.config h.st k.1 h.at k.3 (subst (λ q. IsCutSoFar q k.1) by (cut_in c.work facts k.1 (items_of (puts ++ next)) k.2 k.4));
           taken = taken_more part k.0;
           kept = nobody_gave_up n item items other;
-          goes_by = record { params = by; aim = ap (λ t. t.bytes) aims.0 ∙ h.goes_by.aim; aims = aims.1 (h.goes_by.aims ∙ sym h.goes_by.aim) ∙ ap (λ t. t.bytes) aims.0 ∙ h.goes_by.aim };
+          goes_by = record { params = by; version = version ∙ h.goes_by.version; aim = ap (λ t. t.bytes) aims.0 ∙ h.goes_by.aim; aims = aims.1 (h.goes_by.aims ∙ sym h.goes_by.aim) ∙ ap (λ t. t.bytes) aims.0 ∙ h.goes_by.aim };
           stands = k.4;
           opened = left_open (sealing_at item) listed c.work.packing left;
           ended = empty_at_end;
@@ -163,33 +188,21 @@ module _ (facts : List Fact) (b c : PieceBacking) (puts next : List Put) (items 
     -- and no pack is sealed
     pub stands_unsealed : c.work.packing.packer.sealed ≡ None → StandsAt facts c puts next [] (part ∷ items) es
     unfolding stands_further
-    stands_unsealed unsealed = subst (λ l. StandsAt facts c puts next l (part ∷ items) es) (none_sealed c.work.packing.packer.sealed step.2 unsealed step.4.packing.sealed_is) stands_further
+    stands_unsealed unsealed = subst (λ l. StandsAt facts c puts next l (part ∷ items) es) (none_sealed c.work.packing.packer.sealed step.2 unsealed (packing_in c.work facts step.1 (items_of (puts ++ next)) step.2 step.4).sealed_is) stands_further
 
-    -- a pack that is sealed is full, or the items ended
-    pub sealed_full : (so : PackFacts) → IsListed (Some so) c.work.packing → IsFullPack es step.2 ⊎ ((place_of (part ∷ items)).over ≡ true)
+    -- a pack that is sealed is full, or the items ended, and no part is left
+    pub sealed_full : (so : PackFacts) → IsListed (Some so) c.work.packing → IsFullPack es step.2 ⊎ (((place_of (part ∷ items)).over ≡ true) × (c.work.parts ≡ None))
     sealed_full so lists =
         let k = step in
-        let many = (lists k.2 k.4.packing.sealed_is).1.holds.holds.pack.count.0 in
-        by item refl k.5 many
-      where
-        due : (sealed : List layout.Item) → (sealed ≡ []) ⊎ IsJustDue b.work.packing.packer.writer.target sealed → 1 ≤ length sealed → IsFullPack es sealed ⊎ ((place_of (part ∷ items)).over ≡ true)
-        due sealed (inl none) many = absurd (omega (arith, ap length none, many))
-        due sealed (inr full) many = inl (h.config, h.at.has, subst (λ (t : ℕ). IsJustDue t sealed) h.goes_by.aims full)
-
-        by : (it : Item) → it ≡ item → IsSealedBy (sealing_at item) b.work.packing.packer.writer.target step.2 → 1 ≤ length step.2 → IsFullPack es step.2 ⊎ ((place_of (part ∷ items)).over ≡ true)
-        by Item.End is sealed many = inr (subst (λ (x : Item). (after (place_of items) (fed_part n x)).over ≡ true) is refl)
-        by (Item.Dir name) is sealed many = due step.2 (subst (λ x. IsSealedBy (sealing_at x) b.work.packing.packer.writer.target step.2) (sym is) sealed) many
-        by (Item.File name) is sealed many = due step.2 (subst (λ x. IsSealedBy (sealing_at x) b.work.packing.packer.writer.target step.2) (sym is) sealed) many
-        by (Item.Bytes piece) is sealed many = due step.2 (subst (λ x. IsSealedBy (sealing_at x) b.work.packing.packer.writer.target step.2) (sym is) sealed) many
-        by Item.Close is sealed many = due step.2 (subst (λ x. IsSealedBy (sealing_at x) b.work.packing.packer.writer.target step.2) (sym is) sealed) many
-        by Item.Abandon is sealed many = due step.2 (subst (λ x. IsSealedBy (sealing_at x) b.work.packing.packer.writer.target step.2) (sym is) sealed) many
+        let many = (lists k.2 (packing_in c.work facts k.1 (items_of (puts ++ next)) k.2 k.4).sealed_is).1.holds.holds.pack.count.0 in
+        elim k.5 [ inl due ↦ inl (full_by h.config es k.2 h.at.has (subst (λ (t : ℕ). IsSealedBy Sealing.Due t k.2) h.goes_by.aims due) many) | inr last ↦ inr (ends_by n item (place_of items) last.0, last.1) ]
 
 -- ---- it wasn't
 
 -- the work stands where it stood
 pub stands_still : (facts : List Fact) (b c : PieceBacking) (puts next : List Put) (items : Feeding) (es : Trace) → StandsAt facts b puts next [] items es → c.waiting ≡ b.waiting → c.listed ≡ b.listed → c.counts ≡ b.counts
-    → Stays facts b.work c.work → IsReady c.work → c.work.walk.params ≡ b.work.walk.params → AimsOn b.work.packing c.work.packing → StandsAt facts c puts next [] items es
-stands_still facts b c puts next items es h waiting listed_is counts stays ready params aims =
+    → Stays facts b.work c.work → IsReady b.work → IsReady c.work → c.work.walk.params ≡ b.work.walk.params → c.work.walk.version ≡ b.work.walk.version → AimsOn b.work.packing c.work.packing → StandsAt facts c puts next [] items es
+stands_still facts b c puts next items es h waiting listed_is counts stays was ready params version aims =
     let all : waits b ≡ waits c = λ i. sym waiting i ++ listed_of (sym listed_is i) in
     record {
       config = h.config;
@@ -197,8 +210,8 @@ stands_still facts b c puts next items es h waiting listed_is counts stays ready
       at = h.at;
       taken = h.taken;
       kept = h.kept;
-      goes_by = record { params = params ∙ h.goes_by.params; aim = ap (λ t. t.bytes) aims.0 ∙ h.goes_by.aim; aims = aims.1 (h.goes_by.aims ∙ sym h.goes_by.aim) ∙ ap (λ t. t.bytes) aims.0 ∙ h.goes_by.aim };
-      stands = stays h.st (items_of (puts ++ next)) h.stands;
+      goes_by = record { params = params ∙ h.goes_by.params; version = version ∙ h.goes_by.version; aim = ap (λ t. t.bytes) aims.0 ∙ h.goes_by.aim; aims = aims.1 (h.goes_by.aims ∙ sym h.goes_by.aim) ∙ ap (λ t. t.bytes) aims.0 ∙ h.goes_by.aim };
+      stands = inl (ready.unlaid, stays h.st (items_of (puts ++ next)) (plain b.work facts h.st (items_of (puts ++ next)) [] was.unlaid h.stands));
       opened = ready.opened;
       ended = λ some. absurd (some ready.unended);
       written = subst (λ ws. HasWritten facts ws c.counts puts next es) all (subst (λ m. HasWritten facts (waits b) m puts next es) (sym counts) h.written);
@@ -228,62 +241,71 @@ module _ (facts : List Fact) (b c : PieceBacking) (es : Trace) (h : PieceWaits f
   pub one_taken : (fed : Fed) → MayTake (place_at h.at.st) fed → AreTaken (fed ∷ fed_in es)
   one_taken fed may = taken_more facts b c h.puts [] (fed_in es) es h.at h.ready fed may
 
-  module _ (n : ℕ) (item : Item) (other : item ≡ Item.Abandon → ⊥) (goes : Goes facts (sealing_at item) (fed_part n item) b.work c.work) (params : c.work.walk.params ≡ b.work.walk.params) (aims : AimsOn b.work.packing c.work.packing)
+  module _ (n : ℕ) (item : Item) (other : item ≡ Item.Abandon → ⊥) (goes : Goes facts (sealing_at item) (fed_part n item) b.work c.work) (params : c.work.walk.params ≡ b.work.walk.params) (version : c.work.walk.version ≡ b.work.walk.version) (aims : AimsOn b.work.packing c.work.packing)
       (listed : Option PackFacts) (left : IsLeftOpen (sealing_at item) listed c.work.packing) where
     fed_plainly : c.work.packing.packer.sealed ≡ None → PieceAt facts c h.puts [] [] (feeding (fed_part n item) es)
-    fed_plainly unsealed = fed_there facts c h.puts [] [] (fed_part n item) es some (stands_unsealed facts b c h.puts [] (fed_in es) es h.at h.ready waiting listed_is counts n item other goes params aims listed left unsealed)
+    fed_plainly unsealed = fed_there facts c h.puts [] [] (fed_part n item) es some (stands_unsealed facts b c h.puts [] (fed_in es) es h.at h.ready waiting listed_is counts n item other goes params version aims listed left unsealed)
 
     -- input is wanted
-    pub fed_waits : IsPlain item → c.work.packing.packer.sealed ≡ None → PieceWaits facts c (feeding (fed_part n item) es)
-    fed_waits plain unsealed = record {
+    pub fed_waits : IsPlain item → c.work.packing.packer.sealed ≡ None → c.work.parts ≡ None → PieceWaits facts c (feeding (fed_part n item) es)
+    fed_waits is_plain unsealed unlaid = record {
       puts = h.puts;
       at = fed_plainly unsealed;
-      ready = record { unsealed = unsealed; opened = left_open (sealing_at item) listed c.work.packing left; unended = plain_open facts b c h.puts [] (fed_in es) es h.at h.ready waiting listed_is counts n item other goes params aims listed left plain };
+      ready = record { unsealed = unsealed; unlaid = unlaid; opened = left_open (sealing_at item) listed c.work.packing left; unended = plain_open facts b c h.puts [] (fed_in es) es h.at h.ready waiting listed_is counts n item other goes params version aims listed left is_plain };
       listed = listed_is ∙ h.listed;
       room = subst (λ (ws : List PackFacts). length (facts_in ws) < facts_limit) (sym waiting) h.room;
     }
 
     -- all ended, and no pack is sealed
-    pub fed_done : c.work.packing.packer.sealed ≡ None → IsPieceDone facts c (feeding (fed_part n item) es)
-    fed_done unsealed =
+    pub fed_done : c.work.packing.packer.sealed ≡ None → c.work.parts ≡ None → IsPieceDone facts c (feeding (fed_part n item) es)
+    fed_done unsealed unlaid =
         let n : length (facts_in c.waiting) ≡ length (facts_in b.waiting) = ap (λ ws. length (facts_in ws)) waiting in
         let room = h.room in
-        record { puts = h.puts; at = fed_plainly unsealed; unsealed = unsealed; listed = listed_is ∙ h.listed; few = omega (arith, n, room) }
+        record { idle = record { puts = h.puts; at = fed_plainly unsealed; unsealed = unsealed; listed = listed_is ∙ h.listed; few = omega (arith, n, room) }; unlaid = unlaid }
 
     -- a pack is sealed
     pub fed_due : (so : PackFacts) → IsListed (Some so) c.work.packing → IsPieceDue facts c so (feeding (fed_part n item) es)
     fed_due so lists =
         let fed = fed_part n item in
-        let k = goes h.at.st (items_of (h.puts ++ [])) h.at.stands in
-        let on = stands_further facts b c h.puts [] (fed_in es) es h.at h.ready waiting listed_is counts n item other goes params aims listed left in
-        let full = sealed_full facts b c h.puts [] (fed_in es) es h.at h.ready waiting listed_is counts n item other goes params aims listed left so lists in
+        let k = goes h.at.st (items_of (h.puts ++ [])) (stands_plain facts b c h.puts [] (fed_in es) es h.at h.ready) in
+        let on = stands_further facts b c h.puts [] (fed_in es) es h.at h.ready waiting listed_is counts n item other goes params version aims listed left in
+        let full = sealed_full facts b c h.puts [] (fed_in es) es h.at h.ready waiting listed_is counts n item other goes params version aims listed left so lists in
         record {
           puts = h.puts;
           sealed = k.2;
           at = fed_there facts c h.puts [] k.2 fed es some on;
           none = listed_is ∙ h.listed;
           lists = lists;
-          full = elim full [ inl due ↦ inl (due.0, config_on fed es due.0 due.1, due.2) | inr over ↦ inr (ap (λ l. (place_of l).over) (fed_items fed es some) ∙ over) ];
+          full = elim full [ inl due ↦ inl (due.0, config_on fed es due.0 due.1, due.2) | inr over ↦ inr (ap (λ l. (place_of l).over) (fed_items fed es some) ∙ over.0, over.1) ];
           room = subst (λ (ws : List PackFacts). length (facts_in ws) < facts_limit) (sym waiting) h.room;
         }
 
   -- a directory's tree text is too large
-  pub fed_large : (fed : Fed) → EndsTooLarge facts fed b.work → PieceTooLarge (feeding fed es)
-  fed_large fed large =
+  pub fed_large : (fed : Fed) → EndsTooLarge facts fed b.work → c.work.walk.version ≡ b.work.walk.version → IsPieceLarge facts c (feeding fed es)
+  fed_large fed large version =
       let k = large_at facts b c h.puts [] (fed_in es) es h.at h.ready fed large in
-      record { taken = subst AreTaken (sym (fed_items fed es some)) k.0; text = k.1.1; made = (h.at.config, k.1.0, standing_fed fed es h.at.config k.1.0 some k.1.2, k.1.3); large = k.1.4 }
+      record {
+        config = h.at.config;
+        st = k.1.0;
+        at = standing_fed fed es h.at.config k.1.0 some k.1.2;
+        taken = subst AreTaken (sym (fed_items fed es some)) k.0;
+        version_is = version ∙ h.at.goes_by.version;
+        text = k.1.1;
+        made = k.1.3;
+        large = k.1.4;
+      }
 
 -- ---- it was refused
 
 module _ (facts : List Fact) (b c : PieceBacking) (es : Trace) (h : PieceWaits facts b es) where
   pub fed_fault : (fed : Fed) (e : FeedError) → Refuses facts fed b.work e → ItemFault (place_of (fed_in es)) fed e
-  fed_fault fed e refuses = subst (λ p. ItemFault p fed e) h.at.at.lead.place (refuses h.at.st (items_of (h.puts ++ [])) h.at.stands)
+  fed_fault fed e refuses = subst (λ p. ItemFault p fed e) h.at.at.lead.place (refuses h.at.st (items_of (h.puts ++ [])) (stands_plain facts b c h.puts [] (fed_in es) es h.at h.ready))
 
   -- input is wanted as before
-  pub fed_still : c.waiting ≡ b.waiting → c.listed ≡ b.listed → c.counts ≡ b.counts → Stays facts b.work c.work → IsReady c.work → c.work.walk.params ≡ b.work.walk.params → AimsOn b.work.packing c.work.packing → PieceWaits facts c es
-  fed_still waiting listed_is counts stays ready params aims = record {
+  pub fed_still : c.waiting ≡ b.waiting → c.listed ≡ b.listed → c.counts ≡ b.counts → Stays facts b.work c.work → IsReady c.work → c.work.walk.params ≡ b.work.walk.params → c.work.walk.version ≡ b.work.walk.version → AimsOn b.work.packing c.work.packing → PieceWaits facts c es
+  fed_still waiting listed_is counts stays ready params version aims = record {
     puts = h.puts;
-    at = stands_still facts b c h.puts [] (fed_in es) es h.at waiting listed_is counts stays ready params aims;
+    at = stands_still facts b c h.puts [] (fed_in es) es h.at waiting listed_is counts stays h.ready ready params version aims;
     ready = ready;
     listed = listed_is ∙ h.listed;
     room = subst (λ (ws : List PackFacts). length (facts_in ws) < facts_limit) (sym waiting) h.room;

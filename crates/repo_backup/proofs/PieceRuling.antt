@@ -11,11 +11,12 @@ use Rattle.repo_session.specs.Order.{Task, opened, lock_row, IsWorking}
 use Rattle.repo_session.specs.Traces.{Each, Trace, Exchanged, IsGiven, fed_in, feeding, silent}
 use Rattle.repo_session.specs.declared.jobs.Step.{Step}
 use Rattle.repo_tree.specs.Spelling.{Spells, greatest_depth}
+use Rattle.repo_tree.specs.Versions.{greatest_version, IsKnownTo}
 use Rattle.repo_tree.specs.declared.configs.Config.{Config}
 use Rattle.repo_tree.specs.declared.entries.Entry.{Entry}
 use Rattle.repo_wire.specs.declared.messages.Ask.{Ask}
 use Rattle.repo_wire.specs.declared.messages.Say.{Say}
-use Rattle.repo_writing.proofs.BlobLemmas.{once_behind, once_left, each_left, each_right}
+use Rattle.repo_writing.proofs.BlobLemmas.{has_either, once_behind, once_left, each_left, each_right}
 use Rattle.repo_writing.proofs.PutLemmas.{each_contained}
 use Rattle.repo_writing.proofs.Writings.{listing_of, all_done}
 use Rattle.repo_writing.specs.Blobs.{AreOnce, HasFact}
@@ -25,19 +26,22 @@ use Rattle.repo_backup.specs.Backing.{HasWritten}
 use Rattle.repo_backup.specs.Folders.{Folder, nothing, file_then, dir_then, entries_of, blobs_of, IsFolderOf}
 use Rattle.repo_backup.specs.Handed.{FollowAll, AreHanded}
 use Rattle.repo_backup.specs.Items.{Feeding, FileSoFar, Place, after, closed, place_of, spelled_by, AreTaken}
-use Rattle.repo_backup.specs.Packings.{IsCovered, all_items}
-use Rattle.repo_backup.specs.PieceRules.{HasConfig, IsStandingOf, IsStandingAt, IsFullPack, PiecePackRule, AreOver}
+use Rattle.repo_backup.specs.Packings.{IsCovered, IsPacking, all_items}
+use Rattle.repo_backup.specs.PieceRules.{HasConfig, IsStandingOf, IsStandingAt, IsFullPack, PieceAreLast, PiecePackRule, AreOver}
 use Rattle.repo_backup.specs.PieceStates.{piece_task, waits, StandsAt, PieceAt, PutsSnapshotOf}
-use Rattle.repo_backup.specs.Pieces.{IsRootAt, PieceStands}
-use Rattle.repo_backup.specs.Plans.{IsWithinDepth, AreTreeTexts}
+use Rattle.repo_backup.specs.Pieces.{IsRootAt, PieceStands, WorkStands}
+use Rattle.repo_backup.specs.Plans.{IsWithinDepth, AreTreeTextsBelow, AreTreeTexts}
 use Rattle.repo_backup.specs.Rules.{IsMade, SnapshotRule}
 use Rattle.repo_backup.specs.Standings.{Standing, place_at, IsCutSoFar, LeadTo, made_at}
 use Rattle.repo_backup.specs.declared.piece_backing.PieceBacking.{PieceBacking}
+use Rattle.repo_backup.proofs.Closing.{some_here}
 use Rattle.repo_backup.proofs.FedOn.{fed_exchanged, fed_items}
+use Rattle.repo_backup.proofs.FolderOrder.{folder_order}
 use Rattle.repo_backup.proofs.Leading.{made_of_all}
+use Rattle.repo_backup.proofs.Piecing.{plain, packing_in, made_in}
 use Rattle.repo_backup.proofs.Ruling.{spelled}
 use Rattle.repo_backup.proofs.Spelling.{spelled_are_handed}
-use Rattle.repo_backup.proofs.Written.{not_given, not_packed, covered_given}
+use Rattle.repo_backup.proofs.Written.{not_given, not_packed, covered_given, known_given, put_packed}
 
 -- ---- where the items lead
 
@@ -75,12 +79,13 @@ ended_by (fed_close ∷ items) taken over = absurd (both_ways (place_of items).o
 ended_by (fed_abandon ∷ items) taken over = absurd (both_ways (place_of items).over taken.0 over)
 
 -- then all is made of the entries that they spell
-pub made_whole : (items : Feeding) (es : Trace) (config : Config) (st : Standing) → IsStandingOf items es config st → AreTaken items → (place_of items).over ≡ true → IsMade (spelled_by items) es st.done × (made_at st ≡ blobs_of st.done)
+pub made_whole : (items : Feeding) (es : Trace) (config : Config) (st : Standing) → IsStandingOf items es config st → AreTaken items → (place_of items).over ≡ true → (m : IsMade (spelled_by items) es st.done) × (m.config ≡ config) × (made_at config.version st ≡ blobs_of config.version st.done)
 made_whole items es config st at taken over =
     let k = ended_by items taken over in
     let lead = subst (λ (l : Feeding). LeadTo config.params l st) k.1 at.lead in
-    let m = made_of_all config.params k.0 st (subst AreTaken k.1 taken) lead in (
+    let m = made_of_all config.params config.version k.0 st (subst AreTaken k.1 taken) lead in (
       record { text = at.has.text; config = config; read = at.has.read; reads = at.has.reads; known = at.has.known; cut = subst (λ (l : Feeding). IsFolderOf config.params (spelled_by l) st.done) (sym k.1) m.0 },
+      refl,
       m.1,
     )
 
@@ -131,20 +136,24 @@ module _ (facts : List Fact) (b : PieceBacking) (puts : List Put) (sealed : List
   pub sent_is : items_of (puts ++ []) ≡ items_of puts
   sent_is = ap items_of (append-nil puts)
 
-  pub stands_so : PieceStands b.work facts h.st (items_of puts) sealed
-  stands_so = subst (λ l. PieceStands b.work facts h.st l sealed) sent_is h.stands
+  pub stands_so : WorkStands b.work facts h.st (items_of puts) sealed
+  stands_so = subst (λ l. WorkStands b.work facts h.st l sealed) sent_is h.stands
+
+  packing_so : IsPacking b.work.packing facts (items_of puts) sealed
+  packing_so = packing_in b.work facts h.st (items_of puts) sealed stands_so
 
   once_all : AreOnce (items_of puts ++ sealed)
-  once_all = once_left (items_of puts ++ sealed) b.work.packing.packer.writer.items stands_so.packing.once
+  once_all = once_left (items_of puts ++ sealed) b.work.packing.packer.writer.items packing_so.once
 
   unknown_all : Each (λ i. ¬ HasFact facts i.kind i.name) sealed
   unknown_all =
       let U : Item → Type 0 = λ i. ¬ HasFact facts i.kind i.name in
-      each_right U (items_of puts) sealed (each_left U (items_of puts ++ sealed) b.work.packing.packer.writer.items stands_so.packing.unknown)
+      each_right U (items_of puts) sealed (each_left U (items_of puts ++ sealed) b.work.packing.packer.writer.items packing_so.unknown)
 
   -- the sealed pack's blobs were made, each once, and are neither known nor in a pack put before
-  pub sealed_made : (item : Item) → Contains sealed item → Contains (made_at h.st) item
-  sealed_made item among = stands_so.of_made item (Contains-append_left (items_of puts ++ sealed) b.work.packing.packer.writer.items item (Contains-append_right (items_of puts) sealed item among))
+  pub sealed_made : (item : Item) → Contains sealed item → Contains (made_at h.config.version h.st) item
+  sealed_made item among = subst (λ n. Contains (made_at n h.st) item) h.goes_by.version
+      (made_in b.work facts h.st (items_of puts) sealed stands_so item (Contains-append_left (items_of puts ++ sealed) b.work.packing.packer.writer.items item (Contains-append_right (items_of puts) sealed item among)))
 
   pub sealed_once : AreOnce sealed
   sealed_once = once_behind (items_of puts) sealed once_all
@@ -155,18 +164,41 @@ module _ (facts : List Fact) (b : PieceBacking) (puts : List Put) (sealed : List
   pub sealed_unput : (item : Item) → Contains sealed item → ¬ IsPacked es item.kind item.name
   sealed_unput item among packed = not_packed facts (waits b) b.counts puts es sealed item h.written once_all among packed
 
-  -- whether the items ended
-  pub over_is : is_some b.work.walk.root ≡ (place_of items).over
-  over_is = h.stands.at.over ∙ ap (λ (p : Place). p.over) h.at.lead.place
+  -- where no part of a directory is left to be made, it stands there
+  module _ (unlaid : b.work.parts ≡ None) where
+    pub plainly : PieceStands b.work facts h.st (items_of puts) sealed
+    plainly = plain b.work facts h.st (items_of puts) sealed unlaid stands_so
 
-  -- where they ended, the open pack is empty, and each blob made is known, in a pack put, or in the sealed one
-  pub whole_covered : b.work.walk.root ≢ None → Each (λ item. IsCovered facts (items_of puts ++ sealed) item) (made_at h.st)
-  whole_covered some =
-      let all : all_items (items_of puts) sealed b.work.packing ≡ items_of puts ++ sealed = ap (λ l. (items_of puts ++ sealed) ++ l) (h.ended some) ∙ append-nil (items_of puts ++ sealed) in
-      subst (λ l. Each (λ item. IsCovered facts l item) (made_at h.st)) all stands_so.covered
+    -- whether the items ended
+    pub over_is : is_some b.work.walk.root ≡ (place_of items).over
+    over_is = plainly.at.over ∙ ap (λ (p : Place). p.over) h.at.lead.place
+
+    -- where they ended, the open pack is empty, and each blob made is known, in a pack put, or in the sealed one
+    pub whole_covered : b.work.walk.root ≢ None → Each (λ item. IsCovered facts (items_of puts ++ sealed) item) (made_at h.config.version h.st)
+    whole_covered some =
+        let all : all_items (items_of puts) sealed b.work.packing ≡ items_of puts ++ sealed = ap (λ l. (items_of puts ++ sealed) ++ l) (h.ended some) ∙ append-nil (items_of puts ++ sealed) in
+        subst (λ n. Each (λ item. IsCovered facts (items_of puts ++ sealed) item) (made_at n h.st)) h.goes_by.version (subst (λ l. Each (λ item. IsCovered facts l item) (made_at b.work.walk.version h.st)) all plainly.covered)
+
+-- where the items ended and no part is left, nothing more waits
+pub piece_last : (facts : List Fact) (b : PieceBacking) (puts : List Put) (sealed : List Item) (es : Trace) (h : PieceAt facts b puts [] sealed es) → b.work.parts ≡ None → AreOver es → PieceAreLast es sealed
+piece_last facts b puts sealed es h unlaid over =
+    let some = some_here b.work.walk.root (over_is facts b puts sealed (fed_in es) es h unlaid ∙ over) in
+    record {
+      over = over;
+      config = h.config;
+      st = h.st;
+      at = h.at;
+      all = λ item among. elim (each_contained (λ i. IsCovered facts (items_of puts ++ sealed) i) (made_at h.config.version h.st) item (whole_covered facts b puts sealed (fed_in es) es h unlaid some) among) [
+        | inl fact ↦ inl (known_given facts es item.kind item.name h.written.gives fact)
+        | inr has ↦ elim (has_either (items_of puts) sealed item.kind item.name has) [
+          | inl sent ↦ inr (inl (put_packed facts (waits b) b.counts puts es item.kind item.name h.written sent))
+          | inr here ↦ inr (inr here)
+        ]
+      ];
+    }
 
 -- the sealed pack may be put
-pub piece_pack : (facts : List Fact) (b : PieceBacking) (puts : List Put) (sealed : List Item) (es : Trace) (h : PieceAt facts b puts [] sealed es) (x : List ℕ) → IsTruePack x sealed → IsFullPack es sealed ⊎ AreOver es → PiecePackRule es x
+pub piece_pack : (facts : List Fact) (b : PieceBacking) (puts : List Put) (sealed : List Item) (es : Trace) (h : PieceAt facts b puts [] sealed es) (x : List ℕ) → IsTruePack x sealed → IsFullPack es sealed ⊎ (AreOver es × (b.work.parts ≡ None)) → PiecePackRule es x
 piece_pack facts b puts sealed es h x pack full = record {
   indexes = h.written.indexed;
   first = h.written.none;
@@ -178,29 +210,33 @@ piece_pack facts b puts sealed es h x pack full = record {
   once = sealed_once facts b puts sealed (fed_in es) es h;
   unread = sealed_unread facts b puts sealed (fed_in es) es h;
   unput = sealed_unput facts b puts sealed (fed_in es) es h;
-  full = full;
+  full = elim full [ inl due ↦ inl due | inr over ↦ inr (piece_last facts b puts sealed es h over.1 over.0) ];
 }
 
 some_not : {A : Type 0} (o : Option A) (x : A) → o ≡ Some x → o ≢ None
 some_not o x is none = let no : Some x ≡ None = sym is ∙ none in absurd (cc)
 
-module _ (facts : List Fact) (b : PieceBacking) (puts : List Put) (items : Feeding) (es : Trace) (h : StandsAt facts b puts [] [] items es) where
+module _ (facts : List Fact) (b : PieceBacking) (puts : List Put) (items : Feeding) (es : Trace) (h : StandsAt facts b puts [] [] items es) (unlaid : b.work.parts ≡ None) where
   -- the snapshot may be put: all was fed and made, nothing waits, and each blob is known or in the packs put
-  pub fed_snapshot : (root : Name) (holding : Holding) (step : Step) (p : PutsSnapshotOf holding root step) → b.work.walk.root ≡ Some root → waits b ≡ [] → IsWorking (piece_task holding.who) holding.token es
+  pub fed_snapshot : (root : Name) (holding : Holding) (step : Step) (p : PutsSnapshotOf holding root b.work.walk.version step) → b.work.walk.root ≡ Some root → waits b ≡ [] → IsWorking (piece_task holding.who) holding.token es
       → SnapshotRule (spelled_by items) es holding.token p.text
   fed_snapshot root holding step p is none working =
-      let over : (place_of items).over ≡ true = sym (over_is facts b puts [] items es h) ∙ ap is_some is in
+      let V = h.config.version in
+      let over : (place_of items).over ≡ true = sym (over_is facts b puts [] items es h unlaid) ∙ ap is_some is in
       let m = made_whole items es h.config h.st h.at h.taken over in
       let folder = h.st.done in
       let entries = spelled_by items in
       let written : HasWritten facts [] b.counts puts [] es = subst (λ l. HasWritten facts l b.counts puts [] es) none h.written in
-      let covered : Each (λ item. IsCovered facts (items_of puts) item) (blobs_of folder) =
-      subst (λ l. Each (λ item. IsCovered facts (items_of puts) item) l) m.1 (subst (λ l. Each (λ item. IsCovered facts l item) (made_at h.st)) (append-nil (items_of puts)) (whole_covered facts b puts [] items es h (some_not b.work.walk.root root is))) in
-      let tree = subst (λ r. IsRootAt r folder) is h.stands.at.root in
-      let texts : AreTreeTexts folder = (tree.1, h.stands.texts.0) in
-      let within = within_depth entries folder (spelled_are_handed items h.taken) m.0.cut.holds in
+      let covered : Each (λ item. IsCovered facts (items_of puts) item) (blobs_of V folder) =
+      subst (λ l. Each (λ item. IsCovered facts (items_of puts) item) l) m.2 (subst (λ l. Each (λ item. IsCovered facts l item) (made_at V h.st)) (append-nil (items_of puts)) (whole_covered facts b puts [] items es h unlaid (some_not b.work.walk.root root is))) in
+      let stands = plainly facts b puts [] items es h unlaid in
+      let tree = subst (λ n. IsRootAt n (Some root) folder) h.goes_by.version (subst (λ r. IsRootAt b.work.walk.version r folder) is stands.at.root) in
+      let texts : AreTreeTexts V folder = (tree.1, subst (λ n. AreTreeTextsBelow n folder) h.goes_by.version stands.texts.0) in
+      let handed = spelled_are_handed items h.taken in
+      let within = within_depth entries folder handed m.0.cut.holds in
       let task = piece_task holding.who in
-      let spells = spelled entries folder p.snapshot.tree within texts m.0.cut.holds (p.tree ∙ tree.0) in
+      let version : p.snapshot.version ≡ V = p.version_is ∙ h.goes_by.version in
+      let spells = spelled V entries folder p.snapshot.tree within (folder_order V entries folder handed m.0.cut.holds) texts m.0.cut.holds (p.tree ∙ tree.0) in
       record {
         indexes = written.indexed;
         first = written.none;
@@ -215,12 +251,17 @@ module _ (facts : List Fact) (b : PieceBacking) (puts : List Put) (items : Feedi
         time_is = p.time;
         folder = folder;
         cut = m.0;
-        version_is = (let least = m.0.reads.known.0 in let most = m.0.known in omega (arith, p.version, least, most));
-        spells = subst (λ v. Spells v (λ k y. Contains (blobs_of folder) (item_of k y)) p.snapshot.tree [] entries) (sym p.version) spells;
-        given = λ item among. covered_given facts b.counts puts es item written (each_contained (λ i. IsCovered facts (items_of puts) i) (blobs_of folder) item covered among);
+        version_is = version ∙ ap (λ (c : Config). c.version) (sym m.1);
+        spells = subst (λ (c : Config). Spells p.snapshot.version (λ k y. Contains (blobs_of c.version folder) (item_of k y)) p.snapshot.tree [] entries) (sym m.1)
+            (subst (λ v. Spells v (λ k y. Contains (blobs_of V folder) (item_of k y)) p.snapshot.tree [] entries) (sym version) spells);
+        given = λ item among. covered_given facts b.counts puts es item written (each_contained (λ i. IsCovered facts (items_of puts) i) (blobs_of V folder) item covered (subst (λ (c : Config). Contains (blobs_of c.version folder) item) m.1 among));
       }
 
-pub piece_snapshot : (facts : List Fact) (b : PieceBacking) (puts : List Put) (es : Trace) (h : PieceAt facts b puts [] [] es) (root : Name) (holding : Holding) (step : Step) (p : PutsSnapshotOf holding root step) → b.work.walk.root ≡ Some root → waits b ≡ []
-    → IsWorking (piece_task holding.who) holding.token es → AreOver es × AreTaken (fed_in es) × SnapshotRule (spelled_by (fed_in es)) es holding.token p.text
-piece_snapshot facts b puts es h root holding step p is none working =
-    (sym (over_is facts b puts [] (fed_in es) es h) ∙ ap is_some is, h.taken, fed_snapshot facts b puts (fed_in es) es h root holding step p is none working)
+pub piece_snapshot : (facts : List Fact) (b : PieceBacking) (puts : List Put) (es : Trace) (h : PieceAt facts b puts [] [] es) → b.work.parts ≡ None → (root : Name) (holding : Holding) (step : Step) (p : PutsSnapshotOf holding root b.work.walk.version step)
+    → b.work.walk.root ≡ Some root → waits b ≡ [] → IsWorking (piece_task holding.who) holding.token es → AreOver es × AreTaken (fed_in es) × SnapshotRule (spelled_by (fed_in es)) es holding.token p.text
+piece_snapshot facts b puts es h unlaid root holding step p is none working =
+    (sym (over_is facts b puts [] (fed_in es) es h unlaid) ∙ ap is_some is, h.taken, fed_snapshot facts b puts (fed_in es) es h unlaid root holding step p is none working)
+
+-- the work goes by a version that is known
+pub work_known : (facts : List Fact) (b : PieceBacking) (puts : List Put) (items : Feeding) (es : Trace) → StandsAt facts b puts [] [] items es → IsKnownTo greatest_version b.work.walk.version
+work_known facts b puts items es h = subst (λ n. IsKnownTo greatest_version n) (sym h.goes_by.version) h.at.has.reads.known

@@ -1,5 +1,5 @@
 -- What is known from one request of a backup that is fed to the next.
-use Rattle.std.proofs.Common.{arith, ◌≡◌, ◌≢◌, ◌<◌, ◌≤◌, ◌+◌, ◌↔◌, ◌++◌, ◌∷◌, [], ℕ, true, List, length, map, Option, Some, None, is_some, refl, sym, ap, subst, inl, inr, ◌⊎◌, ◌∙◌, append-nil, Contains}
+use Rattle.std.proofs.Common.{arith, ◌≡◌, ◌≢◌, ◌<◌, ◌≤◌, ◌+◌, ◌↔◌, ◌++◌, ◌∷◌, [], ℕ, zero, suc, true, List, length, map, Option, Some, None, is_some, refl, sym, ap, subst, inl, inr, ◌⊎◌, ◌∙◌, append-nil, Contains}
 use Rattle.repo_index.specs.IndexText.{IsIndexText, facts_in}
 use Rattle.repo_index.specs.declared.facts.Fact.{Fact}
 use Rattle.repo_index.specs.declared.facts.PackFacts.{PackFacts}
@@ -27,17 +27,27 @@ use Rattle.repo_writing.specs.Writing.{Put, items_of, AreCounts, FewWait}
 use Rattle.repo_writing.proofs.Writings.{listing_of, items_push, put_of, is_put, puts_lawful, waits_lawful, waits_few}
 use Rattle.repo_backup.specs.Backing.{HasWritten}
 use Rattle.repo_backup.specs.Items.{Feeding}
-use Rattle.repo_backup.specs.Packings.{IsCovered}
-use Rattle.repo_backup.specs.PieceRules.{IsFullIndex, PiecePackRule, PieceAllows, AreOver, WantsInput, piece_rule}
-use Rattle.repo_backup.specs.PieceStates.{piece_task, listed_of, waits, GoesBy, StandsAt, HasBegun, NothingFed, KnowsPiecePut, PieceWaits, PutsPack, PutsIndex, KnowsPieces, WantsPieces, IsDueAt, IsDoneAt, IsPieceDone, PutsSnapshotOf}
-use Rattle.repo_backup.specs.Pieces.{IsAt, PieceStands, at_beginning}
+use Rattle.repo_backup.specs.Packings.{IsCovered, all_items}
+use Rattle.repo_backup.specs.PieceRules.{HasConfig, IsFullIndex, PieceAreLast, PiecePackRule, PieceAllows, PieceConcludes, PieceTooLarge, AreOver, WantsInput, piece_rule}
+use Rattle.repo_backup.specs.PieceStates.{piece_task, listed_of, waits, GoesBy, StandsAt, HasBegun, NothingFed, KnowsPiecePut, PieceWaits, PutsPack, PutsIndex, KnowsPieces, WantsPieces, IsDueAt, IsIdleAt, IsPieceDone, IsPieceIdle, IsPieceLarge, PutsSnapshotOf, large_end}
+use Rattle.repo_backup.specs.Pieces.{IsAt, AreTextsAround, WorkStands, at_beginning}
+use Rattle.repo_backup.specs.Folders.{nodes_of, tree_items}
+use Rattle.repo_backup.specs.PartsMade.{parts_by, open_dir}
+use Rattle.repo_backup.specs.Plans.{AreTreeTextsBelow}
+use Rattle.repo_tree.specs.PartWriting.{part_texts}
+use Rattle.repo_tree.specs.declared.configs.Config.{Config}
+use Rattle.repo_session.specs.Versions.{upto}
+use Rattle.repo_session.specs.declared.versions.Versions.{Versions}
+use Rattle.repo_session.specs.declared.outcomes.End.{End}
+use Rattle.repo_session.specs.declared.outcomes.Outcome.{Outcome}
 use Rattle.repo_backup.specs.Rules.{IndexRule}
 use Rattle.repo_backup.specs.Standings.{Standing, IsCutSoFar, made_at}
 use Rattle.repo_backup.specs.declared.piece_backing.PieceBacking.{PieceBacking}
 use Rattle.repo_backup.specs.declared.piece_works.PieceWork.{PieceWork}
 use Rattle.repo_writing.proofs.PutLemmas.{objects_put_other}
 use Rattle.repo_backup.proofs.PackingLemmas.{all_out, packing_out}
-use Rattle.repo_backup.proofs.PieceRuling.{over_is, piece_snapshot, config_later, sent_is}
+use Rattle.repo_backup.proofs.Piecing.{packing_in}
+use Rattle.repo_backup.proofs.PieceRuling.{over_is, piece_last, piece_snapshot, config_later, sent_is}
 use Rattle.repo_backup.proofs.Replying.{reading_puts}
 use Rattle.repo_backup.proofs.Staging.{facts_push}
 use Rattle.repo_backup.proofs.Written.{begin_written, pack_next, pack_written, index_may, index_written}
@@ -45,25 +55,50 @@ use Rattle.repo_backup.proofs.Written.{begin_written, pack_next, pack_written, i
 -- ---- the sealed pack is taken out
 
 -- the work stands without it
-pub stands_out : (w v : PieceWork) (known : List Fact) (st : Standing) (sent items : List Item) → v.walk ≡ w.walk → v.packing.packer.writer ≡ w.packing.packer.writer → v.packing.added ≡ w.packing.added → v.packing.packer.sealed ≡ None
-    → PieceStands w known st sent items → PieceStands v known st (sent ++ items) []
-stands_out w v known st sent items walk writer added none h =
+pub stands_out : (w v : PieceWork) (known : List Fact) (st : Standing) (sent items : List Item) → v.walk ≡ w.walk → v.parts ≡ w.parts → v.packing.packer.writer ≡ w.packing.packer.writer → v.packing.added ≡ w.packing.added → v.packing.packer.sealed ≡ None
+    → WorkStands w known st sent items → WorkStands v known st (sent ++ items) []
+stands_out w v known st sent items walk parts writer added none (inl h) =
     let all = all_out w.packing v.packing writer added none sent items in
-    record {
+    inl (
+      parts ∙ h.0,
+      record {
+        packing = packing_out w.packing v.packing writer added none sent items known h.1.packing;
+        of_made = λ item among. subst (λ x. Contains (made_at x.version st) item) (sym walk) (h.1.of_made item (subst (λ is. Contains is item) all among));
+        at = subst (λ x. IsAt x st) (sym walk) h.1.at;
+        cut = subst (λ x. IsCutSoFar x.params st) (sym walk) h.1.cut;
+        texts = subst (λ x. AreTreeTextsBelow x.version st.done × AreTextsAround x.version st.above) (sym walk) h.1.texts;
+        covered = subst (λ x. Each (λ item. IsCovered known (all_items (sent ++ items) [] v.packing) item) (made_at x.version st)) (sym walk) (subst (λ is. Each (λ item. IsCovered known is item) (made_at w.walk.version st)) (sym all) h.1.covered);
+      },
+    )
+stands_out w v known st sent items walk parts writer added none (inr h) =
+    let all = all_out w.packing v.packing writer added none sent items in
+    let there = open_dir h.done h.above in
+    inr (record {
+      parts = h.parts;
+      parts_are = parts ∙ h.parts_are;
+      done = h.done;
+      above = h.above;
+      closed = h.closed;
+      left = h.left;
+      made = h.made;
+      all = subst (λ x. h.left ++ h.made ≡ parts_by x.version (nodes_of x.version h.done)) (sym walk) h.all;
+      some = h.some;
+      is_left = h.is_left;
       packing = packing_out w.packing v.packing writer added none sent items known h.packing;
-      of_made = λ item among. h.of_made item (subst (λ is. Contains is item) all among);
-      at = subst (λ x. IsAt x st) (sym walk) h.at;
+      of_made = λ item among. subst (λ x. Contains (made_at x.version st) item) (sym walk) (h.of_made item (subst (λ is. Contains is item) all among));
+      at = subst (λ x. IsAt x there) (sym walk) h.at;
       cut = subst (λ x. IsCutSoFar x.params st) (sym walk) h.cut;
-      texts = h.texts;
-      covered = subst (λ is. Each (λ item. IsCovered known is item) (made_at st)) (sym all) h.covered;
-    }
+      texts = subst (λ x. AreTreeTextsBelow x.version h.done × AreTextsAround x.version h.above) (sym walk) h.texts;
+      covered = subst (λ x. Each (λ item. IsCovered known (all_items (sent ++ items) [] v.packing) item) (made_at x.version there ++ tree_items (part_texts h.made))) (sym walk)
+          (subst (λ is. Each (λ item. IsCovered known is item) (made_at w.walk.version there ++ tree_items (part_texts h.made))) (sym all) h.covered);
+    })
 
-module _ (facts : List Fact) (b c : PieceBacking) (listed : PackFacts) (items : Feeding) (es : Trace) (h : IsDueAt facts b listed items es) (walk : c.work.walk ≡ b.work.walk) (writer : c.work.packing.packer.writer ≡ b.work.packing.packer.writer)
+module _ (facts : List Fact) (b c : PieceBacking) (listed : PackFacts) (items : Feeding) (es : Trace) (h : IsDueAt facts b listed items es) (walk : c.work.walk ≡ b.work.walk) (parts : c.work.parts ≡ b.work.parts) (writer : c.work.packing.packer.writer ≡ b.work.packing.packer.writer)
     (added : c.work.packing.added ≡ b.work.packing.added) (target : c.work.packing.packer.target ≡ b.work.packing.packer.target) (none : c.work.packing.packer.sealed ≡ None) (is : c.listed ≡ Some listed) (waiting : c.waiting ≡ b.waiting)
     (counted : (sealed : Sealed) → b.work.packing.packer.sealed ≡ Some sealed → (before items : List Item) → IsSealedOf sealed items → AreCounts b.counts before → AreCounts c.counts (before ++ items)) where
   -- the pack, and how it is listed
   pub pack_of : (sealed : Sealed) × IsListedAs b.work.packing.packer.sealed h.sealed sealed listed
-  pack_of = h.lists h.sealed h.at.stands.packing.sealed_is
+  pack_of = h.lists h.sealed (packing_in b.work facts h.at.st (items_of (h.puts ++ [])) h.sealed h.at.stands).sealed_is
 
   -- it is being put
   pub pack_goes_out : PutsPack facts c pack_of.0.name pack_of.0.bytes items es
@@ -74,8 +109,8 @@ module _ (facts : List Fact) (b c : PieceBacking) (listed : PackFacts) (items : 
       let p : Put = put_of s h.sealed listed in
       let all : waits c ≡ waits b ++ listed ∷ [] = (λ i. waiting i ++ listed_of (is i)) ∙ ap (λ ws. ws ++ listed ∷ []) (sym (append-nil b.waiting) ∙ ap (λ o. b.waiting ++ listed_of o) (sym h.none)) in
       let written = pack_next facts (waits b) b.counts puts c.counts p es h.at.written (is_put b.work.packing.packer.sealed h.sealed s listed l) (counted s l.is (items_of puts) h.sealed l.holds) in
-      let stands : PieceStands c.work facts h.at.st (items_of puts ++ h.sealed) [] =
-      stands_out b.work c.work facts h.at.st (items_of puts) h.sealed walk writer added none (subst (λ x. PieceStands b.work facts h.at.st x h.sealed) (sent_is facts b puts h.sealed items es h.at) h.at.stands) in
+      let stands : WorkStands c.work facts h.at.st (items_of puts ++ h.sealed) [] =
+      stands_out b.work c.work facts h.at.st (items_of puts) h.sealed walk parts writer added none (subst (λ x. WorkStands b.work facts h.at.st x h.sealed) (sent_is facts b puts h.sealed items es h.at) h.at.stands) in
       let count : length listed.facts ≡ length h.sealed = l.exact.count in
       let few = l.holds.holds.pack.count.1 in
       let long : length (facts_in (waits c)) ≡ length (facts_in b.waiting) + length listed.facts =
@@ -89,8 +124,8 @@ module _ (facts : List Fact) (b c : PieceBacking) (listed : PackFacts) (items : 
           at = h.at.at;
           taken = h.at.taken;
           kept = h.at.kept;
-          goes_by = record { params = ap (λ x. x.params) walk ∙ h.at.goes_by.params; aim = ap (λ t. t.bytes) target ∙ h.at.goes_by.aim; aims = ap (λ x. x.target) writer ∙ h.at.goes_by.aims };
-          stands = subst (λ x. PieceStands c.work facts h.at.st x []) (sym (items_push puts p)) stands;
+          goes_by = record { params = ap (λ x. x.params) walk ∙ h.at.goes_by.params; version = ap (λ x. x.version) walk ∙ h.at.goes_by.version; aim = ap (λ t. t.bytes) target ∙ h.at.goes_by.aim; aims = ap (λ x. x.target) writer ∙ h.at.goes_by.aims };
+          stands = subst (λ x. WorkStands c.work facts h.at.st x []) (sym (items_push puts p)) stands;
           opened = subst IsOpen (sym writer) h.at.opened;
           ended = λ some. ap (λ x. x.items) writer ∙ h.at.ended (λ e. some (ap (λ x. x.root) walk ∙ e));
           written = subst (λ ws. HasWritten facts ws c.counts puts (p ∷ []) es) (sym all) written;
@@ -112,7 +147,7 @@ at_later facts b c puts next puts' ask say items es work sent h written = record
   taken = h.taken;
   kept = h.kept;
   goes_by = subst (λ w. GoesBy h.config w) (sym work) h.goes_by;
-  stands = subst (λ w. PieceStands w facts h.st (items_of (puts' ++ [])) []) (sym work) (subst (λ l. PieceStands b.work facts h.st l []) (sym sent) h.stands);
+  stands = subst (λ w. WorkStands w facts h.st (items_of (puts' ++ [])) []) (sym work) (subst (λ l. WorkStands b.work facts h.st l []) (sym sent) h.stands);
   opened = subst (λ w. IsOpen w.packing.packer.writer) (sym work) h.opened;
   ended = λ some. (let same = ap (λ w. w.packing.packer.writer.items) work in same ∙ h.ended (λ e. some (ap (λ w. w.walk.root) work ∙ e)));
   written = written;
@@ -120,7 +155,7 @@ at_later facts b c puts next puts' ask say items es work sent h written = record
 
 -- the put of a pack is done, and it is listed behind those that wait
 pub pack_is_put : (facts : List Fact) (b c : PieceBacking) (token : Token) (n : Name) (x : List ℕ) (items : Feeding) (es : Trace) → PutsPack facts b n x items es → c.work ≡ b.work → c.counts ≡ b.counts → c.waiting ≡ waits b → c.listed ≡ None
-    → IsDoneAt facts c items (silent (Ask.Put token Kind.Pack n x) Say.Done ∷ es)
+    → IsIdleAt facts c items (silent (Ask.Put token Kind.Pack n x) Say.Done ∷ es)
 pack_is_put facts b c token n x items es h work counts waiting none =
     let ask = Ask.Put token Kind.Pack n x in
     let named : Ask.Put token Kind.Pack n x ≡ Ask.Put token Kind.Pack h.put.pack.name h.put.pack.bytes = ap (λ o. Ask.Put token Kind.Pack o.name o.bytes) (sym h.pack_is) in
@@ -137,7 +172,7 @@ pack_is_put facts b c token n x items es h work counts waiting none =
 
 -- the put of an index is done, and nothing waits
 pub index_is_put : (facts : List Fact) (b c : PieceBacking) (token : Token) (n : Name) (x : List ℕ) (items : Feeding) (es : Trace) → PutsIndex facts b x items es → c.work ≡ b.work → c.counts ≡ b.counts → c.waiting ≡ [] → c.listed ≡ b.listed
-    → IsDoneAt facts c items (silent (Ask.Put token Kind.Index n x) Say.Done ∷ es)
+    → IsIdleAt facts c items (silent (Ask.Put token Kind.Index n x) Say.Done ∷ es)
 index_is_put facts b c token n x items es h work counts waiting same =
     let ask = Ask.Put token Kind.Index n x in
     let none : c.listed ≡ None = same ∙ h.listed in
@@ -159,7 +194,7 @@ pub none_being_put : (b : PieceBacking) → b.listed ≡ None → waits b ≡ b.
 none_being_put b none = ap (λ o. b.waiting ++ listed_of o) none ∙ append-nil b.waiting
 
 -- an index of what waits may be put, and is known then
-pub index_out : (facts : List Fact) (b : PieceBacking) (token : Token) (step : Step) (items : Feeding) (es : Trace) (h : IsDoneAt facts b items es) → b.waiting ≢ [] → PutsIndexOf token b.waiting step
+pub index_out : (facts : List Fact) (b : PieceBacking) (token : Token) (step : Step) (items : Feeding) (es : Trace) (h : IsIdleAt facts b items es) → b.waiting ≢ [] → PutsIndexOf token b.waiting step
     → (x : List ℕ) × IsIndexText x b.waiting × (length x ≤ index_limit) × IndexRule es x × PutsIndex facts b x items es × (step ≡ Step.Ask (Ask.Put token Kind.Index (naming.name x) x))
 index_out facts b token step items es h some puts =
     let written : HasWritten facts b.waiting b.counts h.puts [] es = subst (λ ws. HasWritten facts ws b.counts h.puts [] es) (none_being_put b h.listed) h.at.written in
@@ -181,15 +216,32 @@ module _ (c : Catalog) (backing : Option PieceBacking) (b : PieceBacking) (is : 
       → MayGoOn piece_rule holding.who (KnowsPieces c backing) (WantsPieces c backing) es (Step.Ask (Ask.Put holding.token Kind.Pack n x))
   pack_step n x named small rule puts = record { work = tt; may = (working, named, small); allowed = rule; knows = inr (b, is, puts) }
 
+  -- an index is put
+  pub index_step : IsPieceIdle c.lookup b es → (token : Token) (step : Step) → token ≡ holding.token → b.waiting ≢ [] → (facts_limit ≤ length (facts_in b.waiting)) ⊎ (AreOver es × (b.work.parts ≡ None)) → PutsIndexOf token b.waiting step
+      → MayGoOn piece_rule holding.who (KnowsPieces c backing) (WantsPieces c backing) es step
+  index_step h token step own some why puts =
+      let k = index_out c.lookup b token step (fed_in es) es h some puts in
+      let x = k.0 in
+      let S : Step → Type 0 = λ s. MayGoOn piece_rule holding.who (KnowsPieces c backing) (WantsPieces c backing) es s in
+      let T : Token → Type 0 = λ t. S (Step.Ask (Ask.Put t Kind.Index (naming.name x) x)) in
+      let full : IsFullIndex x ⊎ PieceAreLast es [] = elim why [ inl many ↦ inl (b.waiting, k.1, many) | inr ended ↦ inr (piece_last c.lookup b h.puts [] es h.at ended.1 ended.0) ] in
+      let may : T holding.token = record {
+        work = tt;
+        may = (working, refl, k.2);
+        allowed = (k.3, h.at.kept, full);
+        knows = inr (b, is, k.4);
+      } in
+      subst S (sym k.5) (subst T (sym own) may)
+
   module _ (h : IsPieceDone c.lookup b es) where
     wait_for : waits b ≡ b.waiting
-    wait_for = none_being_put b h.listed
+    wait_for = none_being_put b h.idle.listed
 
-    written_so : HasWritten c.lookup b.waiting b.counts h.puts [] es
-    written_so = subst (λ ws. HasWritten c.lookup ws b.counts h.puts [] es) wait_for h.at.written
+    written_so : HasWritten c.lookup b.waiting b.counts h.idle.puts [] es
+    written_so = subst (λ ws. HasWritten c.lookup ws b.counts h.idle.puts [] es) wait_for h.idle.at.written
 
-    over_by : b.work.walk.root ≢ None → AreOver es
-    over_by some = sym (over_is c.lookup b h.puts [] (fed_in es) es h.at) ∙ some_is b.work.walk.root some
+    pub over_by : b.work.walk.root ≢ None → AreOver es
+    over_by some = sym (over_is c.lookup b h.idle.puts [] (fed_in es) es h.idle.at h.unlaid) ∙ some_is b.work.walk.root some
       where
         some_is : (o : Option Name) → o ≢ None → is_some o ≡ true
         some_is None e = absurd (e refl)
@@ -197,40 +249,51 @@ module _ (c : Catalog) (backing : Option PieceBacking) (b : PieceBacking) (is : 
 
     -- input is wanted
     pub input_step : b.work.walk.root ≡ None → length (facts_in b.waiting) < facts_limit → MayGoOn piece_rule holding.who (KnowsPieces c backing) (WantsPieces c backing) es Step.Want
-    input_step unended room = (
-      record { indexes = h.at.written.indexed; taken = h.at.taken; goes_on = sym (over_is c.lookup b h.puts [] (fed_in es) es h.at) ∙ ap is_some unended; kept = h.at.kept },
-      (b, is, record { puts = h.puts; at = h.at; ready = record { unsealed = h.unsealed; opened = h.at.opened; unended = unended }; listed = h.listed; room = room }),
-    )
-
-    -- an index is put
-    pub index_step : (token : Token) (step : Step) → token ≡ holding.token → b.waiting ≢ [] → (facts_limit ≤ length (facts_in b.waiting)) ⊎ (b.work.walk.root ≢ None) → PutsIndexOf token b.waiting step
-        → MayGoOn piece_rule holding.who (KnowsPieces c backing) (WantsPieces c backing) es step
-    index_step token step own some why puts =
-        let k = index_out c.lookup b token step (fed_in es) es h some puts in
-        let x = k.0 in
-        let S : Step → Type 0 = λ s. MayGoOn piece_rule holding.who (KnowsPieces c backing) (WantsPieces c backing) es s in
-        let T : Token → Type 0 = λ t. S (Step.Ask (Ask.Put t Kind.Index (naming.name x) x)) in
-        let full : IsFullIndex x ⊎ AreOver es = elim why [ inl many ↦ inl (b.waiting, k.1, many) | inr ended ↦ inr (over_by ended) ] in
-        let may : T holding.token = record {
-          work = tt;
-          may = (working, refl, k.2);
-          allowed = (k.3, h.at.kept, full);
-          knows = inr (b, is, k.4);
-        } in
-        subst S (sym k.5) (subst T (sym own) may)
+    input_step unended room =
+        let i = h.idle in (
+          record { indexes = i.at.written.indexed; taken = i.at.taken; goes_on = sym (over_is c.lookup b i.puts [] (fed_in es) es i.at h.unlaid) ∙ ap is_some unended; kept = i.at.kept },
+          (b, is, record { puts = i.puts; at = i.at; ready = record { unsealed = i.unsealed; unlaid = h.unlaid; opened = i.at.opened; unended = unended }; listed = i.listed; room = room }),
+        )
 
     -- the snapshot is put
-    pub snapshot_step : (root : Name) (step : Step) → b.work.walk.root ≡ Some root → b.waiting ≡ [] → PutsSnapshotOf holding root step → MayGoOn piece_rule holding.who (KnowsPieces c backing) (WantsPieces c backing) es step
+    pub snapshot_step : (root : Name) (step : Step) → b.work.walk.root ≡ Some root → b.waiting ≡ [] → PutsSnapshotOf holding root b.work.walk.version step → MayGoOn piece_rule holding.who (KnowsPieces c backing) (WantsPieces c backing) es step
     snapshot_step root step root_is none p =
         let nothing_waits : waits b ≡ [] = wait_for ∙ none in
         let S : Step → Type 0 = λ s. MayGoOn piece_rule holding.who (KnowsPieces c backing) (WantsPieces c backing) es s in
         let may : S (Step.Ask (Ask.Put holding.token Kind.Snapshot (naming.name p.text) p.text)) = record {
           work = tt;
           may = (working, refl, p.reads.json.short);
-          allowed = piece_snapshot c.lookup b h.puts es h.at root holding step p root_is nothing_waits working;
-          knows = inr (b, is, record { puts = h.puts; written = subst (λ ws. HasWritten c.lookup ws b.counts h.puts [] es) none written_so });
+          allowed = piece_snapshot c.lookup b h.idle.puts es h.idle.at h.unlaid root holding step p root_is nothing_waits working;
+          knows = inr (b, is, record { puts = h.idle.puts; written = subst (λ ws. HasWritten c.lookup ws b.counts h.idle.puts [] es) none written_so });
         } in
         subst S (sym p.puts) may
+
+-- who knows some versions knows none above both
+pub most_known : (version : ℕ) (versions : Versions) → version ≤ upto versions → version ≤ upto Versions.Both
+most_known version Versions.One h = omega (arith, h)
+most_known version Versions.Both h = h
+
+-- the version that was read is 1 or 2
+version_two : (version : ℕ) → 1 ≤ version → version ≤ 2 → (version ≡ 1) ⊎ (version ≡ 2)
+version_two zero h g = absurd (omega (arith, h))
+version_two (suc zero) h g = inl refl
+version_two (suc (suc zero)) h g = inr refl
+version_two (suc (suc (suc v))) h g = absurd (omega (arith, g))
+
+-- where the text of a tree is too large, it ends so
+pub large_ends : (Conclude : Outcome → Type 0) (config : Config) (es : Trace) (version : ℕ) → HasConfig es config → version ≡ config.version → (config.version ≡ 1 → Conclude (Outcome.Ended End.DirectoryTooLarge)) → (config.version ≡ 2 → Conclude (Outcome.Ended End.FileTooLarge))
+    → Conclude (Outcome.Ended (large_end version))
+large_ends Conclude config es version has is one two =
+    elim (version_two config.version has.reads.known.0 has.known) [
+      | inl first ↦ subst (λ v. Conclude (Outcome.Ended (large_end v))) (sym (is ∙ first)) (one first)
+      | inr second ↦ subst (λ v. Conclude (Outcome.Ended (large_end v))) (sym (is ∙ second)) (two second)
+    ]
+
+pub piece_large : (facts : List Fact) (b : PieceBacking) (es : Trace) → IsPieceLarge facts b es → PieceConcludes es (Outcome.Ended (large_end b.work.walk.version))
+piece_large facts b es h = large_ends (PieceConcludes es) h.config es b.work.walk.version h.at.has h.version_is (λ v. too_large v) (λ v. too_large v)
+  where
+    too_large : {version : ℕ} → h.config.version ≡ version → PieceTooLarge version es
+    too_large v = record { taken = h.taken; config = h.config; st = h.st; at = h.at; of_version = v; text = h.text; made = h.made; large = h.large }
 
 -- ---- while the indexes are read
 
@@ -277,7 +340,7 @@ stands_first facts b es h indexed gives =
       taken = tt;
       kept = tt;
       goes_by = h.goes_by;
-      stands = h.stands facts;
+      stands = inl (h.ready.unlaid, h.stands facts);
       opened = h.ready.opened;
       ended = λ some. absurd (some h.ready.unended);
       written = subst (λ ws. HasWritten facts ws b.counts [] [] es) (sym none) (begin_written facts b.counts es indexed gives h.none_put h.counted);
@@ -299,7 +362,7 @@ input_first facts b es h indexed gives = record {
 -- what may be done where input is wanted
 pub input_wanted : (c : Catalog) (backing : Option PieceBacking) (b : PieceBacking) (es : Trace) → backing ≡ Some b → PieceWaits c.lookup b es → WantsInput es × WantsPieces c backing es
 input_wanted c backing b es is h = (
-  record { indexes = h.at.written.indexed; taken = h.at.taken; goes_on = sym (over_is c.lookup b h.puts [] (fed_in es) es h.at) ∙ ap is_some h.ready.unended; kept = h.at.kept },
+  record { indexes = h.at.written.indexed; taken = h.at.taken; goes_on = sym (over_is c.lookup b h.puts [] (fed_in es) es h.at h.ready.unlaid) ∙ ap is_some h.ready.unended; kept = h.at.kept },
   (b, is, h),
 )
 
@@ -322,7 +385,7 @@ pack_noted facts b c n x items es work counts all h = record {
     taken = h.at.taken;
     kept = h.at.kept;
     goes_by = subst (λ w. GoesBy h.at.config w) (sym work) h.at.goes_by;
-    stands = subst (λ w. PieceStands w facts h.at.st (items_of (h.puts ++ h.put ∷ [])) []) (sym work) h.at.stands;
+    stands = subst (λ w. WorkStands w facts h.at.st (items_of (h.puts ++ h.put ∷ [])) []) (sym work) h.at.stands;
     opened = subst (λ w. IsOpen w.packing.packer.writer) (sym work) h.at.opened;
     ended = λ some. (let same = ap (λ w. w.packing.packer.writer.items) work in same ∙ h.at.ended (λ e. some (ap (λ w. w.walk.root) work ∙ e)));
     written = subst (λ ws. HasWritten facts ws c.counts h.puts (h.put ∷ []) es) (sym all) (subst (λ k. HasWritten facts (waits b) k h.puts (h.put ∷ []) es) (sym counts) h.at.written);

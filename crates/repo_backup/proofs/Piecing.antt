@@ -16,14 +16,15 @@ use Rattle.repo_pack.specs.declared.writers.Sealed.{Sealed}
 use Rattle.repo_session.specs.Feeds.{fed_bytes}
 use Rattle.repo_session.specs.Traces.{Each}
 use Rattle.repo_writing.specs.Sealing.{IsSealed}
-use Rattle.repo_backup.specs.Folders.{joined, tree_of, IsCutBy}
+use Rattle.repo_backup.specs.Folders.{joined, nodes_of, trees_of, IsCutBy}
 use Rattle.repo_backup.specs.Items.{FileSoFar, Place, after, with_more, MayGrow}
 use Rattle.repo_backup.specs.Packings.{IsPacking, IsCovered, AllGain, IsSealedBy, PacksOn, all_items}
-use Rattle.repo_backup.specs.Pieces.{IsPieceAt, IsFileAt, AreOuterAt, AreTextsAround, IsRootAt, IsAt, PieceStands, Goes, Stays}
+use Rattle.repo_backup.specs.Pieces.{IsPieceAt, IsFileAt, AreOuterAt, AreTextsAround, IsRootAt, IsAt, PieceStands, WorkStands, IsSealedAs, Goes, Stays}
 use Rattle.repo_backup.specs.Plans.{AreTreeTextsBelow}
 use Rattle.repo_backup.specs.Standings.{FileCut, Standing, path_of, entries_at, file_at, place_at, IsCutOpen, AreCutAround, IsCutSoFar, chunk_items, made_below, chunks_made, made_at}
 use Rattle.repo_backup.specs.declared.packing.Sealing.{Sealing}
 use Rattle.repo_backup.specs.declared.pieces.PieceFile.{PieceFile}
+use Rattle.repo_backup.specs.declared.pieces.PieceWalk.{PieceWalk}
 use Rattle.repo_backup.specs.declared.piece_works.PieceWork.{PieceWork}
 use Rattle.repo_writing.proofs.BlobLemmas.{has_before, has_after, has_one}
 use Rattle.repo_backup.proofs.Leading.{made_open}
@@ -33,6 +34,7 @@ use Rattle.repo_backup.proofs.PackingLemmas.{each_one_more}
 -- all but the open file is the same
 pub record SameWay (w v : PieceWork) : Type 0 where
   pub params : v.walk.params ≡ w.walk.params
+  pub version : v.walk.version ≡ w.walk.version
   pub above : v.walk.above.items ≡ w.walk.above.items
   pub nodes : v.walk.nodes.items ≡ w.walk.nodes.items
   pub root : v.walk.root ≡ w.walk.root
@@ -51,12 +53,9 @@ each_map P Q [] f h = tt
 each_map P Q (item ∷ items) f h = (f item h.0, each_map P Q items f h.1)
 
 -- all were made
-all_of_made : (known : List Fact) (was now : List Item) (item : Item) (made : List Item) (x : Item) → AllGain known was now item → ((y : Item) → Contains was y → Contains made y) → Contains now x → Contains (made ++ item ∷ []) x
-all_of_made known was now item made x (inl same) h c = Contains-append_left made (item ∷ []) x (h x (subst (λ l. Contains l x) same.0 c))
-all_of_made known was now item made x (inr more) h c = elim (Contains-push_cases was item x (subst (λ l. Contains l x) more c)) [
-  | inl before ↦ Contains-append_left made (item ∷ []) x (h x before)
-  | inr this ↦ subst (λ y. Contains (made ++ item ∷ []) y) this (Contains-push made item)
-]
+pub all_of_made : (known : List Fact) (was now : List Item) (item : Item) (made : List Item) (x : Item) → AllGain known was now item → ((y : Item) → Contains was y → Contains made y) → Contains made item → Contains now x → Contains made x
+all_of_made known was now item made x (inl same) h this c = h x (subst (λ l. Contains l x) same.0 c)
+all_of_made known was now item made x (inr more) h this c = elim (Contains-push_cases was item x (subst (λ l. Contains l x) more c)) [ inl before ↦ h x before | inr last ↦ subst (λ y. Contains made y) last this ]
 
 -- what was covered is covered
 all_cover : (known : List Fact) (was now : List Item) (item : Item) (made : List Item) → AllGain known was now item → Each (λ x. IsCovered known was x) made → Each (λ x. IsCovered known now x) made
@@ -69,37 +68,71 @@ item_covered : (known : List Fact) (was now : List Item) (item : Item) → AllGa
 item_covered known was now item (inl same) = subst (λ l. IsCovered known l item) (sym same.0) same.1
 item_covered known was now item (inr more) = subst (λ l. IsCovered known l item) (sym more) (inr (has_after was (item ∷ []) item.kind item.name (has_one item item.kind item.name refl refl)))
 
+-- and all with it
+pub more_covered : (known : List Fact) (was now : List Item) (item : Item) (made : List Item) → AllGain known was now item → Each (λ x. IsCovered known was x) made → Each (λ x. IsCovered known now x) (made ++ item ∷ [])
+more_covered known was now item made gain h = each_one_more (λ x. IsCovered known now x) made item (all_cover known was now item made gain h) (item_covered known was now item gain)
+
 -- ---- whatever was fed
 
+-- a walk stands somewhere, by the version that it has
+pub make_at : (w : PieceWalk) (n : ℕ) (st : Standing) → w.version ≡ n → AreOuterAt n w.above.items st.above → w.nodes.items ≡ nodes_of n st.done → IsFileAt w.params w.file st.file → is_some w.root ≡ st.over → IsRootAt n w.root st.done → IsAt w st
+make_at w n st e outers nodes file over root = record {
+  outers = subst (λ m. AreOuterAt m w.above.items st.above) (sym e) outers;
+  nodes = nodes ∙ ap (λ m. nodes_of m st.done) (sym e);
+  file = file;
+  over = over;
+  root = subst (λ m. IsRootAt m w.root st.done) (sym e) root;
+}
+
+-- no part of a directory is left to be made
+pub plain : (w : PieceWork) (known : List Fact) (st : Standing) (sent sealed : List Item) → w.parts ≡ None → WorkStands w known st sent sealed → PieceStands w known st sent sealed
+plain w known st sent sealed none (inl h) = h.1
+plain w known st sent sealed none (inr h) = let no : None ≡ Some h.parts = sym none ∙ h.parts_are in absurd (cc)
+
+-- the packs, however it stands
+pub packing_in : (w : PieceWork) (known : List Fact) (st : Standing) (sent sealed : List Item) → WorkStands w known st sent sealed → IsPacking w.packing known sent sealed
+packing_in w known st sent sealed (inl h) = h.1.packing
+packing_in w known st sent sealed (inr h) = h.packing
+
+pub made_in : (w : PieceWork) (known : List Fact) (st : Standing) (sent sealed : List Item) → WorkStands w known st sent sealed → (item : Item) → Contains (all_items sent sealed w.packing) item → Contains (made_at w.walk.version st) item
+made_in w known st sent sealed (inl h) item among = h.1.of_made item among
+made_in w known st sent sealed (inr h) item among = h.of_made item among
+
+pub cut_in : (w : PieceWork) (known : List Fact) (st : Standing) (sent sealed : List Item) → WorkStands w known st sent sealed → IsCutSoFar w.walk.params st
+cut_in w known st sent sealed (inl h) = h.1.cut
+cut_in w known st sent sealed (inr h) = h.cut
+
 -- no blob was made
-pub stands_on : (w v : PieceWork) (known : List Fact) (st now : Standing) (sent sealed : List Item) → v.packing ≡ w.packing → made_at now ≡ made_at st → IsAt v.walk now → IsCutSoFar v.walk.params now
-    → AreTreeTextsBelow now.done × AreTextsAround now.above → PieceStands w known st sent sealed → PieceStands v known now sent sealed
-stands_on w v known st now sent sealed packed made at cut texts h = record {
+pub stands_on : (w v : PieceWork) (known : List Fact) (st now : Standing) (sent sealed : List Item) → v.packing ≡ w.packing → v.walk.version ≡ w.walk.version → made_at w.walk.version now ≡ made_at w.walk.version st → IsAt v.walk now → IsCutSoFar v.walk.params now
+    → AreTreeTextsBelow w.walk.version now.done × AreTextsAround w.walk.version now.above → PieceStands w known st sent sealed → PieceStands v known now sent sealed
+stands_on w v known st now sent sealed packed version made at cut texts h = record {
   packing = subst (λ q. IsPacking q known sent sealed) (sym packed) h.packing;
-  of_made = λ item among. subst (λ l. Contains l item) (sym made) (h.of_made item (subst (λ q. Contains (all_items sent sealed q) item) packed among));
+  of_made = λ item among. subst (λ n. Contains (made_at n now) item) (sym version) (subst (λ l. Contains l item) (sym made) (h.of_made item (subst (λ q. Contains (all_items sent sealed q) item) packed among)));
   at = at;
   cut = cut;
-  texts = texts;
-  covered = subst (λ q. Each (λ item. IsCovered known (all_items sent sealed q) item) (made_at now)) (sym packed) (subst (λ l. Each (λ item. IsCovered known (all_items sent sealed w.packing) item) l) (sym made) h.covered);
+  texts = subst (λ n. AreTreeTextsBelow n now.done × AreTextsAround n now.above) (sym version) texts;
+  covered = subst (λ n. Each (λ item. IsCovered known (all_items sent sealed v.packing) item) (made_at n now)) (sym version)
+      (subst (λ q. Each (λ item. IsCovered known (all_items sent sealed q) item) (made_at w.walk.version now)) (sym packed) (subst (λ l. Each (λ item. IsCovered known (all_items sent sealed w.packing) item) l) (sym made) h.covered));
 }
 
 -- this blob was made, and packed; a pack may be sealed
-pub stands_more : (w v : PieceWork) (known : List Fact) (st now : Standing) (sent : List Item) (item : Item) (sealing : Sealing) → PacksOn known sealing item w.packing v.packing → made_at now ≡ made_at st ++ item ∷ []
-    → IsAt v.walk now → IsCutSoFar v.walk.params now → AreTreeTextsBelow now.done × AreTextsAround now.above → PieceStands w known st sent []
+pub stands_more : (w v : PieceWork) (known : List Fact) (st now : Standing) (sent : List Item) (item : Item) (sealing : Sealing) → PacksOn known sealing item w.packing v.packing → v.walk.version ≡ w.walk.version → made_at w.walk.version now ≡ made_at w.walk.version st ++ item ∷ []
+    → IsAt v.walk now → IsCutSoFar v.walk.params now → AreTreeTextsBelow w.walk.version now.done × AreTextsAround w.walk.version now.above → PieceStands w known st sent []
     → (sealed : List Item) × PieceStands v known now sent sealed × IsSealedBy sealing w.packing.packer.writer.target sealed
-stands_more w v known st now sent item sealing packs made at cut texts h =
+stands_more w v known st now sent item sealing packs version made at cut texts h =
     let k = packs sent h.packing in
     let was = all_items sent [] w.packing in
-    let all = all_items sent k.0 v.packing in (
+    let all = all_items sent k.0 v.packing in
+    let before = made_at w.walk.version st in
+    let old : (y : Item) → Contains was y → Contains (before ++ item ∷ []) y = λ y c. Contains-append_left before (item ∷ []) y (h.of_made y c) in (
       k.0,
       record {
         packing = k.1;
-        of_made = λ x among. subst (λ l. Contains l x) (sym made) (all_of_made known was all item (made_at st) x k.2 h.of_made among);
+        of_made = λ x among. subst (λ n. Contains (made_at n now) x) (sym version) (subst (λ l. Contains l x) (sym made) (all_of_made known was all item (before ++ item ∷ []) x k.2 old (Contains-push before item) among));
         at = at;
         cut = cut;
-        texts = texts;
-        covered = subst (λ l. Each (λ x. IsCovered known all x) l) (sym made)
-            (each_one_more (λ x. IsCovered known all x) (made_at st) item (all_cover known was all item (made_at st) k.2 h.covered) (item_covered known was all item k.2));
+        texts = subst (λ n. AreTreeTextsBelow n now.done × AreTextsAround n now.above) (sym version) texts;
+        covered = subst (λ n. Each (λ x. IsCovered known all x) (made_at n now)) (sym version) (subst (λ l. Each (λ x. IsCovered known all x) l) (sym made) (more_covered known was all item before k.2 h.covered));
       },
       k.3,
     )
@@ -110,16 +143,14 @@ stands_more w v known st now sent item sealing packs made at cut texts h =
 pub may_grow : (params : Parameters) (f : PieceFile) (c : FileCut) (o : Option FileCut) (piece : List ℕ) → o ≡ Some c → IsPieceAt params f c → f.size + length piece < file_end → MayGrow (file_at o) piece
 may_grow params f c o piece is p small = subst (λ x. MayGrow (file_at x) piece) (sym is) (omega (arith, p.size, small))
 
-module _ (w v : PieceWork) (f g : PieceFile) (known : List Fact) (is : w.walk.file ≡ Some f) (same : SameWay w v) (now_is : v.walk.file ≡ Some g) where
+module _ (w v : PieceWork) (f g : PieceFile) (known : List Fact) (is : w.walk.file ≡ Some f) (same : SameWay w v) (now_is : v.walk.file ≡ Some g) (unlaid : v.parts ≡ None) where
+  abbrev pub V : ℕ
+  V = w.walk.version
+
   -- the walk stands with another file
   at_file : (st : Standing) (c : FileCut) → IsAt w.walk st → IsPieceAt v.walk.params g c → IsAt v.walk (record { done = st.done; above = st.above; file = Some c; over = st.over })
-  at_file st c at piece = record {
-    outers = subst (λ l. AreOuterAt l st.above) (sym same.above) at.outers;
-    nodes = same.nodes ∙ at.nodes;
-    file = subst (λ o. IsFileAt v.walk.params o (Some c)) (sym now_is) piece;
-    over = ap is_some same.root ∙ at.over;
-    root = subst (λ r. IsRootAt r st.done) (sym same.root) at.root;
-  }
+  at_file st c at piece = make_at v.walk V (record { done = st.done; above = st.above; file = Some c; over = st.over }) same.version (subst (λ l. AreOuterAt V l st.above) (sym same.above) at.outers) (same.nodes ∙ at.nodes)
+      (subst (λ o. IsFileAt v.walk.params o (Some c)) (sym now_is) piece) (ap is_some same.root ∙ at.over) (subst (λ r. IsRootAt V r st.done) (sym same.root) at.root)
 
   -- the piece was taken, and the chunk goes on
   pub more_taken : (piece : List ℕ) → f.size + length piece < file_end → v.packing ≡ w.packing → g.name ≡ f.name → g.size ≡ f.size + length piece → g.content.items ≡ f.content.items → g.rest.items ≡ f.rest.items ++ piece
@@ -136,7 +167,7 @@ module _ (w v : PieceWork) (f g : PieceFile) (known : List Fact) (is : w.walk.fi
       subst (λ b. AreFirstCuts w.walk.params b (map length c.chunks) (c.rest ++ piece)) (sym all) (first_cuts_grow w.walk.params (joined c.chunks ++ c.rest) (map length c.chunks) c.rest piece cut.0) in
       let left : g.rest.items ≡ c.rest ++ piece = rest ∙ ap (λ b. b ++ piece) p.rest in
       let none : HasNoCut w.walk.params (c.rest ++ piece) = subst (λ q. HasNoCut q (c.rest ++ piece)) p.by (subst (λ b. HasNoCut f.params b) left uncut) in
-      let made : made_at now ≡ made_at st = ap (λ x. (made_below st.done st.above ++ chunks_made x) ++ cond st.over (tree_of st.done ∷ []) []) (sym o.1) in
+      let made : made_at V now ≡ made_at V st = ap (λ x. (made_below V st.done st.above ++ chunks_made x) ++ cond st.over (trees_of V st.done) []) (sym o.1) in
       let at : IsAt v.walk now = at_file st file h.at (record {
         name = named ∙ p.name;
         size = omega (arith, size, p.size, ap length all, length-append (joined c.chunks ++ c.rest) piece);
@@ -150,8 +181,8 @@ module _ (w v : PieceWork) (f g : PieceFile) (known : List Fact) (is : w.walk.fi
         [],
         (λ i. record { entries = entries_at st.done st.above; path = path_of st.above; file = Some (record { name = c.name; bytes = all i }); over = st.over })
             ∙ ap (λ x. after (place_at (record { done = st.done; above = st.above; file = x; over = st.over })) (fed_bytes piece)) (sym o.1),
-        stands_on w v known st now sent [] packed made at cut_now h.texts h,
-        inl refl,
+        inl (unlaid, stands_on w v known st now sent [] packed same.version made at cut_now h.texts h),
+        inl (inl refl),
       )
 
   -- nothing was taken
@@ -166,11 +197,11 @@ module _ (w v : PieceWork) (f g : PieceFile) (known : List Fact) (is : w.walk.fi
       at_file st c h.at (record { name = named ∙ p.name; size = size ∙ p.size; content = content ∙ p.content; rest = rest ∙ p.rest; by = by ∙ p.by ∙ sym same.params }) in
       record {
         packing = packs sent h.packing;
-        of_made = λ item among. h.of_made item (subst (λ l. Contains l item) all among);
+        of_made = λ item among. subst (λ n. Contains (made_at n st) item) (sym same.version) (h.of_made item (subst (λ l. Contains l item) all among));
         at = subst (λ x. IsAt v.walk (record { done = st.done; above = st.above; file = x; over = st.over })) (sym o.1) at;
         cut = record { done = subst (λ q. IsCutBy q st.done) (sym same.params) h.cut.done; above = subst (λ q. AreCutAround q st.above) (sym same.params) h.cut.above; file = subst (λ q. IsCutOpen q st.file) (sym same.params) h.cut.file };
-        texts = h.texts;
-        covered = subst (λ l. Each (λ item. IsCovered known l item) (made_at st)) (sym all) h.covered;
+        texts = subst (λ n. AreTreeTextsBelow n st.done × AreTextsAround n st.above) (sym same.version) h.texts;
+        covered = subst (λ n. Each (λ item. IsCovered known (all_items sent [] v.packing) item) (made_at n st)) (sym same.version) (subst (λ l. Each (λ item. IsCovered known l item) (made_at w.walk.version st)) (sym all) h.covered);
       }
 
   -- a chunk ended, and was made a blob
@@ -206,10 +237,10 @@ module _ (w v : PieceWork) (f g : PieceFile) (known : List Fact) (is : w.walk.fi
       let file : FileCut = record { name = c.name; chunks = chunks; rest = [] } in
       let now : Standing = record { done = st.done; above = st.above; file = Some file; over = st.over } in
       let item : Item = item_of Content chunk in
-      let before = made_below st.done st.above in
-      let made : made_at now ≡ made_at st ++ item ∷ [] =
-      made_open now still ∙ ap (λ l. before ++ l) (map-append (λ b. item_of Content b) c.chunks (chunk ∷ [])) ∙ sym (append_assoc before (chunk_items c.chunks) (item ∷ []))
-      ∙ ap (λ l. l ++ item ∷ []) (ap (λ x. before ++ chunks_made x) (sym o.1) ∙ sym (made_open st still)) in
+      let before = made_below V st.done st.above in
+      let made : made_at V now ≡ made_at V st ++ item ∷ [] =
+      made_open V now still ∙ ap (λ l. before ++ l) (map-append (λ b. item_of Content b) c.chunks (chunk ∷ [])) ∙ sym (append_assoc before (chunk_items c.chunks) (item ∷ []))
+      ∙ ap (λ l. l ++ item ∷ []) (ap (λ x. before ++ chunks_made x) (sym o.1) ∙ sym (made_open V st still)) in
       let packs_it : PacksOn known Sealing.Due item w.packing v.packing = subst (λ (b : List ℕ). PacksOn known Sealing.Due (item_of Content (b ++ part)) w.packing v.packing) p.rest packs in
       let at : IsAt v.walk now = at_file st file h.at (record {
         name = named ∙ p.name;
@@ -220,15 +251,15 @@ module _ (w v : PieceWork) (f g : PieceFile) (known : List Fact) (is : w.walk.fi
       }) in
       let cut_now : IsCutSoFar v.walk.params now =
       record { done = subst (λ q. IsCutBy q st.done) (sym same.params) h.cut.done; above = subst (λ q. AreCutAround q st.above) (sym same.params) h.cut.above; file = subst (λ q. IsCutOpen q (Some file)) (sym same.params) (cuts, none_cut w.walk.params lawful) } in
-      let k = stands_more w v known st now sent item Sealing.Due packs_it made at cut_now h.texts h in
+      let k = stands_more w v known st now sent item Sealing.Due packs_it same.version made at cut_now h.texts h in
       let few : f.size + length part < file_end = omega (arith, small, size_of, within) in (
         may_grow w.walk.params f c st.file part o.1 p few,
         now,
         k.0,
         (λ i. record { entries = entries_at st.done st.above; path = path_of st.above; file = Some (record { name = c.name; bytes = bytes i }); over = st.over })
             ∙ ap (λ x. after (place_at (record { done = st.done; above = st.above; file = x; over = st.over })) (fed_bytes part)) (sym o.1),
-        k.1,
-        k.2,
+        inl (unlaid, k.1),
+        inl k.2,
       )
 
 -- where no pack is sealed, no items are
@@ -241,18 +272,19 @@ grown_twice None a b h k = absurd h
 grown_twice (Some f) a b h k = omega (arith, k, length-append f.bytes a, length-append a b)
 
 -- some bytes, and then some more
-pub bytes_on : (known : List Fact) (a b : List ℕ) (w u v : PieceWork) → u.packing.packer.sealed ≡ None → u.packing.packer.writer.target ≡ w.packing.packer.writer.target
+pub bytes_on : (known : List Fact) (a b : List ℕ) (w u v : PieceWork) → u.parts ≡ None → u.packing.packer.sealed ≡ None → u.packing.packer.writer.target ≡ w.packing.packer.writer.target
     → Goes known Sealing.Due (fed_bytes a) w u → Goes known Sealing.Due (fed_bytes b) u v → Goes known Sealing.Due (fed_bytes (a ++ b)) w v
-bytes_on known a b w u v unsealed aim first next st sent h =
+bytes_on known a b w u v unlaid unsealed aim first next st sent h =
     let k = first st sent h in
-    let none : k.2 ≡ [] = none_sealed u.packing.packer.sealed k.2 unsealed k.4.packing.sealed_is in
-    let n = next k.1 sent (subst (λ l. PieceStands u known k.1 sent l) none k.4) in (
+    let mid = plain u known k.1 sent k.2 unlaid k.4 in
+    let none : k.2 ≡ [] = none_sealed u.packing.packer.sealed k.2 unsealed mid.packing.sealed_is in
+    let n = next k.1 sent (subst (λ l. PieceStands u known k.1 sent l) none mid) in (
       grown_twice (file_at st.file) a b k.0 (subst (λ (p : Place). MayGrow p.file b) k.3 n.0),
       n.1,
       n.2,
       n.3 ∙ ap (λ p. after p (fed_bytes b)) k.3 ∙ together (file_at st.file),
       n.4,
-      subst (λ t. IsSealedBy Sealing.Due t n.2) aim n.5,
+      subst (λ t. IsSealedAs Sealing.Due t n.2 v) aim n.5,
     )
   where
     together : (file : Option FileSoFar) → ◌≡◌ {A = Place} (record { entries = entries_at st.done st.above; path = path_of st.above; file = with_more b (with_more a file); over = st.over }) (record { entries = entries_at st.done st.above; path = path_of st.above; file = with_more (a ++ b) file; over = st.over })
@@ -260,15 +292,15 @@ bytes_on known a b w u v unsealed aim first next st sent h =
     together (Some f) = λ i. record { entries = entries_at st.done st.above; path = path_of st.above; file = Some (record { name = f.name; bytes = append_assoc f.bytes a b i }); over = st.over }
 
 -- no bytes
-pub no_bytes : (known : List Fact) (w : PieceWork) (f : PieceFile) → w.walk.file ≡ Some f → f.size + 0 < file_end → Goes known Sealing.Due (fed_bytes []) w w
-no_bytes known w f is small st sent h =
+pub no_bytes : (known : List Fact) (w : PieceWork) (f : PieceFile) → w.parts ≡ None → w.walk.file ≡ Some f → f.size + 0 < file_end → Goes known Sealing.Due (fed_bytes []) w w
+no_bytes known w f unlaid is small st sent h =
     let o = opened w.walk.params f st.file (subst (λ x. IsFileAt w.walk.params x st.file) is h.at.file) in (
       may_grow w.walk.params f o.0 st.file [] o.1 o.2 small,
       st,
       [],
       none (file_at st.file),
-      h,
-      inl refl,
+      inl (unlaid, h),
+      inl (inl refl),
     )
   where
     none : (file : Option FileSoFar) → ◌≡◌ {A = Place} (record { entries = entries_at st.done st.above; path = path_of st.above; file = file; over = st.over }) (record { entries = entries_at st.done st.above; path = path_of st.above; file = with_more [] file; over = st.over })

@@ -1,5 +1,5 @@
 -- What is known while a backup is made.
-use Rattle.std.specs.Prelude.{◌≡◌, ◌⊎◌, ◌<◌, ◌≤◌, [], ⊤, true, false, List, length, Option, Some, None}
+use Rattle.std.specs.Prelude.{◌≡◌, ◌⊎◌, ◌<◌, ◌≤◌, [], ⊤, ℕ, true, false, List, length, Option, Some, None}
 use Rattle.repo_name.specs.Limits.{facts_limit}
 use Rattle.repo_name.specs.declared.kinds.Kind.{Kind}
 use Rattle.repo_index.specs.IndexText.{facts_in}
@@ -26,13 +26,13 @@ use Rattle.repo_backup.specs.declared.piece_backing.PieceBacking.{PieceBacking}
 use Rattle.repo_backup.specs.declared.piece_works.PieceWork.{PieceWork}
 use Rattle.repo_backup.specs.declared.walks.Went.{Went}
 
--- a backup is made under a shared lock
+-- a backup is made under a shared lock, by a config of a version that who makes it knows
 abbrev pub backup_task : Asker → Task
-backup_task who = record { who = who; exclusive = false; snapshot = None; versions = Versions.One; notes = false }
+backup_task who = record { who = who; exclusive = false; snapshot = None; versions = who.versions; notes = false }
 
 -- what a backup of these entries may ask, give out and conclude; a refusal takes it no memory
 abbrev pub backup_rule : List Entry → Rule
-backup_rule entries = record { exclusive = false; snapshot = None; versions = Versions.One; notes = false; calm = ⊤; allows = BackupAllows entries; gives = BackupGives entries; concludes = BackupConcludes entries; wanting = λ es. ⊥ }
+backup_rule entries = record { exclusive = false; snapshot = None; versions = Versions.Both; notes = false; calm = ⊤; allows = BackupAllows entries; gives = BackupGives entries; concludes = BackupConcludes entries; wanting = λ es. ⊥ }
 
 -- ---- the work over the steps
 
@@ -43,20 +43,20 @@ pub record IsUnderWay (entries : List Entry) (facts : List Fact) (b : PieceBacki
   pub at : StandsAt facts b puts next [] items es
   pub unsealed : b.work.packing.packer.sealed ≡ None
 
--- some were, and a pack is sealed and listed so, which is full, or the last one
+-- some were, and a pack is sealed and listed so, which is full, or the last one, and then no part of a directory is left to be made
 pub record IsPackSealed (entries : List Entry) (facts : List Fact) (b : PieceBacking) (left : List Fed) (listed : PackFacts) (puts next : List Put) (es : Trace) : Type 0 where
   pub items : Feeding
   pub leads : LeadThrough entries left items
   pub sealed : List Item
   pub at : StandsAt facts b puts next sealed items es
   pub lists : IsListed (Some listed) b.work.packing
-  pub full : IsFullPack es sealed ⊎ ((place_of items).over ≡ true)
+  pub full : IsFullPack es sealed ⊎ (((place_of items).over ≡ true) × (b.work.parts ≡ None))
 
 -- by how far it went
 abbrev pub WentSo : List Entry → List Fact → Went → PieceBacking → List Fed → List Put → List Put → Trace → Type 0
 WentSo entries facts Went.On b left puts next es = IsUnderWay entries facts b left puts next es
 WentSo entries facts (Went.Pack listed) b left puts next es = IsPackSealed entries facts b left listed puts next es
-WentSo entries facts Went.TooLarge b left puts next es = IsTooLarge entries es
+WentSo entries facts Went.TooLarge b left puts next es = IsTooLarge b.work.walk.version entries es
 WentSo entries facts Went.Nothing b left puts next es = ⊥
 
 -- wherever one work is under way, the other went so
@@ -67,11 +67,13 @@ GoesSo facts old was went new left = (entries : List Entry) (b : PieceBacking) (
 -- it goes by the same config
 pub record IsSameWay (old new : PieceWork) : Type 0 where
   pub params : new.walk.params ≡ old.walk.params
+  pub version : new.walk.version ≡ old.walk.version
   pub target : new.packing.packer.target ≡ old.packing.packer.target
 
 -- it is begun anew, by the same config
 pub record IsBegunAnew (old new : PieceBacking) : Type 0 where
   pub params : new.work.walk.params ≡ old.work.walk.params
+  pub version : new.work.walk.version ≡ old.work.walk.version
   pub aim : new.work.packing.packer.target ≡ old.work.packing.packer.target
   pub aims : new.work.packing.packer.writer.target ≡ old.work.packing.packer.target.bytes
   pub stands : (facts : List Fact) → PieceStands new.work facts at_beginning [] []
@@ -95,12 +97,13 @@ KnowsPut entries facts backing left ask es = ⊥
 
 -- ---- what is sent next
 
--- no pack is being put, and the work went so; where it went on, all was fed
+-- no pack is being put, and the work went so; where it went on, all was fed, and no part is left to be made
 pub record IsDueNext (entries : List Entry) (facts : List Fact) (went : Went) (b : PieceBacking) (left : List Fed) (es : Trace) : Type 0 where
   pub puts : List Put
   pub goes : WentSo entries facts went b left puts [] es
   pub none : b.listed ≡ None
   pub all : went ≡ Went.On → left ≡ []
+  pub unlaid : went ≡ Went.On → b.work.parts ≡ None
   pub room : length (facts_in b.waiting) < facts_limit
 
 -- no pack is being put, and the work is under way

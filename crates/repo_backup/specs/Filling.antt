@@ -18,7 +18,7 @@ pub record HasConfig (es : Trace) (config : Config) : Type 0 where
   pub text : List ℕ
   pub read : Exchanged es Ask.Config (Say.Bytes text)
   pub reads : IsConfigText text config
-  pub known : config.version ≤ upto Versions.One
+  pub known : config.version ≤ upto Versions.Both
 
 -- with their last one, and not before, the blobs reach what the config wants of a pack, or are as many as a pack may have
 abbrev pub IsFullPack : Trace → List Item → Type 0

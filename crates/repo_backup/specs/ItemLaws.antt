@@ -42,8 +42,8 @@ ItemsLead = (params : Parameters) (items : Feeding) → AreLawful params → Are
 
 -- what was made of some items was made of any more, too
 abbrev pub MadeGrows : Type 0
-MadeGrows = (params : Parameters) (more items : Feeding) (st : Standing) → AreLawful params → AreTaken (more ++ items) → LeadTo params items st
-    → (now : Standing) × LeadTo params (more ++ items) now × ((blob : Item) → Contains (made_at st) blob → Contains (made_at now) blob)
+MadeGrows = (params : Parameters) (version : ℕ) (more items : Feeding) (st : Standing) → AreLawful params → AreTaken (more ++ items) → LeadTo params items st
+    → (now : Standing) × LeadTo params (more ++ items) now × ((blob : Item) → Contains (made_at version st) blob → Contains (made_at version now) blob)
 
 -- behind the end no item may be taken
 abbrev pub EndIsLast : Type 0
@@ -55,8 +55,8 @@ GivingUpIsLast = (more items : Feeding) → AreTaken (more ++ fed_abandon ∷ it
 
 -- at the end it is what is made of the entries
 abbrev pub MadeOfAll : Type 0
-MadeOfAll = (params : Parameters) (items : Feeding) (st : Standing) → AreTaken (fed_end ∷ items) → LeadTo params (fed_end ∷ items) st
-    → IsFolderOf params (spelled_by (fed_end ∷ items)) st.done × (made_at st ≡ blobs_of st.done)
+MadeOfAll = (params : Parameters) (version : ℕ) (items : Feeding) (st : Standing) → AreTaken (fed_end ∷ items) → LeadTo params (fed_end ∷ items) st
+    → IsFolderOf params (spelled_by (fed_end ∷ items)) st.done × (made_at version st ≡ blobs_of version st.done)
 
 -- an item that has a fault may not be taken
 abbrev pub FaultsForbid : Type 0

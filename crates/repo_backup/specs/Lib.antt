@@ -13,6 +13,7 @@ pub mod Laws
 pub mod inner
 pub mod Items
 pub mod Standings
+pub mod PartsMade
 pub mod ItemLaws
 pub mod Pieces
 pub mod PieceRules

@@ -15,13 +15,14 @@ use Rattle.repo_wire.specs.declared.messages.Ask.{Ask}
 use Rattle.repo_wire.specs.declared.messages.Say.{Say}
 use Rattle.repo_backup.specs.Items.{AreTaken, ItemFault, place_of, fed_part, fed_of, size_of}
 use Rattle.repo_backup.specs.PieceRules.{piece_rule}
-use Rattle.repo_backup.specs.PieceStates.{piece_task, KnowsPieceReading, KnowsPieces, WantsPieces, IsPieceDue}
+use Rattle.repo_backup.specs.PieceStates.{piece_task, KnowsPieceReading, KnowsPieces, WantsPieces, IsPieceDue, LaysSo}
 use Rattle.repo_backup.specs.Pieces.{IsReady}
 use Rattle.repo_backup.specs.declared.items.FeedError.{FeedError}
 use Rattle.repo_backup.specs.declared.items.Item.{Item}
 use Rattle.repo_backup.specs.declared.piece_backing.PieceBacking.{PieceBacking}
 use Rattle.repo_backup.specs.declared.piece_backups.PieceBackup.{PieceBackup}
 use Rattle.repo_backup.specs.declared.piece_jobs.PieceJob.{PieceJob}
+use Rattle.repo_backup.specs.declared.walks.Went.{Went}
 
 -- ---- the job
 
@@ -54,6 +55,10 @@ PieceReplies Knew old holding ask say step new = TurnsOn piece_rule holding (Kne
 abbrev pub PieceSends : (List Fact → PieceBacking → Trace → Type 0) → PieceJob → Holding → Step → PieceJob → Type 0
 PieceSends Due old holding step new = (b : PieceBacking) (es : Trace) → IsWorking (piece_task holding.who) holding.token es → old.backing ≡ Some b → Due old.catalog.lookup b es
     → MayGoOn piece_rule holding.who (PieceKnows new) (PieceWants new) es step
+
+-- its work made parts and went so, and all else but that is the same
+abbrev pub PieceLaysOn : Went → PieceJob → PieceJob → Type 0
+PieceLaysOn went old new = (b : PieceBacking) → old.backing ≡ Some b → (c : PieceBacking) × (new.backing ≡ Some c) × (c ≡ record b { work = c.work }) × LaysSo old.catalog.lookup b.work went c.work
 
 -- it doesn't want input where a pack is sealed
 abbrev pub PieceBusy : PackFacts → PieceJob → Step → Type 0

@@ -14,7 +14,7 @@ use Rattle.repo_session.specs.declared.outcomes.Outcome.{Outcome}
 use Rattle.repo_session.specs.declared.versions.Versions.{Versions}
 use Rattle.repo_tree.specs.declared.configs.Config.{Config}
 use Rattle.repo_wire.specs.declared.messages.Ask.{Ask}
-use Rattle.repo_writing.specs.Blobs.{AreOnce}
+use Rattle.repo_writing.specs.Blobs.{AreOnce, HasItem}
 use Rattle.repo_writing.specs.Putting.{IsPacked}
 pub use Rattle.repo_backup.specs.Filling.{HasConfig, IsFullPack, IsFullIndex}
 use Rattle.repo_backup.specs.Items.{Feeding, NobodyGaveUp, AreTaken, place_of, spelled_by}
@@ -32,14 +32,22 @@ IsStandingAt es config st = IsStandingOf (fed_in es) es config st
 
 -- the blob was made of the items so far
 abbrev pub IsMadeSoFar : Trace → Item → Type 0
-IsMadeSoFar es item = (config : Config) × (st : Standing) × IsStandingAt es config st × Contains (made_at st) item
+IsMadeSoFar es item = (config : Config) × (st : Standing) × IsStandingAt es config st × Contains (made_at config.version st) item
 
 -- the items ended
 abbrev pub AreOver : Trace → Type 0
 AreOver es = (place_of (fed_in es)).over ≡ true
 
+-- nothing more waits to be packed: the items ended, and each blob made of them is given by an index that was read, is in a pack that was put, or is among these
+pub record PieceAreLast (es : Trace) (items : List Item) : Type 0 where
+  pub over : AreOver es
+  pub config : Config
+  pub st : Standing
+  pub at : IsStandingAt es config st
+  pub all : (item : Item) → Contains (made_at config.version st) item → IsGiven es item.kind item.name ⊎ (IsPacked es item.kind item.name ⊎ HasItem items item.kind item.name)
+
 -- a pack may be put: every index was read, and no snapshot put; nobody gave up; it is a true pack, of blobs made of the items so far, each once, which no index read gives, and no pack put before
--- has; and it is full, or the items ended
+-- has; and it is full, or nothing more waits
 pub record PiecePackRule (es : Trace) (x : List ℕ) : Type 0 where
   pub indexes : AreIndexed es
   pub first : objects_put Kind.Snapshot es ≡ []
@@ -51,22 +59,26 @@ pub record PiecePackRule (es : Trace) (x : List ℕ) : Type 0 where
   pub once : AreOnce items
   pub unread : (item : Item) → Contains items item → ¬ IsGiven es item.kind item.name
   pub unput : (item : Item) → Contains items item → ¬ IsPacked es item.kind item.name
-  pub full : IsFullPack es items ⊎ AreOver es
+  pub full : IsFullPack es items ⊎ PieceAreLast es items
 
 -- what it may ask for: before it was fed it reads; it puts packs, and while nobody gave up indexes that are full or as the items ended; and a snapshot of the entries that the items spell, once they ended
 abbrev pub PieceAllows : Trace → Ask → Type 0
 PieceAllows es (Ask.Put token Kind.Pack n x) = PiecePackRule es x
-PieceAllows es (Ask.Put token Kind.Index n x) = IndexRule es x × NobodyGaveUp (fed_in es) × (IsFullIndex x ⊎ AreOver es)
+PieceAllows es (Ask.Put token Kind.Index n x) = IndexRule es x × NobodyGaveUp (fed_in es) × (IsFullIndex x ⊎ PieceAreLast es [])
 PieceAllows es (Ask.Put token Kind.Snapshot n x) = AreOver es × AreTaken (fed_in es) × SnapshotRule (spelled_by (fed_in es)) es token x
 PieceAllows es (Ask.Delete token k n) = ⊥
 PieceAllows es (Ask.Upgrade token) = ⊥
 PieceAllows es ask = IsReading ask × (fed_in es ≡ [])
 
--- a directory's tree text is too large
-pub record PieceTooLarge (es : Trace) : Type 0 where
+-- by a config of this version, the text of a tree is too large: in version 2 that of a part
+pub record PieceTooLarge (version : ℕ) (es : Trace) : Type 0 where
   pub taken : AreTaken (fed_in es)
+  pub config : Config
+  pub st : Standing
+  pub at : IsStandingAt es config st
+  pub of_version : config.version ≡ version
   pub text : List ℕ
-  pub made : IsMadeSoFar es (item_of Tree text)
+  pub made : Contains (made_at config.version st) (item_of Tree text)
   pub large : blob_limit < length text
 
 -- somebody gave up, by the newest item
@@ -75,10 +87,11 @@ WasGivenUp [] = ⊥
 WasGivenUp (fed_abandon ∷ items) = ⊤
 WasGivenUp (item ∷ items) = ⊥
 
--- how it may end
+-- how it may end: with a directory too large in version 1 alone, and with a file too large in version 2 alone
 abbrev pub PieceConcludes : Trace → Outcome → Type 0
 PieceConcludes es (Outcome.Stored name blobs bytes) = IsStored es name blobs bytes
-PieceConcludes es (Outcome.Ended End.DirectoryTooLarge) = PieceTooLarge es
+PieceConcludes es (Outcome.Ended End.DirectoryTooLarge) = PieceTooLarge 1 es
+PieceConcludes es (Outcome.Ended End.FileTooLarge) = PieceTooLarge 2 es
 PieceConcludes es (Outcome.Ended End.Abandoned) = AreTaken (fed_in es) × WasGivenUp (fed_in es)
 PieceConcludes es _ = ⊥
 
@@ -91,4 +104,4 @@ pub record WantsInput (es : Trace) : Type 0 where
 
 -- the rule; a refusal takes it no memory
 abbrev pub piece_rule : Rule
-piece_rule = record { exclusive = false; snapshot = None; versions = Versions.One; notes = false; calm = ⊤; allows = PieceAllows; gives = λ es e. ⊥; concludes = PieceConcludes; wanting = WantsInput }
+piece_rule = record { exclusive = false; snapshot = None; versions = Versions.Both; notes = false; calm = ⊤; allows = PieceAllows; gives = λ es e. ⊥; concludes = PieceConcludes; wanting = WantsInput }

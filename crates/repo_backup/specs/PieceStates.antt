@@ -1,13 +1,14 @@
 -- What is known while a backup is fed items.
-use Rattle.std.specs.Prelude.{◌≡◌, ◌≢◌, ◌⊎◌, ◌<◌, ◌≤◌, ◌++◌, ◌∷◌, [], ℕ, true, false, List, length, Option, Some, None}
-use Rattle.repo_name.specs.Limits.{facts_limit}
+use Rattle.std.specs.Prelude.{◌≡◌, ◌≢◌, ◌⊎◌, ◌<◌, ◌≤◌, ◌++◌, ◌∷◌, [], ℕ, zero, suc, true, false, List, length, Option, Some, None, Contains}
+use Rattle.repo_name.specs.Limits.{blob_limit, facts_limit}
 use Rattle.repo_name.specs.Naming as naming
 use Rattle.repo_name.specs.declared.kinds.Kind.{Kind}
 use Rattle.repo_name.specs.declared.names.Name.{Name}
 use Rattle.repo_index.specs.IndexText.{IsIndexText, facts_in}
 use Rattle.repo_index.specs.declared.facts.Fact.{Fact}
 use Rattle.repo_index.specs.declared.facts.PackFacts.{PackFacts}
-use Rattle.repo_pack.specs.PackLayout.{Item}
+use Rattle.repo_pack.specs.PackLayout.{Item, item_of}
+use Rattle.repo_name.specs.declared.kinds.BlobKind.TheVariants.{Tree}
 use Rattle.repo_pack.specs.PackWriting.{IsOpen}
 use Rattle.repo_session.specs.Askers.{Asker, Holding}
 use Rattle.repo_session.specs.Order.{Task}
@@ -15,7 +16,7 @@ use Rattle.repo_session.specs.Readings.{KnowsIndexes}
 use Rattle.repo_session.specs.Traces.{Trace, fed_in, objects_put}
 use Rattle.repo_session.specs.declared.catalogs.Catalog.{Catalog}
 use Rattle.repo_session.specs.declared.jobs.Step.{Step}
-use Rattle.repo_session.specs.declared.versions.Versions.{Versions}
+use Rattle.repo_session.specs.declared.outcomes.End.{End}
 use Rattle.repo_tree.specs.SnapshotText.{IsSnapshotText}
 use Rattle.repo_tree.specs.declared.configs.Config.{Config}
 use Rattle.repo_tree.specs.declared.snapshots.Snapshot.{Snapshot}
@@ -26,15 +27,16 @@ use Rattle.repo_backup.specs.Items.{Feeding, NobodyGaveUp, AreTaken, place_of}
 use Rattle.repo_backup.specs.Packings.{IsListed}
 use Rattle.repo_backup.specs.Filling.{HasConfig, IsFullPack}
 use Rattle.repo_backup.specs.PieceRules.{IsStandingOf}
-use Rattle.repo_backup.specs.Pieces.{PieceStands, IsReady, reopened, at_beginning}
-use Rattle.repo_backup.specs.Standings.{Standing}
+use Rattle.repo_backup.specs.Pieces.{PieceStands, WorkStands, IsReady, reopened, at_beginning}
+use Rattle.repo_backup.specs.Standings.{Standing, made_at}
 use Rattle.repo_backup.specs.declared.piece_backing.PieceBacking.{PieceBacking}
 use Rattle.repo_backup.specs.declared.piece_backing.PieceNext.{PieceNext}
 use Rattle.repo_backup.specs.declared.piece_works.PieceWork.{PieceWork}
+use Rattle.repo_backup.specs.declared.walks.Went.{Went}
 
--- a backup is made under a shared lock
+-- a backup is made under a shared lock, by a config of a version that who makes it knows
 abbrev pub piece_task : Asker → Task
-piece_task who = record { who = who; exclusive = false; snapshot = None; versions = Versions.One; notes = false }
+piece_task who = record { who = who; exclusive = false; snapshot = None; versions = who.versions; notes = false }
 
 -- ---- the work at a trace
 
@@ -50,10 +52,11 @@ waits b = b.waiting ++ listed_of b.listed
 -- it goes by the config
 pub record GoesBy (config : Config) (w : PieceWork) : Type 0 where
   pub params : w.walk.params ≡ config.params
+  pub version : w.walk.version ≡ config.version
   pub aim : w.packing.packer.target.bytes ≡ config.target
   pub aims : w.packing.packer.writer.target ≡ config.target
 
--- it stands where these items lead, which may be taken: of the packs put, and of the one that is put next, if one is, these are the blobs; this pack is sealed
+-- it stands where these items lead, which may be taken, or makes the parts of the directory that the newest of them closed: of the packs put, and of the one that is put next, if one is, these are the blobs; this pack is sealed
 pub record StandsAt (facts : List Fact) (b : PieceBacking) (puts next : List Put) (sealed : List Item) (items : Feeding) (es : Trace) : Type 0 where
   pub config : Config
   pub st : Standing
@@ -61,7 +64,7 @@ pub record StandsAt (facts : List Fact) (b : PieceBacking) (puts next : List Put
   pub taken : AreTaken items
   pub kept : NobodyGaveUp items
   pub goes_by : GoesBy config b.work
-  pub stands : PieceStands b.work facts st (items_of (puts ++ next)) sealed
+  pub stands : WorkStands b.work facts st (items_of (puts ++ next)) sealed
   pub opened : IsOpen b.work.packing.packer.writer
   pub ended : b.work.walk.root ≢ None → b.work.packing.packer.writer.items ≡ []
   pub written : HasWritten facts (waits b) b.counts puts next es
@@ -142,23 +145,58 @@ WantsPieces c backing es = AtPieces backing (λ b. PieceWaits c.lookup b es)
 
 -- ---- what is sent next
 
--- after these items a pack is sealed and listed so, which is full, or the last one
+-- after these items a pack is sealed and listed so, which is full, or the last one, and then no part of a directory is left to be made
 pub record IsDueAt (facts : List Fact) (b : PieceBacking) (listed : PackFacts) (items : Feeding) (es : Trace) : Type 0 where
   pub puts : List Put
   pub sealed : List Item
   pub at : StandsAt facts b puts [] sealed items es
   pub none : b.listed ≡ None
   pub lists : IsListed (Some listed) b.work.packing
-  pub full : IsFullPack es sealed ⊎ ((place_of items).over ≡ true)
+  pub full : IsFullPack es sealed ⊎ (((place_of items).over ≡ true) × (b.work.parts ≡ None))
   pub room : length (facts_in b.waiting) < facts_limit
 
 -- after these items no pack is sealed or being put
-pub record IsDoneAt (facts : List Fact) (b : PieceBacking) (items : Feeding) (es : Trace) : Type 0 where
+pub record IsIdleAt (facts : List Fact) (b : PieceBacking) (items : Feeding) (es : Trace) : Type 0 where
   pub puts : List Put
   pub at : StandsAt facts b puts [] [] items es
   pub unsealed : b.work.packing.packer.sealed ≡ None
   pub listed : b.listed ≡ None
   pub few : FewWait b.waiting
+
+-- and no part of a directory is left to be made
+pub record IsDoneAt (facts : List Fact) (b : PieceBacking) (items : Feeding) (es : Trace) : Type 0 where
+  pub idle : IsIdleAt facts b items es
+  pub unlaid : b.work.parts ≡ None
+
+-- after these items the text of a tree is too large
+pub record IsLargeAt (b : PieceBacking) (items : Feeding) (es : Trace) : Type 0 where
+  pub config : Config
+  pub st : Standing
+  pub at : IsStandingOf items es config st
+  pub taken : AreTaken items
+  pub version_is : b.work.walk.version ≡ config.version
+  pub text : List ℕ
+  pub made : Contains (made_at config.version st) (item_of Tree text)
+  pub large : blob_limit < length text
+
+-- by how far the work went after these items
+abbrev pub WentAt : List Fact → Went → PieceBacking → Feeding → Trace → Type 0
+WentAt facts Went.On b items es = IsDoneAt facts b items es
+WentAt facts (Went.Pack listed) b items es = IsDueAt facts b listed items es
+WentAt facts Went.TooLarge b items es = IsLargeAt b items es
+WentAt facts Went.Nothing b items es = ⊥
+
+-- by how far the parts that were left were made
+abbrev pub LaidAt : List Fact → Went → PieceBacking → List Put → List Put → Feeding → Trace → Type 0
+LaidAt facts Went.On b puts next items es = StandsAt facts b puts next [] items es × (b.work.packing.packer.sealed ≡ None)
+LaidAt facts (Went.Pack listed) b puts next items es = (sealed : List Item) × StandsAt facts b puts next sealed items es × IsListed (Some listed) b.work.packing × (IsFullPack es sealed ⊎ (((place_of items).over ≡ true) × (b.work.parts ≡ None)))
+LaidAt facts Went.TooLarge b puts next items es = IsLargeAt b items es
+LaidAt facts Went.Nothing b puts next items es = ⊥
+
+-- wherever one work stands, and no pack is sealed, the other does so
+abbrev pub LaysSo : List Fact → PieceWork → Went → PieceWork → Type 0
+LaysSo facts old went new = (b : PieceBacking) (puts next : List Put) (items : Feeding) (es : Trace) → b.work ≡ old → StandsAt facts b puts next [] items es → old.packing.packer.sealed ≡ None
+    → LaidAt facts went (record b { work = new }) puts next items es
 
 -- and after the items so far
 abbrev pub IsPieceDue : List Fact → PieceBacking → PackFacts → Trace → Type 0
@@ -167,8 +205,21 @@ IsPieceDue facts b listed es = IsDueAt facts b listed (fed_in es) es
 abbrev pub IsPieceDone : List Fact → PieceBacking → Trace → Type 0
 IsPieceDone facts b es = IsDoneAt facts b (fed_in es) es
 
--- what puts the snapshot of a tree
-pub record PutsSnapshotOf (holding : Holding) (root : Name) (step : Step) : Type 0 where
+abbrev pub IsPieceIdle : List Fact → PieceBacking → Trace → Type 0
+IsPieceIdle facts b es = IsIdleAt facts b (fed_in es) es
+
+-- it is idle, and 20,000 blobs or more wait for an index
+abbrev pub IsPieceFull : List Fact → PieceBacking → Trace → Type 0
+IsPieceFull facts b es = IsPieceIdle facts b es × (facts_limit ≤ length (facts_in b.waiting))
+
+abbrev pub IsPieceLarge : List Fact → PieceBacking → Trace → Type 0
+IsPieceLarge facts b es = IsLargeAt b (fed_in es) es
+
+abbrev pub PieceWent : List Fact → Went → PieceBacking → Trace → Type 0
+PieceWent facts went b es = WentAt facts went b (fed_in es) es
+
+-- what puts the snapshot of a tree, of this version
+pub record PutsSnapshotOf (holding : Holding) (root : Name) (version : ℕ) (step : Step) : Type 0 where
   pub text : List ℕ
   pub snapshot : Snapshot
   pub reads : IsSnapshotText text snapshot
@@ -176,7 +227,7 @@ pub record PutsSnapshotOf (holding : Holding) (root : Name) (step : Step) : Type
   pub time : snapshot.time ≡ holding.who.time
   pub token : snapshot.token ≡ holding.token
   pub tree : snapshot.tree ≡ root
-  pub version : snapshot.version ≡ 1
+  pub version_is : snapshot.version ≡ version
   pub puts : step ≡ Step.Ask (Ask.Put holding.token Kind.Snapshot (naming.name text) text)
 
 -- an index, where 20,000 blobs or more wait, or as all ended, where one waits; then the snapshot; before that, more items
@@ -184,6 +235,11 @@ abbrev pub IsNextPiece : PieceBacking → PieceNext → Type 0
 IsNextPiece b PieceNext.Index = (b.waiting ≢ []) × ((facts_limit ≤ length (facts_in b.waiting)) ⊎ (b.work.walk.root ≢ None))
 IsNextPiece b (PieceNext.Snapshot root) = (b.waiting ≡ []) × (b.work.walk.root ≡ Some root)
 IsNextPiece b PieceNext.Input = (length (facts_in b.waiting) < facts_limit) × (b.work.walk.root ≡ None)
+
+-- how it ends where the text of a tree is too large, by the version of the config
+abbrev pub large_end : ℕ → End
+large_end (suc (suc zero)) = End.FileTooLarge
+large_end _ = End.DirectoryTooLarge
 
 -- its end is taken back
 abbrev pub reopened_backing : PieceBacking → PieceBacking

@@ -1,5 +1,5 @@
 -- Where a walk that is fed items stands.
-use Rattle.std.specs.Prelude.{◌≡◌, ◌≢◌, ◌<◌, ◌≤◌, ◌+◌, ◌++◌, ◌∷◌, [], ⊤, ℕ, false, List, length, map, take, Option, Some, None, is_some, Contains}
+use Rattle.std.specs.Prelude.{◌≡◌, ◌≢◌, ◌<◌, ◌≤◌, ◌+◌, ◌⊎◌, ◌++◌, ◌∷◌, [], ⊤, ℕ, false, List, length, map, take, Option, Some, None, is_some, true, Contains}
 use Rattle.repo_name.specs.Limits.{blob_limit}
 use Rattle.repo_name.specs.Naming as naming
 use Rattle.repo_name.specs.declared.kinds.BlobKind.TheVariants.{Content, Tree}
@@ -11,13 +11,15 @@ use Rattle.repo_index.specs.declared.facts.PackFacts.{PackFacts}
 use Rattle.repo_pack.specs.PackLayout.{item_of}
 use Rattle.repo_pack.specs.PackLayout as layout
 use Rattle.repo_pack.specs.PackWriting.{IsOpen}
-use Rattle.repo_session.specs.Feeds.{Fed, fed_bytes}
+use Rattle.repo_session.specs.Feeds.{Fed, fed_bytes, fed_close, fed_end}
 use Rattle.repo_session.specs.Traces.{Each}
-use Rattle.repo_tree.specs.TreeText.{IsTreeText}
-use Rattle.repo_tree.specs.TreeWriting.{tree_text}
-use Rattle.repo_backup.specs.Folders.{Folder, nothing, joined, nodes_of}
+use Rattle.repo_tree.specs.PartWriting.{HasTexts, part_text, part_texts, root_text}
+use Rattle.repo_tree.specs.Parts.{IsPartText}
+use Rattle.repo_tree.specs.declared.nodes.Node.{Node}
+use Rattle.repo_backup.specs.Folders.{Folder, nothing, joined, nodes_of, tree_items}
 use Rattle.repo_backup.specs.Items.{after, MayTake, ItemFault, IsCountOf, fed_part, size_of}
 use Rattle.repo_backup.specs.Packings.{IsPacking, IsCovered, IsSealedBy, IsListed, IsLeftOpen, GrowsBy, PacksOn, all_items}
+use Rattle.repo_backup.specs.PartsMade.{parts_by, IsLeft, left_count, open_dir, closed_dir}
 use Rattle.repo_backup.specs.Plans.{AreTreeTextsBelow}
 use Rattle.repo_backup.specs.Standings.{Around, FileCut, Standing, place_at, IsCutSoFar, made_at}
 use Rattle.repo_backup.specs.declared.packing.Packing.{Packing}
@@ -30,6 +32,8 @@ use Rattle.repo_backup.specs.declared.pieces.PieceWalk.{PieceWalk}
 use Rattle.repo_backup.specs.declared.piece_works.PieceWork.{PieceWork}
 use Rattle.repo_backup.specs.declared.piece_works.Took.{Took}
 use Rattle.repo_backup.specs.declared.pieces.Outer.{Outer}
+use Rattle.repo_backup.specs.declared.parts.PartsLeft.{PartsLeft}
+use Rattle.repo_backup.specs.declared.packing.Packed.{Packed}
 
 -- ---- where the walk stands
 
@@ -47,23 +51,23 @@ IsFileAt params None (Some o) = ⊥
 IsFileAt params (Some f) None = ⊥
 IsFileAt params (Some f) (Some o) = IsPieceAt params f o
 
--- the directories around the open one, the nearest last: the nodes made, and the name of the one entered
-abbrev pub AreOuterAt : List Outer → List Around → Type 0
-AreOuterAt outers [] = outers ≡ []
-AreOuterAt outers (a ∷ above) = (before : List Outer) × (outer : Outer) × (outers ≡ before ++ outer ∷ []) × (outer.name ≡ a.name) × (outer.nodes.items ≡ nodes_of a.done) × AreOuterAt before above
+-- by the version of the config, the directories around the open one, the nearest last: the nodes made, and the name of the one entered
+abbrev pub AreOuterAt : ℕ → List Outer → List Around → Type 0
+AreOuterAt version outers [] = outers ≡ []
+AreOuterAt version outers (a ∷ above) = (before : List Outer) × (outer : Outer) × (outers ≡ before ++ outer ∷ []) × (outer.name ≡ a.name) × (outer.nodes.items ≡ nodes_of version a.done) × AreOuterAt version before above
 
 -- the root's tree, once all ended
-abbrev pub IsRootAt : Option Name → Folder → Type 0
-IsRootAt None done = ⊤
-IsRootAt (Some root) done = (root ≡ naming.name (tree_text (nodes_of done))) × IsTreeText (tree_text (nodes_of done)) (nodes_of done)
+abbrev pub IsRootAt : ℕ → Option Name → Folder → Type 0
+IsRootAt version None done = ⊤
+IsRootAt version (Some root) done = (root ≡ naming.name (root_text version (nodes_of version done))) × HasTexts version (nodes_of version done)
 
 -- the walk stands here
 pub record IsAt (w : PieceWalk) (st : Standing) : Type 0 where
-  pub outers : AreOuterAt w.above.items st.above
-  pub nodes : w.nodes.items ≡ nodes_of st.done
+  pub outers : AreOuterAt w.version w.above.items st.above
+  pub nodes : w.nodes.items ≡ nodes_of w.version st.done
   pub file : IsFileAt w.params w.file st.file
   pub over : is_some w.root ≡ st.over
-  pub root : IsRootAt w.root st.done
+  pub root : IsRootAt w.version w.root st.done
 
 -- ---- what a piece came to
 
@@ -85,41 +89,70 @@ HasNoRest (Some f) = f.rest.items ≡ []
 
 -- ---- the work
 
--- the directories that were closed have tree texts
-abbrev pub AreTextsAround : List Around → Type 0
-AreTextsAround [] = ⊤
-AreTextsAround (a ∷ above) = AreTreeTextsBelow a.done × AreTextsAround above
+-- the directories that were closed have texts
+abbrev pub AreTextsAround : ℕ → List Around → Type 0
+AreTextsAround version [] = ⊤
+AreTextsAround version (a ∷ above) = AreTreeTextsBelow version a.done × AreTextsAround version above
 
 -- the work stands here: the packs as they are known; all their blobs were made; and each blob made so far is known or in them
 pub record PieceStands (w : PieceWork) (known : List Fact) (st : Standing) (sent sealed : List layout.Item) : Type 0 where
   pub packing : IsPacking w.packing known sent sealed
-  pub of_made : (item : layout.Item) → Contains (all_items sent sealed w.packing) item → Contains (made_at st) item
+  pub of_made : (item : layout.Item) → Contains (all_items sent sealed w.packing) item → Contains (made_at w.walk.version st) item
   pub at : IsAt w.walk st
   pub cut : IsCutSoFar w.walk.params st
-  pub texts : AreTreeTextsBelow st.done × AreTextsAround st.above
-  pub covered : Each (λ item. IsCovered known (all_items sent sealed w.packing) item) (made_at st)
+  pub texts : AreTreeTextsBelow w.walk.version st.done × AreTextsAround w.walk.version st.above
+  pub covered : Each (λ item. IsCovered known (all_items sent sealed w.packing) item) (made_at w.walk.version st)
+
+-- the work makes the parts of the directory that was closed here, some of which are left: the packs as they are known; all their blobs were made; and each
+-- blob made before, and of the parts made so far, is known or in them
+pub record PieceLays (w : PieceWork) (known : List Fact) (st : Standing) (sent sealed : List layout.Item) : Type 0 where
+  pub parts : PartsLeft
+  pub parts_are : w.parts ≡ Some parts
+  pub done : Folder
+  pub above : List Around
+  pub closed : st ≡ closed_dir done above
+  pub left : List (List Node)
+  pub made : List (List Node)
+  pub all : left ++ made ≡ parts_by w.walk.version (nodes_of w.walk.version done)
+  pub some : left ≢ []
+  pub is_left : IsLeft parts left made
+  pub packing : IsPacking w.packing known sent sealed
+  pub of_made : (item : layout.Item) → Contains (all_items sent sealed w.packing) item → Contains (made_at w.walk.version st) item
+  pub at : IsAt w.walk (open_dir done above)
+  pub cut : IsCutSoFar w.walk.params st
+  pub texts : AreTreeTextsBelow w.walk.version done × AreTextsAround w.walk.version above
+  pub covered : Each (λ item. IsCovered known (all_items sent sealed w.packing) item) (made_at w.walk.version (open_dir done above) ++ tree_items (part_texts made))
+
+-- it stands there, and no part of a directory is left to be made; or it makes the parts of the directory that was closed there
+abbrev pub WorkStands : PieceWork → List Fact → Standing → List layout.Item → List layout.Item → Type 0
+WorkStands w known st sent sealed = ((w.parts ≡ None) × PieceStands w known st sent sealed) ⊎ PieceLays w known st sent sealed
 
 -- nothing was fed
 abbrev pub at_beginning : Standing
 at_beginning = record { done = nothing; above = []; file = None; over = false }
 
--- it may be fed: no pack is sealed, the open one takes more, and not all ended
+-- it may be fed: no pack is sealed, the open one takes more, no part of a directory is left to be made, and not all ended
 pub record IsReady (w : PieceWork) : Type 0 where
   pub unsealed : w.packing.packer.sealed ≡ None
+  pub unlaid : w.parts ≡ None
   pub opened : IsOpen w.packing.packer.writer
   pub unended : w.walk.root ≡ None
 
--- wherever it stood, the item may be taken, and it stands one item further; a pack may be sealed
+-- no pack was sealed, or it was just due; or no more blob comes, and no part of a directory is left to be made
+abbrev pub IsSealedAs : Sealing → ℕ → List layout.Item → PieceWork → Type 0
+IsSealedAs sealing target sealed new = IsSealedBy Sealing.Due target sealed ⊎ ((sealing ≡ Sealing.Last) × (new.parts ≡ None))
+
+-- wherever it stood, the item may be taken, and it stands one item further; a pack may be sealed, and then some parts of a directory may be left to be made
 abbrev pub Goes : List Fact → Sealing → Fed → PieceWork → PieceWork → Type 0
 Goes known sealing item old new = (st : Standing) (sent : List layout.Item) → PieceStands old known st sent []
-    → MayTake (place_at st) item × (now : Standing) × (sealed : List layout.Item) × (place_at now ≡ after (place_at st) item) × PieceStands new known now sent sealed
-    × IsSealedBy sealing old.packing.packer.writer.target sealed
+    → MayTake (place_at st) item × (now : Standing) × (sealed : List layout.Item) × (place_at now ≡ after (place_at st) item) × WorkStands new known now sent sealed
+    × IsSealedAs sealing old.packing.packer.writer.target sealed new
 
--- wherever it stood, the item may be taken, and makes a tree whose text is too large
+-- wherever it stood, the item may be taken, and of it a tree is made whose text is too large
 abbrev pub EndsTooLarge : List Fact → Fed → PieceWork → Type 0
 EndsTooLarge known item old = (st : Standing) (sent : List layout.Item) → PieceStands old known st sent []
     → MayTake (place_at st) item × (now : Standing) × (text : List ℕ) × (place_at now ≡ after (place_at st) item) × IsCutSoFar old.walk.params now
-    × Contains (made_at now) (item_of Tree text) × (blob_limit < length text)
+    × Contains (made_at old.walk.version now) (item_of Tree text) × (blob_limit < length text)
 
 -- wherever it stood, this is the item's first fault
 abbrev pub Refuses : List Fact → Fed → PieceWork → FeedError → Type 0
@@ -150,9 +183,9 @@ abbrev pub TakesItem : List Fact → Sealing → Fed → PieceWork → Took → 
 TakesItem known sealing item old (Took.All n listed) new = (n ≡ 0) × Goes known sealing item old new
 TakesItem known sealing item old Took.TooLarge new = EndsTooLarge known item old
 
--- how the packs stand then
+-- how the packs stand then; where none was sealed, no part of a directory is left to be made
 abbrev pub LeavesPacked : Sealing → Took → PieceWork → Type 0
-LeavesPacked sealing (Took.All n listed) new = IsListed listed new.packing × IsLeftOpen sealing listed new.packing
+LeavesPacked sealing (Took.All n listed) new = IsListed listed new.packing × IsLeftOpen sealing listed new.packing × (listed ≡ None → new.parts ≡ None)
 LeavesPacked sealing Took.TooLarge new = ⊤
 
 -- wherever it stood, it stands
@@ -168,6 +201,66 @@ abbrev pub Reopens : List Fact → PieceWork → Took → PieceWork → Type 0
 Reopens known old (Took.All n None) new = Stays known old (reopened new)
 Reopens known old (Took.All n (Some listed)) new = ⊤
 Reopens known old Took.TooLarge new = ⊤
+
+-- ---- the parts of a directory
+
+-- how the last part that is left is sealed in: as no more blob comes, where it is the first one of the root
+abbrev pub sealing_in : List Outer → Sealing
+sealing_in [] = Sealing.Last
+sealing_in (outer ∷ outers) = Sealing.Due
+
+-- the item by which the open directory is closed: the end of all, where it is the root
+abbrev pub closing_in : List Outer → Fed
+closing_in [] = fed_end
+closing_in (outer ∷ outers) = fed_close
+
+-- a part of these nodes, which goes on so, was made a blob and packed; or its text is too large
+abbrev pub PacksPart : List Fact → Sealing → List Node → Option Name → Packing → Option Packed → Packing → Type 0
+PacksPart known sealing nodes next old None new = blob_limit < length (part_text nodes next)
+PacksPart known sealing nodes next old (Some packed) new = IsPartText (part_text nodes next) nodes next × (packed.name ≡ naming.name (part_text nodes next)) × PacksOn known sealing (item_of Tree (part_text nodes next)) old new
+
+-- how the packs stand then
+abbrev pub LeavesPart : Sealing → Packing → Option Packed → Packing → Type 0
+LeavesPart sealing old None new = ⊤
+LeavesPart sealing old (Some packed) new = IsListed packed.listed new × IsLeftOpen sealing packed.listed new × (packed.listed ≡ None → GrowsBy old new) × (packed.listed ≢ None → new.packer.writer.items ≡ [])
+
+-- where the work makes parts, it makes some more; a pack may be sealed, which is just due, or as all ended and no part is left
+abbrev pub LaysOn : List Fact → PieceWork → Took → PieceWork → Type 0
+LaysOn known old (Took.All n listed) new = (n ≡ 0) × ((st : Standing) (sent : List layout.Item) → PieceLays old known st sent []
+    → (sealed : List layout.Item) × WorkStands new known st sent sealed × (IsSealedBy Sealing.Due old.packing.packer.writer.target sealed ⊎ ((st.over ≡ true) × (new.parts ≡ None))))
+LaysOn known old Took.TooLarge new = (st : Standing) (sent : List layout.Item) → PieceLays old known st sent []
+    → (text : List ℕ) × Contains (made_at old.walk.version st) (item_of Tree text) × (blob_limit < length text)
+
+-- where it made parts, it still does
+abbrev pub LaysStill : List Fact → PieceWork → PieceWork → Type 0
+LaysStill known old new = (st : Standing) (sent : List layout.Item) → PieceLays old known st sent [] → PieceLays new known st sent []
+
+-- no pack was sealed, and the open one takes more, and may have more
+pub record IsStill (known : List Fact) (old new : Packing) : Type 0 where
+  pub packs : (sent : List layout.Item) → IsPacking old known sent [] → IsPacking new known sent []
+  pub grows : GrowsBy old new
+  pub unsealed : new.packer.sealed ≡ None
+  pub opened : IsOpen new.packer.writer
+
+-- so it is, and the walk is as it was, but for how much room there is, and for the root's tree
+pub record IsSteady (known : List Fact) (old new : PieceWork) : Type 0 where
+  pub params : new.walk.params ≡ old.walk.params
+  pub version : new.walk.version ≡ old.walk.version
+  pub outers : (version : ℕ) (above : List Around) → AreOuterAt version old.walk.above.items above → AreOuterAt version new.walk.above.items above
+  pub nodes : new.walk.nodes.items ≡ old.walk.nodes.items
+  pub file : new.walk.file ≡ old.walk.file
+  pub packing : IsStill known old.packing new.packing
+
+-- where a later part was made, one is less left; or a pack was sealed, and the open one is empty
+abbrev pub LeavesLater : List Fact → PieceWork → Took → PieceWork → Type 0
+LeavesLater known old (Took.All n None) new = (left_count new.parts + 1 ≡ left_count old.parts) × IsStill known old.packing new.packing
+LeavesLater known old (Took.All n (Some listed)) new = IsListed (Some listed) new.packing × IsOpen new.packing.packer.writer × (new.packing.packer.writer.items ≡ [])
+LeavesLater known old Took.TooLarge new = ⊤
+
+-- so it stands where the root was closed, and no pack was sealed
+abbrev pub EndsSteady : List Fact → List Outer → PieceWork → Took → PieceWork → Type 0
+EndsSteady known [] old (Took.All n None) new = IsSteady known old new
+EndsSteady known outers old took new = ⊤
 
 -- ---- any item
 

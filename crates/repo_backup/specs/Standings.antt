@@ -6,7 +6,7 @@ use Rattle.repo_chunk.specs.Cuts.{AreFirstCuts, HasNoCut}
 use Rattle.repo_pack.specs.PackLayout.{Item, item_of}
 use Rattle.repo_tree.specs.Spelling.{dir_entry}
 use Rattle.repo_tree.specs.declared.entries.Entry.{Entry}
-use Rattle.repo_backup.specs.Folders.{Folder, nothing, file_then, dir_then, joined, entries_of, tree_of, blobs_below, IsCutBy}
+use Rattle.repo_backup.specs.Folders.{Folder, nothing, file_then, dir_then, joined, entries_of, trees_of, blobs_below, IsCutBy}
 use Rattle.repo_backup.specs.Items.{Feeding, FileSoFar, Place, place_of}
 
 -- one folder behind another
@@ -78,15 +78,15 @@ pub record LeadTo (params : Parameters) (items : Feeding) (st : Standing) : Type
 abbrev pub chunk_items : List (List ℕ) → List Item
 chunk_items chunks = map (λ chunk. item_of Content chunk) chunks
 
--- what was made in the open directory, and in those around it before
-abbrev pub made_below : Folder → List Around → List Item
-made_below done [] = blobs_below done
-made_below done (a ∷ above) = made_below a.done above ++ blobs_below done
+-- by the version of a config, what was made in the open directory, and in those around it before
+abbrev pub made_below : ℕ → Folder → List Around → List Item
+made_below version done [] = blobs_below version done
+made_below version done (a ∷ above) = made_below version a.done above ++ blobs_below version done
 
 abbrev pub chunks_made : Option FileCut → List Item
 chunks_made None = []
 chunks_made (Some f) = chunk_items f.chunks
 
 -- the blobs made so far: the chunks that the rule has ended, the last chunk of each closed file, the trees of closed directories, and at the end the root's
-abbrev pub made_at : Standing → List Item
-made_at st = (made_below st.done st.above ++ chunks_made st.file) ++ cond st.over (tree_of st.done ∷ []) []
+abbrev pub made_at : ℕ → Standing → List Item
+made_at version st = (made_below version st.done st.above ++ chunks_made st.file) ++ cond st.over (trees_of version st.done) []

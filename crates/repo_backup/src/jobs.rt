@@ -70,8 +70,21 @@ impl BackupJob {
         match backing.next() {
             PieceNext::Input => Ok(Step::Away),
             PieceNext::Index => put_index(self.alloc, holder.token(), &backing.waiting),
-            PieceNext::Snapshot(root) => put_snapshot(self.alloc, holder, root),
+            PieceNext::Snapshot(root) => {
+                put_snapshot(self.alloc, holder, root, backing.work.walk.version)
+            }
         }
+    }
+
+    /// Ends where the text of a tree is too large.
+    fn end_large(&self) -> Step
+        ensures sends { (holding : Holding) → BackupSends self.now holding Went.TooLarge result self.now }
+        ensures short { IsShortStep result }
+    {
+        let Some(backing) = &self.backing else {
+            return Step::Away;
+        };
+        Step::Finish(Outcome::Ended(backing.large_end()))
     }
 
     /// Sends what is sent next where the work went so. It fails for memory alone, and then nothing changed.
@@ -85,7 +98,7 @@ impl BackupJob {
         match went {
             Went::On => self.send_last(holder),
             Went::Pack(listed) => Ok(self.send_pack(holder, listed)),
-            Went::TooLarge => Ok(Step::Finish(Outcome::Ended(End::DirectoryTooLarge))),
+            Went::TooLarge => Ok(self.end_large()),
             Went::Nothing => Ok(Step::Away),
         }
     }
@@ -117,6 +130,7 @@ impl BackupJob {
     fn walk_on(&mut self) -> Result<Went, AllocError>
         ensures ok { IfOk result (λ went. WalksOn went self.old self.new) }
         ensures all { IfOk result (λ went. (b : PieceBacking) → self.old.backing ≡ Some b → went ≡ Went.On → left_in self.new ≡ []) }
+        ensures laid { IfOk result (λ went. (b : PieceBacking) → self.new.backing ≡ Some b → went ≡ Went.On → b.work.parts ≡ None) }
         ensures err { OnErr result (WalksOn Went.On self.old self.new) }
         ensures steps { self.new.steps ≡ self.old.steps }
         ensures catalog { self.new.catalog ≡ self.old.catalog }
@@ -154,8 +168,9 @@ impl BackupJob {
         let Some(backing) = &self.backing else {
             return;
         };
-        let (params, target) = (backing.work.walk.params, backing.work.packing.packer.target);
-        let work = PieceWork::new(self.alloc, params, target);
+        let (params, version) = (backing.work.walk.params, backing.work.walk.version);
+        let target = backing.work.packing.packer.target;
+        let work = PieceWork::new(self.alloc, params, version, target);
         self.backing = Some(PieceBacking::new(self.alloc, work));
     }
 
@@ -301,12 +316,12 @@ impl Job for BackupJob {
     }
 
     fn versions(&self) -> Versions {
-        Versions::One
+        Versions::Both
     }
 
     fn opened(&mut self, _holder: &Holder, config: &Config) -> Step {
         let target = Target::of(config.target.clamp(LEAST_TARGET, GREATEST_TARGET) as u32);
-        let work = PieceWork::new(self.alloc, config.params, target);
+        let work = PieceWork::new(self.alloc, config.params, config.version, target);
         self.backing = Some(PieceBacking::new(self.alloc, work));
         Step::Ask(self.catalog.page_ask())
     }

@@ -3,8 +3,10 @@
 //! A [`Backup`] is a client of repo_session. The entries handed in are checked, and laid out as the steps of a walk
 //! through their folder. Once the store's indexes were read, the walk feeds the steps' items to the work, which cuts
 //! files into chunks and makes the trees of directories; each of these blobs is added to a pack, unless an index gives it
-//! or it was added before. A pack is put as soon as it is full, and the last one at the end; an index whenever 20,000 blobs
-//! or more wait for one and at the end; and the snapshot last.
+//! or it was added before. By a config of version 2 a directory is in parts, which are made from the last one to the first,
+//! each a tree of its own; where a pack is full between two of them, it is put before the next one is made. A pack is put
+//! as soon as it is full, and the last one at the end; an index whenever 20,000 blobs or more wait for one and at the end;
+//! and the snapshot, of the config's version, last.
 //!
 //! Promised: entries are refused for the first fault of the first one that has one; each pack, index and snapshot that
 //! is put is one that the rule of a backup allows after the exchanges before it, whoever answers; `Stored` comes only
@@ -25,8 +27,8 @@
 //!
 //! `Items` says where items lead, which may be taken, and the first fault of others; `Standings` the same in chunks, and
 //! what is made so far; `ItemLaws` that what they spell may be handed in. `PieceRules` says what such a backup may ask for,
-//! when it may want input, and how it may end; what is known on the way stands in `Pieces` (the work, which both share),
-//! `PieceStates`, `PieceBackups` and `PieceObedience`.
+//! when it may want input, and how it may end; what is known on the way stands in `PartsMade` (the parts of a directory),
+//! `Pieces` (the work, which both share), `PieceStates`, `PieceBackups` and `PieceObedience`.
 #![tactic(auto)]
 
 mod added;
@@ -39,6 +41,7 @@ mod items;
 mod jobs;
 mod laws;
 mod packing;
+mod parts;
 mod piece_backing;
 mod piece_backups;
 mod piece_jobs;

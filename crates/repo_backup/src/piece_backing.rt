@@ -10,15 +10,16 @@ ghost use Rattle.repo_backup.specs.Plans.{left_fed};
 ghost use Rattle.repo_backup.specs.declared.walks.Went.{Went};
 ghost use Rattle.repo_backup.specs.Packings.{AimsOn};
 ghost use Rattle.repo_backup.specs.Pieces.{IsReady, WorkTakes, LeavesPacked, ReopensAt, Refuses, Stays, sealing_at};
-ghost use Rattle.repo_backup.specs.PieceStates.{waits, IsNextPiece};
+ghost use Rattle.repo_backup.specs.PieceStates.{waits, IsNextPiece, LaysSo, large_end};
 
 use crate::items::{FeedError, Item};
 use crate::piece_works::{PieceWork, Took};
 use crate::steps::{Position, WalkStep};
-use crate::walks::{Went, walk};
+use crate::walks::{Went, lay_on, walk};
 use repo_index::{IndexText, Lookup, PackFacts};
 use repo_name::Name;
 use repo_pack::Sealed;
+use repo_session::End;
 use repo_writing::{Counts, is_full};
 use std::alloc::{AllocError, Global};
 use std::mem;
@@ -71,6 +72,7 @@ impl PieceBacking {
         ensures stays { OnErr result (Stays lookup.now self.old.work self.new.work) }
         ensures ready { OnErr result (IsReady self.new.work) }
         ensures params { self.new.work.walk.params ≡ self.old.work.walk.params }
+        ensures version { self.new.work.walk.version ≡ self.old.work.walk.version }
         ensures same { self.new ≡ record self.old { work = self.new.work } }
     {
         self.work.feed(lookup, item)
@@ -85,11 +87,23 @@ impl PieceBacking {
     ) -> Result<Went, AllocError>
         ensures ok { IfOk result (λ went. GoesSo lookup.now self.old.work (left_fed position.old steps.now) went self.new.work (left_fed position.new steps.now)) }
         ensures all { IfOk result (λ went. went ≡ Went.On → position.new.over ≡ true) }
+        ensures laid { IfOk result (λ went. went ≡ Went.On → self.new.work.parts ≡ None) }
         ensures err { OnErr result (GoesSo lookup.now self.old.work (left_fed position.old steps.now) Went.On self.new.work (left_fed position.new steps.now)) }
         ensures way { IsSameWay self.old.work self.new.work }
         ensures same { self.new ≡ record self.old { work = self.new.work } }
     {
         walk(steps, position, &mut self.work, lookup)
+    }
+
+    /// Makes the parts of a directory that are left: see [`lay_on`].
+    pub fn lay_on(&mut self, lookup: &Lookup) -> Result<Went, AllocError>
+        ensures ok { IfOk result (λ went. LaysSo lookup.now self.old.work went self.new.work) }
+        ensures laid { IfOk result (λ went. went ≡ Went.On → self.new.work.parts ≡ None) }
+        ensures err { OnErr result (LaysSo lookup.now self.old.work Went.On self.new.work) }
+        ensures way { IsSameWay self.old.work self.new.work }
+        ensures same { self.new ≡ record self.old { work = self.new.work } }
+    {
+        lay_on(&mut self.work, lookup)
     }
 
     /// Takes the sealed pack out, to be put, which is listed so: its blobs and their bytes are counted. `None` where none is
@@ -125,13 +139,6 @@ impl PieceBacking {
         Ok(())
     }
 
-    /// Nothing waits any more: an index lists it all. It takes no memory.
-    pub fn note_listed(&mut self, alloc: Global)
-        ensures { self.new ≡ record self.old { waiting = [] } }
-    {
-        self.waiting = IndexText::of(Vec::new(alloc));
-    }
-
     /// Takes out the packs that wait, so that none does. It takes no memory.
     pub fn take_waiting(&mut self, alloc: Global) -> IndexText
         ensures taken { result ≡ self.old.waiting }
@@ -145,6 +152,16 @@ impl PieceBacking {
         ensures { self.new ≡ record self.old { waiting = waiting } }
     {
         self.waiting = waiting;
+    }
+
+    /// How a backup ends where the text of a tree is too large: by the version of the config.
+    pub fn large_end(&self) -> End
+        ensures { result ≡ large_end self.now.work.walk.version }
+    {
+        match self.work.walk.version {
+            2 => End::FileTooLarge,
+            _ => End::DirectoryTooLarge,
+        }
     }
 
     /// What comes next where no pack is sealed or being put.

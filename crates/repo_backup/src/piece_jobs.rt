@@ -1,6 +1,8 @@
 //! The job of a backup that is fed items: what it makes of each reply, and of each item.
 
-ghost use Rattle.std.specs.Prelude.{◌≡◌, ◌↔◌, ℕ, List, IsTrue, option_map, IfOk, IfErr, OnErr};
+ghost use Rattle.std.specs.Prelude.{◌≡◌, ◌≤◌, ◌↔◌, ℕ, None, Some, List, length, IsTrue, option_map, IfOk, IfErr, OnErr};
+ghost use Rattle.repo_index.specs.IndexText.{facts_in};
+ghost use Rattle.repo_name.specs.Limits.{facts_limit};
 ghost use Rattle.repo_name.specs.declared.names.Name.{Name};
 ghost use Rattle.repo_name.specs.declared.tokens.Token.{Token};
 ghost use Rattle.repo_name.specs.declared.kinds.Kind.{Kind};
@@ -10,21 +12,23 @@ ghost use Rattle.repo_session.specs.Askers.{Holding};
 ghost use Rattle.repo_session.specs.Jobs.{IsShortStep};
 ghost use Rattle.repo_session.specs.Traces.{Trace};
 ghost use Rattle.repo_session.specs.declared.jobs.Step.{Step};
-ghost use Rattle.repo_backup.specs.PieceStates.{IsPieceDue, IsPieceDone, reopened_backing};
-ghost use Rattle.repo_backup.specs.PieceBackups.{PieceReplies, PieceSends, PieceBusy, PieceFeeds, PieceRefuses, PieceKnows, PieceReads, IsPieceOpen, KeepsPut};
+ghost use Rattle.repo_backup.specs.PieceStates.{IsPieceDue, IsPieceDone, IsPieceFull, IsPieceIdle, IsPieceLarge, PieceWent, reopened_backing};
+ghost use Rattle.repo_backup.specs.PieceBackups.{PieceReplies, PieceSends, PieceBusy, PieceFeeds, PieceRefuses, PieceKnows, PieceReads, PieceLaysOn, IsPieceOpen, KeepsPut};
 ghost use Rattle.repo_backup.specs.Items.{IsCountOf};
 ghost use Rattle.repo_backup.specs.declared.items.FeedError.{FeedError};
+ghost use Rattle.repo_backup.specs.declared.walks.Went.{Went};
 
 use crate::items::{FeedError, Item};
 use crate::piece_backing::{PieceBacking, PieceNext};
 use crate::piece_works::{PieceWork, Took};
 use crate::sending::put_snapshot;
-use repo_index::PackFacts;
+use crate::walks::Went;
+use repo_index::{IndexText, PackFacts};
 use repo_name::{GREATEST_TARGET, Kind, LEAST_TARGET, Name, Thing};
 use repo_session::{Catalog, Emission, End, Holder, Job, Outcome, Reading, Step, Versions};
 use repo_tree::Config;
 use repo_wire::{Ask, Say};
-use repo_writing::{Counts, Target, put_index, put_pack};
+use repo_writing::{Counts, Target, is_full, put_index, put_pack};
 use std::alloc::{AllocError, Global};
 
 /// A backup under its lock that is fed items: the work, once the config was read, and what the store's indexes give.
@@ -41,6 +45,7 @@ impl PieceJob {
         ensures sends { PieceSends (λ facts b es. IsPieceDue facts b listed es) self.old holder.now result self.new }
         ensures busy { PieceBusy listed self.old result }
         ensures short { IsShortStep result }
+        ensures catalog { self.new.catalog ≡ self.old.catalog }
     {
         let Some(backing) = &mut self.backing else {
             return Step::Away;
@@ -51,8 +56,8 @@ impl PieceJob {
         }
     }
 
-    /// What comes next where no pack is sealed or being put. It fails for memory alone.
-    fn go_on(&self, holder: &Holder) -> Result<Step, AllocError>
+    /// What comes next where no pack is sealed or being put, and no part of a directory is left. It fails for memory alone.
+    fn send_next(&self, holder: &Holder) -> Result<Step, AllocError>
         ensures sends { IfOk result (λ step. PieceSends IsPieceDone self.now holder.now step self.now) }
         ensures short { IfOk result IsShortStep }
     {
@@ -62,8 +67,86 @@ impl PieceJob {
         match backing.next() {
             PieceNext::Input => Ok(Step::Want),
             PieceNext::Index => put_index(self.alloc, holder.token(), &backing.waiting),
-            PieceNext::Snapshot(root) => put_snapshot(self.alloc, holder, root),
+            PieceNext::Snapshot(root) => {
+                put_snapshot(self.alloc, holder, root, backing.work.walk.version)
+            }
         }
+    }
+
+    /// Whether 20,000 blobs or more wait for an index.
+    fn is_full(&self) -> bool
+        ensures { (b : PieceBacking) → self.now.backing ≡ Some b → IsTrue result ↔ (facts_limit ≤ length (facts_in b.waiting)) }
+    {
+        match &self.backing {
+            Some(backing) => is_full(&backing.waiting),
+            None => false,
+        }
+    }
+
+    /// Puts an index of the packs that wait, where there are 20,000 blobs or more in them. It fails for memory alone.
+    fn send_index(&self, holder: &Holder) -> Result<Step, AllocError>
+        ensures sends { IfOk result (λ step. PieceSends IsPieceFull self.now holder.now step self.now) }
+        ensures short { IfOk result IsShortStep }
+    {
+        let Some(backing) = &self.backing else {
+            return Ok(Step::Away);
+        };
+        put_index(self.alloc, holder.token(), &backing.waiting)
+    }
+
+    /// Ends where the text of a tree is too large.
+    fn end_large(&self) -> Step
+        ensures sends { (holding : Holding) → PieceSends IsPieceLarge self.now holding result self.now }
+        ensures short { IsShortStep result }
+    {
+        let Some(backing) = &self.backing else {
+            return Step::Away;
+        };
+        Step::Finish(Outcome::Ended(backing.large_end()))
+    }
+
+    /// Makes the parts of a directory that are left, until a pack is sealed or all are made. It fails for memory alone, and
+    /// then some of them may be made.
+    fn lay_on(&mut self) -> Result<Went, AllocError>
+        ensures ok { IfOk result (λ went. PieceLaysOn went self.old self.new) }
+        ensures laid { IfOk result (λ went. (b : PieceBacking) → self.new.backing ≡ Some b → went ≡ Went.On → b.work.parts ≡ None) }
+        ensures err { OnErr result (PieceLaysOn Went.On self.old self.new) }
+        ensures catalog { self.new.catalog ≡ self.old.catalog }
+    {
+        let Some(backing) = &mut self.backing else {
+            return Ok(Went::Nothing);
+        };
+        backing.lay_on(&self.catalog.lookup)
+    }
+
+    /// Sends what is sent next where the work went so. It fails for memory alone, and then nothing changed.
+    fn send(&mut self, holder: &Holder, went: Went) -> Result<Step, AllocError>
+        ensures sends { IfOk result (λ step. PieceSends (λ facts b es. PieceWent facts went b es) self.old holder.now step self.new) }
+        ensures short { IfOk result IsShortStep }
+        ensures err { OnErr result ((self.new ≡ self.old) × (went ≡ Went.On)) }
+        ensures catalog { self.new.catalog ≡ self.old.catalog }
+    {
+        match went {
+            Went::On => self.send_next(holder),
+            Went::Pack(listed) => Ok(self.send_pack(holder, listed)),
+            Went::TooLarge => Ok(self.end_large()),
+            Went::Nothing => Ok(Step::Away),
+        }
+    }
+
+    /// Goes on where no pack is sealed or being put: it puts an index where 20,000 blobs wait for one, or makes the parts of a
+    /// directory that are left, or does what comes next. It fails for memory alone, and then some parts may be made.
+    fn go_on(&mut self, holder: &Holder) -> Result<Step, AllocError>
+        ensures sends { IfOk result (λ step. PieceSends IsPieceIdle self.old holder.now step self.new) }
+        ensures short { IfOk result IsShortStep }
+        ensures err { OnErr result (PieceLaysOn Went.On self.old self.new) }
+        ensures catalog { self.new.catalog ≡ self.old.catalog }
+    {
+        if self.is_full() {
+            return self.send_index(holder);
+        }
+        let went = self.lay_on()?;
+        self.send(holder, went)
     }
 
     /// Takes the reply to a request for a page of indexes, or for an index. It fails for memory alone, and then what was
@@ -107,13 +190,24 @@ impl PieceJob {
         let Some(backing) = &mut self.backing else {
             return Ok(Step::Away);
         };
-        let Some(root) = backing.work.walk.root else {
-            backing.note_listed(self.alloc);
-            return Ok(Step::Want);
-        };
-        let step = put_snapshot(self.alloc, holder, root)?;
-        backing.note_listed(self.alloc);
-        Ok(step)
+        let waiting = backing.take_waiting(self.alloc);
+        match self.go_on(holder) {
+            Ok(step) => Ok(step),
+            Err(error) => {
+                self.wait_for(waiting);
+                Err(error)
+            }
+        }
+    }
+
+    /// These packs wait for an index. It takes no memory.
+    fn wait_for(&mut self, waiting: IndexText)
+        ensures back { (b : PieceBacking) → self.old.backing ≡ Some b → self.new.backing ≡ Some (record b { waiting = waiting }) }
+        ensures same { self.new ≡ record self.old { backing = self.new.backing } }
+    {
+        if let Some(backing) = &mut self.backing {
+            backing.wait_for(waiting);
+        }
     }
 
     /// Ends where the snapshot is stored under this name.
@@ -174,7 +268,7 @@ impl PieceJob {
                 },
                 _ => Ok((Step::Want, count)),
             },
-            Ok(Took::TooLarge) => Ok((Step::Finish(Outcome::Ended(End::DirectoryTooLarge)), 0)),
+            Ok(Took::TooLarge) => Ok((self.end_large(), 0)),
             Err(error) => Err(error),
         }
     }
@@ -197,7 +291,7 @@ impl PieceJob {
         ensures backing { OnErr result (self.new.backing ≡ option_map reopened_backing self.old.backing) }
         ensures catalog { self.new.catalog ≡ self.old.catalog }
     {
-        match self.go_on(holder) {
+        match self.send_next(holder) {
             Ok(step) => Ok(step),
             Err(_) => {
                 if let Some(backing) = &mut self.backing {
@@ -232,12 +326,12 @@ impl Job for PieceJob {
     }
 
     fn versions(&self) -> Versions {
-        Versions::One
+        Versions::Both
     }
 
     fn opened(&mut self, _holder: &Holder, config: &Config) -> Step {
         let target = Target::of(config.target.clamp(LEAST_TARGET, GREATEST_TARGET) as u32);
-        let work = PieceWork::new(self.alloc, config.params, target);
+        let work = PieceWork::new(self.alloc, config.params, config.version, target);
         self.backing = Some(PieceBacking::new(self.alloc, work));
         Step::Ask(self.catalog.page_ask())
     }

@@ -1,8 +1,6 @@
 //! The work that a backup does on the items that it is fed: it makes their blobs, and adds them to packs.
 
 ghost use Rattle.std.specs.Prelude.{◌≡◌, ◌≢◌, ◌↔◌, ◌≤◌, ◌<◌, ◌+◌, ◌++◌, ◌∷◌, [], List, length, None, option_map, IsSome, IsTrue, IfOk, IfErr, OnOk, OnErr, MatchOption};
-ghost use Rattle.repo_tree.specs.TreeText.{IsTreeText};
-ghost use Rattle.repo_tree.specs.TreeWriting.{tree_text};
 ghost use Rattle.repo_name.specs.Limits.{blob_limit, file_end};
 ghost use Rattle.repo_index.specs.declared.facts.Fact.{Fact};
 ghost use Rattle.repo_session.specs.Feeds.{fed_bytes, fed_close, fed_dir, fed_end, fed_file};
@@ -14,15 +12,18 @@ ghost use Rattle.repo_backup.specs.Items.{MayOpen, NameFault, fed_of};
 ghost use Rattle.repo_backup.specs.Packings.{AimsOn, GrowsBy, IsListed, PacksOn, StaysPacked};
 ghost use Rattle.repo_backup.specs.Standings.{Standing, place_at};
 ghost use Rattle.repo_backup.specs.declared.packing.Sealing.{Sealing};
+ghost use Rattle.repo_backup.specs.PartsMade.{left_count};
 ghost use Rattle.repo_backup.specs.Pieces.{IsAt, Bites, IsSameFile, with_file, TakesBytes, TakesItem, WorkTakes, ReopensAt, LeavesPacked, sealing_at, Stays, Refuses, IsReady, PieceStands, Reopens, reopened, at_beginning};
+ghost use Rattle.repo_backup.specs.Pieces.{sealing_in, closing_in, LaysOn, LaysStill, IsStill, IsSteady, LeavesLater, EndsSteady};
+ghost use Rattle.repo_backup.specs.declared.parts.PartsLeft.{PartsLeft};
 
 use crate::items::{FeedError, Item};
 use crate::packing::{Packed, Packing, Sealing};
+use crate::parts::{PartsLeft, between, pack_part, sizes_by};
 use crate::pieces::{PieceFile, PieceWalk, Scanned};
 use repo_chunk::Params;
 use repo_index::{Lookup, PackFacts};
 use repo_name::{BlobKind, FILE_END, Name, Text};
-use repo_tree::{TreeError, write_tree};
 use repo_writing::Target;
 use std::alloc::{AllocError, Global};
 
@@ -31,14 +32,16 @@ use std::alloc::{AllocError, Global};
 pub enum Took {
     /// So many bytes of it, where it is a piece; and how an index lists the pack that was sealed, if one was.
     All(usize, Option<PackFacts>),
-    /// A directory's tree text is above 8,388,608 bytes.
+    /// The text of a tree is above 8,388,608 bytes.
     TooLarge,
 }
 
-/// A walk, and the packs to which its blobs are added.
+/// A walk; the parts of the directory that was closed last that are left to be made, if some are; and the packs to which the
+/// blobs are added.
 #[derive(Drop)]
 pub struct PieceWork {
     pub walk: PieceWalk,
+    pub parts: Option<PartsLeft>,
     pub packing: Packing,
     alloc: Global,
 }
@@ -160,8 +163,8 @@ fn take_bytes(
     requires open { IsOpen packing.old.packer.writer }
     requires unsealed { packing.old.packer.sealed ≡ None }
     requires small { file.old.size + length piece.now < file_end }
-    ensures ok { IfOk result (λ took. (w : PieceWork) → w.walk.root ≡ None → TakesBytes lookup.now piece.now (with_file w file.old packing.old) took (with_file w file.new packing.new)) }
-    ensures packed { IfOk result (λ took. (w : PieceWork) → LeavesPacked Sealing.Due took (with_file w file.new packing.new)) }
+    ensures ok { IfOk result (λ took. (w : PieceWork) → w.walk.root ≡ None → w.parts ≡ None → TakesBytes lookup.now piece.now (with_file w file.old packing.old) took (with_file w file.new packing.new)) }
+    ensures packed { IfOk result (λ took. (w : PieceWork) → w.parts ≡ None → LeavesPacked Sealing.Due took (with_file w file.new packing.new)) }
     ensures aims { AimsOn packing.old packing.new }
     ensures err { OnErr result (IsSameFile file.old file.new × StaysPacked lookup.now packing.old packing.new) }
     ensures still { OnErr result (packing.new.packer.sealed ≡ None) }
@@ -194,10 +197,11 @@ fn take_bytes(
 
 impl PieceWork {
     /// Work that hasn't begun. It takes no memory.
-    pub fn new(alloc: Global, params: Params, target: Target) -> PieceWork
+    pub fn new(alloc: Global, params: Params, version: u64, target: Target) -> PieceWork
         ensures stands { (known : List Fact) → PieceStands result known at_beginning [] [] }
         ensures ready { IsReady result }
         ensures params { result.walk.params ≡ params }
+        ensures version { result.walk.version ≡ version }
         ensures aims { (result.packing.packer.writer.target ≡ target.bytes) × (result.packing.packer.target ≡ target) }
     {
         prove!(params.min() > 0);
@@ -206,11 +210,13 @@ impl PieceWork {
         PieceWork {
             walk: PieceWalk {
                 params,
+                version,
                 above: Vec::new(alloc),
                 nodes: Vec::new(alloc),
                 file: None,
                 root: None,
             },
+            parts: None,
             packing,
             alloc,
         }
@@ -238,6 +244,7 @@ impl PieceWork {
         ensures stays { OnErr result ((known : List Fact) → Stays known self.old self.new) }
         ensures ready { OnErr result (IsReady self.new) }
         ensures params { self.new.walk.params ≡ self.old.walk.params }
+        ensures version { self.new.walk.version ≡ self.old.walk.version }
     {
         let name = self.new_name(name)?;
         prove!(self.walk.params.min() > 0);
@@ -255,6 +262,7 @@ impl PieceWork {
         ensures stays { OnErr result ((known : List Fact) → Stays known self.old self.new) }
         ensures ready { OnErr result (IsReady self.new) }
         ensures params { self.new.walk.params ≡ self.old.walk.params }
+        ensures version { self.new.walk.version ≡ self.old.walk.version }
     {
         let name = self.new_name(name)?;
         prove!(self.walk.params.min() > 0);
@@ -272,6 +280,7 @@ impl PieceWork {
         ensures stays { OnErr result (Stays lookup.now self.old self.new) }
         ensures ready { OnErr result (IsReady self.new) }
         ensures params { self.new.walk.params ≡ self.old.walk.params }
+        ensures version { self.new.walk.version ≡ self.old.walk.version }
     {
         let Some(mut file) = self.walk.file.take() else {
             return Err(FeedError::Order);
@@ -295,6 +304,7 @@ impl PieceWork {
         ensures stays { OnErr result (Stays lookup.now self.old self.new) }
         ensures ready { OnErr result (IsReady self.new) }
         ensures params { self.new.walk.params ≡ self.old.walk.params }
+        ensures version { self.new.walk.version ≡ self.old.walk.version }
     {
         if self.walk.file.is_some() {
             return Ok(self.close_file(lookup)?);
@@ -302,7 +312,7 @@ impl PieceWork {
         if self.walk.above.is_empty() {
             return Err(FeedError::Order);
         }
-        Ok(self.close_dir(lookup)?)
+        Ok(self.close(lookup)?)
     }
 
     /// Ends the open file: what is left of it is its last chunk, and it has a node. It fails for memory alone, and then it
@@ -316,6 +326,7 @@ impl PieceWork {
         ensures stays { OnErr result (Stays lookup.now self.old self.new) }
         ensures ready { OnErr result (IsReady self.new) }
         ensures params { self.new.walk.params ≡ self.old.walk.params }
+        ensures version { self.new.walk.version ≡ self.old.walk.version }
     {
         prove!(self.walk.params.min() > 0);
         self.walk.nodes.reserve(1)?;
@@ -334,44 +345,214 @@ impl PieceWork {
         }
     }
 
-    /// The tree text of the open directory; `None` where it is above 8,388,608 bytes. It fails for memory alone.
-    fn open_tree(&self) -> Result<Option<Vec<u8>>, AllocError>
-        ensures { IfOk result (λ made. MatchOption made (blob_limit < length (tree_text self.now.walk.nodes.items))
-            (λ text. (text.items ≡ tree_text self.now.walk.nodes.items) × IsTreeText text.items self.now.walk.nodes.items × (1 ≤ length text.items))) }
+    /// How many nodes the parts that are left have, and in which tree the last of them goes on.
+    fn what_is_left(&self) -> (usize, Option<Name>)
+        ensures { (parts : PartsLeft) → self.now.parts ≡ Some parts → (result.0 ≡ parts.count) × (result.1 ≡ parts.next) }
     {
-        match write_tree(self.alloc, self.walk.nodes.as_slice()) {
-            Ok(text) => Ok(Some(text)),
-            Err(TreeError::TooLarge) => Ok(None),
-            Err(_) => Err(AllocError),
+        match &self.parts {
+            Some(left) => (left.count, left.next),
+            None => (0, None),
         }
     }
 
-    /// Ends the open directory, which isn't the root: its tree is a blob, and it has a node. It fails for memory alone, and
-    /// then it stands where it stood.
-    fn close_dir(&mut self, lookup: &Lookup) -> Result<Took, AllocError>
+    /// How many parts are left.
+    fn parts_left(&self) -> usize
+        ensures { result ≡ left_count self.now.parts }
+    {
+        match &self.parts {
+            Some(left) => left.sizes.len(),
+            None => 0,
+        }
+    }
+
+    /// Makes the last part that is left a blob, where it isn't the first one; the one before it goes on in its tree. It fails
+    /// for memory alone, and then all stands as it stood.
+    fn lay_later(&mut self, lookup: &Lookup) -> Result<Took, AllocError>
+        requires open { IsOpen self.old.packing.packer.writer }
+        requires unsealed { self.old.packing.packer.sealed ≡ None }
+        requires many { 2 ≤ left_count self.old.parts }
+        ensures ok { IfOk result (λ took. LaysOn lookup.now self.old took self.new) }
+        ensures packed { IfOk result (λ took. LeavesLater lookup.now self.old took self.new) }
+        ensures aims { AimsOn self.old.packing self.new.packing }
+        ensures still { OnErr result (LaysStill lookup.now self.old self.new) }
+        ensures err { OnErr result (IsStill lookup.now self.old.packing self.new.packing) }
+        ensures walk { self.new.walk ≡ self.old.walk }
+    {
+        let Some(mut left) = self.parts.take() else {
+            return Ok(Took::All(0, None));
+        };
+        let Some(size) = left.sizes.pop() else {
+            return Ok(Took::All(0, None));
+        };
+        let from = left.count.saturating_sub(size);
+        let nodes = between(self.walk.nodes.as_slice(), from, left.count);
+        match pack_part(
+            &mut self.packing,
+            self.alloc,
+            lookup,
+            nodes,
+            left.next,
+            Sealing::Due,
+        ) {
+            Ok(Some(Packed { name, listed })) => {
+                left.count = from;
+                left.next = Some(name);
+                self.parts = Some(left);
+                Ok(Took::All(0, listed))
+            }
+            Ok(None) => Ok(Took::TooLarge),
+            Err(error) => {
+                left.sizes.push(size).unwrap();
+                self.parts = Some(left);
+                Err(error)
+            }
+        }
+    }
+
+    /// Makes the first part of the root a blob, and seals the open pack, where it has a blob. It fails for memory alone, and
+    /// then all stands as it stood.
+    fn lay_root(&mut self, lookup: &Lookup) -> Result<Took, AllocError>
+        requires open { IsOpen self.old.packing.packer.writer }
+        requires unsealed { self.old.packing.packer.sealed ≡ None }
+        requires one { left_count self.old.parts ≡ 1 }
+        requires top { self.old.walk.above.items ≡ [] }
+        ensures ok { IfOk result (λ took. LaysOn lookup.now self.old took self.new) }
+        ensures packed { IfOk result (λ took. LeavesPacked Sealing.Last took self.new) }
+        ensures steady { IfOk result (λ took. EndsSteady lookup.now [] self.old took self.new) }
+        ensures aims { AimsOn self.old.packing self.new.packing }
+        ensures params { self.new.walk.params ≡ self.old.walk.params }
+        ensures version { self.new.walk.version ≡ self.old.walk.version }
+        ensures still { OnErr result (LaysStill lookup.now self.old self.new) }
+        ensures err { OnErr result (IsSteady lookup.now self.old self.new × (self.new.walk.root ≡ self.old.walk.root)) }
+    {
+        let (count, next) = self.what_is_left();
+        let nodes = between(self.walk.nodes.as_slice(), 0, count);
+        let packed = pack_part(
+            &mut self.packing,
+            self.alloc,
+            lookup,
+            nodes,
+            next,
+            Sealing::Last,
+        )?;
+        let Some(Packed { name, listed }) = packed else {
+            return Ok(Took::TooLarge);
+        };
+        self.walk.root = Some(name);
+        self.parts = None;
+        Ok(Took::All(0, listed))
+    }
+
+    /// Makes the first part of a directory that isn't the root a blob, and its node. It fails for memory alone, and then all
+    /// stands as it stood.
+    fn lay_dir(&mut self, lookup: &Lookup) -> Result<Took, AllocError>
+        requires open { IsOpen self.old.packing.packer.writer }
+        requires unsealed { self.old.packing.packer.sealed ≡ None }
+        requires one { left_count self.old.parts ≡ 1 }
+        requires deep { 1 ≤ length self.old.walk.above.items }
+        ensures ok { IfOk result (λ took. LaysOn lookup.now self.old took self.new) }
+        ensures packed { IfOk result (λ took. LeavesPacked Sealing.Due took self.new) }
+        ensures aims { AimsOn self.old.packing self.new.packing }
+        ensures params { self.new.walk.params ≡ self.old.walk.params }
+        ensures version { self.new.walk.version ≡ self.old.walk.version }
+        ensures still { OnErr result (LaysStill lookup.now self.old self.new) }
+        ensures err { OnErr result (IsSteady lookup.now self.old self.new × (self.new.walk.root ≡ self.old.walk.root)) }
+    {
+        self.walk.make_room_around()?;
+        let (count, next) = self.what_is_left();
+        let nodes = between(self.walk.nodes.as_slice(), 0, count);
+        let packed = pack_part(
+            &mut self.packing,
+            self.alloc,
+            lookup,
+            nodes,
+            next,
+            Sealing::Due,
+        )?;
+        let Some(Packed { name, listed }) = packed else {
+            return Ok(Took::TooLarge);
+        };
+        self.walk.end_dir(name);
+        self.parts = None;
+        Ok(Took::All(0, listed))
+    }
+
+    /// Makes the first part of the directory that was closed a blob: of the root, or of another one.
+    fn lay_first(&mut self, lookup: &Lookup) -> Result<Took, AllocError>
+        requires open { IsOpen self.old.packing.packer.writer }
+        requires unsealed { self.old.packing.packer.sealed ≡ None }
+        requires one { left_count self.old.parts ≡ 1 }
+        ensures ok { IfOk result (λ took. LaysOn lookup.now self.old took self.new) }
+        ensures packed { IfOk result (λ took. LeavesPacked (sealing_in self.old.walk.above.items) took self.new) }
+        ensures steady { IfOk result (λ took. EndsSteady lookup.now self.old.walk.above.items self.old took self.new) }
+        ensures aims { AimsOn self.old.packing self.new.packing }
+        ensures params { self.new.walk.params ≡ self.old.walk.params }
+        ensures version { self.new.walk.version ≡ self.old.walk.version }
+        ensures still { OnErr result (LaysStill lookup.now self.old self.new) }
+        ensures err { OnErr result (IsSteady lookup.now self.old self.new × (self.new.walk.root ≡ self.old.walk.root)) }
+    {
+        if self.walk.above.is_empty() {
+            return self.lay_root(lookup);
+        }
+        self.lay_dir(lookup)
+    }
+
+    /// Makes the parts that are left, until a pack is sealed or all are made. It fails for memory alone, and then some of them
+    /// may be made.
+    pub fn lay(&mut self, lookup: &Lookup) -> Result<Took, AllocError>
+        requires open { IsOpen self.old.packing.packer.writer }
+        requires unsealed { self.old.packing.packer.sealed ≡ None }
+        requires some { 1 ≤ left_count self.old.parts }
+        ensures ok { IfOk result (λ took. LaysOn lookup.now self.old took self.new) }
+        ensures packed { IfOk result (λ took. LeavesPacked (sealing_in self.old.walk.above.items) took self.new) }
+        ensures steady { IfOk result (λ took. EndsSteady lookup.now self.old.walk.above.items self.old took self.new) }
+        ensures aims { AimsOn self.old.packing self.new.packing }
+        ensures params { self.new.walk.params ≡ self.old.walk.params }
+        ensures version { self.new.walk.version ≡ self.old.walk.version }
+        ensures still { OnErr result (LaysStill lookup.now self.old self.new) }
+        ensures err { OnErr result (IsSteady lookup.now self.old self.new × (self.new.walk.root ≡ self.old.walk.root)) }
+    {
+        while self.parts_left() > 1 {
+            match self.lay_later(lookup)? {
+                Took::All(_, None) => {}
+                Took::All(count, Some(listed)) => return Ok(Took::All(count, Some(listed))),
+                Took::TooLarge => return Ok(Took::TooLarge),
+            }
+        }
+        self.lay_first(lookup)
+    }
+
+    /// Closes the open directory, the root at the end of all: its trees are blobs, and it has a node. The open pack is sealed
+    /// where it is due, and some parts may be left then; at the end of all it is sealed where it has a blob. It fails for
+    /// memory alone, and then it stands where it stood.
+    fn close(&mut self, lookup: &Lookup) -> Result<Took, AllocError>
         requires ready { IsReady self.old }
         requires file { self.old.walk.file ≡ None }
-        requires deep { 1 ≤ length self.old.walk.above.items }
-        ensures ok { IfOk result (λ took. TakesItem lookup.now Sealing.Due fed_close self.old took self.new) }
-        ensures packed { IfOk result (λ took. LeavesPacked Sealing.Due took self.new) }
+        ensures ok { IfOk result (λ took. TakesItem lookup.now (sealing_in self.old.walk.above.items) (closing_in self.old.walk.above.items) self.old took self.new) }
+        ensures packed { IfOk result (λ took. LeavesPacked (sealing_in self.old.walk.above.items) took self.new) }
+        ensures back { self.old.walk.above.items ≡ [] → IfOk result (λ took. Reopens lookup.now self.old took self.new) }
         ensures aims { AimsOn self.old.packing self.new.packing }
         ensures stays { OnErr result (Stays lookup.now self.old self.new) }
         ensures ready { OnErr result (IsReady self.new) }
         ensures params { self.new.walk.params ≡ self.old.walk.params }
+        ensures version { self.new.walk.version ≡ self.old.walk.version }
     {
         prove!(self.walk.params.min() > 0);
-        let Some(text) = self.open_tree()? else {
-            return Ok(Took::TooLarge);
-        };
-        self.walk.make_room_around()?;
-        let Packed { name, listed } = self
-            .packing
-            .pack(lookup, BlobKind::Tree, &text, Sealing::Due)?;
-        self.walk.end_dir(name);
-        Ok(Took::All(0, listed))
+        let sizes = sizes_by(self.alloc, self.walk.version, self.walk.nodes.as_slice())?;
+        let (count, next) = (self.walk.nodes.len(), None);
+        let packed = self.packing.packer.writer.len();
+        self.parts = Some(PartsLeft { sizes, count, next });
+        match self.lay(lookup) {
+            Ok(took) => Ok(took),
+            Err(error) => {
+                self.packing.take_back(packed);
+                self.parts = None;
+                Err(error)
+            }
+        }
     }
 
-    /// Ends all: the root's tree is a blob, and the open pack is sealed, where it has a blob. On an error it stands where it
+    /// Ends all: the root's trees are blobs, and the open pack is sealed, where it has a blob. On an error it stands where it
     /// stood.
     fn feed_end(&mut self, lookup: &Lookup) -> Result<Took, FeedError>
         requires { IsReady self.old }
@@ -383,19 +564,12 @@ impl PieceWork {
         ensures stays { OnErr result (Stays lookup.now self.old self.new) }
         ensures ready { OnErr result (IsReady self.new) }
         ensures params { self.new.walk.params ≡ self.old.walk.params }
+        ensures version { self.new.walk.version ≡ self.old.walk.version }
     {
         if self.walk.file.is_some() || !self.walk.above.is_empty() {
             return Err(FeedError::Order);
         }
-        prove!(self.walk.params.min() > 0);
-        let Some(text) = self.open_tree()? else {
-            return Ok(Took::TooLarge);
-        };
-        let Packed { name, listed } = self
-            .packing
-            .pack(lookup, BlobKind::Tree, &text, Sealing::Last)?;
-        self.walk.root = Some(name);
-        Ok(Took::All(0, listed))
+        Ok(self.close(lookup)?)
     }
 
     /// Takes an item. On an error it stands where it stood.
@@ -409,6 +583,7 @@ impl PieceWork {
         ensures stays { OnErr result (Stays lookup.now self.old self.new) }
         ensures ready { OnErr result (IsReady self.new) }
         ensures params { self.new.walk.params ≡ self.old.walk.params }
+        ensures version { self.new.walk.version ≡ self.old.walk.version }
     {
         match item {
             Item::Dir(name) => self.feed_dir(name),
@@ -425,9 +600,21 @@ impl PieceWork {
     pub fn is_ready(&self) -> bool
         ensures { IsTrue result ↔ IsReady self.now }
     {
-        self.packing.packer.sealed.is_none()
-            && !self.packing.packer.writer.is_due()
-            && self.walk.root.is_none()
+        self.is_open() && self.parts.is_none() && self.walk.root.is_none()
+    }
+
+    /// Whether no pack is sealed, and the open one takes more.
+    fn is_open(&self) -> bool
+        ensures { IsTrue result ↔ ((self.now.packing.packer.sealed ≡ None) × IsOpen self.now.packing.packer.writer) }
+    {
+        self.packing.packer.sealed.is_none() && !self.packing.packer.writer.is_due()
+    }
+
+    /// Whether parts are left, no pack is sealed, and the open one takes more.
+    pub fn may_lay(&self) -> bool
+        ensures { IsTrue result ↔ ((self.now.packing.packer.sealed ≡ None) × IsOpen self.now.packing.packer.writer × (1 ≤ left_count self.now.parts)) }
+    {
+        self.is_open() && self.parts_left() > 0
     }
 
     /// Goes back to before the end. It takes no memory.

@@ -55,11 +55,12 @@ pub enum Scanned {
     Chunk(usize, Vec<u8>),
 }
 
-/// A walk: the nodes made in the open directory, the directories around it, the nearest last, the open file, and the name
-/// of the root's tree, once all ended.
+/// A walk: the parameters and the version of the config, the nodes made in the open directory, the directories around it,
+/// the nearest last, the open file, and the name of the root's tree, once all ended.
 #[derive(Drop)]
 pub struct PieceWalk {
     pub params: Params,
+    pub version: u64,
     pub above: Vec<Outer>,
     pub nodes: Vec<Node>,
     pub file: Option<PieceFile>,
@@ -235,6 +236,7 @@ impl PieceWalk {
         ensures ok { OnOk result ((st : Standing) → IsAt self.old st → IsAt self.new (record { done = nothing; above = record { name = name; done = st.done } ∷ st.above; file = st.file; over = st.over })) }
         ensures err { OnErr result ((st : Standing) → IsAt self.old st → IsAt self.new st) }
         ensures params { self.new.params ≡ self.old.params }
+        ensures version { self.new.version ≡ self.old.version }
         ensures file { self.new.file ≡ None }
         ensures root { self.new.root ≡ self.old.root }
     {
@@ -249,9 +251,10 @@ impl PieceWalk {
     pub fn make_room_around(&mut self) -> Result<(), AllocError>
         requires { 1 ≤ length self.old.above.items }
         ensures room { OnOk result ((before : List Outer) × (outer : Outer) × (self.new.above.items ≡ before ++ outer ∷ []) × (vec_len outer.nodes + 1 ≤ vec_capacity outer.nodes)) }
-        ensures above { (above : List Around) → AreOuterAt self.old.above.items above → AreOuterAt self.new.above.items above }
+        ensures above { (version : ℕ) (above : List Around) → AreOuterAt version self.old.above.items above → AreOuterAt version self.new.above.items above }
         ensures nodes { self.new.nodes ≡ self.old.nodes }
         ensures params { self.new.params ≡ self.old.params }
+        ensures version { self.new.version ≡ self.old.version }
         ensures file { self.new.file ≡ self.old.file }
         ensures root { self.new.root ≡ self.old.root }
     {
@@ -269,6 +272,7 @@ impl PieceWalk {
         ensures nodes { (before : List Outer) (outer : Outer) → self.old.above.items ≡ before ++ outer ∷ []
             → (self.new.above.items ≡ before) × (self.new.nodes.items ≡ outer.nodes.items ++ record { name = outer.name; what = NodeKind.Dir subtree } ∷ []) }
         ensures params { self.new.params ≡ self.old.params }
+        ensures version { self.new.version ≡ self.old.version }
         ensures file { self.new.file ≡ self.old.file }
         ensures root { self.new.root ≡ self.old.root }
     {
@@ -285,6 +289,7 @@ impl PieceWalk {
         requires { self.old.file ≡ None }
         ensures walk { (st : Standing) → IsAt self.old st → IsAt self.new (record { done = st.done; above = st.above; file = Some (record { name = name; chunks = []; rest = [] }); over = st.over }) }
         ensures params { self.new.params ≡ self.old.params }
+        ensures version { self.new.version ≡ self.old.version }
         ensures root { self.new.root ≡ self.old.root }
     {
         self.file = Some(PieceFile::new(alloc, self.params, name));
@@ -295,6 +300,7 @@ impl PieceWalk {
         requires room { vec_len self.old.nodes + 1 ≤ vec_capacity self.old.nodes }
         ensures nodes { self.new.nodes.items ≡ self.old.nodes.items ++ record { name = file.name; what = NodeKind.File file.size file.content.items } ∷ [] }
         ensures params { self.new.params ≡ self.old.params }
+        ensures version { self.new.version ≡ self.old.version }
         ensures above { self.new.above ≡ self.old.above }
         ensures file { self.new.file ≡ self.old.file }
         ensures root { self.new.root ≡ self.old.root }

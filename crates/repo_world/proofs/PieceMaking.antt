@@ -1,5 +1,5 @@
 -- What a backup that is fed made so far.
-use Rattle.std.proofs.Common.{◌≡◌, ◌++◌, ◌∷◌, [], true, List, length, Some, None, refl, sym, ◌∙◌, ap, subst, append-nil, Contains}
+use Rattle.std.proofs.Common.{◌≡◌, ◌++◌, ◌∷◌, [], ℕ, true, List, length, Some, None, refl, sym, ◌∙◌, ap, subst, append-nil, Contains}
 use Rattle.repo_pack.specs.PackLayout.{Item}
 use Rattle.repo_tree.specs.declared.configs.Config.{Config}
 use Rattle.repo_wire.specs.declared.messages.Ask.{Ask}
@@ -7,7 +7,7 @@ use Rattle.repo_wire.specs.declared.messages.Say.{Say}
 use Rattle.repo_chunk.specs.Parameters.{Parameters}
 use Rattle.repo_session.specs.Feeds.{Fed}
 use Rattle.repo_session.specs.Traces.{Trace, fed_in, feeding}
-use Rattle.repo_backup.specs.Folders.{Folder, blobs_below, blobs_of, tree_of, IsFolderOf}
+use Rattle.repo_backup.specs.Folders.{Folder, blobs_below, blobs_of, trees_of, IsFolderOf}
 use Rattle.repo_backup.specs.Items.{Feeding, AreTaken, place_of, spelled_by}
 use Rattle.repo_backup.specs.PieceRules.{HasConfig, IsMadeSoFar, AreOver}
 use Rattle.repo_backup.specs.Rules.{IsMade}
@@ -24,7 +24,7 @@ config_on es fs config within h = record { text = h.text; read = within Ask.Conf
 
 pub made_on : (es fs : Trace) → Within es fs → FedSince es fs → AreTaken (fed_in fs) → (item : Item) → IsMadeSoFar es item → IsMadeSoFar fs item
 made_on es fs within since taken item (config, st, at, among) =
-    let m = made_later config.params at.has.reads.allowed.0 since.0 (fed_in es) st (subst AreTaken since.1 taken) at.lead in (
+    let m = made_later config.params at.has.reads.allowed.0 config.version since.0 (fed_in es) st (subst AreTaken since.1 taken) at.lead in (
       config,
       m.0,
       record { has = config_on es fs config within at.has; lead = subst (λ (l : Feeding). LeadTo config.params l m.0) (sym since.1) m.1 },
@@ -64,11 +64,11 @@ whole_leads params items folder taken over is =
       cut = record { done = is.cut; above = tt; file = tt };
     }
 
-whole_made : (folder : Folder) → made_at (whole folder) ≡ blobs_of folder
-whole_made folder = ap (λ l. l ++ tree_of folder ∷ []) (append-nil (blobs_below folder))
+whole_made : (version : ℕ) (folder : Folder) → made_at version (whole folder) ≡ blobs_of version folder
+whole_made version folder = ap (λ l. l ++ trees_of version folder) (append-nil (blobs_below version folder))
 
 -- each blob of what they spell is made
-pub all_made : (es : Trace) (folder : Folder) → AreTaken (fed_in es) → AreOver es → IsMade (spelled_by (fed_in es)) es folder → (item : Item) → Contains (blobs_of folder) item → IsMadeSoFar es item
+pub all_made : (es : Trace) (folder : Folder) → AreTaken (fed_in es) → AreOver es → (made : IsMade (spelled_by (fed_in es)) es folder) → (item : Item) → Contains (blobs_of made.config.version folder) item → IsMadeSoFar es item
 all_made es folder taken over made item among = (
   made.config,
   whole folder,
@@ -76,5 +76,5 @@ all_made es folder taken over made item among = (
     has = record { text = made.text; read = made.read; reads = made.reads; known = made.known };
     lead = whole_leads made.config.params (fed_in es) folder taken over made.cut;
   },
-  subst (λ l. Contains l item) (sym (whole_made folder)) among,
+  subst (λ l. Contains l item) (sym (whole_made made.config.version folder)) among,
 )

@@ -85,10 +85,10 @@ module _ (w : World) (bag : HasBag w) (clash : HasNoClash w) (k : ℕ) (t : Toke
         lists_sound es within (kept_by es) (record { packs = r.lists.packs; reads = r.lists.reads; some = r.lists.some; each = λ listed among. inl (r.lists.each listed among) })
 
     new_snapshot : (es : Trace) → Within es (client w k).trace → (entries : List Entry) (r : backing.SnapshotRule entries es t x)
-        → ((c : BlobKind) (y : List ℕ) → Contains (blobs_of r.folder) (item_of c y) → MadeOf b (client w k).trace y) → IsSoundSnapshot w.store.objects x
+        → ((c : BlobKind) (y : List ℕ) → Contains (blobs_of r.cut.config.version r.folder) (item_of c y) → MadeOf b (client w k).trace y) → IsSoundSnapshot w.store.objects x
     new_snapshot es within entries r made =
         snapshot_put_is_sound (HasDeleted w k) es w.store.objects bag.sound (told_of w bag k es t within took live) (stand_of w bag clash k es within) (kept_by es) (held_apart w bag clash)
-        (λ c y. Contains (blobs_of r.folder) (item_of c y))
+        (λ c y. Contains (blobs_of r.cut.config.version r.folder) (item_of c y))
         (λ c y z held among. clash y z (held_known w bag c y held) (known_made k (subst (λ (j : Job). MadeOf j (client w k).trace z) (sym job) (made c z among))))
         (λ c y among. r.given (item_of c y) among) x r.snapshot entries r.reads r.spells
 

@@ -46,9 +46,10 @@ pub record Source (w : World) (k : ℕ) (x : List ℕ) (entries : List Entry) : 
   pub snapshot : Snapshot
   pub reads : IsSnapshotText x snapshot
   pub took : Took w k snapshot.token
+  pub version : ℕ
   pub folder : Folder
-  pub made : (b : BlobKind) (y : List ℕ) → Contains (blobs_of folder) (item_of b y) → MadeOf (client w k).job (client w k).trace y
-  pub spells : Spells snapshot.version (λ b y. Contains (blobs_of folder) (item_of b y)) snapshot.tree [] entries
+  pub made : (b : BlobKind) (y : List ℕ) → Contains (blobs_of version folder) (item_of b y) → MadeOf (client w k).job (client w k).trace y
+  pub spells : Spells snapshot.version (λ b y. Contains (blobs_of version folder) (item_of b y)) snapshot.tree [] entries
 
 -- ---- nothing is given out on the end of the lock
 
@@ -89,6 +90,7 @@ module _ (w : World) (bag : HasBag w) (clash : HasNoClash w) where
         snapshot = r.snapshot;
         reads = r.reads;
         took = subst (Took w k) (sym r.token_is) took;
+        version = r.cut.config.version;
         folder = r.folder;
         made = λ b y among. subst (λ (j : Job). MadeOf j (client w k).trace y) (sym e) (record { folder = r.folder; kind = b; cut = cut; among = among });
         spells = r.spells;
@@ -108,6 +110,7 @@ module _ (w : World) (bag : HasBag w) (clash : HasNoClash w) where
         snapshot = r.snapshot;
         reads = r.reads;
         took = subst (Took w k) (sym r.token_is) took;
+        version = r.cut.config.version;
         folder = r.folder;
         made = λ b y among. subst (λ (j : Job). MadeOf j (client w k).trace y) (sym e)
             (b, made_on s.older (client w k).trace s.within s.since (bag.taken k) (item_of b y) (all_made s.older r.folder taken over r.cut (item_of b y) among));
@@ -131,9 +134,9 @@ module _ (w : World) (bag : HasBag w) (clash : HasNoClash w) where
   handed_of n k x entries p s = record { text = x; put = p; snapshot = s.snapshot; reads = s.reads; by = k; took = s.took; handed = s.handed }
 
   abbrev blobs_at : (k : ℕ) (x : List ℕ) (entries : List Entry) → Source w k x entries → Blobs
-  blobs_at k x entries s = λ b y. Contains (blobs_of s.folder) (item_of b y)
+  blobs_at k x entries s = λ b y. Contains (blobs_of s.version s.folder) (item_of b y)
 
-  source_known : (k : ℕ) (x : List ℕ) (own : List Entry) (s : Source w k x own) (b : BlobKind) (y : List ℕ) → Contains (blobs_of s.folder) (item_of b y) → IsKnown w y
+  source_known : (k : ℕ) (x : List ℕ) (own : List Entry) (s : Source w k x own) (b : BlobKind) (y : List ℕ) → Contains (blobs_of s.version s.folder) (item_of b y) → IsKnown w y
   source_known k x own s b y h = known_made k (s.made b y h)
 
   -- in each set of known blobs in which a snapshot spells anything, it spells what its source was handed

@@ -60,7 +60,7 @@ prune_ends End.Abandoned h = h
 
 backup_ends : (entries : List Entry) (end : End) → JobConcludes (Job.Backup entries) [] (Outcome.Ended end) → ⊥
 backup_ends entries End.DirectoryTooLarge h = h.cut.read
-backup_ends entries End.FileTooLarge h = h
+backup_ends entries End.FileTooLarge h = h.cut.read
 backup_ends entries End.Abandoned h = h
 backup_ends entries (End.Missing thing name) h = h
 backup_ends entries (End.BadObject thing name) h = h
@@ -71,8 +71,8 @@ backup_ends entries End.BadReply h = h
 backup_ends entries End.Version h = h
 
 pieces_ends : (end : End) → JobConcludes Job.Pieces [] (Outcome.Ended end) → ⊥
-pieces_ends End.DirectoryTooLarge h = h.made.2.has.read
-pieces_ends End.FileTooLarge h = h
+pieces_ends End.DirectoryTooLarge h = h.at.has.read
+pieces_ends End.FileTooLarge h = h.at.has.read
 pieces_ends End.Abandoned h = h.1
 pieces_ends (End.Missing thing name) h = h
 pieces_ends (End.BadObject thing name) h = h

@@ -10,7 +10,7 @@ use Rattle.repo_backup.proofs.Piecing.{no_bytes}
 use Rattle.repo_backup.proofs.piece_works.take_bytes.Goals as goal
 
 pub returns-then-is_some-clause-ok : goal.returns-then-is_some-clause-ok
-returns-then-is_some-clause-ok c = λ w unended.
+returns-then-is_some-clause-ok c = λ w unended unlaid.
     let inv = c.loop-taken.invariant in
     let e = c.in-Ok.ensures in
     let piece : List ℕ = c.args.piece.now in
@@ -33,7 +33,7 @@ returns-then-is_some-clause-ok c = λ w unended.
       (λ any. omega (arith, e.count.0)),
       (λ none. absurd (some none)),
       (λ any. bites_whole known rest f g p q n listed chunk some e.ok),
-      bites_on known piece rest taken n f0 f g p0 p q chunk listed is inv.within inv.size c.requires.small inv.unsealed inv.grows e.count.0 e.count.1 e.name e.size e.params e.ok inv.goes w unended,
+      bites_on known piece rest taken n f0 f g p0 p q chunk listed is inv.within inv.size c.requires.small inv.unsealed inv.grows e.count.0 e.count.1 e.name e.size e.params e.ok inv.goes w unended unlaid,
     )
 
 pub loop-taken-preserved-then-is_none-2 : goal.loop-taken-preserved-then-is_none-2
@@ -154,7 +154,7 @@ loop-taken-init c =
       name = refl;
       params = refl;
       size = omega arith;
-      goes = λ w unended. no_bytes c.args.lookup.now (with_file w f p) f refl (omega (arith, c.requires.small));
+      goes = λ w unended unlaid. no_bytes c.args.lookup.now (with_file w f p) f unlaid refl (omega (arith, c.requires.small));
       opened = c.requires.open;
       unsealed = c.requires.unsealed;
       grows = (([], sym (append-nil p.packer.writer.items)), refl);

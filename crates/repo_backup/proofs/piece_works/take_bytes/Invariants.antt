@@ -17,7 +17,7 @@ invariant-loop-taken l = record {
   name : l.file.name ≡ l.fn.file.name;
   params : l.file.params ≡ l.fn.file.params;
   size : l.file.size ≡ l.fn.file.size + l.taken;
-  goes : (w : PieceWork) → w.walk.root ≡ None → Goes l.lookup Sealing.Due (fed_bytes (take l.taken l.piece)) (with_file w l.fn.file l.fn.packing) (with_file w l.file l.packing);
+  goes : (w : PieceWork) → w.walk.root ≡ None → w.parts ≡ None → Goes l.lookup Sealing.Due (fed_bytes (take l.taken l.piece)) (with_file w l.fn.file l.fn.packing) (with_file w l.file l.packing);
   opened : IsOpen l.packing.packer.writer;
   unsealed : l.packing.packer.sealed ≡ None;
   grows : GrowsBy l.fn.packing l.packing;

@@ -12,6 +12,7 @@ returns-clause-begun c = λ b is.
     let work = c.new.ensures.work in
     let anew : IsBegunAnew a d = record {
       params = ap (λ w. w.walk.params) work ∙ c.new-work.ensures.params;
+      version = ap (λ w. w.walk.version) work ∙ c.new-work.ensures.version;
       aim = ap (λ w. w.packing.packer.target) work ∙ c.new-work.ensures.aims.1;
       aims = ap (λ w. w.packing.packer.writer.target) work ∙ c.new-work.ensures.aims.0;
       stands = λ facts. subst (λ w. PieceStands w facts at_beginning [] []) (sym work) (c.new-work.ensures.stands facts);

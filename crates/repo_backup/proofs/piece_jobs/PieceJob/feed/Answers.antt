@@ -1,4 +1,4 @@
-use Rattle.std.proofs.Common.{arith, ◌≡◌, ◌++◌, [], Some, None, refl, sym, ap, subst, inr, ◌∙◌}
+use Rattle.std.proofs.Common.{arith, ◌≡◌, ◌++◌, [], Some, None, refl, sym, ap, subst, ◌∙◌}
 use Rattle.std.proofs.lemmas.Option.{same_Some}
 use Rattle.repo_session.specs.Traces.{fed_in, feeding}
 use Rattle.repo_session.specs.declared.catalogs.Catalog.{Catalog}
@@ -8,7 +8,7 @@ use Rattle.repo_backup.specs.PieceStates.{PieceWaits, reopened_backing}
 use Rattle.repo_backup.specs.Pieces.{Goes, Stays, IsReady, WorkTakes, LeavesPacked, ReopensAt, sealing_at}
 use Rattle.repo_backup.specs.declared.piece_works.Took.{Took}
 use Rattle.repo_backup.proofs.FedOn.{fed_working}
-use Rattle.repo_backup.proofs.PieceFeeding.{works_on, plain_item, fed_waits, fed_done, fed_due, fed_large, fed_fault, fed_still, ended_once, end_memory, left_open, one_taken}
+use Rattle.repo_backup.proofs.PieceFeeding.{works_on, stands_plain, plain_item, fed_waits, fed_done, fed_due, fed_large, fed_fault, fed_still, ended_once, end_memory, left_open, one_taken}
 use Rattle.repo_backup.proofs.PieceStepping.{input_wanted}
 use Rattle.repo_backup.proofs.piece_jobs.PieceJob.feed.Goals as goal
 
@@ -31,9 +31,9 @@ returns-in-Ok-All-default-Some c =
       ok = λ es working wants. (
           let h : PieceWaits facts a es = subst (λ b. PieceWaits facts b es) (same_Some wants.0 a (sym wants.1 ∙ c.in-Some.is)) wants.2 in
           let some = works_on _ c.args.holder.now.token es working in
-          let due = fed_due facts a d es h some (ap (λ b. b.waiting) same) (ap (λ b. b.listed) same) (ap (λ b. b.counts) same) n item c.in_default.not-Abandon takes.2 e.params e.aims (Some k.listed) left.1 k.listed left.0 in
+          let due = fed_due facts a d es h some (ap (λ b. b.waiting) same) (ap (λ b. b.listed) same) (ap (λ b. b.counts) same) n item c.in_default.not-Abandon takes.2 e.params e.version e.aims (Some k.listed) left.1 k.listed left.0 in
           let held = fed_working _ c.args.holder.now.token (fed_part n item) es h.at.written.indexed.listed.complete working in
-          (c.send_pack.ensures.sends d (feeding (fed_part n item) es) held refl due, (λ less. c.send_pack.ensures.busy d (feeding (fed_part n item) es) refl due), one_taken facts a d es h some (ap (λ b. b.waiting) same) (ap (λ b. b.listed) same) (ap (λ b. b.counts) same) (fed_part n item) (takes.2 h.at.st (items_of (h.puts ++ [])) h.at.stands).0));
+          (c.send_pack.ensures.sends d (feeding (fed_part n item) es) held refl due, (λ less. c.send_pack.ensures.busy d (feeding (fed_part n item) es) refl due), one_taken facts a d es h some (ap (λ b. b.waiting) same) (ap (λ b. b.listed) same) (ap (λ b. b.counts) same) (fed_part n item) (takes.2 h.at.st (items_of (h.puts ++ [])) (stands_plain facts a d h.puts [] (fed_in es) es h.at h.ready)).0));
       short = c.send_pack.ensures.short;
       count = takes.0;
       refused = tt;
@@ -60,9 +60,9 @@ returns-in-Ok c =
           let h : PieceWaits facts a es = subst (λ b. PieceWaits facts b es) (same_Some wants.0 a (sym wants.1 ∙ c.in-Some.is)) wants.2 in
           let some = works_on _ c.args.holder.now.token es working in
           let goes = subst (λ f. Goes facts (sealing_at item) f a.work d.work) (sym part) takes.2 in
-          let done = fed_done facts a d es h some (ap (λ b. b.waiting) same) (ap (λ b. b.listed) same) (ap (λ b. b.counts) same) 0 item c.in_default.not-Abandon goes e.params e.aims None left.1 left.0 in
+          let done = fed_done facts a d es h some (ap (λ b. b.waiting) same) (ap (λ b. b.listed) same) (ap (λ b. b.counts) same) 0 item c.in_default.not-Abandon goes e.params e.version e.aims None left.1 left.0 (left.2 refl) in
           let held = fed_working _ c.args.holder.now.token (fed_part 0 item) es h.at.written.indexed.listed.complete working in
-          (c.in-Ok.ensures.sends d (feeding (fed_part 0 item) es) held refl done, (λ less. absurd (omega (arith, none, less))), one_taken facts a d es h some (ap (λ b. b.waiting) same) (ap (λ b. b.listed) same) (ap (λ b. b.counts) same) (fed_part 0 item) (goes h.at.st (items_of (h.puts ++ [])) h.at.stands).0));
+          (c.in-Ok.ensures.sends d (feeding (fed_part 0 item) es) held refl done, (λ less. absurd (omega (arith, none, less))), one_taken facts a d es h some (ap (λ b. b.waiting) same) (ap (λ b. b.listed) same) (ap (λ b. b.counts) same) (fed_part 0 item) (goes h.at.st (items_of (h.puts ++ [])) (stands_plain facts a d h.puts [] (fed_in es) es h.at h.ready)).0));
       short = c.in-Ok.ensures.short;
       count = (omega (arith, none), λ some. absurd (omega (arith, none, some)));
       refused = tt;
@@ -91,10 +91,10 @@ returns-in-Err-end c =
           let h : PieceWaits facts a es = subst (λ b. PieceWaits facts b es) (same_Some wants.0 a (sym wants.1 ∙ c.in-Some.is)) wants.2 in
           let r = reopened_backing d in
           let goes = subst (λ f. Goes facts (sealing_at item) f a.work d.work) (ended_once k.count 0 item c.in-End.is) takes.2 in
-          let may = subst (λ p. MayTake p (fed_part 0 item)) h.at.at.lead.place (goes h.at.st (items_of (h.puts ++ [])) h.at.stands).0 in
+          let may = subst (λ p. MayTake p (fed_part 0 item)) h.at.at.lead.place (goes h.at.st (items_of (h.puts ++ [])) (stands_plain facts a d h.puts [] (fed_in es) es h.at h.ready)).0 in
           let stays : Stays facts a.work r.work = subst (λ x. ReopensAt facts x a.work took d.work) c.in-End.is back in
-          let ready : IsReady r.work = record { unsealed = left.0; opened = left_open (sealing_at item) None d.work.packing left.1; unended = refl } in
-          let still = fed_still facts a r es h (ap (λ b. b.waiting) same) (ap (λ b. b.listed) same) (ap (λ b. b.counts) same) stays ready e.params e.aims in (
+          let ready : IsReady r.work = record { unsealed = left.0; unlaid = left.2 refl; opened = left_open (sealing_at item) None d.work.packing left.1; unended = refl } in
+          let still = fed_still facts a r es h (ap (λ b. b.waiting) same) (ap (λ b. b.listed) same) (ap (λ b. b.counts) same) stays ready e.params e.version e.aims in (
             end_memory (place_of (fed_in es)) item c.in-Err-end.error c.in-End.is c.in-Err-end.ensures.err may,
             (r, c.in-Err-end.ensures.backing, subst (λ (x : Catalog). PieceWaits x.lookup r es) (sym c.end.ensures.catalog) still),
           ));
@@ -120,8 +120,8 @@ returns-in_default-item c =
           let h : PieceWaits facts a es = subst (λ b. PieceWaits facts b es) (same_Some wants.0 a (sym wants.1 ∙ c.in-Some.is)) wants.2 in
           let some = works_on _ c.args.holder.now.token es working in
           let plain = plain_item item c.in_default-item.not-End c.in_default.not-Abandon in
-          let waits = fed_waits facts a d es h some (ap (λ b. b.waiting) same) (ap (λ b. b.listed) same) (ap (λ b. b.counts) same) n item c.in_default.not-Abandon takes.2 e.params e.aims None left.1 plain left.0 in
-          (input_wanted old.catalog (Some d) d (feeding (fed_part n item) es) refl waits, (λ less. absurd (takes.1 less refl)), one_taken facts a d es h some (ap (λ b. b.waiting) same) (ap (λ b. b.listed) same) (ap (λ b. b.counts) same) (fed_part n item) (takes.2 h.at.st (items_of (h.puts ++ [])) h.at.stands).0));
+          let waits = fed_waits facts a d es h some (ap (λ b. b.waiting) same) (ap (λ b. b.listed) same) (ap (λ b. b.counts) same) n item c.in_default.not-Abandon takes.2 e.params e.version e.aims None left.1 plain left.0 (left.2 refl) in
+          (input_wanted old.catalog (Some d) d (feeding (fed_part n item) es) refl waits, (λ less. absurd (takes.1 less refl)), one_taken facts a d es h some (ap (λ b. b.waiting) same) (ap (λ b. b.listed) same) (ap (λ b. b.counts) same) (fed_part n item) (takes.2 h.at.st (items_of (h.puts ++ [])) (stands_plain facts a d h.puts [] (fed_in es) es h.at h.ready)).0));
       short = tt;
       count = takes.0;
       refused = tt;
@@ -141,8 +141,9 @@ returns-in-Ok-TooLarge c =
       ok = λ es working wants. (
           let h : PieceWaits facts a es = subst (λ b. PieceWaits facts b es) (same_Some wants.0 a (sym wants.1 ∙ c.in-Some.is)) wants.2 in
           let some = works_on _ c.args.holder.now.token es working in
-          (inr (fed_large facts a d es h some (ap (λ b. b.waiting) same) (ap (λ b. b.listed) same) (ap (λ b. b.counts) same) (fed_part 0 item) takes.1), (λ less. absurd (omega (arith, takes.0, less))), one_taken facts a d es h some (ap (λ b. b.waiting) same) (ap (λ b. b.listed) same) (ap (λ b. b.counts) same) (fed_part 0 item) (takes.1 h.at.st (items_of (h.puts ++ [])) h.at.stands).0));
-      short = tt;
+          let held = fed_working _ c.args.holder.now.token (fed_part 0 item) es h.at.written.indexed.listed.complete working in
+          (c.end_large.ensures.sends c.args.holder.now d (feeding (fed_part 0 item) es) held refl (fed_large facts a d es h some (ap (λ b. b.waiting) same) (ap (λ b. b.listed) same) (ap (λ b. b.counts) same) (fed_part 0 item) takes.1 k.ensures.version), (λ less. absurd (omega (arith, takes.0, less))), one_taken facts a d es h some (ap (λ b. b.waiting) same) (ap (λ b. b.listed) same) (ap (λ b. b.counts) same) (fed_part 0 item) (takes.1 h.at.st (items_of (h.puts ++ [])) (stands_plain facts a d h.puts [] (fed_in es) es h.at h.ready)).0));
+      short = c.end_large.ensures.short;
       count = (omega (arith, takes.0), λ some. absurd (omega (arith, takes.0, some)));
       refused = tt;
     }
@@ -163,7 +164,7 @@ returns-in-Err c =
       count = tt;
       refused = λ es wants. (
           let h : PieceWaits facts a es = subst (λ b. PieceWaits facts b es) (same_Some wants.0 a (sym wants.1 ∙ c.in-Some.is)) wants.2 in
-          (fed_fault facts a d es h (fed_of item) k.error e.refused, (d, refl, fed_still facts a d es h (ap (λ b. b.waiting) same) (ap (λ b. b.listed) same) (ap (λ b. b.counts) same) e.stays e.ready e.params e.aims)));
+          (fed_fault facts a d es h (fed_of item) k.error e.refused, (d, refl, fed_still facts a d es h (ap (λ b. b.waiting) same) (ap (λ b. b.listed) same) (ap (λ b. b.counts) same) e.stays e.ready e.params e.version e.aims)));
     }
 
 pub returns-then-not-is_ready-clause-refused : goal.returns-then-not-is_ready-clause-refused

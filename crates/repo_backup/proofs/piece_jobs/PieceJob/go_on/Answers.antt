@@ -1,35 +1,26 @@
-use Rattle.std.proofs.Common.{◌≡◌, sym, subst, ◌∙◌}
-use Rattle.std.proofs.lemmas.Option.{same_Some}
+use Rattle.std.proofs.Common.{◌<◌, length, refl, sym, subst}
+use Rattle.repo_index.specs.IndexText.{facts_in}
+use Rattle.repo_name.specs.Limits.{facts_limit}
 use Rattle.repo_session.specs.declared.jobs.Step.{Step}
-use Rattle.repo_backup.specs.PieceStates.{IsPieceDone, IsNextPiece}
-use Rattle.repo_backup.specs.declared.piece_backing.PieceNext.{PieceNext}
-use Rattle.repo_backup.proofs.PieceStepping.{input_step, index_step, snapshot_step}
+use Rattle.repo_backup.specs.PieceBackups.{PieceLaysOn}
+use Rattle.repo_backup.specs.declared.walks.Went.{Went}
+use Rattle.repo_backup.proofs.BackupStepping.{few_left}
+use Rattle.repo_backup.proofs.LayingOn.{lays_none, laid_sends}
+use Rattle.repo_backup.proofs.PackingLemmas.{on_any, on_err}
 use Rattle.repo_backup.proofs.Staging.{if_ok}
 use Rattle.repo_backup.proofs.piece_jobs.PieceJob.go_on.Goals as goal
 
-pub returns-in-Input-clause-sends : goal.returns-in-Input-clause-sends
-returns-in-Input-clause-sends c = λ b es working is done.
-    let j = c.args.self.now in
-    let a = c.in-Some.backing in
-    let same : b ≡ a = same_Some b a (sym is ∙ c.in-Some.is) in
-    let h : IsPieceDone j.catalog.lookup a es = subst (λ x. IsPieceDone j.catalog.lookup x es) same done in
-    let next : IsNextPiece a PieceNext.Input = subst (λ n. IsNextPiece a n) c.in-Input.is c.next.ensures in
-    input_step j.catalog j.backing a c.in-Some.is c.args.holder.now es working h next.1 next.0
+pub returns-then-is_full-clause-sends : goal.returns-then-is_full-clause-sends
+returns-then-is_full-clause-sends c = if_ok _ _ c.send_index.result (λ (step : Step) sends b es working is idle. sends b es working is (idle, (c.is_full.ensures b is).0 c.if-is_full.true)) c.send_index.ensures.sends
 
-pub returns-in-Index-clause-sends : goal.returns-in-Index-clause-sends
-returns-in-Index-clause-sends c = if_ok _ _ c.put_index.result (λ (step : Step) puts b es working is done.
-    let j = c.args.self.now in
-    let a = c.in-Some.backing in
-    let same : b ≡ a = same_Some b a (sym is ∙ c.in-Some.is) in
-    let h : IsPieceDone j.catalog.lookup a es = subst (λ x. IsPieceDone j.catalog.lookup x es) same done in
-    let next : IsNextPiece a PieceNext.Index = subst (λ n. IsNextPiece a n) c.in-Index.is c.next.ensures in
-    index_step j.catalog j.backing a c.in-Some.is c.args.holder.now es working h c.token.result step c.token.ensures next.0 next.1 puts) c.put_index.ensures.puts
+pub returns-then-is_full-clause-err : goal.returns-then-is_full-clause-err
+returns-then-is_full-clause-err c = on_any _ c.send_index.result (λ b is. (b, is, refl, lays_none c.args.self.now.catalog.lookup b.work))
 
-pub returns-in-Snapshot-clause-sends : goal.returns-in-Snapshot-clause-sends
-returns-in-Snapshot-clause-sends c = if_ok _ _ c.put_snapshot.result (λ (step : Step) puts b es working is done.
-    let j = c.args.self.now in
-    let a = c.in-Some.backing in
-    let same : b ≡ a = same_Some b a (sym is ∙ c.in-Some.is) in
-    let h : IsPieceDone j.catalog.lookup a es = subst (λ x. IsPieceDone j.catalog.lookup x es) same done in
-    let next : IsNextPiece a (PieceNext.Snapshot c.in-Snapshot.root) = subst (λ n. IsNextPiece a n) c.in-Snapshot.is c.next.ensures in
-    snapshot_step j.catalog j.backing a c.in-Some.is c.args.holder.now es working h c.in-Snapshot.root step next.1 next.0 puts) c.put_snapshot.ensures.puts
+pub returns-clause-sends : goal.returns-clause-sends
+returns-clause-sends c = if_ok _ _ c.send.result (λ (step : Step) sends b es working is idle.
+    let room : length (facts_in b.waiting) < facts_limit = few_left c.is_full.result (length (facts_in b.waiting)) (c.is_full.ensures b is) c.if-is_full.false in
+    laid_sends c.args.self.now c.lay_on.new.self c.send.new.self c.args.holder.now c.in_ok-went.went step c.lay_on.ensures.catalog c.in_ok-went.ensures.ok c.in_ok-went.ensures.laid sends b es working is idle room) c.send.ensures.sends
+
+pub returns-clause-err : goal.returns-clause-err
+returns-clause-err c = on_err c.send.result _ _ (λ same.
+    subst (λ j. PieceLaysOn Went.On c.args.self.now j) (sym same.0) (subst (λ w. PieceLaysOn w c.args.self.now c.lay_on.new.self) same.1 c.in_ok-went.ensures.ok)) c.send.ensures.err

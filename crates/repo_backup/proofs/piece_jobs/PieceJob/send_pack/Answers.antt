@@ -1,4 +1,4 @@
-use Rattle.std.proofs.Common.{◌≡◌, ◌++◌, List, Some, refl, sym, ap, subst, ◌∙◌}
+use Rattle.std.proofs.Common.{◌≡◌, ◌++◌, [], List, Some, refl, sym, ap, subst, inl, inr, ◌⊎◌, ◌∙◌}
 use Rattle.std.proofs.lemmas.Option.{same_Some}
 use Rattle.repo_name.specs.declared.kinds.Kind.{Kind}
 use Rattle.repo_name.specs.declared.tokens.Token.{Token}
@@ -9,9 +9,10 @@ use Rattle.repo_session.specs.Traces.{fed_in}
 use Rattle.repo_session.specs.declared.jobs.Step.{Step}
 use Rattle.repo_wire.specs.declared.messages.Ask.{Ask}
 use Rattle.repo_writing.specs.Sealing.{IsSealedOf}
-use Rattle.repo_writing.specs.Writing.{AreCounts}
-use Rattle.repo_backup.specs.PieceRules.{piece_rule}
+use Rattle.repo_writing.specs.Writing.{AreCounts, items_of}
+use Rattle.repo_backup.specs.PieceRules.{IsFullPack, AreOver, piece_rule}
 use Rattle.repo_backup.specs.PieceStates.{KnowsPieces, WantsPieces, IsPieceDue}
+use Rattle.repo_backup.proofs.Piecing.{packing_in}
 use Rattle.repo_backup.proofs.PieceRuling.{piece_pack}
 use Rattle.repo_backup.proofs.PieceStepping.{asks_it, pack_of, pack_goes_out, pack_step}
 use Rattle.repo_backup.proofs.piece_jobs.PieceJob.send_pack.Goals as goal
@@ -31,8 +32,8 @@ returns-in-Some-take_pack-clause-sends c = λ b es working is due.
     let work = c.take_pack.ensures.work in
     let counted : (sealed : Sealed) → a.work.packing.packer.sealed ≡ Some sealed → (before items : List Item) → IsSealedOf sealed items → AreCounts a.counts before → AreCounts d.counts (before ++ items) =
     λ sealed e before items of counts. c.in-Some-take_pack.ensures.counted before items (subst (λ x. IsSealedOf x items) (same_Some sealed s (sym e ∙ there)) of) counts in
-    let k = pack_of facts a d listed (fed_in es) es h (ap (λ x. x.walk) work) (ap (λ x. x.packing.packer.writer) work) (ap (λ x. x.packing.added) work) (ap (λ x. x.packing.packer.target) work) (ap (λ x. x.packing.packer.sealed) work) c.take_pack.ensures.listed c.take_pack.ensures.waiting counted in
-    let out = pack_goes_out facts a d listed (fed_in es) es h (ap (λ x. x.walk) work) (ap (λ x. x.packing.packer.writer) work) (ap (λ x. x.packing.added) work) (ap (λ x. x.packing.packer.target) work) (ap (λ x. x.packing.packer.sealed) work) c.take_pack.ensures.listed c.take_pack.ensures.waiting counted in
+    let k = pack_of facts a d listed (fed_in es) es h (ap (λ x. x.walk) work) (ap (λ x. x.parts) work) (ap (λ x. x.packing.packer.writer) work) (ap (λ x. x.packing.added) work) (ap (λ x. x.packing.packer.target) work) (ap (λ x. x.packing.packer.sealed) work) c.take_pack.ensures.listed c.take_pack.ensures.waiting counted in
+    let out = pack_goes_out facts a d listed (fed_in es) es h (ap (λ x. x.walk) work) (ap (λ x. x.parts) work) (ap (λ x. x.packing.packer.writer) work) (ap (λ x. x.packing.added) work) (ap (λ x. x.packing.packer.target) work) (ap (λ x. x.packing.packer.sealed) work) c.take_pack.ensures.listed c.take_pack.ensures.waiting counted in
     let holds = k.1.holds in
     let rule = piece_pack facts a h.puts h.sealed es h.at k.0.bytes holds.holds h.full in
     let S : Step → Type 0 = λ step. MayGoOn piece_rule holding.who (KnowsPieces catalog (Some d)) (WantsPieces catalog (Some d)) es step in
@@ -48,7 +49,7 @@ returns-in-Some-take_pack-clause-busy c = λ b es is due.
     let s = c.in-Some-take_pack.sealed in
     let same : b ≡ a = same_Some b a (sym is ∙ c.in-Some.is) in
     let there : b.work.packing.packer.sealed ≡ Some s = ap (λ x. x.work.packing.packer.sealed) same ∙ sym c.take_pack.ensures.taken ∙ c.in-Some-take_pack.is in
-    let l = due.lists due.sealed due.at.stands.packing.sealed_is in
+    let l = due.lists due.sealed (packing_in b.work c.args.self.now.catalog.lookup due.at.st (items_of (due.puts ++ [])) due.sealed due.at.stands).sealed_is in
     let one : l.0 ≡ s = same_Some l.0 s (sym l.1.is ∙ there) in
     let put = c.put_pack.ensures.puts due.sealed (subst (λ t. IsSealedOf t due.sealed) one l.1.holds) in
     asks_it (Ask.Put c.token.result Kind.Pack s.name s.bytes) c.put_pack.result put

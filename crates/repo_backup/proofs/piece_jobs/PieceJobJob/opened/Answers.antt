@@ -4,7 +4,7 @@ use Rattle.repo_session.specs.Traces.{Trace}
 use Rattle.repo_session.proofs.Cataloguing.{catalog_fresh}
 use Rattle.repo_backup.specs.PieceStates.{piece_task, HasBegun}
 use Rattle.repo_backup.specs.Pieces.{PieceStands, IsReady, at_beginning}
-use Rattle.repo_backup.proofs.PieceStepping.{may_read_pieces}
+use Rattle.repo_backup.proofs.PieceStepping.{may_read_pieces, most_known}
 use Rattle.repo_backup.proofs.piece_jobs.PieceJobJob.opened.Goals as goal
 
 pub returns-clause-begins : goal.returns-clause-begins
@@ -20,10 +20,11 @@ returns-clause-begins c = λ text fresh reads known.
     let aim : c.of-target.result.bytes ≡ config.target = let bounds = reads.allowed.1 in search (rules, arith) in
     let begun : HasBegun b es = record {
       config = config;
-      has = record { text = text; read = inl (refl, refl); reads = reads; known = known };
+      has = record { text = text; read = inl (refl, refl); reads = reads; known = most_known config.version holding.who.versions known };
       none_put = λ k. refl;
       goes_by = record {
         params = ap (λ w. w.walk.params) work ∙ c.new-work.ensures.params;
+        version = ap (λ w. w.walk.version) work ∙ c.new-work.ensures.version;
         aim = ap (λ w. w.packing.packer.target.bytes) work ∙ ap (λ t. t.bytes) c.new-work.ensures.aims.1 ∙ aim;
         aims = ap (λ w. w.packing.packer.writer.target) work ∙ c.new-work.ensures.aims.0 ∙ aim;
       };

@@ -9,7 +9,7 @@ pub returns-clause-ok : goal.returns-clause-ok
 returns-clause-ok c =
     let w = c.args.self.now in
     let v : PieceWork = with_file w c.take_bytes-taken.new.file c.take_bytes-taken.new.packing in
-    subst (λ (x : PieceWork). TakesBytes c.args.lookup.now c.args.piece.now x c.in_ok-taken.field-0 v) (λ i. record w { walk = record w.walk { file = c.in-Some.ensures.value i } }) (c.in_ok-taken.ensures.ok w c.requires.unended)
+    subst (λ (x : PieceWork). TakesBytes c.args.lookup.now c.args.piece.now x c.in_ok-taken.field-0 v) (λ i. record w { walk = record w.walk { file = c.in-Some.ensures.value i } }) (c.in_ok-taken.ensures.ok w c.requires.unended c.requires.unlaid)
 
 pub returns-in_err-taken-clause-stays : goal.returns-in_err-taken-clause-stays
 returns-in_err-taken-clause-stays c =
@@ -18,4 +18,4 @@ returns-in_err-taken-clause-stays c =
     let g = c.take_bytes-taken.new.file in
     let v : PieceWork = with_file w g c.take_bytes-taken.new.packing in
     let err = c.in_err-taken.ensures.err in
-    on_any _ c.from_residual.result (nothing_taken w v f g c.args.lookup.now (sym c.in-Some.ensures.value) (record { params = refl; above = refl; nodes = refl; root = refl }) refl err.0.0 err.0.1 err.0.2 err.0.3 err.0.4 err.1.2 (ap (λ x. x.items) err.1.0))
+    on_any _ c.from_residual.result (nothing_taken w v f g c.args.lookup.now (sym c.in-Some.ensures.value) (record { params = refl; version = refl; above = refl; nodes = refl; root = refl }) refl c.requires.unlaid err.0.0 err.0.1 err.0.2 err.0.3 err.0.4 err.1.2 (ap (λ x. x.items) err.1.0))

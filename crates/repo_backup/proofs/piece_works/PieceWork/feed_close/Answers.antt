@@ -16,8 +16,8 @@ returns-in_err-close_file-clause-refused c =
     let w = c.args.self.now in
     memory_told c.from_residual.result w fed_close c.from_residual.ensures.1 (λ known st sent h. may_close w known st sent (inl (some_here w.walk.file (search rules))) h)
 
-pub returns-in_err-close_dir-clause-refused : goal.returns-in_err-close_dir-clause-refused
-returns-in_err-close_dir-clause-refused c =
+pub returns-in_err-close-clause-refused : goal.returns-in_err-close-clause-refused
+returns-in_err-close-clause-refused c =
     let w = c.args.self.now in
     let deep : 1 ≤ length w.walk.above.items = search (rules, arith) in
-    memory_told c.from_residual-in_err-close_dir.result w fed_close c.from_residual-in_err-close_dir.ensures.1 (λ known st sent h. may_close w known st sent (inr deep) h)
+    memory_told c.from_residual-in_err-close.result w fed_close c.from_residual-in_err-close.ensures.1 (λ known st sent h. may_close w known st sent (inr deep) h)

@@ -18,14 +18,14 @@ returns-clause-ok c = λ known. (
       let w = c.args.self.now in
       let v : PieceWork = record w { walk = c.begin_dir.new.self } in
       let still : st.over ≡ false = sym h.at.over ∙ ap is_some c.requires.unended in
-      let n = next_dir w.walk.params c.min.ensures.lawful st c.args.name.now h.cut still in
+      let n = next_dir w.walk.params c.min.ensures.lawful w.walk.version st c.args.name.now h.cut still in
       let at : IsAt v.walk n.now = subst (λ (x : List ℕ). IsAt v.walk (record { done = nothing; above = record { name = x; done = st.done } ∷ st.above; file = st.file; over = st.over })) c.in_ok-name.ensures.ok (c.in_ok-begin_dir.ensures.ok st h.at) in (
         c.in_ok-name.ensures.may st h.at,
         n.now,
         [],
         n.place,
-        stands_on w v known st n.now sent [] refl (n.made ∙ append-nil (made_at st)) at (subst (λ q. IsCutSoFar q n.now) (sym c.begin_dir.ensures.params) n.cut) (tt, (h.texts.0, h.texts.1)) h,
-        inl refl,
+        inl (c.requires.unlaid, stands_on w v known st n.now sent [] refl c.begin_dir.ensures.version (n.made ∙ append-nil (made_at w.walk.version st)) at (subst (λ q. IsCutSoFar q n.now) (sym c.begin_dir.ensures.params) n.cut) (tt, (h.texts.0, h.texts.1)) h),
+        inl (inl refl),
       ),
 )
 
@@ -36,4 +36,4 @@ pub returns-in_err-begin_dir-clause-stays : goal.returns-in_err-begin_dir-clause
 returns-in_err-begin_dir-clause-stays c = on_any _ c.from_residual-in_err-begin_dir.result (λ known st sent h.
     let w = c.args.self.now in
     let v : PieceWork = record w { walk = c.begin_dir.new.self } in
-    stands_on w v known st st sent [] refl refl (c.in_err-begin_dir.ensures.err st h.at) (subst (λ q. IsCutSoFar q st) (sym c.begin_dir.ensures.params) h.cut) h.texts h)
+    stands_on w v known st st sent [] refl c.begin_dir.ensures.version refl (c.in_err-begin_dir.ensures.err st h.at) (subst (λ q. IsCutSoFar q st) (sym c.begin_dir.ensures.params) h.cut) h.texts h)

@@ -17,13 +17,13 @@ returns-clause-ok c = λ known. (
       let still : st.over ≡ false = sym h.at.over ∙ ap is_some c.requires.unended in
       let may = c.in_ok-name.ensures.may st h.at in
       let none : st.file ≡ None = no_file st.file may.1.0 in
-      let n = next_file w.walk.params c.min.ensures.lawful st c.args.name.now h.cut still none in
+      let n = next_file w.walk.params c.min.ensures.lawful w.walk.version st c.args.name.now h.cut still none in
       let at : IsAt v.walk n.now = subst (λ (x : List ℕ). IsAt v.walk (record { done = st.done; above = st.above; file = Some (record { name = x; chunks = []; rest = [] }); over = st.over })) c.in_ok-name.ensures.ok (c.begin_file.ensures.walk st h.at) in (
         may,
         n.now,
         [],
         n.place,
-        stands_on w v known st n.now sent [] refl (n.made ∙ append-nil (made_at st)) at (subst (λ q. IsCutSoFar q n.now) (sym c.begin_file.ensures.params) n.cut) h.texts h,
-        inl refl,
+        inl (c.requires.unlaid, stands_on w v known st n.now sent [] refl c.begin_file.ensures.version (n.made ∙ append-nil (made_at w.walk.version st)) at (subst (λ q. IsCutSoFar q n.now) (sym c.begin_file.ensures.params) n.cut) h.texts h),
+        inl (inl refl),
       ),
 )

@@ -10,4 +10,4 @@ returns-clause-ok c = λ st at.
     let above : c.push.new.self.items ≡ c.args.self.now.above.items ++ outer ∷ [] = search rules in
     let nodes : c.replace-nodes.new.dest.items ≡ [] = search rules in
     let before : c.replace-nodes.result.items ≡ c.args.self.now.nodes.items = search rules in
-    record { outers = (c.args.self.now.above.items, outer, above, refl, before ∙ at.nodes, at.outers); nodes = nodes; file = at.file; over = at.over; root = subst (λ r. IsRootAt r nothing) (sym c.requires.unended) tt }
+    record { outers = (c.args.self.now.above.items, outer, above, refl, before ∙ at.nodes, at.outers); nodes = nodes; file = at.file; over = at.over; root = subst (λ r. IsRootAt c.args.self.now.version r nothing) (sym c.requires.unended) tt }

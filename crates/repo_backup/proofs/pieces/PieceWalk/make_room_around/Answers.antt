@@ -14,8 +14,8 @@ returns-clause-room c =
     on_ok c.reserve-room.result _ _ (λ r. (c.pop.new.self.items, again, pushed, r)) room
 
 pub returns-clause-above : goal.returns-clause-above
-returns-clause-above c = λ above h.
+returns-clause-above c = λ version above h.
     let outer = c.in-Some.outer in
     let again : Outer = record { nodes = c.reserve-room.new.self; name = outer.name } in
     let pushed : c.push.new.self.items ≡ c.pop.new.self.items ++ again ∷ [] = search rules in
-    subst (λ l. AreOuterAt l above) (sym pushed) (outer_again c.pop.new.self.items outer again above refl c.reserve-room.ensures.items (subst (λ l. AreOuterAt l above) c.in-Some.ensures.items h))
+    subst (λ l. AreOuterAt version l above) (sym pushed) (outer_again version c.pop.new.self.items outer again above refl c.reserve-room.ensures.items (subst (λ l. AreOuterAt version l above) c.in-Some.ensures.items h))
