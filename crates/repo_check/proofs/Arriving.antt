@@ -8,8 +8,9 @@ use Rattle.repo_name.specs.declared.kinds.Kind.{Kind}
 use Rattle.repo_name.specs.declared.names.Name.{Name}
 use Rattle.repo_tree.specs.SnapshotText.{SnapshotFault}
 use Rattle.repo_tree.specs.declared.faults.TextError.{TextError}
-use Rattle.repo_session.specs.Versions.{snapshot_version}
-use Rattle.repo_session.proofs.Faulting.{snapshot_fault}
+use Rattle.repo_session.specs.Versions.{upto}
+use Rattle.repo_session.specs.declared.versions.Versions.{Versions}
+use Rattle.repo_session.proofs.Faulting.{known_exist, snapshot_fault}
 use Rattle.repo_session.specs.Ends.{IsOfOtherVersion, TellsFault}
 use Rattle.repo_wire.specs.declared.messages.Ask.{Ask}
 use Rattle.repo_wire.specs.declared.messages.Code.{Code}
@@ -59,13 +60,13 @@ pack_length bytes items h =
 
 -- ---- what can't be read
 
-pub snapshot_misread : (n : Name) (x : List ℕ) (say : Say) (error : TextError) (look : SnapshotLook) → say ≡ Say.Bytes x → naming.name x ≡ n → SnapshotFault snapshot_version x error → MisreadAs error look → LooksAtSnapshot n say look
-snapshot_misread n x say error (SnapshotLook.Root root) h named fault is = absurd is
-snapshot_misread n x say error (SnapshotLook.Fault what) h named fault is =
-    subst (λ w. FaultyOf Kind.Snapshot n say w) (sym is.0) (misread Kind.Snapshot n x say h named (error, snapshot_fault snapshot_version (omega arith) x error is.2 fault, is.2, is.1))
-snapshot_misread n x say error SnapshotLook.Version h named fault is =
-    subst (λ s. IsOfOtherVersion snapshot_version (Ask.Get Kind.Snapshot n) s) (sym h) (named, subst (λ e. SnapshotFault snapshot_version x e) is fault)
-snapshot_misread n x say error SnapshotLook.Unwelcome h named fault is = absurd is
+pub snapshot_misread : (versions : Versions) (n : Name) (x : List ℕ) (say : Say) (error : TextError) (look : SnapshotLook) → say ≡ Say.Bytes x → naming.name x ≡ n → SnapshotFault (upto versions) x error → MisreadAs error look → LooksAtSnapshot versions n say look
+snapshot_misread versions n x say error (SnapshotLook.Root root) h named fault is = absurd is
+snapshot_misread versions n x say error (SnapshotLook.Fault what) h named fault is =
+    subst (λ w. FaultyOf Kind.Snapshot n say w) (sym is.0) (misread Kind.Snapshot n x say h named (error, snapshot_fault (upto versions) (known_exist versions) x error is.2 fault, is.2, is.1))
+snapshot_misread versions n x say error SnapshotLook.Version h named fault is =
+    subst (λ s. IsOfOtherVersion (upto versions) (Ask.Get Kind.Snapshot n) s) (sym h) (named, subst (λ e. SnapshotFault (upto versions) x e) is fault)
+snapshot_misread versions n x say error SnapshotLook.Unwelcome h named fault is = absurd is
 
 -- what holds of a result holds of it in other words
 pub ok_then : {T E : Type 0} (P Q : T → Type 0) (r : Result T E) → ((x : T) → P x → Q x) → IfOk r P → IfOk r Q

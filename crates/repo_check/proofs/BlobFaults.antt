@@ -1,5 +1,5 @@
 -- What is told of the blobs that are reached.
-use Rattle.std.proofs.Common.{◌≡◌, IsTrue, ℕ, List, slice_get, Option, Some, sym, ap, subst, ◌↔◌, ◌∙◌, Contains}
+use Rattle.std.proofs.Common.{◌≡◌, ℕ, List, slice_get, Option, Some, sym, ap, subst, ◌↔◌, ◌∙◌, Contains}
 use Rattle.std.proofs.lemmas.Option.{same_Some}
 use Rattle.std.specs.BTreeSet.{contains}
 use Rattle.repo_name.specs.Naming.{name_cmp}
@@ -8,7 +8,6 @@ use Rattle.repo_name.specs.declared.kinds.BlobKind.TheVariants.{Content, Tree}
 use Rattle.repo_name.specs.declared.kinds.Thing.{Thing}
 use Rattle.repo_name.specs.declared.names.Name.{Name}
 use Rattle.repo_name.proofs.Containing.{contains_got, stands_at}
-use Rattle.repo_tree.specs.Spelling.{greatest_depth}
 use Rattle.repo_session.specs.Traces.{Trace}
 use Rattle.repo_session.specs.declared.outcomes.CheckFault.{CheckFault}
 use Rattle.repo_session.specs.declared.outcomes.FaultKind.{FaultKind}
@@ -16,14 +15,14 @@ use Rattle.repo_check.specs.Answers.{Gathered, IsReachedBlob}
 use Rattle.repo_check.specs.Checking.{OfBlob}
 use Rattle.repo_check.specs.Findings.{BlobIs}
 use Rattle.repo_check.specs.Rounds.{Match}
-use Rattle.repo_check.specs.Surveys.{IsSurveyed, RoundsView, IsInLevel, answers_in}
+use Rattle.repo_check.specs.Surveys.{IsSurveyed, RoundsView, answers_in}
 use Rattle.repo_check.specs.Telling.{told}
 use Rattle.repo_check.specs.Verdicts.{AreBlobsTold, AreReached, IsTreeFound, ReachedView}
 use Rattle.repo_check.specs.Walks.{ContentFault, WalkView}
 use Rattle.repo_check.proofs.Finding.{blob_once}
 use Rattle.repo_check.proofs.Matching.{facing, opposite}
 use Rattle.repo_check.proofs.Reached.{surveyed_is_received}
-use Rattle.repo_check.proofs.Stands.{content_reached, last_at, last_is, trees_reached}
+use Rattle.repo_check.proofs.Stands.{content_reached, trees_reached}
 use Rattle.repo_check.proofs.Tellings.{told_are_found}
 use Rattle.repo_check.proofs.TreeFaults.{content_is_told, trees_are_told}
 
@@ -71,20 +70,10 @@ module _ (rounds : RoundsView) (walk : WalkView) (es : Trace) (s : IsSurveyed ro
     says = λ n f r is. content_is_told rounds walk es s n f is;
   }
 
-  -- a set that has the trees of the last level tells which are the deepest
-  deepest_is : (old : List CheckFault) (new : List CheckFault) (t : AreBlobsTold walk reached old new) (n : Name) → IsTrue (contains name_cmp t.deepest n) ↔ IsInLevel walk.levels greatest_depth n
-  deepest_is old new t n =
-      let last = last_is rounds walk es s in
-      let has = t.deepest_are last.0 last.1 n in
-      let at : slice_get walk.levels greatest_depth ≡ Some last.0 = ap (λ d. slice_get walk.levels d) (sym (last_at rounds walk es s)) ∙ last.1 in (
-        λ is. (last.0, at, has.0 is),
-        λ h. has.1 (subst (λ level. Contains level n) (same_Some h.0 last.0 (sym h.1 ∙ at)) h.2),
-      )
-
   pub tree_finds : (old : List CheckFault) (new : List CheckFault) (t : AreBlobsTold walk reached old new) → Finds A Tree reached.trees t.trees
   tree_finds old new t = record {
-    R = IsTreeFound walk.known t.deepest;
+    R = IsTreeFound walk.known t.broken;
     match = t.trees_are;
     reached = trees_reached rounds walk es s reached are;
-    says = λ n f r is. subst (λ g. BlobIs A Tree n g) (sym is) (trees_are_told rounds walk es s n (contains name_cmp t.deepest n) r (deepest_is old new t n));
+    says = λ n f r is. subst (λ g. BlobIs A Tree n g) (sym is) (trees_are_told rounds walk es s n (contains name_cmp t.broken n) r (t.broken_are n));
   }

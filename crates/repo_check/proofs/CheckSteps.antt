@@ -1,9 +1,8 @@
 -- A check between its first request and its end.
-use Rattle.std.proofs.Common.{◌≡◌, ◌≢◌, ◌∷◌, [], Bool, true, false, List, length, arith, refl, sym, ap, ◌∙◌, inl, inr}
+use Rattle.std.proofs.Common.{◌≡◌, ◌≢◌, ◌∷◌, [], ℕ, Bool, true, false, List, length, arith, refl, sym, ap, ◌∙◌, inl, inr}
 use Rattle.std.specs.Bool.{◌==◌}
 use Rattle.std.proofs.lemmas.Bool.{eqb-false, eqb-true}
 use Rattle.repo_wire.specs.declared.messages.Ask.{Ask}
-use Rattle.repo_session.specs.Versions.{snapshot_version}
 use Rattle.repo_session.specs.Askers.{Asker}
 use Rattle.repo_session.specs.Ends.{MayConclude}
 use Rattle.repo_session.specs.Jobs.{MayAsk}
@@ -60,16 +59,16 @@ may_ask j who es ask may knows =
     record { work = reads_works ask reads; may = may; allowed = reads; knows = knows }
 
 -- an outcome by the rule alone, which is no fault
-pub concludes : (es : Trace) (outcome : Outcome) → CheckConcludes es outcome → MayConclude snapshot_version true CheckConcludes es outcome
-concludes es (Outcome.Clean snapshots indexes packs blobs) h = (h, tt)
-concludes es (Outcome.Faults faults) h = (h, tt)
-concludes es Outcome.Upgraded h = absurd h
-concludes es (Outcome.Stored name blobs bytes) h = absurd h
-concludes es (Outcome.Complete entries) h = absurd h
-concludes es (Outcome.Listed snapshots) h = absurd h
-concludes es (Outcome.Forgotten names) h = absurd h
-concludes es (Outcome.Pruned packs bytes) h = absurd h
-concludes es (Outcome.Ended end) h = absurd h
+pub concludes : (known : ℕ) (es : Trace) (outcome : Outcome) → CheckConcludes es outcome → MayConclude known true CheckConcludes es outcome
+concludes known es (Outcome.Clean snapshots indexes packs blobs) h = (h, tt)
+concludes known es (Outcome.Faults faults) h = (h, tt)
+concludes known es Outcome.Upgraded h = absurd h
+concludes known es (Outcome.Stored name blobs bytes) h = absurd h
+concludes known es (Outcome.Complete entries) h = absurd h
+concludes known es (Outcome.Listed snapshots) h = absurd h
+concludes known es (Outcome.Forgotten names) h = absurd h
+concludes known es (Outcome.Pruned packs bytes) h = absurd h
+concludes known es (Outcome.Ended end) h = absurd h
 
 -- ---- whether a list has anything
 

@@ -97,9 +97,11 @@ module _ (answers : Gathered) where
   not_both (NodeKind.File size content) (inr lost) ill = let lies = measure_lies content ill.0 lost.0 ill.1 lost.1 in lost.2 lies.0 lies.1.given
   not_both (NodeKind.Dir subtree) m ill = ill
 
-  pub well_not_ill : (n : Name) (nodes : List Node) → IsWellTree answers n nodes → IsIllTree answers n nodes → ⊥
-  well_not_ill n nodes well (inl deep) = deep.1 (well.bare deep.0)
-  well_not_ill n nodes well (inr ill) = not_both ill.0.what (well.measured ill.0 ill.1) ill.2
+  pub well_not_ill : (n : Name) (x : List ℕ) (nodes : List Node) → IsWellTree answers n x nodes → IsIllTree answers n x nodes → ⊥
+  well_not_ill n x nodes well (inl deep) = deep.1 (well.bare deep.0)
+  well_not_ill n x nodes well (inr (inl ill)) = not_both ill.0.what (well.measured ill.0 ill.1) ill.2
+  well_not_ill n x nodes well (inr (inr (inl (followed, none)))) = (let p = well.part followed in none nodes p.0 p.1)
+  well_not_ill n x nodes well (inr (inr (inr (before, followed, wrong)))) = well.onward before followed wrong
 
   -- ---- one thing of an object
 
@@ -192,8 +194,8 @@ module _ (answers : Gathered) where
   -- ---- one thing of a blob
 
   abbrev InTree : Place → Name → Option FaultKind → List ℕ → Type 0
-  InTree place n None x = (nodes : List Node) × IsTreeAt place x nodes × IsWellTree answers n nodes
-  InTree place n (Some FaultKind.Unreadable) x = ((nodes : List Node) → ¬ IsTreeAt place x nodes) ⊎ ((nodes : List Node) × IsTreeAt place x nodes × IsIllTree answers n nodes)
+  InTree place n None x = (nodes : List Node) × IsTreeAt place x nodes × IsWellTree answers n x nodes
+  InTree place n (Some FaultKind.Unreadable) x = ((nodes : List Node) → ¬ IsTreeAt place x nodes) ⊎ ((nodes : List Node) × IsTreeAt place x nodes × IsIllTree answers n x nodes)
   InTree place n (Some FaultKind.Missing) x = ⊥
   InTree place n (Some FaultKind.Name) x = ⊥
   InTree place n (Some FaultKind.Place) x = ⊥
@@ -203,7 +205,7 @@ module _ (answers : Gathered) where
   tree_not_both place n x well (inl none) = none well.0 well.1
   tree_not_both place n x well (inr ill) =
       let same : ill.0 ≡ well.0 = tree_texts_one x ill.0 well.0 ill.1.reads well.1.reads in
-      well_not_ill n well.0 well.2 (subst (λ ns. IsIllTree answers n ns) same ill.2)
+      well_not_ill n x well.0 well.2 (subst (λ ns. IsIllTree answers n x ns) same ill.2)
 
   in_tree_once : (place : Place) (n : Name) (x : List ℕ) (f g : Option FaultKind) → InTree place n f x → InTree place n g x → f ≡ g
   in_tree_once place n x None None a b = refl

@@ -1,5 +1,5 @@
 -- What came of all objects, and what that gives.
-use Rattle.std.proofs.Common.{◌≤◌, ◌≡◌, ◌∷◌, [], ℕ, List, Option, Some, refl, sym, ap, subst, inl, inr, ◌∙◌, Contains}
+use Rattle.std.proofs.Common.{◌≡◌, ◌∷◌, [], ℕ, Bool, List, Option, Some, refl, sym, ap, subst, inl, inr, ◌∙◌, Contains}
 use Rattle.std.specs.List.{flat_map}
 use Rattle.std.proofs.lemmas.Option.{same_Some}
 use Rattle.repo_name.specs.Naming as naming
@@ -14,14 +14,16 @@ use Rattle.repo_index.specs.declared.facts.PackFacts.{PackFacts}
 use Rattle.repo_index.proofs.OneLemmas.{index_texts_one}
 use Rattle.repo_name.proofs.Containing.{contains_flat, flat_contains}
 use Rattle.repo_tree.specs.declared.snapshots.Snapshot.{Snapshot}
-use Rattle.repo_session.specs.Versions.{snapshot_version}
-use Rattle.repo_session.proofs.Faulting.{first_version}
+use Rattle.repo_reach.specs.Collected as collected
+use Rattle.repo_reach.specs.Collected.{follows_in, version_by}
+use Rattle.repo_reach.specs.declared.roots.Root.{Root}
+use Rattle.repo_reach.proofs.Leading.{same_version}
 use Rattle.repo_session.specs.Traces.{Trace}
 use Rattle.repo_session.specs.declared.outcomes.FaultKind.{FaultKind}
 use Rattle.repo_name.proofs.Containing.{contained_or, first_contained, later_contained, none_contained}
 use Rattle.repo_tree.proofs.SnapshotLemmas.{snapshot_texts_one}
 use Rattle.repo_tree.specs.SnapshotText.{IsSnapshotText}
-use Rattle.repo_check.specs.Answers.{Answer, Gathered, Came, GivesFact, GivesRoot, LiesAt, AreOfKnownVersions}
+use Rattle.repo_check.specs.Answers.{Answer, Gathered, Came, GivesFact, GivesRoot, LiesAt}
 use Rattle.repo_check.specs.Arrivals.{AnswersBytes, IsFaulty, IsIndexOf, IsRootOf}
 use Rattle.repo_check.specs.Findings.{IsIllegible, ReadsAs}
 use Rattle.repo_check.specs.Gathering.{facts_noted, root_noted}
@@ -48,6 +50,9 @@ matched_back {A} {B} R (a ∷ xs) (b ∷ ys) m y c = elim (contained_or b ys y c
   | inl same ↦ (a, first_contained a xs, subst (λ (z : B). R a z) same m.0)
   | inr more ↦ (let rest = matched_back R xs ys m.1 y more in (rest.0, later_contained a xs rest.0 rest.1, rest.2))
 ]
+
+abbrev root_of_snapshot : Snapshot → Root
+root_of_snapshot snapshot = collected.root_of snapshot.tree snapshot.version
 
 -- an answer whose bytes read isn't at fault by itself
 pub faulty_not : (answers : Gathered) (k : Kind) (a : Answer) (x : List ℕ) (what : FaultKind) → AnswersBytes a x → ReadsAs k x → IsFaulty k a what → ⊥
@@ -108,42 +113,42 @@ module _ (rounds : RoundsView) (walk : WalkView) (es : Trace) (s : IsSurveyed ro
 
   -- ---- roots
 
-  -- each snapshot that came is of a version that is known
-  pub known_versions : AreOfKnownVersions A
-  known_versions n x snapshot came reads =
-      let a : Answer = record { name = n; bytes = Some x } in
-      let note = matched (IsNoteOf Kind.Snapshot IsRootOf) s.notes.snapshots.answers rounds.snapshots.notes s.notes.snapshots.noted a came.among in
-      of_note note.0 note.2
-    where
-      of_note : (note : Note Name) → IsNoteOf Kind.Snapshot IsRootOf (record { name = n; bytes = Some x }) note → snapshot.version ≤ snapshot_version
-      of_note (Note.Well root) is =
-          let text : is.0 ≡ x = same_Some is.0 x (sym is.2.0) in
-          let same : is.1 ≡ snapshot = snapshot_texts_one x is.1 snapshot (subst (λ y. IsSnapshotText y is.1) text is.3) reads in
-          subst (λ (z : Snapshot). z.version ≤ snapshot_version) same is.5
-      of_note (Note.Fault what) is = absurd (faulty_not A Kind.Snapshot (record { name = n; bytes = Some x }) x what (refl, came.named) (snapshot, reads) is)
-
-  pub root_of : (n : Name) → Contains s.roots n → GivesRoot A 1 n
-  root_of n c =
-      let from = flat_contains root_noted rounds.snapshots.notes n ((s.objects.roots_are.each n).0 c) in
+  pub root_of : (r : Root) → Contains s.roots r → GivesRoot A (version_by r.follows) r.tree
+  root_of r c =
+      let from = flat_contains root_noted rounds.snapshots.notes r (subst (λ rs. Contains rs r) s.objects.roots_are c) in
       of_note from.0 from.1 from.2
     where
-      of_note : (note : Note Name) → Contains rounds.snapshots.notes note → Contains (root_noted note) n → GivesRoot A 1 n
+      of_note : (note : Note Root) → Contains rounds.snapshots.notes note → Contains (root_noted note) r → GivesRoot A (version_by r.follows) r.tree
       of_note (Note.Well root) among inside =
-          let same : root ≡ n = elim (contained_or root [] n inside) [ inl is ↦ is | inr none ↦ absurd (none_contained n none) ] in
+          let same : root ≡ r = elim (contained_or root [] r inside) [ inl is ↦ is | inr none ↦ absurd (none_contained r none) ] in
           let a = matched_back (IsNoteOf Kind.Snapshot IsRootOf) s.notes.snapshots.answers rounds.snapshots.notes s.notes.snapshots.noted (Note.Well root) among in
           let is : IsRootOf a.0 root = a.2 in
-          record { name = a.0.name; text = is.0; snapshot = is.1; came = came_as s.notes.snapshots.answers a.0 is.0 a.1 is.2; reads = is.3; version_is = first_version is.1.version is.3.known is.5; root_is = is.4 ∙ same }
-      of_note (Note.Fault what) among inside = absurd (none_contained n inside)
+          let whole : root_of_snapshot is.1 ≡ r = is.4 ∙ same in
+          record {
+            name = a.0.name;
+            text = is.0;
+            snapshot = is.1;
+            came = came_as s.notes.snapshots.answers a.0 is.0 a.1 is.2;
+            reads = is.3;
+            version_is = sym (same_version is.1.version is.3.known) ∙ ap (λ (z : Root). version_by z.follows) whole;
+            root_is = ap (λ (z : Root). z.tree) whole;
+          }
+      of_note (Note.Fault what) among inside = absurd (none_contained r inside)
 
-  pub of_root : (version : ℕ) (n : Name) → GivesRoot A version n → (version ≡ 1) × Contains s.roots n
+  pub of_root : (version : ℕ) (n : Name) → GivesRoot A version n → (follows : Bool) × (version_by follows ≡ version) × Contains s.roots (record { tree = n; follows = follows })
   of_root version n h =
       let a : Answer = record { name = h.name; bytes = Some h.text } in
       let note = matched (IsNoteOf Kind.Snapshot IsRootOf) s.notes.snapshots.answers rounds.snapshots.notes s.notes.snapshots.noted a h.came.among in
-      (sym h.version_is ∙ first_version h.snapshot.version h.reads.known (known_versions h.name h.text h.snapshot h.came h.reads), (s.objects.roots_are.each n).1 (contains_flat root_noted rounds.snapshots.notes note.0 n note.1 (in_note note.0 note.2)))
+      let root : Root = record { tree = n; follows = follows_in h.snapshot.version } in (
+        follows_in h.snapshot.version,
+        same_version h.snapshot.version h.reads.known ∙ h.version_is,
+        subst (λ rs. Contains rs root) (sym s.objects.roots_are) (contains_flat root_noted rounds.snapshots.notes note.0 root note.1 (in_note note.0 note.2)),
+      )
     where
-      in_note : (note : Note Name) → IsNoteOf Kind.Snapshot IsRootOf (record { name = h.name; bytes = Some h.text }) note → Contains (root_noted note) n
+      in_note : (note : Note Root) → IsNoteOf Kind.Snapshot IsRootOf (record { name = h.name; bytes = Some h.text }) note → Contains (root_noted note) (record { tree = n; follows = follows_in h.snapshot.version })
       in_note (Note.Well root) is =
           let x : is.0 ≡ h.text = same_Some is.0 h.text (sym is.2.0) in
           let same : is.1 ≡ h.snapshot = snapshot_texts_one h.text is.1 h.snapshot (subst (λ y. IsSnapshotText y is.1) x is.3) h.reads in
-          subst (λ (r : Name). Contains (r ∷ []) n) (sym h.root_is ∙ ap (λ z. z.tree) (sym same) ∙ is.4) (first_contained n [])
+          let whole : root ≡ record { tree = n; follows = follows_in h.snapshot.version } = sym is.4 ∙ ap root_of_snapshot same ∙ (λ i. record { tree = h.root_is i; follows = follows_in h.snapshot.version }) in
+          subst (λ (r : Root). Contains (root ∷ []) r) whole (first_contained root [])
       in_note (Note.Fault what) is = absurd (faulty_not A Kind.Snapshot (record { name = h.name; bytes = Some h.text }) h.text what (refl, h.came.named) (h.snapshot, h.reads) is)

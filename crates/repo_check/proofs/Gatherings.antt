@@ -1,16 +1,16 @@
 -- What the notes of a round give together, one after another.
-use Rattle.std.proofs.Common.{BTreeSet, [], ◌≡◌, ◌<◌, ◌≤◌, ◌+◌, ℕ, List, drop, get_or, length, inl, inr, ◌⊎◌, ◌↔◌, sym, subst, Contains}
+use Rattle.std.proofs.Common.{◌≡◌, ◌∷◌, [], ◌<◌, ◌≤◌, ◌+◌, ℕ, List, drop, get_or, length, inl, inr, ◌⊎◌, ◌↔◌, sym, subst, Contains}
 use Rattle.std.specs.List.{flat_map}
 use Rattle.std.proofs.lemmas.List.Elements.{Contains-append_left, Contains-append_right, Contains-append_cases}
-use Rattle.std.specs.List.Sorted.{IsStrictlySortedBy}
-use Rattle.std.proofs.lemmas.Map.Views.{btree_set_contains_iff}
-use Rattle.repo_name.specs.Naming.{name_cmp}
-use Rattle.repo_name.specs.declared.names.Name.{Name}
-use Rattle.repo_index.specs.Order.{names_total}
-use Rattle.repo_index.proofs.OrderLemmas.{names_exact}
-use Rattle.repo_name.proofs.Containing.{none_contained}
-use Rattle.repo_check.specs.Gathering.{AreNamesOnce, HasNames}
-use Rattle.repo_check.specs.Levels.{AddsNames}
+use Rattle.std.specs.Prelude.{Result, Ok, Err, OnOk}
+use Rattle.std.proofs.lemmas.Option.{slice_get-get_or}
+use Rattle.repo_name.proofs.Containing.{contained_or, contains_flat, contains_got, first_contained, none_contained}
+use Rattle.repo_reach.specs.declared.roots.Root.{Root}
+use Rattle.repo_check.specs.Gathering.{root_noted}
+use Rattle.repo_check.specs.Visiting.{AddsVisit, BeginsAt, visit_of}
+use Rattle.repo_check.specs.inner.Gaining.{AddsRoots}
+use Rattle.repo_check.specs.declared.rounds.Note.{Note}
+use Rattle.repo_check.specs.declared.visiting.Visit.{Visit}
 use Rattle.repo_check.proofs.Measuring.{left_at, left_none}
 
 -- so far these were gathered, and what is left gives the rest
@@ -41,22 +41,41 @@ gathers_all f whole i few Has h y = (
   λ c. elim ((h y).1 c) [ inl is ↦ is | inr left ↦ absurd (none_contained y (subst (λ xs. Contains (flat_map f xs) y) (left_none whole i few) left)) ],
 )
 
--- the names of a set that has just these
-pub are_once : (names : List Name) (set : BTreeSet Name) (once : List Name) → HasNames set names → once ≡ set.keys → IsStrictlySortedBy name_cmp once → AreNamesOnce names once
-are_once names set once has same sorted = record {
-  each = λ n. (
-    λ c. (has n).0 ((btree_set_contains_iff names_total names_exact set n).1 (subst (λ ns. Contains ns n) same c)),
-    λ c. subst (λ ns. Contains ns n) (sym same) ((btree_set_contains_iff names_total names_exact set n).0 ((has n).1 c)),
-  );
-  ascend = sorted;
-}
+-- ---- roots
 
--- the names that came first into a set
-pub first_names : (old new : BTreeSet Name) (names : List Name) → old.keys ≡ [] → AddsNames old names new → HasNames new names
-first_names old new names empty adds n = (
-  λ is. elim ((adds n).0 is) [
-    | inl there ↦ absurd (none_contained n (subst (λ ks. Contains ks n) empty ((btree_set_contains_iff names_total names_exact old n).0 there)))
-    | inr among ↦ among
-  ],
-  λ c. (adds n).1 (inr c),
-)
+-- what a note's root adds
+pub root_added : {T E : Type 0} (r : Result T E) (old new : List Visit) (root : Root) → OnOk r (AddsVisit old (visit_of root) new) → OnOk r (AddsRoots old (root ∷ []) new)
+root_added (Ok x) old new root h = record {
+  all = λ other c. subst (λ (z : Root). Contains new (visit_of z)) (only other c) h.1;
+  only = λ v c. elim (Contains-append_cases old h.0.0 v (subst (λ vs. Contains vs v) h.0.1 c)) [ inl there ↦ inl there | inr came ↦ inr (root, first_contained root [], sym (h.0.2 v came)) ];
+  stay = λ v c. subst (λ vs. Contains vs v) (sym h.0.1) (Contains-append_left old h.0.0 v c);
+}
+  where
+    only : (other : Root) → Contains (root ∷ []) other → root ≡ other
+    only other c = elim (contained_or root [] other c) [ inl same ↦ same | inr none ↦ absurd (none_contained other none) ]
+root_added (Err e) old new root h = tt
+
+-- the roots of the notes that are gone through have their visits, and no other visits came
+pub record HasBegun (notes : List (Note Root)) (left : List (Note Root)) (visits : List Visit) : Type 0 where
+  pub all : (root : Root) → Contains (flat_map root_noted notes) root → Contains visits (visit_of root) ⊎ Contains (flat_map root_noted left) root
+  pub only : (v : Visit) → Contains visits v → (root : Root) × Contains (flat_map root_noted notes) root × (v ≡ visit_of root)
+
+pub begun_next : (notes : List (Note Root)) (i : ℕ) (d : Note Root) → i < length notes → (old new : List Visit) → AddsRoots old (root_noted (get_or notes i d)) new → HasBegun notes (drop i notes) old → HasBegun notes (drop (i + 1) notes) new
+begun_next notes i d less old new adds before =
+    let note = get_or notes i d in
+    let rest = drop (i + 1) notes in
+    let split = left_at notes i d less in
+    let here : Contains notes note = contains_got notes i note (slice_get-get_or notes i d less) in
+    record {
+      all = λ root c. elim (before.all root c) [
+        | inl there ↦ inl (adds.stay (visit_of root) there)
+        | inr left ↦ elim (Contains-append_cases (root_noted note) (flat_map root_noted rest) root (subst (λ ns. Contains (flat_map root_noted ns) root) split left)) [ inl mine ↦ inl (adds.all root mine) | inr later ↦ inr later ]
+      ];
+      only = λ v c. elim (adds.only v c) [ inl there ↦ before.only v there | inr came ↦ (came.0, contains_flat root_noted notes note came.0 here came.1, came.2) ];
+    }
+
+pub begun_all : (notes : List (Note Root)) (i : ℕ) → length notes ≤ i → (visits : List Visit) → HasBegun notes (drop i notes) visits → BeginsAt (flat_map root_noted notes) visits
+begun_all notes i few visits h = record {
+  all = λ root c. elim (h.all root c) [ inl there ↦ there | inr left ↦ absurd (none_contained root (subst (λ ns. Contains (flat_map root_noted ns) root) (left_none notes i few) left)) ];
+  only = h.only;
+}

@@ -1,9 +1,13 @@
 -- Lemmas that the proofs of this crate share.
+pub mod Ascending
+pub mod Spellings
 pub mod Sounding
 pub mod Finding
 pub mod Arriving
 pub mod Measuring
-pub mod Leveling
+pub mod Giving
+pub mod Queueing
+pub mod Breaking
 pub mod Tellings
 pub mod Fittings
 pub mod TreeLooks
@@ -15,6 +19,7 @@ pub mod Reading
 pub mod Surveying
 pub mod Trailing
 pub mod Gathered
+pub mod KeptReads
 pub mod Reached
 pub mod Stands
 pub mod PackFinds

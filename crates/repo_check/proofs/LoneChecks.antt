@@ -226,7 +226,7 @@ module _ (who : Asker) (from : Store) where
           part (fact_of Tree n place) found.0 x t.1.1.given (first Kind.Pack place.pack found.0 found.1) found.2
 
       clean_sound : AreStoredApart from → IsSound from.objects
-      clean_sound apart = well_is_sound clean.answers from.objects clean.well clean.received.known (are clean.answers clean.received) (λ x y a b name. apart x y (is_spoken x a) (is_spoken y b) name)
+      clean_sound apart = well_is_sound clean.answers from.objects clean.well (are clean.answers clean.received) (λ x y a b name. apart x y (is_spoken x a) (is_spoken y b) name)
 
   clean_before : (talk : Talk) (to : Store) → Keeps (trace_of talk) → Led from talk to → AreStoredApart from → (snapshots indexes packs blobs : ℕ) → IsClean (before_unlock (trace_of talk)) snapshots indexes packs blobs → IsSound from.objects
   clean_before [] to o h apart snapshots indexes packs blobs clean = clean_sound [] to o h snapshots indexes packs blobs clean apart
@@ -244,7 +244,7 @@ clean_is_of_sound who from to failed failing talk next snapshots indexes packs b
 module _ (who : Asker) (from : Store) (sound : IsSound from.objects) (apart : AreHeldApart from.objects) where
   -- a sound store has no fault to be told
   faultless : (talk : Talk) (to : Store) → Obeys (check_task who) CheckAllows CheckGives (trace_of talk) → Led from talk to → (faults : List CheckFault) → IsAtFault (trace_of talk) faults → ⊥
-  faultless talk to o h faults f = f.some (by faults (λ fault c. no_fault f.answers from.objects sound apart f.received.known (are who from talk to o h f.answers f.received) (given who from talk to o h f.answers f.received) (ranged who from talk to o h f.answers f.received) fault ((f.are.each fault).0 c)))
+  faultless talk to o h faults f = f.some (by faults (λ fault c. no_fault f.answers from.objects sound apart (are who from talk to o h f.answers f.received) (given who from talk to o h f.answers f.received) (ranged who from talk to o h f.answers f.received) fault ((f.are.each fault).0 c)))
     where
       by : (faults : List CheckFault) → ((fault : CheckFault) → Contains faults fault → ⊥) → faults ≡ []
       by [] none = refl

@@ -9,6 +9,7 @@ use Rattle.repo_index.specs.declared.facts.Fact.{Fact}
 use Rattle.repo_session.specs.Traces.{Trace}
 use Rattle.repo_session.specs.declared.outcomes.FaultKind.{FaultKind}
 use Rattle.repo_name.proofs.Containing.{contained_or, first_contained, later_contained, none_contained}
+use Rattle.repo_reach.specs.declared.roots.Root.{Root}
 use Rattle.repo_check.specs.Answers.{Answer, Gathered}
 use Rattle.repo_check.specs.Arrivals.{IsFaulty, IsPackOf, IsRootOf}
 use Rattle.repo_check.specs.Checking.{IsFound}
@@ -68,7 +69,7 @@ module _ (answers : Gathered) (k : Kind) where
           λ o. (let at = among h.answers (map fault_noted round.notes) o.0 what is o.1 o.3 in (at.0, ap (λ ns. slice_get ns at.0) (sym names) ∙ at.1 ∙ ap Some o.2, at.2)),
         )
 
-pub root_well : (answers : Gathered) (a : Answer) (root : Name) → IsRootOf a root → ObjectIs answers Kind.Snapshot a None
+pub root_well : (answers : Gathered) (a : Answer) (root : Root) → IsRootOf a root → ObjectIs answers Kind.Snapshot a None
 root_well answers a root h = (h.0, h.2.0, h.2.1, (h.1, h.3))
 
 pub pack_well : (answers : Gathered) (a : Answer) (facts : List Fact) → IsPackOf a facts → ObjectIs answers Kind.Pack a None

@@ -11,15 +11,19 @@ use Rattle.repo_wire.specs.declared.messages.Ask.{Ask}
 use Rattle.repo_wire.specs.declared.messages.Code.{Code}
 use Rattle.repo_wire.specs.declared.messages.Say.{Say}
 use Rattle.repo_store.specs.Pages.{Has}
+use Rattle.repo_session.specs.Ends.{IsOfOtherVersion}
 use Rattle.repo_session.specs.Order.{Task, IsWorking, May}
 use Rattle.repo_session.specs.Readings.{KnowsRoll}
 use Rattle.repo_session.specs.Rolls.{IsNamedObject, IsPaged, IsRolled}
 use Rattle.repo_session.specs.Traces.{Each, Exchange, Trace, Object, same_kind, page_names, is_last_page, object_got, objects_in, silent}
 use Rattle.repo_session.proofs.Rolling.{has_got, paged_on}
+use Rattle.repo_session.specs.Versions.{upto}
+use Rattle.repo_session.specs.declared.versions.Versions.{Versions}
+use Rattle.repo_reach.specs.declared.roots.Root.{Root}
 use Rattle.repo_check.specs.Answers.{Answer}
-use Rattle.repo_check.specs.Arrivals.{IsAnswer}
+use Rattle.repo_check.specs.Arrivals.{IsAnswer, IsRootOf}
 use Rattle.repo_check.specs.Checking.{CameFor, AreGot}
-use Rattle.repo_check.specs.Rounds.{IsUntouched, RoundIsListing, IsWholeRound, AsksNext, KnowsRound, TurnsOn, TakesObject, Match, IsNoteOf, AreNoted, RoundView, round_of}
+use Rattle.repo_check.specs.Rounds.{IsUntouched, RoundIsListing, IsWholeRound, AsksNext, KnowsRound, TurnsOn, TakesObject, TakesSnapshot, Match, IsNoteOf, AreNoted, RoundView, round_of}
 use Rattle.repo_check.specs.declared.rounds.Note.{Note}
 use Rattle.repo_check.specs.declared.rounds.Round.{Round}
 use Rattle.repo_check.specs.declared.rounds.Turn.{Turn}
@@ -295,3 +299,14 @@ none_brought (x ∷ old) page n none few = absurd (omega (arith, none, few))
 pub err_with : {T E A B : Type 0} (r : Result T E) → (A → B) → OnErr r A → OnErr r B
 err_with (Ok x) f a = tt
 err_with (Err e) f a = f a
+
+-- ---- snapshots, of who knows some versions
+
+pub by_versions : (versions : Versions) (old new : RoundView Root) (n : Name) (say : Say) (turn : Turn) → TakesObject Kind.Snapshot IsRootOf old n say turn new → TakesSnapshot versions old n say turn new
+by_versions versions old new n say turn h = λ task token es is w getting noted. h task token es w getting noted
+
+pub other_version : (versions : Versions) (round : RoundView Root) (n : Name) (say : Say) → IsOfOtherVersion (upto versions) (Ask.Get Kind.Snapshot n) say → TakesSnapshot versions round n say Turn.Version round
+other_version versions round n say h = λ task token es is w getting noted. (
+  subst (λ v. IsOfOtherVersion (upto v) (Ask.Get Kind.Snapshot n) say) (sym is) h,
+  noted_grow Kind.Snapshot IsRootOf round.names round.notes (silent (Ask.Get Kind.Snapshot n) say) es noted,
+)

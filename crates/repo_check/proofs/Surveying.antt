@@ -12,11 +12,13 @@ use Rattle.repo_session.specs.Rolls.{IsRolled}
 use Rattle.repo_session.specs.Traces.{Exchange, Trace, silent}
 use Rattle.repo_session.proofs.Holding.{opened_working}
 use Rattle.repo_session.specs.Versions.{upto}
+use Rattle.repo_session.specs.declared.versions.Versions.{Versions}
+use Rattle.repo_reach.specs.declared.roots.Root.{Root}
 use Rattle.repo_session.proofs.Rolling.{may_page, opened_rolled}
 use Rattle.repo_tree.specs.ConfigText.{IsConfigText}
 use Rattle.repo_tree.specs.declared.configs.Config.{Config}
 use Rattle.repo_check.specs.Arrivals.{IsIndexOf, IsPackOf, IsRootOf}
-use Rattle.repo_check.specs.Rounds.{AreNoted, IsFreshRound, RoundIsListing, IsUntouched, IsWholeRound, KnowsRound, PagesRound, RoundView, TakesObject, TurnsOn}
+use Rattle.repo_check.specs.Rounds.{AreNoted, IsFreshRound, RoundIsListing, IsUntouched, IsWholeRound, KnowsRound, PagesRound, RoundView, TakesObject, TakesSnapshot, TurnsOn}
 use Rattle.repo_check.specs.Surveys.{AtIndexes, AtPacks, AtSnapshots, AtTrees, GoesAfter, HasTaken, IsFirst, IsFreshSurvey, KnowsNotes, RoundsView, Surveys, SurveysOn, first_page}
 use Rattle.repo_check.specs.Walks.{Awaits, TreeIsNoted, WalkView}
 use Rattle.repo_check.specs.declared.knowing.TreeNote.{TreeNote}
@@ -139,12 +141,12 @@ module _ (old new : RoundsView) (walk : WalkView) (say : Say) (turn : Turn) (nex
       snapshots_go task token new walk e es w known turn next (pages task token Kind.Snapshot after es w may listing) (subst (λ r. IsFreshRound Kind.Index r) (sym indexes) at.indexes) (untouched_aside Kind.Index e es refl at.no_indexes)
       (subst (λ r. IsFreshRound Kind.Pack r) (sym packs) at.packs) (untouched_aside Kind.Pack e es refl at.no_packs) goes
 
-  pub snapshots_got : (n : Name) (takes : TakesObject Kind.Snapshot IsRootOf old.snapshots n say turn new.snapshots) → new.indexes ≡ old.indexes → new.packs ≡ old.packs → GoesAfter turn (first_page new.indexes) next
-      → (task : Task) (token : Token) (es : Trace) → IsWorking task token (silent (Ask.Get Kind.Snapshot n) say ∷ es) → Surveys old walk (Ask.Get Kind.Snapshot n) es → SurveysOn task new walk next (silent (Ask.Get Kind.Snapshot n) say) es
-  snapshots_got n takes indexes packs goes task token es w h =
+  pub snapshots_got : (versions : Versions) (n : Name) (takes : TakesSnapshot versions old.snapshots n say turn new.snapshots) → new.indexes ≡ old.indexes → new.packs ≡ old.packs → GoesAfter turn (first_page new.indexes) next
+      → (task : Task) (token : Token) (es : Trace) → task.versions ≡ versions → IsWorking task token (silent (Ask.Get Kind.Snapshot n) say ∷ es) → Surveys old walk (Ask.Get Kind.Snapshot n) es → SurveysOn task new walk next (silent (Ask.Get Kind.Snapshot n) say) es
+  snapshots_got versions n takes indexes packs goes task token es known_to w h =
       let e = silent (Ask.Get Kind.Snapshot n) say in
       let at = getting_snapshots old walk es n h in
-      let took = takes task token es w at.snapshots.1 h.0.snapshots in
+      let took = takes task token es known_to w at.snapshots.1 h.0.snapshots in
       let known : KnowsNotes new (e ∷ es) = record {
         snapshots = took.1;
         indexes = subst (λ (r : RoundView (List PackFacts)). AreNoted Kind.Index IsIndexOf r.names r.notes (e ∷ es)) (sym indexes) (noted_grow Kind.Index IsIndexOf old.indexes.names old.indexes.notes e es h.0.indexes);
@@ -161,7 +163,7 @@ module _ (old new : RoundsView) (walk : WalkView) (say : Say) (turn : Turn) (nex
       let at = listing_indexes old walk es after h in
       let listing = at.indexes.1 in
       let known : KnowsNotes new (e ∷ es) = record {
-        snapshots = subst (λ (r : RoundView Name). AreNoted Kind.Snapshot IsRootOf r.names r.notes (e ∷ es)) (sym snapshots) (noted_grow Kind.Snapshot IsRootOf old.snapshots.names old.snapshots.notes e es h.0.snapshots);
+        snapshots = subst (λ (r : RoundView Root). AreNoted Kind.Snapshot IsRootOf r.names r.notes (e ∷ es)) (sym snapshots) (noted_grow Kind.Snapshot IsRootOf old.snapshots.names old.snapshots.notes e es h.0.snapshots);
         indexes = none_noted Kind.Index IsIndexOf new.indexes.names new.indexes.notes (e ∷ es) (notes ∙ listing.none);
         packs = subst (λ (r : RoundView (List Fact)). AreNoted Kind.Pack IsPackOf r.names r.notes (e ∷ es)) (sym packs) (noted_grow Kind.Pack IsPackOf old.packs.names old.packs.notes e es h.0.packs);
       } in
@@ -175,7 +177,7 @@ module _ (old new : RoundsView) (walk : WalkView) (say : Say) (turn : Turn) (nex
       let at = getting_indexes old walk es n h in
       let took = takes task token es w at.indexes.1 h.0.indexes in
       let known : KnowsNotes new (e ∷ es) = record {
-        snapshots = subst (λ (r : RoundView Name). AreNoted Kind.Snapshot IsRootOf r.names r.notes (e ∷ es)) (sym snapshots) (noted_grow Kind.Snapshot IsRootOf old.snapshots.names old.snapshots.notes e es h.0.snapshots);
+        snapshots = subst (λ (r : RoundView Root). AreNoted Kind.Snapshot IsRootOf r.names r.notes (e ∷ es)) (sym snapshots) (noted_grow Kind.Snapshot IsRootOf old.snapshots.names old.snapshots.notes e es h.0.snapshots);
         indexes = took.1;
         packs = subst (λ (r : RoundView (List Fact)). AreNoted Kind.Pack IsPackOf r.names r.notes (e ∷ es)) (sym packs) (noted_grow Kind.Pack IsPackOf old.packs.names old.packs.notes e es h.0.packs);
       } in
@@ -280,7 +282,7 @@ object_back rounds rounds' walk walk' packs k n es taken kind names read notes h
 
 -- so does that of a tree
 pub tree_back : (rounds rounds' : RoundsView) (walk walk' new : WalkView) (pack : Name) (offset len : ℕ) (es : Trace) → HasTaken rounds walk (Ask.Range pack offset len) rounds' walk'
-    → ((roots : List Name) (fact : Fact) (note : TreeNote) → Awaits roots walk fact → TreeIsNoted walk fact.name note walk' → new ≡ walk) → Surveys rounds walk (Ask.Range pack offset len) es → Surveys rounds' new (Ask.Range pack offset len) es
+    → ((roots : List Root) (fact : Fact) (note : TreeNote) → Awaits roots walk fact → TreeIsNoted walk fact.name note walk' → new ≡ walk) → Surveys rounds walk (Ask.Range pack offset len) es → Surveys rounds' new (Ask.Range pack offset len) es
 tree_back rounds rounds' walk walk' new pack offset len es taken back h =
     let t = taken.1 es h in
     subst (λ w. Surveys rounds' w (Ask.Range pack offset len) es) (sym (back t.0 t.1 t.2 t.3 t.4)) (subst (λ r. Surveys r walk (Ask.Range pack offset len) es) (sym taken.0) h)

@@ -1,7 +1,7 @@
 -- What a survey knows once all objects came.
-use Rattle.std.proofs.Common.{◌≡◌, ◌-◌, ◌++◌, ◌∷◌, [], ℕ, List, length, slice_get, Option, Some, None, refl, sym, ap, subst, inl, inr, ◌∙◌, Contains}
+use Rattle.std.proofs.Common.{◌≡◌, ◌++◌, ◌∷◌, [], ℕ, List, Option, Some, None, refl, sym, ap, subst, inl, inr, ◌∙◌, Contains}
 use Rattle.std.specs.List.{flat_map}
-use Rattle.std.proofs.lemmas.List.Elements.{Contains-append_cases}
+use Rattle.std.proofs.lemmas.List.Elements.{Contains-append_cases, Contains-append_left}
 use Rattle.std.proofs.lemmas.Option.{same_Some}
 use Rattle.repo_name.specs.declared.kinds.BlobKind.TheVariants.{Tree}
 use Rattle.repo_name.specs.declared.kinds.Kind.{Kind}
@@ -18,7 +18,7 @@ use Rattle.repo_session.specs.Blobs.{range_of}
 use Rattle.repo_session.specs.Order.{Task, IsWorking, May}
 use Rattle.repo_session.specs.Traces.{Each, Exchange, Trace, ReadFact, silent}
 use Rattle.repo_name.proofs.Containing.{contains_got}
-use Rattle.repo_reach.proofs.Rewinding.{got_left}
+use Rattle.repo_reach.specs.declared.roots.Root.{Root}
 use Rattle.repo_name.proofs.Containing.{contained_or, none_contained}
 use Rattle.repo_check.specs.Answers.{Answer}
 use Rattle.repo_check.specs.Arrivals.{IsIndexOf, IsPackOf, IsRootOf}
@@ -32,6 +32,7 @@ use Rattle.repo_check.specs.declared.knowing.TreeNote.{TreeNote}
 use Rattle.repo_check.specs.declared.rounds.Note.{Note}
 use Rattle.repo_check.specs.declared.rounds.Turn.{Turn}
 use Rattle.repo_check.specs.declared.surveys.Next.{Next}
+use Rattle.repo_check.specs.declared.visiting.Visit.{Visit}
 use Rattle.repo_check.proofs.Reading.{noted_walks, seen_more}
 use Rattle.repo_check.proofs.Rounding.{IsAside, none_noted, noted_grow}
 use Rattle.repo_check.proofs.Surveying.{getting_packs, listing_packs, ranging, whole_aside}
@@ -67,7 +68,7 @@ may_range task token rounds known n fact es w notes joins due =
 -- ---- what comes next
 
 module _ (task : Task) (token : Token) (rounds : RoundsView) (walk : WalkView) (e : Exchange) (es : Trace) (w : IsWorking task token (e ∷ es)) (notes : KnowsNotes rounds (e ∷ es)) where
-  pub walk_goes : (roots : List Name) (objects : HasObjects rounds walk roots (e ∷ es)) (answers : List Answer) → WalkReads walk answers (e ∷ es) → (fact : Option Fact) → WalksOn roots walk fact → (next : Next) → next ≡ next_of fact
+  pub walk_goes : (roots : List Root) (objects : HasObjects rounds walk roots (e ∷ es)) (answers : List Answer) → WalkReads walk answers (e ∷ es) → (fact : Option Fact) → WalksOn roots walk fact → (next : Next) → next ≡ next_of fact
       → SurveysOn task rounds walk next e es
   walk_goes roots objects answers reads (Some fact) on next is =
       subst (λ n. SurveysOn task rounds walk n e es) (sym is) (
@@ -78,11 +79,11 @@ module _ (task : Task) (token : Token) (rounds : RoundsView) (walk : WalkView) (
       subst (λ n. SurveysOn task rounds walk n e es) (sym is) (record { notes = notes; roots = roots; objects = objects; over = on; answers = answers; reads = reads })
 
   -- nothing came of trees yet
-  none_seen : (known : Knowledge) → ((n : Name) → known.links n ≡ None) → ((n : Name) → known.faults n ≡ None) → AreKnownTrees known [] (e ∷ es)
-  none_seen known links faults = record {
+  none_seen : (known : Knowledge) → ((n : Name) → known.kept n ≡ None) → ((n : Name) → known.faults n ≡ None) → AreKnownTrees known [] (e ∷ es)
+  none_seen known kept faults = record {
     each = λ a c. absurd (none_contained a c);
     once = λ a b c d same. absurd (none_contained a c);
-    links = λ n x is. absurd (let none = links n in cc (none, is));
+    kept = λ n x is. absurd (let none = kept n in cc (none, is));
     faults = λ n x is. absurd (let none = faults n in cc (none, is));
   }
 
@@ -123,7 +124,7 @@ ranged_now fact (Say.LockList rows) a es h = absurd h
 -- the tree that was asked for was noted, and the walk went on
 pub tree_noted : (task : Task) (token : Token) (rounds : RoundsView) (old new : WalkView) (note : TreeNote) (fact : Fact) (say : Say) (next : Option Fact) (then : Next) (es : Trace) → IsWorking task token (silent (range_of fact) say ∷ es)
     → KnowsNotes rounds (silent (range_of fact) say ∷ es) → (at : AtTrees rounds old (range_of fact) es) → at.fact ≡ fact → HasObjects rounds old at.roots (silent (range_of fact) say ∷ es)
-    → ((a : Answer) × IsTreeAnswer fact.name say a × IsTold old.known.facts fact.place a note.links note.fault) → IsSomething note → TakesNote old fact.name note next new → then ≡ next_of next
+    → ((a : Answer) × IsTreeAnswer fact.name say a × IsTold old.known.facts fact.place a note.kept note.fault) → IsSomething note → TakesNote old fact.name note next new → then ≡ next_of next
     → SurveysOn task rounds new then (silent (range_of fact) say) es
 tree_noted task token rounds old new note fact say next then es w notes at is objects told some takes goes =
     let e = silent (range_of fact) say in
@@ -133,8 +134,7 @@ tree_noted task token rounds old new note fact say next then es w notes at is ob
     let now = ranged_now fact say a es told.1 in
     let walks = noted_walks old.known new.known fact note awaits.due adds at.roots old refl awaits.walks in
     let seen = seen_more old.known new.known fact note awaits.due adds es say a now.0 now.1 told.2 at.answers at.reads.seen in
-    let in_new : (d : ℕ) (level : List Name) → slice_get old.levels d ≡ Some level → slice_get new.levels d ≡ Some level =
-    λ d level there. ap (λ ls. slice_get ls d) takes.noted.levels ∙ got_left old.levels takes.noted.more d level there in
+    let in_new : (v : Visit) → Contains old.visits v → Contains new.visits v = λ v c. subst (λ vs. Contains vs v) (sym takes.noted.visits) (Contains-append_left old.visits takes.noted.more v c) in
     let moved : HasObjects rounds new at.roots (e ∷ es) = record {
       snapshots = objects.snapshots;
       indexes = objects.indexes;
@@ -142,18 +142,12 @@ tree_noted task token rounds old new note fact say next then es w notes at is ob
       facts = subst (λ fs. Joins [] (flat_map facts_noted rounds.indexes.notes) fs) (sym adds.facts) objects.facts;
       roots_are = objects.roots_are;
     } in
-    let last = awaits.last in
     walk_goes task token rounds new e es w notes at.roots moved (at.answers ++ a ∷ [])
     (record {
       seen = seen;
       reached = λ b c. elim (Contains-append_cases at.answers (a ∷ []) b c) [
-        | inl there ↦ (let r = at.reads.reached b there in (r.0, r.1, in_new r.0 r.1 r.2, r.3))
-        | inr this ↦ (
-          length old.levels - 1,
-          awaits.level,
-          in_new (length old.levels - 1) awaits.level last,
-          subst (λ m. Contains awaits.level m) (sym now.0 ∙ ap (λ (x : Answer). x.name) (only a b this)) (contains_got awaits.level old.place fact.name awaits.here),
-        )
+        | inl there ↦ (let r = at.reads.reached b there in (r.0, in_new r.0 r.1, r.2))
+        | inr this ↦ (awaits.visit, in_new awaits.visit (contains_got old.visits old.place awaits.visit awaits.here), awaits.of_tree ∙ sym now.0 ∙ ap (λ (x : Answer). x.name) (only a b this))
       ];
     }) next (takes.goes at.roots walks) then goes
   where
@@ -170,8 +164,8 @@ notes_grow rounds e es h = record {
 }
 
 -- a tree that was asked for came
-pub tree_taken : (rounds : RoundsView) (old new : WalkView) (note : TreeNote) (fact : Fact) (say : Say) (next : Option Fact) (then : Next) → ((roots : List Name) (f : Fact) → Awaits roots old f → Some fact ≡ Some f)
-    → ((a : Answer) × IsTreeAnswer fact.name say a × IsTold old.known.facts fact.place a note.links note.fault) → IsSomething note → TakesNote old fact.name note next new → then ≡ next_of next
+pub tree_taken : (rounds : RoundsView) (old new : WalkView) (note : TreeNote) (fact : Fact) (say : Say) (next : Option Fact) (then : Next) → ((roots : List Root) (f : Fact) → Awaits roots old f → Some fact ≡ Some f)
+    → ((a : Answer) × IsTreeAnswer fact.name say a × IsTold old.known.facts fact.place a note.kept note.fault) → IsSomething note → TakesNote old fact.name note next new → then ≡ next_of next
     → (pack : Name) (offset len : ℕ) (task : Task) (token : Token) (es : Trace) → IsWorking task token (silent (Ask.Range pack offset len) say ∷ es) → Surveys rounds old (Ask.Range pack offset len) es
     → SurveysOn task rounds new then (silent (Ask.Range pack offset len) say) es
 tree_taken rounds old new note fact say next then only told some takes goes pack offset len task token es w h =
@@ -205,7 +199,7 @@ module _ (old new : RoundsView) (walk walk' : WalkView) (say : Say) (turn : Turn
 
   others : (e : Exchange) (es : Trace) → KnowsNotes old es → AreNoted Kind.Pack IsPackOf new.packs.names new.packs.notes (e ∷ es) → KnowsNotes new (e ∷ es)
   others e es h packs = record {
-    snapshots = subst (λ (r : RoundView Name). AreNoted Kind.Snapshot IsRootOf r.names r.notes (e ∷ es)) (sym snapshots) (notes_grow old e es h).snapshots;
+    snapshots = subst (λ (r : RoundView Root). AreNoted Kind.Snapshot IsRootOf r.names r.notes (e ∷ es)) (sym snapshots) (notes_grow old e es h).snapshots;
     indexes = subst (λ (r : RoundView (List PackFacts)). AreNoted Kind.Index IsIndexOf r.names r.notes (e ∷ es)) (sym indexes) (notes_grow old e es h).indexes;
     packs = packs;
   }

@@ -36,7 +36,7 @@ absent n say (inl h) = subst (λ s. IsTreeAnswer n s (record { name = n; bytes =
 absent n say (inr h) = subst (λ s. IsTreeAnswer n s (record { name = n; bytes = None })) (sym h) (refl, refl)
 
 pub tree_none : (facts : List Fact) (fact : Fact) (say : Say) (look : TreeLook) → IsUnwelcome (range_of fact) say → LooksAtNone say look → LooksAtTree facts fact say look
-tree_none facts fact say (TreeLook.Read links right) unwelcome h = absurd h
+tree_none facts fact say (TreeLook.Read kept right) unwelcome h = absurd h
 tree_none facts fact say (TreeLook.Fault what) unwelcome h =
     let a : Answer = record { name = fact.name; bytes = None } in
     subst (λ w. TreeFaultOf fact say w) (sym h.0) (a, absent fact.name say h.1, refl)

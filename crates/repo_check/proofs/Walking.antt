@@ -1,16 +1,23 @@
--- A walk over trees, level by level.
-use Rattle.std.proofs.Common.{arith, ◌≡◌, ◌≤◌, ◌<◌, ◌+◌, ◌-◌, ◌++◌, ◌∷◌, [], ℕ, zero, suc, List, length, slice_get, Option, Some, None, refl, sym, ap, subst, inl, inr, ◌⊎◌, ◌∙◌, length-append}
-use Rattle.std.proofs.lemmas.Option.{same_Some, slice_get_within}
-use Rattle.std.specs.Prelude.{IfSome}
+-- A walk over trees, visit by visit.
+use Rattle.std.proofs.Common.{arith, ◌≡◌, ◌≤◌, ◌<◌, ◌+◌, ◌++◌, ◌∷◌, [], ℕ, zero, suc, Bool, true, false, List, length, drop, get_or, slice_get, Option, Some, None, refl, sym, ap, subst, inl, inr, ⊎_elim, ◌⊎◌, ◌∙◌, append_assoc, append-nil, Contains}
+use Rattle.std.proofs.lemmas.Option.{same_Some, none-some, slice_get_within, slice_get-get_or}
+use Rattle.std.proofs.lemmas.List.Elements.{Contains-append_left, Contains-append_cases}
+use Rattle.std.specs.Prelude.{IfSome, Result, Ok, Err, OnOk, OnErr}
 use Rattle.repo_name.specs.NameMaps.{Dropped}
 use Rattle.repo_name.specs.declared.kinds.BlobKind.TheVariants.{Tree}
 use Rattle.repo_name.specs.declared.names.Name.{Name}
+use Rattle.repo_name.proofs.Containing.{contained_or, contains_got, none_contained, stands_at}
 use Rattle.repo_index.specs.IndexText.{fact_of}
 use Rattle.repo_index.specs.declared.facts.Fact.{Fact}
-use Rattle.repo_reach.proofs.Rewinding.{got_or}
+use Rattle.repo_reach.specs.declared.roots.Root.{Root}
+use Rattle.repo_tree.specs.Spelling.{greatest_depth}
 use Rattle.repo_check.proofs.Finding.{place_one}
-use Rattle.repo_check.specs.Levels.{LinksOfTrees, AreBelow}
-use Rattle.repo_check.specs.Walks.{IsSettled, IsTreeDue, AreSettled, AddsUnder, AreLevels, LevelsAreDone, Walks, Awaits, IsOver, WalksOn, AsksIn, DescendsTo, last_level, Knowledge, WalkView}
+use Rattle.repo_check.proofs.Measuring.{left_at, left_none}
+use Rattle.repo_check.specs.Keeping.{KeptTrees, next_of}
+use Rattle.repo_check.specs.Visiting.{AddsAmong, AddsVisit, BeginsAt, GoesThrough, HasLedOn, IsBehind, IsBelow, IsLedTo, IsOneOf, IsPartIn, LeadsOn, visit_at, visit_of}
+use Rattle.repo_check.specs.Walks.{IsMade, IsSettled, IsTreeDue, IsVisit, AddsUnder, Walks, Awaits, IsOver, Knowledge}
+use Rattle.repo_check.specs.declared.keeping.Kept.{Kept}
+use Rattle.repo_check.specs.declared.visiting.Visit.{Visit}
 
 -- ---- maps
 
@@ -29,12 +36,12 @@ dropped_back {X} {old} {mid} {new} {n} o none adds dropped = λ i m. at m i
 
 -- ---- what is due
 
-no_links : {X : Type 0} (o : Option X) (x : X) → o ≡ None → o ≡ Some x → ⊥
-no_links o x none some = absurd (cc (none, some))
+no_kept : {X : Type 0} (o : Option X) (x : X) → o ≡ None → o ≡ Some x → ⊥
+no_kept o x none some = absurd (cc (none, some))
 
 pub due_not_settled : (known : Knowledge) (n : Name) (fact : Fact) → IsTreeDue known n fact → IsSettled known n → ⊥
-due_not_settled known n fact due (inl read) = no_links (known.links n) read.0 due.unread read.1
-due_not_settled known n fact due (inr (inl faulty)) = no_links (known.faults n) faulty.0 due.faultless faulty.1
+due_not_settled known n fact due (inl read) = no_kept (known.kept n) read.0 due.unread read.1
+due_not_settled known n fact due (inr (inl faulty)) = no_kept (known.faults n) faulty.0 due.faultless faulty.1
 due_not_settled known n fact due (inr (inr nowhere)) = nowhere fact.place due.least.among
 
 pub due_is : (known : Knowledge) (n : Name) (fact : Fact) (o : Option Fact) → IsTreeDue known n fact → IfSome o (IsTreeDue known n) → (o ≡ None → IsSettled known n) → o ≡ Some fact
@@ -43,143 +50,170 @@ due_is known n fact (Some f) due some none =
     let place : f.place ≡ fact.place = place_one f.place fact.place (some.least.least fact.place due.least.among) (due.least.least f.place some.least.among) in
     ap Some (some.is ∙ ap (λ p. fact_of Tree n p) place ∙ sym due.is)
 
--- ---- levels
+-- ---- places
 
 below_or : (i a : ℕ) → (i < a) ⊎ (a ≤ i)
 below_or i zero = inr (omega arith)
 below_or zero (suc a) = inl (omega arith)
 below_or (suc i) (suc a) = elim (below_or i a) [ inl less ↦ inl (omega (arith, less)) | inr more ↦ inr (omega (arith, more)) ]
 
-pub settled_more : (known : Knowledge) (level : List Name) (from i j : ℕ) (n : Name) → AreSettled known level from i → slice_get level i ≡ Some n → IsSettled known n → j ≡ i + 1 → AreSettled known level from j
-settled_more known level from i j n before at here next = λ k m start stop there. elim (below_or k i) [
-  | inl less ↦ before k m start less there
-  | inr more ↦
-      let same : k ≡ i = omega (arith, more, stop, next) in
-      subst (λ o. IsSettled known o) (same_Some n m (sym at ∙ ap (λ p. slice_get level p) (sym same) ∙ there)) here
+pub got_front : {X : Type 0} (xs ys : List X) (i : ℕ) (x : X) → i < length xs → slice_get (xs ++ ys) i ≡ Some x → slice_get xs i ≡ Some x
+got_front [] ys i x less h = absurd (omega (arith, less))
+got_front (y ∷ xs) ys zero x less h = h
+got_front (y ∷ xs) ys (suc i) x less h = got_front xs ys i x (omega (arith, less)) h
+
+before_end : {X : Type 0} (xs : List X) (p i : ℕ) (x : X) → slice_get xs p ≡ None → slice_get xs i ≡ Some x → i < p
+before_end xs p i x none there = elim (below_or i p) [
+  | inl less ↦ less
+  | inr past ↦ (let within = slice_get_within xs i x there in absurd (none-some _ (sym none ∙ slice_get-get_or xs p x (omega (arith, past, within)))))
 ]
 
-pub settled_join : (known : Knowledge) (level : List Name) (i j : ℕ) → AreSettled known level 0 i → AreSettled known level i j → AreSettled known level 0 j
-settled_join known level i j first more = λ k n start stop there. elim (below_or k i) [ inl less ↦ first k n start less there | inr past ↦ more k n past stop there ]
+-- ---- to what visits lead
 
--- the last of some
-pub last_there : {X : Type 0} (xs : List X) → 1 ≤ length xs → (x : X) × (slice_get xs (length xs - 1) ≡ Some x)
-last_there [] h = absurd (omega (arith, h))
-last_there (x ∷ []) h = (x, refl)
-last_there (x ∷ y ∷ xs) h =
-    let rest = last_there (y ∷ xs) (omega arith) in
-    let step : length (x ∷ y ∷ xs) - 1 ≡ suc (length (y ∷ xs) - 1) = omega arith in
-    (rest.0, ap (λ i. slice_get (x ∷ y ∷ xs) i) step ∙ rest.1)
+part_self : (trees : KeptTrees) (follows : Bool) (t : Name) → IsPartIn trees follows t t
+part_self trees true t = ([], refl)
+part_self trees false t = refl
 
--- one level more
-pub levels_more : (trees : LinksOfTrees) (roots : List Name) (levels : List (List Name)) (level more : List Name) → 1 ≤ length levels → last_level levels ≡ Some level → AreBelow trees level more → AreLevels trees roots levels
-    → AreLevels trees roots (levels ++ more ∷ [])
-levels_more trees roots levels level more some last below h = record {
-  first = λ l at. elim (got_or levels more 0 l at) [ inl there ↦ h.first l there | inr new ↦ absurd (let none = new.0 in omega (arith, none, some)) ];
-  next = λ d l m at after. elim (got_or levels more (suc d) m after) [
-    | inl there ↦
-        let inside = slice_get_within levels (suc d) m there in
-        elim (got_or levels more d l at) [ inl here ↦ h.next d l m here there | inr new ↦ absurd (let end = new.0 in omega (arith, end, inside)) ]
-    | inr new ↦
-        let end = new.0 in
-        elim (got_or levels more d l at) [
-          | inl here ↦
-              let place : d ≡ length levels - 1 = omega (arith, end) in
-              let same : level ≡ l = same_Some level l (sym last ∙ ap (λ i. slice_get levels i) (sym place) ∙ here) in
-              subst (λ m. AreBelow trees l m) new.1 (subst (λ k. AreBelow trees k more) same below)
-          | inr other ↦ absurd (let o = other.0 in omega (arith, o, end))
+goes_push : (trees : KeptTrees) (t p n : Name) (through : List Name) → GoesThrough trees t through p → next_of (trees p) true ≡ Some n → GoesThrough trees t (through ++ n ∷ []) n
+goes_push trees t p n [] goes next = (subst (λ m. next_of (trees m) true ≡ Some n) goes next, refl)
+goes_push trees t p n (m ∷ through) goes next = (goes.0, goes_push trees m p n through goes.1 next)
+
+next_alone : (o : Option Kept) (n : Name) → next_of o false ≡ Some n → ⊥
+next_alone None n h = none-some n h
+next_alone (Some kept) n h = none-some n h
+
+part_push : (trees : KeptTrees) (follows : Bool) (top t n : Name) → IsPartIn trees follows top t → next_of (trees t) follows ≡ Some n → IsPartIn trees follows top n
+part_push trees true top t n belongs next = (belongs.0 ++ n ∷ [], goes_push trees top t n belongs.0 belongs.1 next)
+part_push trees false top t n belongs next = absurd (next_alone (trees t) n next)
+
+led_push : (trees : KeptTrees) (roots : List Root) (follows : Bool) (depth : ℕ) (t n : Name) → IsLedTo trees roots follows depth t → next_of (trees t) follows ≡ Some n → IsLedTo trees roots follows depth n
+led_push trees roots follows zero t n led next = (led.0, led.1, part_push trees follows led.0 t n led.2 next)
+led_push trees roots follows (suc depth) t n led next = (led.0, led.1, led.2, led.3, part_push trees follows led.1 t n led.4 next)
+
+-- where roots lead to a visit, they do to those to which it leads
+led_on : (trees : KeptTrees) (roots : List Root) (v w : Visit) → IsVisit trees roots v → LeadsOn trees v w → IsVisit trees roots w
+led_on trees roots v w h (inl (less, (n, among, is))) = subst (λ u. IsVisit trees roots u) (sym is) ((v.tree, n, h.0, among, part_self trees v.follows n), omega (arith, less))
+led_on trees roots v w h (inr (n, next, is)) = subst (λ u. IsVisit trees roots u) (sym is) (led_push trees roots v.follows v.depth v.tree n h.0 next, h.1)
+
+-- ---- steps
+
+module _ (roots : List Root) where
+  pub begins_walk : (known : Knowledge) (visits : List Visit) → BeginsAt roots visits → Walks roots (record { known = known; visits = visits; place = 0 })
+  begins_walk known visits h = record {
+    begun = h.all;
+    led = λ v c. (let r = h.only v c in subst (λ u. IsVisit known.kept roots u) (sym r.2) ((r.0.tree, r.1, part_self known.kept r.0.follows r.0.tree), omega arith));
+    made = λ i v less there. absurd (omega (arith, less));
+  }
+
+  -- one visit more was made
+  pub made_more : (known : Knowledge) (visits new : List Visit) (place : ℕ) (v : Visit) → slice_get visits place ≡ Some v → IsSettled known v.tree → AddsAmong (LeadsOn known.kept v) visits new → HasLedOn known.kept new v
+      → Walks roots (record { known = known; visits = visits; place = place }) → Walks roots (record { known = known; visits = new; place = place + 1 })
+  made_more known visits new place v there settled adds led h =
+      let more = adds.0 in
+      let within = slice_get_within visits place v there in
+      let stays : (w : Visit) → Contains visits w → Contains new w = λ w c. subst (λ vs. Contains vs w) (sym adds.1) (Contains-append_left visits more w c) in
+      let mine : IsVisit known.kept roots v = h.led v (contains_got visits place v there) in
+      record {
+        begun = λ root c. stays (visit_of root) (h.begun root c);
+        led = λ w c. elim (Contains-append_cases visits more w (subst (λ vs. Contains vs w) adds.1 c)) [ inl old ↦ h.led w old | inr came ↦ led_on known.kept roots v w mine (adds.2 w came) ];
+        made = λ i w less at.
+            let at' : slice_get visits i ≡ Some w = got_front visits more i w (omega (arith, less, within)) (ap (λ vs. slice_get vs i) (sym adds.1) ∙ at) in
+            elim (below_or i place) [
+              | inl before ↦ (let m = h.made i w before at' in (m.0, λ u l. stays u (m.1 u l)))
+              | inr past ↦
+                  let same : i ≡ place = omega (arith, past, less) in
+                  let is : v ≡ w = same_Some v w (sym there ∙ ap (λ j. slice_get visits j) (sym same) ∙ at') in
+                  subst (λ u. IsMade known new u) is (settled, led)
+            ];
+      }
+
+  -- the tree at the place is to be asked for
+  pub awaits_at : (known : Knowledge) (visits : List Visit) (place : ℕ) (v : Visit) (fact : Fact) → slice_get visits place ≡ Some v → v.tree ≡ fact.name → IsTreeDue known fact.name fact
+      → Walks roots (record { known = known; visits = visits; place = place }) → Awaits roots (record { known = known; visits = visits; place = place }) fact
+  awaits_at known visits place v fact there is due h = record { walks = h; visit = v; here = there; of_tree = is; due = due }
+
+  -- no visit is left
+  pub over_at : (known : Knowledge) (visits : List Visit) (place at : ℕ) → ((i : ℕ) (v : Visit) → slice_get visits i ≡ Some v → i < place) → Walks roots (record { known = known; visits = visits; place = place })
+      → IsOver roots (record { known = known; visits = visits; place = at })
+  over_at known visits place at past h = record {
+    begun = h.begun;
+    led = h.led;
+    made = λ v c. (let s = stands_at visits v c in h.made s.0 v (past s.0 v s.1) s.1);
+  }
+
+  pub none_left : (visits : List Visit) (place : ℕ) → slice_get visits place ≡ None → (i : ℕ) (v : Visit) → slice_get visits i ≡ Some v → i < place
+  none_left visits place none i v there = before_end visits place i v none there
+
+-- ---- visits that come
+
+pub added_none : (Among : Visit → Type 0) (visits : List Visit) → AddsAmong Among visits visits
+added_none Among visits = ([], sym (append-nil visits), λ v c. absurd (none_contained v c))
+
+pub added_both : (First Second Among : Visit → Type 0) (old mid new : List Visit) → ((v : Visit) → First v → Among v) → ((v : Visit) → Second v → Among v) → AddsAmong First old mid → AddsAmong Second mid new → AddsAmong Among old new
+added_both First Second Among old mid new f g a b = (
+  a.0 ++ b.0,
+  b.1 ∙ ap (λ vs. vs ++ b.0) a.1 ∙ append_assoc old a.0 b.0,
+  λ v c. elim (Contains-append_cases a.0 b.0 v c) [ inl here ↦ f v (a.2 v here) | inr there ↦ g v (b.2 v there) ],
+)
+
+pub added_as : (First Among : Visit → Type 0) (old new : List Visit) → ((v : Visit) → First v → Among v) → AddsAmong First old new → AddsAmong Among old new
+added_as First Among old new f a = (a.0, a.1, λ v c. f v (a.2 v c))
+
+pub added_stays : (Among : Visit → Type 0) (old new : List Visit) → AddsAmong Among old new → (v : Visit) → Contains old v → Contains new v
+added_stays Among old new a v c = subst (λ vs. Contains vs v) (sym a.1) (Contains-append_left old a.0 v c)
+
+-- what a call left
+pub added_one : {T E : Type 0} (r : Result T E) (Among : Visit → Type 0) (old new : List Visit) (v : Visit) → Among v → OnOk r (AddsVisit old v new) → OnErr r (new ≡ old) → AddsAmong Among old new
+added_one (Ok x) Among old new v among ok err = added_as (λ w. v ≡ w) Among old new (λ w same. subst Among same among) ok.0
+added_one (Err e) Among old new v among ok err = subst (λ vs. AddsAmong Among old vs) (sym err) (added_none Among old)
+
+pub has_one : {T E : Type 0} (r : Result T E) (old new : List Visit) (v : Visit) (Such : Visit → Type 0) → ((w : Visit) → Such w → v ≡ w) → OnOk r (AddsVisit old v new) → OnOk r ((w : Visit) → Such w → Contains new w)
+has_one (Ok x) old new v Such one h = λ w such. subst (λ u. Contains new u) (one w such) h.1
+has_one (Err e) old new v Such one h = tt
+
+-- ---- some trees, one after another
+
+-- those that are gone through are visited
+pub record AreAdded (follows : Bool) (depth : ℕ) (trees : List Name) (first visits : List Visit) (left : List Name) : Type 0 where
+  pub among : AddsAmong (IsOneOf follows depth trees) first visits
+  pub all : (n : Name) → Contains trees n → Contains visits (visit_at follows depth n) ⊎ Contains left n
+
+pub added_next : (follows : Bool) (depth : ℕ) (trees : List Name) (i : ℕ) (d : Name) → i < length trees → (first old new : List Visit) → AddsVisit old (visit_at follows depth (get_or trees i d)) new → AreAdded follows depth trees first old (drop i trees)
+    → AreAdded follows depth trees first new (drop (i + 1) trees)
+added_next follows depth trees i d less first old new adds before =
+    let tree = get_or trees i d in
+    let rest = drop (i + 1) trees in
+    let v = visit_at follows depth tree in
+    let split = left_at trees i d less in
+    let here : Contains trees tree = contains_got trees i tree (slice_get-get_or trees i d less) in
+    record {
+      among = added_both (IsOneOf follows depth trees) (λ w. v ≡ w) (IsOneOf follows depth trees) first old new (λ w h. h) (λ w same. (tree, here, sym same)) before.among adds.0;
+      all = λ n c. elim (before.all n c) [
+        | inl there ↦ inl (added_stays (λ w. v ≡ w) old new adds.0 (visit_at follows depth n) there)
+        | inr left ↦ elim (contained_or tree rest n (subst (λ ns. Contains ns n) split left)) [
+          | inl same ↦ inl (subst (λ m. Contains new (visit_at follows depth m)) same adds.1)
+          | inr more ↦ inr more
         ]
-  ];
-}
+      ];
+    }
 
-module _ (roots : List Name) where
-  pub walks_on : (old new : WalkView) (level : List Name) (fact : Option Fact) → last_level old.levels ≡ Some level → new.known ≡ old.known → new.levels ≡ old.levels → AsksIn old level fact new → Walks roots old → Walks roots new
-  walks_on old new level fact last known levels asks h =
-      let K : Knowledge → Type 0 = λ k. AreLevels (k.links) roots old.levels in
-      let moved : LevelsAreDone old.known old.levels new.place = done in
-      record {
-        some = subst (λ v. 1 ≤ length v) (sym levels) h.some;
-        few = subst (λ v. length v ≤ 101) (sym levels) h.few;
-        levels = subst (λ v. AreLevels (new.known.links) roots v) (sym levels) (subst K (sym known) h.levels);
-        done = subst (λ v. LevelsAreDone new.known v new.place) (sym levels) (subst (λ k. LevelsAreDone k old.levels new.place) (sym known) moved);
-      }
-    where
-      past : (o : Option Fact) → AsksIn old level o new → AreSettled old.known level old.place new.place
-      past (Some f) a = a.2
-      past None a = subst (λ p. AreSettled old.known level old.place p) (sym a.0) a.1
+pub added_all : (follows : Bool) (depth : ℕ) (trees : List Name) (i : ℕ) → length trees ≤ i → (first visits : List Visit) → AreAdded follows depth trees first visits (drop i trees) → (n : Name) → Contains trees n → Contains visits (visit_at follows depth n)
+added_all follows depth trees i few first visits h n c = elim (h.all n c) [ inl there ↦ there | inr left ↦ absurd (none_contained n (subst (λ ns. Contains ns n) (left_none trees i few) left)) ]
 
-      done : LevelsAreDone old.known old.levels new.place
-      done d l at = (
-        (h.done d l at).0,
-        λ end.
-            let place : d ≡ length old.levels - 1 = omega (arith, end) in
-            let same : level ≡ l = same_Some level l (sym last ∙ ap (λ i. slice_get old.levels i) (sym place) ∙ at) in
-            settled_join old.known l old.place new.place ((h.done d l at).1 end) (subst (λ k. AreSettled old.known k old.place new.place) same (past fact asks)),
-      )
+-- those of some trees, by other words
+pub ones_all : {T E : Type 0} (r : Result T E) (follows : Bool) (depth : ℕ) (trees : List Name) (new : List Visit) (Such : Visit → Type 0) → ((w : Visit) → Such w → IsOneOf follows depth trees w) → OnOk r ((n : Name) → Contains trees n → Contains new (visit_at follows depth n))
+    → OnOk r ((w : Visit) → Such w → Contains new w)
+ones_all (Ok x) follows depth trees new Such other h = λ w such. (let one = other w such in subst (λ u. Contains new u) (sym one.2) (h one.0 one.1))
+ones_all (Err e) follows depth trees new Such other h = tt
 
-  pub awaits_on : (old new : WalkView) (level : List Name) (fact : Fact) → last_level old.levels ≡ Some level → new.known ≡ old.known → new.levels ≡ old.levels → AsksIn old level (Some fact) new → Walks roots old → Awaits roots new fact
-  awaits_on old new level fact last known levels asks h = record {
-    walks = walks_on old new level (Some fact) last known levels asks h;
-    level = level;
-    last = subst (λ v. last_level v ≡ Some level) (sym levels) last;
-    here = asks.1;
-    due = subst (λ k. IsTreeDue k fact.name fact) (sym known) asks.0;
-  }
+-- all below and behind
+pub led_all : {T E : Type 0} (r : Result T E) (trees : KeptTrees) (v : Visit) (mid new : List Visit) → ((w : Visit) → IsBelow trees v w → Contains mid w) → AddsAmong (IsBehind trees v) mid new → OnOk r ((w : Visit) → IsBehind trees v w → Contains new w) → OnOk r (HasLedOn trees new v)
+led_all (Ok x) trees v mid new below adds behind = λ w leads. ⊎_elim (λ b. added_stays (IsBehind trees v) mid new adds w (below w b)) (λ b. behind w b) leads
+led_all (Err e) trees v mid new below adds behind = tt
 
-  -- the walk goes on to the level below
-  pub descends : (old new : WalkView) (level : List Name) → last_level old.levels ≡ Some level → old.place ≡ length level → length old.levels ≤ 100 → new.known ≡ old.known → DescendsTo old new → Walks roots old → Walks roots new
-  descends old new level last end few known to h =
-      let long : length (old.levels ++ to.more ∷ []) ≡ length old.levels + 1 = length-append old.levels (to.more ∷ []) in
-      let size : length new.levels ≡ length old.levels + 1 = ap length to.levels ∙ long in
-      let are = levels_more (old.known.links) roots old.levels level to.more h.some last (to.are level last) h.levels in
-      let some = h.some in
-      record {
-        some = omega (arith, size, some);
-        few = omega (arith, size, few);
-        levels = subst (λ (k : Knowledge). AreLevels (k.links) roots new.levels) (sym known) (subst (λ ls. AreLevels (old.known.links) roots ls) (sym to.levels) are);
-        done = subst (λ (k : Knowledge). LevelsAreDone k new.levels new.place) (sym known) (subst (λ p. LevelsAreDone old.known new.levels p) (sym to.begin) done);
-      }
-    where
-      all_past : (d : ℕ) (l : List Name) → slice_get old.levels d ≡ Some l → AreSettled old.known l 0 (length l)
-      all_past d l at = elim (below_or (suc d) (length old.levels)) [
-        | inl less ↦ (h.done d l at).0 less
-        | inr more ↦
-            let inside = slice_get_within old.levels d l at in
-            let place : suc d ≡ length old.levels = omega (arith, more, inside) in
-            let index : d ≡ length old.levels - 1 = omega (arith, place) in
-            let same : level ≡ l = same_Some level l (sym last ∙ ap (λ i. slice_get old.levels i) (sym index) ∙ at) in
-            subst (λ p. AreSettled old.known l 0 p) (end ∙ ap length same) ((h.done d l at).1 place)
-      ]
+depth_is : greatest_depth ≡ 100
+unfolding greatest_depth
+depth_is = refl
 
-      none : (l : List Name) → AreSettled old.known l 0 0
-      none l = λ k n start stop there. absurd (omega (arith, stop))
-
-      size_of : length new.levels ≡ length old.levels + 1
-      size_of = ap length to.levels ∙ length-append old.levels (to.more ∷ [])
-
-      done : LevelsAreDone old.known new.levels 0
-      done d l at = (
-        λ less. elim (got_or old.levels to.more d l (subst (λ ls. slice_get ls d ≡ Some l) to.levels at)) [ inl there ↦ all_past d l there | inr new_one ↦ absurd (let e = new_one.0 in let s = size_of in omega (arith, less, e, s)) ],
-        λ last_one. none l,
-      )
-
-  -- at the end of the last level that may be the walk is over
-  pub over : (walk : WalkView) (level : List Name) → last_level walk.levels ≡ Some level → walk.place ≡ length level → length walk.levels ≡ 101 → Walks roots walk → IsOver roots walk
-  over walk level last end all h = record {
-    all = all;
-    levels = h.levels;
-    done = λ d l at. elim (below_or (suc d) (length walk.levels)) [
-      | inl less ↦ (h.done d l at).0 less
-      | inr more ↦
-          let inside = slice_get_within walk.levels d l at in
-          let place : suc d ≡ length walk.levels = omega (arith, more, inside) in
-          let index : d ≡ length walk.levels - 1 = omega (arith, place) in
-          let same : level ≡ l = same_Some level l (sym last ∙ ap (λ i. slice_get walk.levels i) (sym index) ∙ at) in
-          subst (λ p. AreSettled walk.known l 0 p) (end ∙ ap length same) ((h.done d l at).1 place)
-    ];
-  }
-
-  -- the last level that may be is gone through
-  pub go_end : (old new : WalkView) (level : List Name) (next : Option Fact) → last_level old.levels ≡ Some level → new.known ≡ old.known → new.levels ≡ old.levels → AsksIn old level next new → length old.levels ≡ 101 → Walks roots old → WalksOn roots new next
-  go_end old new level (Some fact) last known levels asks all h = awaits_on old new level fact last known levels asks h
-  go_end old new level None last known levels asks all h =
-      over new level (ap last_level levels ∙ last) asks.0 (ap length levels ∙ all) (walks_on old new level None last known levels asks h)
+pub above_end : (depth : ℕ) → depth < 100 → depth < greatest_depth
+above_end depth h = omega (arith, h, depth_is)

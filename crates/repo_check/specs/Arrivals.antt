@@ -1,5 +1,5 @@
 -- What a reply brings of a thing that was asked for.
-use Rattle.std.specs.Prelude.{◌≤◌, ◌≡◌, ◌≢◌, ◌⊎◌, ◌<◌, [], ℕ, List, length, Some, None}
+use Rattle.std.specs.Prelude.{◌≡◌, ◌≢◌, ◌⊎◌, ◌<◌, [], ℕ, List, length, Some, None}
 use Rattle.repo_name.specs.Limits.{contents_limit}
 use Rattle.repo_name.specs.Naming as naming
 use Rattle.repo_name.specs.declared.kinds.Kind.{Kind}
@@ -12,10 +12,13 @@ use Rattle.repo_index.specs.Exactness.{AreFactsAt}
 use Rattle.repo_index.specs.IndexText.{IsIndexText}
 use Rattle.repo_index.specs.declared.facts.Fact.{Fact}
 use Rattle.repo_index.specs.declared.facts.PackFacts.{PackFacts}
+use Rattle.repo_reach.specs.Collected.{root_of}
+use Rattle.repo_reach.specs.declared.roots.Root.{Root}
 use Rattle.repo_tree.specs.SnapshotText.{IsSnapshotText}
 use Rattle.repo_tree.specs.declared.faults.TextError.{TextError}
 use Rattle.repo_tree.specs.declared.snapshots.Snapshot.{Snapshot}
-use Rattle.repo_session.specs.Versions.{snapshot_version}
+use Rattle.repo_session.specs.Versions.{upto}
+use Rattle.repo_session.specs.declared.versions.Versions.{Versions}
 use Rattle.repo_session.specs.Ends.{IsOfOtherVersion, IsUnwelcome, TellsFault}
 use Rattle.repo_session.specs.declared.outcomes.FaultKind.{FaultKind}
 use Rattle.repo_check.specs.Answers.{Answer, Gathered}
@@ -51,9 +54,9 @@ abbrev pub IsFaulty : Kind → Answer → FaultKind → Type 0
 IsFaulty k a FaultKind.Place = ⊥
 IsFaulty k a what = (answers : Gathered) → ObjectIs answers k a (Some what)
 
--- it is a snapshot with this tree, of a version that is known
-abbrev pub IsRootOf : Answer → Name → Type 0
-IsRootOf a root = (x : List ℕ) × (snapshot : Snapshot) × AnswersBytes a x × IsSnapshotText x snapshot × (snapshot.tree ≡ root) × (snapshot.version ≤ snapshot_version)
+-- it is a snapshot with this root
+abbrev pub IsRootOf : Answer → Root → Type 0
+IsRootOf a root = (x : List ℕ) × (snapshot : Snapshot) × AnswersBytes a x × IsSnapshotText x snapshot × (root_of snapshot.tree snapshot.version ≡ root)
 
 -- it is the index of these packs
 abbrev pub IsIndexOf : Answer → List PackFacts → Type 0
@@ -67,12 +70,12 @@ AreToldOf pack items facts = AreFactsAt pack items facts ⊎ ((facts ≡ []) × 
 abbrev pub IsPackOf : Answer → List Fact → Type 0
 IsPackOf a facts = (x : List ℕ) × (items : List Item) × AnswersBytes a x × IsTruePack x items × AreToldOf a.name items facts
 
--- what a reply tells of a snapshot
-abbrev pub LooksAtSnapshot : Name → Say → SnapshotLook → Type 0
-LooksAtSnapshot n say (SnapshotLook.Root root) = (a : Answer) × IsAnswer n say a × IsRootOf a root
-LooksAtSnapshot n say (SnapshotLook.Fault what) = (a : Answer) × IsAnswer n say a × IsFaulty Kind.Snapshot a what
-LooksAtSnapshot n say SnapshotLook.Version = IsOfOtherVersion snapshot_version (Ask.Get Kind.Snapshot n) say
-LooksAtSnapshot n say SnapshotLook.Unwelcome = TellsNothing (Ask.Get Kind.Snapshot n) say
+-- what a reply tells of a snapshot, to who knows these versions: a root only of one of those
+abbrev pub LooksAtSnapshot : Versions → Name → Say → SnapshotLook → Type 0
+LooksAtSnapshot versions n say (SnapshotLook.Root root) = (a : Answer) × IsAnswer n say a × IsRootOf a root × ¬ IsOfOtherVersion (upto versions) (Ask.Get Kind.Snapshot n) say
+LooksAtSnapshot versions n say (SnapshotLook.Fault what) = (a : Answer) × IsAnswer n say a × IsFaulty Kind.Snapshot a what
+LooksAtSnapshot versions n say SnapshotLook.Version = IsOfOtherVersion (upto versions) (Ask.Get Kind.Snapshot n) say
+LooksAtSnapshot versions n say SnapshotLook.Unwelcome = TellsNothing (Ask.Get Kind.Snapshot n) say
 
 -- why a snapshot can't be read, and what is told of it then
 abbrev pub MisreadAs : TextError → SnapshotLook → Type 0

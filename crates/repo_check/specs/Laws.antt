@@ -15,7 +15,7 @@ use Rattle.repo_check.specs.Findings.{IsFitting, IsMisplaced}
 use Rattle.repo_check.specs.Fitting.{FactsOfPacks, AreKnown, Fits, Misfits}
 use Rattle.repo_index.specs.IndexText.{IsIndexText}
 use Rattle.repo_index.specs.declared.facts.PackFacts.{PackFacts}
-use Rattle.repo_check.specs.Answers.{Answer, Gathered, GivesFact, AreOfKnownVersions}
+use Rattle.repo_check.specs.Answers.{Answer, Gathered, GivesFact}
 use Rattle.repo_check.specs.Checking.{IsFaultOf, IsFound, AreWell, IsClean, AreAnswers}
 
 -- the objects that came, under the names for which they came
@@ -33,9 +33,9 @@ pub data IsSpoken (answers : Gathered) (x : List ℕ) : Type 0 where
 abbrev pub HasNoClash : Gathered → Type 0
 HasNoClash answers = (x y : List ℕ) → IsSpoken answers x → IsSpoken answers y → naming.name x ≡ naming.name y → x ≡ y
 
--- where all things are well, and the snapshots are of known versions, the objects that came are a sound store
+-- where all things are well, the objects that came are a sound store
 abbrev pub WellIsSound : Type 0
-WellIsSound = (answers : Gathered) (objects : Objects) → AreWell answers → AreOfKnownVersions answers → AreObjects answers objects → HasNoClash answers → IsSound objects
+WellIsSound = (answers : Gathered) (objects : Objects) → AreWell answers → AreObjects answers objects → HasNoClash answers → IsSound objects
 
 -- so they are where a check is clean
 abbrev pub CleanIsSound : Type 0

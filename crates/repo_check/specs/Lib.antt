@@ -5,7 +5,8 @@ pub mod Checking
 pub mod Arrivals
 pub mod Measures
 pub mod Fitting
-pub mod Levels
+pub mod Keeping
+pub mod Visiting
 pub mod Telling
 pub mod Rounds
 pub mod Walks
@@ -16,3 +17,4 @@ pub mod CheckStates
 pub mod CheckObedience
 pub mod Laws
 pub mod LoneLaws
+pub mod inner

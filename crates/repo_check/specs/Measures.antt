@@ -9,8 +9,8 @@ use Rattle.repo_wire.specs.declared.messages.Say.{Say}
 use Rattle.repo_index.specs.IndexText.{fact_of}
 use Rattle.repo_index.specs.Lookups.{IsLeast}
 use Rattle.repo_index.specs.declared.facts.Fact.{Fact}
+use Rattle.repo_reach.specs.Joints.{HasEnds, SaysNext}
 use Rattle.repo_reach.specs.Links.{LeadTo}
-use Rattle.repo_reach.specs.declared.links.Links.{Links}
 use Rattle.repo_tree.specs.declared.nodes.Node.{Node}
 use Rattle.repo_tree.specs.declared.nodes.NodeKind.{NodeKind}
 use Rattle.repo_session.specs.Blobs.{range_of}
@@ -18,6 +18,7 @@ use Rattle.repo_session.specs.declared.outcomes.FaultKind.{FaultKind}
 use Rattle.repo_check.specs.Answers.{Answer, Gathered, GivesFact}
 use Rattle.repo_check.specs.Arrivals.{AnswersBytes, TellsNothing}
 use Rattle.repo_check.specs.Findings.{IsMeasured, IsMismeasured, IsTreeAt}
+use Rattle.repo_check.specs.declared.keeping.Kept.{Kept}
 use Rattle.repo_check.specs.declared.trees.TreeLook.{TreeLook}
 
 -- no fact gives content of this name
@@ -59,13 +60,15 @@ IsTreeAnswer n (Say.Refused Code.Missing) a = (a.name ≡ n) × (a.bytes ≡ Non
 IsTreeAnswer n (Say.Refused Code.Range) a = (a.name ≡ n) × (a.bytes ≡ None)
 IsTreeAnswer n _ a = ⊥
 
--- it is a tree of which the nodes lead to these, with sizes that are right or aren't
-pub record IsReadAs (facts : List Fact) (place : Place) (a : Answer) (links : Links) (right : Bool) : Type 0 where
+-- it is a tree of which this is kept, with sizes that are right or aren't
+pub record IsReadAs (facts : List Fact) (place : Place) (a : Answer) (kept : Kept) (right : Bool) : Type 0 where
   pub bytes : List ℕ
   pub nodes : List Node
   pub has : AnswersBytes a bytes
   pub tree : IsTreeAt place bytes nodes
-  pub lead : LeadTo nodes links
+  pub lead : LeadTo nodes kept.links
+  pub says : SaysNext bytes nodes kept.joint.next
+  pub ends : HasEnds nodes kept.joint.ends
   pub judged : (answers : Gathered) → AreGivenFacts answers facts → Judges answers nodes right
 
 -- it is at fault by itself, whatever else came: one whose bytes are a tree's text isn't
@@ -78,12 +81,12 @@ IsFaultyTree place a FaultKind.Unindexed = ⊥
 
 -- what a reply tells of a tree that was asked for at its place
 abbrev pub LooksAtTree : List Fact → Fact → Say → TreeLook → Type 0
-LooksAtTree facts fact say (TreeLook.Read links right) = (a : Answer) × IsTreeAnswer fact.name say a × IsReadAs facts fact.place a links right
+LooksAtTree facts fact say (TreeLook.Read kept right) = (a : Answer) × IsTreeAnswer fact.name say a × IsReadAs facts fact.place a kept right
 LooksAtTree facts fact say (TreeLook.Fault what) = (a : Answer) × IsTreeAnswer fact.name say a × IsFaultyTree fact.place a what
 LooksAtTree facts fact say TreeLook.Unwelcome = TellsNothing (range_of fact) say
 
 -- of one that brings no bytes
 abbrev pub LooksAtNone : Say → TreeLook → Type 0
-LooksAtNone say (TreeLook.Read links right) = ⊥
+LooksAtNone say (TreeLook.Read kept right) = ⊥
 LooksAtNone say (TreeLook.Fault what) = (what ≡ FaultKind.Missing) × ((say ≡ Say.Refused Code.Missing) ⊎ (say ≡ Say.Refused Code.Range))
 LooksAtNone say TreeLook.Unwelcome = (say ≢ Say.Refused Code.Missing) × (say ≢ Say.Refused Code.Range)

@@ -5,14 +5,16 @@ use Rattle.repo_name.specs.declared.names.Name.{Name}
 use Rattle.repo_name.specs.declared.tokens.Token.{Token}
 use Rattle.repo_wire.specs.declared.messages.Ask.{Ask}
 use Rattle.repo_wire.specs.declared.messages.Say.{Say}
-use Rattle.repo_session.specs.Versions.{snapshot_version}
+use Rattle.repo_session.specs.Versions.{upto}
 use Rattle.repo_session.specs.Ends.{IsOfOtherVersion, IsSenseless}
 use Rattle.repo_session.specs.Jobs.{IsShort}
 use Rattle.repo_session.specs.Order.{Task, IsWorking, May}
 use Rattle.repo_session.specs.Rolls.{IsPaged, IsRolled}
+use Rattle.repo_session.specs.declared.versions.Versions.{Versions}
 use Rattle.repo_session.specs.Traces.{Each, Exchange, Trace, silent}
+use Rattle.repo_reach.specs.declared.roots.Root.{Root}
 use Rattle.repo_check.specs.Answers.{Answer}
-use Rattle.repo_check.specs.Arrivals.{IsFaulty, TellsNothing}
+use Rattle.repo_check.specs.Arrivals.{IsFaulty, IsRootOf, TellsNothing}
 use Rattle.repo_check.specs.Checking.{CameFor}
 use Rattle.repo_check.specs.declared.rounds.Note.{Note}
 use Rattle.repo_check.specs.declared.rounds.Round.{Round}
@@ -80,7 +82,7 @@ abbrev pub TurnsOn : {T : Type 0} → Task → Kind → RoundView T → Turn →
 TurnsOn task k round (Turn.Ask ask) e es = KnowsRound k round ask (e ∷ es) × May task (e ∷ es) ask
 TurnsOn task k round Turn.All e es = IsWholeRound k round (e ∷ es)
 TurnsOn task k round Turn.Senseless e es = IsSenseless e.ask e.say
-TurnsOn task k round Turn.Version e es = IsOfOtherVersion snapshot_version e.ask e.say
+TurnsOn task k round Turn.Version e es = IsOfOtherVersion (upto task.versions) e.ask e.say
 TurnsOn task k round Turn.Away e es = TellsNothing e.ask e.say
 
 -- what a page comes to, after each trace at whose end it was asked for
@@ -117,6 +119,11 @@ pub record AreNoted {T : Type 0} (k : Kind) (Gives : Answer → T → Type 0) (n
 abbrev pub TakesObject : {T : Type 0} → Kind → (Answer → T → Type 0) → RoundView T → Name → Say → Turn → RoundView T → Type 0
 TakesObject k Gives old n say turn new = (task : Task) (token : Token) (es : Trace) → IsWorking task token (silent (Ask.Get k n) say ∷ es) → IsGetting k old n es → AreNoted k Gives old.names old.notes es
     → TurnsOn task k new turn (silent (Ask.Get k n) say) es × AreNoted k Gives new.names new.notes (silent (Ask.Get k n) say ∷ es)
+
+-- so what one to the request for the next snapshot does, after those of who knows these versions
+abbrev pub TakesSnapshot : Versions → RoundView Root → Name → Say → Turn → RoundView Root → Type 0
+TakesSnapshot versions old n say turn new = (task : Task) (token : Token) (es : Trace) → task.versions ≡ versions → IsWorking task token (silent (Ask.Get Kind.Snapshot n) say ∷ es) → IsGetting Kind.Snapshot old n es → AreNoted Kind.Snapshot IsRootOf old.names old.notes es
+    → TurnsOn task Kind.Snapshot new turn (silent (Ask.Get Kind.Snapshot n) say) es × AreNoted Kind.Snapshot IsRootOf new.names new.notes (silent (Ask.Get Kind.Snapshot n) say ∷ es)
 
 -- there is one note more
 pub record HasOneMore {T : Type 0} (old new : RoundView T) : Type 0 where

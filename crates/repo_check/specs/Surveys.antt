@@ -1,5 +1,5 @@
 -- What a survey of a store knows of the trace.
-use Rattle.std.specs.Prelude.{◌≤◌, ◌≡◌, ◌⊎◌, ◌∷◌, [], ⊤, List, flat_map, Option, Some, None, ◌<◌, ◌↔◌, ℕ, slice_get, Contains, map, Bool, IsTrue}
+use Rattle.std.specs.Prelude.{◌≤◌, ◌≡◌, ◌⊎◌, ◌∷◌, [], ⊤, List, flat_map, Option, Some, None, ◌↔◌, ℕ, true, Contains, map, Bool, IsTrue}
 use Rattle.repo_name.specs.declared.kinds.BlobKind.TheVariants.{Content, Tree}
 use Rattle.repo_name.specs.declared.kinds.Kind.{Kind}
 use Rattle.repo_name.specs.declared.kinds.Thing.{Thing}
@@ -10,7 +10,8 @@ use Rattle.repo_wire.specs.declared.messages.Say.{Say}
 use Rattle.repo_index.specs.Lookups.{Joins}
 use Rattle.repo_index.specs.declared.facts.Fact.{Fact}
 use Rattle.repo_index.specs.declared.facts.PackFacts.{PackFacts}
-use Rattle.repo_session.specs.Versions.{snapshot_version, upto}
+use Rattle.repo_session.specs.Versions.{upto}
+use Rattle.repo_session.specs.declared.versions.Versions.{Versions}
 use Rattle.repo_session.specs.declared.outcomes.CheckFault.{CheckFault}
 use Rattle.repo_session.specs.declared.outcomes.FaultKind.{FaultKind}
 use Rattle.repo_session.specs.Blobs.{range_of}
@@ -18,27 +19,30 @@ use Rattle.repo_session.specs.Ends.{IsOfOtherVersion, IsSenseless}
 use Rattle.repo_session.specs.Jobs.{IsShort}
 use Rattle.repo_session.specs.Order.{Task, IsWorking, May, last_of, opened}
 use Rattle.repo_session.specs.Traces.{Exchange, Trace, silent}
-use Rattle.repo_reach.specs.declared.links.Links.{Links}
+use Rattle.repo_reach.specs.declared.roots.Root.{Root}
 use Rattle.repo_tree.specs.Spelling.{greatest_depth}
-use Rattle.repo_check.specs.Answers.{Answer, Gathered, IsDeepest, IsReachedBlob}
+use Rattle.repo_check.specs.Answers.{Answer, Gathered, IsDeepest, IsFollowed, IsReachedBlob}
 use Rattle.repo_check.specs.Arrivals.{IsIndexOf, IsPackOf, IsRootOf, TellsNothing}
 use Rattle.repo_check.specs.Checking.{AreAnswers, IsFaultOf}
 use Rattle.repo_check.specs.Findings.{BlobIs}
-use Rattle.repo_check.specs.Gathering.{AreNamesOnce, facts_noted, fault_noted, root_noted}
+use Rattle.repo_check.specs.Gathering.{facts_noted, fault_noted, root_noted}
 use Rattle.repo_check.specs.Rounds.{AreNoted, HasOneMore, IsFreshRound, IsUntouched, IsWholeRound, KnowsRound, RoundView, round_of}
 use Rattle.repo_check.specs.Telling.{told}
+use Rattle.repo_check.specs.Visiting.{IsGiven}
 use Rattle.repo_check.specs.Walks.{ContentFault, Awaits, TreeIsNoted, IsFreshKnown, IsOver, IsWalkMark, WalkReads, WalkView, Walks, WalksOn, tree_fault, walk_of}
 use Rattle.repo_check.specs.declared.knowing.TreeNote.{TreeNote}
 use Rattle.repo_check.specs.declared.rounds.Turn.{Turn}
 use Rattle.repo_check.specs.declared.surveys.Next.{Next}
 use Rattle.repo_check.specs.declared.surveys.Survey.{Survey}
 use Rattle.repo_check.specs.declared.surveys.SurveyMark.{SurveyMark}
+use Rattle.repo_check.specs.declared.visiting.Gift.{Gift}
+use Rattle.repo_check.specs.declared.visiting.Visit.{Visit}
 use Rattle.repo_tree.specs.declared.configs.Config.{Config}
 use Rattle.repo_tree.specs.ConfigText.{IsConfigText}
 
 -- the rounds over the three kinds
 pub record RoundsView : Type 0 where
-  pub snapshots : RoundView Name
+  pub snapshots : RoundView Root
   pub indexes : RoundView (List PackFacts)
   pub packs : RoundView (List Fact)
 
@@ -75,17 +79,17 @@ pub record AtPacks (rounds : RoundsView) (ask : Ask) (es : Trace) : Type 0 where
   pub indexes : IsWholeRound Kind.Index rounds.indexes es
   pub packs : KnowsRound Kind.Pack rounds.packs ask es
 
--- all objects came; the walk goes by the facts of the indexes that read, from the trees of the snapshots that read
-pub record HasObjects (rounds : RoundsView) (walk : WalkView) (roots : List Name) (es : Trace) : Type 0 where
+-- all objects came; the walk goes by the facts of the indexes that read, from the roots of the snapshots that read
+pub record HasObjects (rounds : RoundsView) (walk : WalkView) (roots : List Root) (es : Trace) : Type 0 where
   pub snapshots : IsWholeRound Kind.Snapshot rounds.snapshots es
   pub indexes : IsWholeRound Kind.Index rounds.indexes es
   pub packs : IsWholeRound Kind.Pack rounds.packs es
   pub facts : Joins [] (flat_map facts_noted rounds.indexes.notes) walk.known.facts
-  pub roots_are : AreNamesOnce (flat_map root_noted rounds.snapshots.notes) roots
+  pub roots_are : roots ≡ flat_map root_noted rounds.snapshots.notes
 
 -- a tree
 pub record AtTrees (rounds : RoundsView) (walk : WalkView) (ask : Ask) (es : Trace) : Type 0 where
-  pub roots : List Name
+  pub roots : List Root
   pub objects : HasObjects rounds walk roots es
   pub fact : Fact
   pub asked : ask ≡ range_of fact
@@ -100,7 +104,7 @@ Surveys rounds walk ask es = KnowsNotes rounds es × (AtSnapshots rounds ask es 
 -- all came
 pub record IsSurveyed (rounds : RoundsView) (walk : WalkView) (es : Trace) : Type 0 where
   pub notes : KnowsNotes rounds es
-  pub roots : List Name
+  pub roots : List Root
   pub objects : HasObjects rounds walk roots es
   pub over : IsOver roots walk
   pub answers : List Answer
@@ -113,7 +117,7 @@ abbrev pub SurveysOn : Task → RoundsView → WalkView → Next → Exchange �
 SurveysOn task rounds walk (Next.Ask ask) e es = Surveys rounds walk ask (e ∷ es) × May task (e ∷ es) ask
 SurveysOn task rounds walk Next.Over e es = IsSurveyed rounds walk (e ∷ es)
 SurveysOn task rounds walk Next.Senseless e es = IsSenseless e.ask e.say
-SurveysOn task rounds walk Next.Version e es = IsOfOtherVersion snapshot_version e.ask e.say
+SurveysOn task rounds walk Next.Version e es = IsOfOtherVersion (upto task.versions) e.ask e.say
 SurveysOn task rounds walk Next.Away e es = TellsNothing e.ask e.say
 
 -- what is asked next fits a frame
@@ -138,12 +142,17 @@ abbrev pub TakesSurvey : RoundsView → WalkView → Ask → Say → Next → Ro
 TakesSurvey rounds walk ask say next rounds' walk' = (task : Task) (token : Token) (es : Trace) → IsWorking task token (silent ask say ∷ es) → May task es ask → Surveys rounds walk ask es
     → SurveysOn task rounds' walk' next (silent ask say) es
 
+-- of who knows these versions
+abbrev pub TakesSurveyBy : Versions → RoundsView → WalkView → Ask → Say → Next → RoundsView → WalkView → Type 0
+TakesSurveyBy versions rounds walk ask say next rounds' walk' = (task : Task) (token : Token) (es : Trace) → task.versions ≡ versions → IsWorking task token (silent ask say ∷ es) → May task es ask → Surveys rounds walk ask es
+    → SurveysOn task rounds' walk' next (silent ask say) es
+
 -- ---- the walk
 
--- a walk goes by the facts of the indexes that read, and begins at the trees of the snapshots that read; nothing is known of trees
+-- a walk goes by the facts of the indexes that read, and begins at the roots of the snapshots that read; nothing is known of trees
 pub record WalkHasBegun (rounds : RoundsView) (walk : WalkView) : Type 0 where
-  pub roots : List Name
-  pub roots_are : AreNamesOnce (flat_map root_noted rounds.snapshots.notes) roots
+  pub roots : List Root
+  pub roots_are : roots ≡ flat_map root_noted rounds.snapshots.notes
   pub facts : Joins [] (flat_map facts_noted rounds.indexes.notes) walk.known.facts
   pub fresh : IsFreshKnown walk.known.facts walk.known
   pub walks : Walks roots walk
@@ -155,8 +164,8 @@ next_of None = Next.Over
 
 -- it went on to the first tree that is to be asked for
 pub record WalkBegins (rounds : RoundsView) (walk : WalkView) (next : Next) : Type 0 where
-  pub roots : List Name
-  pub roots_are : AreNamesOnce (flat_map root_noted rounds.snapshots.notes) roots
+  pub roots : List Root
+  pub roots_are : roots ≡ flat_map root_noted rounds.snapshots.notes
   pub facts : Joins [] (flat_map facts_noted rounds.indexes.notes) walk.known.facts
   pub fresh : IsFreshKnown walk.known.facts walk.known
   pub fact : Option Fact
@@ -175,13 +184,13 @@ GoesToTrees rounds walk Turn.Away next = next ≡ Next.Away
 
 -- how far a survey has come: the tree that is asked for, if one is, and where the walk stands
 abbrev pub IsSurveyMark : WalkView → SurveyMark → Type 0
-IsSurveyMark walk mark = IsWalkMark walk mark.walk × ((roots : List Name) (fact : Fact) → Awaits roots walk fact → mark.tree ≡ Some fact.name)
+IsSurveyMark walk mark = IsWalkMark walk mark.walk × ((roots : List Root) (fact : Fact) → Awaits roots walk fact → mark.tree ≡ Some fact.name)
 
 -- what was taken with the reply to a request, after which all had come: a page without names, one more note of a pack, or a note of a tree
 abbrev pub HasTaken : RoundsView → WalkView → Ask → RoundsView → WalkView → Type 0
 HasTaken rounds walk (Ask.List k after) rounds' walk' = (es : Trace) → Surveys rounds walk (Ask.List k after) es → rounds' ≡ rounds
 HasTaken rounds walk (Ask.Get k n) rounds' walk' = (rounds'.snapshots ≡ rounds.snapshots) × (rounds'.indexes ≡ rounds.indexes) × HasOneMore rounds.packs rounds'.packs
-HasTaken rounds walk (Ask.Range pack offset len) rounds' walk' = (rounds' ≡ rounds) × ((es : Trace) → Surveys rounds walk (Ask.Range pack offset len) es → (roots : List Name) × (fact : Fact) × (note : TreeNote) × Awaits roots walk fact × TreeIsNoted walk fact.name note walk')
+HasTaken rounds walk (Ask.Range pack offset len) rounds' walk' = (rounds' ≡ rounds) × ((es : Trace) → Surveys rounds walk (Ask.Range pack offset len) es → (roots : List Root) × (fact : Fact) × (note : TreeNote) × Awaits roots walk fact × TreeIsNoted walk fact.name note walk')
 HasTaken rounds walk _ rounds' walk' = ⊥
 
 -- ---- all this between surveys as they stand
@@ -191,6 +200,9 @@ SurveyKnows s ask es = Surveys (rounds_of s) (walk_of s.walk) ask es
 
 abbrev pub SurveyTakes : Survey → Ask → Say → Next → Survey → Type 0
 SurveyTakes old ask say next new = TakesSurvey (rounds_of old) (walk_of old.walk) ask say next (rounds_of new) (walk_of new.walk)
+
+abbrev pub SurveyTakesBy : Versions → Survey → Ask → Say → Next → Survey → Type 0
+SurveyTakesBy versions old ask say next new = TakesSurveyBy versions (rounds_of old) (walk_of old.walk) ask say next (rounds_of new) (walk_of new.walk)
 
 abbrev pub SurveyHasTaken : Survey → Ask → Survey → Type 0
 SurveyHasTaken old ask new = HasTaken (rounds_of old) (walk_of old.walk) ask (rounds_of new) (walk_of new.walk)
@@ -227,22 +239,20 @@ answers_in s = record { objects = objects_in s.notes; trees = s.answers }
 abbrev pub SurveyedIsReceived : Type 0
 SurveyedIsReceived = (rounds : RoundsView) (walk : WalkView) (es : Trace) (s : IsSurveyed rounds walk es) → AreAnswers es (answers_in s)
 
--- a tree stands in the level of a depth
-abbrev pub IsInLevel : List (List Name) → ℕ → Name → Type 0
-IsInLevel levels d n = (level : List Name) × (slice_get levels d ≡ Some level) × Contains level n
+-- a tree is visited so
+abbrev pub IsVisited : List Visit → (Visit → Type 0) → Name → Type 0
+IsVisited visits Such n = (v : Visit) × Contains visits v × (v.tree ≡ n) × Such v
 
--- and the trees that are reached are those of the levels; those of the last level are the deepest
-abbrev pub LevelsAreReached : Type 0
-LevelsAreReached = (rounds : RoundsView) (walk : WalkView) (es : Trace) (s : IsSurveyed rounds walk es) (n : Name)
-    → (IsReachedBlob (answers_in s) Tree n ↔ ((d : ℕ) × IsInLevel walk.levels d n)) × (IsDeepest (answers_in s) n ↔ IsInLevel walk.levels greatest_depth n)
+-- and the trees that are reached are those of the visits; those that are visited at the greatest depth are the deepest, and those that are visited as parts are
+-- read so
+abbrev pub VisitsAreReached : Type 0
+VisitsAreReached = (rounds : RoundsView) (walk : WalkView) (es : Trace) (s : IsSurveyed rounds walk es) (n : Name)
+    → (IsReachedBlob (answers_in s) Tree n ↔ IsVisited walk.visits (λ v. ⊤) n) × (IsDeepest (answers_in s) n ↔ IsVisited walk.visits (λ v. v.depth ≡ greatest_depth) n)
+    × (IsFollowed (answers_in s) n ↔ IsVisited walk.visits (λ v. v.follows ≡ true) n)
 
--- a tree that reads, in a level above the last, leads to the content
-abbrev pub HoldsContent : WalkView → Name → Type 0
-HoldsContent walk n = (d : ℕ) × (t : Name) × (links : Links) × (d < greatest_depth) × IsInLevel walk.levels d t × (walk.known.links t ≡ Some links) × Contains links.content.items n
-
--- so is the content that is reached
+-- and the content that is reached is that of the visits
 abbrev pub ContentIsReached : Type 0
-ContentIsReached = (rounds : RoundsView) (walk : WalkView) (es : Trace) (s : IsSurveyed rounds walk es) (n : Name) → IsReachedBlob (answers_in s) Content n ↔ HoldsContent walk n
+ContentIsReached = (rounds : RoundsView) (walk : WalkView) (es : Trace) (s : IsSurveyed rounds walk es) (n : Name) → IsReachedBlob (answers_in s) Content n ↔ IsGiven Gift.Content walk.known.kept walk.visits n
 
 -- what is told of the snapshots by their notes is what is at fault of snapshots
 abbrev pub SnapshotsAreTold : Type 0
@@ -256,8 +266,8 @@ PacksAreTold = (rounds : RoundsView) (walk : WalkView) (es : Trace) (s : IsSurve
 
 -- what is told of a tree that is reached is what is found of it
 abbrev pub TreesAreTold : Type 0
-TreesAreTold = (rounds : RoundsView) (walk : WalkView) (es : Trace) (s : IsSurveyed rounds walk es) (n : Name) (deepest : Bool) → IsReachedBlob (answers_in s) Tree n → (IsTrue deepest ↔ IsInLevel walk.levels greatest_depth n)
-    → BlobIs (answers_in s) Tree n (tree_fault (walk.known.faults n) (walk.known.links n) deepest)
+TreesAreTold = (rounds : RoundsView) (walk : WalkView) (es : Trace) (s : IsSurveyed rounds walk es) (n : Name) (broken : Bool) → IsReachedBlob (answers_in s) Tree n → (IsTrue broken ↔ IsGiven Gift.Broken walk.known.kept walk.visits n)
+    → BlobIs (answers_in s) Tree n (tree_fault (walk.known.faults n) (walk.known.kept n) broken)
 
 -- so is what is told of content
 abbrev pub ContentIsTold : Type 0
@@ -265,7 +275,7 @@ ContentIsTold = (rounds : RoundsView) (walk : WalkView) (es : Trace) (s : IsSurv
 
 -- where a tree that a walk awaited was noted, this is that walk again, by its mark
 abbrev pub TakesTreeBack : SurveyMark → WalkView → WalkView → Type 0
-TakesTreeBack mark old new = (roots : List Name) (fact : Fact) (note : TreeNote) (walk : WalkView) → IsSurveyMark walk mark → Awaits roots walk fact
+TakesTreeBack mark old new = (roots : List Root) (fact : Fact) (note : TreeNote) (walk : WalkView) → IsSurveyMark walk mark → Awaits roots walk fact
     → TreeIsNoted walk fact.name note old → new ≡ walk
 
 -- where what was said to a request was taken, the survey is again where that request was pending

@@ -1,8 +1,7 @@
 -- What is told of each thing that a survey received.
-use Rattle.std.specs.Prelude.{◌≡◌, ◌≢◌, ◌↔◌, ◌+◌, ◌-◌, ◌++◌, [], ⊤, ℕ, List, length, map, take, flat_map, Option, Some, None, Contains}
+use Rattle.std.specs.Prelude.{◌≡◌, ◌≢◌, ◌↔◌, ◌+◌, ◌++◌, [], ⊤, ℕ, List, length, map, Option, Some, None, Contains}
 use Rattle.std.specs.BTreeSet.{BTreeSet, contains}
 use Rattle.repo_name.specs.Naming.{name_cmp}
-use Rattle.repo_name.specs.declared.kinds.BlobKind.TheVariants.{Content}
 use Rattle.repo_name.specs.declared.kinds.Thing.{Thing}
 use Rattle.repo_name.specs.declared.names.Name.{Name}
 use Rattle.repo_index.specs.declared.facts.PackFacts.{PackFacts}
@@ -13,14 +12,14 @@ use Rattle.repo_session.specs.declared.outcomes.FaultKind.{FaultKind}
 use Rattle.repo_session.specs.declared.outcomes.Outcome.{Outcome}
 use Rattle.repo_check.specs.Checking.{IsCount, IsFaultOf}
 use Rattle.repo_check.specs.Fitting.{FactsOfPacks, Fits, Misfits, facts_by}
-use Rattle.repo_check.specs.Gathering.{AreNamesOnce, HasNames, fault_noted}
-use Rattle.repo_check.specs.Levels.{AreLed}
+use Rattle.repo_check.specs.Gathering.{AreGiven, HasGiven, fault_noted}
 use Rattle.repo_check.specs.Rounds.{Match, RoundView}
 use Rattle.repo_check.specs.Surveys.{IsSurveyed, RoundsView, answers_in}
 use Rattle.repo_check.specs.Telling.{told}
-use Rattle.repo_check.specs.Walks.{ContentFault, Knowledge, WalkView, last_level, tree_fault}
+use Rattle.repo_check.specs.Walks.{ContentFault, Knowledge, WalkView, tree_fault}
 use Rattle.repo_check.specs.declared.reaching.Reached.{Reached}
 use Rattle.repo_check.specs.declared.rounds.Note.{Note}
+use Rattle.repo_check.specs.declared.visiting.Gift.{Gift}
 
 -- ---- what is reached
 
@@ -33,16 +32,10 @@ pub record ReachedView : Type 0 where
 abbrev pub reached_of : Reached → ReachedView
 reached_of reached = record { trees = reached.trees.items; content = reached.content.items }
 
--- all names in some levels
-abbrev pub names_in : List (List Name) → List Name
-names_in levels = flat_map (λ (level : List Name). level) levels
-
--- the trees of all levels, and the content to which those above the last level lead
+-- the trees of all visits, and their content
 pub record AreReached (walk : WalkView) (reached : ReachedView) : Type 0 where
-  pub trees : AreNamesOnce (names_in walk.levels) reached.trees
-  pub upper : List Name
-  pub upper_are : AreNamesOnce (names_in (take (length walk.levels - 1) walk.levels)) upper
-  pub content : AreLed Content walk.known.links upper reached.content
+  pub trees : AreGiven Gift.Tree walk.known.kept walk.visits reached.trees
+  pub content : AreGiven Gift.Content walk.known.kept walk.visits reached.content
 
 -- ---- what is found
 
@@ -53,9 +46,9 @@ IsFoundOfIndex packs (Note.Well text) (Some what) = (what ≡ FaultKind.Place) �
 IsFoundOfIndex packs (Note.Fault fault) None = ⊤
 IsFoundOfIndex packs (Note.Fault fault) (Some what) = ⊥
 
--- what is found of a tree, where a set has the deepest
+-- what is found of a tree, where a set has those that break their directories
 abbrev pub IsTreeFound : Knowledge → BTreeSet Name → Name → Option FaultKind → Type 0
-IsTreeFound known deepest n found = found ≡ tree_fault (known.faults n) (known.links n) (contains name_cmp deepest n)
+IsTreeFound known broken n found = found ≡ tree_fault (known.faults n) (known.kept n) (contains name_cmp broken n)
 
 -- ---- what is told
 
@@ -71,12 +64,12 @@ pub record AreObjectsTold (rounds : RoundsView) (old new : List CheckFault) : Ty
 
 -- and those of blobs
 pub record AreBlobsTold (walk : WalkView) (reached : ReachedView) (old new : List CheckFault) : Type 0 where
-  pub deepest : BTreeSet Name
-  pub deepest_are : (level : List Name) → last_level walk.levels ≡ Some level → HasNames deepest level
+  pub broken : BTreeSet Name
+  pub broken_are : HasGiven Gift.Broken walk.known.kept walk.visits broken
   pub content : List (Option FaultKind)
   pub content_are : Match (ContentFault walk.known.facts) reached.content content
   pub trees : List (Option FaultKind)
-  pub trees_are : Match (IsTreeFound walk.known deepest) reached.trees trees
+  pub trees_are : Match (IsTreeFound walk.known broken) reached.trees trees
   pub are : new ≡ (old ++ told Thing.Content reached.content content) ++ told Thing.Tree reached.trees trees
 
 -- the faults of objects, and behind them those of blobs

@@ -71,16 +71,16 @@ impl Job for CheckJob {
     }
 
     fn versions(&self) -> Versions {
-        Versions::One
+        Versions::Both
     }
 
     fn opened(&mut self, _holder: &Holder, _config: &Config) -> Step {
         Step::Ask(self.survey.first())
     }
 
-    fn reply(&mut self, _holder: &Holder, ask: &Ask, say: &Say) -> Result<Step, AllocError> {
+    fn reply(&mut self, holder: &Holder, ask: &Ask, say: &Say) -> Result<Step, AllocError> {
         let mark = self.survey.mark();
-        match self.survey.take(ask, say)? {
+        match self.survey.take(holder.versions(), ask, say)? {
             Next::Ask(next) => Ok(Step::Ask(next)),
             Next::Over => self.conclude(ask, mark),
             Next::Senseless => Ok(Step::Finish(Outcome::Ended(End::BadReply))),
@@ -99,7 +99,9 @@ impl Job for CheckJob {
 /// missing or bad it goes on. Its outcome is `Clean`, or `Faults` with just the things that are at fault, each once and in
 /// order; a snapshot or a config of a version that isn't known ends it with `Version`.
 ///
-/// It takes its lock alone, and changes nothing. It keeps names, facts and what trees lead to, and of packs one at a time.
+/// Each snapshot is read by its own version: below one of version 2 directories go on in further parts. It takes its lock
+/// alone, and changes nothing. It keeps names, facts, what trees lead to and where they are reached, and of packs one at a
+/// time.
 #[derive(Drop)]
 pub struct Check {
     session: Session<CheckJob>,

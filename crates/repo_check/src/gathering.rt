@@ -2,16 +2,17 @@
 
 ghost use Rattle.std.specs.Prelude.{◌≡◌, map, IfOk, OnOk, [], flat_map};
 ghost use Rattle.repo_index.specs.Lookups.{Joins};
-ghost use Rattle.repo_check.specs.Gathering.{facts_noted, fault_noted, root_noted, AreNamesOnce, HasNames};
-ghost use Rattle.repo_check.specs.Levels.{AddsNames};
+ghost use Rattle.repo_check.specs.Gathering.{facts_noted, fault_noted, root_noted};
+ghost use Rattle.repo_check.specs.Visiting.{BeginsAt};
+ghost use Rattle.repo_check.specs.inner.Gaining.{AddsRoots};
 
-use crate::levels::{add_names, names_of};
+use crate::queues::Visits;
 use crate::rounds::Note;
+use crate::visiting::Visit;
 use repo_index::{IndexText, Lookup};
-use repo_name::Name;
+use repo_reach::Root;
 use repo_session::FaultKind;
 use std::alloc::{AllocError, Global};
-use std::collections::BTreeSet;
 
 /// Adds the facts of an index that reads. It fails for memory alone.
 fn add_facts(lookup: &mut Lookup, note: &Note<IndexText>) -> Result<(), AllocError>
@@ -34,33 +35,29 @@ pub fn lookup_of(alloc: Global, notes: &[Note<IndexText>]) -> Result<Lookup, All
     Ok(lookup)
 }
 
-/// Adds the tree of a snapshot that reads. It fails for memory alone.
-fn add_root(roots: &mut BTreeSet<Name>, note: &Note<Name>) -> Result<(), AllocError>
-    ensures { OnOk result (AddsNames roots.old (root_noted note.now) roots.new) }
+/// Adds the visit of the root of a snapshot that reads. It fails for memory alone.
+fn add_root(visits: &mut Visits, note: &Note<Root>) -> Result<(), AllocError>
+    ensures { OnOk result (AddsRoots visits.old (root_noted note.now) visits.new) }
 {
     match note {
-        Note::Well(root) => add_names(roots, &[*root]),
+        Note::Well(root) => visits.add(Visit {
+            tree: root.tree,
+            follows: root.follows,
+            depth: 0,
+        }),
         Note::Fault(_) => Ok(()),
     }
 }
 
-/// The set of the trees of all snapshots that read. It fails for memory alone.
-fn set_of_roots(alloc: Global, notes: &[Note<Name>]) -> Result<BTreeSet<Name>, AllocError>
-    ensures { IfOk result (λ set. HasNames set (flat_map root_noted notes.now)) }
+/// The visits of the roots of all snapshots that read. It fails for memory alone.
+pub fn visits_of(alloc: Global, notes: &[Note<Root>]) -> Result<Visits, AllocError>
+    ensures { IfOk result (BeginsAt (flat_map root_noted notes.now)) }
 {
-    let mut roots = BTreeSet::new(alloc);
+    let mut visits = Visits::none(alloc);
     for note in notes {
-        add_root(&mut roots, note)?;
+        add_root(&mut visits, note)?;
     }
-    Ok(roots)
-}
-
-/// The trees of all snapshots that read, each once and ascending. It fails for memory alone.
-pub fn roots_of(alloc: Global, notes: &[Note<Name>]) -> Result<Vec<Name>, AllocError>
-    ensures { IfOk result (λ roots. AreNamesOnce (flat_map root_noted notes.now) roots.items) }
-{
-    let set = set_of_roots(alloc, notes)?;
-    names_of(alloc, &set)
+    Ok(visits)
 }
 
 /// What is at fault of an object, if something is. It takes no memory.

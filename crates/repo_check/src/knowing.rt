@@ -1,14 +1,19 @@
 //! What is known of trees.
 
-ghost use Rattle.std.specs.Prelude.{◌≡◌, length, slice_get, Some, None, IfOk, IfSome, OnOk, OnErr, IsTrue, IsFalse};
+ghost use Rattle.std.specs.Prelude.{◌≡◌, ◌↔◌, Some, None, IfOk, IfSome, OnOk, OnErr, IsTrue, IsFalse};
 ghost use Rattle.repo_name.specs.NameMaps.{found};
-ghost use Rattle.repo_reach.specs.declared.links.Links.{Links};
+ghost use Rattle.repo_reach.specs.Walks.{trees_below};
 ghost use Rattle.repo_session.specs.declared.outcomes.FaultKind.{FaultKind};
 ghost use Rattle.repo_check.specs.declared.knowing.TreeNote.{TreeNote};
 ghost use Rattle.repo_name.specs.declared.names.Name.{Name};
-ghost use Rattle.repo_check.specs.Walks.{IsTreeDue, IsSettled, AreSettled, AddsNote, IsFreshKnown, NotesTree, IsSomething, ContentFault, known_of, tree_fault, TakesNoteBack};
+ghost use Rattle.repo_check.specs.Keeping.{content_within, links_of, next_of};
+ghost use Rattle.repo_check.specs.Visiting.{BreaksHere, GoesOnWrong, IsMisread, IsTooDeep};
+ghost use Rattle.repo_check.specs.declared.keeping.Kept.{Kept};
+ghost use Rattle.repo_check.specs.Walks.{IsTreeDue, IsSettled, AddsNote, IsFreshKnown, NotesTree, IsSomething, ContentFault, known_of, tree_fault, TakesNoteBack};
 
+use crate::keeping::Kept;
 use crate::trees::{TreeLook, look_at_tree};
+use crate::visiting::Visit;
 use repo_index::{Fact, Lookup};
 use repo_name::{BlobKind, Name, insert_named, remove_named};
 use repo_reach::Links;
@@ -17,29 +22,40 @@ use repo_wire::Say;
 use std::alloc::{AllocError, Global};
 use std::collections::BTreeMap;
 
-/// What is known of trees: where blobs lie, what the trees that read lead to, and what is at fault of those that are at
+/// How many components a path has at most.
+pub const DEPTH: u8 = 100;
+
+/// What is known of trees: where blobs lie, what is kept of the trees that read, and what is at fault of those that are at
 /// fault by themselves.
 #[derive(Drop)]
 pub struct Known {
     pub lookup: Lookup,
-    pub links: BTreeMap<Name, Links>,
+    pub kept: BTreeMap<Name, Kept>,
     pub faults: BTreeMap<Name, FaultKind>,
-}
-
-/// A tree of a level that is to be asked for, and its place in the level.
-#[derive(Clone, Copy, Debug)]
-pub struct Due {
-    pub place: usize,
-    pub fact: Fact,
 }
 
 /// What a reply told of a tree by itself.
 #[derive(Drop)]
 pub struct TreeNote {
-    /// What it leads to, if it reads.
-    pub links: Option<Links>,
+    /// What is kept of it, if it reads.
+    pub kept: Option<Kept>,
     /// What is at fault, if something is.
     pub fault: Option<FaultKind>,
+}
+
+/// Whether a tree has nodes where none may be.
+#[tactic(auto, unfolding(repo_tree::specs::Spelling::greatest_depth))]
+fn is_too_deep(kept: &Kept, visit: Visit) -> bool
+    ensures { IsTrue result ↔ IsTooDeep kept.now visit }
+{
+    visit.depth >= DEPTH && !kept.links.is_bare
+}
+
+/// Whether a tree is read as a part, and is no part's text.
+fn is_misread(kept: &Kept, visit: Visit) -> bool
+    ensures { IsTrue result ↔ IsMisread kept.now visit }
+{
+    visit.follows && kept.is_malformed()
 }
 
 impl Known {
@@ -49,17 +65,17 @@ impl Known {
     {
         Known {
             lookup,
-            links: BTreeMap::new(alloc),
+            kept: BTreeMap::new(alloc),
             faults: BTreeMap::new(alloc),
         }
     }
 
     /// Whether a tree came that reads.
     fn is_read(&self, tree: &Name) -> bool
-        ensures yes { IsTrue result → (links : Links) × (found self.now.links tree.now ≡ Some links) }
-        ensures no { IsFalse result → found self.now.links tree.now ≡ None }
+        ensures yes { IsTrue result → (kept : Kept) × (found self.now.kept tree.now ≡ Some kept) }
+        ensures no { IsFalse result → found self.now.kept tree.now ≡ None }
     {
-        match self.links.get(tree) {
+        match self.kept.get(tree) {
             Some(_) => true,
             None => false,
         }
@@ -92,17 +108,73 @@ impl Known {
         })
     }
 
-    /// The first tree of a level, from a place on, that is to be asked for. It takes no memory.
-    pub fn first_due(&self, level: &[Name], from: usize) -> Option<Due>
-        ensures due { IfSome result (λ due. IsTreeDue (known_of self.now) due.fact.name due.fact) }
-        ensures there { IfSome result (λ due. slice_get level.now due.place ≡ Some due.fact.name) }
-        ensures before { IfSome result (λ due. AreSettled (known_of self.now) level.now from due.place) }
-        ensures none { result ≡ None → AreSettled (known_of self.now) level.now from (length level.now) }
+    /// What the nodes of a tree lead to, as a part of a directory or as a directory by itself. It takes no memory.
+    fn links(&self, tree: &Name, follows: bool) -> Option<&Links>
+        ensures some { IfSome result (λ links. links_of (found self.now.kept tree.now) follows ≡ Some links.now) }
+        ensures none { result ≡ None → links_of (found self.now.kept tree.now) follows ≡ None }
     {
-        for place in from..level.len() {
-            if let Some(fact) = self.due(&level[place]) {
-                return Some(Due { place, fact });
-            }
+        match self.kept.get(tree) {
+            Some(kept) => kept.links_by(follows),
+            None => None,
+        }
+    }
+
+    /// The trees below one. It takes no memory.
+    pub fn below(&self, tree: &Name, follows: bool) -> &[Name]
+        ensures { result.now ≡ trees_below (links_of (found self.now.kept tree.now) follows) }
+    {
+        match self.links(tree, follows) {
+            Some(links) => links.trees.as_slice(),
+            None => &[],
+        }
+    }
+
+    /// The content of a tree. It takes no memory.
+    pub fn content(&self, tree: &Name, follows: bool) -> &[Name]
+        ensures { result.now ≡ content_within (links_of (found self.now.kept tree.now) follows) }
+    {
+        match self.links(tree, follows) {
+            Some(links) => links.content.as_slice(),
+            None => &[],
+        }
+    }
+
+    /// The tree in which one goes on. It takes no memory.
+    pub fn next(&self, tree: &Name, follows: bool) -> Option<Name>
+        ensures { result ≡ next_of (found self.now.kept tree.now) follows }
+    {
+        match self.kept.get(tree) {
+            Some(kept) => kept.next_by(follows),
+            None => None,
+        }
+    }
+
+    /// Whether the tree of a visit breaks its directory by itself. It takes no memory.
+    pub fn is_broken(&self, visit: Visit) -> bool
+        ensures { IsTrue result ↔ BreaksHere (found self.now.kept) visit }
+    {
+        match self.kept.get(&visit.tree) {
+            Some(kept) => is_too_deep(kept, visit) || is_misread(kept, visit),
+            None => false,
+        }
+    }
+
+    /// The tree in which that of a visit goes on wrong, if it does. It takes no memory.
+    pub fn wrong_next(&self, visit: Visit) -> Option<Name>
+        ensures some { IfSome result (GoesOnWrong (found self.now.kept) visit) }
+        ensures none { result ≡ None → (n : Name) → ¬ GoesOnWrong (found self.now.kept) visit n }
+    {
+        let Some(kept) = self.kept.get(&visit.tree) else {
+            return None;
+        };
+        let Some(next) = kept.next_by(visit.follows) else {
+            return None;
+        };
+        let Some(behind) = self.kept.get(&next) else {
+            return None;
+        };
+        if kept.goes_wrong_in(behind) {
+            return Some(next);
         }
         None
     }
@@ -115,8 +187,8 @@ impl Known {
         if let Some(what) = note.fault {
             insert_named(&mut self.faults, tree, what)?;
         }
-        if let Some(links) = note.links {
-            if insert_named(&mut self.links, tree, links).is_err() {
+        if let Some(kept) = note.kept {
+            if insert_named(&mut self.kept, tree, kept).is_err() {
                 remove_named(&mut self.faults, &tree);
                 return Err(AllocError);
             }
@@ -125,14 +197,14 @@ impl Known {
     }
 
     /// What is at fault of a tree that is reached, if something is. It takes no memory.
-    pub fn fault_of(&self, tree: &Name, is_deepest: bool) -> Option<FaultKind>
-        ensures { result ≡ tree_fault (found self.now.faults tree.now) (found self.now.links tree.now) is_deepest }
+    pub fn fault_of(&self, tree: &Name, is_broken: bool) -> Option<FaultKind>
+        ensures { result ≡ tree_fault (found self.now.faults tree.now) (found self.now.kept tree.now) is_broken }
     {
         if let Some(what) = self.faults.get(tree) {
             return Some(*what);
         }
-        match self.links.get(tree) {
-            Some(links) if is_deepest && !links.is_bare => Some(FaultKind::Unreadable),
+        match self.kept.get(tree) {
+            Some(_) if is_broken => Some(FaultKind::Unreadable),
             Some(_) => None,
             None => Some(FaultKind::Unindexed),
         }
@@ -152,19 +224,19 @@ impl Known {
     pub fn take_back(&mut self, tree: &Name)
         ensures back { TakesNoteBack tree.now (known_of self.old) (known_of self.new) }
     {
-        remove_named(&mut self.links, tree);
+        remove_named(&mut self.kept, tree);
         remove_named(&mut self.faults, tree);
     }
 }
 
 /// What is noted of a tree that reads.
-fn read_note(links: Links, right: bool) -> TreeNote
-    ensures links { result.links ≡ Some links }
+fn read_note(kept: Kept, right: bool) -> TreeNote
+    ensures kept { result.kept ≡ Some kept }
     ensures right { IsTrue right → result.fault ≡ None }
     ensures wrong { IsFalse right → result.fault ≡ Some FaultKind.Unreadable }
 {
     TreeNote {
-        links: Some(links),
+        kept: Some(kept),
         fault: if right {
             None
         } else {
@@ -185,9 +257,9 @@ pub fn note_of(
     ensures some { IfOk result (λ note. IfSome note IsSomething) }
 {
     match look_at_tree(alloc, lookup, fact, say)? {
-        TreeLook::Read { links, right } => Ok(Some(read_note(links, right))),
+        TreeLook::Read { kept, right } => Ok(Some(read_note(kept, right))),
         TreeLook::Fault(what) => Ok(Some(TreeNote {
-            links: None,
+            kept: None,
             fault: Some(what),
         })),
         TreeLook::Unwelcome => Ok(None),

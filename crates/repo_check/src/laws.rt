@@ -1,7 +1,7 @@
 //! What holds of what a check tells, by the definitions alone. Each function is empty, and its contract is the law.
 
 ghost use Rattle.repo_check.specs.LoneLaws.{CheckChangesNothing, CheckEndsWell, CleanIsOfSound};
-ghost use Rattle.repo_check.specs.Surveys.{SurveyedIsReceived, LevelsAreReached, ContentIsReached, SnapshotsAreTold, PacksAreTold, TreesAreTold, ContentIsTold};
+ghost use Rattle.repo_check.specs.Surveys.{SurveyedIsReceived, VisitsAreReached, ContentIsReached, SnapshotsAreTold, PacksAreTold, TreesAreTold, ContentIsTold};
 ghost use Rattle.repo_check.specs.Verdicts.{IndexesAreTold, PlacesAreTold};
 ghost use Rattle.repo_check.specs.Laws.{WellIsSound, CleanIsSound, FoundOnce, FitsAsFound, WellHasNoFault};
 
@@ -38,13 +38,14 @@ pub fn surveyed_is_received()
     ensures { SurveyedIsReceived }
 {}
 
-/// Once a survey is over, the trees in its levels are those that the snapshots reach, and those in the last level are the
-/// trees to which as many names lead as a path may have.
-pub fn levels_are_reached()
-    ensures { LevelsAreReached }
+/// Once a survey is over, the trees that it visited are those that the snapshots reach, those that it visited at the greatest
+/// depth are the trees to which as many names lead as a path may have, and those that it visited as parts of directories are
+/// the trees that snapshots of version 2 reach.
+pub fn visits_are_reached()
+    ensures { VisitsAreReached }
 {}
 
-/// And the content that is reached is that of the trees in the levels above the last.
+/// And the content that is reached is that of the trees that it visited, as they are read there.
 pub fn content_is_reached()
     ensures { ContentIsReached }
 {}

@@ -6,9 +6,11 @@
 //! that isn't known is no fault: it ends the check.
 //!
 //! [`Check`] is the client. Its survey receives all that a check needs: the objects, kind by kind, each noted as well or at
-//! fault, and then the trees, level by level, each asked for once, at its least place. A tree that stands in several levels
-//! is looked at in each, without a second request. Each pack's bytes are hashed once for its name and once for its blobs,
-//! and one pack is held at a time.
+//! fault, and then the trees, each asked for once, at its least place. Each tree is visited at each depth at which a snapshot
+//! reaches it, and in each way: below a snapshot of version 2 directories go on along `next`, at their own depth; below
+//! another each is one tree. That takes no second request, and each visit is made once, so cycles end. A part that breaks its
+//! directory is unreadable, and the walk goes on into what it lists. Each pack's bytes are hashed once for its name and once
+//! for its blobs, and one pack is held at a time.
 //!
 //! Promised: a check is obedient ([`Check`] is a `Client` by its rule): over any replies, whoever answers, `Clean` and
 //! `Faults` say what they say of the bytes received, and a reply that wants memory may be taken again. Where each thing is
@@ -17,26 +19,28 @@
 //! nothing, is clean only where the store is sound, and on a sound store whose device doesn't fail ends clean, or for want
 //! of memory ([`check_changes_nothing`], [`clean_is_of_sound`], [`check_ends_well`]).
 //!
-//! The survey is over once it received just what a check has to ([`surveyed_is_received`]); its levels are then what the
-//! snapshots reach ([`levels_are_reached`], [`content_is_reached`]), and what is told of each sort of thing by what is known
+//! The survey is over once it received just what a check has to ([`surveyed_is_received`]); its visits are then what the
+//! snapshots reach ([`visits_are_reached`], [`content_is_reached`]), and what is told of each sort of thing by what is known
 //! of it is what is found of it ([`snapshots_are_told`] and those beside it).
 //!
 //! The definitions stand in `specs/`: `Answers` (what was received, and what that gives and reaches), `Findings` (what is
 //! found of each thing), `Checking` (faults, their order, clean, and the rule), `Laws` and `LoneLaws`; those of the survey:
-//! `Rounds` (the objects of one kind), `Walks` (trees), `Gathering` (what the notes of objects give together), `Surveys` (all
-//! of it), `Verdicts` (what is told of it); those of the client: `CheckStates`, `CheckObedience`; and those of the parts:
-//! `Arrivals` (what a reply tells of an object), `Measures` (of a tree), `Fitting`, `Levels`, `Telling`.
+//! `Rounds` (the objects of one kind), `Walks` (trees), `Gathering` (what the notes of objects and the visits give together),
+//! `Surveys` (all of it), `Verdicts` (what is told of it); those of the client: `CheckStates`, `CheckObedience`; and those of
+//! the parts: `Arrivals` (what a reply tells of an object), `Measures` (of a tree), `Keeping` (what is kept of a tree),
+//! `Visiting` (what a visit gives), `Fitting`, `Telling`.
 #![tactic(auto)]
 
 mod arrivals;
 mod checks;
 mod fitting;
 mod gathering;
+mod keeping;
 mod knowing;
 mod laws;
-mod levels;
 mod measures;
 mod objects;
+mod queues;
 mod reaching;
 mod rounds;
 mod surveys;
@@ -44,14 +48,15 @@ mod taking;
 mod telling;
 mod trees;
 mod verdicts;
+mod visiting;
 mod visits;
 mod walks;
 
 pub use checks::Check;
 pub use laws::{
     check_changes_nothing, check_ends_well, clean_is_of_sound, clean_is_sound, content_is_reached,
-    content_is_told, fits_as_found, found_once, indexes_are_told, levels_are_reached,
-    packs_are_told, places_are_told, snapshots_are_told, surveyed_is_received, trees_are_told,
+    content_is_told, fits_as_found, found_once, indexes_are_told, packs_are_told, places_are_told,
+    snapshots_are_told, surveyed_is_received, trees_are_told, visits_are_reached,
     well_has_no_fault, well_is_sound,
 };
 pub use telling::{ranks_ascend, told_are_found, told_ascend};

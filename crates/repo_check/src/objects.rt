@@ -10,7 +10,8 @@ use crate::arrivals::{Arrival, arrival_of};
 use repo_index::{Facts, IndexText, PackFacts};
 use repo_name::{Kind, Name};
 use repo_pack::PackView;
-use repo_session::{FaultKind, SNAPSHOT_VERSION};
+use repo_reach::Root;
+use repo_session::{FaultKind, Versions};
 use repo_tree::{Snapshot, TextError};
 use repo_wire::Say;
 use std::alloc::{AllocError, Global};
@@ -21,8 +22,8 @@ const LARGE: usize = 1 << 32;
 /// What a reply tells of a snapshot.
 #[derive(Clone, Copy, Debug)]
 pub enum SnapshotLook {
-    /// It is well, and this is its tree.
-    Root(Name),
+    /// It is well, and this is its root.
+    Root(Root),
     /// It is at fault.
     Fault(FaultKind),
     /// It is of a version that isn't known.
@@ -64,9 +65,14 @@ fn misread_snapshot(error: TextError) -> Result<SnapshotLook, AllocError>
     }
 }
 
-/// What a reply tells of a snapshot of this name. It fails for memory alone.
-pub fn look_at_snapshot(alloc: Global, name: Name, say: &Say) -> Result<SnapshotLook, AllocError>
-    ensures { IfOk result (LooksAtSnapshot name say.now) }
+/// What a reply tells of a snapshot of this name, to who knows these versions. It fails for memory alone.
+pub fn look_at_snapshot(
+    alloc: Global,
+    versions: Versions,
+    name: Name,
+    say: &Say,
+) -> Result<SnapshotLook, AllocError>
+    ensures { IfOk result (LooksAtSnapshot versions name say.now) }
 {
     let bytes = match arrival_of(Kind::Snapshot, name, say) {
         Arrival::Named(bytes) => bytes,
@@ -74,8 +80,8 @@ pub fn look_at_snapshot(alloc: Global, name: Name, say: &Say) -> Result<Snapshot
         Arrival::Absent => return Ok(SnapshotLook::Fault(FaultKind::Missing)),
         Arrival::Unwelcome => return Ok(SnapshotLook::Unwelcome),
     };
-    match Snapshot::read_upto(alloc, bytes, SNAPSHOT_VERSION) {
-        Ok(snapshot) => Ok(SnapshotLook::Root(snapshot.tree)),
+    match Snapshot::read_upto(alloc, bytes, versions.greatest()) {
+        Ok(snapshot) => Ok(SnapshotLook::Root(Root::of(snapshot.tree, snapshot.version))),
         Err(error) => misread_snapshot(error),
     }
 }

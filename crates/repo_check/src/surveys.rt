@@ -13,6 +13,7 @@ use crate::rounds::Round;
 use crate::walks::{Walk, WalkMark};
 use repo_index::{Fact, Facts, IndexText};
 use repo_name::{Kind, Name};
+use repo_reach::Root;
 use repo_wire::Ask;
 use std::alloc::Global;
 
@@ -34,7 +35,7 @@ pub enum Next {
 /// What was received of a store so far: the objects of each kind, and the trees.
 #[derive(Drop)]
 pub struct Survey {
-    pub snapshots: Round<Name>,
+    pub snapshots: Round<Root>,
     pub indexes: Round<IndexText>,
     pub packs: Round<Facts>,
     pub walk: Walk,

@@ -12,9 +12,9 @@ ghost use Rattle.repo_index.specs.declared.facts.Fact.{Fact};
 ghost use Rattle.repo_check.specs.Walks.{walk_of};
 ghost use Rattle.repo_check.specs.declared.rounds.Turn.{Turn};
 ghost use Rattle.repo_check.specs.declared.surveys.Next.{Next};
-ghost use Rattle.repo_check.specs.Surveys.{WalkBegins, GoesAfter, GoesToTrees, WalkHasBegun, IsShortNext, SurveyHasTaken, SurveyKnows, SurveyTakes, next_of, rounds_of, StaysAtPage, StaysAtTree};
+ghost use Rattle.repo_check.specs.Surveys.{WalkBegins, GoesAfter, GoesToTrees, WalkHasBegun, IsShortNext, SurveyHasTaken, SurveyKnows, SurveyTakes, SurveyTakesBy, next_of, rounds_of, StaysAtPage, StaysAtTree};
 
-use crate::gathering::{lookup_of, roots_of};
+use crate::gathering::{lookup_of, visits_of};
 use crate::knowing::note_of;
 use crate::rounds::Turn;
 use crate::surveys::{Next, Survey};
@@ -22,7 +22,7 @@ use crate::visits::{take_index, take_pack, take_snapshot};
 use crate::walks::Walk;
 use repo_index::Fact;
 use repo_name::{Kind, Name};
-use repo_session::{Roll, range_ask};
+use repo_session::{Roll, Versions, range_ask};
 use repo_wire::{Ask, Say};
 use std::alloc::AllocError;
 
@@ -66,15 +66,21 @@ impl Survey {
         Ok(after_turn(turn, &self.indexes.roll))
     }
 
-    /// Takes the reply to the request for a snapshot. It fails for memory alone, and then nothing changed.
-    fn take_snapshot(&mut self, name: Name, say: &Say) -> Result<Next, AllocError>
-        ensures takes { IfOk result (λ next. SurveyTakes self.old (Ask.Get Kind.Snapshot name) say.now next self.new) }
+    /// Takes the reply to the request for a snapshot, of who knows these versions. It fails for memory alone, and then
+    /// nothing changed.
+    fn take_snapshot(
+        &mut self,
+        versions: Versions,
+        name: Name,
+        say: &Say,
+    ) -> Result<Next, AllocError>
+        ensures takes { IfOk result (λ next. SurveyTakesBy versions self.old (Ask.Get Kind.Snapshot name) say.now next self.new) }
         ensures more { IfOk result (λ next. next ≢ Next.Over) }
         ensures short { IfOk result IsShortNext }
         ensures same { OnErr result (rounds_of self.new ≡ rounds_of self.old) }
         ensures walk { self.new.walk ≡ self.old.walk }
     {
-        let turn = take_snapshot(self.alloc, &mut self.snapshots, name, say)?;
+        let turn = take_snapshot(self.alloc, &mut self.snapshots, versions, name, say)?;
         Ok(after_turn(turn, &self.indexes.roll))
     }
 
@@ -107,8 +113,8 @@ impl Survey {
         ensures { IfOk result (λ walk. WalkHasBegun (rounds_of self.now) (walk_of walk)) }
     {
         let lookup = lookup_of(self.alloc, self.indexes.notes.as_slice())?;
-        let roots = roots_of(self.alloc, self.snapshots.notes.as_slice())?;
-        Walk::new(self.alloc, lookup, roots)
+        let visits = visits_of(self.alloc, self.snapshots.notes.as_slice())?;
+        Ok(Walk::new(self.alloc, lookup, visits))
     }
 
     /// Begins the walk over the trees. It fails for memory alone, and then nothing changed.
@@ -201,9 +207,16 @@ impl Survey {
         }
     }
 
-    /// Takes the reply to the request for an object. It fails for memory alone, and then what was known is known.
-    fn take_object(&mut self, kind: Kind, name: Name, say: &Say) -> Result<Next, AllocError>
-        ensures takes { IfOk result (λ next. SurveyTakes self.old (Ask.Get kind name) say.now next self.new) }
+    /// Takes the reply to the request for an object, of who knows these versions. It fails for memory alone, and then what
+    /// was known is known.
+    fn take_object(
+        &mut self,
+        versions: Versions,
+        kind: Kind,
+        name: Name,
+        say: &Say,
+    ) -> Result<Next, AllocError>
+        ensures takes { IfOk result (λ next. SurveyTakesBy versions self.old (Ask.Get kind name) say.now next self.new) }
         ensures over { IfOk result (λ next. next ≡ Next.Over → SurveyHasTaken self.old (Ask.Get kind name) self.new) }
         ensures short { IfOk result IsShortNext }
         ensures same { OnErr result (rounds_of self.new ≡ rounds_of self.old) }
@@ -211,20 +224,21 @@ impl Survey {
         match kind {
             Kind::Pack => self.take_pack(name, say),
             Kind::Index => self.take_index(name, say),
-            Kind::Snapshot => self.take_snapshot(name, say),
+            Kind::Snapshot => self.take_snapshot(versions, name, say),
         }
     }
 
-    /// Takes the reply to a request of the survey. It fails for memory alone, and then what was known is known.
-    pub fn take(&mut self, ask: &Ask, say: &Say) -> Result<Next, AllocError>
-        ensures takes { IfOk result (λ next. SurveyTakes self.old ask.now say.now next self.new) }
+    /// Takes the reply to a request of the survey, of who knows these versions. It fails for memory alone, and then what was
+    /// known is known.
+    pub fn take(&mut self, versions: Versions, ask: &Ask, say: &Say) -> Result<Next, AllocError>
+        ensures takes { IfOk result (λ next. SurveyTakesBy versions self.old ask.now say.now next self.new) }
         ensures over { IfOk result (λ next. next ≡ Next.Over → SurveyHasTaken self.old ask.now self.new) }
         ensures short { IfOk result IsShortNext }
         ensures knows { OnErr result ((es : Trace) → SurveyKnows self.old ask.now es → SurveyKnows self.new ask.now es) }
     {
         match ask {
             Ask::List { kind, .. } => self.take_page(*kind, say),
-            Ask::Get { kind, name } => self.take_object(*kind, *name, say),
+            Ask::Get { kind, name } => self.take_object(versions, *kind, *name, say),
             Ask::Range { .. } => self.take_tree(say),
             _ => Ok(Next::Away),
         }

@@ -5,20 +5,19 @@ ghost use Rattle.repo_name.specs.Naming as naming;
 ghost use Rattle.repo_wire.specs.declared.messages.Say.{Say};
 ghost use Rattle.repo_check.specs.Measures.{LooksAtTree, LooksAtNone};
 
+use crate::keeping::Kept;
 use crate::measures::all_suit;
 use repo_index::{Fact, Lookup};
-use repo_reach::Links;
+use repo_reach::read_with_next;
 use repo_session::{FaultKind, Fetched, blob_of};
-use repo_tree::read_tree;
 use repo_wire::{Code, Say};
 use std::alloc::{AllocError, Global};
 
 /// What a reply tells of a tree that was asked for at its place.
 #[derive(Drop)]
 pub enum TreeLook {
-    /// It reads, and leads to these blobs; and whether the sizes of its files are right, as far as their blobs lie
-    /// somewhere.
-    Read { links: Links, right: bool },
+    /// It reads, and this is kept of it; and whether the sizes of its files are right, as far as their blobs lie somewhere.
+    Read { kept: Kept, right: bool },
     /// It is at fault.
     Fault(FaultKind),
     /// Another refusal, or a reply of another sort.
@@ -35,11 +34,11 @@ fn look_at_text(
     requires { (naming.name bytes.now ≡ fact.name) × (length bytes.now ≡ fact.place.length) }
     ensures { IfOk result (LooksAtTree lookup.now fact (Say.Bytes bytes.now)) }
 {
-    match read_tree(alloc, bytes) {
-        Ok(nodes) => {
-            let links = Links::of(alloc, nodes.as_slice())?;
+    match read_with_next(alloc, bytes) {
+        Ok((nodes, next)) => {
+            let kept = Kept::of(alloc, nodes.as_slice(), next)?;
             let right = all_suit(lookup, nodes.as_slice());
-            Ok(TreeLook::Read { links, right })
+            Ok(TreeLook::Read { kept, right })
         }
         Err(error) => {
             error.check_fault()?;

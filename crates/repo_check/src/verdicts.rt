@@ -1,6 +1,6 @@
 //! What is found of each thing, and the outcome of a check.
 
-ghost use Rattle.std.specs.Prelude.{◌≡◌, List, Some, None, IfOk, OnOk};
+ghost use Rattle.std.specs.Prelude.{None, IfOk, OnOk};
 ghost use Rattle.repo_store.specs.Pages.{NamesAscend};
 ghost use Rattle.repo_session.specs.Traces.{Trace};
 ghost use Rattle.repo_check.specs.Checking.{CheckConcludes};
@@ -8,19 +8,15 @@ ghost use Rattle.repo_check.specs.Fitting.{facts_by};
 ghost use Rattle.repo_check.specs.Rounds.{Match, round_of};
 ghost use Rattle.repo_check.specs.Surveys.{IsSurveyed, rounds_of};
 ghost use Rattle.repo_check.specs.Verdicts.{AreBlobsTold, AreObjectsTold, AreTold, Counts, IsFoundOfIndex, IsTreeFound, reached_of};
-ghost use Rattle.repo_check.specs.Gathering.{HasNames};
-ghost use Rattle.repo_check.specs.Walks.{ContentFault, known_of, last_level, walk_of};
-ghost use Rattle.repo_name.specs.declared.names.Name.{Name};
+ghost use Rattle.repo_check.specs.Walks.{ContentFault, known_of, walk_of};
 
 use crate::fitting::fits;
 use crate::gathering::faults_of;
 use crate::knowing::Known;
-use crate::levels::add_names;
-use crate::reaching::{Reached, reached_in};
+use crate::reaching::{Reached, broken_in, reached_in};
 use crate::rounds::{Note, Round};
 use crate::surveys::Survey;
 use crate::telling::tell;
-use crate::walks::Walk;
 use repo_index::{Facts, IndexText};
 use repo_name::{Name, Thing};
 use repo_session::{CheckFault, CheckFaults, FaultKind, Outcome};
@@ -72,18 +68,18 @@ fn content_found(
     Ok(found)
 }
 
-/// What is found of each of some trees, where these are the deepest. It fails for memory alone.
+/// What is found of each of some trees, where these break their directories. It fails for memory alone.
 fn trees_found(
     alloc: Global,
     known: &Known,
-    deepest: &BTreeSet<Name>,
+    broken: &BTreeSet<Name>,
     names: &[Name],
 ) -> Result<Vec<Option<FaultKind>>, AllocError>
-    ensures { IfOk result (λ found. Match (IsTreeFound (known_of known.now) deepest.now) names.now found.items) }
+    ensures { IfOk result (λ found. Match (IsTreeFound (known_of known.now) broken.now) names.now found.items) }
 {
     let mut found = Vec::new(alloc);
     for tree in names {
-        found.push(known.fault_of(tree, deepest.contains(tree)))?;
+        found.push(known.fault_of(tree, broken.contains(tree)))?;
     }
     Ok(found)
 }
@@ -114,15 +110,6 @@ fn tell_objects(survey: &Survey, faults: &mut Vec<CheckFault>) -> Result<(), All
     tell(Thing::Index, names, places.as_slice(), faults)
 }
 
-/// The set of the deepest trees of a walk: those in its last level. It fails for memory alone.
-fn deepest_in(alloc: Global, walk: &Walk) -> Result<BTreeSet<Name>, AllocError>
-    ensures { IfOk result (λ set. (level : List Name) → last_level (walk_of walk.now).levels ≡ Some level → HasNames set level) }
-{
-    let mut deepest = BTreeSet::new(alloc);
-    add_names(&mut deepest, walk.level())?;
-    Ok(deepest)
-}
-
 /// Tells the faults of blobs. It fails for memory alone, and then some of them were told.
 fn tell_blobs(
     survey: &Survey,
@@ -133,9 +120,9 @@ fn tell_blobs(
 {
     let alloc = survey.alloc;
     let known = &survey.walk.known;
-    let deepest = deepest_in(alloc, &survey.walk)?;
+    let broken = broken_in(alloc, &survey.walk)?;
     let content = content_found(alloc, known, reached.content.as_slice())?;
-    let trees = trees_found(alloc, known, &deepest, reached.trees.as_slice())?;
+    let trees = trees_found(alloc, known, &broken, reached.trees.as_slice())?;
     tell(
         Thing::Content,
         reached.content.as_slice(),

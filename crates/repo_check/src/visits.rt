@@ -2,8 +2,8 @@
 
 ghost use Rattle.std.specs.Prelude.{◌≡◌, IfOk, OnErr};
 ghost use Rattle.repo_name.specs.declared.kinds.Kind.{Kind};
-ghost use Rattle.repo_check.specs.Arrivals.{IsIndexOf, IsPackOf, IsRootOf};
-ghost use Rattle.repo_check.specs.Rounds.{HasOneMore, IsShortTurn, TakesObject, round_of};
+ghost use Rattle.repo_check.specs.Arrivals.{IsIndexOf, IsPackOf};
+ghost use Rattle.repo_check.specs.Rounds.{HasOneMore, IsShortTurn, TakesObject, TakesSnapshot, round_of};
 ghost use Rattle.repo_check.specs.declared.rounds.Turn.{Turn};
 
 use crate::objects::{
@@ -12,21 +12,25 @@ use crate::objects::{
 use crate::rounds::{Note, Round, Turn};
 use repo_index::{Facts, IndexText};
 use repo_name::Name;
+use repo_reach::Root;
+use repo_session::Versions;
 use repo_wire::Say;
 use std::alloc::{AllocError, Global};
 
-/// Takes the reply to the request for a snapshot. It fails for memory alone, and then nothing changed.
+/// Takes the reply to the request for a snapshot, of who knows these versions. It fails for memory alone, and then nothing
+/// changed.
 pub fn take_snapshot(
     alloc: Global,
-    round: &mut Round<Name>,
+    round: &mut Round<Root>,
+    versions: Versions,
     name: Name,
     say: &Say,
 ) -> Result<Turn, AllocError>
-    ensures takes { IfOk result (λ turn. TakesObject Kind.Snapshot IsRootOf (round_of round.old) name say.now turn (round_of round.new)) }
+    ensures takes { IfOk result (λ turn. TakesSnapshot versions (round_of round.old) name say.now turn (round_of round.new)) }
     ensures short { IfOk result IsShortTurn }
     ensures same { OnErr result (round_of round.new ≡ round_of round.old) }
 {
-    match look_at_snapshot(alloc, name, say)? {
+    match look_at_snapshot(alloc, versions, name, say)? {
         SnapshotLook::Root(root) => round.go_on(Note::Well(root)),
         SnapshotLook::Fault(what) => round.go_on(Note::Fault(what)),
         SnapshotLook::Version => Ok(Turn::Version),

@@ -1,130 +1,147 @@
-//! The trees that snapshots reach, level by level.
+//! The trees that snapshots reach, each visited once in each way and at each depth in which it is reached.
 
-ghost use Rattle.std.specs.Prelude.{◌≡◌, List, slice_get, Option, Some, None, IfOk, OnOk, OnErr};
+ghost use Rattle.std.specs.Prelude.{◌≡◌, List, slice_get, Option, Some, None, IfOk, OnOk, OnErr, Contains};
 ghost use Rattle.repo_name.specs.NameMaps.{found};
 ghost use Rattle.repo_name.specs.declared.names.Name.{Name};
 ghost use Rattle.repo_index.specs.declared.facts.Fact.{Fact};
-ghost use Rattle.repo_check.specs.Walks.{IsFreshKnown, Walks, Awaits, WalksOn, HasDescended, DescendsTo, AsksIn, IsWalkMark, TakesNote, last_level, walk_of, WalkTakesBack};
-ghost use Rattle.repo_check.specs.declared.knowing.TreeNote.{TreeNote};
+ghost use Rattle.repo_reach.specs.declared.roots.Root.{Root};
+ghost use Rattle.repo_check.specs.Visiting.{AddsAmong, BeginsAt, HasLedOn, IsBehind, IsBelow, IsOneOf, LeadsOn, visit_at};
+ghost use Rattle.repo_check.specs.Walks.{IsFreshKnown, Walks, Awaits, WalksOn, HasGoneOn, IsWalkMark, TakesNote, walk_of, WalkTakesBack};
+ghost use Rattle.repo_check.specs.declared.visiting.Visit.{Visit};
 
-use crate::knowing::{Known, TreeNote};
-use crate::levels::led;
+use crate::knowing::{DEPTH, Known, TreeNote};
+use crate::queues::{Visits, count, visit_there};
+use crate::visiting::Visit;
 use repo_index::{Fact, Lookup};
-use repo_name::{BlobKind, Name, Names};
+use repo_name::Name;
 use std::alloc::{AllocError, Global};
 
-/// How many lengths a path may have: 0 to 100 components.
-const LEVELS: usize = 101;
-
-/// A walk over trees: the roots, the trees below them, and so on; and how many of the last level were gone through.
+/// A walk over trees: what is known of them, the visits that there are, and how many of them were made.
 #[derive(Drop)]
 pub struct Walk {
     pub known: Known,
-    pub levels: Vec<Names>,
+    pub visits: Visits,
     pub place: usize,
-    alloc: Global,
 }
 
-/// How far a walk has come: so many levels, and so many of the last were gone through.
+/// How far a walk has come: there are so many visits, and so many were made.
 #[derive(Clone, Copy, Debug)]
 pub struct WalkMark {
-    levels: usize,
+    visits: usize,
     place: usize,
 }
 
+/// Adds visits of some trees at a depth. It fails for memory alone, and then some of them came.
+fn add_all(visits: &mut Visits, trees: &[Name], follows: bool, depth: u8) -> Result<(), AllocError>
+    ensures among { AddsAmong (IsOneOf follows depth trees.now) visits.old visits.new }
+    ensures all { OnOk result ((n : Name) → Contains trees.now n → Contains visits.new (visit_at follows depth n)) }
+{
+    for tree in trees {
+        visits.add(Visit {
+            tree: *tree,
+            follows,
+            depth,
+        })?;
+    }
+    Ok(())
+}
+
+/// Adds the visits of the trees below that of a visit, where there may be any. It fails for memory alone, and then some of
+/// them came.
+#[tactic(auto, unfolding(repo_tree::specs::Spelling::greatest_depth))]
+fn add_below(visits: &mut Visits, known: &Known, visit: Visit) -> Result<(), AllocError>
+    ensures among { AddsAmong (IsBelow (found known.now.kept) visit) visits.old visits.new }
+    ensures all { OnOk result ((w : Visit) → IsBelow (found known.now.kept) visit w → Contains visits.new w) }
+{
+    if visit.depth >= DEPTH {
+        return Ok(());
+    }
+    let trees = known.below(&visit.tree, visit.follows);
+    add_all(visits, trees, visit.follows, visit.depth + 1)
+}
+
+/// Adds the visit of the tree in which that of a visit goes on. It fails for memory alone, and then nothing changed.
+fn add_behind(visits: &mut Visits, known: &Known, visit: Visit) -> Result<(), AllocError>
+    ensures among { AddsAmong (IsBehind (found known.now.kept) visit) visits.old visits.new }
+    ensures all { OnOk result ((w : Visit) → IsBehind (found known.now.kept) visit w → Contains visits.new w) }
+{
+    match known.next(&visit.tree, visit.follows) {
+        Some(tree) => visits.add(Visit {
+            tree,
+            follows: visit.follows,
+            depth: visit.depth,
+        }),
+        None => Ok(()),
+    }
+}
+
+/// Adds all visits to which one leads. It fails for memory alone, and then some of them came.
+fn add_led(visits: &mut Visits, known: &Known, visit: Visit) -> Result<(), AllocError>
+    ensures among { AddsAmong (LeadsOn (found known.now.kept) visit) visits.old visits.new }
+    ensures all { OnOk result (HasLedOn (found known.now.kept) visits.new visit) }
+{
+    add_below(visits, known, visit)?;
+    add_behind(visits, known, visit)
+}
+
 impl Walk {
-    /// The level that is gone through.
-    pub fn level(&self) -> &[Name]
-        ensures { (level : List Name) → last_level self.now.levels.items ≡ Some level → result.now ≡ level }
+    /// The visit at the walk's place, if one is left.
+    fn visit(&self) -> Option<Visit>
+        ensures { result ≡ slice_get self.now.visits self.now.place }
     {
-        match self.levels.last() {
-            Some(level) => level.as_slice(),
-            None => &[],
-        }
+        visit_there(self.visits.as_slice(), self.place)
     }
 
-    /// The next tree of the level that is to be asked for; the walk's place is there then, and else at the level's end. It
-    /// takes no memory.
-    fn next_here(&mut self) -> Option<Fact>
-        ensures next { (level : List Name) → last_level self.old.levels.items ≡ Some level → AsksIn (walk_of self.old) level result (walk_of self.new) }
-        ensures levels { self.new.levels ≡ self.old.levels }
-        ensures known { self.new.known ≡ self.old.known }
-    {
-        let level = self.level();
-        match self.known.first_due(level, self.place) {
-            Some(due) => {
-                self.place = due.place;
-                Some(due.fact)
-            }
-            None => {
-                self.place = level.len();
-                None
-            }
-        }
-    }
-
-    /// Goes on to the level below. It fails for memory alone, and then nothing changed.
-    fn descend(&mut self) -> Result<(), AllocError>
-        ensures ok { OnOk result (DescendsTo (walk_of self.old) (walk_of self.new)) }
-        ensures err { OnErr result (self.new.levels.items ≡ self.old.levels.items) }
-        ensures known { self.new.known ≡ self.old.known }
-    {
-        let names = led(self.alloc, &self.known.links, BlobKind::Tree, self.level())?;
-        self.levels.push(Names::of(names)).map_err(|_| AllocError)?;
-        self.place = 0;
-        Ok(())
-    }
-
-    /// Goes on to the next tree that is to be asked for, level by level. It fails for memory alone, and then only levels
+    /// Goes on to the next tree that is to be asked for, visit by visit. It fails for memory alone, and then only visits
     /// came behind those that were there.
     pub fn go_on(&mut self) -> Result<Option<Fact>, AllocError>
-        ensures next { IfOk result (λ next. (roots : List Name) → Walks roots (walk_of self.old) → WalksOn roots (walk_of self.new) next) }
-        ensures descended { HasDescended (walk_of self.old) (walk_of self.new) }
+        ensures next { IfOk result (λ next. (roots : List Root) → Walks roots (walk_of self.old) → WalksOn roots (walk_of self.new) next) }
+        ensures gone { HasGoneOn (walk_of self.old) (walk_of self.new) }
     {
-        for _ in self.levels.len()..LEVELS {
-            if let Some(fact) = self.next_here() {
+        for place in self.place..usize::MAX {
+            self.place = place;
+            let Some(visit) = self.visit() else {
+                return Ok(None);
+            };
+            if let Some(fact) = self.known.due(&visit.tree) {
                 return Ok(Some(fact));
             }
-            self.descend()?;
+            add_led(&mut self.visits, &self.known, visit)?;
         }
-        Ok(self.next_here())
+        self.place = count(self.visits.as_slice());
+        Ok(None)
     }
 
     /// A walk that has nowhere to go. It takes no memory.
     pub fn none(alloc: Global) -> Walk {
-        Walk {
-            known: Known::new(alloc, Lookup::new(alloc)),
-            levels: Vec::new(alloc),
-            place: 0,
-            alloc,
-        }
+        Walk::new(alloc, Lookup::new(alloc), Visits::none(alloc))
     }
 
-    /// A walk from some roots, by a look-up. It fails for memory alone.
-    pub fn new(alloc: Global, lookup: Lookup, roots: Vec<Name>) -> Result<Walk, AllocError>
-        ensures begun { IfOk result (λ walk. Walks roots.items (walk_of walk)) }
-        ensures fresh { IfOk result (λ walk. IsFreshKnown lookup (walk_of walk).known) }
+    /// A walk that begins with some visits, by a look-up. It takes no memory.
+    pub fn new(alloc: Global, lookup: Lookup, visits: Visits) -> Walk
+        ensures begun { (roots : List Root) → BeginsAt roots visits → Walks roots (walk_of result) }
+        ensures fresh { IsFreshKnown lookup (walk_of result).known }
     {
-        let mut levels = Vec::new(alloc);
-        levels.push(Names::of(roots)).map_err(|_| AllocError)?;
-        Ok(Walk {
+        Walk {
             known: Known::new(alloc, lookup),
-            levels,
+            visits,
             place: 0,
-            alloc,
-        })
+        }
     }
 
     /// The tree at the walk's place, if one stands there. It takes no memory.
     pub fn tree(&self) -> Option<Name>
-        ensures { (level : List Name) → last_level self.now.levels.items ≡ Some level → result ≡ slice_get level self.now.place }
+        ensures { (visit : Visit) → slice_get self.now.visits self.now.place ≡ Some visit → result ≡ Some visit.tree }
     {
-        self.level().get(self.place).copied()
+        match self.visit() {
+            Some(visit) => Some(visit.tree),
+            None => None,
+        }
     }
 
     /// The fact of the tree that is asked for. It takes no memory.
     pub fn asked(&self) -> Option<Fact>
-        ensures { (roots : List Name) (fact : Fact) → Awaits roots (walk_of self.now) fact → result ≡ Some fact }
+        ensures { (roots : List Root) (fact : Fact) → Awaits roots (walk_of self.now) fact → result ≡ Some fact }
     {
         match self.tree() {
             Some(tree) => self.known.due(&tree),
@@ -137,7 +154,7 @@ impl Walk {
         ensures { IsWalkMark (walk_of self.now) result }
     {
         WalkMark {
-            levels: self.levels.len(),
+            visits: count(self.visits.as_slice()),
             place: self.place,
         }
     }
@@ -147,7 +164,7 @@ impl Walk {
         ensures { WalkTakesBack mark tree (walk_of self.old) (walk_of self.new) }
     {
         self.known.take_back(&tree);
-        self.levels.truncate(mark.levels);
+        self.visits.truncate(mark.visits);
         self.place = mark.place;
     }
 
@@ -155,7 +172,7 @@ impl Walk {
     /// changed.
     pub fn take(&mut self, tree: Name, note: TreeNote) -> Result<Option<Fact>, AllocError>
         ensures takes { IfOk result (λ next. TakesNote (walk_of self.old) tree note next (walk_of self.new)) }
-        ensures same { OnErr result (found self.old.known.links tree ≡ None → found self.old.known.faults tree ≡ None → walk_of self.new ≡ walk_of self.old) }
+        ensures same { OnErr result (found self.old.known.kept tree ≡ None → found self.old.known.faults tree ≡ None → walk_of self.new ≡ walk_of self.old) }
     {
         let mark = self.mark();
         self.known.note(tree, note)?;

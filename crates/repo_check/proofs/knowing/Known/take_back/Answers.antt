@@ -5,7 +5,7 @@ pub returns : goal.returns
 returns c = record {
   back = λ old note unread faultless adds i. record {
     facts = adds.facts i;
-    links = dropped_back note.links unread adds.links c.remove_named.ensures i;
+    kept = dropped_back note.kept unread adds.kept c.remove_named.ensures i;
     faults = dropped_back note.fault faultless adds.faults c.remove_named-2.ensures i;
   };
 }

@@ -8,7 +8,7 @@ use Rattle.repo_check.proofs.surveys.Survey.begin.Goals as goal
 pub returns-clause-begins : goal.returns-clause-begins
 returns-clause-begins c =
     let b = c.in_ok-walk.ensures in
-    let known = c.in_ok-next.ensures.descended.known in
+    let known = c.in_ok-next.ensures.gone.known in
     record {
       roots = b.roots;
       roots_are = b.roots_are;

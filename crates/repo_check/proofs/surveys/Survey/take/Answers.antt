@@ -1,7 +1,7 @@
 use Rattle.std.proofs.Common.{◌≡◌, ℕ, Option, sym, subst}
 use Rattle.repo_name.specs.declared.names.Name.{Name}
 use Rattle.repo_wire.specs.declared.messages.Ask.{Ask}
-use Rattle.repo_check.specs.Surveys.{HasTaken, Surveys, TakesSurvey, rounds_of}
+use Rattle.repo_check.specs.Surveys.{HasTaken, SurveyTakesBy, Surveys, TakesSurvey, rounds_of}
 use Rattle.repo_check.specs.Walks.{walk_of}
 use Rattle.repo_check.specs.declared.surveys.Next.{Next}
 use Rattle.repo_check.proofs.Arriving.{ok_then}
@@ -15,7 +15,7 @@ returns-in-List-clause-takes c =
     let new = c.take_page.new.self in
     let T : Ask → Next → Type 0 = λ ask next. TakesSurvey (rounds_of old) (walk_of old.walk) ask c.args.say.now next (rounds_of new) (walk_of new.walk) in
     let P : Next → Type 0 = λ next. (after : Option Name) → T (Ask.List c.in-List.kind after) next in
-    ok_then P (λ next. T c.args.ask.now next) c.take_page.result (λ next h. subst (λ ask. T ask next) (sym c.in-List.is) (h c.in-List.after)) c.take_page.ensures.takes
+    ok_then P (λ next. SurveyTakesBy c.args.versions old c.args.ask.now c.args.say.now next new) c.take_page.result (λ next h task token es known. subst (λ ask. T ask next) (sym c.in-List.is) (h c.in-List.after) task token es) c.take_page.ensures.takes
 
 pub returns-in-List-clause-knows : goal.returns-in-List-clause-knows
 returns-in-List-clause-knows c =
@@ -36,7 +36,7 @@ returns-in-Range-clause-takes c =
     let new = c.take_tree.new.self in
     let T : Ask → Next → Type 0 = λ ask next. TakesSurvey (rounds_of old) (walk_of old.walk) ask c.args.say.now next (rounds_of new) (walk_of new.walk) in
     let P : Next → Type 0 = λ next. (pack : Name) (offset len : ℕ) → T (Ask.Range pack offset len) next in
-    ok_then P (λ next. T c.args.ask.now next) c.take_tree.result (λ next h. subst (λ ask. T ask next) (sym c.in-Range.is) (h c.in-Range.pack c.in-Range.offset c.in-Range.length)) c.take_tree.ensures.takes
+    ok_then P (λ next. SurveyTakesBy c.args.versions old c.args.ask.now c.args.say.now next new) c.take_tree.result (λ next h task token es known. subst (λ ask. T ask next) (sym c.in-Range.is) (h c.in-Range.pack c.in-Range.offset c.in-Range.length) task token es) c.take_tree.ensures.takes
 
 pub returns-in-List-clause-over : goal.returns-in-List-clause-over
 returns-in-List-clause-over c =

@@ -1,10 +1,18 @@
+use Rattle.repo_name.specs.declared.kinds.Kind.{Kind}
+use Rattle.repo_wire.specs.declared.messages.Ask.{Ask}
+use Rattle.repo_check.specs.Surveys.{SurveyTakes, SurveyTakesBy}
+use Rattle.repo_check.proofs.Arriving.{ok_then}
 use Rattle.repo_check.proofs.surveys.Survey.take_object.Goals as goal
 
 pub returns-in-Pack-clause-takes : goal.returns-in-Pack-clause-takes
-returns-in-Pack-clause-takes c = rw c.in-Pack.is c.take_pack.ensures.takes
+returns-in-Pack-clause-takes c =
+    rw c.in-Pack.is (ok_then (λ next. SurveyTakes c.args.self.now (Ask.Get Kind.Pack c.args.name) c.args.say.now next c.take_pack.new.self) (λ next. SurveyTakesBy c.args.versions c.args.self.now (Ask.Get Kind.Pack c.args.name) c.args.say.now next c.take_pack.new.self) c.take_pack.result
+    (λ next h task token es known. h task token es) c.take_pack.ensures.takes)
 
 pub returns-in-Index-clause-takes : goal.returns-in-Index-clause-takes
-returns-in-Index-clause-takes c = rw c.in-Index.is c.take_index.ensures.takes
+returns-in-Index-clause-takes c =
+    rw c.in-Index.is (ok_then (λ next. SurveyTakes c.args.self.now (Ask.Get Kind.Index c.args.name) c.args.say.now next c.take_index.new.self) (λ next. SurveyTakesBy c.args.versions c.args.self.now (Ask.Get Kind.Index c.args.name) c.args.say.now next c.take_index.new.self) c.take_index.result
+    (λ next h task token es known. h task token es) c.take_index.ensures.takes)
 
 pub returns-in-Snapshot-clause-takes : goal.returns-in-Snapshot-clause-takes
 returns-in-Snapshot-clause-takes c = rw c.in-Snapshot.is c.take_snapshot.ensures.takes

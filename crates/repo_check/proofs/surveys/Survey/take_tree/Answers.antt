@@ -17,7 +17,7 @@ returns-in_err-next-clause-same c = on_any c.from_residual-in_err-next.result (�
     let walk = walk_of c.args.self.now.walk in
     let at = ranging (rounds_of c.args.self.now) walk es pack offset len h in
     let same = ap (λ f. f.name) (same_Some _ _ (c.in-Some.ensures at.roots at.fact at.awaits)) in
-    c.in_err-next.ensures.same (ap walk.known.links same ∙ at.awaits.due.unread) (ap walk.known.faults same ∙ at.awaits.due.faultless))
+    c.in_err-next.ensures.same (ap walk.known.kept same ∙ at.awaits.due.unread) (ap walk.known.faults same ∙ at.awaits.due.faultless))
 
 pub returns-clause-takes : goal.returns-clause-takes
 returns-clause-takes c = λ pack offset len task token es w may h.

@@ -1,51 +1,35 @@
-use Rattle.std.proofs.Common.{arith, ◌≡◌, ◌≤◌, ◌++◌, ◌∷◌, [], length, length-append, Some, None, ap, ◌∙◌}
-use Rattle.std.proofs.lemmas.List.{append_assoc}
-use Rattle.repo_check.specs.Walks.{known_of, last_level, walk_of}
-use Rattle.repo_check.proofs.Walking.{awaits_on, descends, go_end, last_there, walks_on}
+use Rattle.std.proofs.Common.{arith, ◌≡◌, ◌<◌, ◌++◌, ℕ, List, Some, None, length, slice_get, append_assoc, sym, ap, subst, ◌∙◌}
+use Rattle.std.proofs.lemmas.Option.{slice_get_within}
+use Rattle.repo_check.specs.Walks.{known_of}
+use Rattle.repo_check.specs.declared.visiting.Visit.{Visit}
+use Rattle.repo_check.proofs.Walking.{made_more, none_left, over_at}
 use Rattle.repo_check.proofs.walks.Walk.go_on.Goals as goal
 
-pub returns-in-Some-clause-next : goal.returns-in-Some-clause-next
-returns-in-Some-clause-next c = λ roots h.
-    let inv = c.loop.invariant.1 roots h in
-    let last = last_there c.loop.self.levels.items inv.0.some in
-    awaits_on roots (walk_of c.loop.self) (walk_of c.next_here.new.self) last.0 c.in-Some.fact last.1 (ap known_of c.in-Some.ensures.known) (ap (λ v. v.items) c.in-Some.ensures.levels) (c.in-Some.ensures.next last.0 last.1) inv.0
+pub returns-in_default-clause-next : goal.returns-in_default-clause-next
+returns-in_default-clause-next c = λ roots h.
+    let now = c.loop-place.self in
+    let none : slice_get now.visits c.loop-place.place ≡ None = sym c.visit.ensures ∙ c.in_default.is in
+    over_at roots (known_of now.known) now.visits c.loop-place.place c.loop-place.place (none_left roots now.visits c.loop-place.place none) (c.loop-place.invariant.1 roots h)
 
-pub loop-preserved : goal.loop-preserved
-loop-preserved c =
-    let old = c.loop.self in
-    let mid = c.next_here.new.self in
-    let new = c.descend.new.self in
-    let before = c.loop.invariant.0 in
-    let to = c.in_ok-descend.ensures.ok in
-    let same = ap (λ v. v.items) c.next_here.ensures.levels in
-    let known = ap known_of c.next_here.ensures.known in (
+pub loop-place-preserved : goal.loop-place-preserved
+loop-place-preserved c =
+    let now = c.loop-place.self in
+    let before = c.loop-place.invariant.0 in
+    let adds = c.in_ok-add_led.ensures.among in
+    let there : slice_get now.visits c.loop-place.place ≡ Some c.in-Some.visit = sym c.visit.ensures ∙ c.in-Some.is in (
       record {
-        known = ap known_of c.in_ok-descend.ensures.known ∙ known ∙ before.known;
-        more = before.more ++ to.more ∷ [];
-        levels = to.levels ∙ ap (λ ls. ls ++ to.more ∷ []) (same ∙ before.levels) ∙ append_assoc c.args.self.now.levels.items before.more (to.more ∷ []);
+        known = before.known;
+        more = before.more ++ adds.0;
+        visits = adds.1 ∙ ap (λ vs. vs ++ adds.0) before.visits ∙ append_assoc c.args.self.now.visits before.more adds.0;
       },
       λ roots h.
-          let inv = c.loop.invariant.1 roots h in
-          let last = last_there old.levels.items inv.0.some in
-          let next = rw c.in_default.is at c.next_here.ensures.next in
-          let asks = next last.0 last.1 in
-          let at = walks_on roots (walk_of old) (walk_of mid) last.0 None last.1 known same asks inv.0 in
-          let below = c.loop-test.true in
-          let size = inv.1 in
-          let few : length mid.levels.items ≤ 100 = (let s = ap length same in omega (arith, s, size, below)) in
-          let there : last_level mid.levels.items ≡ Some last.0 = ap last_level same ∙ last.1 in
-          let long = ap length to.levels in (
-            descends roots (walk_of mid) (walk_of new) last.0 there asks.0 few (ap known_of c.in_ok-descend.ensures.known) to at,
-            (let s = ap length same in let two = length-append mid.levels.items (to.more ∷ []) in omega (arith, s, size, long, two)),
-          ),
+          made_more roots (known_of now.known) now.visits c.add_led.new.visits c.loop-place.place c.in-Some.visit there (c.due.ensures.settled c.in_default-due.is) adds c.in_ok-add_led.ensures.all (c.loop-place.invariant.1 roots h),
     )
 
 pub returns-clause-next : goal.returns-clause-next
 returns-clause-next c = λ roots h.
-    let inv = c.loop.invariant.1 roots h in
-    let last = last_there c.loop.self.levels.items inv.0.some in
-    let stop = c.loop-test.false in
-    let few = inv.0.few in
-    let size = inv.1 in
-    let now = c.next_here-2 in
-    go_end roots (walk_of c.loop.self) (walk_of now.new.self) last.0 now.result last.1 (ap known_of now.ensures.known) (ap (λ v. v.items) now.ensures.levels) (now.ensures.next last.0 last.1) (omega (arith, stop, few, size)) inv.0
+    let now = c.loop-place.self in
+    let stop = c.loop-place-test.false in
+    let small : length now.visits < 18446744073709551616 = subst (λ (vs : List Visit). length vs < 18446744073709551616) c.as_slice.ensures c.count-self.ensures.small in
+    let past : (i : ℕ) (v : Visit) → slice_get now.visits i ≡ Some v → i < c.loop-place.place = λ i v there. (let within = slice_get_within now.visits i v there in omega (arith, within, small, stop)) in
+    over_at roots (known_of now.known) now.visits c.loop-place.place c.count-self.result past (c.loop-place.invariant.1 roots h)
