@@ -4,7 +4,7 @@
 use crate::replies::{FILE_TREE, Replies, TREE, granted, name_text, one_file, snapshot};
 use crate::runs::{CALLER, Run};
 use repo_feeding::{Found, Source};
-use repo_files::{ScanError, Skipped};
+use repo_files::{Skipped, WalkError};
 use repo_name::{Token, name_of};
 use repo_prog::{
     FramesError, LeavesOut, Once, backup_from, frames as answer_frames, locks_command,
@@ -83,16 +83,22 @@ struct Nothing;
 impl Source for Nothing {
     ghost use Rattle.std.specs.Prelude.{None};
 
-    type Error = ScanError;
+    type Error = WalkError;
 
     ghost told = { λ _. None };
 
-    fn next(&mut self, _: &mut [u8]) -> Result<Found, ScanError> {
+    ghost failed = { λ _ _. ⊥ };
+
+    fn next(&mut self, _: &mut [u8]) -> Result<Found, WalkError> {
         Ok(Found::End)
     }
 }
 
 impl LeavesOut for Nothing {
+    ghost use Rattle.std.specs.Prelude.{[]};
+
+    ghost skipped = { λ _. [] };
+
     fn left_out(&self) -> &[Skipped] {
         &[]
     }

@@ -32,8 +32,6 @@ mod retrying;
 #[cfg(test)]
 mod runs;
 #[cfg(test)]
-mod scanning;
-#[cfg(test)]
 mod serving;
 #[cfg(test)]
 mod shelves;
@@ -41,5 +39,7 @@ mod shelves;
 mod texts;
 #[cfg(test)]
 mod undoing;
+#[cfg(test)]
+mod walking;
 #[cfg(test)]
 mod yards;

@@ -1,5 +1,5 @@
 -- A backup that feeds itself goes on, item by item.
-use Rattle.std.specs.Prelude.{IsSome, is_some, string_bytes}
+use Rattle.std.specs.Prelude.{◌++◌, ⊤, IsSome, is_some, string_bytes}
 use Rattle.std.proofs.Common.{arith, ◌≡◌, ◌≢◌, ◌≤◌, ◌∷◌, ◌⊎◌, [], ℕ, Bool, true, false, List, length, take, drop, Option, Some, None, refl, sym, ap, subst, inl, inr, length-append, ◌∙◌}
 use Rattle.std.proofs.lemmas.List.{take-append-drop}
 use Rattle.repo_name.specs.declared.kinds.Kind.{Kind}
@@ -8,41 +8,81 @@ use Rattle.repo_wire.specs.declared.messages.Ask.{Ask}
 use Rattle.repo_wire.specs.declared.messages.Say.{Say}
 use Rattle.repo_session.specs.Ends.{IsCause, before_unlock}
 use Rattle.repo_session.specs.Feeds.{Fed, fed_dir, fed_file, fed_bytes, fed_close, fed_end, fed_abandon}
-use Rattle.repo_session.specs.Order.{Task, opened, IsWork, IsWorking, Obeys}
+use Rattle.repo_session.specs.Order.{Task, locked, opened, IsNoUnlock, IsUnlock, IsWork, IsWorking, Obeys}
 use Rattle.repo_session.specs.Askers.{Asker}
 use Rattle.repo_name.specs.declared.names.Name.{Name}
 use Rattle.repo_session.specs.Sessions.{who_in, ended_in}
-use Rattle.repo_session.specs.Traces.{Trace, Exchanged, giving, fed_in, feeding}
+use Rattle.repo_session.specs.Traces.{Each, Exchange, Trace, Exchanged, giving, silent, fed_in, feeding}
 use Rattle.repo_session.specs.Versions.{upto}
 use Rattle.repo_session.specs.declared.emissions.Emission.{Emission}
 use Rattle.repo_session.specs.declared.outcomes.End.{End}
 use Rattle.repo_session.specs.declared.outcomes.Outcome.{Outcome}
 use Rattle.repo_session.proofs.Sessioning.{wants_of}
 use Rattle.repo_backup.specs.declared.items.Item.{Item}
-use Rattle.repo_feeding.specs.Rooms.{Fills, IsItemOf}
+use Rattle.repo_feeding.specs.inner.Rooms.{Fills, IsItemOf}
+use Rattle.repo_feeding.specs.declared.reasons.GivenUp.{GivenUp}
 use Rattle.repo_feeding.specs.declared.sources.Found.{Found}
-use Rattle.repo_backup.specs.Items.{fed_of, fed_part, size_of, NobodyGaveUp, Place, after, place_of}
+use Rattle.repo_backup.specs.Items.{fed_of, fed_part, size_of, NobodyGaveUp, MayTake, Place, after, place_of}
 use Rattle.repo_backup.specs.PieceBackups.{PieceKnows, PieceWants, IsFreshPieces, FitsPieces, IsHungry}
 use Rattle.repo_backup.specs.PieceObedience.{pieces_obey}
 use Rattle.repo_backup.specs.PieceRules.{PieceAllows, PieceConcludes, WantsInput, WasGivenUp, piece_rule}
 use Rattle.repo_backup.specs.PieceStates.{piece_task}
 use Rattle.repo_backup.specs.declared.piece_backups.PieceBackup.{PieceBackup}
 use Rattle.repo_feeding.specs.FedObedience.{right_at, before_right}
-use Rattle.repo_feeding.specs.FedRules.{IsAsTold}
-use Rattle.repo_feeding.specs.FedStates.{Feeder, feeder, IsFedLate, IsFedRight, AreFedRight, LeadsOn, IsFed, IsFedUpto, FitsFed}
-use Rattle.repo_feeding.specs.Sources.{Told, whole_of, IsFresh, Comes}
+use Rattle.repo_feeding.specs.FedRules.{IsAsTold, IsOnTheWay, IsFedLate, AreWelcome}
+use Rattle.repo_feeding.specs.FedStates.{Feeder, IsFedRight, AreFedRight, LeadsOn, IsFed, IsFedUpto, FitsFed}
+use Rattle.repo_feeding.specs.Reasons.{IsReason, HasReason}
+use Rattle.repo_feeding.specs.Sources.{Told, whole_of, IsSound, IsUntouched, Comes}
 use Rattle.repo_feeding.specs.Unfed.{unfed}
 use Rattle.repo_feeding.proofs.Among.{before_exchanged}
-use Rattle.repo_feeding.proofs.Places.{bytes_joined, nothing_more, not_over, over_more, comes_whole, comes_on, comes_told, fresh_on}
+use Rattle.repo_feeding.proofs.Places.{bytes_joined, nothing_more, not_over, on_the_way, over_more, comes_whole, comes_on, comes_told, fresh_on}
+
+-- a backup, what its source was told, what waits, whether it was given up, and the cause of that
+abbrev pub standing : PieceBackup → Option Told → List ℕ → Bool → (Place → Type 0) → Feeder
+standing backup told rest gave cause = record { backup = backup; told = told; rest = rest; gave = gave; cause = cause }
 
 -- ---- where a backup wants input
 
 working_long : (task : Task) (token : Token) (es : Trace) → IsWorking task token es → 3 ≤ length es
 working_long task token es (config, h) = omega (arith, ap length h.since, length-append h.later (opened task token h.text))
 
+-- the newest exchange didn't end the lock
+abbrev pub HasNotEnded : Trace → Type 0
+HasNotEnded [] = ⊤
+HasNotEnded (e ∷ es) = ¬ IsUnlock e.ask
+
+no_unlock : (ask : Ask) → ((token : Token) → ask ≢ Ask.Unlock token) → ¬ IsUnlock ask
+no_unlock (Ask.Unlock token) none unlock = none token refl
+no_unlock Ask.Ticket none unlock = unlock
+no_unlock (Ask.Lock row) none unlock = unlock
+no_unlock (Ask.Refresh token time) none unlock = unlock
+no_unlock Ask.Locks none unlock = unlock
+no_unlock (Ask.List k after) none unlock = unlock
+no_unlock (Ask.Get k n) none unlock = unlock
+no_unlock (Ask.Range pack offset len) none unlock = unlock
+no_unlock (Ask.Put token k n x) none unlock = unlock
+no_unlock (Ask.Delete token k n) none unlock = unlock
+no_unlock Ask.Config none unlock = unlock
+no_unlock (Ask.Upgrade token) none unlock = unlock
+
+-- one that goes on, behind some others, isn't its end
+open_so : (later older : Trace) (e : Exchange) → ¬ IsUnlock e.ask → Each IsNoUnlock later → HasNotEnded (later ++ e ∷ older)
+open_so [] older e none h = none
+open_so (x ∷ later) older e none h = no_unlock x.ask h.0
+
+working_open : (task : Task) (token : Token) (es : Trace) → IsWorking task token es → HasNotEnded es
+working_open task token es (config, h) =
+    subst HasNotEnded (sym h.since) (open_so h.later (locked task token) (silent Ask.Config (Say.Bytes h.text)) (λ unlock. unlock) h.held.unended)
+
 module _ (b : PieceBackup) (fs : Trace) (hungry : IsHungry b) (fits : FitsPieces b fs) where
   pub hungry_wants : WantsInput fs
   hungry_wants = (pieces_obey b fs fits).settled hungry.0 hungry.1
+
+  pub hungry_open : HasNotEnded fs
+  hungry_open =
+      let s = b.session in
+      let w = wants_of piece_rule s.head.holder s.head.lock (IsFreshPieces s.job) (PieceKnows s.job) (PieceWants s.job) s.head.line fs hungry.0 hungry.1 fits in
+      working_open (piece_task s.head.holder.who) s.head.holder.token fs w.working
 
   pub hungry_long : 3 ≤ length fs
   hungry_long =
@@ -69,6 +109,11 @@ late_fed : (item : Fed) (fs : Trace) → 3 ≤ length fs → IsFedLate fs → Is
 late_fed item [] long late = late
 late_fed item (e ∷ fs) long late = (λ some. omega (arith, long), late.1)
 
+-- an item that is wanted, and may be taken, is welcome
+welcome_fed : (item : Fed) (fs : Trace) → 3 ≤ length fs → HasNotEnded fs → WantsInput fs → MayTake (place_of (fed_in fs)) item → AreWelcome fs → AreWelcome (feeding item fs)
+welcome_fed item [] long open_still wants may h = absurd (omega (arith, long))
+welcome_fed item (e ∷ fs) long open_still wants may h = ((open_still, wants, may, h.0), h.1)
+
 right_fed : (whole : Option (List Fed)) (gave : Bool) (item : Fed) (fs : Trace) → AreFedRight whole gave fs → IsFedRight whole gave (feeding item fs) → AreFedRight whole gave (feeding item fs)
 right_fed whole gave item [] h top = tt
 right_fed whole gave item (e ∷ fs) h top = (top, h.1)
@@ -76,7 +121,7 @@ right_fed whole gave item (e ∷ fs) h top = (top, h.1)
 -- a reason stays
 right_kept : (whole : Option (List Fed)) (gave : Bool) (fs : Trace) → AreFedRight whole gave fs → AreFedRight whole true fs
 right_kept whole gave [] h = tt
-right_kept whole gave (e ∷ fs) h = (record { told = h.0.told; reason = λ gone. refl }, right_kept whole gave fs h.1)
+right_kept whole gave (e ∷ fs) h = (record { welcome = h.0.welcome; late = h.0.late; so_far = h.0.so_far; told = h.0.told; reason = λ gone. refl }, right_kept whole gave fs h.1)
 
 fed_place : (item : Fed) (fs : Trace) → 3 ≤ length fs → place_of (fed_in (feeding item fs)) ≡ after (place_of (fed_in fs)) item
 fed_place item [] long = absurd (omega (arith, long))
@@ -104,10 +149,10 @@ still_kept item (e ∷ fs) long on gone = on (fed_in (e ∷ fs)) gone
 
 module _ (f : Feeder) (new : PieceBackup) (es fs : Trace) (hungry : IsHungry f.backup) (fed : IsFed f es fs) where
   -- one by which nobody gives up
-  fed_more : (item : Fed) (told : Option Told) (rest : List ℕ) → GoesOn item → whole_of told ≡ whole_of f.told → FitsPieces new (feeding item fs)
-      → IsAsTold (whole_of told) (after (place_of (fed_in fs)) item) → LeadsOn told (after (after (place_of (fed_in fs)) item) (fed_bytes rest))
-      → IsFedUpto (feeder new told rest f.gave) es (feeding item fs)
-  fed_more item told rest on same fits right leads =
+  fed_more : (item : Fed) (told : Option Told) (rest : List ℕ) (cause : Place → Type 0) → MayTake (place_of (fed_in fs)) item → GoesOn item → whole_of told ≡ whole_of f.told → FitsPieces new (feeding item fs)
+      → IsAsTold (whole_of told) (after (place_of (fed_in fs)) item) → LeadsOn told (after (after (place_of (fed_in fs)) item) (fed_bytes rest)) → ((p : Place) → cause p)
+      → IsFedUpto (standing new told rest f.gave cause) es (feeding item fs)
+  fed_more item told rest cause may on same fits right leads caused =
       let long = hungry_long f.backup fs hungry fed.at in
       let wants = hungry_wants f.backup fs hungry fed.at in
       let place = fed_place item fs long in
@@ -115,17 +160,23 @@ module _ (f : Feeder) (new : PieceBackup) (es fs : Trace) (hungry : IsHungry f.b
         fed = record {
           same = unfed_fed item fs ∙ fed.same;
           at = fits;
-          late = late_fed item fs long fed.late;
           right = right_fed (whole_of told) f.gave item fs (subst (λ whole. AreFedRight whole f.gave fs) (sym same) fed.right)
-              (record { told = subst (λ p. IsAsTold (whole_of told) p) (sym place) right; reason = λ gone. absurd (still_kept item fs long on gone) });
+              (record {
+                welcome = welcome_fed item fs long (hungry_open f.backup fs hungry fed.at) wants may (right_at (whole_of f.told) f.gave fs fed.right).welcome;
+                late = late_fed item fs long (right_at (whole_of f.told) f.gave fs fed.right).late;
+                so_far = λ kept. subst (λ p. IsOnTheWay (whole_of told) p) (sym place) (on_the_way told (after (place_of (fed_in fs)) item) rest leads);
+                told = subst (λ p. IsAsTold (whole_of told) p) (sym place) right;
+                reason = λ gone. absurd (still_kept item fs long on gone);
+              });
           gone = λ gave. absurd (nobody_gone (fed_in fs) wants.kept (fed.gone gave).0);
         };
         leads_on = λ kept. subst (λ p. LeadsOn told (after p (fed_bytes rest))) (sym place) leads;
+        caused = caused (place_of (fed_in (feeding item fs)));
       }
 
   -- one by which somebody does
-  pub fed_up : FitsPieces new (feeding fed_abandon fs) → FitsFed (feeder new f.told f.rest true) es
-  fed_up fits =
+  pub fed_up : (cause : Place → Type 0) → cause (place_of (fed_in fs)) → FitsPieces new (feeding fed_abandon fs) → FitsFed (standing new f.told f.rest true cause) es
+  fed_up cause caused fits =
       let long = hungry_long f.backup fs hungry fed.at in
       let wants = hungry_wants f.backup fs hungry fed.at in
       let place = fed_place fed_abandon fs long in
@@ -135,12 +186,18 @@ module _ (f : Feeder) (new : PieceBackup) (es fs : Trace) (hungry : IsHungry f.b
           fed = record {
             same = unfed_fed fed_abandon fs ∙ fed.same;
             at = fits;
-            late = late_fed fed_abandon fs long fed.late;
             right = right_fed (whole_of f.told) true fed_abandon fs (right_kept (whole_of f.told) f.gave fs fed.right)
-                (record { told = subst (λ p. IsAsTold (whole_of f.told) p) (sym place) (not_over (whole_of f.told) (place_of (fed_in fs)) wants.goes_on); reason = λ gone. refl });
+                (record {
+                  welcome = welcome_fed fed_abandon fs long (hungry_open f.backup fs hungry fed.at) wants tt (right_at (whole_of f.told) f.gave fs fed.right).welcome;
+                  late = late_fed fed_abandon fs long (right_at (whole_of f.told) f.gave fs fed.right).late;
+                  so_far = λ kept. absurd (gone_up fs long kept);
+                  told = subst (λ p. IsAsTold (whole_of f.told) p) (sym place) (not_over (whole_of f.told) (place_of (fed_in fs)) wants.goes_on);
+                  reason = λ gone. refl;
+                });
             gone = λ gave. (abandoned fs long, ap (λ (p : Place). p.over) place ∙ wants.goes_on);
           };
           leads_on = λ kept. absurd (gone_up fs long kept);
+          caused = subst cause (sym place) caused;
         };
         full = full_gone new fs long fits;
       }
@@ -155,69 +212,70 @@ module _ (f : Feeder) (new : PieceBackup) (es fs : Trace) (hungry : IsHungry f.b
 
 module _ (f : Feeder) (new : PieceBackup) (es fs : Trace) (hungry : IsHungry f.backup) (upto : IsFedUpto f es fs) where
   -- some first bytes of those that wait
-  pub fed_part_of : (n : ℕ) → FitsPieces new (feeding (fed_bytes (take n f.rest)) fs) → IsFedUpto (feeder new f.told (drop n f.rest) f.gave) es (feeding (fed_bytes (take n f.rest)) fs)
-  fed_part_of n fits =
+  pub fed_part_of : (n : ℕ) (cause : Place → Type 0) → MayTake (place_of (fed_in fs)) (fed_bytes (take n f.rest)) → ((p : Place) → cause p) → FitsPieces new (feeding (fed_bytes (take n f.rest)) fs)
+      → IsFedUpto (standing new f.told (drop n f.rest) f.gave cause) es (feeding (fed_bytes (take n f.rest)) fs)
+  fed_part_of n cause may caused fits =
       let wants = hungry_wants f.backup fs hungry upto.fed.at in
       let p = place_of (fed_in fs) in
       let whole : after (after p (fed_bytes (take n f.rest))) (fed_bytes (drop n f.rest)) ≡ after p (fed_bytes f.rest)
       = bytes_joined p (take n f.rest) (drop n f.rest) ∙ ap (λ bytes. after p (fed_bytes bytes)) (take-append-drop n f.rest) in
-      fed_more f new es fs hungry upto.fed (fed_bytes (take n f.rest)) f.told (drop n f.rest) (λ items gone. gone) refl fits
-      (not_over (whole_of f.told) (after p (fed_bytes (take n f.rest))) wants.goes_on) (subst (λ q. LeadsOn f.told q) (sym whole) (upto.leads_on wants.kept))
+      fed_more f new es fs hungry upto.fed (fed_bytes (take n f.rest)) f.told (drop n f.rest) cause may (λ items gone. gone) refl fits
+      (not_over (whole_of f.told) (after p (fed_bytes (take n f.rest))) wants.goes_on) (subst (λ q. LeadsOn f.told q) (sym whole) (upto.leads_on wants.kept)) caused
 
   -- what came, where nothing waits
-  pub fed_found_item : (item : Fed) (told : Option Told) → f.rest ≡ [] → GoesOn item → Comes f.told (Some item) told → FitsPieces new (feeding item fs) → IsFedUpto (feeder new told [] f.gave) es (feeding item fs)
-  fed_found_item item told none on comes fits =
+  pub fed_found_item : (item : Fed) (told : Option Told) (cause : Place → Type 0) → MayTake (place_of (fed_in fs)) item → f.rest ≡ [] → GoesOn item → Comes f.told (Some item) told → ((p : Place) → cause p) → FitsPieces new (feeding item fs)
+      → IsFedUpto (standing new told [] f.gave cause) es (feeding item fs)
+  fed_found_item item told cause may none on comes caused fits =
       let wants = hungry_wants f.backup fs hungry upto.fed.at in
       let p = place_of (fed_in fs) in
       let here : LeadsOn f.told p = subst (λ q. LeadsOn f.told q) (ap (λ bytes. after p (fed_bytes bytes)) none ∙ nothing_more p) (upto.leads_on wants.kept) in
       let next = comes_on f.told item told p comes here in
-      fed_more f new es fs hungry upto.fed item told [] on (comes_whole f.told (Some item) told comes) fits
-      (comes_told f.told item told p comes wants.goes_on next) (subst (λ q. LeadsOn told q) (sym (nothing_more (after p item))) next)
+      fed_more f new es fs hungry upto.fed item told [] cause may on (comes_whole f.told (Some item) told comes) fits
+      (comes_told f.told item told p comes wants.goes_on next) (subst (λ q. LeadsOn told q) (sym (nothing_more (after p item))) next) caused
 
 -- bytes came, where nothing waits
-pub bytes_found : (f : Feeder) (es fs : Trace) (bytes : List ℕ) (told : Option Told) → f.rest ≡ [] → Comes f.told (Some (fed_bytes bytes)) told → IsFedUpto f es fs → IsFedUpto (feeder f.backup told bytes f.gave) es fs
-bytes_found f es fs bytes told none comes upto =
+pub bytes_found : (f : Feeder) (es fs : Trace) (bytes : List ℕ) (told : Option Told) (cause : Place → Type 0) → f.rest ≡ [] → Comes f.told (Some (fed_bytes bytes)) told → ((p : Place) → cause p) → IsFedUpto f es fs
+    → IsFedUpto (standing f.backup told bytes f.gave cause) es fs
+bytes_found f es fs bytes told cause none comes caused upto =
     let p = place_of (fed_in fs) in
     let same = comes_whole f.told (Some (fed_bytes bytes)) told comes in
     record {
-      fed = record { same = upto.fed.same; at = upto.fed.at; late = upto.fed.late; right = subst (λ whole. AreFedRight whole f.gave fs) (sym same) upto.fed.right; gone = upto.fed.gone };
+      fed = record { same = upto.fed.same; at = upto.fed.at; right = subst (λ whole. AreFedRight whole f.gave fs) (sym same) upto.fed.right; gone = upto.fed.gone };
       leads_on = λ kept. (
           let here : LeadsOn f.told p = subst (λ q. LeadsOn f.told q) (ap (λ more. after p (fed_bytes more)) none ∙ nothing_more p) (upto.leads_on kept) in
           comes_on f.told (fed_bytes bytes) told p comes here);
+      caused = caused p;
     }
 
 -- nothing was fed, and what came is lost
-pub fed_none : (f : Feeder) (new : PieceBackup) (es fs : Trace) (told : Option Told) (rest : List ℕ) → whole_of told ≡ whole_of f.told → FitsPieces new fs → IsFed f es fs → IsFed (feeder new told rest f.gave) es fs
-fed_none f new es fs told rest same fits fed = record { same = fed.same; at = fits; late = fed.late; right = subst (λ whole. AreFedRight whole f.gave fs) (sym same) fed.right; gone = fed.gone }
+pub fed_none : (f : Feeder) (new : PieceBackup) (es fs : Trace) (told : Option Told) (rest : List ℕ) (cause : Place → Type 0) → whole_of told ≡ whole_of f.told → FitsPieces new fs → IsFed f es fs
+    → IsFed (standing new told rest f.gave cause) es fs
+fed_none f new es fs told rest cause same fits fed = record { same = fed.same; at = fits; right = subst (λ whole. AreFedRight whole f.gave fs) (sym same) fed.right; gone = fed.gone }
 
 -- ---- one exchange more
 
 right_next : (whole : Option (List Fed)) (gave : Bool) (ask : Ask) (say : Say) (emitted : List Emission) (fs : Trace) → AreFedRight whole gave fs → AreFedRight whole gave (giving ask say emitted ∷ fs)
-right_next whole gave ask say emitted fs h = let top = right_at whole gave fs h in (record { told = top.told; reason = top.reason }, h)
+right_next whole gave ask say emitted fs h = let top = right_at whole gave fs h in (record { welcome = (tt, top.welcome); late = (λ some. absurd (some refl), top.late); so_far = top.so_far; told = top.told; reason = top.reason }, h)
 
 pub taken_on : (f : Feeder) (new : PieceBackup) (es fs : Trace) (ask : Ask) (say : Say) (emitted : List Emission) → FitsPieces new (giving ask say emitted ∷ fs) → IsFedUpto f es fs
-    → IsFedUpto (feeder new f.told f.rest f.gave) (giving ask say emitted ∷ es) (giving ask say emitted ∷ fs)
+    → IsFedUpto (standing new f.told f.rest f.gave f.cause) (giving ask say emitted ∷ es) (giving ask say emitted ∷ fs)
 taken_on f new es fs ask say emitted fits upto = record {
   fed = record {
     same = ap (λ xs. giving ask say emitted ∷ xs) upto.fed.same;
     at = fits;
-    late = (λ some. absurd (some refl), upto.fed.late);
     right = right_next (whole_of f.told) f.gave ask say emitted fs upto.fed.right;
     gone = upto.fed.gone;
   };
   leads_on = upto.leads_on;
+  caused = upto.caused;
 }
-
--- what stands, stands with a backup that stands there too
-pub stays_on : (f : Feeder) (new : PieceBackup) (es fs : Trace) → FitsPieces new fs → IsFedUpto f es fs → IsFedUpto (feeder new f.told f.rest f.gave) es fs
-stays_on f new es fs fits upto = record { fed = record { same = upto.fed.same; at = fits; late = upto.fed.late; right = upto.fed.right; gone = upto.fed.gone }; leads_on = upto.leads_on }
 
 -- ---- the beginning, and the end
 
-pub fits_first : (b : PieceBackup) (told : Option Told) → FitsPieces b [] → IsFresh told → FitsFed (feeder b told [] false) []
-fits_first b told fits fresh = record {
+pub fits_first : (b : PieceBackup) (told : Option Told) (cause : Place → Type 0) → FitsPieces b [] → IsUntouched told → ((p : Place) → cause p) → FitsFed (standing b told [] false cause) []
+fits_first b told cause fits fresh caused = record {
   fs = [];
-  upto = record { fed = record { same = refl; at = fits; late = tt; right = tt; gone = λ gave. absurd (cc) }; leads_on = λ kept. fresh_on told fresh };
+  upto = record { fed = record { same = refl; at = fits; right = tt; gone = λ gave. absurd (cc) }; leads_on = λ kept. fresh_on told fresh; caused = caused (place_of []) };
   full = full_first b fits;
 }
 
@@ -296,3 +354,23 @@ not_stored f es name blobs bytes fits is gave =
     let over = snapshot_over (who_in f.backup.session) fits.fs put.0 name stored.text Say.Done o.obeys (before_exchanged fits.fs (Ask.Put put.0 Kind.Snapshot name stored.text) Say.Done put.1) in
     let open_still = (u.gone gave).1 in
     absurd (cc)
+
+-- ---- why it was given up
+
+-- where it wants input there is no reason
+pub no_reason : (f : Feeder) (es fs : Trace) → IsHungry f.backup → IsFed f es fs → f.gave ≢ true
+no_reason f es fs hungry fed gave = nobody_gone (fed_in fs) (hungry_wants f.backup fs hungry fed.at).kept (fed.gone gave).0
+
+-- where there is a reason it wants none
+pub full_with : (f : Feeder) (es fs : Trace) → IsFed f es fs → f.gave ≡ true → ¬ IsHungry f.backup
+full_with f es fs fed gave hungry = no_reason f es fs hungry fed gave
+
+module _ {E : Type 0} (failed : E → Type 0) where
+  -- where there is no reason its source hasn't failed
+  pub sound_of : (p : Place) (given_up : Option (GivenUp E)) → is_some given_up ≢ true → HasReason failed p given_up → IsSound failed
+  sound_of p None none h = h
+  sound_of p (Some reason) none h = absurd (none refl)
+
+  pub reason_so : (given_up : Option (GivenUp E)) → is_some given_up ≢ true → IsSound failed → (p : Place) → HasReason failed p given_up
+  reason_so None none h p = h
+  reason_so (Some reason) none h p = absurd (none refl)

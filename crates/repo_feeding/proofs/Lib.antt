@@ -2,3 +2,4 @@ pub mod Among
 pub mod Places
 pub mod Feeding
 pub mod Spelled
+pub mod Fed

@@ -2,9 +2,9 @@
 use Rattle.std.proofs.Common.{◌≡◌, ◌++◌, ◌∷◌, [], ℕ, true, false, List, Option, Some, None, refl, sym, ap, subst, append-nil, append_assoc, ◌∙◌}
 use Rattle.repo_session.specs.Feeds.{Fed, fed_dir, fed_file, fed_bytes, fed_close, fed_end, fed_abandon}
 use Rattle.repo_backup.specs.Items.{FileSoFar, Place, at_root, with_more, closed, after, place_of}
-use Rattle.repo_feeding.specs.FedRules.{IsAsTold}
+use Rattle.repo_feeding.specs.FedRules.{IsAsTold, IsOnTheWay}
 use Rattle.repo_feeding.specs.FedStates.{LeadsOn}
-use Rattle.repo_feeding.specs.Sources.{Told, whole_of, IsFresh, Comes, leads}
+use Rattle.repo_feeding.specs.Sources.{Told, whole_of, IsUntouched, Comes, leads}
 
 -- ---- bytes
 
@@ -57,6 +57,11 @@ pub not_over : (whole : Option (List Fed)) (p : Place) → p.over ≡ false → 
 not_over None p goes = tt
 not_over (Some whole) p goes = λ over. absurd (cc)
 
+-- what is led on, bytes that wait before it, is on the way
+pub on_the_way : (told : Option Told) (p : Place) (rest : List ℕ) → LeadsOn told (after p (fed_bytes rest)) → IsOnTheWay (whole_of told) p
+on_the_way None p rest h = tt
+on_the_way (Some told) p rest h = (fed_bytes rest ∷ told.coming, h)
+
 -- ---- what comes
 
 pub comes_whole : (old : Option Told) (came : Option Fed) (new : Option Told) → Comes old came new → whole_of new ≡ whole_of old
@@ -79,6 +84,6 @@ comes_told (Some old) item new p (now, is, whole, coming, last) goes on =
     let none = last (only_end p item goes over) in
     ap (λ (q : Place). q.entries) (ap (λ items. leads (after p item) items) (sym none) ∙ here)))
 
-pub fresh_on : (told : Option Told) → IsFresh told → LeadsOn told at_root
+pub fresh_on : (told : Option Told) → IsUntouched told → LeadsOn told at_root
 fresh_on None h = tt
 fresh_on (Some told) h = ap (λ items. leads at_root items) h

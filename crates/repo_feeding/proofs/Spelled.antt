@@ -70,7 +70,7 @@ put_is_spelled who whole es name text obeys put =
     let p = asked_at (piece_task who) (FedAllows who whole) es put.0 Kind.Snapshot name text Say.Done obeys put.1 in
     let fs = p.1.0 in
     let so = p.1.1 in
-    let rule = p.1.2 in
+    let rule = p.1.3 in
     let over = rule.0 in
     let taken = rule.1 in
     let snap = rule.2 in
@@ -82,7 +82,7 @@ put_is_spelled who whole es name text obeys put =
       put = put;
       reads = snap.reads;
       handed = spelled_are_handed (fed_in fs) taken;
-      spells = spells_move snap.snapshot.version (λ k y. Contains (blobs_of snap.folder) (item_of k y)) (IsIndexedBlob es) greatest_depth snap.snapshot.tree [] (spelled_by (fed_in fs)) snap.spells
+      spells = spells_move snap.snapshot.version (λ k y. Contains (blobs_of snap.cut.config.version snap.folder) (item_of k y)) (IsIndexedBlob es) greatest_depth snap.snapshot.tree [] (spelled_by (fed_in fs)) snap.spells
           (λ k n r x among is. blob_on fs es on k x (snap.given (item_of k x) among));
       of_source = of_source whole fs so.told over;
     }

@@ -12,12 +12,15 @@ use Rattle.repo_wire.specs.declared.messages.Request.{Request}
 use Rattle.repo_session.specs.Askers.{Asker}
 use Rattle.repo_session.specs.Clients.{IsObedientWith}
 use Rattle.repo_session.specs.Feeds.{Fed}
-use Rattle.repo_session.specs.Traces.{Trace, IsGiven}
+use Rattle.repo_session.specs.Traces.{Trace, IsGiven, fed_in}
 use Rattle.repo_session.specs.declared.outcomes.Outcome.{Outcome}
 use Rattle.repo_writing.specs.Putting.{PutDone, IsIndexed}
 use Rattle.repo_backup.specs.Handed.{AreHanded}
 use Rattle.repo_backup.specs.PieceStates.{piece_task}
-use Rattle.repo_feeding.specs.FedRules.{FedAllows, FedConcludes}
+use Rattle.repo_backup.specs.Items.{place_of}
+use Rattle.repo_backup.specs.Laws.{IsFedBackup}
+use Rattle.repo_feeding.specs.FedRules.{AreWelcome, IsAsTold, FedAllows, FedConcludes}
+use Rattle.repo_feeding.specs.Unfed.{unfed}
 use Rattle.repo_feeding.specs.Sources.{spelled_in}
 
 -- an index that was read, or that was put, gives the blob of this kind and these bytes
@@ -43,6 +46,19 @@ pub record IsSpelledSnapshot (whole : Option (List Fed)) (es : Trace) (name : Na
 -- a client stands at these exchanges by the rule of a backup that feeds itself
 abbrev pub IsFedClient : Asker → Option (List Fed) → Option Request → Option Outcome → Trace → Type 0
 IsFedClient who whole next outcome es = IsObedientWith (piece_task who) (FedAllows who whole) (λ before e. ⊥) (FedConcludes who whole) (λ before. ⊥) next outcome es
+
+-- a backup that is fed stands at these exchanges by its rule, with some items between them, each of which was welcome; and where its source is known they spell
+-- what the source was made to give, once they ended
+pub record StandsAsFed (who : Asker) (whole : Option (List Fed)) (next : Option Request) (outcome : Option Outcome) (es : Trace) : Type 0 where
+  pub fs : Trace
+  pub same : unfed fs ≡ es
+  pub welcome : AreWelcome fs
+  pub told : IsAsTold whole (place_of (fed_in fs))
+  pub fed : IsFedBackup who next outcome fs
+
+-- where a backup that feeds itself stands, one that is fed stands with some items
+abbrev pub FedClientsAreFed : Type 0
+FedClientsAreFed = (who : Asker) (whole : Option (List Fed)) (next : Option Request) (outcome : Option Outcome) (es : Trace) → unfed es ≡ es → IsFedClient who whole next outcome es → StandsAsFed who whole next outcome es
 
 -- what it stored is such a snapshot
 abbrev pub StoredIsSpelled : Type 0

@@ -8,7 +8,7 @@ use Rattle.repo_session.specs.Askers.{Asker}
 use Rattle.repo_session.specs.Clients.{IsNextRequest, IsObedientWith, TellsToken}
 use Rattle.repo_session.specs.Ends.{Concludes, MayConclude, before_unlock, without_unlock}
 use Rattle.repo_session.specs.Feeds.{Fed}
-use Rattle.repo_session.specs.Order.{IsPermitted, Obeys}
+use Rattle.repo_session.specs.Order.{IsPermitted, May, Obeys}
 use Rattle.repo_session.specs.Sessions.{who_in, next_in, ended_in, token_in}
 use Rattle.repo_session.specs.Traces.{Exchange, Trace}
 use Rattle.repo_session.specs.Versions.{upto}
@@ -17,33 +17,37 @@ use Rattle.repo_backup.specs.Items.{at_root}
 use Rattle.repo_backup.specs.PieceObedience.{pieces_obey, pieces_tell}
 use Rattle.repo_backup.specs.PieceRules.{PieceAllows, PieceConcludes, WantsInput}
 use Rattle.repo_backup.specs.PieceStates.{piece_task}
-use Rattle.repo_feeding.specs.FedRules.{IsAsTold, IsFedSo, FedAllows, FedConcludes}
-use Rattle.repo_feeding.specs.FedStates.{Feeder, job_of, IsFedLate, IsFedRight, AreFedRight, FitsFed}
+use Rattle.repo_feeding.specs.FedRules.{IsAsTold, IsOnTheWay, IsFedLate, IsFedSo, FedAllows, FedConcludes}
+use Rattle.repo_feeding.specs.FedStates.{Feeder, job_of, IsFedRight, AreFedRight, FitsFed}
 use Rattle.repo_feeding.specs.Sources.{whole_of}
 use Rattle.repo_feeding.specs.Unfed.{unfed}
 use Rattle.repo_feeding.specs.Unseen.{unfed_length, exchanged_so, so_exchanged, may_so, so_holds, before_so, spent_so, cause_so}
 
 -- before anything was fed nothing ended
-told_first : (whole : Option (List Fed)) → IsAsTold whole at_root
+pub told_first : (whole : Option (List Fed)) → IsAsTold whole at_root
 told_first None = tt
 told_first (Some whole) = λ over. absurd (cc)
 
+way_first : (whole : Option (List Fed)) → IsOnTheWay whole at_root
+way_first None = tt
+way_first (Some whole) = (whole, refl)
+
 -- what was fed so far is the source's
 pub right_at : (whole : Option (List Fed)) (gave : Bool) (fs : Trace) → AreFedRight whole gave fs → IsFedRight whole gave fs
-right_at whole gave [] right = record { told = told_first whole; reason = λ gone. absurd gone }
+right_at whole gave [] right = record { welcome = tt; late = tt; so_far = λ kept. way_first whole; told = told_first whole; reason = λ gone. absurd gone }
 right_at whole gave (e ∷ fs) right = right.0
 
 module _ (who : Asker) (whole : Option (List Fed)) (gave : Bool) where
   -- a backup that is fed obeys, as others see it, the rule of one that feeds itself
   so_fed : (fs : Trace) → AreFedRight whole gave fs → Obeys (piece_task who) PieceAllows (λ before e. ⊥) fs → IsFedSo who whole (unfed fs) fs
-  so_fed fs right h = record { same = refl; obeys = h; told = (right_at whole gave fs right).told }
+  so_fed fs right h = let top = right_at whole gave fs right in record { same = refl; obeys = h; welcome = top.welcome; late = top.late; so_far = top.so_far; told = top.told }
 
-  permitted_so : (fs : Trace) (ask : Ask) → AreFedRight whole gave fs → Obeys (piece_task who) PieceAllows (λ before e. ⊥) fs → IsPermitted PieceAllows fs ask → IsPermitted (FedAllows who whole) (unfed fs) ask
-  permitted_so fs ask right h may work = (fs, so_fed fs right h, may work)
+  permitted_so : (fs : Trace) (ask : Ask) → AreFedRight whole gave fs → Obeys (piece_task who) PieceAllows (λ before e. ⊥) fs → May (piece_task who) fs ask → IsPermitted PieceAllows fs ask → IsPermitted (FedAllows who whole) (unfed fs) ask
+  permitted_so fs ask right h in_order may work = (fs, so_fed fs right h, in_order, may work)
 
   pub obeys_so : (fs : Trace) → AreFedRight whole gave fs → Obeys (piece_task who) PieceAllows (λ before e. ⊥) fs → Obeys (piece_task who) (FedAllows who whole) (λ before e. ⊥) (unfed fs)
   obeys_so [] right h = h
-  obeys_so (e ∷ fs) right h = (may_so (piece_task who) fs e.ask h.0, permitted_so fs e.ask right.1 h.3 h.1, inl (silent_so h.2), obeys_so fs right.1 h.3)
+  obeys_so (e ∷ fs) right h = (may_so (piece_task who) fs e.ask h.0, permitted_so fs e.ask right.1 h.3 h.0 h.1, inl (silent_so h.2), obeys_so fs right.1 h.3)
     where
       silent_so : (e.emitted ≡ []) ⊎ ⊥ → e.emitted ≡ []
       silent_so (inl none) = none
@@ -54,7 +58,7 @@ module _ (who : Asker) (whole : Option (List Fed)) (gave : Bool) where
     instance = n.instance;
     sequence = n.sequence ∙ ap (λ l. l + 1) (sym (unfed_length fs));
     may = may_so (piece_task who) fs request.ask n.may;
-    permitted = permitted_so fs request.ask right h n.permitted;
+    permitted = permitted_so fs request.ask right h n.may n.permitted;
   }
 
   -- ---- how it may end
@@ -136,7 +140,7 @@ fed_obeys f es fits =
     let whole = whole_of f.told in
     let P : Trace → Type 0 = λ fs. IsObedientWith (piece_task who) (FedAllows who whole) (λ before e. ⊥) (FedConcludes who whole) (λ before. ⊥) (next_in b.session) (ended_in b.session) fs in
     let u = fits.upto.fed in
-    subst P u.same (obedient_so who whole f.gave (next_in b.session) (ended_in b.session) fits.fs u.late u.right fits.full (pieces_obey b fits.fs u.at))
+    subst P u.same (obedient_so who whole f.gave (next_in b.session) (ended_in b.session) fits.fs (right_at whole f.gave fits.fs u.right).late u.right fits.full (pieces_obey b fits.fs u.at))
 
 pub fed_tells : (f : Feeder) (es : Trace) → FitsFed f es → TellsToken (token_in f.backup.session) (ended_in f.backup.session) es
 fed_tells f es fits =

@@ -1,5 +1,5 @@
 -- Where a backup that feeds itself stands.
-use Rattle.std.specs.Prelude.{◌≡◌, ◌≢◌, ◌≤◌, ◌∷◌, [], ⊤, ℕ, Bool, true, false, List, length, Option, Some, None}
+use Rattle.std.specs.Prelude.{◌≡◌, ◌∷◌, [], ⊤, ℕ, Bool, true, false, List, is_some, Option, Some, None}
 use Rattle.repo_session.specs.Askers.{Asker}
 use Rattle.repo_session.specs.Feeds.{Fed, fed_bytes}
 use Rattle.repo_session.specs.Sessions.{who_in}
@@ -8,24 +8,29 @@ use Rattle.repo_backup.specs.Items.{Place, NobodyGaveUp, at_root, after, place_o
 use Rattle.repo_backup.specs.PieceBackups.{FitsPieces, IsHungry}
 use Rattle.repo_backup.specs.PieceRules.{WasGivenUp}
 use Rattle.repo_backup.specs.declared.piece_backups.PieceBackup.{PieceBackup}
-use Rattle.repo_feeding.specs.FedRules.{IsAsTold}
+use Rattle.repo_feeding.specs.FedRules.{IsAsTold, IsOnTheWay, IsFedLate, AreWelcome}
+use Rattle.repo_feeding.specs.Reasons.{IsReason, HasReason}
 use Rattle.repo_feeding.specs.Sources.{Told, whole_of, leads}
 use Rattle.repo_feeding.specs.Unfed.{unfed}
+use Rattle.repo_feeding.specs.declared.reasons.GivenUp.{GivenUp}
 
 -- what it was made for: who asks, and all that its source was made to give, where that is known
 pub record FedJob : Type 0 where
   pub who : Asker
   pub whole : Option (List Fed)
 
--- a backup, what its source was told to give, the bytes that came and weren't fed yet, and whether there is a reason for which it was given up
-pub record Feeder : Type 0 where
+-- a backup, what its source was told to give, the bytes that came and weren't fed yet, whether there is a reason for which it was given up, and what makes
+-- that so where its items lead
+pub record Feeder : Type 1 where
   pub backup : PieceBackup
   pub told : Option Told
   pub rest : List ℕ
   pub gave : Bool
+  pub cause : Place → Type 0
 
-abbrev pub feeder : PieceBackup → Option Told → List ℕ → Bool → Feeder
-feeder backup told rest gave = record { backup = backup; told = told; rest = rest; gave = gave }
+-- of a source that failed for such reasons, with the reason why it was given up
+abbrev pub feeder : {E : Type 0} → PieceBackup → Option Told → List ℕ → (E → Type 0) → Option (GivenUp E) → Feeder
+feeder backup told rest failed given_up = record { backup = backup; told = told; rest = rest; gave = is_some given_up; cause = λ p. HasReason failed p given_up }
 
 abbrev pub job_of : Feeder → FedJob
 job_of f = record { who = who_in f.backup.session; whole = whole_of f.told }
@@ -34,13 +39,11 @@ job_of f = record { who = who_in f.backup.session; whole = whole_of f.told }
 abbrev pub fed_job : Asker → Option Told → FedJob
 fed_job who told = record { who = who; whole = whole_of told }
 
--- nothing was fed on the first two exchanges, those of the ticket and of the lock
-abbrev pub IsFedLate : Trace → Type 0
-IsFedLate [] = ⊤
-IsFedLate (e ∷ es) = (e.fed ≢ [] → 2 ≤ length es) × IsFedLate es
-
--- the items that were fed are the source's, once they are over, and where somebody gave up by them there is a reason
+-- the items that were fed were welcome, none of them before the lock was granted, and are the source's, so far and once they are over; and where somebody gave up by them there is a reason
 pub record IsFedRight (whole : Option (List Fed)) (gave : Bool) (fs : Trace) : Type 0 where
+  pub welcome : AreWelcome fs
+  pub late : IsFedLate fs
+  pub so_far : NobodyGaveUp (fed_in fs) → IsOnTheWay whole (place_of (fed_in fs))
   pub told : IsAsTold whole (place_of (fed_in fs))
   pub reason : WasGivenUp (fed_in fs) → gave ≡ true
 
@@ -58,14 +61,14 @@ LeadsOn (Some told) p = leads p told.coming ≡ leads at_root told.whole
 pub record IsFed (f : Feeder) (es fs : Trace) : Type 0 where
   pub same : unfed fs ≡ es
   pub at : FitsPieces f.backup fs
-  pub late : IsFedLate fs
   pub right : AreFedRight (whole_of f.told) f.gave fs
   pub gone : f.gave ≡ true → WasGivenUp (fed_in fs) × ((place_of (fed_in fs)).over ≡ false)
 
--- and so far all that came from the source was fed, or waits, unless somebody gave up
+-- and so far all that came from the source was fed, or waits, unless somebody gave up; and the source failed where that is the reason, and nowhere else
 pub record IsFedUpto (f : Feeder) (es fs : Trace) : Type 0 where
   pub fed : IsFed f es fs
   pub leads_on : NobodyGaveUp (fed_in fs) → LeadsOn f.told (after (place_of (fed_in fs)) (fed_bytes f.rest))
+  pub caused : f.cause (place_of (fed_in fs))
 
 -- it does so with some items, and wants no input
 pub record FitsFed (f : Feeder) (es : Trace) : Type 0 where
@@ -79,14 +82,18 @@ pub record FitsFed (f : Feeder) (es : Trace) : Type 0 where
 abbrev pub FeedsOn : Feeder → Feeder → Type 0
 FeedsOn old new = (es fs : Trace) → IsFedUpto old es fs → (more : Trace) × IsFedUpto new es more
 
--- nothing was fed, and what came may be lost
-abbrev pub FeedsPart : Feeder → Feeder → Type 0
-FeedsPart old new = (es fs : Trace) → IsFedUpto old es fs → IsFed new es fs
+-- nothing was fed, and what came may be lost; there is this cause to give up
+abbrev pub FeedsPart : {E : Type 0} → (E → Type 0) → GivenUp E → Feeder → Feeder → Type 0
+FeedsPart failed reason old new = (es fs : Trace) → IsFedUpto old es fs → IsFed new es fs × IsReason failed (place_of (fed_in fs)) reason
 
--- it was given up
-abbrev pub GivesUp : Feeder → Feeder → Type 0
-GivesUp old new = (es fs : Trace) → IsFed old es fs → FitsFed new es
+-- it was given up for this reason, where that is so
+abbrev pub GivesUp : {E : Type 0} → (E → Type 0) → GivenUp E → Feeder → Feeder → Type 0
+GivesUp failed reason old new = (es fs : Trace) → IsFed old es fs → IsReason failed (place_of (fed_in fs)) reason → FitsFed new es
 
 -- more was fed, or it was given up, and now it wants no input
 abbrev pub FeedsUp : Feeder → Feeder → Type 0
 FeedsUp old new = (es fs : Trace) → IsFedUpto old es fs → FitsFed new es
+
+-- feeding once gives up because of the source, or of an item, and for nothing else
+abbrev pub GaveUpAtOnce : {E : Type 0} → Option (GivenUp E) → Option (GivenUp E) → Type 0
+GaveUpAtOnce old new = new ≡ Some GivenUp.Endless → old ≡ Some GivenUp.Endless

@@ -15,10 +15,23 @@ abbrev pub whole_of : Option Told → Option (List Fed)
 whole_of None = None
 whole_of (Some told) = Some told.whole
 
--- nothing of it came so far
-abbrev pub IsFresh : Option Told → Type 0
-IsFresh None = ⊤
-IsFresh (Some told) = told.coming ≡ told.whole
+-- a source that hasn't failed, for whatever reason
+abbrev pub IsSound : {E : Type 0} → (E → Type 0) → Type 0
+IsSound {E} failed = (error : E) → ¬ failed error
+
+-- one that hadn't failed has failed for the reason that it gives, and where something came it hasn't; of one that had failed nothing is said: it isn't to be asked
+abbrev pub Fails : {E : Type 0} → (E → Type 0) → Result Found E → (E → Type 0) → Type 0
+Fails old (Ok found) new = IsSound old → IsSound new
+Fails old (Err error) new = IsSound old → new error
+
+-- nothing of what it was made to give came so far, where that is known
+abbrev pub IsUntouched : Option Told → Type 0
+IsUntouched None = ⊤
+IsUntouched (Some told) = told.coming ≡ told.whole
+
+-- nothing came so far, and it hasn't failed
+abbrev pub IsFresh : {E : Type 0} → Option Told → (E → Type 0) → Type 0
+IsFresh told failed = IsUntouched told × IsSound failed
 
 -- the bytes that were found are in the room
 abbrev pub FitsRoom : ℕ → Found → Type 0

@@ -14,7 +14,7 @@ use Rattle.repo_session.specs.Order.{Task, locked, lock_row, opened, IsUnfenced,
 use Rattle.repo_session.specs.Traces.{Each, Exchange, Trace, Exchanged, giving, silent, names_in, page_names, is_complete, is_last_page, Rise, Lists, ReadFact}
 use Rattle.repo_session.specs.declared.outcomes.End.{End}
 use Rattle.repo_name.specs.declared.kinds.Thing.{Thing}
-use Rattle.repo_feeding.specs.FedStates.{IsFedLate}
+use Rattle.repo_feeding.specs.FedRules.{IsFedLate}
 use Rattle.repo_feeding.specs.Unfed.{unfed}
 
 -- ---- lists
@@ -73,7 +73,7 @@ held_so : (later : Trace) → StaysHeld later → StaysHeld (unfed later)
 held_so later h = record { unfenced = unfenced_so later h.unfenced; unended = unended_so later h.unended }
 
 module _ (task : Task) where
-  holds_so : (token : Token) (es : Trace) → Holds task token es → Holds task token (unfed es)
+  pub holds_so : (token : Token) (es : Trace) → Holds task token es → Holds task token (unfed es)
   holds_so token es h = record { later = unfed h.later; since = ap unfed h.since ∙ unfed_both h.later (locked task token); held = held_so h.later h.held }
 
   working_so : (token : Token) (es : Trace) → IsWorking task token es → IsWorking task token (unfed es)
@@ -107,17 +107,17 @@ module _ (task : Task) where
 
   -- ---- a lock that is held without what was fed is held with it, since nothing was fed before its grant
 
-  as_silent : (e : Exchange) (ask : Ask) (say : Say) → giving e.ask e.say e.emitted ≡ silent ask say → e.fed ≡ [] → e ≡ silent ask say
+  pub as_silent : (e : Exchange) (ask : Ask) (say : Say) → giving e.ask e.say e.emitted ≡ silent ask say → e.fed ≡ [] → e ≡ silent ask say
   as_silent e ask say same none = (λ i. record { ask = e.ask; say = e.say; emitted = e.emitted; fed = none i }) ∙ same
 
-  unfed_late : (e : Exchange) (es : Trace) → IsFedLate (e ∷ es) → length es ≤ 1 → e.fed ≡ []
+  pub unfed_late : (e : Exchange) (es : Trace) → IsFedLate (e ∷ es) → length es ≤ 1 → e.fed ≡ []
   unfed_late e es late few = none e.fed late.0
     where
       none : (fed : List Fed) → (fed ≢ [] → 2 ≤ length es) → fed ≡ []
       none [] h = refl
       none (item ∷ fed) h = let two = h (λ same. absurd (cc)) in absurd (omega (arith, two, few))
 
-  locked_late : (token : Token) (es : Trace) → IsFedLate es → unfed es ≡ locked task token → es ≡ locked task token
+  pub locked_late : (token : Token) (es : Trace) → IsFedLate es → unfed es ≡ locked task token → es ≡ locked task token
   locked_late token [] late same = absurd (cc)
   locked_late token (e ∷ []) late same = absurd (cc)
   locked_late token (e ∷ f ∷ []) late same =

@@ -1,6 +1,6 @@
 //! The backup that feeds itself.
 
-ghost use Rattle.std.specs.Prelude.{◌≡◌, ◌↔◌, [], ℕ, IsTrue, IsSome, IfOk, OnOk, OnErr, is_some, Some};
+ghost use Rattle.std.specs.Prelude.{◌≡◌, ◌⊎◌, ◌↔◌, [], ℕ, true, IsTrue, IsSome, IfSome, IfOk, IfErr, IsErrOf, OnOk, OnErr, is_some, Some};
 ghost use Rattle.repo_name.specs.declared.names.Name.{Name};
 ghost use Rattle.repo_session.specs.Clients.{AnswersNext};
 ghost use Rattle.repo_session.specs.Sessions.{who_in, next_in, ended_in};
@@ -8,10 +8,15 @@ ghost use Rattle.repo_session.specs.Traces.{Trace};
 ghost use Rattle.repo_session.specs.declared.outcomes.End.{End};
 ghost use Rattle.repo_session.specs.declared.outcomes.Outcome.{Outcome};
 ghost use Rattle.repo_backup.specs.PieceBackups.{IsHungry};
-ghost use Rattle.repo_feeding.specs.FedStates.{feeder, job_of, fed_job, FitsFed, FeedsOn, FeedsPart, GivesUp, FeedsUp};
-ghost use Rattle.repo_feeding.specs.Rooms.{IsItemOf};
+ghost use Rattle.repo_feeding.specs.FedStates.{feeder, job_of, fed_job, FitsFed, IsFedUpto, FeedsOn, FeedsPart, GivesUp, GaveUpAtOnce, FeedsUp};
+ghost use Rattle.repo_session.specs.Traces.{fed_in};
+ghost use Rattle.repo_backup.specs.Items.{place_of};
+ghost use Rattle.repo_feeding.specs.Reasons.{IsReason};
+ghost use Rattle.repo_feeding.specs.declared.reasons.GivenUp.{GivenUp};
+ghost use Rattle.repo_feeding.specs.inner.Rooms.{IsItemOf};
 ghost use Rattle.repo_feeding.specs.Sources.{IsFresh, whole_of};
 
+use crate::reasons::GivenUp;
 use crate::rooms::Room;
 use crate::sources::{Found, Source};
 use repo_backup::{FeedError, Item, PieceBackup};
@@ -19,17 +24,6 @@ use repo_name::Token;
 use repo_session::{Client, Emission, Outcome, Who, answers};
 use repo_wire::{Reply, Request};
 use std::alloc::{AllocError, Global};
-
-/// Why a backup was given up.
-#[derive(Debug, Drop)]
-pub enum GivenUp<E: Drop> {
-    /// The source failed, for this reason.
-    Source(E),
-    /// An item that came wasn't taken, for this reason.
-    Refused(FeedError),
-    /// It was fed 2^64 - 1 times on one reply, and wanted more.
-    Endless,
-}
 
 /// A backup that feeds itself from a source. It gives up where the source fails, or an item isn't taken.
 #[derive(Drop)]
@@ -57,8 +51,8 @@ impl<S: Source + Drop> FedBackup<S> {
     /// A backup whose ticket is pending, and that takes its items from this source. It fails for memory alone: it has
     /// room for 65,536 bytes.
     pub fn new(alloc: Global, who: Who, source: S) -> Result<FedBackup<S>, AllocError>
-        ensures fits { IsFresh (S.told source) → IfOk result (λ b. FitsFed (feeder b.backup (S.told b.source) b.room (is_some b.given_up)) []) }
-        ensures job { IfOk result (λ b. job_of (feeder b.backup (S.told b.source) b.room (is_some b.given_up)) ≡ fed_job who (S.told source)) }
+        ensures fits { IsFresh (S.told source) (S.failed source) → IfOk result (λ b. FitsFed (feeder b.backup (S.told b.source) b.room (S.failed b.source) b.given_up) []) }
+        ensures job { IfOk result (λ b. job_of (feeder b.backup (S.told b.source) b.room (S.failed b.source) b.given_up) ≡ fed_job who (S.told source)) }
     {
         let room = Room::new(alloc)?;
         Ok(FedBackup {
@@ -70,10 +64,12 @@ impl<S: Source + Drop> FedBackup<S> {
     }
 
     /// Why it was given up, where it was. Where it ended as one that was given up, there is a reason, and where its snapshot
-    /// is stored, there is none.
+    /// is stored, there is none. The reason is so: that the source failed, and for what; or, where it didn't, that an item
+    /// couldn't be taken behind those that were fed, and for what, or that it was fed without end.
     pub fn given_up(&self) -> Option<&GivenUp<S::Error>>
-        ensures abandoned { (es : Trace) → FitsFed (feeder self.now.backup (S.told self.now.source) self.now.room (is_some self.now.given_up)) es → ended_in self.now.backup.session ≡ Some (Outcome.Ended End.Abandoned) → IsSome result }
-        ensures stored { (es : Trace) (name : Name) (blobs bytes : ℕ) → FitsFed (feeder self.now.backup (S.told self.now.source) self.now.room (is_some self.now.given_up)) es → ended_in self.now.backup.session ≡ Some (Outcome.Stored name blobs bytes) → ¬ IsSome result }
+        ensures abandoned { (es : Trace) → FitsFed (feeder self.now.backup (S.told self.now.source) self.now.room (S.failed self.now.source) self.now.given_up) es → ended_in self.now.backup.session ≡ Some (Outcome.Ended End.Abandoned) → IsSome result }
+        ensures stored { (es : Trace) (name : Name) (blobs bytes : ℕ) → FitsFed (feeder self.now.backup (S.told self.now.source) self.now.room (S.failed self.now.source) self.now.given_up) es → ended_in self.now.backup.session ≡ Some (Outcome.Stored name blobs bytes) → ¬ IsSome result }
+        ensures cause { (es : Trace) (fits : FitsFed (feeder self.now.backup (S.told self.now.source) self.now.room (S.failed self.now.source) self.now.given_up) es) → IfSome result (λ reason. IsReason (S.failed self.now.source) (place_of (fed_in fits.fs)) reason.now) }
     {
         self.given_up.as_ref()
     }
@@ -98,10 +94,12 @@ impl<S: Source + Drop> FedBackup<S> {
     /// Feeds what is left of a piece, and lets what wasn't taken wait.
     fn feed_rest(&mut self) -> Result<(), GivenUp<S::Error>>
         requires { IsHungry self.old.backup }
-        ensures ok { OnOk result (FeedsOn (feeder self.old.backup (S.told self.old.source) self.old.room (is_some self.old.given_up)) (feeder self.new.backup (S.told self.new.source) self.new.room (is_some self.new.given_up))) }
-        ensures err { OnErr result (FeedsPart (feeder self.old.backup (S.told self.old.source) self.old.room (is_some self.old.given_up)) (feeder self.new.backup (S.told self.new.source) self.new.room (is_some self.new.given_up))) }
+        ensures ok { OnOk result (FeedsOn (feeder self.old.backup (S.told self.old.source) self.old.room (S.failed self.old.source) self.old.given_up) (feeder self.new.backup (S.told self.new.source) self.new.room (S.failed self.new.source) self.new.given_up)) }
+        ensures err { IfErr result (λ reason. FeedsPart (S.failed self.new.source) reason (feeder self.old.backup (S.told self.old.source) self.old.room (S.failed self.old.source) self.old.given_up) (feeder self.new.backup (S.told self.new.source) self.new.room (S.failed self.new.source) self.new.given_up)) }
+        ensures known { ¬ IsErrOf result GivenUp.Endless }
+        ensures same { self.new.given_up ≡ self.old.given_up }
         ensures hungry { OnErr result (IsHungry self.new.backup) }
-        ensures job { job_of (feeder self.new.backup (S.told self.new.source) self.new.room (is_some self.new.given_up)) ≡ job_of (feeder self.old.backup (S.told self.old.source) self.old.room (is_some self.old.given_up)) }
+        ensures job { job_of (feeder self.new.backup (S.told self.new.source) self.new.room (S.failed self.new.source) self.new.given_up) ≡ job_of (feeder self.old.backup (S.told self.old.source) self.old.room (S.failed self.old.source) self.old.given_up) }
     {
         match self.backup.feed(Item::Bytes(self.room.rest())) {
             Ok(count) => {
@@ -116,10 +114,12 @@ impl<S: Source + Drop> FedBackup<S> {
     fn feed_found(&mut self) -> Result<(), GivenUp<S::Error>>
         requires empty { self.old.room ≡ [] }
         requires hungry { IsHungry self.old.backup }
-        ensures ok { OnOk result (FeedsOn (feeder self.old.backup (S.told self.old.source) self.old.room (is_some self.old.given_up)) (feeder self.new.backup (S.told self.new.source) self.new.room (is_some self.new.given_up))) }
-        ensures err { OnErr result (FeedsPart (feeder self.old.backup (S.told self.old.source) self.old.room (is_some self.old.given_up)) (feeder self.new.backup (S.told self.new.source) self.new.room (is_some self.new.given_up))) }
+        ensures ok { OnOk result (FeedsOn (feeder self.old.backup (S.told self.old.source) self.old.room (S.failed self.old.source) self.old.given_up) (feeder self.new.backup (S.told self.new.source) self.new.room (S.failed self.new.source) self.new.given_up)) }
+        ensures err { IfErr result (λ reason. FeedsPart (S.failed self.new.source) reason (feeder self.old.backup (S.told self.old.source) self.old.room (S.failed self.old.source) self.old.given_up) (feeder self.new.backup (S.told self.new.source) self.new.room (S.failed self.new.source) self.new.given_up)) }
+        ensures known { ¬ IsErrOf result GivenUp.Endless }
+        ensures same { self.new.given_up ≡ self.old.given_up }
         ensures hungry { OnErr result (IsHungry self.new.backup) }
-        ensures job { job_of (feeder self.new.backup (S.told self.new.source) self.new.room (is_some self.new.given_up)) ≡ job_of (feeder self.old.backup (S.told self.old.source) self.old.room (is_some self.old.given_up)) }
+        ensures job { job_of (feeder self.new.backup (S.told self.new.source) self.new.room (S.failed self.new.source) self.new.given_up) ≡ job_of (feeder self.old.backup (S.told self.old.source) self.old.room (S.failed self.old.source) self.old.given_up) }
     {
         let found = match self.room.fill(&mut self.source) {
             Ok(found) => found,
@@ -137,10 +137,12 @@ impl<S: Source + Drop> FedBackup<S> {
     /// Feeds what is left of a piece, else what comes next.
     fn feed_next(&mut self) -> Result<(), GivenUp<S::Error>>
         requires { IsHungry self.old.backup }
-        ensures ok { OnOk result (FeedsOn (feeder self.old.backup (S.told self.old.source) self.old.room (is_some self.old.given_up)) (feeder self.new.backup (S.told self.new.source) self.new.room (is_some self.new.given_up))) }
-        ensures err { OnErr result (FeedsPart (feeder self.old.backup (S.told self.old.source) self.old.room (is_some self.old.given_up)) (feeder self.new.backup (S.told self.new.source) self.new.room (is_some self.new.given_up))) }
+        ensures ok { OnOk result (FeedsOn (feeder self.old.backup (S.told self.old.source) self.old.room (S.failed self.old.source) self.old.given_up) (feeder self.new.backup (S.told self.new.source) self.new.room (S.failed self.new.source) self.new.given_up)) }
+        ensures err { IfErr result (λ reason. FeedsPart (S.failed self.new.source) reason (feeder self.old.backup (S.told self.old.source) self.old.room (S.failed self.old.source) self.old.given_up) (feeder self.new.backup (S.told self.new.source) self.new.room (S.failed self.new.source) self.new.given_up)) }
+        ensures known { ¬ IsErrOf result GivenUp.Endless }
+        ensures same { self.new.given_up ≡ self.old.given_up }
         ensures hungry { OnErr result (IsHungry self.new.backup) }
-        ensures job { job_of (feeder self.new.backup (S.told self.new.source) self.new.room (is_some self.new.given_up)) ≡ job_of (feeder self.old.backup (S.told self.old.source) self.old.room (is_some self.old.given_up)) }
+        ensures job { job_of (feeder self.new.backup (S.told self.new.source) self.new.room (S.failed self.new.source) self.new.given_up) ≡ job_of (feeder self.old.backup (S.told self.old.source) self.old.room (S.failed self.old.source) self.old.given_up) }
     {
         if self.room.rest().is_empty() {
             self.feed_found()
@@ -152,8 +154,9 @@ impl<S: Source + Drop> FedBackup<S> {
     /// Gives the backup up, and keeps the reason.
     fn give_up(&mut self, reason: GivenUp<S::Error>)
         requires { IsHungry self.old.backup }
-        ensures up { GivesUp (feeder self.old.backup (S.told self.old.source) self.old.room (is_some self.old.given_up)) (feeder self.new.backup (S.told self.new.source) self.new.room (is_some self.new.given_up)) }
-        ensures job { job_of (feeder self.new.backup (S.told self.new.source) self.new.room (is_some self.new.given_up)) ≡ job_of (feeder self.old.backup (S.told self.old.source) self.old.room (is_some self.old.given_up)) }
+        ensures up { GivesUp (S.failed self.old.source) reason (feeder self.old.backup (S.told self.old.source) self.old.room (S.failed self.old.source) self.old.given_up) (feeder self.new.backup (S.told self.new.source) self.new.room (S.failed self.new.source) self.new.given_up) }
+        ensures job { job_of (feeder self.new.backup (S.told self.new.source) self.new.room (S.failed self.new.source) self.new.given_up) ≡ job_of (feeder self.old.backup (S.told self.old.source) self.old.room (S.failed self.old.source) self.old.given_up) }
+        ensures kept { (self.new.given_up ≡ Some reason) ⊎ (self.new.given_up ≡ self.old.given_up) }
     {
         match self.backup.feed(Item::Abandon) {
             Ok(_) => self.given_up = Some(reason),
@@ -161,22 +164,24 @@ impl<S: Source + Drop> FedBackup<S> {
         }
     }
 
-    /// Feeds once, or gives up where that can't be done.
+    /// Feeds once, or gives up where that can't be done: the source failed, or an item isn't taken.
     fn feed_once(&mut self)
         requires { IsHungry self.old.backup }
-        ensures goes { FeedsOn (feeder self.old.backup (S.told self.old.source) self.old.room (is_some self.old.given_up)) (feeder self.new.backup (S.told self.new.source) self.new.room (is_some self.new.given_up)) }
-        ensures job { job_of (feeder self.new.backup (S.told self.new.source) self.new.room (is_some self.new.given_up)) ≡ job_of (feeder self.old.backup (S.told self.old.source) self.old.room (is_some self.old.given_up)) }
+        ensures cause { GaveUpAtOnce self.old.given_up self.new.given_up }
+        ensures goes { FeedsOn (feeder self.old.backup (S.told self.old.source) self.old.room (S.failed self.old.source) self.old.given_up) (feeder self.new.backup (S.told self.new.source) self.new.room (S.failed self.new.source) self.new.given_up) }
+        ensures job { job_of (feeder self.new.backup (S.told self.new.source) self.new.room (S.failed self.new.source) self.new.given_up) ≡ job_of (feeder self.old.backup (S.told self.old.source) self.old.room (S.failed self.old.source) self.old.given_up) }
     {
         if let Err(reason) = self.feed_next() {
             self.give_up(reason);
         }
     }
 
-    /// Feeds items until the backup wants no input.
+    /// Feeds items until the backup wants no input. Once it was given up, as where its source failed, the source isn't asked.
     fn feed_up(&mut self)
-        ensures up { FeedsUp (feeder self.old.backup (S.told self.old.source) self.old.room (is_some self.old.given_up)) (feeder self.new.backup (S.told self.new.source) self.new.room (is_some self.new.given_up)) }
+        ensures up { FeedsUp (feeder self.old.backup (S.told self.old.source) self.old.room (S.failed self.old.source) self.old.given_up) (feeder self.new.backup (S.told self.new.source) self.new.room (S.failed self.new.source) self.new.given_up) }
         ensures full { ¬ IsHungry self.old.backup → self.new ≡ self.old }
-        ensures job { job_of (feeder self.new.backup (S.told self.new.source) self.new.room (is_some self.new.given_up)) ≡ job_of (feeder self.old.backup (S.told self.old.source) self.old.room (is_some self.old.given_up)) }
+        ensures spared { (es fs : Trace) → IsFedUpto (feeder self.old.backup (S.told self.old.source) self.old.room (S.failed self.old.source) self.old.given_up) es fs → is_some self.old.given_up ≡ true → self.new ≡ self.old }
+        ensures job { job_of (feeder self.new.backup (S.told self.new.source) self.new.room (S.failed self.new.source) self.new.given_up) ≡ job_of (feeder self.old.backup (S.told self.old.source) self.old.room (S.failed self.old.source) self.old.given_up) }
     {
         for _ in 0..u64::MAX {
             if !self.backup.wants() {
@@ -191,7 +196,7 @@ impl<S: Source + Drop> FedBackup<S> {
 }
 
 impl<S: Source + Drop> Client for FedBackup<S> {
-    ghost use Rattle.std.specs.Prelude.{[], ⊤, is_some};
+    ghost use Rattle.std.specs.Prelude.{[], ⊤};
     ghost use Rattle.repo_session.specs.Sessions.{next_in, ended_in, token_in};
     ghost use Rattle.repo_backup.specs.PieceStates.{piece_task};
     ghost use Rattle.repo_feeding.specs.FedObedience.{fed_obeys, fed_tells};
@@ -200,7 +205,7 @@ impl<S: Source + Drop> Client for FedBackup<S> {
 
     ghost Job = { FedJob };
 
-    ghost job = { λ b. job_of (feeder b.backup (S.told b.source) b.room (is_some b.given_up)) };
+    ghost job = { λ b. job_of (feeder b.backup (S.told b.source) b.room (S.failed b.source) b.given_up) };
 
     ghost task = { λ j. piece_task j.who };
 
@@ -214,7 +219,7 @@ impl<S: Source + Drop> Client for FedBackup<S> {
 
     ghost concludes = { λ j. FedConcludes j.who j.whole };
 
-    ghost fits = { λ b es. FitsFed (feeder b.backup (S.told b.source) b.room (is_some b.given_up)) es };
+    ghost fits = { λ b es. FitsFed (feeder b.backup (S.told b.source) b.room (S.failed b.source) b.given_up) es };
 
     ghost next = { λ b. next_in b.backup.session };
 
@@ -224,9 +229,9 @@ impl<S: Source + Drop> Client for FedBackup<S> {
 
     ghost token_of = { λ b. token_in b.backup.session };
 
-    ghost obedient = { λ b es fits. fed_obeys (feeder b.backup (S.told b.source) b.room (is_some b.given_up)) es fits };
+    ghost obedient = { λ b es fits. fed_obeys (feeder b.backup (S.told b.source) b.room (S.failed b.source) b.given_up) es fits };
 
-    ghost ticketed = { λ b es fits. fed_tells (feeder b.backup (S.told b.source) b.room (is_some b.given_up)) es fits };
+    ghost ticketed = { λ b es fits. fed_tells (feeder b.backup (S.told b.source) b.room (S.failed b.source) b.given_up) es fits };
 
     fn pending(&self) -> Option<&Request> {
         self.backup.pending()

@@ -7,19 +7,23 @@
 //!
 //! Promised: what it asks for, and how it ends, is what a backup may that was fed some items in their places between its
 //! exchanges, and no snapshot is put but of items that ended. Where the source fails, or an item isn't taken, the backup is
-//! given up, and the reason kept. Where it is known what a source was made to give, a snapshot spells just that.
+//! given up, and for no other reason but that it was fed without end; the reason is kept, and is the true one; and a source
+//! that failed is asked no more. Where it is known what a source was made to give, the items so far are on the way to that,
+//! and a snapshot spells just that.
 //! Not promised: that a source ends. But each reply is taken in fewer than 2^64 turns.
 //!
 //! The definitions stand in `specs/`: `Sources` (what comes from a source), `Unfed` and `FedRules` (what such a backup may
-//! ask for, and how it may end), `FedStates` (where it stands), `FedLaws` (what it stored). `Unseen` and `FedObedience` say
+//! ask for, and how it may end), `Reasons` (why it was given up), `FedStates` (where it stands), `FedLaws` (what it stored). `Unseen` and `FedObedience` say
 //! that what was fed isn't seen in its exchanges, and that it obeys.
 #![tactic(auto)]
 
 mod fed_backups;
 mod laws;
+mod reasons;
 mod rooms;
 mod sources;
 
-pub use fed_backups::{FedBackup, GivenUp};
-pub use laws::stored_is_spelled;
+pub use fed_backups::FedBackup;
+pub use laws::{fed_clients_are_fed, stored_is_spelled};
+pub use reasons::GivenUp;
 pub use sources::{Found, Source};

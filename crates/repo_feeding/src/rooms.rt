@@ -1,8 +1,8 @@
 //! The room into which a source reads bytes.
 
 ghost use Rattle.std.specs.Prelude.{◌≡◌, ◌≤◌, ◌↔◌, [], IsTrue, IfOk, IfErr, drop, length};
-ghost use Rattle.repo_feeding.specs.Sources.{Comes};
-ghost use Rattle.repo_feeding.specs.Rooms.{Fills};
+ghost use Rattle.repo_feeding.specs.Sources.{Comes, Fails};
+ghost use Rattle.repo_feeding.specs.inner.Rooms.{Fills};
 
 use crate::sources::{Found, Source};
 use std::alloc::{AllocError, Global};
@@ -65,6 +65,7 @@ impl Room {
     pub fn fill<S: Source>(&mut self, source: &mut S) -> Result<Found, S::Error>
         ensures found { IfOk result (Fills (S.told source.old) self.new (S.told source.new)) }
         ensures failed { IfErr result (λ error. (self.new ≡ []) × (S.told source.new ≡ S.told source.old)) }
+        ensures fails { Fails (S.failed source.old) result (S.failed source.new) }
     {
         self.fed = 0;
         self.read = 0;

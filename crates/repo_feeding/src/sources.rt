@@ -1,7 +1,7 @@
 //! Where the items of a backup come from.
 
 ghost use Rattle.std.specs.Prelude.{IfOk, Option, length};
-ghost use Rattle.repo_feeding.specs.Sources.{Told, FitsRoom, Comes, came};
+ghost use Rattle.repo_feeding.specs.Sources.{Told, FitsRoom, Comes, Fails, came};
 
 /// What comes next from a source.
 #[derive(Debug, Drop)]
@@ -27,9 +27,13 @@ pub trait Source {
     /// What it was made to give, and what of it is still to come, where that is known.
     ghost told: { Self → Option Told };
 
+    /// It failed, for this reason.
+    ghost failed: { Self → Self.Error → Type 0 };
+
     /// The next one. Bytes of the open file are read to the front of the room, at most as many as it has. After an
     /// error, and behind the end, it isn't asked again.
     fn next(&mut self, room: &mut [u8]) -> Result<Found, Self::Error>
         ensures room { IfOk result (FitsRoom (length room.new)) }
-        ensures comes { Comes (told self.old) (came room.new result) (told self.new) };
+        ensures comes { Comes (told self.old) (came room.new result) (told self.new) }
+        ensures fails { Fails (failed self.old) result (failed self.new) };
 }

@@ -30,8 +30,8 @@
 pub use file_disk::FileDisk;
 pub use holding::HoldFile;
 pub use restoring::{Restorer, RestorerError};
-pub use scans::{ScanError, Skipped};
 pub use stores::{create_store, has_config, open_store};
+pub use walk_ends::{Skipped, WalkError};
 pub use walking::FolderWalk;
 
 mod claims;
@@ -46,7 +46,7 @@ mod phases;
 mod places;
 mod restoring;
 mod rooms;
-mod scans;
 mod stores;
 mod system;
+mod walk_ends;
 mod walking;

@@ -1,6 +1,6 @@
 //! The entries of a directory, and what is told of a path that can't be read.
 
-use crate::scans::ScanError;
+use crate::walk_ends::WalkError;
 use std::alloc::{AllocGlobal, Global};
 use std::fs::Files;
 use std::io::ErrorKind;
@@ -34,17 +34,17 @@ pub fn names_in<R: Files + AllocGlobal + Clone + Drop>(rt: &R, place: &str) -> i
 }
 
 /// That this path can't be read.
-pub fn unreadable(alloc: Global, place: &str) -> ScanError {
+pub fn unreadable(alloc: Global, place: &str) -> WalkError {
     match String::from_str(alloc, place) {
-        Ok(place) => ScanError::Unreadable(place),
-        Err(_) => ScanError::Memory,
+        Ok(place) => WalkError::Unreadable(place),
+        Err(_) => WalkError::Memory,
     }
 }
 
 /// Why a call on this path failed.
-pub fn told(alloc: Global, place: &str, error: &io::Error) -> ScanError {
+pub fn told(alloc: Global, place: &str, error: &io::Error) -> WalkError {
     if error.kind() == ErrorKind::OutOfMemory {
-        return ScanError::Memory;
+        return WalkError::Memory;
     }
     unreadable(alloc, place)
 }

@@ -1,11 +1,11 @@
 //! A folder as a stream of items.
 
-ghost use Rattle.std.specs.Prelude.{◌≤◌, ℕ, IfOk, IfSome, length};
+ghost use Rattle.std.specs.Prelude.{◌≡◌, ◌≤◌, ◌++◌, ◌∷◌, [], ℕ, false, IfOk, IfErr, IfSome, OnOk, OnErr, length};
 ghost use Rattle.repo_feeding.specs.Sources.{FitsRoom};
 
 use crate::listings::{names_in, told, unreadable};
 use crate::places::{place_in, without_slash};
-use crate::scans::{ScanError, Skipped};
+use crate::walk_ends::{Skipped, WalkError};
 use repo_feeding::{Found, Source};
 use repo_tree::is_component;
 use std::alloc::{AllocError, AllocGlobal, Global};
@@ -51,29 +51,38 @@ pub struct FolderWalk<'a, R: Files> {
     levels: Vec<Level>,
     file: Option<OpenedFile<R::File>>,
     skipped: Vec<Skipped>,
+    /// It told why no more come.
+    failed: bool,
 }
 
 impl<'a, R: Files + AllocGlobal + Clone + Drop> FolderWalk<'a, R> {
     /// A walk through this folder, which is listed. Where that can't be done, the error names the word given.
-    pub fn new(rt: &'a R, folder: &'a str) -> Result<FolderWalk<'a, R>, ScanError> {
+    pub fn new(rt: &'a R, folder: &'a str) -> Result<FolderWalk<'a, R>, WalkError>
+        ensures { IfOk result (λ walk. walk.failed ≡ false) }
+    {
         let mut walk = FolderWalk {
             rt,
             folder,
             levels: Vec::new(rt.alloc()),
             file: None,
             skipped: Vec::new(rt.alloc()),
+            failed: false,
         };
         walk.open(folder, without_slash(folder))?;
         Ok(walk)
     }
 
     /// What was left out so far, in the order in which it was met.
-    pub fn skipped(&self) -> &[Skipped] {
+    pub fn skipped(&self) -> &[Skipped]
+        ensures { result.now ≡ self.now.skipped.items }
+    {
         self.skipped.as_slice()
     }
 
     /// Lists a directory, and opens it, by the place that stands before the names in it.
-    fn open(&mut self, word: &str, place: &str) -> Result<(), ScanError> {
+    fn open(&mut self, word: &str, place: &str) -> Result<(), WalkError>
+        ensures { self.new.failed ≡ self.old.failed }
+    {
         let alloc = self.rt.alloc();
         let mut listing = match names_in(self.rt, word) {
             Ok(listing) => listing,
@@ -93,20 +102,27 @@ impl<'a, R: Files + AllocGlobal + Clone + Drop> FolderWalk<'a, R> {
     }
 
     /// Adds an open directory.
-    fn add_level(&mut self, level: Level) -> Result<(), AllocError> {
+    fn add_level(&mut self, level: Level) -> Result<(), AllocError>
+        ensures { self.new.failed ≡ self.old.failed }
+    {
         self.levels.push(level)?;
         Ok(())
     }
 
     /// Adds what is left out.
-    fn skip(&mut self, what: Skipped) -> Result<(), AllocError> {
+    fn skip(&mut self, what: Skipped) -> Result<(), AllocError>
+        ensures ok { OnOk result (self.new.skipped.items ≡ self.old.skipped.items ++ what ∷ []) }
+        ensures err { OnErr result (self.new.skipped.items ≡ self.old.skipped.items) }
+        ensures failed { self.new.failed ≡ self.old.failed }
+    {
         self.skipped.push(what)?;
         Ok(())
     }
 
     /// The next directory or file, or the end of a directory, or of all.
-    fn next_entry(&mut self) -> Result<Found, ScanError>
-        ensures { IfOk result (λ found. (room : ℕ) → FitsRoom room found) }
+    fn next_entry(&mut self) -> Result<Found, WalkError>
+        ensures fits { IfOk result (λ found. (room : ℕ) → FitsRoom room found) }
+        ensures failed { self.new.failed ≡ self.old.failed }
     {
         for _ in 0..u64::MAX {
             let Some(level) = self.levels.last_mut() else {
@@ -125,7 +141,8 @@ impl<'a, R: Files + AllocGlobal + Clone + Drop> FolderWalk<'a, R> {
 
     /// Closes the directory that was opened last.
     fn close(&mut self) -> Found
-        ensures { (room : ℕ) → FitsRoom room result }
+        ensures fits { (room : ℕ) → FitsRoom room result }
+        ensures failed { self.new.failed ≡ self.old.failed }
     {
         self.levels.pop();
         if self.levels.is_empty() {
@@ -136,8 +153,9 @@ impl<'a, R: Files + AllocGlobal + Clone + Drop> FolderWalk<'a, R> {
     }
 
     /// Opens what has this name; `None` where it is left out.
-    fn enter(&mut self, name: String, place: String) -> Result<Option<Found>, ScanError>
-        ensures { IfOk result (λ entered. IfSome entered (λ found. (room : ℕ) → FitsRoom room found)) }
+    fn enter(&mut self, name: String, place: String) -> Result<Option<Found>, WalkError>
+        ensures fits { IfOk result (λ entered. IfSome entered (λ found. (room : ℕ) → FitsRoom room found)) }
+        ensures failed { self.new.failed ≡ self.old.failed }
     {
         let found = match fs::symlink_metadata(self.rt, place.as_str()) {
             Ok(found) => found,
@@ -164,13 +182,37 @@ impl<'a, R: Files + AllocGlobal + Clone + Drop> FolderWalk<'a, R> {
             Err(error) => Err(told(self.rt.alloc(), place.as_str(), &error)),
         }
     }
+
+    /// What comes next: more of the open file, else an entry.
+    fn find(&mut self, room: &mut [u8]) -> Result<Found, WalkError>
+        ensures fits { IfOk result (FitsRoom (length room.new)) }
+        ensures failed { self.new.failed ≡ self.old.failed }
+    {
+        let Some(opened) = &mut self.file else {
+            return self.next_entry();
+        };
+        if room.is_empty() {
+            return Ok(Found::Bytes(0));
+        }
+        match opened.read_on(room) {
+            Ok(0) if opened.read < opened.length => {
+                Err(unreadable(self.rt.alloc(), opened.place.as_str()))
+            }
+            Ok(0) => {
+                self.file = None;
+                Ok(Found::Close)
+            }
+            Ok(count) => Ok(Found::Bytes(count)),
+            Err(error) => Err(told(self.rt.alloc(), opened.place.as_str(), &error)),
+        }
+    }
 }
 
 /// That each of these names may stand in a path of a backup, of what is in this place.
-fn are_possible(alloc: Global, place: &str, names: &[String]) -> Result<(), ScanError> {
+fn are_possible(alloc: Global, place: &str, names: &[String]) -> Result<(), WalkError> {
     for name in names {
         if !is_component(name.as_str()) {
-            return Err(ScanError::Unreadable(place_in(alloc, place, name.as_str())?));
+            return Err(WalkError::Unreadable(place_in(alloc, place, name.as_str())?));
         }
     }
     Ok(())
@@ -206,29 +248,21 @@ impl<F: Read> OpenedFile<F> {
 }
 
 impl<R: Files + AllocGlobal + Clone + Drop> Source for FolderWalk<'_, R> {
-    ghost use Rattle.std.specs.Prelude.{None};
+    ghost use Rattle.std.specs.Prelude.{◌≡◌, true, None};
 
-    type Error = ScanError;
+    type Error = WalkError;
 
     ghost told = { λ _. None };
 
-    fn next(&mut self, room: &mut [u8]) -> Result<Found, ScanError> {
-        let Some(opened) = &mut self.file else {
-            return self.next_entry();
-        };
-        if room.is_empty() {
-            return Ok(Found::Bytes(0));
-        }
-        match opened.read_on(room) {
-            Ok(0) if opened.read < opened.length => {
-                Err(unreadable(self.rt.alloc(), opened.place.as_str()))
+    ghost failed = { λ walk error. walk.failed ≡ true };
+
+    fn next(&mut self, room: &mut [u8]) -> Result<Found, WalkError> {
+        match self.find(room) {
+            Ok(found) => Ok(found),
+            Err(error) => {
+                self.failed = true;
+                Err(error)
             }
-            Ok(0) => {
-                self.file = None;
-                Ok(Found::Close)
-            }
-            Ok(count) => Ok(Found::Bytes(count)),
-            Err(error) => Err(told(self.rt.alloc(), opened.place.as_str(), &error)),
         }
     }
 }

@@ -1,26 +1,24 @@
 -- What a job comes to that is alone with its store.
-use Rattle.std.proofs.Common.{arith, ◌≡◌, ◌⊎◌, ◌≤◌, ◌<◌, ◌^◌, ◌-◌, ◌++◌, ◌∷◌, [], ℕ, List, length, Option, Some, None, Result, Ok, Err, IfOk, refl, sym, ap, subst, inl, inr, append-nil, ◌∙◌}
+use Rattle.std.proofs.Common.{arith, ◌≡◌, ◌≤◌, ◌<◌, ◌^◌, ◌-◌, ◌++◌, ◌∷◌, [], ℕ, List, length, Option, Some, None, Result, Ok, Err, IfOk, refl, ap, subst, inl, inr, append-nil, ◌∙◌}
 use Rattle.repo_name.specs.declared.kinds.Kind.{Kind}
 use Rattle.repo_name.specs.declared.names.Instance.{Instance}
 use Rattle.repo_name.specs.declared.names.Name.{Name}
 use Rattle.repo_tree.specs.declared.entries.Entry.{Entry}
-use Rattle.repo_wire.specs.declared.messages.Code.{Code}
 use Rattle.repo_wire.specs.declared.messages.Request.{Request}
 use Rattle.repo_store.specs.Laws.{greatest_count}
 use Rattle.repo_store.specs.Stores.{Store}
-use Rattle.repo_session.specs.Versions.{snapshot_version}
+use Rattle.repo_session.specs.Versions.{upto}
 use Rattle.repo_session.specs.declared.emissions.Emission.{Emission}
 use Rattle.repo_session.specs.declared.outcomes.End.{End}
 use Rattle.repo_session.specs.declared.outcomes.Outcome.{Outcome}
 use Rattle.repo_session.specs.declared.stepping.StepError.{StepError}
 use Rattle.repo_session.specs.Alone.{IsFit, AreVersionsUpto, EndsWell}
 use Rattle.repo_session.specs.Askers.{Asker}
-use Rattle.repo_session.specs.Ends.{before_unlock}
 use Rattle.repo_session.specs.Rebuilding.{rebuilt}
 use Rattle.repo_session.specs.Soundness.{IsSound}
-use Rattle.repo_session.specs.Talks.{Turn, Talk, trace_of, given_in, TalkRan, Went, Steps}
+use Rattle.repo_session.specs.Talks.{Talk, trace_of, given_in, TalkRan, Went, Steps}
 use Rattle.repo_session.specs.Traces.{Trace, emitted_in}
-use Rattle.repo_backup.specs.Laws.{AreApart, IsBackup}
+use Rattle.repo_backup.specs.Laws.{IsBackup}
 use Rattle.repo_backup.specs.Rules.{BackupConcludes}
 use Rattle.repo_backup.proofs.LoneRuns.{backup_sound, backup_ends}
 use Rattle.repo_restore.specs.Laws.{IsRestore, IsList}
@@ -78,6 +76,7 @@ stored_well : (entries : List Entry) (es : Trace) (outcome : Option Outcome) →
 stored_well entries es None h = h
 stored_well entries es (Some (Outcome.Stored name blobs bytes)) h = tt
 stored_well entries es (Some (Outcome.Ended End.DirectoryTooLarge)) h = tt
+stored_well entries es (Some (Outcome.Ended End.FileTooLarge)) h = tt
 stored_well entries es (Some (Outcome.Complete count)) (inl h) = h
 stored_well entries es (Some (Outcome.Complete count)) (inr h) = absurd h
 stored_well entries es (Some (Outcome.Listed rows)) (inl h) = h
@@ -94,8 +93,6 @@ stored_well entries es (Some Outcome.Upgraded) (inl h) = h
 stored_well entries es (Some Outcome.Upgraded) (inr h) = absurd h
 stored_well entries es (Some (Outcome.Ended End.Busy)) (inl h) = h
 stored_well entries es (Some (Outcome.Ended End.Busy)) (inr h) = absurd h
-stored_well entries es (Some (Outcome.Ended End.FileTooLarge)) (inl h) = h
-stored_well entries es (Some (Outcome.Ended End.FileTooLarge)) (inr h) = absurd h
 stored_well entries es (Some (Outcome.Ended End.Abandoned)) (inl h) = h
 stored_well entries es (Some (Outcome.Ended End.Abandoned)) (inr h) = absurd h
 stored_well entries es (Some (Outcome.Ended End.Fenced)) (inl h) = h
@@ -111,7 +108,7 @@ stored_well entries es (Some (Outcome.Ended End.BadReply)) (inr h) = absurd h
 stored_well entries es (Some (Outcome.Ended End.Version)) (inl h) = h
 stored_well entries es (Some (Outcome.Ended End.Version)) (inr h) = absurd h
 
-pub backs_up : (who : Asker) (entries : List Entry) (from to : Store) (failed : ℕ) (talk : Talk) (outcome : Option Outcome) → IsFit from → AreVersionsUpto snapshot_version from → failed < greatest_count → TalkRan from failed talk to failed → length talk < 2 ^ 64 - 1
+pub backs_up : (who : Asker) (entries : List Entry) (from to : Store) (failed : ℕ) (talk : Talk) (outcome : Option Outcome) → IsFit from → AreVersionsUpto (upto who.versions) from → failed < greatest_count → TalkRan from failed talk to failed → length talk < 2 ^ 64 - 1
     → IsBackup who entries None outcome (trace_of talk) → BacksUp entries from to outcome
 backs_up who entries from to failed talk outcome fit versions low ran few is = record {
   talk = talk;
@@ -121,14 +118,14 @@ backs_up who entries from to failed talk outcome fit versions low ran few is = r
 
 -- ---- a restore, and a list
 
-pub restores : (w : Wish) (from to : Store) (failed : ℕ) (talk : Talk) (outcome : Option Outcome) (text : List ℕ) → IsFit from → AreVersionsUpto snapshot_version from → from.objects Kind.Snapshot w.snapshot ≡ Some text → failed < greatest_count → TalkRan from failed talk to failed
+pub restores : (w : Wish) (from to : Store) (failed : ℕ) (talk : Talk) (outcome : Option Outcome) (text : List ℕ) → IsFit from → AreVersionsUpto (upto w.who.versions) from → from.objects Kind.Snapshot w.snapshot ≡ Some text → failed < greatest_count → TalkRan from failed talk to failed
     → length talk < 2 ^ 64 - 1 → IsRestore w None outcome (trace_of talk) → RestoresAlone from to outcome
 restores w from to failed talk outcome text fit versions there low ran few is = record {
   same = restore_changes_nothing w from to to failed failed talk None outcome ran refl is;
   well = λ apart. restore_ends w from to failed talk outcome text fit versions there low ran few apart is;
 }
 
-pub lists : (who : Asker) (from to : Store) (failed : ℕ) (talk : Talk) (outcome : Option Outcome) → IsFit from → AreVersionsUpto snapshot_version from → failed < greatest_count → TalkRan from failed talk to failed → length talk < 2 ^ 64 - 1
+pub lists : (who : Asker) (from to : Store) (failed : ℕ) (talk : Talk) (outcome : Option Outcome) → IsFit from → AreVersionsUpto (upto who.versions) from → failed < greatest_count → TalkRan from failed talk to failed → length talk < 2 ^ 64 - 1
     → IsList who None outcome (trace_of talk) → ListsAlone from to outcome
 lists who from to failed talk outcome fit versions low ran few is = record {
   same = list_changes_nothing who from to to failed failed talk None outcome ran refl is;

@@ -1,2 +1,3 @@
 mod StoredRuns
+mod FedRuns
 mod AloneRuns

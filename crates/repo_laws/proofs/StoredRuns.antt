@@ -1,7 +1,8 @@
 -- What a restore gives out of a snapshot that a backup reported as stored.
-use Rattle.std.proofs.Common.{◌≡◌, ◌⊎◌, ◌++◌, ◌∷◌, [], ℕ, List, length, Some, refl, sym, ap, subst, inl, inr, ⊎_elim, append-nil, ◌∙◌, Contains}
+use Rattle.std.proofs.Common.{◌≡◌, ◌⊎◌, ◌++◌, ◌∷◌, [], ℕ, List, Some, refl, sym, ap, subst, inl, inr, ⊎_elim, append-nil, ◌∙◌, Contains}
 use Rattle.std.proofs.lemmas.Option.{same_Some}
 use Rattle.repo_name.specs.Naming as naming
+use Rattle.repo_name.specs.declared.kinds.BlobKind.{BlobKind}
 use Rattle.repo_name.specs.declared.kinds.Kind.{Kind}
 use Rattle.repo_name.specs.declared.names.Name.{Name}
 use Rattle.repo_name.specs.declared.tokens.Token.{Token}
@@ -13,6 +14,7 @@ use Rattle.repo_tree.specs.Parts.{Blobs}
 use Rattle.repo_tree.specs.Spelling.{Spells}
 use Rattle.repo_tree.specs.SnapshotText.{IsSnapshotText}
 use Rattle.repo_tree.specs.declared.entries.Entry.{Entry}
+use Rattle.repo_tree.specs.declared.configs.Config.{Config}
 use Rattle.repo_tree.specs.declared.snapshots.Snapshot.{Snapshot}
 use Rattle.repo_tree.proofs.SnapshotLemmas.{snapshot_texts_one}
 use Rattle.repo_tree.proofs.SpellingLemmas.{spells_once}
@@ -45,34 +47,34 @@ use Rattle.repo_restore.specs.Restoring.{Wish, restore_task, IsForBlob, IsRestor
 pub record PutThen (entries : List Entry) (es : Trace) (token : Token) (x : List ℕ) : Type 0 where
   pub older : Trace
   pub rule : SnapshotRule entries older token x
-  pub made : (folder : Folder) → IsMade entries older folder → IsMade entries es folder
+  pub made : (folder : Folder) (m : IsMade entries older folder) → (k : IsMade entries es folder) × (k.config ≡ m.config)
 
 put_then : (who : Asker) (entries : List Entry) (es : Trace) (token : Token) (n : Name) (x : List ℕ) → Obeys (backup_task who) (BackupAllows entries) (BackupGives entries) es → WasAsked es (Ask.Put token Kind.Snapshot n x)
     → PutThen entries es token x
 put_then who entries [] token n x o h = absurd h
-put_then who entries (e ∷ es) token n x o (inl here) = record { older = es; rule = subst (λ a. IsPermitted (BackupAllows entries) es a) here o.1 tt; made = λ folder m. is_made_later entries e es folder m }
+put_then who entries (e ∷ es) token n x o (inl here) = record { older = es; rule = subst (λ a. IsPermitted (BackupAllows entries) es a) here o.1 tt; made = λ folder m. (is_made_later entries e es folder m, refl) }
 put_then who entries (e ∷ es) token n x o (inr before) =
     let p = put_then who entries es token n x o.3 before in
-    record { older = p.older; rule = p.rule; made = λ folder m. is_made_later entries e es folder (p.made folder m) }
+    record { older = p.older; rule = p.rule; made = λ folder m. (let k = p.made folder m in (is_made_later entries e es folder k.0, k.1)) }
 
 -- what a snapshot in the store was made from
-pub record IsMadeFrom (entries : List Entry) (es : Trace) (objects : Objects) (name : Name) : Type 0 where
+pub record IsMadeFrom (entries : List Entry) (Made : List ℕ → Type 0) (objects : Objects) (name : Name) : Type 0 where
   pub text : List ℕ
   pub token : Token
   pub there : objects Kind.Snapshot name ≡ Some text
   pub older : Trace
   pub rule : SnapshotRule entries older token text
-  pub made : (folder : Folder) → IsMade entries older folder → IsMade entries es folder
+  pub made : (k : BlobKind) (x : List ℕ) → Contains (blobs_of rule.cut.config.version rule.folder) (item_of k x) → Made x
 
-module _ (w : Wish) (entries : List Entry) (from mid : Store) (es : Trace) (Sent : Ask → Type 0) (clash : NoClash (IsSpoken (IsMadeOf entries es) from Sent))
-    (there : (k : Kind) (n : Name) (x : List ℕ) → mid.objects k n ≡ Some x → WasThere from Sent k x) (names : (k : Kind) (n : Name) (x : List ℕ) → mid.objects k n ≡ Some x → naming.name x ≡ n) (source : IsMadeFrom entries es mid.objects w.snapshot) where
+module _ (w : Wish) (entries : List Entry) (from mid : Store) (Made : List ℕ → Type 0) (Sent : Ask → Type 0) (clash : NoClash (IsSpoken Made from Sent))
+    (there : (k : Kind) (n : Name) (x : List ℕ) → mid.objects k n ≡ Some x → WasThere from Sent k x) (names : (k : Kind) (n : Name) (x : List ℕ) → mid.objects k n ≡ Some x → naming.name x ≡ n) (source : IsMadeFrom entries Made mid.objects w.snapshot) where
   -- what was received agrees with what was made
-  agrees : (talk : Talk) (to : Store) → Shares mid (trace_of talk) to → to.objects ≡ mid.objects → Agree (λ k y. Contains (blobs_of source.rule.folder) (item_of k y)) (Received (trace_of talk))
+  agrees : (talk : Talk) (to : Store) → Shares mid (trace_of talk) to → to.objects ≡ mid.objects → Agree (λ k y. Contains (blobs_of source.rule.cut.config.version source.rule.folder) (item_of k y)) (Received (trace_of talk))
   agrees talk to shares same k x y made r named =
       let first : (j : Kind) (n : Name) (z : List ℕ) → to.objects j n ≡ Some z → mid.objects j n ≡ Some z = λ j n z p. sym (ap (λ (s : Objects). s j n) same) ∙ p in
       let pack = shares.ranged r.fact.place.pack r.fact.place.offset r.fact.place.length y r.replied in
       let index = first Kind.Index r.given.index r.given.text (shares.got Kind.Index r.given.index r.given.text r.given.read.0) in
-      clash x y (inr (inr (record { folder = source.rule.folder; kind = k; cut = source.made source.rule.folder source.rule.cut; among = made })))
+      clash x y (inr (inr (source.made k x made)))
       (inr (inl (record {
         index = r.given.text;
         fact = r.fact;
@@ -94,7 +96,7 @@ module _ (w : Wish) (entries : List Entry) (from mid : Store) (es : Trace) (Sent
       let got = sym (ap (λ (s : Objects). s Kind.Snapshot w.snapshot) same) ∙ shares.got Kind.Snapshot w.snapshot found.0 found.2.0 in
       let one : source.text ≡ found.0 = same_Some source.text found.0 (sym source.there ∙ got) in
       let snapshot : source.rule.snapshot ≡ found.1 = snapshot_texts_one found.0 source.rule.snapshot found.1 (subst (λ (x : List ℕ). IsSnapshotText x source.rule.snapshot) one source.rule.reads) found.3 in
-      let made : Blobs = λ k y. Contains (blobs_of source.rule.folder) (item_of k y) in
+      let made : Blobs = λ k y. Contains (blobs_of source.rule.cut.config.version source.rule.folder) (item_of k y) in
       let spells : Spells found.1.version made found.1.tree [] entries = subst (λ (s : Snapshot). Spells s.version made s.tree [] entries) snapshot source.rule.spells in
       sym (spells_once r.0 made (Received (trace_of talk)) (agrees talk to shares same) _ r.1 [] entries (rebuilt (emitted_in (trace_of talk)))
       (subst (λ v. Spells v made r.1 [] entries) found.4 (subst (λ t. Spells found.1.version made t [] entries) found.5 spells)) r.3)
@@ -120,7 +122,7 @@ module _ (w : Wish) (entries : List Entry) (from mid : Store) (es : Trace) (Sent
   handed_by (Ask.Upgrade token) turn talk to count q o h r = handed (turn ∷ talk) to count o h r
   handed_by Ask.Config turn talk to count q o h r = handed (turn ∷ talk) to count o h r
 
-  handed_all : (talk : Talk) (to : Store) (count : ℕ) → Obeys (restore_task w) (RestoreAllows w.snapshot) (RestoreGives w.snapshot) (trace_of talk) → Led mid talk to → IsRestored (before_unlock (trace_of talk)) w.snapshot count
+  pub handed_all : (talk : Talk) (to : Store) (count : ℕ) → Obeys (restore_task w) (RestoreAllows w.snapshot) (RestoreGives w.snapshot) (trace_of talk) → Led mid talk to → IsRestored (before_unlock (trace_of talk)) w.snapshot count
       → rebuilt (emitted_in (trace_of talk)) ≡ entries
   handed_all [] to count o h r = handed [] to count o h r
   handed_all (turn ∷ talk) to count o h r = handed_by turn.request.ask turn talk to count refl o h r
@@ -140,6 +142,15 @@ restored_handed who entries from mid to failed failing late last talk talk' next
     let one : found.0 ≡ stored.text = apart found.0 stored.text (inl (Kind.Snapshot, there Kind.Snapshot name found.0 found.1)) (inl (Kind.Snapshot, inr (put.0, name, covers.sent (Ask.Put put.0 Kind.Snapshot name stored.text) asked)))
     (knows.sound.named Kind.Snapshot name found.0 found.1 ∙ sym named) in
     let then = put_then who entries es put.0 name stored.text is.obeys asked in
-    handed_all (record { who = asker; snapshot = name }) entries from mid es (IsSent es next) apart there knows.sound.named
-    (record { text = stored.text; token = put.0; there = found.1 ∙ ap Some one; older = then.older; rule = then.rule; made = then.made })
+    handed_all (record { who = asker; snapshot = name }) entries from mid (IsMadeOf entries es) (IsSent es next) apart there knows.sound.named
+    (record {
+      text = stored.text;
+      token = put.0;
+      there = found.1 ∙ ap Some one;
+      older = then.older;
+      rule = then.rule;
+      made = λ k x among. (
+          let later = then.made then.rule.folder then.rule.cut in
+          record { folder = then.rule.folder; kind = k; cut = later.0; among = subst (λ (c : Config). Contains (blobs_of c.version then.rule.folder) (item_of k x)) (sym later.1) among });
+    })
     talk' to count is'.obeys (led mid talk' to ran'.run) (is'.concluded (Outcome.Complete count) refl)

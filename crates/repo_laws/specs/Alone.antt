@@ -23,11 +23,12 @@ pub record NeverFailed (failed failing : ℕ) : Type 0 where
   pub same : failing ≡ failed
   pub low : failed < greatest_count
 
--- it is stored, or a directory is too large, or the store had no memory
+-- it is stored, or a directory or a file is too large, or the store had no memory
 abbrev pub IsStoredOrMemory : Option Outcome → Type 0
 IsStoredOrMemory None = ⊥
 IsStoredOrMemory (Some (Outcome.Stored name blobs bytes)) = ⊤
 IsStoredOrMemory (Some (Outcome.Ended End.DirectoryTooLarge)) = ⊤
+IsStoredOrMemory (Some (Outcome.Ended End.FileTooLarge)) = ⊤
 IsStoredOrMemory (Some outcome) = outcome ≡ Outcome.Ended (End.Refused Code.NoMemory)
 
 -- what a backup comes to: unless two of the byte lists that it spoke of have one name, the store is sound, and the backup is stored

@@ -8,9 +8,12 @@ use Rattle.repo_session.specs.Askers.{Asker}
 use Rattle.repo_session.specs.Rebuilding.{rebuilt}
 use Rattle.repo_session.specs.Soundness.{IsSound}
 use Rattle.repo_session.specs.Talks.{Talk, trace_of, TalkRan}
-use Rattle.repo_session.specs.Traces.{emitted_in}
+use Rattle.repo_session.specs.Traces.{emitted_in, fed_in}
 use Rattle.repo_session.specs.declared.outcomes.Outcome.{Outcome}
-use Rattle.repo_backup.specs.Laws.{AreApart, IsBackup}
+use Rattle.repo_session.specs.Feeds.{Fed}
+use Rattle.repo_backup.specs.Items.{spelled_by}
+use Rattle.repo_backup.specs.Laws.{AreApart, AreItemsApart, IsBackup}
+use Rattle.repo_feeding.specs.FedLaws.{AreOfSource, StandsAsFed}
 use Rattle.repo_restore.specs.Laws.{IsRestore}
 
 -- a restore of the snapshot that a backup reported as stored, alone with the store that the backup was alone with, gives out the backup's entries
@@ -20,3 +23,11 @@ RestoredIsHanded = (who : Asker) (entries : List Entry) (from mid to : Store) (f
     → IsSound from.objects → TalkRan from failed talk mid failing → IsBackup who entries next (Some (Outcome.Stored name blobs bytes)) (trace_of talk) → AreApart entries from (trace_of talk) next
     → TalkRan mid late talk' to last → IsRestore (record { who = asker; snapshot = name }) next' (Some (Outcome.Complete count)) (trace_of talk')
     → rebuilt (emitted_in (trace_of talk')) ≡ entries
+
+-- A restore of the snapshot that a backup reported as stored which fed itself gives out what the items spell that were fed, and those are what its source was made
+-- to give, where that is known. (Some items are meant that may stand between its exchanges, of whose blobs no two clash.)
+abbrev pub RestoredIsFed : Type 0
+RestoredIsFed = (who : Asker) (whole : Option (List Fed)) (from mid to : Store) (failed failing late last : ℕ) (talk talk' : Talk) (next next' : Option Request) (name : Name) (blobs bytes count : ℕ) (asker : Asker)
+    → IsSound from.objects → TalkRan from failed talk mid failing → (s : StandsAsFed who whole next (Some (Outcome.Stored name blobs bytes)) (trace_of talk)) → AreItemsApart from s.fs next
+    → TalkRan mid late talk' to last → IsRestore (record { who = asker; snapshot = name }) next' (Some (Outcome.Complete count)) (trace_of talk')
+    → (rebuilt (emitted_in (trace_of talk')) ≡ spelled_by (fed_in s.fs)) × AreOfSource whole (rebuilt (emitted_in (trace_of talk')))

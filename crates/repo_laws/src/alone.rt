@@ -2,7 +2,7 @@
 
 ghost use Rattle.std.specs.Prelude.{◌≡◌, ◌≢◌, [], ℕ, List, Some, None, IfOk, IsTrue, IsFalse, length, option_map};
 ghost use Rattle.repo_session.specs.Alone.{IsFit, AreVersionsUpto, HasAsked};
-ghost use Rattle.repo_session.specs.Versions.{snapshot_version};
+ghost use Rattle.repo_session.specs.Versions.{upto};
 ghost use Rattle.repo_session.specs.Sessions.{ended_in, who_in};
 ghost use Rattle.repo_session.specs.Soundness.{IsSound};
 ghost use Rattle.repo_session.specs.Talks.{Talk, Went};
@@ -22,9 +22,9 @@ use std::alloc::Global;
 
 /// Makes a new backup over a shelf that nobody else changes meanwhile, as [`lockstep`] does.
 ///
-/// On a store in which a client that is alone with it finds all that it wants, where the shelf's device failed in no call
-/// and no two of the byte lists that the backup speaks of have one name, the store is sound at the end, and the backup is
-/// stored, or a directory is too large, or the store had no memory.
+/// On a store of versions that the backup knows, in which a client that is alone with it finds all that it wants, where the
+/// shelf's device failed in no call and no two of the byte lists that the backup speaks of have one name, the store is sound
+/// at the end, and the backup is stored, or a directory or a file is too large, or the store had no memory.
 pub fn back_up_alone<S: Shelf>(
     alloc: Global,
     backup: &mut Backup,
@@ -33,7 +33,7 @@ pub fn back_up_alone<S: Shelf>(
     requires honest { S.honest shelf.old }
     requires fresh { FitsBackup backup.old [] }
     ensures went { IfOk result (λ n. (talk : Talk) × Went (who_in backup.old.session).instance FitsBackup backup.old talk backup.new × (n ≡ length talk)) }
-    ensures comes { IfOk result (λ _. IsFit (S.store shelf.old) → AreVersionsUpto snapshot_version (S.store shelf.old) → NeverFailed (S.failed shelf.old) (S.failed shelf.new)
+    ensures comes { IfOk result (λ _. IsFit (S.store shelf.old) → AreVersionsUpto (upto (who_in backup.old.session).versions) (S.store shelf.old) → NeverFailed (S.failed shelf.old) (S.failed shelf.new)
         → BacksUp (handed_to backup.old.session.job) (S.store shelf.old) (S.store shelf.new) (ended_in backup.new.session)) }
 {
     let mut nothing = Vec::new(alloc);
@@ -55,7 +55,7 @@ pub fn restore_alone<S: Shelf>(
     requires honest { S.honest shelf.old }
     requires fresh { FitsRestore restore.old [] }
     ensures went { IfOk result (λ n. WentGiving (who_in restore.old.session).instance FitsRestore restore.old n restore.new out.old.items out.new.items) }
-    ensures comes { IfOk result (λ _. IsFit (S.store shelf.old) → AreVersionsUpto snapshot_version (S.store shelf.old) → HasAsked (S.store shelf.old) (Some (wish_of restore.old).snapshot)
+    ensures comes { IfOk result (λ _. IsFit (S.store shelf.old) → AreVersionsUpto (upto (wish_of restore.old).who.versions) (S.store shelf.old) → HasAsked (S.store shelf.old) (Some (wish_of restore.old).snapshot)
         → NeverFailed (S.failed shelf.old) (S.failed shelf.new) → RestoresAlone (S.store shelf.old) (S.store shelf.new) (ended_in restore.new.session)) }
 {
     lockstep(alloc, restore, shelf, out)
@@ -73,7 +73,7 @@ pub fn list_alone<S: Shelf>(
     requires honest { S.honest shelf.old }
     requires fresh { FitsList list.old [] }
     ensures went { IfOk result (λ n. (talk : Talk) × Went (who_in list.old.session).instance FitsList list.old talk list.new × (n ≡ length talk)) }
-    ensures comes { IfOk result (λ _. IsFit (S.store shelf.old) → AreVersionsUpto snapshot_version (S.store shelf.old) → NeverFailed (S.failed shelf.old) (S.failed shelf.new)
+    ensures comes { IfOk result (λ _. IsFit (S.store shelf.old) → AreVersionsUpto (upto (who_in list.old.session).versions) (S.store shelf.old) → NeverFailed (S.failed shelf.old) (S.failed shelf.new)
         → ListsAlone (S.store shelf.old) (S.store shelf.new) (ended_in list.new.session)) }
 {
     let mut nothing = Vec::new(alloc);

@@ -4,7 +4,7 @@ use Rattle.repo_name.specs.declared.names.Name.{Name}
 use Rattle.repo_tree.specs.declared.snapshots.Snapshot.{Snapshot}
 use Rattle.repo_session.specs.declared.outcomes.Outcome.{Outcome}
 use Rattle.repo_session.specs.Askers.{Asker}
-use Rattle.repo_session.specs.Sessions.{Given, who_in, next_in, ended_in, token_in}
+use Rattle.repo_session.specs.Sessions.{Given, next_in, ended_in, token_in}
 use Rattle.repo_session.specs.Feeds.{Fed}
 use Rattle.repo_session.specs.Traces.{Trace}
 use Rattle.repo_dial.specs.Bringing.{IsObedientBy}

@@ -1,10 +1,9 @@
 -- Connections that are served one after another.
-use Rattle.std.proofs.Common.{◌≡◌, ◌≢◌, ◌⊎◌, ◌≤◌, ◌∷◌, [], List, Option, Ok, Err, Result, IsErr, IsOk, ℕ, length, ◌+◌, inl, inr, refl, sym, subst, arith}
+use Rattle.std.proofs.Common.{◌≡◌, ◌≢◌, ◌≤◌, ◌∷◌, [], List, Option, Ok, Err, Result, IsErr, IsOk, ℕ, length, ◌+◌, inl, inr, refl, sym, subst, arith}
 use Rattle.std.proofs.lemmas.List.Elements.{All-nil, All-cons}
-use Rattle.repo_store.specs.Serving.{ServesConnection, seen}
 use Rattle.repo_store.specs.Stores.{Store}
 use Rattle.repo_store.specs.declared.serving.ServeError.{ServeError}
-use Rattle.repo_prog.specs.Serving.{Connection, AreServed, AreWell, IsServed, ServesOne}
+use Rattle.repo_prog.specs.Serving.{Connection, AreServed, AreWell, ServesOne}
 use Rattle.repo_prog.specs.declared.status.Status.{Status}
 
 module _ {T : Type 0} (remaining contents : T → Option (List ℕ)) where

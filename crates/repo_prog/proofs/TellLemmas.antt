@@ -1,5 +1,5 @@
 -- What commands tell of their jobs.
-use Rattle.std.proofs.Common.{◌≡◌, ◌≢◌, List, Option, ℕ, inl, inr, ⊎_elim, refl, sym, subst}
+use Rattle.std.proofs.Common.{◌≡◌, ◌≢◌, ◌⊎◌, List, Option, ℕ, inl, inr, ⊎_elim, refl, sym, subst}
 use Rattle.repo_prog.specs.Shown.{Tells, TellsEither, unflawed}
 use Rattle.repo_prog.specs.Tellings.{Shows}
 use Rattle.repo_prog.specs.declared.status.Status.{Status}
@@ -29,6 +29,14 @@ module _ {A : Type 0} (Came : A → Type 0) (lines : A → List ℕ) (before aft
   told_flawed Status.Failed marked done other h = subst (λ s. Tells Came lines (unflawed s) before after) (sym (other (λ e. absurd (cc)))) h
   told_flawed Status.Flawed marked done other h = absurd h
   told_flawed Status.Usage marked done other h = absurd h
+
+  -- where the job was done, flawed or not, it came to something
+  pub came_done : (status : Status) → (status ≡ Status.Done) ⊎ (status ≡ Status.Flawed) → Tells Came lines (unflawed status) before after → (a : A) × Came a
+  came_done Status.Done done h = (h.0, h.1)
+  came_done Status.Flawed done h = (h.0, h.1)
+  came_done Status.Failed (inl is) h = absurd (cc)
+  came_done Status.Failed (inr is) h = absurd (cc)
+  came_done Status.Usage done h = absurd h
 
   -- without a flaw it is the status
   pub told_plain : (status : Status) → Tells Came lines status before after → Tells Came lines (unflawed status) before after

@@ -1,5 +1,5 @@
 -- Texts of others, as they are printed.
-use Rattle.std.specs.Prelude.{◌++◌, ◌||◌, ◌&&◌, ℕ, Bool, false, List, cond, codes, chars, encode_utf8, nat_lt, nat_le}
+use Rattle.std.specs.Prelude.{◌++◌, ◌||◌, ◌&&◌, ℕ, Bool, false, List, cond, codes, chars, encode_utf8, nat_le}
 use Rattle.std.specs.List.{flat_map}
 use Rattle.std.specs.Fmt.{radix_digits}
 

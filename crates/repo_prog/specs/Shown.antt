@@ -6,6 +6,12 @@ use Rattle.repo_prog.specs.declared.callers.Caller.{Caller}
 use Rattle.repo_prog.specs.declared.status.Status.{Status}
 use Rattle.repo_prog.specs.Jobs.{RestoresSnapshot, Prunes, Checks, Stores, Foresees, Forgets, ListsSnapshots, Upgrades}
 use Rattle.repo_session.specs.Feeds.{Fed}
+use Rattle.repo_session.specs.Sessions.{ended_in}
+use Rattle.repo_session.specs.Traces.{Trace}
+use Rattle.repo_backup.specs.declared.piece_backups.PieceBackup.{PieceBackup}
+use Rattle.repo_feeding.specs.FedStates.{FitsFed, feeder}
+use Rattle.repo_feeding.specs.Sources.{Told}
+use Rattle.repo_feeding.specs.declared.reasons.GivenUp.{GivenUp}
 use Rattle.std.specs.Io.KnownBytes.{Appends}
 use Rattle.repo_prune.specs.declared.choices.Choice.{Choice}
 use Rattle.repo_prune.specs.Forgetting.{WouldForget}
@@ -69,6 +75,11 @@ clean_lines c = clean_line c.0 c.1 c.2 c.3
 
 abbrev pub ShowsStored : Option Outcome → Status → Option (List ℕ) → Option (List ℕ) → Type 0
 ShowsStored outcome status before after = Tells (λ (s : Stored). outcome ≡ Some (Outcome.Stored s.0 s.1 s.2)) stored_lines status before after
+
+-- in the end a backup had stored a snapshot, with a source of which this is known: what it was made to give, and for what it failed
+abbrev pub HasStoredFrom : {E : Type 0} → Option Told → (E → Type 0) → Type 0
+HasStoredFrom {E} told failed =
+    (b : PieceBackup) × ((rest : List ℕ) × ((given_up : Option (GivenUp E)) × ((es : Trace) × FitsFed (feeder b told rest failed given_up) es × ((s : Stored) × (ended_in b.session ≡ Some (Outcome.Stored s.0 s.1 s.2))))))
 
 abbrev pub ShowsListed : Option Outcome → Status → Option (List ℕ) → Option (List ℕ) → Type 0
 ShowsListed outcome status before after = Tells (λ (rows : List (Name × Snapshot)). outcome ≡ Some (Outcome.Listed rows)) snapshot_lines status before after

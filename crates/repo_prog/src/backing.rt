@@ -1,11 +1,12 @@
 //! `vault backup`.
 
-ghost use Rattle.std.specs.Prelude.{◌≡◌, ◌≢◌, [], option_map};
+ghost use Rattle.std.specs.Prelude.{◌≡◌, ◌≢◌, [], List, option_map};
 ghost use Rattle.repo_name.specs.Rows.{IsHost};
 ghost use Rattle.repo_session.specs.Sessions.{ended_in};
+ghost use Rattle.repo_files.specs.declared.walk_ends.Skipped.{Skipped};
 ghost use Rattle.repo_feeding.specs.Sources.{IsFresh, whole_of};
 ghost use Rattle.repo_prog.specs.declared.status.Status.{Status};
-ghost use Rattle.repo_prog.specs.Shown.{ShowsStored, TellsStored, unflawed};
+ghost use Rattle.repo_prog.specs.Shown.{HasStoredFrom, ShowsStored, TellsStored, unflawed};
 ghost use Rattle.repo_prog.specs.Errands.{BacksUp};
 ghost use Rattle.repo_prog.specs.Jobs.{BackupObeyed};
 
@@ -14,9 +15,9 @@ use crate::printing::printed;
 use crate::status::{Status, failed, flawed, tell};
 use crate::telling::{show_made, stored_line, unfinished};
 use repo_backup::FeedError;
-use repo_dial::{Dial, drive_again};
+use repo_dial::{Dial, TryError, drive_again};
 use repo_feeding::{FedBackup, GivenUp, Source};
-use repo_files::{FolderWalk, ScanError, Skipped};
+use repo_files::{FolderWalk, Skipped, WalkError};
 use repo_session::{Client, DriveError, Outcome};
 use std::alloc::{AllocGlobal, Global};
 use std::fs::Files;
@@ -25,10 +26,16 @@ use std::io::Write;
 /// A source of a backup that leaves some things out.
 pub trait LeavesOut {
     /// What it left out so far.
-    fn left_out(&self) -> &[Skipped];
+    ghost skipped: { Self → List Skipped };
+
+    /// What it left out so far.
+    fn left_out(&self) -> &[Skipped]
+        ensures { result.now ≡ skipped self.now };
 }
 
 impl<R: Files + AllocGlobal + Clone + Drop> LeavesOut for FolderWalk<'_, R> {
+    ghost skipped = { λ walk. walk.skipped.items };
+
     fn left_out(&self) -> &[Skipped] {
         self.skipped()
     }
@@ -55,12 +62,12 @@ fn tell_skipped<F: Write>(alloc: Global, skipped: &[Skipped], faults: &mut F) {
 }
 
 /// Tells why a folder can't be read.
-fn not_scanned<F: Write>(alloc: Global, error: &ScanError, faults: &mut F) -> Status
+fn not_walked<F: Write>(alloc: Global, error: &WalkError, faults: &mut F) -> Status
     ensures { result ≡ Status.Failed }
 {
     match error {
-        ScanError::Unreadable(path) => tell_path(alloc, "unreadable", path.as_str(), faults),
-        ScanError::Memory => tell(faults, &DriveError::Memory),
+        WalkError::Unreadable(path) => tell_path(alloc, "unreadable", path.as_str(), faults),
+        WalkError::Memory => tell(faults, &DriveError::Memory),
     }
     Status::Failed
 }
@@ -80,11 +87,11 @@ fn not_taken<F: Write>(error: FeedError, faults: &mut F) -> Status
 }
 
 /// Tells why a backup was given up.
-fn gave_up<F: Write>(alloc: Global, reason: &GivenUp<ScanError>, faults: &mut F) -> Status
+fn gave_up<F: Write>(alloc: Global, reason: &GivenUp<WalkError>, faults: &mut F) -> Status
     ensures { result ≡ Status.Failed }
 {
     match reason {
-        GivenUp::Source(error) => not_scanned(alloc, error, faults),
+        GivenUp::Source(error) => not_walked(alloc, error, faults),
         GivenUp::Refused(error) => not_taken(*error, faults),
         GivenUp::Endless => failed(faults, &DriveError::Limit),
     }
@@ -130,13 +137,15 @@ fn show_with<O: Write, F: Write>(
 }
 
 /// Tells how a backup ended: why it was given up, if it was; else what its source left out, and what it stored.
-fn show_ended<S: Source<Error = ScanError> + LeavesOut + Drop, O: Write, F: Write>(
+fn show_ended<S: Source<Error = WalkError> + LeavesOut + Drop, O: Write, F: Write>(
     alloc: Global,
     backup: &FedBackup<S>,
     output: &mut O,
     faults: &mut F,
 ) -> Status
     ensures shows { ShowsStored (ended_in backup.now.backup.session) (unflawed result) (O.contents output.old) (O.contents output.new) }
+    ensures whole { result ≡ Status.Done → S.skipped backup.now.source ≡ [] }
+    ensures flawed { result ≡ Status.Flawed → S.skipped backup.now.source ≢ [] }
     ensures silent { result ≡ Status.Done → faults.new ≡ faults.old }
     ensures status { result ≢ Status.Usage }
 {
@@ -147,10 +156,25 @@ fn show_ended<S: Source<Error = ScanError> + LeavesOut + Drop, O: Write, F: Writ
     show_with(alloc, left_out, backup.outcome(), output, faults)
 }
 
+/// Tells why a backup was given up, if it was, and then why it wasn't brought to its end.
+fn show_broken<S: Source<Error = WalkError> + LeavesOut + Drop, F: Write>(
+    alloc: Global,
+    backup: &FedBackup<S>,
+    error: &TryError,
+    faults: &mut F,
+) -> Status
+    ensures { result ≡ Status.Failed }
+{
+    if let Some(reason) = backup.given_up() {
+        gave_up(alloc, reason, faults);
+    }
+    failed(faults, error)
+}
+
 /// Backs up what a source gives that gave nothing so far, under the name of a machine. Where the source fails, or an item of
 /// it may not be backed up, the backup is given up, and that is told. After the first connection `retry` more are made at
-/// most.
-pub fn backup_from<S: Source<Error = ScanError> + LeavesOut + Drop, D: Dial, O: Write, F: Write>(
+/// most. The status is `Done` where the source had left nothing out in the end, and else `Flawed`, if a snapshot was stored.
+pub fn backup_from<S: Source<Error = WalkError> + LeavesOut + Drop, D: Dial, O: Write, F: Write>(
     alloc: Global,
     caller: &Caller,
     host: &str,
@@ -161,8 +185,10 @@ pub fn backup_from<S: Source<Error = ScanError> + LeavesOut + Drop, D: Dial, O: 
     faults: &mut F,
 ) -> Status
     requires host { IsHost host.now }
-    requires fresh { IsFresh (S.told source) }
+    requires fresh { IsFresh (S.told source) (S.failed source) }
     ensures obeyed { BackupObeyed caller.now host.now (whole_of (S.told source)) retry (D.coming dial.old) (D.coming dial.new) }
+    ensures whole { result ≡ Status.Done → (left : S) × HasStoredFrom (S.told left) (S.failed left) × (S.skipped left ≡ []) }
+    ensures flawed { result ≡ Status.Flawed → (left : S) × HasStoredFrom (S.told left) (S.failed left) × (S.skipped left ≢ []) }
     ensures tells { TellsStored caller.now host.now (whole_of (S.told source)) retry (D.coming dial.old) (D.coming dial.new) (unflawed result) (O.contents output.old) (O.contents output.new) }
     ensures silent { result ≡ Status.Done → faults.new ≡ faults.old }
     ensures status { result ≢ Status.Usage }
@@ -175,7 +201,7 @@ pub fn backup_from<S: Source<Error = ScanError> + LeavesOut + Drop, D: Dial, O: 
     };
     match drive_again(alloc, &mut backup, dial, retry, |_| true) {
         Ok(_) => show_ended(alloc, &backup, output, faults),
-        Err(error) => failed(faults, &error),
+        Err(error) => show_broken(alloc, &backup, &error, faults),
     }
 }
 
@@ -202,6 +228,6 @@ pub fn backup_command<T: Files + AllocGlobal + Clone + Drop, D: Dial, O: Write, 
     let alloc = rt.alloc();
     match FolderWalk::new(rt, folder) {
         Ok(walk) => backup_from(alloc, caller, host, walk, dial, retry, output, faults),
-        Err(error) => not_scanned(alloc, &error, faults),
+        Err(error) => not_walked(alloc, &error, faults),
     }
 }

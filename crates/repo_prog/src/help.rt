@@ -2,8 +2,8 @@
 
 /// Below the help of `vault init`.
 pub const INIT: &str = "\
-With --format 2 it is of version 2, which is for what is to come: of this program every job but an upgrade ends with
-`version` at it.
+With --format 2 it is of version 2: a directory may hold any number of files there. `vault upgrade` makes one of version 1
+such a store later.
 
 Example:
   vault init store
@@ -145,8 +145,8 @@ Exit status:
 
 /// Below the help of `vault upgrade`.
 pub const UPGRADE: &str = "\
-Version 2 is for what is to come: directories of any size. It is for ever, and of this program no other command works at
-such a store yet: each job ends with `version`. So don't upgrade a store that you use. What is stored stays as it is.
+In version 2 a directory may hold any number of files. What is stored stays as it is, and every command works as before;
+a program that knows version 1 alone works there no more. There is no way back.
 Nobody else can use the store while it runs; where it is of version 2 already, nothing changes.
 
 With --retry N it connects again where a connection ends or can't be had, N times at most and without a pause, and

@@ -45,8 +45,7 @@ use Rattle.repo_tree.specs.TreeWriting.{tree_text, tree_data}
 use Rattle.repo_name.specs.Rows.{IsHost}
 use Rattle.repo_name.specs.declared.kinds.Kind.{Kind}
 use Rattle.repo_store.specs.StoreMachine.{object_limit}
-use Rattle.repo_backup.specs.Folders.{nothing, tree_of}
-use Rattle.repo_runs.specs.Backed.{snapshot_of, lists_of, AreTexts, AreApart, IsBackedUp, IsGivenBack, IsTidied, IsForgottenInRun}
+use Rattle.repo_runs.specs.Backed.{empty_tree, snapshot_of, lists_of, AreTexts, AreApart, IsBackedUp, IsGivenBack, IsTidied, IsForgottenInRun}
 use Rattle.repo_runs.specs.SomeTexts.{host, time, read as read_config, config, pack, listed, index, snapshot, TextsAreApart, NothingClashesInRuns}
 use Rattle.repo_runs.proofs.Backing.{backup_is_a_run}
 use Rattle.repo_runs.proofs.GivingBack.{restore_is_a_run}
@@ -159,14 +158,14 @@ host_utf8 = (97 ∷ [], (refl, refl))
 is_snapshot : IsSnapshotText snapshot (snapshot_of host time)
 is_snapshot = snapshot_is_read (snapshot_of host time) snapshot (lit≤ tt, lit≤ tt, host_utf8) (lit≤ tt) (lit≤ tt) tree_named (lit≤ tt, lit≤ tt) refl snapshot_utf8 snapshot_reads
 
-is_pack : IsTruePack pack (tree_of nothing ∷ [])
-is_pack = record { pack = record { count = (lit≤ tt, lit≤ tt); each = All-cons IsItem (tree_of nothing) [] ((tree_some, tree_short), tree_named) (All-nil IsItem); layout = refl }; named = All-cons IsNamed (tree_of nothing) [] refl (All-nil IsNamed) }
+is_pack : IsTruePack pack (empty_tree ∷ [])
+is_pack = record { pack = record { count = (lit≤ tt, lit≤ tt); each = All-cons IsItem empty_tree [] ((tree_some, tree_short), tree_named) (All-nil IsItem); layout = refl }; named = All-cons IsNamed empty_tree [] refl (All-nil IsNamed) }
 
-facts_are : AreFactsAt (naming.name pack) (tree_of nothing ∷ []) listed.facts
+facts_are : AreFactsAt (naming.name pack) (empty_tree ∷ []) listed.facts
 facts_are = record { count = refl; each = each }
   where
-    each : (k : ℕ) (item : Item) → slice_get (tree_of nothing ∷ []) k ≡ Some item → slice_get listed.facts k ≡ Some (fact_at (naming.name pack) (tree_of nothing ∷ []) k item)
-    each zero item e = ap (λ i. Some (fact_at (naming.name pack) (tree_of nothing ∷ []) 0 i)) (same_Some (tree_of nothing) item e)
+    each : (k : ℕ) (item : Item) → slice_get (empty_tree ∷ []) k ≡ Some item → slice_get listed.facts k ≡ Some (fact_at (naming.name pack) (empty_tree ∷ []) k item)
+    each zero item e = ap (λ i. Some (fact_at (naming.name pack) (empty_tree ∷ []) 0 i)) (same_Some empty_tree item e)
     each (suc k) item e = absurd (none-some item e)
 
 length_is : length (tree_text []) ≡ 12
@@ -174,7 +173,7 @@ unfolding escape_byte
 length_is = refl
 
 abbrev fact : Fact
-fact = fact_at (naming.name pack) (tree_of nothing ∷ []) 0 (tree_of nothing)
+fact = fact_at (naming.name pack) (empty_tree ∷ []) 0 empty_tree
 
 is_fact : IsFact fact
 is_fact = record { name = tree_named; place = record { pack = pack_named; offset = lit≤ tt; length = (let len = length_is in omega (arith, len)) } }

@@ -41,14 +41,14 @@ use Rattle.repo_session.proofs.Receiving.{kinds_same}
 use Rattle.repo_writing.specs.Putting.{PutDone, AreDone, IsPacked, IsIndexed, IsListedPack}
 use Rattle.repo_writing.specs.Writing.{bytes_of}
 use Rattle.repo_writing.proofs.PutLemmas.{indexed_later}
-use Rattle.repo_backup.specs.Folders.{nothing, tree_of, blobs_of}
+use Rattle.repo_backup.specs.Folders.{nothing, blobs_of}
 use Rattle.repo_backup.specs.Rules as backing
-use Rattle.repo_runs.specs.Backed.{configured, snapshot_of, AreTexts, AreStored, stored, IsBackedUp, BackupIsARun}
+use Rattle.repo_runs.specs.Backed.{configured, empty_tree, snapshot_of, AreTexts, AreStored, stored, IsBackedUp, BackupIsARun}
 use Rattle.repo_world.specs.Clients.{task_of, JobAllows, JobGives, JobConcludes, Client, IsDutiful}
 use Rattle.repo_world.specs.Events.{Run}
 use Rattle.repo_runs.specs.Lone.{ended}
 use Rattle.repo_world.specs.World.{World, client_at, beginning, instance_of}
-use Rattle.repo_runs.proofs.Calming.{ExchangesFew, IsQuiet, quiet_first, quiet_more, backs_nothing, few_config, few_pack, few_index, few_snapshot, calm}
+use Rattle.repo_runs.proofs.Calming.{empty_blobs, ExchangesFew, IsQuiet, quiet_first, quiet_more, backs_nothing, few_config, few_pack, few_index, few_snapshot, calm}
 use Rattle.repo_runs.proofs.Joining.{AreUnfed, Stepped, finished, held_end, posts}
 use Rattle.repo_world.specs.declared.jobs.Job.{Job}
 use Rattle.repo_world.specs.declared.events.Event.{Event}
@@ -180,25 +180,27 @@ module _ (host : List ℕ) (time : ℕ) (config pack index snapshot : List ℕ) 
   made es read = record { text = config; config = texts.read; read = read; reads = texts.configured; known = (let first = texts.first in omega (arith, first)); cut = record { holds = refl; cut = tt } }
 
   pack_rule : backing.PackRule [] listing pack
+  unfolding made
   pack_rule = record {
     indexes = indexed_1;
     first = refl;
-    items = tree_of nothing ∷ [];
+    items = empty_tree ∷ [];
     pack = texts.packed;
     folder = nothing;
     cut = made listing (inr (inl (refl, refl)));
-    made = λ item c. c;
+    made = λ item c. subst (λ l. Contains l item) (sym (empty_blobs texts.read.version)) c;
     once = ((λ h. none_contained h.0 h.1), tt);
     unread = λ item c g. none_got g.1.index g.1.text g.1.read.0;
     unput = λ item c p. none_contained p.pack p.put;
-    full = inr (record { folder = nothing; cut = made listing (inr (inl (refl, refl))); all = λ item c. inr (inr (item, c, refl, refl)) });
+    full = inr (record { folder = nothing; cut = made listing (inr (inl (refl, refl))); all = λ item c. inr (inr (item, subst (λ l. Contains l item) (empty_blobs texts.read.version) c, refl, refl)) });
   }
 
   -- all its blobs are in the pack that was put
-  all_packed : (item : Item) → Contains (blobs_of nothing) item → IsPacked packing item.kind item.name
-  all_packed item c = record { pack = record { name = naming.name pack; bytes = pack }; items = tree_of nothing ∷ []; put = first_contained (record { name = naming.name pack; bytes = pack }) []; holds = texts.packed; among = (item, c, refl, refl) }
+  all_packed : (item : Item) → Contains (blobs_of texts.read.version nothing) item → IsPacked packing item.kind item.name
+  all_packed item c = record { pack = record { name = naming.name pack; bytes = pack }; items = empty_tree ∷ []; put = first_contained (record { name = naming.name pack; bytes = pack }) []; holds = texts.packed; among = (item, subst (λ l. Contains l item) (empty_blobs texts.read.version) c, refl, refl) }
 
   nothing_waits : backing.AreLast [] packing []
+  unfolding made
   nothing_waits = record { folder = nothing; cut = made packing (inr (inr (inl (refl, refl)))); all = λ item c. inr (inl (all_packed item c)) }
 
   index_rule : backing.IndexRule packing index
@@ -214,7 +216,7 @@ module _ (host : List ℕ) (time : ℕ) (config pack index snapshot : List ℕ) 
   }
     where
       listed_is : (listed : PackFacts) → (record { pack = naming.name pack; facts = texts.facts } ≡ listed) ⊎ Contains [] listed → IsListedPack packing listed
-      listed_is listed (inl same) = subst (λ (l : PackFacts). IsListedPack packing l) same (record { bytes = pack; items = tree_of nothing ∷ []; put = (token, inl (refl, refl)); holds = texts.packed; exact = texts.exact })
+      listed_is listed (inl same) = subst (λ (l : PackFacts). IsListedPack packing l) same (record { bytes = pack; items = empty_tree ∷ []; put = (token, inl (refl, refl)); holds = texts.packed; exact = texts.exact })
       listed_is listed (inr none) = absurd (none_contained listed none)
 
   only : (a b : Object) → Contains (a ∷ []) b → a ≡ b
@@ -228,24 +230,24 @@ module _ (host : List ℕ) (time : ℕ) (config pack index snapshot : List ℕ) 
   tree_given : IsIndexed indexing Tree (naming.name (tree_text []))
   tree_given =
       let listed : PackFacts = record { pack = naming.name pack; facts = texts.facts } in
-      let fact : Fact = fact_at (naming.name pack) (tree_of nothing ∷ []) 0 (tree_of nothing) in
+      let fact : Fact = fact_at (naming.name pack) (empty_tree ∷ []) 0 empty_tree in
       record {
         index = naming.name index;
         text = index;
-        fact = fact_at (naming.name pack) (tree_of nothing ∷ []) 0 (tree_of nothing);
+        fact = fact_at (naming.name pack) (empty_tree ∷ []) 0 empty_tree;
         put = (token, inl (refl, refl));
         says = record {
           packs = record { pack = naming.name pack; facts = texts.facts } ∷ [];
           text = texts.indexed;
-          among = contains_flat (λ (p : PackFacts). p.facts) (record { pack = naming.name pack; facts = texts.facts } ∷ []) (record { pack = naming.name pack; facts = texts.facts }) (fact_at (naming.name pack) (tree_of nothing ∷ []) 0 (tree_of nothing))
-              (first_contained (record { pack = naming.name pack; facts = texts.facts }) []) (fact_there (naming.name pack) (tree_of nothing ∷ []) texts.facts 0 (tree_of nothing) texts.exact refl);
+          among = contains_flat (λ (p : PackFacts). p.facts) (record { pack = naming.name pack; facts = texts.facts } ∷ []) (record { pack = naming.name pack; facts = texts.facts }) (fact_at (naming.name pack) (empty_tree ∷ []) 0 empty_tree)
+              (first_contained (record { pack = naming.name pack; facts = texts.facts }) []) (fact_there (naming.name pack) (empty_tree ∷ []) texts.facts 0 empty_tree texts.exact refl);
         };
         kind = refl;
         name = refl;
       }
 
-  given : (item : Item) → Contains (blobs_of nothing) item → IsGiven indexing item.kind item.name ⊎ IsIndexed indexing item.kind item.name
-  given item c = ⊎_elim (λ same. subst (λ (i : Item). IsGiven indexing i.kind i.name ⊎ IsIndexed indexing i.kind i.name) same (inr tree_given)) (λ none. absurd (none_contained item none)) (contained_or (tree_of nothing) [] item c)
+  given : (item : Item) → Contains (blobs_of texts.read.version nothing) item → IsGiven indexing item.kind item.name ⊎ IsIndexed indexing item.kind item.name
+  given item c = ⊎_elim (λ same. subst (λ (i : Item). IsGiven indexing i.kind i.name ⊎ IsIndexed indexing i.kind i.name) same (inr tree_given)) (λ none. absurd (none_contained item none)) (contained_or empty_tree [] item (subst (λ l. Contains l item) (empty_blobs texts.read.version) c))
 
   snapshot_rule : backing.SnapshotRule [] indexing token snapshot
   unfolding made
@@ -264,7 +266,8 @@ module _ (host : List ℕ) (time : ℕ) (config pack index snapshot : List ℕ) 
     folder = nothing;
     cut = made indexing (inr (inr (inr (inl (refl, refl)))));
     version_is = sym texts.first;
-    spells = empty_spelled 1 (λ k y. Contains (blobs_of nothing) (item_of k y)) (naming.name (tree_text [])) [] (record { text = tree_text []; among = first_contained (tree_of nothing) []; named = refl; reads = texts.empty });
+    spells = empty_spelled 1 (λ k y. Contains (blobs_of texts.read.version nothing) (item_of k y)) (naming.name (tree_text [])) []
+        (record { text = tree_text []; among = subst (λ l. Contains l empty_tree) (sym (empty_blobs texts.read.version)) (first_contained empty_tree []); named = refl; reads = texts.empty });
     given = given;
   }
 
@@ -296,12 +299,12 @@ module _ (host : List ℕ) (time : ℕ) (config pack index snapshot : List ℕ) 
     ),
   )
 
-  is_stored : backing.IsStored storing (naming.name snapshot) 1 (min (bytes_of (tree_of nothing ∷ [])) (2 ^ 64 - 1))
+  is_stored : backing.IsStored storing (naming.name snapshot) 1 (min (bytes_of (empty_tree ∷ [])) (2 ^ 64 - 1))
   is_stored = record {
     text = snapshot;
     put = (token, inl (refl, refl));
     counted = record {
-      packs = record { pack = record { name = naming.name pack; bytes = pack }; items = tree_of nothing ∷ [] } ∷ [];
+      packs = record { pack = record { name = naming.name pack; bytes = pack }; items = empty_tree ∷ [] } ∷ [];
       are = refl;
       each = (texts.packed, tt);
       blobs_are = refl;

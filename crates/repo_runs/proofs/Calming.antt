@@ -18,27 +18,34 @@ use Rattle.repo_index.proofs.OneLemmas.{index_texts_one}
 use Rattle.repo_tree.specs.TreeWriting.{tree_text}
 use Rattle.repo_session.specs.Traces.{Each, Trace}
 use Rattle.repo_store.specs.Stores.{Store}
-use Rattle.repo_backup.specs.Folders.{Folder, nothing, file_then, dir_then, tree_of, blobs_of, entries_of}
+use Rattle.repo_backup.specs.Folders.{Folder, nothing, file_then, dir_then, blobs_of, entries_of}
 use Rattle.repo_backup.specs.Laws.{IsMadeOf}
 use Rattle.repo_world.specs.Clients.{Client, MadeOf}
 use Rattle.repo_world.specs.Safe.{IsSpoken, by_put, by_reply, IsPartOf, IsKnown, known_spoken, known_part, known_made, HasNoClash}
 use Rattle.repo_world.specs.World.{World, Message, Asked, Said, IsOneOf, client_at}
 use Rattle.repo_world.specs.declared.jobs.Job.{Job}
-use Rattle.repo_runs.specs.Backed.{AreTexts, AreApart, lists_of}
+use Rattle.repo_runs.specs.Backed.{empty_tree, AreTexts, AreApart, lists_of}
 use Rattle.repo_runs.proofs.Joining.{posts}
 
 each_joined : {A : Type 0} (P : A → Type 0) (xs ys : List A) → Each P xs → Each P ys → Each P (xs ++ ys)
 each_joined P [] ys a b = b
 each_joined P (x ∷ xs) ys a b = (a.0, each_joined P xs ys a.1 b)
 
+-- an empty folder has one blob, the tree of nothing, in each version
+pub empty_blobs : (version : ℕ) → blobs_of version nothing ≡ empty_tree ∷ []
+empty_blobs zero = refl
+empty_blobs (suc zero) = refl
+empty_blobs (suc (suc zero)) = refl
+empty_blobs (suc (suc (suc version))) = refl
+
 -- what a backup of no entries made is the tree of nothing
 made_nothing : (es : Trace) (x : List ℕ) → IsMadeOf [] es x → x ≡ tree_text []
-made_nothing es x made = by_folder made.folder made.cut.cut.holds made.among
+made_nothing es x made = by_folder made.cut.config.version made.folder made.cut.cut.holds made.among
   where
-    by_folder : (f : Folder) → entries_of [] f ≡ [] → Contains (blobs_of f) (item_of made.kind x) → x ≡ tree_text []
-    by_folder nothing none among = ⊎_elim (λ same. sym (ap (λ (i : Item). i.bytes) same)) (λ h. absurd (none_contained (item_of made.kind x) h)) (contained_or (tree_of nothing) [] (item_of made.kind x) among)
-    by_folder (file_then name chunks rest) none among = absurd (cc)
-    by_folder (dir_then name inside rest) none among = absurd (cc)
+    by_folder : (version : ℕ) (f : Folder) → entries_of [] f ≡ [] → Contains (blobs_of version f) (item_of made.kind x) → x ≡ tree_text []
+    by_folder version nothing none among = ⊎_elim (λ same. sym (ap (λ (i : Item). i.bytes) same)) (λ h. absurd (none_contained (item_of made.kind x) h)) (contained_or empty_tree [] (item_of made.kind x) (subst (λ l. Contains l (item_of made.kind x)) (empty_blobs version) among))
+    by_folder version (file_then name chunks rest) none among = absurd (cc)
+    by_folder version (dir_then name inside rest) none among = absurd (cc)
 
 module _ (config pack index snapshot : List ℕ) where
   abbrev Few : List ℕ → Type 0
@@ -125,7 +132,7 @@ module _ (config pack index snapshot : List ℕ) where
     listed = record { pack = naming.name pack; facts = texts.facts }
 
     abbrev tree_fact : Fact
-    tree_fact = fact_at (naming.name pack) (tree_of nothing ∷ []) 0 (tree_of nothing)
+    tree_fact = fact_at (naming.name pack) (empty_tree ∷ []) 0 empty_tree
 
     -- the index has one fact
     one_fact : (fact : Fact) → Says index fact → fact ≡ tree_fact
@@ -133,11 +140,11 @@ module _ (config pack index snapshot : List ℕ) where
         let packs : says.packs ≡ listed ∷ [] = index_texts_one index says.packs (listed ∷ []) says.text texts.indexed in
         let found = flat_contains (λ (p : PackFacts). p.facts) (listed ∷ []) fact (subst (λ (ps : List PackFacts). Contains (facts_in ps) fact) packs says.among) in
         let own : listed ≡ found.0 = ⊎_elim (λ same. same) (λ none. absurd (none_contained found.0 none)) (contained_or listed [] found.0 found.1) in
-        let there = item_there (naming.name pack) (tree_of nothing ∷ []) texts.facts fact texts.exact (subst (λ (p : PackFacts). Contains p.facts fact) (sym own) found.2) in
+        let there = item_there (naming.name pack) (empty_tree ∷ []) texts.facts fact texts.exact (subst (λ (p : PackFacts). Contains p.facts fact) (sym own) found.2) in
         at_place there.0 there.1 there.2 there.3
       where
-        at_place : (k : ℕ) (item : Item) → slice_get (tree_of nothing ∷ []) k ≡ Some item → fact ≡ fact_at (naming.name pack) (tree_of nothing ∷ []) k item → fact ≡ tree_fact
-        at_place zero item here is = is ∙ ap (λ i. fact_at (naming.name pack) (tree_of nothing ∷ []) 0 i) (sym (same_Some (tree_of nothing) item here))
+        at_place : (k : ℕ) (item : Item) → slice_get (empty_tree ∷ []) k ≡ Some item → fact ≡ fact_at (naming.name pack) (empty_tree ∷ []) k item → fact ≡ tree_fact
+        at_place zero item here is = is ∙ ap (λ i. fact_at (naming.name pack) (empty_tree ∷ []) 0 i) (sym (same_Some empty_tree item here))
         at_place (suc k) item here is = absurd (none-some item here)
 
     part : (x : List ℕ) → IsPartOf w x → x ≡ tree_text []
@@ -146,7 +153,7 @@ module _ (config pack index snapshot : List ℕ) where
         let fact_is : p.fact ≡ tree_fact = one_fact p.fact (subst (λ (l : List ℕ). Says l p.fact) index_is p.says) in
         let pack_is : p.pack ≡ pack = apart.names p.pack pack (spoken p.pack p.there) few_pack (p.named ∙ ap (λ (f : Fact). f.place.pack) fact_is) in
         let stands : range pack tree_fact.place.offset tree_fact.place.length ≡ Some x = subst (λ (f : Fact). range pack f.place.offset f.place.length ≡ Some x) fact_is (subst (λ (l : List ℕ). range l p.fact.place.offset p.fact.place.length ≡ Some x) pack_is p.stands) in
-        same_Some x (tree_text []) (sym stands ∙ range_is pack (tree_of nothing ∷ []) 0 (tree_of nothing) texts.packed.pack refl)
+        same_Some x (tree_text []) (sym stands ∙ range_is pack (empty_tree ∷ []) 0 empty_tree texts.packed.pack refl)
 
     known : (x : List ℕ) → IsKnown w x → Few x
     known x (known_spoken h) = spoken x h

@@ -8,15 +8,18 @@ use Rattle.repo_store.specs.Runs.{Replies, StoreRun}
 use Rattle.repo_store.specs.Stores.{Store}
 use Rattle.repo_hall.specs.Happenings.{Log, Brought, Answered, Given, all_asked, all_replies}
 use Rattle.repo_session.specs.Clients.{exchange}
-use Rattle.repo_world.specs.Clients.{Client}
-use Rattle.repo_world.specs.Events.{Delivers, Happens, MayAnybodySend, Takes}
+use Rattle.repo_session.specs.Feeds.{Fed}
+use Rattle.repo_session.specs.Traces.{fed_in, feeding}
+use Rattle.repo_backup.specs.Items.{AreTaken}
+use Rattle.repo_world.specs.Clients.{Client, IsWaiting, MayBeFed}
+use Rattle.repo_world.specs.Events.{Delivers, Feeds, Happens, MayAnybodySend, Takes}
 use Rattle.repo_world.specs.World.{World, Message, Asked, Said, IsOneOf, client, sends}
 use Rattle.repo_world.specs.declared.events.Applied.{Applied}
 use Rattle.repo_world.specs.declared.events.Event.{Event}
 use Rattle.repo_world.proofs.Asking.{memory_or, unchanged}
 use Rattle.repo_world.proofs.Later.{has_left, has_split}
-use Rattle.repo_runs.proofs.Joining.{run_more}
-use Rattle.repo_runs.specs.Connected.{AnswerGoes, ConnectionsAreARun, HallGoes, HallsGo, LeadsTo, Senders, with_store}
+use Rattle.repo_runs.proofs.Joining.{as_item, as_item_is, run_more}
+use Rattle.repo_runs.specs.Connected.{AnswerGoes, AreFed, ConnectionsAreARun, HallGoes, HallsGo, LeadsTo, Senders, with_store}
 
 -- ---- runs of the store
 
@@ -57,6 +60,64 @@ has_right (x ∷ xs) ys m h = inr (has_right xs ys m h)
 
 both_left : (xs ys us zs : List Message) → ((m : Message) → IsOneOf xs m → IsOneOf ys m) → (m : Message) → IsOneOf (xs ++ zs) m → IsOneOf ((ys ++ us) ++ zs) m
 both_left xs ys us zs more m h = ⊎_elim (λ g. has_left (ys ++ us) zs m (has_left ys us m (more m g))) (λ g. has_right (ys ++ us) zs m g) (has_split xs zs m h)
+
+front_left : (xs ys zs : List Message) → ((m : Message) → IsOneOf xs m → IsOneOf ys m) → (m : Message) → IsOneOf (xs ++ zs) m → IsOneOf (ys ++ zs) m
+front_left xs ys zs more m h = ⊎_elim (λ g. has_left ys zs m (more m g)) (λ g. has_right ys zs m g) (has_split xs zs m h)
+
+-- ---- a client is fed
+
+leads_on : (w : World) (mid : Store) (between : Senders) (to : Store) (new : Senders) → (l : LeadsTo w mid between) → LeadsTo l.last to new → LeadsTo w to new
+leads_on w mid between to new l m = record {
+  events = l.events ++ m.events;
+  last = m.last;
+  run = run_more w l.events m.events l.last m.last l.run m.run;
+  store_is = m.store_is;
+  clients_are = m.clients_are;
+  sent = m.sent;
+}
+
+-- one item, in a world with these clients
+module _ (u : World) (old : Senders) (clients : u.clients ≡ old.clients) (sent : (m : Message) → IsOneOf old.sent m → IsOneOf u.messages m) (k : ℕ) (item : Fed) (new : Senders) (t : Feeds (with_store u.store old) k item (with_store u.store new)) where
+  same_fed : client (with_store u.store old) k ≡ client u k
+  same_fed = ap (λ (cs : List Client). client (record { store = u.store; clients = cs; messages = [] }) k) (sym clients)
+
+  abbrev fed : World
+  fed = record { store = u.store; clients = slice_set u.clients k t.new; messages = u.messages ++ sends k t.new.next }
+
+  feeds : Feeds u k item fed
+  feeds = record {
+    fed = subst (λ (c : Client). MayBeFed c) same_fed t.fed;
+    waits = subst (λ (c : Client). IsWaiting c) same_fed t.waits;
+    may = subst (λ (c : Client). AreTaken (item ∷ fed_in c.trace)) same_fed t.may;
+    new = t.new;
+    job = t.job ∙ ap (λ (c : Client). c.job) same_fed;
+    who = t.who ∙ ap (λ (c : Client). c.who) same_fed;
+    trace = t.trace ∙ ap (λ (c : Client). feeding item c.trace) same_fed;
+    up = t.up;
+    dutiful = t.dutiful;
+    is = refl;
+  }
+
+  fed_after : new ≡ record { clients = slice_set old.clients k t.new; sent = old.sent ++ sends k t.new.next }
+  fed_after = ap (λ (x : World). record { clients = x.clients; sent = x.messages }) t.is
+
+  item_leads : LeadsTo u u.store new
+  item_leads = record {
+    events = Event.Feed k (as_item item) ∷ [];
+    last = fed;
+    run = (fed, (Applied.Done, inl (refl, subst (λ x. Feeds u k x fed) (sym (as_item_is item)) feeds)), refl);
+    store_is = refl;
+    clients_are = ap (λ (cs : List Client). slice_set cs k t.new) clients ∙ ap (λ (s : Senders). s.clients) (sym fed_after);
+    sent = subst (λ (ms : List Message). (m : Message) → IsOneOf ms m → IsOneOf fed.messages m) (ap (λ (s : Senders). s.sent) (sym fed_after)) (front_left old.sent u.messages (sends k t.new.next) sent);
+  }
+
+-- some items, one after another
+fed_leads : (w : World) (to : Store) (old : Senders) (k : ℕ) (items : List Fed) (new : Senders) → LeadsTo w to old → AreFed old k items new → LeadsTo w to new
+fed_leads w to old k [] new l same = subst (LeadsTo w to) (sym same) l
+fed_leads w to old k (item ∷ items) new l (mid, before, feeds) =
+    let b = fed_leads w to old k items mid l before in
+    let one = item_leads b.last mid b.clients_are b.sent k item new (feeds b.last.store) in
+    leads_on w to mid to new b (subst (λ s. LeadsTo b.last s new) b.store_is one)
 
 -- ---- one answer, in a world with these clients, in which what they sent is among the messages
 
@@ -139,21 +200,11 @@ module _ (u : World) (old : Senders) (clients : u.clients ≡ old.clients) (sent
       (memory_or reply.say)
 
   pub answer_leads : (new : Senders) → AnswerGoes old request reply new → LeadsTo u to new
-  answer_leads new (inl t) = taken_leads t.by t.sent new (t.takes to)
+  answer_leads new (inl t) = fed_leads u to t.mid t.by t.items new (taken_leads t.by t.sent t.mid (t.takes to)) t.fed
   answer_leads new (inr (inl (k, asked), e)) = subst (LeadsTo u to) (sym e) (lost k asked)
   answer_leads new (inr (inr may, e)) = subst (LeadsTo u to) (sym e) (strange may)
 
 -- ---- one after another
-
-leads_on : (w : World) (mid : Store) (between : Senders) (to : Store) (new : Senders) → (l : LeadsTo w mid between) → LeadsTo l.last to new → LeadsTo w to new
-leads_on w mid between to new l m = record {
-  events = l.events ++ m.events;
-  last = m.last;
-  run = run_more w l.events m.events l.last m.last l.run m.run;
-  store_is = m.store_is;
-  clients_are = m.clients_are;
-  sent = m.sent;
-}
 
 hall_leads : (w : World) (old : Senders) (log : Log) (to : Store) (new : Senders) → w.clients ≡ old.clients → ((m : Message) → IsOneOf old.sent m → IsOneOf w.messages m)
     → StoreRun w.store (all_asked log) (all_replies log) to → HallGoes old log new → LeadsTo w to new

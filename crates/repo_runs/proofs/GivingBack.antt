@@ -37,9 +37,8 @@ use Rattle.repo_session.specs.Traces.{Trace, Exchanged, ReadFact, silent}
 use Rattle.repo_session.specs.declared.outcomes.Outcome.{Outcome}
 use Rattle.repo_name.proofs.Containing.{first_contained, contains_flat}
 use Rattle.repo_session.proofs.Holding.{working_more, holds_of, opened_working}
-use Rattle.repo_backup.specs.Folders.{nothing, tree_of}
 use Rattle.repo_restore.specs.Restoring.{IsRestored}
-use Rattle.repo_runs.specs.Backed.{configured, snapshot_of, AreTexts, stored, IsGivenBack, RestoreIsARun}
+use Rattle.repo_runs.specs.Backed.{configured, empty_tree, snapshot_of, AreTexts, stored, IsGivenBack, RestoreIsARun}
 use Rattle.repo_world.specs.Clients.{task_of, JobAllows, JobGives, JobConcludes, Client, IsDutiful}
 use Rattle.repo_world.specs.Events.{Run}
 use Rattle.repo_runs.specs.Lone.{ended}
@@ -73,14 +72,14 @@ module _ (host : List ℕ) (time : ℕ) (config pack index snapshot : List ℕ) 
 
   -- the place of the tree
   abbrev fact : Fact
-  fact = fact_at (naming.name pack) (tree_of nothing ∷ []) 0 (tree_of nothing)
+  fact = fact_at (naming.name pack) (empty_tree ∷ []) 0 empty_tree
 
   says : Says index fact
   says = record {
     packs = record { pack = naming.name pack; facts = texts.facts } ∷ [];
     text = texts.indexed;
     among = contains_flat (λ (p : PackFacts). p.facts) (record { pack = naming.name pack; facts = texts.facts } ∷ []) (record { pack = naming.name pack; facts = texts.facts }) fact
-        (first_contained (record { pack = naming.name pack; facts = texts.facts }) []) (fact_there (naming.name pack) (tree_of nothing ∷ []) texts.facts 0 (tree_of nothing) texts.exact refl);
+        (first_contained (record { pack = naming.name pack; facts = texts.facts }) []) (fact_there (naming.name pack) (empty_tree ∷ []) texts.facts 0 empty_tree texts.exact refl);
   }
 
   abbrev from : Store
@@ -231,7 +230,7 @@ module _ (host : List ℕ) (time : ℕ) (config pack index snapshot : List ℕ) 
     list_step = inl (ni ∷ [], false, page, refl, refl)
 
     range_step : Step (store_of tokens) (Ask.Range fact.place.pack fact.place.offset fact.place.length) (Say.Bytes (tree_text [])) (store_of tokens)
-    range_step = inl (inr ((texts.packed.pack.each 0 (tree_of nothing) (lit≤ tt)).0, (Slice.Found (tree_text []), (pack, pack_there, range_is pack (tree_of nothing ∷ []) 0 (tree_of nothing) texts.packed.pack refl), refl), refl))
+    range_step = inl (inr ((texts.packed.pack.each 0 empty_tree (lit≤ tt)).0, (Slice.Found (tree_text []), (pack, pack_there, range_is pack (empty_tree ∷ []) 0 empty_tree texts.packed.pack refl), refl), refl))
 
     steps : Stepped w (Job.Restore ns) host time tt limits w.store all (store_of (unlocked tokens token))
     steps = (

@@ -1,7 +1,7 @@
 -- What a client that is alone with its store does is a part of a run.
 use Rattle.std.specs.Prelude.{⊤}
-use Rattle.std.proofs.Common.{◌≡◌, ◌≢◌, ◌⊎◌, ◌<◌, ◌^◌, inl, inr, ⊎_elim, ℕ, ◌+◌, false, ◌++◌, ◌∷◌, [], List, length, refl, sym, ◌∙◌, ap, subst, Option, Some, None, slice_get, slice_set, append-nil}
-use Rattle.std.proofs.lemmas.Option.{none-some, same_Some}
+use Rattle.std.proofs.Common.{arith, take_all, ◌≡◌, ◌≢◌, ◌⊎◌, ◌<◌, ◌^◌, inl, inr, ⊎_elim, ℕ, ◌+◌, false, ◌++◌, ◌∷◌, [], List, length, refl, sym, ◌∙◌, ap, subst, Option, Some, None, slice_get, slice_set, append-nil}
+use Rattle.std.proofs.lemmas.Option.{none-some}
 use Rattle.repo_name.specs.Rows.{IsHost}
 use Rattle.repo_name.specs.declared.tokens.Token.{Token}
 use Rattle.repo_wire.specs.declared.messages.Ask.{Ask}
@@ -14,18 +14,26 @@ use Rattle.repo_session.specs.Versions.{upto}
 use Rattle.repo_session.specs.declared.versions.Versions.{Versions}
 use Rattle.repo_session.specs.declared.outcomes.Outcome.{Outcome}
 use Rattle.repo_session.specs.Askers.{Asker, asker}
-use Rattle.repo_session.specs.Clients.{IsNextRequest, exchange}
-use Rattle.repo_session.specs.Obedience.{holds_whole}
+use Rattle.repo_session.specs.Clients.{exchange}
 use Rattle.repo_session.specs.Ends as ends
 use Rattle.repo_session.specs.Order.{Task, May, IsPermitted, IsUnlock, IsNoUnlock, IsWorking, Obeys, opened, locked, ticketed}
 use Rattle.repo_session.specs.Talks.{Talk, trace_of}
-use Rattle.repo_session.specs.Feeds.{Fed}
-use Rattle.repo_session.specs.Traces.{Each, Exchange, Trace, giving}
+use Rattle.repo_session.specs.Feeds.{Fed, fed_dir, fed_file, fed_bytes, fed_close, fed_end, fed_abandon}
+use Rattle.repo_session.specs.Traces.{Each, Exchange, Trace, fed_in, feeding, giving}
+use Rattle.repo_session.specs.declared.emissions.Emission.{Emission}
+use Rattle.repo_backup.specs.Items.{AreTaken, MayTake, fed_of, place_of}
+use Rattle.repo_backup.specs.PieceRules.{WantsInput}
+use Rattle.repo_backup.specs.declared.items.Item.{Item}
+use Rattle.repo_feeding.specs.FedRules.{AreWelcome, AreWelcomeOn}
+use Rattle.repo_feeding.specs.Unfed.{unfed}
+use Rattle.repo_feeding.proofs.Fed.{fed_clients}
 use Rattle.repo_session.proofs.Growing.{Led, led}
-use Rattle.repo_world.specs.Clients.{Accepts, task_of, JobAllows, JobGives, JobConcludes, Client, IsDutiful}
-use Rattle.repo_world.specs.Events.{Delivers, Takes, Happens, Run}
+use Rattle.repo_world.specs.Clients.{Accepts, task_of, JobAllows, JobGives, JobConcludes, JobWants, Client, IsDutiful}
+use Rattle.repo_world.specs.Events.{Delivers, Feeds, Takes, Happens, Run}
 use Rattle.repo_store.specs.Failing.{Plainly}
-use Rattle.repo_runs.specs.Lone.{LoneTalkIsARun}
+use Rattle.repo_runs.proofs.Waiting.{ShowsThen, asked_of, is_unlock, waits_dutiful, without_older}
+use Rattle.repo_runs.specs.Fed.{AreWelcomeTo, IsFedWell}
+use Rattle.repo_runs.specs.Lone.{FedBackupIsARun, LoneTalkIsARun}
 use Rattle.repo_world.specs.World.{World, Message, Asked, Said, client, client_at, sends, instance_of, first_of, started}
 use Rattle.repo_world.specs.declared.jobs.Job.{Job}
 use Rattle.repo_world.specs.declared.events.Event.{Event}
@@ -91,7 +99,7 @@ open_end task token text (x ∷ later) e es since none u = no_unlock_head x none
 working_end : (task : Task) (token : Token) (e : Exchange) (es : Trace) → IsWorking task token (e ∷ es) → IsUnlock e.ask → ⊥
 working_end task token e es w u = let o = w.1 in open_end task token o.text o.later e es o.since o.held.unended u
 
-no_more : (task : Task) (e : Exchange) (es : Trace) (a : Ask) → May task (e ∷ es) a → IsUnlock e.ask → ⊥
+pub no_more : (task : Task) (e : Exchange) (es : Trace) (a : Ask) → May task (e ∷ es) a → IsUnlock e.ask → ⊥
 no_more task e es Ask.Ticket m u = absurd (cc)
 no_more task e es (Ask.Lock row) m u = subst IsUnlock (ap first_ask m.1) u
 no_more task e es Ask.Config m u = subst IsUnlock (ap first_ask m.1) u
@@ -117,7 +125,7 @@ not_locked task token [] q = absurd (cc)
 not_locked task token (x ∷ later) q = absurd (cc)
 
 -- first comes the ticket
-first_ticket : (task : Task) (a : Ask) → May task [] a → a ≡ Ask.Ticket
+pub first_ticket : (task : Task) (a : Ask) → May task [] a → a ≡ Ask.Ticket
 first_ticket task Ask.Ticket m = refl
 first_ticket task (Ask.Lock row) m = let q : [] ≡ ticketed m.0 = m.1 in absurd (cc)
 first_ticket task Ask.Config m = let q : [] ≡ locked task m.0 = m.1 in absurd (cc)
@@ -131,15 +139,40 @@ first_ticket task (Ask.Unlock t) m = absurd (not_locked task t m.later m.since)
 first_ticket task (Ask.Refresh t time) m = absurd m
 first_ticket task Ask.Locks m = absurd m
 
--- ---- the world while a client talks
+-- ---- what is fed
+
+-- an exchange on which these items were fed
+abbrev on_exchange : List Fed → Ask → Say → List Emission → Exchange
+on_exchange items ask say emitted = record { ask = ask; say = say; emitted = emitted; fed = items }
+
+-- an item as it is given
+pub as_item : Fed → Item
+as_item (fed_dir name) = Item.Dir (record { ref_ptr = (0, 0); now = name })
+as_item (fed_file name) = Item.File (record { ref_ptr = (0, 0); now = name })
+as_item (fed_bytes bytes) = Item.Bytes (record { ref_ptr = (0, 0); now = bytes })
+as_item fed_close = Item.Close
+as_item fed_end = Item.End
+as_item fed_abandon = Item.Abandon
+
+pub as_item_is : (item : Fed) → fed_of (as_item item) ≡ item
+unfolding as_item
+as_item_is (fed_dir name) = refl
+as_item_is (fed_file name) = refl
+as_item_is (fed_bytes bytes) = ap fed_bytes (take_all (length bytes) bytes (omega arith))
+as_item_is fed_close = refl
+as_item_is fed_end = refl
+as_item_is fed_abandon = refl
 
 -- nothing was fed on any exchange
 abbrev pub AreUnfed : Trace → Type 0
 AreUnfed es = Each (λ e. e.fed ≡ []) es
 
--- a client's request, as the one after these exchanges
-abbrev asked_of : ℕ → Trace → Ask → Request
-asked_of k es a = record { instance = instance_of k; sequence = length es + 1; ask = a }
+-- which may be so, whatever the job
+pub unfed_well : (job : Job) (es : Trace) → AreUnfed es → IsFedWell job es
+unfed_well job [] h = tt
+unfed_well job (e ∷ es) h = (subst (λ items. AreWelcomeTo job items e.ask e.say e.emitted es) (sym h.0) tt, unfed_well job es h.1)
+
+-- ---- the world while a client talks
 
 abbrev answered_of : ℕ → Trace → Say → Reply
 answered_of k es s = record { instance = instance_of k; sequence = length es + 1; say = s }
@@ -165,116 +198,161 @@ module _ (w : World) (job : Job) (host : List ℕ) (time : ℕ) (accepted : Acce
   abbrev at : Trace → Option Request → Option Outcome → Store → World
   at es next o store = record { store = store; clients = w.clients ++ talking es next o ∷ []; messages = sent es ++ sends (length w.clients) next }
 
-  -- one turn: the request is delivered, and its reply
-  module _ (es : Trace) (e : Exchange) (mid to : Store) (o p : Option Outcome) (next : Option Request) (unfed : e.fed ≡ []) (step : Step mid e.ask e.say to) (dutiful : IsDutiful (talking (e ∷ es) next p)) (stays : (x : Outcome) → o ≡ Some x → p ≡ Some x) where
-    abbrev request : Request
-    request = asked_of (length w.clients) es e.ask
+  -- a client that waits for input is dutiful, where it may want it
+  waits_input : (fed old : List Fed) (ask : Ask) (say : Say) (emitted : List Emission) (es : Trace) → job ≡ Job.Pieces → WantsInput (on_exchange fed ask say emitted ∷ es)
+      → Obeys (task_of job who) (JobAllows job) (JobGives job) (on_exchange old ask say emitted ∷ es) → IsDutiful (talking (on_exchange fed ask say emitted ∷ es) None None)
+  waits_input fed old ask say emitted es pieces wants obeys = record {
+    obeys = (obeys.0, obeys.1, quiet obeys.2, obeys.3);
+    pending = λ r q. absurd (none-some r q);
+    settled = λ q o. subst (λ j. JobWants j (on_exchange fed ask say emitted ∷ es)) (sym pieces) wants;
+    concluded = λ x q. absurd (none-some x q);
+    released = λ q there. absurd (there refl);
+    beside = λ r q there. absurd (none-some r q);
+    ending = λ r q u. absurd (none-some r q);
+  }
+    where
+      quiet : (emitted ≡ []) ⊎ JobGives job es (on_exchange old ask say emitted) → (emitted ≡ []) ⊎ JobGives job es (on_exchange fed ask say emitted)
+      quiet (inl none) = inl none
+      quiet (inr gives) = absurd (subst (λ j. JobGives j es (on_exchange old ask say emitted)) pieces gives)
 
-    abbrev reply : Reply
-    reply = answered_of (length w.clients) es e.say
-
+  -- the request is delivered, and its reply
+  module _ (es : Trace) (ask : Ask) (say : Say) (emitted : List Emission) (mid to : Store) (o : Option Outcome) (step : Step mid ask say to) where
     abbrev before : World
-    before = at es (Some (asked_of (length w.clients) es e.ask)) o mid
+    before = at es (Some (asked_of (length w.clients) es ask)) o mid
 
     abbrev between : World
-    between = record { store = to; clients = w.clients ++ talking es (Some (asked_of (length w.clients) es e.ask)) o ∷ []; messages = (sent es ++ Asked (length w.clients) (asked_of (length w.clients) es e.ask) ∷ []) ++ Said (length w.clients) (answered_of (length w.clients) es e.say) ∷ [] }
+    between = record { store = to; clients = w.clients ++ talking es (Some (asked_of (length w.clients) es ask)) o ∷ []; messages = (sent es ++ Asked (length w.clients) (asked_of (length w.clients) es ask) ∷ []) ++ Said (length w.clients) (answered_of (length w.clients) es say) ∷ [] }
 
     served_now : Happens ⊤ before (Event.Deliver (length (sent es))) Applied.Done between
-    served_now = subst (λ (m : Option Message). Delivers (Plainly ⊤) before m Applied.Done between) (sym (got_last (sent es) (Asked (length w.clients) (asked_of (length w.clients) es e.ask))))
-        (refl, record { reply = answered_of (length w.clients) es e.say; store = to; answers = (refl, refl); step = (step, λ q. tt); is = refl })
+    served_now = subst (λ (m : Option Message). Delivers (Plainly ⊤) before m Applied.Done between) (sym (got_last (sent es) (Asked (length w.clients) (asked_of (length w.clients) es ask))))
+        (refl, record { reply = answered_of (length w.clients) es say; store = to; answers = (refl, refl); step = (step, λ q. tt); is = refl })
 
-    here : client between (length w.clients) ≡ talking es (Some (asked_of (length w.clients) es e.ask)) o
-    here = client_last w.clients (talking es (Some (asked_of (length w.clients) es e.ask)) o)
+    here : client between (length w.clients) ≡ talking es (Some (asked_of (length w.clients) es ask)) o
+    here = client_last w.clients (talking es (Some (asked_of (length w.clients) es ask)) o)
 
-    messages_are : (sent es ++ Asked (length w.clients) (asked_of (length w.clients) es e.ask) ∷ []) ++ Said (length w.clients) (answered_of (length w.clients) es e.say) ∷ [] ≡ sent (e ∷ es)
-    messages_are = joined w.messages (posts (length w.clients) es) [] (Asked (length w.clients) (asked_of (length w.clients) es e.ask)) (Said (length w.clients) (answered_of (length w.clients) es e.say))
+    -- and the client goes on so
+    module _ (next : Option Request) (p : Option Outcome) (dutiful : IsDutiful (talking (giving ask say emitted ∷ es) next p)) (stays : (x : Outcome) → o ≡ Some x → p ≡ Some x) where
+      messages_are : (sent es ++ Asked (length w.clients) (asked_of (length w.clients) es ask) ∷ []) ++ Said (length w.clients) (answered_of (length w.clients) es say) ∷ [] ≡ sent (giving ask say emitted ∷ es)
+      messages_are = joined w.messages (posts (length w.clients) es) [] (Asked (length w.clients) (asked_of (length w.clients) es ask)) (Said (length w.clients) (answered_of (length w.clients) es say))
 
-    world_is : at (e ∷ es) next p to ≡ record { store = to; clients = slice_set between.clients (length w.clients) (talking (e ∷ es) next p); messages = between.messages ++ sends (length w.clients) next }
-    world_is =
-        ap (λ (cs : List Client). record { store = to; clients = cs; messages = sent (e ∷ es) ++ sends (length w.clients) next }) (sym (set_last w.clients (talking es (Some (asked_of (length w.clients) es e.ask)) o) (talking (e ∷ es) next p)))
-        ∙ ap (λ (ms : List Message). record { store = to; clients = slice_set between.clients (length w.clients) (talking (e ∷ es) next p); messages = ms ++ sends (length w.clients) next }) (sym messages_are)
+      world_is : at (giving ask say emitted ∷ es) next p to ≡ record { store = to; clients = slice_set between.clients (length w.clients) (talking (giving ask say emitted ∷ es) next p); messages = between.messages ++ sends (length w.clients) next }
+      world_is =
+          ap (λ (cs : List Client). record { store = to; clients = cs; messages = sent (giving ask say emitted ∷ es) ++ sends (length w.clients) next }) (sym (set_last w.clients (talking es (Some (asked_of (length w.clients) es ask)) o) (talking (giving ask say emitted ∷ es) next p)))
+          ∙ ap (λ (ms : List Message). record { store = to; clients = slice_set between.clients (length w.clients) (talking (giving ask say emitted ∷ es) next p); messages = ms ++ sends (length w.clients) next }) (sym messages_are)
 
-    takes : Takes between (length w.clients) (answered_of (length w.clients) es e.say) (at (e ∷ es) next p to)
-    takes = record {
-      running = ap (λ (c : Client). c.crashed) here;
-      request = asked_of (length w.clients) es e.ask;
-      pending = ap (λ (c : Client). c.next) here;
-      answers = (refl, refl);
-      emitted = e.emitted;
-      new = talking (e ∷ es) next p;
-      job = sym (ap (λ (c : Client). c.job) here);
-      who = sym (ap (λ (c : Client). c.who) here);
-      trace = ap (λ (fed : List Fed). record { ask = e.ask; say = e.say; emitted = e.emitted; fed = fed } ∷ es) unfed ∙ ap (λ (c : Client). giving e.ask e.say e.emitted ∷ c.trace) (sym here);
-      up = refl;
-      dutiful = dutiful;
-      stays = λ x q. stays x (sym (ap (λ (c : Client). c.outcome) here) ∙ q);
-      is = world_is;
-    }
+      takes : Takes between (length w.clients) (answered_of (length w.clients) es say) (at (giving ask say emitted ∷ es) next p to)
+      takes = record {
+        running = ap (λ (c : Client). c.crashed) here;
+        request = asked_of (length w.clients) es ask;
+        pending = ap (λ (c : Client). c.next) here;
+        answers = (refl, refl);
+        emitted = emitted;
+        new = talking (giving ask say emitted ∷ es) next p;
+        job = sym (ap (λ (c : Client). c.job) here);
+        who = sym (ap (λ (c : Client). c.who) here);
+        trace = ap (λ (c : Client). giving ask say emitted ∷ c.trace) (sym here);
+        up = refl;
+        dutiful = dutiful;
+        stays = λ x q. stays x (sym (ap (λ (c : Client). c.outcome) here) ∙ q);
+        is = world_is;
+      }
 
-    taken_now : Happens ⊤ between (Event.Deliver (length (sent es ++ Asked (length w.clients) (asked_of (length w.clients) es e.ask) ∷ []))) Applied.Done (at (e ∷ es) next p to)
-    taken_now = subst (λ (m : Option Message). Delivers (Plainly ⊤) between m Applied.Done (at (e ∷ es) next p to)) (sym (got_last (sent es ++ Asked (length w.clients) (asked_of (length w.clients) es e.ask) ∷ []) (Said (length w.clients) (answered_of (length w.clients) es e.say))))
-        (inl (refl, takes))
+      taken_now : Happens ⊤ between (Event.Deliver (length (sent es ++ Asked (length w.clients) (asked_of (length w.clients) es ask) ∷ []))) Applied.Done (at (giving ask say emitted ∷ es) next p to)
+      taken_now = subst (λ (m : Option Message). Delivers (Plainly ⊤) between m Applied.Done (at (giving ask say emitted ∷ es) next p to)) (sym (got_last (sent es ++ Asked (length w.clients) (asked_of (length w.clients) es ask) ∷ []) (Said (length w.clients) (answered_of (length w.clients) es say))))
+          (inl (refl, takes))
 
-    pub one_turn : (events : List Event) × Run before events (at (e ∷ es) next p to)
-    one_turn = (
-      Event.Deliver (length (sent es)) ∷ Event.Deliver (length (sent es ++ Asked (length w.clients) (asked_of (length w.clients) es e.ask) ∷ [])) ∷ [],
-      (between, (Applied.Done, served_now), (at (e ∷ es) next p to, (Applied.Done, taken_now), refl)),
-    )
+      one_reply : (events : List Event) × Run before events (at (giving ask say emitted ∷ es) next p to)
+      one_reply = (
+        Event.Deliver (length (sent es)) ∷ Event.Deliver (length (sent es ++ Asked (length w.clients) (asked_of (length w.clients) es ask) ∷ [])) ∷ [],
+        (between, (Applied.Done, served_now), (at (giving ask say emitted ∷ es) next p to, (Applied.Done, taken_now), refl)),
+      )
 
-  -- what is shown while this is pending: an outcome beside the end of the lock, else none
+  -- the client is fed on its newest exchange
+  module _ (es : Trace) (ask : Ask) (say : Say) (emitted : List Emission) (to : Store) (pieces : job ≡ Job.Pieces) where
+    -- one item more
+    module _ (items : List Fed) (item : Fed) (next : Option Request) (p : Option Outcome) (wants : WantsInput (on_exchange items ask say emitted ∷ es)) (may : MayTake (place_of (items ++ fed_in es)) item)
+        (dutiful : IsDutiful (talking (on_exchange (item ∷ items) ask say emitted ∷ es) next p)) where
+      abbrev hungry : World
+      hungry = at (on_exchange items ask say emitted ∷ es) None None to
+
+      fed_here : client hungry (length w.clients) ≡ talking (on_exchange items ask say emitted ∷ es) None None
+      fed_here = client_last w.clients (talking (on_exchange items ask say emitted ∷ es) None None)
+
+      fed_is : at (on_exchange (item ∷ items) ask say emitted ∷ es) next p to
+          ≡ record { store = to; clients = slice_set hungry.clients (length w.clients) (talking (on_exchange (item ∷ items) ask say emitted ∷ es) next p); messages = hungry.messages ++ sends (length w.clients) next }
+      fed_is =
+          ap (λ (cs : List Client). record { store = to; clients = cs; messages = sent (giving ask say emitted ∷ es) ++ sends (length w.clients) next })
+          (sym (set_last w.clients (talking (on_exchange items ask say emitted ∷ es) None None) (talking (on_exchange (item ∷ items) ask say emitted ∷ es) next p)))
+          ∙ ap (λ (ms : List Message). record { store = to; clients = slice_set hungry.clients (length w.clients) (talking (on_exchange (item ∷ items) ask say emitted ∷ es) next p); messages = ms ++ sends (length w.clients) next })
+          (sym (append-nil (sent (giving ask say emitted ∷ es))))
+
+      feeds : Feeds hungry (length w.clients) item (at (on_exchange (item ∷ items) ask say emitted ∷ es) next p to)
+      feeds = record {
+        fed = (ap (λ (c : Client). c.crashed) fed_here, ap (λ (c : Client). c.job) fed_here ∙ pieces);
+        waits = (ap (λ (c : Client). c.next) fed_here, ap (λ (c : Client). c.outcome) fed_here);
+        may = subst (λ (c : Client). AreTaken (item ∷ fed_in c.trace)) (sym fed_here) (wants.goes_on, wants.kept, may, wants.taken);
+        new = talking (on_exchange (item ∷ items) ask say emitted ∷ es) next p;
+        job = sym (ap (λ (c : Client). c.job) fed_here);
+        who = sym (ap (λ (c : Client). c.who) fed_here);
+        trace = ap (λ (c : Client). feeding item c.trace) (sym fed_here);
+        up = refl;
+        dutiful = dutiful;
+        is = fed_is;
+      }
+
+      fed_now : Happens ⊤ hungry (Event.Feed (length w.clients) (as_item item)) Applied.Done (at (on_exchange (item ∷ items) ask say emitted ∷ es) next p to)
+      fed_now = inl (refl, subst (λ x. Feeds hungry (length w.clients) x (at (on_exchange (item ∷ items) ask say emitted ∷ es) next p to)) (sym (as_item_is item)) feeds)
+
+      one_item : (events : List Event) × Run hungry events (at (on_exchange (item ∷ items) ask say emitted ∷ es) next p to)
+      one_item = (Event.Feed (length w.clients) (as_item item) ∷ [], (at (on_exchange (item ∷ items) ask say emitted ∷ es) next p to, (Applied.Done, fed_now), refl))
+
+    -- all items but the newest
+    older_items : (item : Fed) (items all : List Fed) → AreWelcomeOn (item ∷ items) ask say emitted es → Obeys (task_of job who) (JobAllows job) (JobGives job) (on_exchange all ask say emitted ∷ es)
+        → (events : List Event) × Run (at (giving ask say emitted ∷ es) None None to) events (at (on_exchange items ask say emitted ∷ es) None None to)
+    older_items item [] all welcome obeys = ([], refl)
+    older_items item (older ∷ items) all welcome obeys =
+        let before = older_items older items all welcome.3 obeys in
+        let one = one_item items older None None welcome.3.1 welcome.3.2 (waits_input (older ∷ items) all ask say emitted es pieces welcome.1 obeys) in
+        (before.0 ++ one.0, run_more (at (giving ask say emitted ∷ es) None None to) before.0 one.0 (at (on_exchange items ask say emitted ∷ es) None None to) (at (on_exchange (older ∷ items) ask say emitted ∷ es) None None to) before.1 one.1)
+
+  -- it wanted input before the first of them
+  wanted_first : (es : Trace) (ask : Ask) (say : Say) (emitted : List Emission) (item : Fed) (items : List Fed) → AreWelcomeOn (item ∷ items) ask say emitted es → WantsInput (giving ask say emitted ∷ es)
+  wanted_first es ask say emitted item [] welcome = welcome.1
+  wanted_first es ask say emitted item (older ∷ items) welcome = wanted_first es ask say emitted older items welcome.3
+
+  -- one turn: the request is delivered, and its reply; and then the client is fed, if it is
+  turn_by : (es : Trace) (ask : Ask) (say : Say) (emitted : List Emission) (items : List Fed) (mid to : Store) (o p : Option Outcome) (next : Option Request) → AreWelcomeTo job items ask say emitted es → Step mid ask say to
+      → IsDutiful (talking (on_exchange items ask say emitted ∷ es) next p) → ((x : Outcome) → o ≡ Some x → p ≡ Some x) → (items ≢ [] → o ≡ None)
+      → (events : List Event) × Run (at es (Some (asked_of (length w.clients) es ask)) o mid) events (at (on_exchange items ask say emitted ∷ es) next p to)
+  turn_by es ask say emitted [] mid to o p next welcome step dutiful stays open_still = one_reply es ask say emitted mid to o step next p dutiful stays
+  turn_by es ask say emitted (item ∷ items) mid to o p next welcome step dutiful stays open_still =
+      let obeys = dutiful.obeys in
+      let none : o ≡ None = open_still (λ e. absurd (cc)) in
+      let first = waits_input [] (item ∷ items) ask say emitted es welcome.0 (wanted_first es ask say emitted item items welcome.1) obeys in
+      let reply = one_reply es ask say emitted mid to o step None None first (λ x q. absurd (none-some x (sym none ∙ q))) in
+      let older = older_items es ask say emitted to welcome.0 item items (item ∷ items) welcome.1 obeys in
+      let last = one_item es ask say emitted to welcome.0 items item next p welcome.1.1 welcome.1.2 dutiful in
+      let start = at es (Some (asked_of (length w.clients) es ask)) o mid in
+      let hungry = at (on_exchange items ask say emitted ∷ es) None None to in
+      let end = at (on_exchange (item ∷ items) ask say emitted ∷ es) next p to in
+      let fed = run_more (at (giving ask say emitted ∷ es) None None to) older.0 last.0 hungry end older.1 last.1 in
+      (reply.0 ++ (older.0 ++ last.0), run_more start reply.0 (older.0 ++ last.0) (at (giving ask say emitted ∷ es) None None to) end reply.1 fed)
+
+  one_turn : (es : Trace) (e : Exchange) (mid to : Store) (o p : Option Outcome) (next : Option Request) → AreWelcomeTo job e.fed e.ask e.say e.emitted es → Step mid e.ask e.say to → IsDutiful (talking (e ∷ es) next p)
+      → ((x : Outcome) → o ≡ Some x → p ≡ Some x) → (e.fed ≢ [] → o ≡ None) → (events : List Event) × Run (at es (Some (asked_of (length w.clients) es e.ask)) o mid) events (at (e ∷ es) next p to)
+  one_turn es e mid to o p next welcome step dutiful stays open_still = turn_by es e.ask e.say e.emitted e.fed mid to o p next welcome step dutiful stays open_still
+
+  -- what is shown while this is pending
   abbrev Shows : Option Outcome → Ask → Trace → Type 0
-  Shows o a es = ((¬ IsUnlock a) × (o ≡ None)) ⊎ (IsUnlock a × ((x : Outcome) × (o ≡ Some x) × ends.MayConclude (upto (task_of job who).versions) (task_of job who).notes (JobConcludes job) es x))
+  Shows o a es = ShowsThen (length w.clients) job host time o a es
 
   -- the store's steps over these exchanges
   abbrev pub Stepped : Store → Trace → Store → Type 0
   Stepped from [] to = to ≡ from
   Stepped from (e ∷ es) to = (mid : Store) × Stepped from es mid × Step mid e.ask e.say to
 
-  some_none : (r : Request) → Some r ≡ None → ⊥
-  some_none r e = absurd (cc)
-
-  not_none : (o : Option Outcome) (x : Outcome) → o ≡ Some x → o ≢ None
-  not_none o x e q = none-some x (sym q ∙ e)
-
-  -- a client that waits is dutiful
   waits : (es : Trace) (a : Ask) (o : Option Outcome) → Obeys (task_of job who) (JobAllows job) (JobGives job) es → May (task_of job who) es a → IsPermitted (JobAllows job) es a → Shows o a es → IsDutiful (talking es (Some (asked_of (length w.clients) es a)) o)
-  waits es a o obeys may permitted shows = record {
-    obeys = obeys;
-    pending = λ r q. subst (λ (z : Request). IsNextRequest (task_of job who) (JobAllows job) es z) (same_Some (asked_of (length w.clients) es a) r q) (record { instance = refl; sequence = refl; may = may; permitted = permitted });
-    settled = λ q. absurd (some_none (asked_of (length w.clients) es a) q);
-    concluded = λ x q. concluded x q shows;
-    released = λ q. absurd (some_none (asked_of (length w.clients) es a) q);
-    beside = λ r q there. subst (λ (z : Request). IsUnlock z.ask) (same_Some (asked_of (length w.clients) es a) r q) (beside there shows);
-    ending = λ r q u. ending (subst (λ (z : Request). IsUnlock z.ask) (sym (same_Some (asked_of (length w.clients) es a) r q)) u) shows;
-  }
-    where
-      concluded : (x : Outcome) → o ≡ Some x → Shows o a es → ends.MayConclude (upto (task_of job who).versions) (task_of job who).notes (JobConcludes job) (ends.before_unlock es) x
-      concluded x q (inl none) = absurd (none-some x (sym none.1 ∙ q))
-      concluded x q (inr s) =
-          let same : s.1.0 ≡ x = same_Some s.1.0 x (sym s.1.1 ∙ q) in
-          subst (λ y. ends.MayConclude (upto (task_of job who).versions) (task_of job who).notes (JobConcludes job) (ends.before_unlock es) y) same (subst (λ fs. ends.MayConclude (upto (task_of job who).versions) (task_of job who).notes (JobConcludes job) fs s.1.0) (sym (whole a may s.0)) s.1.2)
-        where
-          whole : (b : Ask) → May (task_of job who) es b → IsUnlock b → ends.before_unlock es ≡ es
-          whole (Ask.Unlock t) m u = holds_whole (task_of job who) t es m
-          whole Ask.Ticket m u = absurd u
-          whole (Ask.Lock row) m u = absurd u
-          whole (Ask.Refresh t time) m u = absurd u
-          whole Ask.Locks m u = absurd u
-          whole (Ask.List j after) m u = absurd u
-          whole (Ask.Get j n) m u = absurd u
-          whole (Ask.Range p offset len) m u = absurd u
-          whole (Ask.Put t j n x) m u = absurd u
-          whole (Ask.Delete t j n) m u = absurd u
-          whole (Ask.Upgrade t) m u = absurd u
-          whole Ask.Config m u = absurd u
-
-      beside : o ≢ None → Shows o a es → IsUnlock a
-      beside there (inl none) = absurd (there none.1)
-      beside there (inr s) = s.0
-
-      ending : IsUnlock a → Shows o a es → o ≢ None
-      ending u (inl none) = absurd (none.0 u)
-      ending u (inr s) = not_none o s.1.0 s.1.1
+  waits es a o obeys may permitted shows = waits_dutiful (length w.clients) job host time es a o obeys may permitted shows
 
   -- the client starts
   starts : (a : Ask) (o : Option Outcome) → a ≡ Ask.Ticket → Shows o a [] → (events : List Event) × Run w events (at [] (Some (asked_of (length w.clients) [] a)) o w.store)
@@ -292,63 +370,50 @@ module _ (w : World) (job : Job) (host : List ℕ) (time : ℕ) (accepted : Acce
           ∙ ap (λ (ms : List Message). record { store = w.store; clients = w.clients ++ started (length w.clients) job host time false ∷ []; messages = ms ++ Asked (length w.clients) (first_of (length w.clients)) ∷ [] }) (append-nil w.messages))
 
   -- it comes to where a request is pending
-  comes : (es : Trace) (mid : Store) (a : Ask) (o : Option Outcome) → Stepped w.store es mid → AreUnfed es → Obeys (task_of job who) (JobAllows job) (JobGives job) es → May (task_of job who) es a → IsPermitted (JobAllows job) es a → Shows o a es
+  comes : (es : Trace) (mid : Store) (a : Ask) (o : Option Outcome) → Stepped w.store es mid → IsFedWell job es → Obeys (task_of job who) (JobAllows job) (JobGives job) es → May (task_of job who) es a → IsPermitted (JobAllows job) es a → Shows o a es
       → (events : List Event) × Run w events (at es (Some (asked_of (length w.clients) es a)) o mid)
-  comes [] mid a o steps unfed obeys may permitted shows =
+  comes [] mid a o steps well obeys may permitted shows =
       subst (λ (s : Store). (events : List Event) × Run w events (at [] (Some (asked_of (length w.clients) [] a)) o s)) (sym steps) (starts a o (first_ticket (task_of job who) a may) shows)
-  comes (e ∷ es) mid a o steps unfed obeys may permitted shows =
-      let before = comes es steps.0 e.ask None steps.1 unfed.1 obeys.3 obeys.0 obeys.1 (inl ((λ u. no_more (task_of job who) e es a may u), refl)) in
-      let next = one_turn es e steps.0 mid None o (Some (asked_of (length w.clients) (e ∷ es) a)) unfed.0 steps.2 (waits (e ∷ es) a o obeys may permitted shows) (λ x q. absurd (none-some x q)) in (
+  comes (e ∷ es) mid a o steps well obeys may permitted shows =
+      let before = comes es steps.0 e.ask None steps.1 well.1 obeys.3 obeys.0 obeys.1 (inl ((λ u. no_more (task_of job who) e es a may u), refl)) in
+      let next = one_turn es e steps.0 mid None o (Some (asked_of (length w.clients) (e ∷ es) a)) well.0 steps.2 (waits (e ∷ es) a o obeys may permitted shows) (λ x q. absurd (none-some x q)) (λ some. refl) in (
         before.0 ++ next.0,
         run_more w before.0 next.0 (at es (Some (asked_of (length w.clients) es e.ask)) None steps.0) (at (e ∷ es) (Some (asked_of (length w.clients) (e ∷ es) a)) o mid) before.1 next.1,
       )
 
+  -- on an exchange on which something was fed no outcome was there
+  open_still : (e : Exchange) (es : Trace) (items : List Fed) (p : Option Outcome) → AreWelcomeTo job items e.ask e.say e.emitted es → Shows p e.ask es → items ≢ [] → p ≡ None
+  open_still e es [] p welcome shows some = absurd (some refl)
+  open_still e es (item ∷ items) p welcome (inl none) some = none.1
+  open_still e es (item ∷ items) p welcome (inr unlock) some = absurd (welcome.1.0 unlock.0)
+
   -- and to its end
-  ends_so : (e : Exchange) (es : Trace) (to : Store) (outcome p : Option Outcome) → Stepped w.store (e ∷ es) to → AreUnfed (e ∷ es) → IsDutiful (talking (e ∷ es) None outcome) → Shows p e.ask es → ((x : Outcome) → p ≡ Some x → outcome ≡ Some x) → (events : List Event) × Run w events (at (e ∷ es) None outcome to)
-  ends_so e es to outcome p steps unfed dutiful shows stays =
+  ends_so : (e : Exchange) (es : Trace) (to : Store) (outcome p : Option Outcome) → Stepped w.store (e ∷ es) to → IsFedWell job (e ∷ es) → IsDutiful (talking (e ∷ es) None outcome) → Shows p e.ask es → ((x : Outcome) → p ≡ Some x → outcome ≡ Some x) → (events : List Event) × Run w events (at (e ∷ es) None outcome to)
+  ends_so e es to outcome p steps well dutiful shows stays =
       let o = dutiful.obeys in
-      let before = comes es steps.0 e.ask p steps.1 unfed.1 o.3 o.0 o.1 shows in
-      let last = one_turn es e steps.0 to p outcome None unfed.0 steps.2 dutiful stays in (
+      let before = comes es steps.0 e.ask p steps.1 well.1 o.3 o.0 o.1 shows in
+      let last = one_turn es e steps.0 to p outcome None well.0 steps.2 dutiful stays (open_still e es e.fed p well.0 shows) in (
         before.0 ++ last.0,
         run_more w before.0 last.0 (at es (Some (asked_of (length w.clients) es e.ask)) p steps.0) (at (e ∷ es) None outcome to) before.1 last.1,
       )
 
-  pub finished : (e : Exchange) (es : Trace) (to : Store) (outcome : Outcome) → Stepped w.store (e ∷ es) to → AreUnfed (e ∷ es) → IsDutiful (talking (e ∷ es) None (Some outcome)) → (events : List Event) × Run w events (at (e ∷ es) None (Some outcome) to)
-  finished e es to outcome steps unfed dutiful = by_end (is_unlock e.ask)
+  pub finished_fed : (e : Exchange) (es : Trace) (to : Store) (outcome : Outcome) → Stepped w.store (e ∷ es) to → IsFedWell job (e ∷ es) → IsDutiful (talking (e ∷ es) None (Some outcome)) → (events : List Event) × Run w events (at (e ∷ es) None (Some outcome) to)
+  finished_fed e es to outcome steps well dutiful = by_end (is_unlock e.ask)
     where
-      is_unlock : (a : Ask) → (¬ IsUnlock a) ⊎ IsUnlock a
-      is_unlock (Ask.Unlock t) = inr tt
-      is_unlock Ask.Ticket = inl (λ u. u)
-      is_unlock (Ask.Lock row) = inl (λ u. u)
-      is_unlock (Ask.Refresh t time) = inl (λ u. u)
-      is_unlock Ask.Locks = inl (λ u. u)
-      is_unlock (Ask.List j after) = inl (λ u. u)
-      is_unlock (Ask.Get j n) = inl (λ u. u)
-      is_unlock (Ask.Range p offset len) = inl (λ u. u)
-      is_unlock (Ask.Put t j n x) = inl (λ u. u)
-      is_unlock (Ask.Delete t j n) = inl (λ u. u)
-      is_unlock (Ask.Upgrade t) = inl (λ u. u)
-      is_unlock Ask.Config = inl (λ u. u)
-
-      older : (a : Ask) → IsUnlock a → ends.without_unlock a (e ∷ es) es ≡ es
-      older (Ask.Unlock t) u = refl
-      older Ask.Ticket u = absurd u
-      older (Ask.Lock row) u = absurd u
-      older (Ask.Refresh t time) u = absurd u
-      older Ask.Locks u = absurd u
-      older (Ask.List j after) u = absurd u
-      older (Ask.Get j n) u = absurd u
-      older (Ask.Range p offset len) u = absurd u
-      older (Ask.Put t j n x) u = absurd u
-      older (Ask.Delete t j n) u = absurd u
-      older (Ask.Upgrade t) u = absurd u
-      older Ask.Config u = absurd u
-
       by_end : (¬ IsUnlock e.ask) ⊎ IsUnlock e.ask → (events : List Event) × Run w events (at (e ∷ es) None (Some outcome) to)
-      by_end (inl other) = ends_so e es to (Some outcome) None steps unfed dutiful (inl (other, refl)) (λ x q. absurd (none-some x q))
+      by_end (inl other) = ends_so e es to (Some outcome) None steps well dutiful (inl (other, refl)) (λ x q. absurd (none-some x q))
       by_end (inr u) =
           let concluded = dutiful.concluded outcome refl in
-          ends_so e es to (Some outcome) (Some outcome) steps unfed dutiful (inr (u, (outcome, refl, subst (λ fs. ends.MayConclude (upto (task_of job who).versions) (task_of job who).notes (JobConcludes job) fs outcome) (older e.ask u) concluded))) (λ x q. q)
+          ends_so e es to (Some outcome) (Some outcome) steps well dutiful (inr (u, (outcome, refl, subst (λ fs. ends.MayConclude (upto (task_of job who).versions) (task_of job who).notes (JobConcludes job) fs outcome) (without_older e.ask e es u) concluded))) (λ x q. q)
+
+  -- so does one that isn't fed
+  pub finished : (e : Exchange) (es : Trace) (to : Store) (outcome : Outcome) → Stepped w.store (e ∷ es) to → AreUnfed (e ∷ es) → IsDutiful (talking (e ∷ es) None (Some outcome)) → (events : List Event) × Run w events (at (e ∷ es) None (Some outcome) to)
+  finished e es to outcome steps unfed dutiful = finished_fed e es to outcome steps (unfed_well job (e ∷ es) unfed) dutiful
+
+  -- the store makes its steps whatever was fed between them
+  pub steps_so : (from : Store) (fs : Trace) (to : Store) → Stepped from (unfed fs) to → Stepped from fs to
+  steps_so from [] to h = h
+  steps_so from (e ∷ fs) to h = (h.0, steps_so from fs h.0 h.1, h.2)
 
 -- ---- a talk
 
@@ -356,12 +421,30 @@ talk_steps : (w : World) (job : Job) (host : List ℕ) (time : ℕ) (accepted : 
 talk_steps w job host time accepted limits [] to h = h
 talk_steps w job host time accepted limits (turn ∷ talk) to h = (h.0, talk_steps w job host time accepted limits talk h.0 h.1, h.2.step)
 
-talk_unfed : (talk : Talk) → AreUnfed (trace_of talk)
-talk_unfed [] = tt
-talk_unfed (turn ∷ talk) = (refl, talk_unfed talk)
-
 pub lone_talk : LoneTalkIsARun
-lone_talk w job host time turn talk to failed failing outcome accepted limits ran dutiful =
+lone_talk w job host time turn talk to failed failing outcome [] accepted limits ran same well dutiful = absurd (cc)
+lone_talk w job host time turn talk to failed failing outcome (e ∷ fs) accepted limits ran same well dutiful =
     let steps = talk_steps w job host time accepted limits (turn ∷ talk) to (led w.store (turn ∷ talk) to ran.run) in
-    let found = finished w job host time accepted limits (exchange turn.request turn.reply turn.emitted) (trace_of talk) to outcome steps (talk_unfed (turn ∷ talk)) dutiful in
+    let steps_fed = steps_so w job host time accepted limits w.store (e ∷ fs) to (subst (λ es. Stepped w job host time accepted limits w.store es to) (sym same) steps) in
+    let found = finished_fed w job host time accepted limits e fs to outcome steps_fed well dutiful in
     record { events = found.0; last = _; run = found.1; store_is = refl; clients_are = refl }
+
+-- ---- a backup that feeds itself
+
+pub welcome_well : (fs : Trace) → AreWelcome fs → IsFedWell Job.Pieces fs
+welcome_well [] h = tt
+welcome_well (e ∷ fs) h = (one e.fed h.0, welcome_well fs h.1)
+  where
+    one : (items : List Fed) → AreWelcomeOn items e.ask e.say e.emitted fs → AreWelcomeTo Job.Pieces items e.ask e.say e.emitted fs
+    one [] h = tt
+    one (item ∷ items) h = (refl, h)
+
+-- a talk is that of one who isn't fed
+pub unfed_talk : (talk : Talk) → unfed (trace_of talk) ≡ trace_of talk
+unfed_talk [] = refl
+unfed_talk (turn ∷ talk) = ap (λ (es : Trace). exchange turn.request turn.reply turn.emitted ∷ es) (unfed_talk talk)
+
+pub fed_backup : FedBackupIsARun
+fed_backup w whole host time turn talk to failed failing outcome limits ran is =
+    let s = fed_clients (asker (instance_of (length w.clients)) host time Versions.Both) whole None (Some outcome) (trace_of (turn ∷ talk)) (unfed_talk (turn ∷ talk)) is in
+    (s.fs, s.same, s.told, lone_talk w Job.Pieces host time turn talk to failed failing outcome s.fs tt limits ran s.same (welcome_well s.fs s.welcome) s.fed)

@@ -4,8 +4,11 @@ mod Strangers
 mod Lasting
 mod Appending
 mod Resting
+mod Waiting
 mod Joining
+mod Going
 mod Connecting
+mod Nourishing
 mod Owning
 mod Hosting
 mod Exampling

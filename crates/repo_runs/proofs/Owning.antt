@@ -1,22 +1,19 @@
 -- Guests at whose other end are clients: what they are answered, each client takes in its order.
-use Rattle.std.proofs.Common.{◌≡◌, ◌≢◌, ◌⊎◌, inl, inr, ⊎_elim, ℕ, Bool, true, false, ◌++◌, ◌∷◌, [], List, length, cond, eqb, refl, sym, ◌∙◌, ap, subst, arith, Option, Some, None, append-nil, length-append, slice_set}
+use Rattle.std.proofs.Common.{◌≡◌, ◌≢◌, ◌⊎◌, inl, inr, ⊎_elim, ℕ, Bool, true, false, ◌++◌, ◌∷◌, [], List, length, cond, eqb, refl, sym, ◌∙◌, ap, subst, arith, Option, Some, None, append-nil, length-append}
 use Rattle.std.proofs.lemmas.Bool.{ne_eqb}
 use Rattle.std.proofs.lemmas.Bool.Decides.{eqb_tells}
 use Rattle.std.proofs.lemmas.Option.{none-some, same_Some}
 use Rattle.repo_wire.specs.declared.messages.Reply.{Reply}
 use Rattle.repo_wire.specs.declared.messages.Request.{Request}
-use Rattle.repo_store.specs.Stores.{Store}
-use Rattle.repo_session.specs.Clients.{IsReplyTo, exchange}
 use Rattle.repo_session.specs.Talks.{Talk, Turn, sent_in, taken_in}
 use Rattle.repo_session.specs.Traces.{Each}
 use Rattle.repo_hall.specs.Happenings.{Log, Brought, Answered, Given, Stay, going_on, stay}
 use Rattle.repo_hall.specs.Joined.{AtMostPending}
 use Rattle.repo_world.specs.Clients.{Client}
 use Rattle.repo_world.specs.Events.{MayAnybodySend, Takes}
-use Rattle.repo_world.specs.World.{Message, Asked, IsOneOf, client_at, sends}
-use Rattle.repo_world.proofs.ClientLists.{Changed, changed_set}
-use Rattle.repo_world.proofs.Later.{has_left}
-use Rattle.repo_runs.specs.Connected.{GoesBy, HallGoes, OwnedGuestsGo, Senders, TakesTurn, with_store}
+use Rattle.repo_world.specs.World.{Asked, IsOneOf, client_at}
+use Rattle.repo_runs.proofs.Nourishing.{Nourished, nourished}
+use Rattle.repo_runs.specs.Connected.{GoesBy, HallGoes, IsTaken, OwnedGuestsGo, Senders, TakesTurn, with_store}
 
 -- ---- lists
 
@@ -37,14 +34,6 @@ snoc (a ∷ xs) (b ∷ ys) x y e =
 each_front : {A : Type 0} (P : A → Type 0) (xs : List A) (y : A) → Each P (xs ++ y ∷ []) → Each P xs × P y
 each_front P [] y h = (tt, h.0)
 each_front P (x ∷ xs) y h = let r = each_front P xs y h.1 in ((h.0, r.0), r.1)
-
-has_right : (xs ys : List Message) (m : Message) → IsOneOf ys m → IsOneOf (xs ++ ys) m
-has_right [] ys m h = h
-has_right (x ∷ xs) ys m h = inr (has_right xs ys m h)
-
-sends_it : (k : ℕ) (o : Option Request) (request : Request) → o ≡ Some request → IsOneOf (sends k o) (Asked k request)
-sends_it k None request e = absurd (none-some request e)
-sends_it k (Some x) request e = inl (ap (Asked k) (same_Some x request e))
 
 -- ---- a client, by what was answered to its guest
 
@@ -188,53 +177,41 @@ module _ (old : Senders) (who : ℕ → Option ℕ) (apart : (i j k : ℕ) → w
       sent : IsOneOf m.sent (Asked k q)
       sent = (ends n k w).1 q (ap (λ (c : Client). c.next) (but_here n mid end) ∙ waits)
 
-      running : (client_at m.clients k).crashed ≡ false
-      running = ap (λ (c : Client). c.crashed) mid_is ∙ t.running
+      fed : Nourished m k turn t.items (end n)
+      fed = nourished m k turn mid (end n) mid_is t
 
-      abbrev new : Senders
-      new = record { clients = slice_set m.clients k (end n); sent = m.sent ++ sends k (end n).next }
+      own_end : (client_at fed.new.clients k ≡ end n) × ((request : Request) → (end n).next ≡ Some request → IsOneOf fed.new.sent (Asked k request))
+      own_end = (fed.reached.here, fed.reached.asked)
 
-      changed : Changed m.clients (slice_set m.clients k (end n)) k (end n)
-      changed = changed_set m.clients k (end n) running
-
-      takes : (store : Store) → Takes (with_store store m) k r (with_store store new)
-      takes store = record {
-        running = running;
-        request = q;
-        pending = ap (λ (c : Client). c.next) mid_is ∙ waits;
-        answers = subst (λ x. IsReplyTo x r) asks (subst (λ y. IsReplyTo turn.request y) says t.answers);
-        emitted = turn.emitted;
-        new = end n;
-        job = t.job ∙ ap (λ (c : Client). c.job) (sym mid_is);
-        who = t.who ∙ ap (λ (c : Client). c.who) (sym mid_is);
-        trace = t.trace ∙ (λ i. exchange (asks i) (says i) turn.emitted ∷ (sym mid_is i).trace);
-        up = t.up;
-        dutiful = t.dutiful;
-        stays = λ o e. t.stays o (ap (λ (c : Client). c.outcome) (sym mid_is) ∙ e);
-        is = refl;
-      }
-
-      own_end : (client_at new.clients k ≡ end n) × ((request : Request) → (end n).next ≡ Some request → IsOneOf new.sent (Asked k request))
-      own_end = (changed.here, λ request e. has_right m.sent (sends k (end n).next) (Asked k request) (sends_it k (end n).next request e))
-
-      other_end : (g j : ℕ) → n ≢ g → who g ≡ Some j → (client_at new.clients j ≡ end g) × ((request : Request) → (end g).next ≡ Some request → IsOneOf new.sent (Asked j request))
+      other_end : (g j : ℕ) → n ≢ g → who g ≡ Some j → (client_at fed.new.clients j ≡ end g) × ((request : Request) → (end g).next ≡ Some request → IsOneOf fed.new.sent (Asked j request))
       other_end g j other v = (
-        ⊎_elim (λ e. absurd (other (apart n g k w (v ∙ ap Some e)))) (λ same. same ∙ (ends g j v).0 ∙ but_there n mid end g other) (changed.others j),
-        λ request e. has_left m.sent (sends k (end n).next) (Asked j request) ((ends g j v).1 request (ap (λ (c : Client). c.next) (but_there n mid end g other) ∙ e)),
+        ⊎_elim (λ e. absurd (other (apart n g k w (v ∙ ap Some e)))) (λ same. same ∙ (ends g j v).0 ∙ but_there n mid end g other) (fed.reached.others j),
+        λ request e. fed.reached.kept (Asked j request) ((ends g j v).1 request (ap (λ (c : Client). c.next) (but_there n mid end g other) ∙ e)),
       )
 
-      ends_new : Ends new end
+      ends_new : Ends fed.new end
       ends_new g j v = ⊎_elim
-          (λ e. subst (λ i. (client_at new.clients i ≡ end g) × ((request : Request) → (end g).next ≡ Some request → IsOneOf new.sent (Asked i request))) (same_client k g j w e v)
-          (subst (λ i. (client_at new.clients k ≡ end i) × ((request : Request) → (end i).next ≡ Some request → IsOneOf new.sent (Asked k request))) e own_end))
+          (λ e. subst (λ i. (client_at fed.new.clients i ≡ end g) × ((request : Request) → (end g).next ≡ Some request → IsOneOf fed.new.sent (Asked i request))) (same_client k g j w e v)
+          (subst (λ i. (client_at fed.new.clients k ≡ end i) × ((request : Request) → (end i).next ≡ Some request → IsOneOf fed.new.sent (Asked k request))) e own_end))
           (λ other. other_end g j other v)
           (decide n g)
 
-      rests_new : Rest new
-      rests_new j none = ⊎_elim (λ e. absurd (none n (w ∙ ap Some (sym e)))) (λ same. same ∙ rests j none) (changed.others j)
+      rests_new : Rest fed.new
+      rests_new j none = ⊎_elim (λ e. absurd (none n (w ∙ ap Some (sym e)))) (λ same. same ∙ rests j none) (fed.reached.others j)
+
+      taken : IsTaken m q r fed.new
+      taken = record {
+        by = k;
+        sent = sent;
+        waits = ap (λ (c : Client). c.next) mid_is ∙ waits;
+        mid = fed.mid;
+        takes = λ store. subst (λ y. Takes (with_store store m) k y (with_store store fed.mid)) says (fed.takes store);
+        items = t.items;
+        fed = fed.fed;
+      }
 
       took_goes : HallGoes old log m → Go (Answered n q r ∷ log) end
-      took_goes goes = (new, (m, goes, inl (record { by = k; sent = sent; waits = ap (λ (c : Client). c.next) mid_is ∙ waits; takes = takes })), ends_new, rests_new)
+      took_goes goes = (fed.new, (m, goes, inl taken), ends_new, rests_new)
 
   go : (log : Log) (end : ℕ → Client) → AreAlong log end → AreOthers log → Go log end
   go [] end along others = (old, refl, ends, λ j none. refl)

@@ -50,10 +50,9 @@ use Rattle.repo_writing.specs.Blobs.{HasFact}
 use Rattle.repo_writing.specs.Putting.{PutDone, AreDone, IsKeptPack}
 use Rattle.repo_writing.proofs.Keeping.{fact_of_listed}
 use Rattle.repo_writing.proofs.PutLemmas.{indexed_later}
-use Rattle.repo_backup.specs.Folders.{nothing, tree_of}
 use Rattle.repo_prune.specs.Keeping.{Row}
 use Rattle.repo_prune.specs.Pruning.{AreCovered, AreFactsOnce, IsNeededBy, IsSettled, IsPruned, MayPutIndex}
-use Rattle.repo_runs.specs.Backed.{configured, snapshot_of, AreTexts, stored, IsTidied, PruneIsARun}
+use Rattle.repo_runs.specs.Backed.{configured, empty_tree, snapshot_of, AreTexts, stored, IsTidied, PruneIsARun}
 use Rattle.repo_world.specs.Clients.{task_of, JobAllows, JobGives, JobConcludes, Client, IsDutiful}
 use Rattle.repo_world.specs.Events.{Run}
 use Rattle.repo_runs.specs.Lone.{ended}
@@ -109,14 +108,14 @@ module _ (host : List ℕ) (time : ℕ) (config pack index snapshot : List ℕ) 
   ns = naming.name snapshot
 
   abbrev fact : Fact
-  fact = fact_at (naming.name pack) (tree_of nothing ∷ []) 0 (tree_of nothing)
+  fact = fact_at (naming.name pack) (empty_tree ∷ []) 0 empty_tree
 
   -- what the index lists
   abbrev listed : PackFacts
   listed = record { pack = naming.name pack; facts = texts.facts }
 
   fact_here : Contains texts.facts fact
-  fact_here = fact_there (naming.name pack) (tree_of nothing ∷ []) texts.facts 0 (tree_of nothing) texts.exact refl
+  fact_here = fact_there (naming.name pack) (empty_tree ∷ []) texts.facts 0 empty_tree texts.exact refl
 
   all_facts : (f : Fact) → Contains texts.facts f → Contains (facts_in (listed ∷ [])) f
   all_facts f c = contains_flat (λ (p : PackFacts). p.facts) (listed ∷ []) listed f (first_contained listed []) c
@@ -131,9 +130,9 @@ module _ (host : List ℕ) (time : ℕ) (config pack index snapshot : List ℕ) 
 
   one_fact : (f : Fact) → Contains texts.facts f → f ≡ fact
   one_fact f c =
-      let at = item_there (naming.name pack) (tree_of nothing ∷ []) texts.facts f texts.exact c in
-      let is = one_item [] (tree_of nothing) at.1 at.0 at.2 in
-      at.3 ∙ (ap (λ k. fact_at (naming.name pack) (tree_of nothing ∷ []) k at.1) is.0 ∙ ap (λ (i : Item). fact_at (naming.name pack) (tree_of nothing ∷ []) 0 i) is.1)
+      let at = item_there (naming.name pack) (empty_tree ∷ []) texts.facts f texts.exact c in
+      let is = one_item [] empty_tree at.1 at.0 at.2 in
+      at.3 ∙ (ap (λ k. fact_at (naming.name pack) (empty_tree ∷ []) k at.1) is.0 ∙ ap (λ (i : Item). fact_at (naming.name pack) (empty_tree ∷ []) 0 i) is.1)
 
   abbrev from : Store
   from = backup.last_store host time config pack index snapshot limits texts
@@ -303,7 +302,7 @@ module _ (host : List ℕ) (time : ℕ) (config pack index snapshot : List ℕ) 
     listing = record {
       listed = record { complete = refl; rise = record { ascend = (tt, tt); moves = no_page Kind.Snapshot } };
       names = refl;
-      each = ((snapshot, (inr (inr (inr (inr (inr (inl (refl, refl)))))), refl), texts.reads, omega arith), tt);
+      each = ((snapshot, (inr (inr (inr (inr (inr (inl (refl, refl)))))), refl), texts.reads), tt);
     }
 
     tree_received : (x : List ℕ) → Contains (tree_text [] ∷ []) x → Received t7 Tree x
@@ -411,7 +410,7 @@ module _ (host : List ℕ) (time : ℕ) (config pack index snapshot : List ℕ) 
     list_step k n page = inl (n ∷ [], false, page, refl, refl)
 
     range_step : Step (store_of tokens) (Ask.Range fact.place.pack fact.place.offset fact.place.length) (Say.Bytes (tree_text [])) (store_of tokens)
-    range_step = inl (inr ((texts.packed.pack.each 0 (tree_of nothing) (lit≤ tt)).0, (Slice.Found (tree_text []), (pack, pack_there, range_is pack (tree_of nothing ∷ []) 0 (tree_of nothing) texts.packed.pack refl), refl), refl))
+    range_step = inl (inr ((texts.packed.pack.each 0 empty_tree (lit≤ tt)).0, (Slice.Found (tree_text []), (pack, pack_there, range_is pack (empty_tree ∷ []) 0 empty_tree texts.packed.pack refl), refl), refl))
 
     put_step : Step (store_of tokens) (Ask.Put token Kind.Index ni index) Say.Done (store_of tokens)
     put_step = inl (inr (inr (inr (texts.index_short, (λ q. none-some true (sym q)), refl, refl, (record { kept = λ k n x h. h; only = λ k n x h. inl h; here = (index, index_there) }, refl, refl, refl)))))

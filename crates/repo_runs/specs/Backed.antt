@@ -3,9 +3,10 @@
 use Rattle.std.specs.Prelude.{false, ◌≡◌, ◌≤◌, ◌<◌, ◌^◌, ◌-◌, ◌∷◌, [], ℕ, List, length, min, Some, None, Contains}
 use Rattle.repo_name.specs.Naming as naming
 use Rattle.repo_name.specs.Rows.{IsHost}
+use Rattle.repo_name.specs.declared.kinds.BlobKind.TheVariants.{Tree}
 use Rattle.repo_name.specs.declared.kinds.Kind.{Kind}
 use Rattle.repo_name.specs.declared.names.Name.{Name}
-use Rattle.repo_pack.specs.PackLayout.{IsTruePack}
+use Rattle.repo_pack.specs.PackLayout.{Item, item_of, IsTruePack}
 use Rattle.repo_index.specs.declared.facts.Fact.{Fact}
 use Rattle.repo_index.specs.Exactness.{AreFactsAt}
 use Rattle.repo_index.specs.IndexText.{IsIndexText, Says}
@@ -21,7 +22,6 @@ use Rattle.repo_store.specs.Stores.{Store}
 use Rattle.repo_session.specs.Alone.{NoClash}
 use Rattle.repo_session.specs.Deletions.{DeleteDone}
 use Rattle.repo_session.specs.declared.outcomes.Outcome.{Outcome}
-use Rattle.repo_backup.specs.Folders.{nothing, tree_of}
 use Rattle.repo_writing.specs.Putting.{PutDone}
 use Rattle.repo_writing.specs.Writing.{bytes_of}
 use Rattle.repo_prune.specs.declared.choices.Choice.{Choice}
@@ -30,6 +30,10 @@ use Rattle.repo_world.specs.Safe.{HasNoClash}
 use Rattle.repo_world.specs.World.{World, client, beginning}
 use Rattle.repo_world.specs.declared.jobs.Job.{Job}
 use Rattle.repo_world.specs.declared.events.Event.{Event}
+
+-- the tree blob of an empty directory
+abbrev pub empty_tree : Item
+empty_tree = item_of Tree (tree_text [])
 
 -- the store: this config, and nothing else
 abbrev pub configured : List ℕ → Store
@@ -46,10 +50,10 @@ pub record AreTexts (host : List ℕ) (time : ℕ) (config pack index snapshot :
   pub first : read.version ≡ 1
   pub config_short : length config ≤ config_limit
   pub empty : IsTreeText (tree_text []) []
-  pub packed : IsTruePack pack (tree_of nothing ∷ [])
+  pub packed : IsTruePack pack (empty_tree ∷ [])
   pub pack_short : length pack ≤ object_limit Kind.Pack
   pub facts : List Fact
-  pub exact : AreFactsAt (naming.name pack) (tree_of nothing ∷ []) facts
+  pub exact : AreFactsAt (naming.name pack) (empty_tree ∷ []) facts
   pub indexed : IsIndexText index (record { pack = naming.name pack; facts = facts } ∷ [])
   pub index_short : length index ≤ object_limit Kind.Index
   pub reads : IsSnapshotText snapshot (snapshot_of host time)
@@ -66,7 +70,7 @@ pub record AreApart (config pack index snapshot : List ℕ) : Type 0 where
 
 -- its outcome: its snapshot is stored, with one blob
 abbrev pub stored : List ℕ → Outcome
-stored snapshot = Outcome.Stored (naming.name snapshot) 1 (min (bytes_of (tree_of nothing ∷ [])) (2 ^ 64 - 1))
+stored snapshot = Outcome.Stored (naming.name snapshot) 1 (min (bytes_of (empty_tree ∷ [])) (2 ^ 64 - 1))
 
 -- the pack, the index and the snapshot are there
 abbrev pub AreStored : World → (pack index snapshot : List ℕ) → Type 0

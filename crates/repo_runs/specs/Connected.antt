@@ -5,16 +5,25 @@ use Rattle.repo_wire.specs.declared.messages.Request.{Request}
 use Rattle.repo_store.specs.Serving.{Moment, Past, SomeServed, plain}
 use Rattle.repo_store.specs.Stores.{Store}
 use Rattle.repo_session.specs.Clients.{IsReplyTo, exchange}
-use Rattle.repo_session.specs.Talks.{Said, Talk, Turn}
-use Rattle.repo_session.specs.Traces.{Each}
+use Rattle.repo_session.specs.Feeds.{Fed}
+use Rattle.repo_session.specs.Askers.{asker}
+use Rattle.repo_session.specs.Talks.{Said, Talk, Turn, AreNumbered, IsTurn, trace_of}
+use Rattle.repo_session.specs.Traces.{Each, Trace, fed_in}
+use Rattle.repo_session.specs.declared.versions.Versions.{Versions}
+use Rattle.repo_feeding.specs.FedLaws.{IsFedClient}
+use Rattle.repo_feeding.specs.Unfed.{unfed}
 use Rattle.repo_session.specs.declared.outcomes.Outcome.{Outcome}
 use Rattle.repo_hall.specs.Halls.{Hosted}
 use Rattle.repo_hall.specs.Happenings.{Log, Brought, Answered, Given, Stay, all_asked, all_replies, no_stay, stay}
 use Rattle.repo_hall.specs.Joined.{TalksAlong}
+use Rattle.repo_runs.specs.Fed.{AreWelcomeTo, running, with_items}
 use Rattle.repo_world.specs.Clients.{Client, IsDutiful}
-use Rattle.repo_world.specs.Events.{MayAnybodySend, Run, Takes}
-use Rattle.repo_world.specs.World.{Message, World, Asked, IsOneOf, client_at}
+use Rattle.repo_world.specs.Events.{Feeds, MayAnybodySend, Run, Takes}
+use Rattle.repo_world.specs.World.{Message, World, Asked, IsOneOf, client_at, instance_of, started}
 use Rattle.repo_world.specs.declared.events.Event.{Event}
+use Rattle.repo_world.specs.declared.jobs.Job.{Job}
+use Rattle.repo_feeding.specs.FedRules.{IsAsTold}
+use Rattle.repo_backup.specs.Items.{place_of}
 
 -- the clients, and the requests that they sent so far
 pub record Senders : Type 0 where
@@ -25,12 +34,20 @@ pub record Senders : Type 0 where
 abbrev pub with_store : Store → Senders → World
 with_store store s = record { store = store; clients = s.clients; messages = s.sent }
 
--- the reply is taken by a client which waits for it, and which may send one more request
+-- a client takes these items, the newest first, one after another; it may send a request behind them
+abbrev pub AreFed : Senders → ℕ → List Fed → Senders → Type 0
+AreFed old by [] new = new ≡ old
+AreFed old by (item ∷ items) new = (mid : Senders) × AreFed old by items mid × ((store : Store) → Feeds (with_store store mid) by item (with_store store new))
+
+-- the reply is taken by a client which waits for it; then it may be fed, if it is a backup that is; and it may send one more request
 pub record IsTaken (old : Senders) (request : Request) (reply : Reply) (new : Senders) : Type 0 where
   pub by : ℕ
   pub sent : IsOneOf old.sent (Asked by request)
   pub waits : (client_at old.clients by).next ≡ Some request
-  pub takes : (store : Store) → Takes (with_store store old) by reply (with_store store new)
+  pub mid : Senders
+  pub takes : (store : Store) → Takes (with_store store old) by reply (with_store store mid)
+  pub items : List Fed
+  pub fed : AreFed mid by items new
 
 -- a client sent the request, be it long ago, and the reply to it is lost; or somebody sent it who is no client
 abbrev pub IsForNoClient : Senders → Request → Type 0
@@ -69,14 +86,17 @@ ConnectionsAreARun = (w : World) (logs : List Log) (to : Store) (s : Senders) �
 
 -- ---- guests at whose other end are clients of the world
 
--- a client takes the reply of a turn, which is to its pending request, and stands so then
+-- a client takes the reply of a turn, which is to its pending request, and is fed these items then, where it may be; and stands so behind them
 pub record TakesTurn (old : Client) (turn : Turn) (new : Client) : Type 0 where
   pub running : old.crashed ≡ false
   pub pending : old.next ≡ Some turn.request
   pub answers : IsReplyTo turn.request turn.reply
   pub job : new.job ≡ old.job
   pub who : new.who ≡ old.who
-  pub trace : new.trace ≡ exchange turn.request turn.reply turn.emitted ∷ old.trace
+  pub items : List Fed
+  pub welcome : AreWelcomeTo new.job items turn.request.ask turn.reply.say turn.emitted old.trace
+  pub under_way : items ≢ [] → old.outcome ≡ None
+  pub trace : new.trace ≡ with_items items (exchange turn.request turn.reply turn.emitted) ∷ old.trace
   pub up : new.crashed ≡ false
   pub dutiful : IsDutiful new
   pub stays : (o : Outcome) → old.outcome ≡ Some o → new.outcome ≡ Some o
@@ -104,6 +124,15 @@ pub record AreOwned (old : Senders) (log : Log) (who : ℕ → Option ℕ) (end 
 abbrev pub OwnedGuestsGo : Type 0
 OwnedGuestsGo = (old : Senders) (log : Log) (who : ℕ → Option ℕ) (end : ℕ → Client) → AreOwned old log who end
     → (new : Senders) × HallGoes old log new × ((g k : ℕ) → who g ≡ Some k → client_at new.clients k ≡ end g) × ((j : ℕ) → ((g : ℕ) → who g ≢ Some j) → client_at new.clients j ≡ client_at old.clients j)
+
+-- ---- a backup that feeds itself
+
+-- What it said over its connections, one turn or more, is what a backup that is fed goes by from its start, with some items on its exchanges. So it may be the
+-- client of a guest.
+abbrev pub FedBackupGoes : Type 0
+FedBackupGoes = (k : ℕ) (whole : Option (List Fed)) (host : List ℕ) (time : ℕ) (turn : Turn) (talk : Talk) (next : Option Request) (outcome : Option Outcome)
+    → Each IsTurn (turn ∷ talk) → AreNumbered (instance_of k) 0 (turn ∷ talk) → IsFedClient (asker (instance_of k) host time Versions.Both) whole next outcome (trace_of (turn ∷ talk))
+    → (fs : Trace) × (unfed fs ≡ trace_of (turn ∷ talk)) × IsAsTold whole (place_of (fed_in fs)) × GoesBy (started k Job.Pieces host time false) (turn ∷ talk) (running k Job.Pieces host time fs next outcome)
 
 -- ---- one connection by itself
 

@@ -1,6 +1,7 @@
 -- What holds of all runs; that the definitions can be met; and wrong rules.
 pub mod Laws
 pub mod BagLaws
+pub mod Fed
 pub mod Lone
 pub mod Connected
 pub mod Example

@@ -9,9 +9,8 @@ use Rattle.repo_index.specs.IndexWriting.{index_text}
 use Rattle.repo_tree.specs.declared.configs.Config.{Config}
 use Rattle.repo_tree.specs.ConfigText.{config_text}
 use Rattle.repo_tree.specs.SnapshotText.{snapshot_text}
-use Rattle.repo_backup.specs.Folders.{nothing, tree_of}
 use Rattle.repo_world.specs.Safe.{HasNoClash}
-use Rattle.repo_runs.specs.Backed.{snapshot_of, AreTexts, AreApart, IsBackedUp, IsGivenBack, IsTidied, IsForgottenInRun}
+use Rattle.repo_runs.specs.Backed.{empty_tree, snapshot_of, AreTexts, AreApart, IsBackedUp, IsGivenBack, IsTidied, IsForgottenInRun}
 
 -- the host of the clients, and the moment
 abbrev pub host : List ℕ
@@ -29,11 +28,11 @@ config = config_text read
 
 -- the pack of the empty tree
 abbrev pub pack : List ℕ
-pack = pack_bytes (tree_of nothing ∷ [])
+pack = pack_bytes (empty_tree ∷ [])
 
 -- the index of that pack
 abbrev pub listed : PackFacts
-listed = record { pack = naming.name pack; facts = fact_at (naming.name pack) (tree_of nothing ∷ []) 0 (tree_of nothing) ∷ [] }
+listed = record { pack = naming.name pack; facts = fact_at (naming.name pack) (empty_tree ∷ []) 0 empty_tree ∷ [] }
 
 abbrev pub index : List ℕ
 index = index_text (listed ∷ [])

@@ -2,13 +2,20 @@
 
 ghost use Rattle.repo_runs.specs.Backed.{BackupIsARun, ForgetIsARun, PruneIsARun, RestoreIsARun};
 ghost use Rattle.repo_runs.specs.Example.{ExampleIsARun};
-ghost use Rattle.repo_runs.specs.Lone.{LoneTalkIsARun};
+ghost use Rattle.repo_runs.specs.Lone.{FedBackupIsARun, LoneTalkIsARun};
 ghost use Rattle.repo_runs.specs.SomeTexts.{NothingClashesInRuns, TextsAreApart};
 
 /// A client that talks alone with the world's store, from its ticket to its end, as it owes it, is a part of a run: so a run
-/// may come to all that jobs come to one after another, each alone with the store that the one before it left.
+/// may come to all that jobs come to one after another, each alone with the store that the one before it left. So is one that
+/// was fed some items between its exchanges, where it might be.
 pub fn lone_talk_is_a_run()
     ensures { LoneTalkIsARun }
+{}
+
+/// A backup that feeds itself, as `vault backup` does, and talks alone with the world's store to its end, is a part of a run, as a
+/// backup that is fed, with some items between its exchanges.
+pub fn fed_backup_is_a_run()
+    ensures { FedBackupIsARun }
 {}
 
 /// The definitions can be met: eight events are a run, in which a call of the store's device fails, a message is delivered late,

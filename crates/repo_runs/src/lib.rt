@@ -7,7 +7,9 @@
 //! keep the bag of messages in order, and what each of them leaves as it was.
 //!
 //! And that the rules can be met: what a client does that is alone with its store is a part of a run ([`lone_talk_is_a_run`]), and so is
-//! all that a server answers over connections, one after another or many at once ([`connections_are_a_run`]); a run
+//! what a backup does that feeds itself ([`fed_backup_is_a_run`], [`fed_backup_goes`]), and
+//! all that a server answers over connections, one after another or many at once ([`connections_are_a_run`]), to clients that may
+//! be fed between their exchanges; a run
 //! in which a call of the device fails, a message is delivered late and a lock is removed ([`example_is_a_run`]); runs of a backup, a
 //! restore, a forget and prunes to their ends ([`backup_is_a_run`]), in whose last worlds nothing clashes
 //! ([`nothing_clashes_in_runs`]). And wrong rules, with what they break.
@@ -18,7 +20,7 @@
 //! law of that crate.
 //!
 //! The definitions of the world stand in `repo_world`. Those of the laws stand in `specs/`: `Laws`, `BagLaws`; for how the rules are met,
-//! `Lone`, `Connected`, `Example`, `Backed`, `SomeTexts`; and wrong rules, a file each.
+//! `Fed`, `Lone`, `Connected`, `Example`, `Backed`, `SomeTexts`; and wrong rules, a file each.
 #![tactic(auto)]
 
 mod bag_laws;
@@ -34,9 +36,11 @@ pub use bag_laws::{
     starts_keep_bag, strangers_keep_bag, strangers_tickets_are_theirs, upgrade_keeps_bag,
     upgraded_is_of_version,
 };
-pub use connections::{connections_are_a_run, owned_guests_go, serving_is_hosting};
+pub use connections::{
+    connections_are_a_run, fed_backup_goes, owned_guests_go, serving_is_hosting,
+};
 pub use examples::{
-    backup_is_a_run, example_is_a_run, forget_is_a_run, lone_talk_is_a_run,
+    backup_is_a_run, example_is_a_run, fed_backup_is_a_run, forget_is_a_run, lone_talk_is_a_run,
     nothing_clashes_in_runs, prune_is_a_run, restore_is_a_run, some_texts_are_apart,
 };
 pub use laws::{

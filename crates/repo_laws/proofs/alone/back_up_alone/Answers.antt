@@ -1,5 +1,8 @@
-use Rattle.std.proofs.Common.{◌≡◌, ℕ, Option, None, sym, subst}
+use Rattle.std.proofs.Common.{ℕ, Option, None, sym, subst}
 use Rattle.repo_wire.specs.declared.messages.Request.{Request}
+use Rattle.repo_session.specs.Alone.{AreVersionsUpto}
+use Rattle.repo_session.specs.Askers.{Asker}
+use Rattle.repo_session.specs.Versions.{upto}
 use Rattle.repo_session.specs.Sessions.{who_in, next_in, ended_in}
 use Rattle.repo_session.specs.Talks.{TalkRan, trace_of}
 use Rattle.repo_backup.specs.Backups.{FitsBackup, handed_to}
@@ -21,7 +24,7 @@ returns-clause-comes g c =
     let ran : TalkRan from failed d.talk to failed = subst (λ (i : ℕ). TalkRan from failed d.talk to i) never.same d.ran in
     let job = c.lockstep.ensures.job in
     let is : IsBackup (who_in new.session) (handed_to new.session.job) None (ended_in new.session) (trace_of d.talk) = subst (λ (r : Option Request). IsBackup (who_in new.session) (handed_to new.session.job) r (ended_in new.session) (trace_of d.talk)) d.rests (backup_obeys new (trace_of d.talk) d.fits) in
-    backs_up (who_in new.session) (handed_to old.session.job) from to failed d.talk (ended_in new.session) fit versions never.low ran d.few
+    backs_up (who_in new.session) (handed_to old.session.job) from to failed d.talk (ended_in new.session) fit (subst (λ (a : Asker). AreVersionsUpto (upto a.versions) from) (sym (λ i. (job i).who)) versions) never.low ran d.few
     (subst (λ es. IsBackup (who_in new.session) es None (ended_in new.session) (trace_of d.talk)) (λ i. (job i).entries) is))
     (at_end _ FitsBackup (λ (b : Backup). next_in b.session) old new c.lockstep.result from to failed (g.S.Shelf.failed c.lockstep.new.shelf) _ _ c.requires.fresh (c.lockstep.ensures.steps c.requires.honest) c.lockstep.ensures.few)
 

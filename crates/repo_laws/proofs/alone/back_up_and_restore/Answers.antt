@@ -1,9 +1,9 @@
-use Rattle.std.proofs.Common.{◌≡◌, ◌++◌, [], List, Option, None, Some, inr, refl, sym, ap, subst, append-nil, option_map, ◌∙◌}
+use Rattle.std.proofs.Common.{◌≡◌, ◌++◌, [], List, Option, None, Some, inr, sym, ap, subst, append-nil, option_map, ◌∙◌}
 use Rattle.std.proofs.lemmas.Option.{same_Some}
 use Rattle.repo_wire.specs.declared.messages.Request.{Request}
 use Rattle.repo_session.specs.declared.emissions.Emission.{Emission}
 use Rattle.repo_session.specs.declared.outcomes.Outcome.{Outcome}
-use Rattle.repo_session.specs.Sessions.{who_in, next_in, ended_in}
+use Rattle.repo_session.specs.Sessions.{who_in, ended_in}
 use Rattle.repo_session.specs.Talks.{trace_of, given_in}
 use Rattle.repo_session.specs.Traces.{Trace}
 use Rattle.repo_backup.specs.Backups.{FitsBackup, handed_to}
@@ -13,7 +13,6 @@ use Rattle.repo_restore.specs.Restoring.{Wish}
 use Rattle.repo_restore.specs.RestoreObedience.{wish_of, restore_obeys}
 use Rattle.repo_restore.specs.RestoreStates.{FitsRestore}
 use Rattle.repo_restore.specs.Laws.{IsRestore}
-use Rattle.repo_laws.specs.Alone.{GivesBack}
 use Rattle.repo_laws.proofs.AloneRuns.{gives_back}
 use Rattle.repo_laws.proofs.alone.back_up_and_restore.Goals as goal
 

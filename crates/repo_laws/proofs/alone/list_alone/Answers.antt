@@ -1,5 +1,8 @@
-use Rattle.std.proofs.Common.{◌≡◌, ℕ, Option, None, subst}
+use Rattle.std.proofs.Common.{ℕ, Option, None, sym, subst}
 use Rattle.repo_wire.specs.declared.messages.Request.{Request}
+use Rattle.repo_session.specs.Alone.{AreVersionsUpto}
+use Rattle.repo_session.specs.Askers.{Asker}
+use Rattle.repo_session.specs.Versions.{upto}
 use Rattle.repo_session.specs.Sessions.{next_in, ended_in}
 use Rattle.repo_session.specs.Talks.{TalkRan, trace_of}
 use Rattle.repo_restore.specs.ListStates.{FitsList, who_of}
@@ -20,7 +23,7 @@ returns-clause-comes g c =
     let d = e.1 in
     let ran : TalkRan from failed d.talk to failed = subst (λ (i : ℕ). TalkRan from failed d.talk to i) never.same d.ran in
     let is : IsList (who_of new) None (ended_in new.session) (trace_of d.talk) = subst (λ (r : Option Request). IsList (who_of new) r (ended_in new.session) (trace_of d.talk)) d.rests (list_obeys new (trace_of d.talk) d.fits) in
-    lists (who_of new) from to failed d.talk (ended_in new.session) fit versions never.low ran d.few is)
+    lists (who_of new) from to failed d.talk (ended_in new.session) fit (subst (λ (a : Asker). AreVersionsUpto (upto a.versions) from) (sym c.lockstep.ensures.job) versions) never.low ran d.few is)
     (at_end _ FitsList (λ (l : SnapshotList). next_in l.session) old new c.lockstep.result from to failed (g.S.Shelf.failed c.lockstep.new.shelf) _ _ c.requires.fresh (c.lockstep.ensures.steps c.requires.honest) c.lockstep.ensures.few)
 
 pub returns-clause-went : goal.returns-clause-went

@@ -1,6 +1,4 @@
-use Rattle.std.proofs.Common.{◌≡◌, ℕ, Option, None, Some, sym, ap, subst, ◌∙◌}
-use Rattle.repo_name.specs.declared.kinds.Kind.{Kind}
-use Rattle.repo_name.specs.declared.names.Name.{Name}
+use Rattle.std.proofs.Common.{ℕ, Option, None, subst}
 use Rattle.repo_wire.specs.declared.messages.Request.{Request}
 use Rattle.repo_session.specs.Sessions.{next_in, ended_in}
 use Rattle.repo_session.specs.Talks.{TalkRan, trace_of}

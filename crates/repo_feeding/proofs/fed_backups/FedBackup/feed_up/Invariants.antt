@@ -1,13 +1,12 @@
 use Rattle.std.proofs.Common.{◌≡◌}
-use Rattle.std.specs.Prelude.{is_some}
 use Rattle.repo_backup.specs.PieceBackups.{IsHungry}
 use Rattle.repo_feeding.specs.FedStates.{feeder, job_of, FeedsOn}
 use Rattle.repo_feeding.proofs.fed_backups.FedBackup.feed_up.Given as goal
 
 abbrev pub invariant-loop : goal.invariant-loop
 invariant-loop g l = record {
-  goes : FeedsOn (feeder l.fn.self.backup (g.S.Source.told l.fn.self.source) l.fn.self.room (is_some l.fn.self.given_up)) (feeder l.self.backup (g.S.Source.told l.self.source) l.self.room (is_some l.self.given_up));
+  goes : FeedsOn (feeder l.fn.self.backup (g.S.Source.told l.fn.self.source) l.fn.self.room (g.S.Source.failed l.fn.self.source) l.fn.self.given_up) (feeder l.self.backup (g.S.Source.told l.self.source) l.self.room (g.S.Source.failed l.self.source) l.self.given_up);
   full : ¬ IsHungry l.fn.self.backup → l.self ≡ l.fn.self;
   still : ¬ IsHungry l.fn.self.backup → ¬ IsHungry l.self.backup;
-  job : job_of (feeder l.self.backup (g.S.Source.told l.self.source) l.self.room (is_some l.self.given_up)) ≡ job_of (feeder l.fn.self.backup (g.S.Source.told l.fn.self.source) l.fn.self.room (is_some l.fn.self.given_up));
+  job : job_of (feeder l.self.backup (g.S.Source.told l.self.source) l.self.room (g.S.Source.failed l.self.source) l.self.given_up) ≡ job_of (feeder l.fn.self.backup (g.S.Source.told l.fn.self.source) l.fn.self.room (g.S.Source.failed l.fn.self.source) l.fn.self.given_up);
 }

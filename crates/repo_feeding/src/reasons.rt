@@ -1,0 +1,14 @@
+//! Why a backup was given up.
+
+use repo_backup::FeedError;
+
+/// Why a backup was given up.
+#[derive(Debug, Drop)]
+pub enum GivenUp<E: Drop> {
+    /// The source failed, for this reason.
+    Source(E),
+    /// An item that came wasn't taken, for this reason.
+    Refused(FeedError),
+    /// It was fed 2^64 - 1 times on one reply, and wanted more.
+    Endless,
+}
