@@ -299,7 +299,7 @@ def deepest(script):
 
 
 def in_order(script):
-    """The order of the requests: pages, then objects, kind by kind; then trees, level by level."""
+    """The order of the requests: pages, then objects, kind by kind; then trees, in the order in which they are met."""
     script.heading("a check, request by request: trees of three depths")
     leaves = [tree_text([file_node(letter, 3, [name_of(ABC)])]) for letter in "uvw"]
     middle = [tree_text([dir_node("l", name_of(leaf)), dir_node("m", name_of(leaves[0]))]) for leaf in leaves]

@@ -3,7 +3,7 @@
 from jobs import DEEPEST, End, Outcome, listed, refusal
 from prunes import by_pack, least_places
 from naming import name_of
-from texts import OtherVersion, Unreadable, read_index, read_pack, read_snapshot, read_tree, want
+from texts import OtherVersion, Unreadable, goes_on, read_index, read_next, read_pack, read_snapshot, read_tree, want
 
 
 class Fault(Exception):
@@ -46,11 +46,11 @@ def fits(facts, packs):
 
 
 class Trees:
-    """The trees that snapshots reach, level by level: each is asked for once, at the least of its places."""
+    """The trees that snapshots reach: each is asked for once, at the least of its places."""
 
     def __init__(self, places):
-        self.places, self.nodes, self.faults = places, {}, {}
-        self.reached, self.content = set(), set()
+        self.places, self.nodes, self.texts, self.faults = places, {}, {}, {}
+        self.reached, self.content, self.chains = set(), set(), []
 
     def size(self, node):
         """The length of all blobs of a file; none where one of them is in no index."""
@@ -67,7 +67,8 @@ class Trees:
         def read_whole(data):
             want(len(data) == place[2])
             return read_tree(data)
-        self.nodes[name] = nodes = read_as(name, data, read_whole)
+        nodes = read_as(name, data, read_whole)
+        self.nodes[name], self.texts[name] = nodes, data
         files = [node for node in nodes if node["type"] == "file"]
         if any(self.size(node) not in (None, node["size"]) for node in files):
             raise Fault("unreadable")
@@ -80,25 +81,45 @@ class Trees:
             except Fault as fault:
                 self.faults[name] = fault.word()
 
+    def part(self, name, follows):
+        """The nodes of a tree, and the name in which its directory goes on, if it does. A part whose `next` is no name is at fault,
+        and lists nothing."""
+        nodes = self.nodes.get(name, [])
+        try:
+            return nodes, read_next(self.texts[name]) if follows and name in self.texts else None
+        except Unreadable:
+            self.faults[name] = "unreadable"
+            return [], None
+
     def walk(self, roots):
-        """Goes from the roots to the greatest depth, where no tree may have nodes."""
-        level = set(roots)
-        for depth in range(DEEPEST + 1):
-            self.reached |= level
-            below = set()
-            for name in sorted(level):
-                yield from self.look(name)
-                nodes = self.nodes.get(name, [])
-                if depth == DEEPEST:
-                    if nodes:
-                        self.faults[name] = "unreadable"
-                    continue
-                for node in nodes:
-                    if node["type"] == "file":
-                        self.content |= {bytes.fromhex(one) for one in node["content"]}
-                    else:
-                        below.add(bytes.fromhex(node["subtree"]))
-            level = below
+        """Goes from the roots, each with whether its directories go on in further trees: every tree is visited once in each way and
+        at each depth at which it is reached, in the order in which it is met. At the greatest depth none may have nodes."""
+        visits = list(dict.fromkeys((name, follows, 0) for name, follows in roots))
+        met = set(visits)
+        for name, follows, depth in visits:
+            self.reached.add(name)
+            yield from self.look(name)
+            for visit in self.led(name, follows, depth):
+                if visit not in met:
+                    met.add(visit)
+                    visits.append(visit)
+        for name, following in self.chains:
+            if following in self.nodes and not goes_on(self.nodes[name], self.nodes[following]):
+                self.faults[following] = "unreadable"
+
+    def led(self, name, follows, depth):
+        """The visits to which that of a tree leads: those of the directories in it, and that of the tree in which it goes on."""
+        nodes, following = self.part(name, follows)
+        if depth == DEEPEST and nodes:
+            self.faults[name] = "unreadable"
+        for node in nodes if depth < DEEPEST else []:
+            if node["type"] == "file":
+                self.content |= {bytes.fromhex(one) for one in node["content"]}
+            else:
+                yield bytes.fromhex(node["subtree"]), follows, depth + 1
+        if following is not None:
+            self.chains.append((name, following))
+            yield following, follows, depth
 
 
 class Check:
@@ -119,11 +140,11 @@ class Check:
         return held
 
     def run(self, client):
-        snapshots = yield from self.objects("snapshot", read_snapshot)
+        snapshots = yield from self.objects("snapshot", lambda data: read_snapshot(data, client.upto))
         indexes = yield from self.objects("index", read_index)
         packs = yield from self.objects("pack", read_pack)
         trees = Trees(least_places(fact for facts in indexes.values() for fact in facts))
-        yield from trees.walk(row[3] for row in snapshots.values())
+        yield from trees.walk((root, version == 2) for *_, root, version in snapshots.values())
         self.faults += [("index", name, "place") for name, facts in indexes.items() if not fits(facts, packs)]
         self.faults += [("content", name, "unindexed") for name in sorted(trees.content) if ("content", name) not in trees.places]
         self.faults += [("tree", name, trees.faults[name]) for name in sorted(trees.faults)]

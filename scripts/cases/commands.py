@@ -208,7 +208,12 @@ def fed(talk, client, items):
         if code is not None:
             refused = code
             client.feed("abandon")
-        talk.drive(client)
+        try:
+            talk.drive(client)
+        except Failed:
+            if refused is not None:
+                talk.run.faults += f"start refused {refused}\n"
+            raise
     return refused
 
 

@@ -203,6 +203,9 @@ def refused_entries(script):
         script.backup("a", nested(depth), says(*OPENED, NO_NAMES, *[("done",)] * 30))
     script.heading("backup: an entry that isn't taken behind a pack that was put, and a lock that isn't given back")
     script.backup("a", [(["a"], stream(1_500)), (["a"], b"")], says(*OPENED, NO_NAMES, ("done",), ("refused", 10)))
+    script.heading("backup: an entry that isn't taken, and a server that says no more, or nothing that reads")
+    script.backup("a", [(["b"], b""), (["a"], b"")], says(*OPENED, NO_NAMES))
+    script.backup("a", [(["b"], b""), (["a"], b"")], says(*OPENED, NO_NAMES) + bytes(4))
 
 
 def backups(script):

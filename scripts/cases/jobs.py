@@ -5,8 +5,8 @@ from dataclasses import dataclass
 from chunks import chunks, length_of
 from frames import Message
 from naming import BLOB_LARGEST, name_of
-from texts import (OtherVersion, Unreadable, dir_node, file_node, index_text, is_component, pack_of, read_config,
-                   read_index, read_snapshot, read_tree, snapshot_text, tree_text)
+from texts import (GREATEST_VERSION, OtherVersion, Unreadable, dir_node, directory_texts, file_node, goes_on, index_text, is_component,
+                   pack_of, read_config, read_index, read_part, read_snapshot, snapshot_text)
 
 DEEPEST = 100
 INDEX_BLOBS = 20_000
@@ -96,11 +96,16 @@ def facts_of_indexes():
     return facts
 
 
-def snapshots_read():
+def snapshot_got(name, upto):
+    """A snapshot of a version up to this one: its host, time, token, tree and version."""
+    return (yield from got("snapshot", name, lambda data: read_snapshot(data, upto)))
+
+
+def snapshots_read(upto):
     """All snapshots, as rows of name, host, time and token."""
     rows = []
     for name in (yield from listed("snapshot")):
-        host, time, token, _ = yield from got("snapshot", name, read_snapshot)
+        host, time, token, _, _ = yield from snapshot_got(name, upto)
         rows.append((name, host, time, token))
     return rows
 
@@ -116,12 +121,11 @@ def config_read(upto):
 
 
 class Client:
-    """One job of one client: what is pending, how it ended, what the last reply gave out. An old client knows version 1 alone;
-    each job but an upgrade knows no more."""
+    """One job of one client: what is pending, how it ended, what the last reply gave out. An old client knows version 1 alone."""
 
     def __init__(self, job, instance, host, time, old=False):
         self.job, self.instance, self.host, self.time = job, instance, host, time
-        self.upto = 1 if old else getattr(job, "upto", 1)
+        self.upto = 1 if old else GREATEST_VERSION
         self.sequence, self.pending, self.outcome, self.emitted = 0, None, None, []
         self.steps = self.run()
         self.send(next(self.steps))
@@ -179,7 +183,7 @@ class List:
     role, exclusive = "list", False
 
     def run(self, client):
-        rows = yield from snapshots_read()
+        rows = yield from snapshots_read(client.upto)
         return Outcome(f"listed {len(rows)}", rows=rows)
 
 
@@ -211,13 +215,13 @@ class Forget:
             raise StartRefused(1)
         self.names, self.policy, self.host = names, policy, host
 
-    def chosen(self):
+    def chosen(self, client):
         if self.policy is None:
             return [name for name in (yield from listed("snapshot")) if name in self.names]
-        return gone((yield from snapshots_read()), self.policy, self.host)
+        return gone((yield from snapshots_read(client.upto)), self.policy, self.host)
 
     def run(self, client):
-        chosen = yield from self.chosen()
+        chosen = yield from self.chosen(client)
         for name in chosen:
             yield from asked(("delete", client.token, "snapshot", name), "done")
         return Outcome(f"forgotten {len(chosen)}", forgotten=chosen)
@@ -232,7 +236,7 @@ class Restore:
 
     def run(self, client):
         self.client = client
-        _, _, _, root = yield from got("snapshot", self.snapshot, read_snapshot)
+        _, _, _, root, self.version = yield from snapshot_got(self.snapshot, client.upto)
         self.places = {}
         for kind, name, place in (yield from facts_of_indexes()):
             self.places[kind, name] = min(place, self.places.get((kind, name), place))
@@ -256,22 +260,34 @@ class Restore:
         self.client.emitted.append((word, what))
 
     def walk(self, tree, path):
-        """A directory: its tree whole, and then node by node."""
+        """A directory: each of its trees whole, and then node by node."""
+        before = None
+        while tree is not None:
+            nodes, following = yield from self.part(tree, path)
+            if before is not None and not goes_on(before, nodes):
+                raise End("bad tree", tree)
+            for node in nodes:
+                yield from self.node(node, tree, path + [node["name"]])
+            before, tree = nodes, following
+
+    def part(self, tree, path):
+        """The nodes of a tree at a path, and the name in which its directory goes on."""
         data = yield from self.blob("tree", tree)
         try:
-            nodes = read_tree(data)
+            nodes, following = read_part(data, self.version)
         except Unreadable:
             raise End("bad tree", tree)
         if nodes and len(path) == DEEPEST:
             raise End("bad tree", tree)
-        for node in nodes:
-            below = path + [node["name"]]
-            if node["type"] == "file":
-                yield from self.file(node, tree, below)
-            else:
-                self.entries += 1
-                self.emit("dir", "/".join(below))
-                yield from self.walk(bytes.fromhex(node["subtree"]), below)
+        return nodes, following
+
+    def node(self, node, tree, path):
+        if node["type"] == "file":
+            yield from self.file(node, tree, path)
+        else:
+            self.entries += 1
+            self.emit("dir", "/".join(path))
+            yield from self.walk(bytes.fromhex(node["subtree"]), path)
 
     def file(self, node, tree, path):
         content = [bytes.fromhex(name) for name in node["content"]]
@@ -324,7 +340,7 @@ class Backup:
             yield from self.put_pack()
         if self.waiting:
             yield from self.put_index()
-        text = snapshot_text(self.client.host, self.client.time, self.client.token, root)
+        text = snapshot_text(self.client.host, self.client.time, self.client.token, root, self.client.config[4])
         yield from self.put("snapshot", text)
         return Outcome(f"stored {self.blobs} {self.bytes}", name_of(text))
 
@@ -363,10 +379,16 @@ class Backup:
                 nodes.append(dir_node(below[-1], (yield from self.directory(below))))
             else:
                 nodes.append((yield from self.file(below[-1], data)))
-        text = tree_text(nodes)
-        if len(text) > BLOB_LARGEST:
-            raise End("directory too large")
-        return (yield from self.add("tree", text))
+        return (yield from self.trees(nodes))
+
+    def trees(self, nodes):
+        """Adds the trees of a directory: the name of the one with which it begins."""
+        version = self.client.config[4]
+        for text in directory_texts(nodes, version):
+            if len(text) > BLOB_LARGEST:
+                raise End("file too large" if version == 2 else "directory too large")
+            name = yield from self.add("tree", text)
+        return name
 
     def file(self, name, data):
         content = []
@@ -499,11 +521,8 @@ class Pieces(Backup):
         return self.taken
 
     def tree(self):
-        """Adds the tree of the open directory."""
-        text = tree_text(self.nodes)
-        if len(text) > BLOB_LARGEST:
-            raise End("directory too large")
-        return (yield from self.add("tree", text))
+        """Adds the trees of the open directory."""
+        return (yield from self.trees(self.nodes))
 
     def close(self, _):
         """Closes the open file, else the open directory."""

@@ -10,8 +10,8 @@ from naming import name_of
 from played_cases import CARRIED, ENDED, PLAYED, REFUSED, WORKED
 from plays import prints_of
 from store import Ledger, Store
-from texts import (Unreadable, config_text, file_node, index_text, pack_of, read_index, read_snapshot, read_tree, snapshot_text,
-                   tree_text)
+from texts import (Unreadable, config_text, directory_texts, file_node, index_text, pack_of, parts_of, read_index, read_snapshot,
+                   read_tree, snapshot_text, tree_text)
 
 A = "ba7816bf8f01cfea414140de5dae2223b00361a396177a9cb410ff61f20015ad"
 E = "e3b0c44298fc1c149afbf4c8996fb92427ae41e4649b934ca495991b7852b855"
@@ -53,7 +53,7 @@ def check_texts():
     tree = f'{{"nodes":[{{"content":["{A}"],"name":"x","size":3,"type":"file"}}]}}'.encode()
     assert tree_text([file_node("x", 3, [ABC])]) == tree and len(tree) == 126 and tree_text([]) == b'{"nodes":[]}'
     snapshot = f'{{"host":"a","time":5,"token":1,"tree":"{E}","version":1}}'.encode()
-    assert snapshot_text("a", 5, 1, name_of(b"")) == snapshot and read_snapshot(snapshot) == ("a", 5, 1, name_of(b""))
+    assert snapshot_text("a", 5, 1, name_of(b"")) == snapshot and read_snapshot(snapshot) == ("a", 5, 1, name_of(b""), 1)
     assert config_text() == (b'{"chunk_bits":6,"chunk_max":128,"chunk_min":64,"id":"00000000000000000000000000000000",'
                              b'"pack_target":1024,"version":1}')
     for text in (b'{"nodes":[{"content":[],"name":"..","size":0,"type":"file"}]}', b"{", b'{"nodes":0}'):
@@ -134,6 +134,20 @@ def check_upgrades():
     assert results == ["listed 0", "upgraded", "version", "version", "upgraded"]
 
 
+def check_parts():
+    """A directory of 27,686 empty files with names of 255 bytes is in two parts, and the last one is made first."""
+    entries = [([f"{'a' * 249}{place:06}"], b"") for place in range(27_686)]
+    nodes = [file_node(path[0], 0, []) for path, _ in entries]
+    assert [len(part) for part in parts_of(nodes)] == [27_684, 2] and parts_of([]) == [[]]
+    assert [len(text) for text in directory_texts(nodes, 2)] == [617, 8_388_337]
+    for version, text in ((1, "directory too large"), (2, "stored 2 8388954")):
+        store = Store()
+        store.config = config_text(target=16_777_216, version=version)
+        backup = finish(store, Client(Backup(entries), INSTANCE, "a", 5))
+        assert backup.text == text
+    assert finish(store, Client(Restore(backup.name), INSTANCE, "play", 0)).text == "complete 27686"
+
+
 def check_tokens():
     ledger = Ledger()
     assert [ledger.ticket() for _ in range(1_025)] == list(range(1, 1_026))
@@ -153,5 +167,5 @@ def check_plays():
 
 
 def check():
-    for part in (check_chunks, check_frames, check_texts, check_jobs, check_forgets, check_checks, check_upgrades, check_tokens, check_plays):
+    for part in (check_chunks, check_frames, check_texts, check_jobs, check_forgets, check_checks, check_upgrades, check_parts, check_tokens, check_plays):
         part()

@@ -28,6 +28,13 @@ CARRIED = [
      "file x 616263\nstart backup a 1\nfinish 0\nfile x 616263\nstart backup b 1\nfinish 1\nreport\n",
      "client 0 backup stored 2 129\nclient 1 backup stored 0 0\nstore packs 1 indexes 1 snapshots 2 live 0\n"),
 ]
+UPGRADED = ("a snapshot comes late that an old backup made before an upgrade; new clients restore what is stored before and behind it",
+            "file x 616263\nold start backup a 1\nfinish 0\nfile x 616263\nold start backup b 1\nuntil 1 put-snapshot\nstart upgrade\n"
+            "finish 2\nunlock 2\nstart upgrade\nfinish 3\nfile x 616263\nstart backup c 2\nfinish 4\nlate 1\nfinish 1\n"
+            "old start restore 4\nfinish 5\nstart restore 0\nfinish 6\nstart restore 4\nfinish 7\nreport\n",
+            "late 1 refused 2\nclient 0 backup stored 2 129\nclient 1 backup fenced\nclient 2 upgrade busy\nclient 3 upgrade upgraded\n"
+            "client 4 backup stored 0 0\nclient 5 restore version\nclient 6 restore complete 1\nclient 7 restore complete 1\n"
+            "store packs 1 indexes 1 snapshots 2 live 0\n")
 WORKED = [
     CARRIED[3],
     ("a prune crashes after its new pack, and the next one makes that pack again",
@@ -67,6 +74,7 @@ REFUSED = [
     ("a store that only appends is said by the first line alone", "\nappend-only\n", "", 2),
 ]
 ENDED = [
+    UPGRADED,
     ("nothing", "", ""),
     ("lines of which nothing comes", "\n\ndeliver 7\nunlock 9\nrestart\nreplay\n", ""),
     ("what somebody asks who is no client, in the middle of a backup and behind it; its exclusive lock keeps a list out until it is removed",

@@ -1,8 +1,8 @@
 """The clients of a prune and of an upgrade, and what prune and check share: where blobs lie, and which of them each pack has."""
 
-from jobs import DEEPEST, INDEX_BLOBS, PACK_BLOBS, End, Outcome, asked, got, listed
+from jobs import DEEPEST, INDEX_BLOBS, PACK_BLOBS, End, Outcome, asked, got, listed, snapshot_got
 from naming import name_of
-from texts import GREATEST_VERSION, Unreadable, index_text, pack_of, read_index, read_snapshot, read_tree
+from texts import GREATEST_VERSION, Unreadable, goes_on, index_text, pack_of, read_index, read_next, read_tree
 
 
 def least_places(facts):
@@ -33,14 +33,15 @@ class Prune:
         self.client = client
         roots = []
         for name in (yield from listed("snapshot")):
-            roots.append((yield from got("snapshot", name, read_snapshot))[3])
+            *_, root, version = yield from snapshot_got(name, client.upto)
+            roots.append((root, version == 2))
         indexes, facts = (yield from listed("index")), []
         for name in indexes:
             facts += yield from got("index", name, read_index)
         packs = yield from listed("pack")
         self.places = least_places(facts)
-        for root in roots:
-            yield from self.walk(root, 0)
+        for root, follows in roots:
+            yield from self.walk(root, 0, follows)
         self.used = {("tree", tree) for tree in self.nodes} | {("content", name) for name in self.content}
         for name in self.content:
             self.place("content", name)
@@ -69,28 +70,41 @@ class Prune:
         return data
 
     def tree(self, name):
-        """A tree's nodes. It is asked for once."""
+        """A tree's nodes, and its bytes. It is asked for once."""
         if name not in self.nodes:
             data = yield from self.blob("tree", name)
             try:
-                self.nodes[name] = read_tree(data)
+                self.nodes[name] = read_tree(data), data
             except Unreadable:
                 raise End("bad tree", name)
         return self.nodes[name]
 
-    def walk(self, tree, depth):
-        """All that is reached from a tree, at each depth at which it is reached."""
-        if (tree, depth) in self.seen:
+    def following(self, tree, data):
+        """The name in which the directory of a tree goes on, and the nodes there, if it goes on."""
+        try:
+            name = read_next(data)
+        except Unreadable:
+            raise End("bad tree", tree)
+        return (None, None) if name is None else (name, (yield from self.tree(name))[0])
+
+    def walk(self, tree, depth, follows):
+        """All that is reached from a tree, at each depth at which it is reached, along the parts of directories or not."""
+        if (tree, depth, follows) in self.seen:
             return
-        self.seen.add((tree, depth))
-        nodes = yield from self.tree(tree)
+        self.seen.add((tree, depth, follows))
+        nodes, data = yield from self.tree(tree)
+        following, later = (yield from self.following(tree, data)) if follows else (None, None)
         if nodes and depth == DEEPEST:
             raise End("bad tree", tree)
+        if following is not None and not goes_on(nodes, later):
+            raise End("bad tree", following)
         for node in nodes:
             if node["type"] == "file":
                 self.content += [bytes.fromhex(name) for name in node["content"]]
             else:
-                yield from self.walk(bytes.fromhex(node["subtree"]), depth + 1)
+                yield from self.walk(bytes.fromhex(node["subtree"]), depth + 1, follows)
+        if following is not None:
+            yield from self.walk(following, depth, follows)
 
     def is_used_copy(self, fact):
         kind, name, place = fact
@@ -142,7 +156,7 @@ class Prune:
 
 class Upgrade:
     """An upgrade: the config is of version 2 at its end."""
-    role, exclusive, upto = "upgrade", True, GREATEST_VERSION
+    role, exclusive = "upgrade", True
 
     def run(self, client):
         if client.config[4] < GREATEST_VERSION:

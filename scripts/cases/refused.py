@@ -22,7 +22,7 @@ from command_cases import NO_NAMES, OPENED, row, says
 from job_cases import FILE_TREE, indexed, restore_of, tree_first
 from lines import Lines
 from naming import name_of
-from played_cases import RESTORED, WORKED
+from played_cases import RESTORED, UPGRADED, WORKED
 from plays import prints_of
 from prune_cases import Objects, mixed, replies_to
 from prunes import Prune
@@ -165,7 +165,7 @@ def scripts(script):
     """Scripts that are played, and one whose messages are carried."""
     script.plays("a script of each event", EVENTS)
     script.plays("a script of all jobs", ENTRIES + ALL_JOBS)
-    for heading, text, _ in WORKED[1:3]:
+    for heading, text, _ in [*WORKED[1:3], UPGRADED]:
         script.plays(heading, text)
     for place, text in enumerate(LINES, 1):
         script.plays(f"lines of each sort, {place}", text)

@@ -45,6 +45,37 @@ def tree_text(nodes):
     return dump({"nodes": nodes})
 
 
+def part_text(nodes, following=None):
+    """The tree of a part of a directory, which goes on in another tree, if that is given."""
+    return tree_text(nodes) if following is None else dump({"next": following.hex(), "nodes": nodes})
+
+
+def parts_of(nodes):
+    """The nodes of each part of a directory: all that are left where they fit a text that goes on in none, else as many as fit
+    one that goes on, and at least one."""
+    lengths = [len(dump(node)) + 1 for node in nodes]
+    bare, going_on = len(tree_text([])) - 1, len(part_text([], bytes(32))) - 1
+    parts, at, left = [], 0, sum(lengths)
+    while at < len(nodes) and bare + left > BLOB_LARGEST:
+        end, size = at + 1, going_on + lengths[at]
+        while end < len(nodes) and size + lengths[end] <= BLOB_LARGEST:
+            size += lengths[end]
+            end += 1
+        parts.append(nodes[at:end])
+        left -= sum(lengths[at:end])
+        at = end
+    return parts + [nodes[at:]] if at < len(nodes) or not nodes else parts
+
+
+def directory_texts(nodes, version):
+    """The texts of a directory's trees, in the order in which they are made: of version 2 its parts, from the last to the
+    first; of version 1 its only tree."""
+    texts = []
+    for part in reversed(parts_of(nodes) if version == 2 else [nodes]):
+        texts.append(part_text(part, name_of(texts[-1]) if texts else None))
+    return texts
+
+
 def snapshot_text(host, time, token, tree, version=1):
     return dump({"host": host, "time": time, "token": token, "tree": tree.hex(), "version": version})
 
@@ -178,6 +209,23 @@ def read_tree(data):
     return nodes
 
 
+def read_next(data):
+    """The name in which the directory of a tree goes on, if it does."""
+    value = load(data)
+    return named(value["next"]) if "next" in value else None
+
+
+def read_part(data, version):
+    """The nodes of a tree, and the name in which its directory goes on: of version 1 in none."""
+    nodes = read_tree(data)
+    return nodes, read_next(data) if version == 2 else None
+
+
+def goes_on(nodes, later):
+    """Whether a part with these later nodes may come after one with these nodes."""
+    return bool(later) and (not nodes or nodes[-1]["name"].encode() < later[0]["name"].encode())
+
+
 def read_version(data, largest, upto):
     """A text of a version that a reader knows: one from 1 to this one."""
     want(len(data) <= largest)
@@ -187,13 +235,14 @@ def read_version(data, largest, upto):
     return value
 
 
-def read_snapshot(data, upto=1):
+def read_snapshot(data, upto=GREATEST_VERSION):
+    """Its host, time, token, tree and version."""
     value = read_version(data, LARGEST["snapshot"], upto)
     want(1 <= len(field(value, "host", str).encode()) <= 255)
-    return value["host"], number(value, "time"), number(value, "token"), named(field(value, "tree", str))
+    return value["host"], number(value, "time"), number(value, "token"), named(field(value, "tree", str)), value["version"]
 
 
-def read_config(data, upto=1):
+def read_config(data, upto=GREATEST_VERSION):
     """The chunk rule's least and greatest length and bits, a pack's target, the version, and the repository's own digits."""
     value = read_version(data, 65_536, upto)
     minimum, maximum = number(value, "chunk_min"), number(value, "chunk_max")

@@ -87,7 +87,7 @@ def at_a_store(script):
     script.steps(script.start_upgrade())
     script.ask(("config",))
     script.report()
-    script.heading("each client that knows version 1 alone, at a store of version 2")
+    script.heading("each client at a store of version 2, and an upgrade of one that knows version 1 alone")
     for client in (script.start_backup(TWO, "b", 7), script.start_restore(place), script.start_list(), script.start_forget(place),
                    script.start_keep(1, 1), script.start_prune(), script.start_check(), script.start_upgrade(old=True)):
         script.steps(client)

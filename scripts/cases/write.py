@@ -20,6 +20,7 @@ import job_cases
 import kernel_cases
 import known
 import line_cases
+import part_cases
 import piece_cases
 import played_cases
 import prune_cases
@@ -32,7 +33,8 @@ from script import Script
 CRATES = Path(__file__).resolve().parents[2] / "crates"
 PARTS = [command_cases.locks, command_cases.refresh, command_cases.unlock, command_cases.lists, job_cases.restores,
          job_cases.backups, *word_cases.ALL, *world_cases.ALL, *damage_cases.ALL, *folder_cases.ALL, *forget_cases.ALL,
-         *prune_cases.ALL, *check_cases.ALL, *upgrade_cases.ALL, *piece_cases.ALL, *played_cases.ALL, *line_cases.ALL, *feed_cases.ALL]
+         *prune_cases.ALL, *check_cases.ALL, *upgrade_cases.ALL, *piece_cases.ALL, *played_cases.ALL, *line_cases.ALL, *feed_cases.ALL,
+         *part_cases.ALL]
 
 
 def files():

@@ -147,7 +147,7 @@ impl Talk<'_> {
     }
 
     fn backup(&mut self, host: &str, found: Listed) -> Result<Status, ScriptError> {
-        if !is_host(host) {
+        if !is_host(host) || !found.is_sound() {
             return Err(ScriptError::Line);
         }
         let mut dial = Once::new(&mut self.reader, &mut self.sent);

@@ -1,9 +1,10 @@
 //! What a command backs up: entries, as they come from a source that lists directories.
 
-ghost use Rattle.std.specs.Prelude.{None, ◌≤◌, length};
+ghost use Rattle.std.specs.Prelude.{◌≡◌, ◌≤◌, ◌↔◌, IfOk, IsTrue, false, length};
+ghost use Rattle.repo_feeding.specs.Sources.{FitsRoom};
 
 use repo_feeding::{Found, Source};
-use repo_files::{ScanError, Skipped};
+use repo_files::{Skipped, WalkError};
 use repo_name::{Bytes, Text};
 use repo_prog::LeavesOut;
 use repo_tree::{Entry, EntryKind};
@@ -27,6 +28,8 @@ pub struct Listed {
     /// How many bytes came of the next one.
     read: usize,
     left_out: Vec<Skipped>,
+    /// It told why no more come.
+    failed: bool,
     alloc: Global,
 }
 
@@ -50,6 +53,7 @@ impl Listed {
             place: 0,
             read: 0,
             left_out,
+            failed: false,
             alloc,
         };
         let mut path = Vec::new(alloc);
@@ -58,6 +62,13 @@ impl Listed {
         }
         listed.go_to(&mut path, &[])?;
         Ok(listed)
+    }
+
+    /// Whether it gave no error so far.
+    pub fn is_sound(&self) -> bool
+        ensures { IsTrue result ↔ (self.now.failed ≡ false) }
+    {
+        !self.failed
     }
 
     /// Leaves directories, and enters others, up to a path.
@@ -95,35 +106,12 @@ impl Listed {
         }
         Ok(())
     }
-}
 
-/// A name that is told. It fails for memory alone.
-fn told(alloc: Global, name: &Text) -> Result<String, ScanError> {
-    match String::from_str(alloc, name.as_str()) {
-        Ok(name) => Ok(name),
-        Err(_) => Err(ScanError::Memory),
-    }
-}
-
-/// Reads bytes to the front of a room: how many.
-fn read_into(bytes: &[u8], room: &mut [u8]) -> usize
-    ensures { result ≤ length room.new }
-{
-    let count = bytes.len().min(room.len());
-    let (head, _) = bytes.split_at(count);
-    let (front, _) = room.split_at_mut(count);
-    front.copy_from_slice(head);
-    count
-}
-
-impl Source for Listed {
-    ghost use Rattle.std.specs.Prelude.{None};
-
-    type Error = ScanError;
-
-    ghost told = { λ l. None };
-
-    fn next(&mut self, room: &mut [u8]) -> Result<Found, ScanError> {
+    /// What comes next.
+    fn find(&mut self, room: &mut [u8]) -> Result<Found, WalkError>
+        ensures fits { IfOk result (FitsRoom (length room.new)) }
+        ensures failed { self.new.failed ≡ self.old.failed }
+    {
         let found = match self.coming.as_slice().get(self.place) {
             None => return Ok(Found::End),
             Some(Coming::Dir(name)) => Found::Dir(told(self.alloc, name)?),
@@ -146,7 +134,48 @@ impl Source for Listed {
     }
 }
 
+/// A name that is told. It fails for memory alone.
+fn told(alloc: Global, name: &Text) -> Result<String, WalkError> {
+    match String::from_str(alloc, name.as_str()) {
+        Ok(name) => Ok(name),
+        Err(_) => Err(WalkError::Memory),
+    }
+}
+
+/// Reads bytes to the front of a room: how many.
+fn read_into(bytes: &[u8], room: &mut [u8]) -> usize
+    ensures { result ≤ length room.new }
+{
+    let count = bytes.len().min(room.len());
+    let (head, _) = bytes.split_at(count);
+    let (front, _) = room.split_at_mut(count);
+    front.copy_from_slice(head);
+    count
+}
+
+impl Source for Listed {
+    ghost use Rattle.std.specs.Prelude.{◌≡◌, true, None};
+
+    type Error = WalkError;
+
+    ghost told = { λ l. None };
+
+    ghost failed = { λ l error. l.failed ≡ true };
+
+    fn next(&mut self, room: &mut [u8]) -> Result<Found, WalkError> {
+        match self.find(room) {
+            Ok(found) => Ok(found),
+            Err(error) => {
+                self.failed = true;
+                Err(error)
+            }
+        }
+    }
+}
+
 impl LeavesOut for Listed {
+    ghost skipped = { λ l. l.left_out.items };
+
     fn left_out(&self) -> &[Skipped] {
         self.left_out.as_slice()
     }
