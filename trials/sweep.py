@@ -19,7 +19,7 @@ import itertools
 import re
 import subprocess
 import sys
-from dataclasses import dataclass
+from dataclasses import dataclass, replace
 from pathlib import Path
 
 PROGRAM = Path(__file__).resolve().parents[1] / "crates/vault/out/vault"
@@ -74,7 +74,12 @@ def restore(client):
     return Client([f"start restore {client}"], names=(client,))
 
 
-PRUNE, CHECK, LIST = Client(["start prune"]), Client(["start check"]), Client(["start list"])
+def old(client):
+    """The same of a client that knows version 1 alone."""
+    return replace(client, lines=[line.replace("start", "old start") for line in client.lines])
+
+
+PRUNE, CHECK, LIST, UPGRADE = (Client([f"start {job}"]) for job in ("prune", "check", "list", "upgrade"))
 
 
 def prune_until(word, *behind):
@@ -124,6 +129,16 @@ WORLDS = {
         PRUNE,
         backup("b", 3, "file x 616263", "file z 7a"),
         CHECK,
+    ],
+    "clients of both versions around an upgrade": [
+        old(backup("a", 1, "file x 616263", "file y 62")),
+        UPGRADE,
+        backup("b", 2, "dir d", "file d/x 616263", "file d/y -"),
+        old(backup("c", 3, "file z 7a")),
+        forget(0),
+        PRUNE,
+        UPGRADE,
+        restore(2),
     ],
     "backups that are fed": [
         backup("a", 1, "file x 616263"),

@@ -4,6 +4,7 @@ import re
 import shlex
 import shutil
 import subprocess
+import sys
 
 from program import Server, free_port, told
 from trying import OPTIONS, ROOT, WAIT, Skipped, holds, same, trial
@@ -77,6 +78,19 @@ def named_in(text):
         for rest in re.findall(r"(?<![\w./-])vault (?!vault )([a-z][^|;&]*)", line):
             words = rest.replace("`", " ").replace("[", " ").replace("]", " ").split()
             yield words[0], [word.split("=")[0] for word in words if re.match(r"--[a-z]", word)]
+
+
+@trial
+def edits_find_their_places():
+    """Each edit that the prover has to refuse turns texts that stand there once, also those that the gate doesn't try."""
+    sys.path.insert(0, str(ROOT / "scripts"))
+    import kit
+    rt, edits = kit.load(), [*ROOT.glob("crates/*/must-fail/*.edit"), *ROOT.glob("more-edits/*/*.edit")]
+    for edit in edits:
+        crate = edit.parent.name if edit.parent.name != "must-fail" else edit.parents[1].name
+        _, why = rt.edited(edit.read_text(encoding="utf-8"), str(ROOT / "crates" / crate))
+        holds(not why, f"{edit.relative_to(ROOT)}: {why}")
+    holds(len(edits) > 800, f"there are {len(edits)}")
 
 
 @trial

@@ -71,7 +71,7 @@ def a_store_whose_ledger_is_lost(yard):
 def a_store_whose_config_is_lost_or_damaged(yard):
     config = yard.at("config").read_text()
     with Site(yard) as site:
-        others = [(config.replace('"version":1', '"version":2'), "version"), ("", "badreply")]
+        others = [(config.replace('"version":1', '"version":3'), "version"), ("", "badreply")]
         others += [(text, "badreply") for text in (config[:-1], config.replace("20", "33", 1))]
         yard.removes("config")
         site.again()
@@ -100,7 +100,7 @@ def a_snapshot_that_does_not_read(yard):
             site.ends(f"3|fault snapshot {name_of(text)} {fault}\n|", "check")
             site.ends("1||bad snapshot\n", "snapshots", "prune")
             yard.removes(f"snapshots/{name_of(text)}")
-        newer = good.replace(b'"version":1', b'"version":2')
+        newer = good.replace(b'"version":1', b'"version":3')
         yard.at(f"snapshots/{name_of(newer)}").write_bytes(newer)
         site.again()
         site.ends("1||version\n", "snapshots", "prune", "check", "forget")

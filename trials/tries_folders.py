@@ -9,9 +9,11 @@ import shutil
 import socket
 import subprocess
 
+from connections import Watched
 from program import TICKET, Server, matches, token, told
+from tries_at_once import PUT, at_first
 from trying import OPTIONS, WAIT, Skipped, holds, is_possible, same, trial
-from yards import STORED, Yard, entries, filled, gives_back, in_store, is_clean, stored
+from yards import SMALL, STORED, Yard, entries, filled, gives_back, in_store, is_clean, restores, stored
 
 # Names that a file system takes: spaces, line ends, quotes, letters of other scripts, what looks like a word or a path of ours.
 ODD = ["with space", "two\nlines", "a\ttab", "'", '"', "\\", "ä, ö, 海", "✓", "e\u0301", "\u00e9", "-", "--help", "~", "*", "...", "..a", ".hidden", "a-b",
@@ -185,6 +187,21 @@ def a_backup_holds_no_folder_in_memory():
             is_clean(server.address)
         same(filecmp.cmp(root / "d/random", yard.top / "again/d/random", shallow=False), True)
         same(filecmp.cmp(root / "zeros", yard.top / "again/zeros", shallow=False), True)
+
+
+@trial
+def a_file_that_grows_while_it_is_read_is_read_to_its_end():
+    """It grows before the first pack is put, when most of it wasn't read yet."""
+    with Yard(*SMALL, is_store=True) as own, Server(own.root, connections=9) as server:
+        root, more = filled(own.top / "from", {"a": b"abc", "f": random.Random(5).randbytes(400_000)}), b"more" * 50_000
+
+        def grows():
+            with open(root / "f", "ab") as file:
+                file.write(more)
+        with Watched(server.port, at_first(PUT, grows)) as line:
+            name = stored(line.address, root)
+        holds((root / "f").stat().st_size == 600_000, "it didn't grow")
+        restores(server.address, name, own.top / "to", entries(root))
 
 
 @trial(is_early=True)

@@ -69,7 +69,7 @@ def the_page_of_texts_has_each_text():
     page = plain((ROOT / "docs/man/vault-texts.7").read_text())
     texts = literals(r'failed(?:_by)?\(faults, (?:&error, |&)"([^"]*)"\)', "repo_prog") | literals(r'End::\w+ => String::from_str\(alloc, "([^"]*)"\)', "repo_session")
     holds(len(texts) > 12, texts)
-    for text in sorted(texts - {"file too large", "abandoned"}):
+    for text in sorted(texts - {"abandoned"}):
         holds(text.rstrip("0123456789") in page, f"the page of texts has no {text!r}")
     for code in range(1, 15):
         holds(f"refused {code} " in page, f"the page of texts has no refusal {code}")
