@@ -198,7 +198,7 @@ def lies(work):
     trial.name = trial.store.snapshot(trial.store.blob("tree", text))
     trial.store.pack()
     trial.recovers({}, 1, "another size")
-    trial.name = trial.store.snapshot(trial.store.directory({"b": b"abc"}), version=2)
+    trial.name = trial.store.snapshot(trial.store.directory({"b": b"abc"}), version=3)
     trial.recovers({}, 1, "another version")
     deep = {}
     for _ in range(100):
@@ -209,6 +209,23 @@ def lies(work):
     trial.name = trial.store.snapshot(trial.store.directory({"d": deep}))
     trial.store.pack()
     trial.recovers(deep, 1, "too deep")
+
+
+def parts(work):
+    """A directory in three trees, by a snapshot of version 2 and by one of version 1; and without its second tree."""
+    files = {"a": b"abc", "b": {"below": b"abc"}, "c": b"c"}
+    for version, entries in ((1, {"a": b"abc"}), (2, files)):
+        trial = Trial(work)
+        tree, packs = None, []
+        for name in reversed(files):
+            alone = json.loads(trial.store.known["tree", trial.store.directory({name: files[name]})])
+            tree = trial.store.blob("tree", text_of(alone if tree is None else alone | {"next": tree}))
+            packs.append(trial.store.pack())
+        trial.store.index()
+        trial.name = trial.store.snapshot(tree, version)
+        trial.recovers(entries)
+        packs[1].unlink()
+        trial.recovers({"a": b"abc"}, version - 1, "missing")
 
 
 def refusals(work):
@@ -244,6 +261,7 @@ def main():
         work = Path(room)
         damages(work)
         lies(work)
+        parts(work)
         refusals(work)
         lines = page(work)
     print(f"{Trial.tried} recoveries and {lines} lines of the page as wanted")

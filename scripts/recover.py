@@ -89,9 +89,17 @@ def write_file(places, node, path):
             raise
 
 
-def recovered(places, tree, target, depth=0):
-    """Recovers what a tree lists; gives of each entry None, or what is lost."""
-    for node in json.loads(blob(places, "tree", tree))["nodes"]:
+def nodes_of(places, tree, follows):
+    """The nodes of a directory, tree by tree where it goes on in further ones."""
+    while tree is not None:
+        text = json.loads(blob(places, "tree", tree))
+        yield from text["nodes"]
+        tree = text.get("next") if follows else None
+
+
+def recovered(places, tree, target, follows, depth=0):
+    """Recovers what a directory lists; gives of each entry None, or what is lost."""
+    for node in nodes_of(places, tree, follows):
         try:
             name, path = node["name"], target / node["name"]
             if depth == 100 or not 1 <= len(name.encode()) <= 255 or name in (".", "..") or set("/\0") & set(name):
@@ -99,7 +107,7 @@ def recovered(places, tree, target, depth=0):
             path.mkdir() if node["type"] == "dir" else write_file(places, node, path)
             yield None
             if node["type"] == "dir":
-                yield from recovered(places, node["subtree"], path, depth + 1)
+                yield from recovered(places, node["subtree"], path, follows, depth + 1)
         except FAULTS as error:
             yield f"{path}: {error}"
 
@@ -113,9 +121,9 @@ def main():
     try:
         target.mkdir(parents=True, exist_ok=True)
         snapshot = json.loads(checked((store / "snapshots" / name).read_bytes(), name))
-        if snapshot["version"] != 1:
+        if snapshot["version"] not in (1, 2):
             raise ValueError("another version")
-        for loss in recovered(places_in(store), snapshot["tree"], target):
+        for loss in recovered(places_in(store), snapshot["tree"], target, snapshot["version"] == 2):
             if loss:
                 tell(f"lost {loss}")
                 lost += 1
