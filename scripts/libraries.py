@@ -4,12 +4,14 @@
 Usage: scripts/libraries.py [--jobs N] [CRATE]
 
 It goes along the crates from below (crates.txt), and works on as many at once as processors and memory allow: one for each
-processor, with 3 GB free for each; --jobs says another number. What was proved before, and changed in nothing, takes a second.
-CRATE is the one for which it is done, vault without the word; that one itself isn't built. Exit status 1 where a crate isn't
-proved: what rt said of it is printed.
+processor, with 3 GB free for each; --jobs says another number. As rt locks all crates below the one that it works on, each of
+those that are proved at once stands in a copy of the sources of its own, with the libraries below it; what is proved comes back
+into this repository. What was proved before, and changed in nothing, takes a second. CRATE is the one for which it is done, vault
+without the word; that one itself isn't built. Exit status 1 where a crate isn't proved: what rt said of it is printed.
 """
 import argparse
 import os
+import shutil
 import signal
 import subprocess
 import sys
@@ -50,12 +52,47 @@ def jobs_here():
     return max(1, min(len(os.sched_getaffinity(0)), free // MEMORY))
 
 
-class Job:
-    """The proof of one crate, which goes on beside others."""
+class Yard:
+    """A copy of the sources in which one crate at a time is proved."""
 
-    def __init__(self, name):
-        self.name, self.begun, self.said = name, time.monotonic(), tempfile.TemporaryFile()
-        self.process = subprocess.Popen(["rt", "lib", "--jobs", "1"], cwd=ROOT / "crates" / name, stdin=subprocess.DEVNULL,
+    def __init__(self, top):
+        self.top = Path(top)
+        shutil.copytree(ROOT / "crates", self.top / "crates", ignore=shutil.ignore_patterns("out"))
+        for name in ("crates.txt", "HANDLES"):
+            shutil.copy2(ROOT / name, self.top / name)
+
+    def takes(self, name, *parts):
+        """Takes what was made of a crate from the repository."""
+        carries(name, parts, ROOT, self.top)
+
+    def gives(self, name, *parts):
+        """Gives what was made of a crate to the repository."""
+        carries(name, parts, self.top, ROOT)
+
+
+def stamp_of(made):
+    return (made / "stamp").read_bytes() if (made / "stamp").exists() else None
+
+
+def carries(name, parts, giver, taker):
+    """What rt made of a crate, from one copy of the sources to another that hasn't it."""
+    for part in parts:
+        made, place = (top / "crates" / name / "out" / part for top in (giver, taker))
+        if made.is_dir() and (stamp_of(made) is None or stamp_of(made) != stamp_of(place)):
+            shutil.rmtree(place, ignore_errors=True)
+            shutil.copytree(made, place, dirs_exist_ok=True)
+
+
+class Job:
+    """The proof of one crate in a yard, which goes on beside others."""
+
+    def __init__(self, name, crates, yard):
+        self.name, self.yard = name, yard
+        for lower in below(crates, name):
+            yard.takes(lower, "rlib")
+        yard.takes(name, "rlib", "incremental")
+        self.begun, self.said = time.monotonic(), tempfile.TemporaryFile()
+        self.process = subprocess.Popen(["rt", "lib", "--jobs", "1"], cwd=yard.top / "crates" / name, stdin=subprocess.DEVNULL,
                                         stdout=self.said, stderr=subprocess.STDOUT, start_new_session=True)
 
     def seconds(self):
@@ -72,20 +109,24 @@ class Job:
             self.process.wait()
 
 
-def proves(names, crates, jobs):
-    """Proves the crates, those with the longest chains above them first; the one that isn't proved, if there is one."""
+def proves(names, crates, yards):
+    """Proves the crates, one in each yard, those with the longest chains above them first; the one that isn't proved, if there is
+    one."""
     height, left, done, running = heights(names, crates), set(names), set(), []
     try:
         while left or running:
             ready = [name for name in left if done >= set(crates[name])]
-            for name in sorted(ready, key=lambda name: (-height[name], name))[:jobs - len(running)]:
+            for name, yard in zip(sorted(ready, key=lambda name: (-height[name], name)), list(yards)):
                 left.remove(name)
-                running.append(Job(name))
+                yards.remove(yard)
+                running.append(Job(name, crates, yard))
             ended = [job for job in running if job.process.poll() is not None]
             for job in ended:
                 running.remove(job)
+                job.yard.gives(job.name, "rlib", "incremental")
                 if job.process.returncode != 0:
                     return job
+                yards.append(job.yard)
                 done.add(job.name)
                 beside = ", ".join(sorted(other.name for other in running))
                 print(f"proved {job.name} in {job.seconds()} s, {len(names) - len(done)} of {len(names)} left"
@@ -108,7 +149,9 @@ def main():
     names, jobs = below(crates, given.crate), given.jobs or jobs_here()
     print(f"proving {len(names)} crates, {jobs} at once: an hour on two processors, where none is proved yet."
           " Unproved the program runs in a minute and a half: examples/first-frame.sh", flush=True)
-    begun, open_one = time.monotonic(), proves(names, crates, max(1, jobs))
+    begun = time.monotonic()
+    with tempfile.TemporaryDirectory() as top:
+        open_one = proves(names, crates, [Yard(Path(top) / str(place)) for place in range(max(1, jobs))])
     if open_one:
         print(open_one.text(), end="")
         sys.exit(f"{open_one.name} isn't proved")
