@@ -11,8 +11,6 @@ from prune_cases import ABC, DE, Objects, laid
 from texts import GREATEST_VERSION, config_text, dir_node, dump, file_node, part_text, snapshot_text, tree_text
 from world_cases import stored
 
-BARE = tree_text([])
-
 
 def held(name, data):
     """The node of a file of one blob."""
