@@ -10,7 +10,9 @@ ghost use Rattle.repo_name.specs.Limits.{blob_limit, blobs_limit, greatest_targe
 use crate::faults::PackError;
 use crate::places::{Place, PlacedBlob};
 use crate::rows::{Row, header_bytes};
-use repo_name::{BLOB_LIMIT, BLOBS_LIMIT, BlobKind, Bytes, Name, name_of};
+use repo_name::{
+    BLOB_LIMIT, BLOBS_LIMIT, BlobKind, Bytes, GREATEST_TARGET, Name, PACK_LIMIT, name_of,
+};
 use std::alloc::{AllocError, Global};
 use std::marker::Model;
 use thiserror::Error;
@@ -59,6 +61,20 @@ impl From<Unsealed> for PackError {
     fn from(_: Unsealed) -> PackError {
         PackError::Memory
     }
+}
+
+/// How many bytes a pack has beyond its target, at most.
+const BEYOND: usize = PACK_LIMIT - GREATEST_TARGET as usize;
+
+/// Makes room for all that a pack of this target may have, where there is no blob yet: so its bytes are moved no more, and the
+/// memory of one pack is room for the next. It fails for memory alone, and changes no byte.
+fn make_room(blobs: &mut Vec<u8>, target: u32) -> Result<(), AllocError>
+    ensures { blobs.new.items ≡ blobs.old.items }
+{
+    if !blobs.is_empty() {
+        return Ok(());
+    }
+    blobs.reserve_exact(target as usize + BEYOND)
 }
 
 /// Adds these entries' blobs with their places, for which there is room.
@@ -169,6 +185,7 @@ impl PackWriter {
         ensures err { OnErr result (self.new ≡ self.old) }
     {
         self.rows.reserve(1)?;
+        make_room(&mut self.blobs, self.target)?;
         self.blobs.extend_from_slice(bytes)?;
         self.rows.push(row).unwrap();
         Ok(())
