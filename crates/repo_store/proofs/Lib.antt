@@ -1,6 +1,7 @@
 pub mod AllNames
 pub mod Appending
 pub mod Arming
+pub mod ChannelLemmas
 pub mod Changes
 pub mod Failing
 pub mod MapLemmas

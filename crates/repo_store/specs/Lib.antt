@@ -1,4 +1,5 @@
 pub mod AppendOnly
+pub mod Channels
 pub mod Failing
 pub mod Faults
 pub mod Kept

@@ -19,6 +19,7 @@
 
 mod answers;
 mod append_only;
+mod channels;
 mod faults;
 mod forms;
 mod kept;
@@ -37,6 +38,7 @@ mod upgrades;
 
 pub use answers::answer;
 pub use append_only::AppendOnly;
+pub use channels::{Channel, Ends, Speaker, Unheard};
 pub use faults::{Armed, Fail, FaultShelf};
 pub use forms::{Form, Plain, ServiceError};
 pub use kept::Kept;
@@ -46,5 +48,5 @@ pub use memory::{MemShelf, page_after};
 pub use output::{Unwritten, write_whole};
 pub use pages::{all_names, rises};
 pub use services::Service;
-pub use serving::{ServeError, room, serve};
+pub use serving::{ServeError, room, serve, serve_over};
 pub use shelves::{Page, Shelf, ShelfError, Slice};

@@ -4,10 +4,11 @@ ghost use Rattle.std.specs.Prelude.{◌≡◌, ◌<◌, ◌+◌, ◌^◌, ◌++�
 ghost use Rattle.repo_wire.specs.Reading.{fed};
 ghost use Rattle.repo_store.specs.Serving.{Past, Moment, seen};
 ghost use Rattle.repo_store.specs.Services.{nothing, Rests, Finishes, ServesNext, ServesEach};
+ghost use Rattle.repo_store.specs.Channels.{GoesOver};
 
 use crate::answers::answer;
+use crate::channels::{Channel, Speaker};
 use crate::forms::{Form, ServiceError};
-use crate::output::write_whole;
 use crate::shelves::Shelf;
 use repo_wire::{FrameReader, write_reply};
 use std::alloc::{AllocError, Global};
@@ -39,15 +40,15 @@ impl<F: Form + Drop> Service<F> {
         }
     }
 
-    /// Answers the next request, where one is there, and writes its reply.
-    fn answer_next<S: Shelf, W: Write>(
+    /// Answers the next request, where one is there, and says its reply.
+    fn answer_next<S: Shelf, C: Channel>(
         &mut self,
         shelf: &mut S,
-        writer: &mut W,
+        channel: &mut C,
     ) -> Result<bool, ServiceError>
         requires { self.old.answered < 2 ^ 32 }
-        ensures next { S.honest shelf.old → ServesNext F.shown self.old (seen (S.store shelf.old) (S.failed shelf.old) (W.contents writer.old))
-            result self.new (seen (S.store shelf.new) (S.failed shelf.new) (W.contents writer.new)) }
+        ensures next { S.honest shelf.old → GoesOver C.hears C.says (λ at after. ServesNext F.shown self.old at result self.new after)
+            channel.old (S.store shelf.old) (S.failed shelf.old) channel.new (S.store shelf.new) (S.failed shelf.new) }
         ensures honest { S.honest shelf.old → S.honest shelf.new }
         ensures counted { IfOk result (λ more. IsTrue more → self.new.answered ≡ self.old.answered + 1) }
         ensures still { IfOk result (λ more. IsFalse more → self.new.answered ≡ self.old.answered) }
@@ -61,7 +62,7 @@ impl<F: Form + Drop> Service<F> {
         self.frame.clear();
         write_reply(&reply, &mut self.frame)?;
         self.form.show(&mut self.frame)?;
-        write_whole(writer, self.frame.as_slice())?;
+        channel.say(self.frame.as_slice())?;
         Ok(true)
     }
 
@@ -72,6 +73,26 @@ impl<F: Form + Drop> Service<F> {
         ensures err { OnErr result (self.new ≡ self.old) }
     {
         self.reader.feed(piece)
+    }
+
+    /// Answers each request that is there, and says its reply over a channel, of which it hears nothing.
+    pub fn answer_over<S: Shelf, C: Channel>(
+        &mut self,
+        shelf: &mut S,
+        channel: &mut C,
+    ) -> Result<(), ServiceError>
+        ensures all { S.honest shelf.old → GoesOver C.hears C.says (λ at after. ServesEach F.shown self.old at result self.new after)
+            channel.old (S.store shelf.old) (S.failed shelf.old) channel.new (S.store shelf.new) (S.failed shelf.new) }
+        ensures honest { S.honest shelf.old → S.honest shelf.new }
+        ensures few { OnOk result (self.new.answered < 2 ^ 32) }
+    {
+        while self.answered < REQUESTS {
+            let more = self.answer_next(shelf, channel)?;
+            if !more {
+                return Ok(());
+            }
+        }
+        Err(ServiceError::Limit)
     }
 
     /// Answers each request that is there, and writes its reply.
@@ -85,13 +106,11 @@ impl<F: Form + Drop> Service<F> {
         ensures honest { S.honest shelf.old → S.honest shelf.new }
         ensures few { OnOk result (self.new.answered < 2 ^ 32) }
     {
-        while self.answered < REQUESTS {
-            let more = self.answer_next(shelf, writer)?;
-            if !more {
-                return Ok(());
-            }
-        }
-        Err(ServiceError::Limit)
+        let mut speaker = Speaker { writer };
+        let answered = self.answer_over(shelf, &mut speaker);
+        // What the writer holds then is read off this use of it.
+        let _ = &*speaker.writer;
+        answered
     }
 
     /// Ends the stream, and gives the number of requests that were answered; `None` inside a frame.

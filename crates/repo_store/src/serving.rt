@@ -1,11 +1,13 @@
 //! The server of one connection.
 
-ghost use Rattle.std.specs.Prelude.{◌≡◌, ◌<◌, ◌^◌, ℕ, List, length, Option, IfOk, OnOk, vec_len};
-ghost use Rattle.std.specs.Io.KnownBytes.{Consumes};
+ghost use Rattle.std.specs.Prelude.{◌≡◌, ◌<◌, ◌^◌, [], ℕ, List, length, Some, IfOk, OnOk, vec_len};
 ghost use Rattle.repo_store.specs.AppendOnly.{OnlyAppends};
-ghost use Rattle.repo_store.specs.Services.{Rests, PieceGives};
-ghost use Rattle.repo_store.specs.Serving.{Past, Moment, seen, plain, ServesConnection};
+ghost use Rattle.repo_store.specs.Channels.{Passage, ServesChannel, TakesPiece, heard_in, said_in};
+ghost use Rattle.repo_store.specs.Services.{Rests};
+ghost use Rattle.repo_store.specs.Serving.{Past, seen, plain, ServesConnection};
+ghost use Rattle.repo_store.specs.Stores.{Store};
 
+use crate::channels::{Channel, Ends};
 use crate::forms::{Plain, ServiceError};
 use crate::services::Service;
 use crate::shelves::Shelf;
@@ -75,36 +77,61 @@ pub fn room(alloc: Global) -> Result<Vec<u8>, AllocError>
     vec![in alloc; 0u8; PIECE]
 }
 
-/// Reads a piece of the input, and answers each request that is there. It says whether there was one;
-/// there is none at the end.
-fn take_piece<R: Read, W: Write, S: Shelf>(
+/// Hears the next piece, and answers each request that is there. It says whether there was one; there is none at the end.
+fn take_piece<C: Channel, S: Shelf>(
     service: &mut Service<Plain>,
     piece: &mut [u8],
-    reader: &mut R,
-    writer: &mut W,
+    channel: &mut C,
     shelf: &mut S,
 ) -> Result<bool, ServeError>
     requires room { 0 < length piece.old }
     requires few { service.old.answered < 2 ^ 32 }
-    ensures next { S.honest shelf.old → (input : Option (List ℕ)) (before : Moment) (past : Past) → Consumes input (R.remaining reader.old) past.bytes
-        → Rests plain before service.old past (seen (S.store shelf.old) (S.failed shelf.old) (W.contents writer.old))
-        → PieceGives input before past result (R.remaining reader.new) service.new (seen (S.store shelf.new) (S.failed shelf.new) (W.contents writer.new)) }
+    ensures next { S.honest shelf.old → (from : Store) (failures : ℕ) (earlier : List Passage) (past : Past) → past.bytes ≡ heard_in earlier
+        → Rests plain (seen from failures (Some [])) service.old past (seen (S.store shelf.old) (S.failed shelf.old) (Some (said_in earlier)))
+        → TakesPiece C.hears C.says C.is_over from failures earlier past channel.old result service.new channel.new (S.store shelf.new) (S.failed shelf.new) }
     ensures honest { S.honest shelf.old → S.honest shelf.new }
     ensures few { OnOk result (service.new.answered < 2 ^ 32) }
 {
-    match reader.read(piece) {
+    match channel.hear(piece) {
         Ok(0) => Ok(false),
         Ok(count) => {
             service.feed(&piece[..count])?;
-            service.answer_all(shelf, writer)?;
+            service.answer_over(shelf, channel)?;
             Ok(true)
         }
         Err(_) => Err(ServeError::Read),
     }
 }
 
-/// Answers the requests of one connection, in their order, and writes the frame of each reply. It gives
-/// the number of requests that were answered, at an input that ends between frames: fewer than 2^32. See
+/// Answers the requests that a channel brings, in their order, and says the frame of each reply, each before it hears more. It
+/// gives the number of requests that were answered, at an end between frames: fewer than 2^32. See [`ServeError`] for when each
+/// error comes, and what stands then.
+///
+/// Whenever it hears more, all that it had heard was served: the requests that are whole in that were answered, and what it
+/// had said was the frames of their replies. Whatever the channel brings, a store that only appends keeps each object.
+pub fn serve_over<C: Channel, S: Shelf>(
+    alloc: Global,
+    channel: &mut C,
+    shelf: &mut S,
+) -> Result<u64, ServeError>
+    ensures serves { S.honest shelf.old → ServesChannel C.hears C.says C.is_over channel.old (S.store shelf.old) (S.failed shelf.old)
+        result channel.new (S.store shelf.new) (S.failed shelf.new) }
+    ensures kept { S.honest shelf.old → OnlyAppends (S.store shelf.old) (S.store shelf.new) }
+    ensures honest { S.honest shelf.old → S.honest shelf.new }
+    ensures few { IfOk result (λ count. count < 2 ^ 32) }
+{
+    let mut service = Service::new(alloc, Plain);
+    let mut piece = room(alloc)?;
+    for turn in 0..READS {
+        let more = take_piece(&mut service, piece.as_mut_slice(), channel, shelf)?;
+        if !more {
+            return service.finish().ok_or(ServeError::Malformed);
+        }
+    }
+    Err(ServeError::Limit)
+}
+
+/// Answers the requests of one connection, in their order, and writes the frame of each reply: [`serve_over`] its two ends. See
 /// [`ServeError`] for when each error comes, and what stands then.
 ///
 /// Whatever the reader and the writer tell of their bytes, the shelf is where a run of the machine leads,
@@ -122,13 +149,10 @@ pub fn serve<R: Read, W: Write, S: Shelf>(
     ensures honest { S.honest shelf.old → S.honest shelf.new }
     ensures few { IfOk result (λ count. count < 2 ^ 32) }
 {
-    let mut service = Service::new(alloc, Plain);
-    let mut piece = room(alloc)?;
-    for turn in 0..READS {
-        let more = take_piece(&mut service, piece.as_mut_slice(), reader, writer, shelf)?;
-        if !more {
-            return service.finish().ok_or(ServeError::Malformed);
-        }
-    }
-    Err(ServeError::Limit)
+    let mut ends = Ends { reader, writer };
+    let served = serve_over(alloc, &mut ends, shelf);
+    // What both hold then is read off these uses of them.
+    let _ = &*ends.reader;
+    let _ = &*ends.writer;
+    served
 }

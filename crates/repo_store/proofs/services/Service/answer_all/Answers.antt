@@ -1,38 +1,16 @@
-use Rattle.std.proofs.Common.{Bool, Ok, subst, ◌∙◌, arith}
-use Rattle.std.proofs.lemmas.Result.{err_from_is_err_and}
-use Rattle.repo_store.specs.Serving.{seen}
-use Rattle.repo_store.specs.Services.{ServiceAnswers, with_reply}
-use Rattle.repo_store.proofs.ServiceLemmas.{whole_served}
+use Rattle.std.proofs.Common.{rules}
+use Rattle.std.specs.Io.KnownBytes.{Appends}
+use Rattle.repo_store.specs.Channels.{said_in}
+use Rattle.repo_store.proofs.ChannelLemmas.{each_written, said_named, said_writes}
 use Rattle.repo_store.proofs.services.Service.answer_all.Goals as goal
 
-pub loop-self-preserved : goal.loop-self-preserved
-loop-self-preserved g c = record {
-  all = λ honest before past has.
-      let i = c.loop-self.invariant.all honest before past has in
-      let after = seen (g.S.Shelf.store c.answer_next.new.shelf) (g.S.Shelf.failed c.answer_next.new.shelf) (g.W.Write.contents c.answer_next.new.writer) in
-      let P : Bool → Type 0 = λ more. ServiceAnswers g.F.Form.shown (Ok more) before i.0 c.answer_next.new.self after in
-      let a = subst P c.if-not-more.false (c.in_ok-more.ensures.next (c.loop-self.invariant.honest honest) before i.0 i.2) in
-      (with_reply i.0 a.0 a.1, i.1, a.2);
-  honest = λ honest. c.answer_next.ensures.honest (c.loop-self.invariant.honest honest);
-}
-
-pub returns-in_err-more-clause-all : goal.returns-in_err-more-clause-all
-returns-in_err-more-clause-all g c honest before past has =
-    let i = c.loop-self.invariant.all honest before past has in
-    let p = err_from_is_err_and c.from_residual.result c.from_residual.ensures.1 in
-    let e = c.in_err-more.ensures.next (c.loop-self.invariant.honest honest) before i.0 i.2 in
-    rw (p.1, p.2) (e.0, e.1 ∙ i.1, e.2)
-
-pub returns-then-not-more-clause-all : goal.returns-then-not-more-clause-all
-returns-then-not-more-clause-all g c honest before past has =
-    let i = c.loop-self.invariant.all honest before past has in
-    let after = seen (g.S.Shelf.store c.answer_next.new.shelf) (g.S.Shelf.failed c.answer_next.new.shelf) (g.W.Write.contents c.answer_next.new.writer) in
-    let P : Bool → Type 0 = λ more. ServiceAnswers g.F.Form.shown (Ok more) before i.0 c.answer_next.new.self after in
-    (i.0, i.1, subst P c.if-not-more.true (c.in_ok-more.ensures.next (c.loop-self.invariant.honest honest) before i.0 i.2))
-
 pub returns-clause-all : goal.returns-clause-all
-returns-clause-all g c honest before past has =
-    let i = c.loop-self.invariant.all honest before past has in
-    let many = c.loop-self-test.false in
-    let after = seen (g.S.Shelf.store c.loop-self.shelf) (g.S.Shelf.failed c.loop-self.shelf) (g.W.Write.contents c.loop-self.writer) in
-    (i.0, i.1, (whole_served g.F.Form.shown before c.loop-self.self i.0 after i.2, omega (arith, i.2.count, many)))
+returns-clause-all g c honest =
+    let e = c.answer_over-answered.ensures.all honest in
+    let held = g.W.Write.contents in
+    let name =
+    said_named _ _ (λ s. s.writer.ghost_name) (λ s. held s.writer.now) (λ a b bytes h. h.0) (λ a b bytes h. h.1) _ c.answer_over-answered.new.channel e.passages e.alone e.passes in
+    let wrote : Appends (held c.args.writer.now) (held c.answer_over-answered.new.channel.writer.now) (said_in e.passages) =
+    said_writes _ _ (λ s. s.writer.ghost_name) (λ s. held s.writer.now) (λ a b bytes h. h.0) (λ a b bytes h. h.1) _ c.answer_over-answered.new.channel e.passages e.alone e.passes in
+    each_written g.F.Form.shown c.args.self.now c.answer_over-answered.new.self c.answer_over-answered.result (g.S.Shelf.store c.args.shelf.now) (g.S.Shelf.store c.answer_over-answered.new.shelf)
+    (g.S.Shelf.failed c.args.shelf.now) (g.S.Shelf.failed c.answer_over-answered.new.shelf) (held c.args.writer.now) _ (said_in e.passages) e.does (search rules)
