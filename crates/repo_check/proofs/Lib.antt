@@ -32,3 +32,4 @@ pub mod Concluding
 pub mod CheckSteps
 pub mod SoundFinds
 pub mod LoneChecks
+pub mod Replied

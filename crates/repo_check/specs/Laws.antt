@@ -1,5 +1,5 @@
 -- What holds of what a check tells, by the definitions alone.
-use Rattle.std.specs.Prelude.{◌≡◌, ◌↔◌, ℕ, List, Option, Some, Contains}
+use Rattle.std.specs.Prelude.{◌≡◌, ◌↔◌, [], ℕ, List, Option, Some, Contains}
 use Rattle.repo_name.specs.Naming as naming
 use Rattle.repo_name.specs.Ranges.{range}
 use Rattle.repo_name.specs.declared.kinds.Kind.{Kind}
@@ -7,16 +7,23 @@ use Rattle.repo_name.specs.declared.kinds.Thing.{Thing}
 use Rattle.repo_name.specs.declared.names.Name.{Name}
 use Rattle.repo_index.specs.declared.facts.Fact.{Fact}
 use Rattle.repo_store.specs.Stores.{Objects}
+use Rattle.repo_wire.specs.declared.messages.Reply.{Reply}
 use Rattle.repo_session.specs.declared.outcomes.CheckFault.{CheckFault}
 use Rattle.repo_session.specs.declared.outcomes.FaultKind.{FaultKind}
+use Rattle.repo_session.specs.declared.outcomes.Outcome.{Outcome}
+use Rattle.repo_session.specs.Ends.{before_unlock}
+use Rattle.repo_session.specs.Sessions.{next_in, ended_in}
 use Rattle.repo_session.specs.Soundness.{IsSound}
+use Rattle.repo_session.specs.Talks.{Talk, trace_of, TookEach, CameIn}
 use Rattle.repo_session.specs.Traces.{Trace}
 use Rattle.repo_check.specs.Findings.{IsFitting, IsMisplaced}
 use Rattle.repo_check.specs.Fitting.{FactsOfPacks, AreKnown, Fits, Misfits}
 use Rattle.repo_index.specs.IndexText.{IsIndexText}
 use Rattle.repo_index.specs.declared.facts.PackFacts.{PackFacts}
 use Rattle.repo_check.specs.Answers.{Answer, Gathered, GivesFact}
-use Rattle.repo_check.specs.Checking.{IsFaultOf, IsFound, AreWell, IsClean, AreAnswers}
+use Rattle.repo_check.specs.CheckStates.{FitsCheck, checker_of}
+use Rattle.repo_check.specs.Checking.{check_task, IsFaultOf, IsFound, AreWell, IsClean, IsAtFault, AreAnswers}
+use Rattle.repo_check.specs.declared.checks.Check.{Check}
 
 -- the objects that came, under the names for which they came
 abbrev pub AreObjects : Gathered → Objects → Type 0
@@ -56,3 +63,20 @@ FitsAsFound = (answers : Gathered) (packs : FactsOfPacks) (x : List ℕ) (text :
 -- where all things are well, none is at fault
 abbrev pub WellHasNoFault : Type 0
 WellHasNoFault = (es : Trace) (answers : Gathered) → AreAnswers es answers → AreWell answers → (fault : CheckFault) → ¬ IsFaultOf answers fault
+
+-- ---- whatever the replies
+
+-- a check whose ticket was pending had these replies, whoever sent them and whatever they say, and took these turns of them
+pub record CheckTook (old : Check) (replies : List Reply) (talk : Talk) (new : Check) : Type 0 where
+  pub begins : FitsCheck old []
+  pub took : TookEach (check_task (checker_of old)).who.instance FitsCheck (λ c. next_in c.session) old replies talk new
+
+-- where it is clean, all that a check has to receive was received, in those replies, and is well
+abbrev pub CleanIsWhatCame : Type 0
+CleanIsWhatCame = (old new : Check) (replies : List Reply) (talk : Talk) (snapshots indexes packs blobs : ℕ) → CheckTook old replies talk new
+    → ended_in new.session ≡ Some (Outcome.Clean snapshots indexes packs blobs) → CameIn replies (trace_of talk) × IsClean (before_unlock (trace_of talk)) snapshots indexes packs blobs
+
+-- where it tells faults, all of it was received, in those replies; each that it tells is at fault there, and nothing that is at fault there is left out
+abbrev pub FaultsAreWhatCame : Type 0
+FaultsAreWhatCame = (old new : Check) (replies : List Reply) (talk : Talk) (faults : List CheckFault) → CheckTook old replies talk new → ended_in new.session ≡ Some (Outcome.Faults faults)
+    → CameIn replies (trace_of talk) × IsAtFault (before_unlock (trace_of talk)) faults

@@ -3,7 +3,7 @@
 ghost use Rattle.repo_check.specs.LoneLaws.{CheckChangesNothing, CheckEndsWell, CleanIsOfSound};
 ghost use Rattle.repo_check.specs.Surveys.{SurveyedIsReceived, VisitsAreReached, ContentIsReached, SnapshotsAreTold, PacksAreTold, TreesAreTold, ContentIsTold};
 ghost use Rattle.repo_check.specs.Verdicts.{IndexesAreTold, PlacesAreTold};
-ghost use Rattle.repo_check.specs.Laws.{WellIsSound, CleanIsSound, FoundOnce, FitsAsFound, WellHasNoFault};
+ghost use Rattle.repo_check.specs.Laws.{WellIsSound, CleanIsSound, FoundOnce, FitsAsFound, WellHasNoFault, CleanIsWhatCame, FaultsAreWhatCame};
 
 /// Where all things are well in what was received, the objects received are a sound store. Premise: no two of the objects
 /// and trees received, and of the blobs in the packs, have one name.
@@ -96,4 +96,16 @@ pub fn clean_is_of_sound()
 /// its end, or the store had no memory. Premise: the same.
 pub fn check_ends_well()
     ensures { CheckEndsWell }
+{}
+
+/// A check that had any replies from its beginning, in any order, truncated or made up, and is clean received in them all that
+/// it has to, and all of that is well. Nothing is asked of who sent them.
+pub fn clean_is_what_came()
+    ensures { CleanIsWhatCame }
+{}
+
+/// And where it tells faults, it received all of that, each thing that it tells is at fault in it, and nothing that is at fault
+/// in it is left out.
+pub fn faults_are_what_came()
+    ensures { FaultsAreWhatCame }
 {}

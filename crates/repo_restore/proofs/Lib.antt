@@ -7,3 +7,4 @@ pub mod Passing
 pub mod Growing
 pub mod Advancing
 pub mod RestoreRuns
+pub mod Replied

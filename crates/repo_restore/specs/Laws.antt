@@ -1,7 +1,9 @@
--- What holds of a restore and of a list that are alone with their store, by the definitions alone.
-use Rattle.std.specs.Prelude.{◌≡◌, ◌<◌, ◌^◌, ◌-◌, [], ⊤, ℕ, List, length, Option, Some, None}
+-- What holds of a restore and of a list that are alone with their store, and of a restore whatever the replies, by the definitions alone.
+use Rattle.std.specs.Prelude.{◌≡◌, ◌<◌, ◌^◌, ◌-◌, [], ⊤, ℕ, List, length, Option, Some, None, Contains}
 use Rattle.repo_name.specs.declared.kinds.Kind.{Kind}
+use Rattle.repo_name.specs.declared.names.Name.{Name}
 use Rattle.repo_wire.specs.declared.messages.Code.{Code}
+use Rattle.repo_wire.specs.declared.messages.Reply.{Reply}
 use Rattle.repo_wire.specs.declared.messages.Request.{Request}
 use Rattle.repo_store.specs.Laws.{greatest_count}
 use Rattle.repo_store.specs.Stores.{Store}
@@ -9,12 +11,19 @@ use Rattle.repo_session.specs.Versions.{upto}
 use Rattle.repo_session.specs.Alone.{IsFit, AreVersionsUpto, IsSent, IsSpoken, NoClash}
 use Rattle.repo_session.specs.Askers.{Asker}
 use Rattle.repo_session.specs.Clients.{IsObedient}
-use Rattle.repo_session.specs.Talks.{Talk, trace_of, TalkRan, MayBeAhead}
-use Rattle.repo_session.specs.Traces.{Trace}
+use Rattle.repo_session.specs.Ends.{before_unlock}
+use Rattle.repo_session.specs.Sessions.{next_in, ended_in}
+use Rattle.repo_session.specs.Talks.{Talk, trace_of, given_in, TalkRan, MayBeAhead, TookEach, CameIn}
+use Rattle.repo_session.specs.Traces.{Trace, emitted_in}
+use Rattle.repo_session.specs.Trees.{HasRoot}
+use Rattle.repo_session.specs.declared.emissions.Emission.{Emission}
 use Rattle.repo_session.specs.declared.outcomes.End.{End}
 use Rattle.repo_session.specs.declared.outcomes.Outcome.{Outcome}
 use Rattle.repo_restore.specs.Listing.{list_task, ListAllows, ListGives, ListConcludes}
-use Rattle.repo_restore.specs.Restoring.{Wish, restore_task, RestoreAllows, RestoreGives, RestoreConcludes}
+use Rattle.repo_restore.specs.Restoring.{Wish, restore_task, MayGive, IsRestored, RestoreAllows, RestoreGives, RestoreConcludes}
+use Rattle.repo_restore.specs.RestoreObedience.{wish_of}
+use Rattle.repo_restore.specs.RestoreStates.{FitsRestore}
+use Rattle.repo_restore.specs.declared.restores.Restore.{Restore}
 
 -- these exchanges, what is pending and the outcome are a restore's
 abbrev pub IsRestore : Wish → Option Request → Option Outcome → Trace → Type 0
@@ -53,3 +62,26 @@ abbrev pub RestoreEndsWell : Type 0
 RestoreEndsWell = (w : Wish) (from to : Store) (failed : ℕ) (talk : Talk) (outcome : Option Outcome) (text : List ℕ)
     → IsFit from → AreVersionsUpto (upto (restore_task w).versions) from → from.objects Kind.Snapshot w.snapshot ≡ Some text → failed < greatest_count → TalkRan from failed talk to failed → length talk < 2 ^ 64 - 1
     → NoClash (IsSpoken (λ x. ⊥) from (IsSent [] None)) → IsRestore w None outcome (trace_of talk) → IsCompleteOrMemory outcome
+
+-- ---- whatever the replies
+
+-- a restore whose ticket was pending had these replies, whoever sent them and whatever they say, and took these turns of them
+pub record RestoreTook (old : Restore) (replies : List Reply) (talk : Talk) (new : Restore) : Type 0 where
+  pub begins : FitsRestore old []
+  pub took : TookEach (restore_task (wish_of old)).who.instance FitsRestore (λ c. next_in c.session) old replies talk new
+  pub wish : wish_of new ≡ wish_of old
+
+-- Where it is complete, what it gave out, and that is all that it gave out, is what the snapshot's tree spells in the blobs that were received; and what was
+-- received came in those replies.
+abbrev pub RestoredIsWhatCame : Type 0
+RestoredIsWhatCame = (old new : Restore) (replies : List Reply) (talk : Talk) (entries : ℕ) → RestoreTook old replies talk new → ended_in new.session ≡ Some (Outcome.Complete entries)
+    → CameIn replies (trace_of talk) × IsRestored (before_unlock (trace_of talk)) (wish_of old).snapshot entries × (emitted_in (before_unlock (trace_of talk)) ≡ given_in talk)
+
+-- by what was received, this may be given out where the snapshot is restored
+abbrev pub MayBeGiven : Trace → Name → Emission → Type 0
+MayBeGiven es snapshot given = (version : ℕ) × (root : Name) × HasRoot es snapshot version root × MayGive es version root given
+
+-- And however it ends, or doesn't, each part that it gave out is one that may be.
+abbrev pub GivenIsWhatCame : Type 0
+GivenIsWhatCame = (old new : Restore) (replies : List Reply) (talk : Talk) (given : Emission) → RestoreTook old replies talk new → Contains (given_in talk) given
+    → CameIn replies (trace_of talk) × MayBeGiven (trace_of talk) (wish_of old).snapshot given

@@ -1,7 +1,7 @@
-//! What holds of a restore and of a list that are alone with their store, by the definitions alone. Each
-//! function is empty, and its contract is the law.
+//! What holds of a restore and of a list that are alone with their store, and of a restore whatever the replies, by the
+//! definitions alone. Each function is empty, and its contract is the law.
 
-ghost use Rattle.repo_restore.specs.Laws.{RestoreChangesNothing, ListChangesNothing, ListEndsWell, RestoreEndsWell};
+ghost use Rattle.repo_restore.specs.Laws.{RestoreChangesNothing, ListChangesNothing, ListEndsWell, RestoreEndsWell, RestoredIsWhatCame, GivenIsWhatCame};
 
 /// A restore changes no object of its store, also where the store has gone one step further than it.
 pub fn restore_changes_nothing()
@@ -23,4 +23,17 @@ pub fn list_ends_well()
 /// had no memory.
 pub fn restore_ends_well()
     ensures { RestoreEndsWell }
+{}
+
+/// A restore that had any replies from its beginning, in any order, truncated or made up, and is complete gave out just what
+/// its snapshot's tree spells in the blobs that were received, and these came in the replies. Nothing is asked of who sent
+/// them.
+pub fn restored_is_what_came()
+    ensures { RestoredIsWhatCame }
+{}
+
+/// And whatever its end, each part that it gave out is a piece of a blob that was received, a directory or a file that a
+/// tree which was received has at its path, or the end of a file.
+pub fn given_is_what_came()
+    ensures { GivenIsWhatCame }
 {}

@@ -1,0 +1,100 @@
+-- What a restore gave out, whatever the replies.
+use Rattle.std.proofs.Common.{◌≡◌, ◌⊎◌, ◌++◌, ◌∷◌, [], ℕ, List, Contains, refl, sym, ap, subst, inl, inr, ◌∙◌}
+use Rattle.std.proofs.lemmas.List.{append-nil}
+use Rattle.std.proofs.lemmas.List.Elements.{Contains-append_cases}
+use Rattle.repo_name.specs.declared.kinds.BlobKind.{BlobKind}
+use Rattle.repo_name.specs.declared.names.Name.{Name}
+use Rattle.repo_name.specs.declared.tokens.Token.{Token}
+use Rattle.repo_name.proofs.Containing.{none_contained, contained_or}
+use Rattle.repo_wire.specs.declared.messages.Ask.{Ask}
+use Rattle.repo_tree.specs.declared.nodes.NodeKind.{NodeKind}
+use Rattle.repo_session.specs.declared.emissions.Emission.{Emission}
+use Rattle.repo_session.specs.declared.outcomes.Outcome.{Outcome}
+use Rattle.repo_session.specs.Clients.{exchange}
+use Rattle.repo_session.specs.Ends.{before_unlock, without_unlock}
+use Rattle.repo_session.specs.Order.{Obeys}
+use Rattle.repo_session.specs.Received.{Received}
+use Rattle.repo_session.specs.Sessions.{next_in}
+use Rattle.repo_session.specs.Talks.{Talk, trace_of, given_in}
+use Rattle.repo_session.specs.Traces.{Each, Exchange, Trace, emitted_in}
+use Rattle.repo_session.proofs.Cataloguing.{fact_stays}
+use Rattle.repo_session.proofs.Descending.{received_grows, root_grows, node_at_grows}
+use Rattle.repo_session.proofs.Taking.{came_in, given_is, stands_after}
+use Rattle.repo_restore.specs.Laws.{RestoredIsWhatCame, GivenIsWhatCame, MayBeGiven}
+use Rattle.repo_restore.specs.RestoreObedience.{wish_of, restore_obeys}
+use Rattle.repo_restore.specs.RestoreStates.{FitsRestore}
+use Rattle.repo_restore.specs.Restoring.{Wish, restore_task, HaveLength, IsForBlob, IsRestored, MayGive, RestoreAllows, RestoreGives}
+use Rattle.repo_restore.specs.declared.restores.Restore.{Restore}
+
+-- the exchanges keep the order and the rule of a restore
+abbrev Keeps : Wish → Trace → Type 0
+Keeps w es = Obeys (restore_task w) (RestoreAllows w.snapshot) (RestoreGives w.snapshot) es
+
+-- ---- the end of the lock gives nothing out
+
+silent_end : (w : Wish) (e : Exchange) (es : Trace) (token : Token) → e.ask ≡ Ask.Unlock token → (e.emitted ≡ []) ⊎ RestoreGives w.snapshot es e → emitted_in es ≡ emitted_in (e ∷ es)
+silent_end w e es token q (inl none) = sym (ap (λ x. emitted_in es ++ x) none ∙ append-nil (emitted_in es))
+silent_end w e es token q (inr gives) = absurd (subst IsForBlob q gives.0)
+
+given_by : (w : Wish) (ask : Ask) (e : Exchange) (es : Trace) → e.ask ≡ ask → Keeps w (e ∷ es) → emitted_in (without_unlock ask (e ∷ es) es) ≡ emitted_in (e ∷ es)
+given_by w (Ask.Unlock token) e es q o = silent_end w e es token q o.2
+given_by w _ e es q o = refl
+
+given_before : (w : Wish) (es : Trace) → Keeps w es → emitted_in (before_unlock es) ≡ emitted_in es
+given_before w [] o = refl
+given_before w (e ∷ es) o = given_by w e.ask e es refl o
+
+-- ---- each part
+
+lengths_grow : (e : Exchange) (es : Trace) (content : List Name) (total : ℕ) → HaveLength es content total → HaveLength (e ∷ es) content total
+lengths_grow e es [] total h = h
+lengths_grow e es (name ∷ content) total h = (h.0, h.1, fact_stays e es h.0 h.2, h.3, h.4, lengths_grow e es content h.1 h.5, h.6)
+
+may_grow : (e : Exchange) (es : Trace) (version : ℕ) (root : Name) (given : Emission) → MayGive es version root given → MayGive (e ∷ es) version root given
+may_grow e es version root (Emission.Dir path) h = (h.0, node_at_grows version (Received es) (Received (e ∷ es)) (received_grows e es) root path (NodeKind.Dir h.0) h.1)
+may_grow e es version root (Emission.File path) h =
+    (h.0, h.1, node_at_grows version (Received es) (Received (e ∷ es)) (received_grows e es) root path (NodeKind.File h.0 h.1) h.2, lengths_grow e es h.1 h.0 h.3)
+may_grow e es version root (Emission.Piece bytes) h = received_grows e es BlobKind.Content bytes h
+may_grow e es version root Emission.Close h = tt
+
+each_given : (P : Emission → Type 0) (all : List Emission) (given : Emission) → Each P all → Contains all given → P given
+each_given P [] given h c = absurd (none_contained given c)
+each_given P (first ∷ all) given h c = elim (contained_or first all given c) [
+  | inl same ↦ subst P same h.0
+  | inr more ↦ each_given P all given h.1 more
+]
+
+given_now : (w : Wish) (e : Exchange) (es : Trace) (given : Emission) → (e.emitted ≡ []) ⊎ RestoreGives w.snapshot es e → Contains e.emitted given → MayBeGiven (e ∷ es) w.snapshot given
+given_now w e es given (inl none) c = absurd (none_contained given (subst (λ x. Contains x given) none c))
+given_now w e es given (inr gives) c =
+    (gives.1, gives.2, root_grows e es w.snapshot gives.1 gives.2 gives.3, each_given (λ g. MayGive (e ∷ es) gives.1 gives.2 g) e.emitted given gives.4 c)
+
+given_of : (w : Wish) (talk : Talk) (given : Emission) → Keeps w (trace_of talk) → Contains (given_in talk) given → MayBeGiven (trace_of talk) w.snapshot given
+given_of w [] given o c = absurd (none_contained given c)
+given_of w (turn ∷ talk) given o c =
+    let e : Exchange = exchange turn.request turn.reply turn.emitted in
+    elim (Contains-append_cases (given_in talk) turn.emitted given c) [
+      | inl old ↦
+          let h = given_of w talk given o.3 old in
+          (h.0, h.1, root_grows e (trace_of talk) w.snapshot h.0 h.1 h.2, may_grow e (trace_of talk) h.0 h.1 given h.3)
+      | inr now ↦ given_now w e (trace_of talk) given o.2 now
+    ]
+
+-- ---- the laws
+
+pub restored_is_what_came : RestoredIsWhatCame
+restored_is_what_came old new replies talk entries r ended =
+    let instance = (restore_task (wish_of old)).who.instance in
+    let o = restore_obeys new (trace_of talk) (stands_after instance FitsRestore (λ (c : Restore). next_in c.session) old new replies talk r.begins r.took) in (
+      came_in instance FitsRestore (λ (c : Restore). next_in c.session) old new replies talk r.took,
+      subst (λ (w : Wish). IsRestored (before_unlock (trace_of talk)) w.snapshot entries) r.wish (o.concluded (Outcome.Complete entries) ended),
+      given_before (wish_of new) (trace_of talk) o.obeys ∙ sym (given_is talk),
+    )
+
+pub given_is_what_came : GivenIsWhatCame
+given_is_what_came old new replies talk given r c =
+    let instance = (restore_task (wish_of old)).who.instance in
+    let o = restore_obeys new (trace_of talk) (stands_after instance FitsRestore (λ (c : Restore). next_in c.session) old new replies talk r.begins r.took) in (
+      came_in instance FitsRestore (λ (c : Restore). next_in c.session) old new replies talk r.took,
+      subst (λ (w : Wish). MayBeGiven (trace_of talk) w.snapshot given) r.wish (given_of (wish_of new) talk given o.obeys c),
+    )
