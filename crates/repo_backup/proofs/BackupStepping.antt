@@ -27,7 +27,7 @@ use Rattle.repo_backup.specs.Items.{Feeding, Place, place_of, ItemFault, fed_par
 use Rattle.repo_backup.specs.Packings.{AimsOn}
 use Rattle.repo_backup.specs.PieceStates.{waits, HasBegun, PutsPack, PutsIndex, IsIdleAt, PutsSnapshotOf, LaysSo, large_end}
 use Rattle.repo_session.specs.declared.outcomes.Outcome.{Outcome}
-use Rattle.repo_backup.specs.Pieces.{IsReady, PieceStands, Goes, EndsTooLarge, Refuses, Stays, WorkTakes, LeavesPacked, sealing_at}
+use Rattle.repo_backup.specs.Pieces.{IsReady, LeavesRoom, PieceStands, Goes, EndsTooLarge, Refuses, Stays, WorkTakes, LeavesPacked, sealing_at}
 use Rattle.repo_backup.specs.Plans.{walked, left_fed, next_fed, behind, before, steps_left, LeadThrough}
 use Rattle.repo_backup.specs.Rules.{AreLast, IsTooLarge, PackRule, SnapshotRule, BackupConcludes}
 use Rattle.repo_backup.specs.Folders.{blobs_of}
@@ -70,20 +70,20 @@ module _ (facts : List Fact) (steps : List WalkStep) (p : Position) (item : Item
 
   module _ (ready : IsReady old) (aims : AimsOn old.packing new.packing) (params : new.walk.params ≡ old.walk.params) (version : new.walk.version ≡ old.walk.version) where
     -- it was taken, and no pack is sealed
-    pub went_on : (n : ℕ) → WorkTakes facts item old (Took.All n None) new → LeavesPacked (sealing_at item) (Took.All n None) new
+    pub went_on : (n : ℕ) → WorkTakes facts item old (Took.All n None) new → LeavesPacked (sealing_at item) (Took.All n None) new → LeavesRoom (Took.All n None) new
         → GoesSo facts old (left_fed p steps) Went.On new (left_fed (before (size_of item - n) (behind p (fed_of item))) steps)
-    went_on n takes left entries b puts next es work h = record {
+    went_on n takes left room entries b puts next es work h = record {
       items = fed_part n item ∷ h.items;
       leads = lead_further entries steps p going n item h.items takes.0.0 is h.leads;
       at = stands_unsealed facts b (record b { work = new }) puts next h.items es h.at (subst IsReady (sym work) ready) refl refl refl n item no_abandon (subst (λ w. Goes facts (sealing_at item) (fed_part n item) w new) (sym work) takes.2)
-          (params ∙ ap (λ w. w.walk.params) (sym work)) (version ∙ ap (λ w. w.walk.version) (sym work)) (subst (λ (w : PieceWork). AimsOn w.packing new.packing) (sym work) aims) None left.1 left.0;
+          (params ∙ ap (λ w. w.walk.params) (sym work)) (version ∙ ap (λ w. w.walk.version) (sym work)) (subst (λ (w : PieceWork). AimsOn w.packing new.packing) (sym work) aims) None left.1 room left.0;
       unsealed = left.0;
     }
 
     -- and one is
-    pub went_pack : (n : ℕ) (listed : PackFacts) → WorkTakes facts item old (Took.All n (Some listed)) new → LeavesPacked (sealing_at item) (Took.All n (Some listed)) new
+    pub went_pack : (n : ℕ) (listed : PackFacts) → WorkTakes facts item old (Took.All n (Some listed)) new → LeavesPacked (sealing_at item) (Took.All n (Some listed)) new → LeavesRoom (Took.All n (Some listed)) new
         → GoesSo facts old (left_fed p steps) (Went.Pack listed) new (left_fed (before (size_of item - n) (behind p (fed_of item))) steps)
-    went_pack n listed takes left entries b puts next es work h =
+    went_pack n listed takes left room entries b puts next es work h =
         let c : PieceBacking = record b { work = new } in
         let goes = subst (λ w. Goes facts (sealing_at item) (fed_part n item) w new) (sym work) takes.2 in
         let by = params ∙ ap (λ w. w.walk.params) (sym work) in
@@ -94,9 +94,9 @@ module _ (facts : List Fact) (steps : List WalkStep) (p : Position) (item : Item
           items = fed_part n item ∷ h.items;
           leads = lead_further entries steps p going n item h.items takes.0.0 is h.leads;
           sealed = (goes h.at.st (items_of (puts ++ next)) (stands_plain facts b c puts next h.items es h.at able)).2;
-          at = stands_further facts b c puts next h.items es h.at able refl refl refl n item no_abandon goes by of_version to (Some listed) left.1;
+          at = stands_further facts b c puts next h.items es h.at able refl refl refl n item no_abandon goes by of_version to (Some listed) left.1 room;
           lists = left.0;
-          full = sealed_full facts b c puts next h.items es h.at able refl refl refl n item no_abandon goes by of_version to (Some listed) left.1 listed left.0;
+          full = sealed_full facts b c puts next h.items es h.at able refl refl refl n item no_abandon goes by of_version to (Some listed) left.1 room listed left.0;
         }
 
     -- there was no memory for it

@@ -1,6 +1,7 @@
 -- A work that is fed still stands after the end of a file or of a directory.
-use Rattle.std.proofs.Common.{arith, ◌≡◌, ◌≢◌, ◌≤◌, ◌++◌, ◌∷◌, [], ℕ, true, false, List, length, map, Option, Some, None, is_some, refl, sym, ap, subst, inl, inr, ◌⊎◌, ◌∙◌, append-nil, length-append, Contains}
+use Rattle.std.proofs.Common.{arith, ◌≡◌, ◌≢◌, ◌≤◌, ◌++◌, ◌∷◌, [], ℕ, true, false, List, length, map, Option, Some, None, is_some, refl, sym, ap, subst, inl, inr, ◌⊎◌, ◌∙◌, append_assoc, length-append, Contains}
 use Rattle.std.proofs.lemmas.List.{map-append, same_from_push}
+use Rattle.std.proofs.lemmas.List.Elements.{Contains-append_cases, Contains-append_left, Contains-append_right}
 use Rattle.repo_chunk.proofs.CutLaws.{uncut_is_short}
 use Rattle.repo_chunk.specs.Chunkers.{Holds, params_of}
 use Rattle.repo_chunk.specs.Cuts.{HasNoCut}
@@ -18,18 +19,19 @@ use Rattle.repo_tree.specs.declared.nodes.Node.{Node}
 use Rattle.repo_tree.specs.declared.nodes.NodeKind.TheVariants.{File, Dir}
 use Rattle.repo_backup.specs.Folders.{Folder, nothing, file_then, dir_then, joined, nodes_of}
 use Rattle.repo_backup.specs.Items.{after, MayTake}
-use Rattle.repo_backup.specs.Packings.{IsPacking, IsCovered, PacksOn, all_items}
-use Rattle.repo_backup.specs.Pieces.{IsFileAt, AreOuterAt, AreTextsAround, IsRootAt, IsAt, PieceStands, Goes, Stays}
+use Rattle.repo_backup.specs.Packings.{IsPacking, all_items}
+use Rattle.repo_backup.specs.Waiting.{PacksAll}
+use Rattle.repo_backup.specs.Pieces.{IsCoveredSoFar, waiting_in, IsFileAt, AreOuterAt, AreTextsAround, IsRootAt, IsAt, PieceStands, Goes, Stays}
 use Rattle.repo_backup.specs.Plans.{AreTreeTextsBelow}
-use Rattle.repo_backup.specs.Standings.{both, Around, FileCut, Standing, path_of, file_at, place_at, IsCutSoFar, chunk_items, made_at}
+use Rattle.repo_backup.specs.Standings.{both, Around, FileCut, Standing, path_of, file_at, place_at, IsCutSoFar, chunk_items, last_chunk, made_at}
 use Rattle.repo_backup.specs.declared.pieces.PieceFile.{PieceFile}
 use Rattle.repo_backup.specs.declared.packing.Sealing.{Sealing}
 use Rattle.repo_backup.specs.declared.piece_works.PieceWork.{PieceWork}
 use Rattle.repo_backup.specs.declared.pieces.Outer.{Outer}
 use Rattle.repo_backup.proofs.Leading.{next_close}
-use Rattle.repo_backup.proofs.Lengthening.{joined_both, last_chunk, last_joined}
+use Rattle.repo_backup.proofs.Lengthening.{joined_both, last_joined}
 use Rattle.repo_backup.proofs.NamePlaces.{none_open, some_open, outer_count}
-use Rattle.repo_backup.proofs.Piecing.{opened, make_at, stands_on, stands_more}
+use Rattle.repo_backup.proofs.Piecing.{opened, make_at, stands_many, waiting_made}
 
 pub nodes_both : (version : ℕ) (a b : Folder) → nodes_of version (both a b) ≡ nodes_of version a ++ nodes_of version b
 nodes_both version nothing b = refl
@@ -40,14 +42,6 @@ pub texts_both : (version : ℕ) (a b : Folder) → AreTreeTextsBelow version a 
 texts_both version nothing b h k = k
 texts_both version (file_then name chunks rest) b h k = texts_both version rest b h k
 texts_both version (dir_then name inside rest) b h k = (h.0, h.1, texts_both version rest b h.2 k)
-
-last_none : (rest : List ℕ) → rest ≡ [] → last_chunk rest ≡ []
-last_none [] e = refl
-last_none (b ∷ bytes) e = absurd (cc)
-
-last_some : (rest : List ℕ) → rest ≢ [] → last_chunk rest ≡ rest ∷ []
-last_some [] some = absurd (some refl)
-last_some (b ∷ bytes) some = refl
 
 some_there : (f : FileCut) → file_at (Some f) ≢ None
 some_there f e = absurd (cc)
@@ -60,7 +54,7 @@ top_path version (a ∷ above) h = absurd (omega (arith, ap length h.2, length-a
 
 module _ (w v : PieceWork) (f : PieceFile) (node : Node) (names : List Name) (known : List Fact) (is : w.walk.file ≡ Some f) (params : v.walk.params ≡ w.walk.params) (version : v.walk.version ≡ w.walk.version) (unlaid : v.parts ≡ None) (above : v.walk.above.items ≡ w.walk.above.items)
     (none : v.walk.file ≡ None) (root : v.walk.root ≡ w.walk.root) (nodes : v.walk.nodes.items ≡ w.walk.nodes.items ++ node ∷ []) (node_is : node ≡ record { name = f.name; what = File f.size names })
-    (names_are : names ≡ f.content.items ++ map naming.name (last_chunk f.rest.items)) (lawful : AreLawful w.walk.params) (unended : w.walk.root ≡ None) where
+    (names_are : names ≡ f.content.items ++ map naming.name (f.ended ++ last_chunk f.rest.items)) (lawful : AreLawful w.walk.params) (unended : w.walk.root ≡ None) where
   abbrev pub V : ℕ
   V = w.walk.version
 
@@ -68,6 +62,8 @@ module _ (w v : PieceWork) (f : PieceFile) (node : Node) (names : List Name) (kn
   pub record Closed (st : Standing) (sent : List Item) : Type 0 where
     pub c : FileCut
     pub at_rest : f.rest.items ≡ c.rest
+    pub named : List (List ℕ)
+    pub chunks : c.chunks ≡ named ++ f.ended
     pub was : PieceStands w known (record { done = st.done; above = st.above; file = Some c; over = st.over }) sent []
     pub may : MayTake (place_at st) fed_close
     pub now : Standing
@@ -89,11 +85,14 @@ module _ (w v : PieceWork) (f : PieceFile) (node : Node) (names : List Name) (kn
       let mine : Folder = file_then c.name chunks nothing in
       let bytes : joined chunks ≡ joined c.chunks ++ c.rest = joined_both c.chunks (last_chunk c.rest) ∙ ap (λ l. joined c.chunks ++ l) (last_joined c.rest) in
       let size : f.size ≡ length (joined chunks) = p.size ∙ ap length (sym bytes) in
-      let all : names ≡ map naming.name chunks = names_are ∙ (λ i. p.content i ++ map naming.name (last_chunk (p.rest i))) ∙ sym (map-append naming.name c.chunks (last_chunk c.rest)) in
+      let all : names ≡ map naming.name chunks = names_are ∙ (λ i. p.content i ++ map naming.name (f.ended ++ last_chunk (p.rest i))) ∙ sym (map-append naming.name p.named (f.ended ++ last_chunk c.rest))
+      ∙ ap (map naming.name) (sym (append_assoc p.named f.ended (last_chunk c.rest)) ∙ ap (λ l. l ++ last_chunk c.rest) (sym p.chunks)) in
       let is_node : node ≡ record { name = c.name; what = File (length (joined chunks)) (map naming.name chunks) } = node_is ∙ (λ i. record { name = p.name i; what = File (size i) (all i) }) in
       record {
         c = c;
         at_rest = p.rest;
+        named = p.named;
+        chunks = p.chunks;
         was = was;
         may = inl (subst (λ x. file_at x ≢ None) (sym o.1) (some_there c));
         now = n.now;
@@ -105,45 +104,29 @@ module _ (w v : PieceWork) (f : PieceFile) (node : Node) (names : List Name) (kn
         texts = (texts_both V st.done mine h.texts.0 tt, h.texts.1);
       }
 
-  -- no byte was left behind the chunks
-  pub closed_whole : f.rest.items ≡ [] → v.packing ≡ w.packing → Goes known Sealing.Due fed_close w v
-  closed_whole empty packed st sent h =
+  -- those that waited are named, and what was left is the last chunk
+  pub file_closed : PacksAll known Sealing.Due (chunk_items (f.ended ++ last_chunk f.rest.items)) w.packing v.packing → Goes known Sealing.Due fed_close w v
+  file_closed packs st sent h =
       let k = closed_at st sent h in
       let old : Standing = record { done = st.done; above = st.above; file = Some k.c; over = st.over } in
-      let made : made_at V k.now ≡ made_at V old = k.made ∙ ap (λ l. made_at V old ++ chunk_items l) (last_none k.c.rest (sym k.at_rest ∙ empty)) ∙ append-nil (made_at V old) in
-      (k.may, k.now, [], k.place, inl (unlaid, stands_on w v known old k.now sent [] packed version made k.at (subst (λ q. IsCutSoFar q k.now) (sym params) k.cut) k.texts k.was), inl (inl refl))
-
-  -- what was left is the last chunk
-  pub closed_chunk : f.rest.items ≢ [] → PacksOn known Sealing.Due (item_of Content f.rest.items) w.packing v.packing → Goes known Sealing.Due fed_close w v
-  closed_chunk some packs st sent h =
-      let k = closed_at st sent h in
-      let old : Standing = record { done = st.done; above = st.above; file = Some k.c; over = st.over } in
-      let made : made_at V k.now ≡ made_at V old ++ item_of Content f.rest.items ∷ [] =
-      k.made ∙ ap (λ l. made_at V old ++ chunk_items l) (last_some k.c.rest (λ e. some (k.at_rest ∙ e))) ∙ ap (λ b. made_at V old ++ item_of Content b ∷ []) (sym k.at_rest) in
-      let m = stands_more w v known old k.now sent (item_of Content f.rest.items) Sealing.Due packs version made k.at (subst (λ q. IsCutSoFar q k.now) (sym params) k.cut) k.texts k.was in
+      let was = made_at V old in
+      let ended = chunk_items f.ended in
+      let last = chunk_items (last_chunk f.rest.items) in
+      let items = chunk_items (f.ended ++ last_chunk f.rest.items) in
+      let both_are : items ≡ ended ++ last = map-append (λ b. item_of Content b) f.ended (last_chunk f.rest.items) in
+      let made : made_at V k.now ≡ was ++ last = k.made ∙ ap (λ b. was ++ chunk_items (last_chunk b)) (sym k.at_rest) in
+      let kept : (x : Item) → Contains was x → Contains (made_at V k.now) x = λ x before. subst (λ l. Contains l x) (sym made) (Contains-append_left was last x before) in
+      let among : (x : Item) → Contains items x → Contains (made_at V k.now) x = λ x in_items. elim (Contains-append_cases ended last x (subst (λ l. Contains l x) both_are in_items)) [
+        | inl waited ↦ kept x (waiting_made V st.done st.above st.over k.c k.named f.ended k.chunks x waited)
+        | inr left ↦ subst (λ l. Contains l x) (sym made) (Contains-append_right was last x left)
+      ] in
+      let split : (x : Item) → Contains (made_at V k.now) x → Contains was x ⊎ Contains items x = λ x in_made. elim (Contains-append_cases was last x (subst (λ l. Contains l x) made in_made)) [
+        | inl before ↦ inl before
+        | inr left ↦ inr (subst (λ l. Contains l x) (sym both_are) (Contains-append_right ended last x left))
+      ] in
+      let waits : (x : Item) → Contains (waiting_in w.walk.file) x → Contains items x = λ x waiting. subst (λ l. Contains l x) (sym both_are) (Contains-append_left ended last x (subst (λ y. Contains (waiting_in y) x) is waiting)) in
+      let m = stands_many w v known old k.now sent items Sealing.Due packs version kept among split waits k.at (subst (λ q. IsCutSoFar q k.now) (sym params) k.cut) k.texts k.was in
       (k.may, k.now, m.0, k.place, inl (unlaid, m.1), inl m.2)
-
--- ---- the names of a file's chunks
-
-pub names_none : (names content : List Name) (rest : List ℕ) → rest ≡ [] → names ≡ content → names ≡ content ++ map naming.name (last_chunk rest)
-names_none names content rest none same = same ∙ sym (append-nil content) ∙ ap (λ l. content ++ map naming.name l) (sym (last_none rest none))
-
-pub names_more : (names content : List Name) (rest : List ℕ) (name : Name) → rest ≢ [] → name ≡ naming.name rest → names ≡ content ++ name ∷ [] → names ≡ content ++ map naming.name (last_chunk rest)
-names_more names content rest name some called more = more ∙ ap (λ n. content ++ n ∷ []) called ∙ ap (λ l. content ++ map naming.name l) (sym (last_some rest some))
-
--- a file is closed: what was left is its last chunk, where something was
-pub file_closed : (w v : PieceWork) (f : PieceFile) (node : Node) (names : List Name) (known : List Fact) → w.walk.file ≡ Some f → v.walk.params ≡ w.walk.params → v.walk.version ≡ w.walk.version → v.parts ≡ None → v.walk.above.items ≡ w.walk.above.items → v.walk.file ≡ None
-    → v.walk.root ≡ w.walk.root → v.walk.nodes.items ≡ w.walk.nodes.items ++ node ∷ [] → node ≡ record { name = f.name; what = File f.size names } → AreLawful w.walk.params → w.walk.root ≡ None
-    → (f.rest.items ≡ [] → (v.packing ≡ w.packing) × (names ≡ f.content.items))
-    → (f.rest.items ≢ [] → PacksOn known Sealing.Due (item_of Content f.rest.items) w.packing v.packing × (names ≡ f.content.items ++ naming.name f.rest.items ∷ []))
-    → Goes known Sealing.Due fed_close w v
-file_closed w v f node names known is params version unlaid above none root nodes node_is lawful unended whole chunk = by f.rest.items refl
-  where
-    by : (rest : List ℕ) → f.rest.items ≡ rest → Goes known Sealing.Due fed_close w v
-    by [] e = closed_whole w v f node names known is params version unlaid above none root nodes node_is (names_none names f.content.items f.rest.items e (whole e).1) lawful unended e (whole e).0
-    by (b ∷ bytes) e =
-        let some : f.rest.items ≢ [] = λ n. absurd (cc) in
-        closed_chunk w v f node names known is params version unlaid above none root nodes node_is (names_more names f.content.items f.rest.items (naming.name f.rest.items) some refl (chunk some).1) lawful unended some (chunk some).0
 
 -- ---- a chunk that isn't ended is short
 
@@ -175,7 +158,8 @@ room_stays w v known params version outers nodes file root packs written st sent
       at = make_at v.walk V st version (outers V st.above h.at.outers) (nodes ∙ h.at.nodes) same_file (ap is_some root ∙ h.at.over) (subst (λ x. IsRootAt V x st.done) (sym root) h.at.root);
       cut = subst (λ q. IsCutSoFar q st) (sym params) h.cut;
       texts = subst (λ n. AreTreeTextsBelow n st.done × AreTextsAround n st.above) (sym version) h.texts;
-      covered = subst (λ n. Each (λ item. IsCovered known (all_items sent [] v.packing) item) (made_at n st)) (sym version) (subst (λ l. Each (λ item. IsCovered known l item) (made_at V st)) (sym all) h.covered);
+      covered = subst (λ n. Each (λ item. IsCoveredSoFar known (all_items sent [] v.packing) v.walk.file item) (made_at n st)) (sym version)
+          (subst (λ x. Each (λ item. IsCoveredSoFar known (all_items sent [] v.packing) x item) (made_at V st)) (sym file) (subst (λ l. Each (λ item. IsCoveredSoFar known l w.walk.file item) (made_at V st)) (sym all) h.covered));
     }
 
 -- ---- what is open

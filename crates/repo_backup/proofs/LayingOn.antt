@@ -40,7 +40,7 @@ use Rattle.repo_backup.specs.declared.pieces.Outer.{Outer}
 use Rattle.repo_backup.specs.declared.walks.Went.{Went}
 use Rattle.repo_backup.proofs.Closing.{none_there}
 use Rattle.repo_backup.proofs.PieceFeeding.{full_by, left_open, left_empty, open_root}
-use Rattle.repo_backup.proofs.Piecing.{none_sealed, packing_in}
+use Rattle.repo_backup.proofs.Piecing.{none_sealed, packing_in, room_none, room_open, shut_in}
 
 -- where parts are left, it makes them
 laying : (w : PieceWork) (known : List Fact) (st : Standing) (sent sealed : List Item) → 1 ≤ left_count w.parts → WorkStands w known st sent sealed → PieceLays w known st sent sealed
@@ -57,6 +57,11 @@ some_left w known st sent sealed laid (inl h) = absurd (laid h.0)
 some_left w known st sent sealed laid (inr h) = omega (arith, ap left_count h.parts_are, ap length h.is_left.sizes, length-map h.left length, some_length h.left h.some)
 
 -- a directory that isn't the root doesn't end the items
+-- no file is open there
+shut_there : (done : Folder) (above : List Around) → (closed_dir done above).file ≡ None
+shut_there done [] = refl
+shut_there done (a ∷ above) = refl
+
 dir_open : (version : ℕ) (o : Outer) (outers : List Outer) (done : Folder) (above : List Around) → AreOuterAt version (o ∷ outers) above → (closed_dir done above).over ≡ false
 dir_open version o outers done [] h = absurd (cc)
 dir_open version o outers done (a ∷ above) h = refl
@@ -93,7 +98,7 @@ module _ (facts : List Fact) (old new : PieceWork) (params : new.walk.params ≡
         kept = h.kept;
         goes_by = by_config h.config b work h.goes_by;
         stands = laid_step.1;
-        opened = left_open (sealing_in old.walk.above.items) listed new.packing left.1;
+        opened = room_none new.walk.file new.packing (shut_in new facts h.st (items_of (puts ++ next)) laid_step.0 laid_step.1 (ap (λ (s : Standing). s.file) lay.closed ∙ shut_there lay.done lay.above)) (left_open (sealing_in old.walk.above.items) listed new.packing left.1);
         ended = empty_at_end;
         written = h.written;
       }
@@ -135,7 +140,7 @@ module _ (facts : List Fact) (old new : PieceWork) (params : new.walk.params ≡
           kept = h.kept;
           goes_by = by_config h.config b work h.goes_by;
           stands = inr (still h.st (items_of (puts ++ next)) lay);
-          opened = steady.packing.opened;
+          opened = room_none new.walk.file new.packing (shut_in new facts h.st (items_of (puts ++ next)) [] (inr (still h.st (items_of (puts ++ next)) lay)) (ap (λ (s : Standing). s.file) lay.closed ∙ shut_there lay.done lay.above)) steady.packing.opened;
           ended = λ some. absurd (some (root ∙ none_there old.walk.root lay.at.over));
           written = h.written;
         },
@@ -149,7 +154,7 @@ lays_none facts w b puts next items es work h unsealed = (subst (λ x. StandsAt 
 -- where parts are left, and no pack is sealed, they can be made
 pub lays_ready : (facts : List Fact) (w v : PieceWork) → w.parts ≢ None → ((w.packing.packer.sealed ≡ None) × IsOpen w.packing.packer.writer × (1 ≤ left_count w.parts) → ⊥) → LaysSo facts w Went.Nothing v
 lays_ready facts w v laid never b puts next items es work h unsealed =
-    never (unsealed, subst (λ x. IsOpen x.packing.packer.writer) work h.opened, some_left w facts h.st (items_of (puts ++ next)) [] laid (subst (λ x. WorkStands x facts h.st (items_of (puts ++ next)) []) work h.stands))
+    never (unsealed, subst (λ x. IsOpen x.packing.packer.writer) work (room_open b.work.walk.file b.work.packing h.opened), some_left w facts h.st (items_of (puts ++ next)) [] laid (subst (λ x. WorkStands x facts h.st (items_of (puts ++ next)) []) work h.stands))
 
 -- ---- the job of a backup that is fed
 

@@ -10,8 +10,8 @@ use Rattle.repo_backup.specs.Folders.{Folder, nothing, file_then, dir_then, join
 use Rattle.repo_session.specs.Feeds.{Fed, fed_dir, fed_file, fed_bytes, fed_close, fed_end, fed_abandon}
 use Rattle.repo_backup.specs.Items.{Feeding, Place, after, place_of, MayTake, MayGrow, NobodyGaveUp, AreTaken}
 use Rattle.repo_backup.specs.ItemLaws.{EndIsLast, GivingUpIsLast, ItemsLead, MadeGrows, MadeOfAll}
-use Rattle.repo_backup.specs.Standings.{both, Around, FileCut, Standing, path_of, entries_at, file_at, place_at, IsCutSoFar, LeadTo, chunk_items, made_below, chunks_made, made_at}
-use Rattle.repo_backup.proofs.Lengthening.{cut_both, entries_more, made_more, outer_path, no_file, no_path, joined_both, none_cut, split_of, last_chunk, last_joined, grown_by, closed_cuts}
+use Rattle.repo_backup.specs.Standings.{last_chunk, both, Around, FileCut, Standing, path_of, entries_at, file_at, place_at, IsCutSoFar, LeadTo, chunk_items, made_below, chunks_made, made_at}
+use Rattle.repo_backup.proofs.Lengthening.{cut_both, entries_more, made_more, outer_path, no_file, no_path, joined_both, none_cut, split_of, last_joined, grown_by, closed_cuts}
 
 -- a standing that comes next: it has this place, and more is made
 pub record Next (params : Parameters) (version : ℕ) (st : Standing) (p : Place) : Type 0 where

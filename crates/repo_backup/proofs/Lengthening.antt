@@ -9,7 +9,7 @@ use Rattle.repo_chunk.proofs.FirstCuts.{first_cuts_grow, first_cuts_end}
 use Rattle.repo_tree.specs.Spelling.{dir_entry, file_entry}
 use Rattle.repo_backup.specs.Folders.{Folder, nothing, file_then, dir_then, joined, entries_of, blobs_below, blobs_of, IsCutBy}
 use Rattle.repo_backup.specs.Items.{outer_of}
-use Rattle.repo_backup.specs.Standings.{both, Around, FileCut, path_of, entries_at, file_at, chunk_items, made_below}
+use Rattle.repo_backup.specs.Standings.{both, Around, FileCut, path_of, entries_at, file_at, chunk_items, last_chunk, made_below}
 
 -- ---- one folder behind another
 
@@ -108,11 +108,6 @@ first_lengths params bytes (n ∷ ns) rest is =
     let first = length-take-le n bytes is.0.ends.present in
     let more = first_lengths params (drop n bytes) ns rest is.1 in
     λ i. first i ∷ more i
-
--- what is left of a file is its last chunk, if it isn't empty
-abbrev pub last_chunk : List ℕ → List (List ℕ)
-last_chunk [] = []
-last_chunk (b ∷ bytes) = (b ∷ bytes) ∷ []
 
 pub last_joined : (rest : List ℕ) → joined (last_chunk rest) ≡ rest
 last_joined [] = refl

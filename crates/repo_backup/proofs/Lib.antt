@@ -25,6 +25,8 @@ pub mod FedOn
 pub mod FedSession
 pub mod PieceRuling
 pub mod PieceStepping
+pub mod Ending
+pub mod Waits
 pub mod Biting
 pub mod PieceReplying
 pub mod PieceTaking

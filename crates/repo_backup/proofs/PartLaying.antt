@@ -34,7 +34,7 @@ use Rattle.repo_backup.proofs.Leading.{made_open, next_close, next_end}
 use Rattle.repo_backup.proofs.Lengthening.{made_more, no_file}
 use Rattle.repo_backup.proofs.NamePlaces.{none_open}
 use Rattle.repo_backup.proofs.PartLists.{Lasts, Ranges, last_part, ranges, parts_whole, parts_some, texts_by, root_by, has_by, first_one, texts_more, items_more, item_among}
-use Rattle.repo_backup.proofs.Piecing.{all_of_made, more_covered, make_at, none_sealed}
+use Rattle.repo_backup.proofs.Piecing.{all_of_made, covered_so_far, covered_whole, more_covered, make_at, none_sealed}
 use Rattle.repo_session.specs.Feeds.{Fed, fed_close, fed_end}
 
 -- ---- a directory that is closed
@@ -296,7 +296,7 @@ module _ (w : PieceWork) (known : List Fact) (st : Standing) (sent : List Item) 
                 (subst (λ x. IsFileAt x.params x.file None) (sym walk) h.at.file) (ap (λ x. is_some x.root) walk) (subst (λ x. IsRootAt N x.root h.done) (sym walk) (named, has_texts)));
             cut = subst (λ x. IsCutSoFar x.params st) (sym walk) h.cut;
             texts = subst (λ (n : ℕ). AreTreeTextsBelow n st.done × AreTextsAround n st.above) (sym version) (subst (λ (s : Standing). AreTreeTextsBelow N s.done × AreTextsAround N s.above) (sym there) (h.texts.0, tt));
-            covered = subst (λ n. Each (λ item. IsCovered known (all_items sent m.sealed v.packing) item) (made_at n st)) (sym version) covered;
+            covered = covered_so_far known (all_items sent m.sealed v.packing) v.walk.file (made_at v.walk.version st) (subst (λ n. Each (λ item. IsCovered known (all_items sent m.sealed v.packing) item) (made_at n st)) (sym version) covered);
           },
         )
 
@@ -325,7 +325,7 @@ module _ (w : PieceWork) (known : List Fact) (st : Standing) (sent : List Item) 
             cut = subst (λ q. IsCutSoFar q st) (sym params) h.cut;
             texts = subst (λ (n : ℕ). AreTreeTextsBelow n st.done × AreTextsAround n st.above) (sym version) (subst (λ (s : Standing). AreTreeTextsBelow N s.done × AreTextsAround N s.above) (sym there)
                 (texts_both N a.done mine around_texts.0 (has_texts, h.texts.0, tt), around_texts.1));
-            covered = subst (λ n. Each (λ item. IsCovered known (all_items sent m.sealed v.packing) item) (made_at n st)) (sym version) covered;
+            covered = covered_so_far known (all_items sent m.sealed v.packing) v.walk.file (made_at v.walk.version st) (subst (λ n. Each (λ item. IsCovered known (all_items sent m.sealed v.packing) item) (made_at n st)) (sym version) covered);
           },
           m.by,
         )
@@ -441,7 +441,7 @@ module _ (w : PieceWork) (known : List Fact) (p : PartsLeft) (ready : IsReady w)
           at = was.at;
           cut = s.cut;
           texts = h.texts;
-          covered = subst (λ l. Each (λ item. IsCovered known (all_items sent [] w.packing) item) l) (sym (append-nil open_made)) was.covered;
+          covered = subst (λ l. Each (λ item. IsCovered known (all_items sent [] w.packing) item) l) (sym (append-nil open_made)) (covered_whole known (all_items sent [] w.packing) w.walk.file open_made file was.covered);
         };
       }
 

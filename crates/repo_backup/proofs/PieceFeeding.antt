@@ -18,7 +18,7 @@ use Rattle.repo_backup.specs.Items.{Feeding, FileSoFar, Place, after, closed, pl
 use Rattle.repo_backup.specs.Packings.{IsSealedBy, IsListed, IsLeftOpen, AimsOn}
 use Rattle.repo_backup.specs.PieceRules.{IsStandingOf, HasConfig, IsFullPack}
 use Rattle.repo_backup.specs.PieceStates.{waits, listed_of, StandsAt, PieceAt, PieceWaits, IsPieceDue, IsPieceDone, IsPieceLarge}
-use Rattle.repo_backup.specs.Pieces.{PieceStands, WorkStands, IsReady, IsSealedAs, Goes, EndsTooLarge, Refuses, Stays, sealing_at}
+use Rattle.repo_backup.specs.Pieces.{HasRoom, PieceStands, WorkStands, IsReady, IsSealedAs, Goes, EndsTooLarge, Refuses, Stays, sealing_at}
 use Rattle.repo_backup.specs.Standings.{Standing, IsCutSoFar, place_at, made_at}
 use Rattle.repo_backup.specs.declared.items.FeedError.{FeedError}
 use Rattle.repo_backup.specs.declared.items.Item.{Item}
@@ -142,7 +142,7 @@ module _ (facts : List Fact) (b c : PieceBacking) (puts next : List Put) (items 
       (taken_more fed k.0, (k.1, k.2, standing_after fed items es h.config h.st k.1 h.at k.3 (subst (λ q. IsCutSoFar q k.1) h.goes_by.params k.4), subst (λ n. Contains (made_at n k.1) (item_of Tree k.2)) h.goes_by.version k.5, k.6))
 
   module _ (waiting : c.waiting ≡ b.waiting) (listed_is : c.listed ≡ b.listed) (counts : c.counts ≡ b.counts) (n : ℕ) (item : Item) (other : item ≡ Item.Abandon → ⊥) (goes : Goes facts (sealing_at item) (fed_part n item) b.work c.work)
-      (params : c.work.walk.params ≡ b.work.walk.params) (version : c.work.walk.version ≡ b.work.walk.version) (aims : AimsOn b.work.packing c.work.packing) (listed : Option PackFacts) (left : IsLeftOpen (sealing_at item) listed c.work.packing) where
+      (params : c.work.walk.params ≡ b.work.walk.params) (version : c.work.walk.version ≡ b.work.walk.version) (aims : AimsOn b.work.packing c.work.packing) (listed : Option PackFacts) (left : IsLeftOpen (sealing_at item) listed c.work.packing) (room : HasRoom c.work.walk.file c.work.packing) where
     abbrev pub part : Fed
     part = fed_part n item
 
@@ -180,7 +180,7 @@ module _ (facts : List Fact) (b c : PieceBacking) (puts next : List Put) (items 
           kept = nobody_gave_up n item items other;
           goes_by = record { params = by; version = version ∙ h.goes_by.version; aim = ap (λ t. t.bytes) aims.0 ∙ h.goes_by.aim; aims = aims.1 (h.goes_by.aims ∙ sym h.goes_by.aim) ∙ ap (λ t. t.bytes) aims.0 ∙ h.goes_by.aim };
           stands = k.4;
-          opened = left_open (sealing_at item) listed c.work.packing left;
+          opened = room;
           ended = empty_at_end;
           written = subst (λ ws. HasWritten facts ws c.counts puts next es) all (subst (λ m. HasWritten facts (waits b) m puts next es) (sym counts) h.written);
         }
@@ -242,16 +242,16 @@ module _ (facts : List Fact) (b c : PieceBacking) (es : Trace) (h : PieceWaits f
   one_taken fed may = taken_more facts b c h.puts [] (fed_in es) es h.at h.ready fed may
 
   module _ (n : ℕ) (item : Item) (other : item ≡ Item.Abandon → ⊥) (goes : Goes facts (sealing_at item) (fed_part n item) b.work c.work) (params : c.work.walk.params ≡ b.work.walk.params) (version : c.work.walk.version ≡ b.work.walk.version) (aims : AimsOn b.work.packing c.work.packing)
-      (listed : Option PackFacts) (left : IsLeftOpen (sealing_at item) listed c.work.packing) where
+      (listed : Option PackFacts) (left : IsLeftOpen (sealing_at item) listed c.work.packing) (room : HasRoom c.work.walk.file c.work.packing) where
     fed_plainly : c.work.packing.packer.sealed ≡ None → PieceAt facts c h.puts [] [] (feeding (fed_part n item) es)
-    fed_plainly unsealed = fed_there facts c h.puts [] [] (fed_part n item) es some (stands_unsealed facts b c h.puts [] (fed_in es) es h.at h.ready waiting listed_is counts n item other goes params version aims listed left unsealed)
+    fed_plainly unsealed = fed_there facts c h.puts [] [] (fed_part n item) es some (stands_unsealed facts b c h.puts [] (fed_in es) es h.at h.ready waiting listed_is counts n item other goes params version aims listed left room unsealed)
 
     -- input is wanted
     pub fed_waits : IsPlain item → c.work.packing.packer.sealed ≡ None → c.work.parts ≡ None → PieceWaits facts c (feeding (fed_part n item) es)
     fed_waits is_plain unsealed unlaid = record {
       puts = h.puts;
       at = fed_plainly unsealed;
-      ready = record { unsealed = unsealed; unlaid = unlaid; opened = left_open (sealing_at item) listed c.work.packing left; unended = plain_open facts b c h.puts [] (fed_in es) es h.at h.ready waiting listed_is counts n item other goes params version aims listed left is_plain };
+      ready = record { unsealed = unsealed; unlaid = unlaid; opened = room; unended = plain_open facts b c h.puts [] (fed_in es) es h.at h.ready waiting listed_is counts n item other goes params version aims listed left room is_plain };
       listed = listed_is ∙ h.listed;
       room = subst (λ (ws : List PackFacts). length (facts_in ws) < facts_limit) (sym waiting) h.room;
     }
@@ -268,8 +268,8 @@ module _ (facts : List Fact) (b c : PieceBacking) (es : Trace) (h : PieceWaits f
     fed_due so lists =
         let fed = fed_part n item in
         let k = goes h.at.st (items_of (h.puts ++ [])) (stands_plain facts b c h.puts [] (fed_in es) es h.at h.ready) in
-        let on = stands_further facts b c h.puts [] (fed_in es) es h.at h.ready waiting listed_is counts n item other goes params version aims listed left in
-        let full = sealed_full facts b c h.puts [] (fed_in es) es h.at h.ready waiting listed_is counts n item other goes params version aims listed left so lists in
+        let on = stands_further facts b c h.puts [] (fed_in es) es h.at h.ready waiting listed_is counts n item other goes params version aims listed left room in
+        let full = sealed_full facts b c h.puts [] (fed_in es) es h.at h.ready waiting listed_is counts n item other goes params version aims listed left room so lists in
         record {
           puts = h.puts;
           sealed = k.2;

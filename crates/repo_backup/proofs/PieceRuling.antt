@@ -38,7 +38,8 @@ use Rattle.repo_backup.proofs.Closing.{some_here}
 use Rattle.repo_backup.proofs.FedOn.{fed_exchanged, fed_items}
 use Rattle.repo_backup.proofs.FolderOrder.{folder_order}
 use Rattle.repo_backup.proofs.Leading.{made_of_all}
-use Rattle.repo_backup.proofs.Piecing.{plain, packing_in, made_in}
+use Rattle.repo_backup.proofs.NamePlaces.{some_open}
+use Rattle.repo_backup.proofs.Piecing.{plain, packing_in, made_in, covered_whole}
 use Rattle.repo_backup.proofs.Ruling.{spelled}
 use Rattle.repo_backup.proofs.Spelling.{spelled_are_handed}
 use Rattle.repo_backup.proofs.Written.{not_given, not_packed, covered_given, known_given, put_packed}
@@ -77,6 +78,17 @@ ended_by (fed_file name ∷ items) taken over = absurd (both_ways (place_of item
 ended_by (fed_bytes bytes ∷ items) taken over = absurd (both_ways (place_of items).over taken.0 over)
 ended_by (fed_close ∷ items) taken over = absurd (both_ways (place_of items).over taken.0 (sym (closed_over (place_of items).file (place_of items)) ∙ over))
 ended_by (fed_abandon ∷ items) taken over = absurd (both_ways (place_of items).over taken.0 over)
+
+-- and then no file is open
+ended_file : (items : Feeding) → AreTaken items → (place_of items).over ≡ true → (place_of items).file ≡ None
+ended_file items taken over =
+    let k = ended_by items taken over in
+    let last = subst AreTaken k.1 taken in
+    ap (λ l. (place_of l).file) k.1 ∙ last.2.0
+
+some_is : {A : Type 0} (o : Option A) → o ≢ None → is_some o ≡ true
+some_is None some = absurd (some refl)
+some_is (Some x) some = refl
 
 -- then all is made of the entries that they spell
 pub made_whole : (items : Feeding) (es : Trace) (config : Config) (st : Standing) → IsStandingOf items es config st → AreTaken items → (place_of items).over ≡ true → (m : IsMade (spelled_by items) es st.done) × (m.config ≡ config) × (made_at config.version st ≡ blobs_of config.version st.done)
@@ -176,8 +188,11 @@ module _ (facts : List Fact) (b : PieceBacking) (puts : List Put) (sealed : List
     -- where they ended, the open pack is empty, and each blob made is known, in a pack put, or in the sealed one
     pub whole_covered : b.work.walk.root ≢ None → Each (λ item. IsCovered facts (items_of puts ++ sealed) item) (made_at h.config.version h.st)
     whole_covered some =
+        let over : (place_of items).over ≡ true = sym over_is ∙ some_is b.work.walk.root some in
+        let none : b.work.walk.file ≡ None = some_open b.work.walk.params b.work.walk.file h.st.file plainly.at.file (ap (λ (p : Place). p.file) h.at.lead.place ∙ ended_file items h.taken over) in
         let all : all_items (items_of puts) sealed b.work.packing ≡ items_of puts ++ sealed = ap (λ l. (items_of puts ++ sealed) ++ l) (h.ended some) ∙ append-nil (items_of puts ++ sealed) in
-        subst (λ n. Each (λ item. IsCovered facts (items_of puts ++ sealed) item) (made_at n h.st)) h.goes_by.version (subst (λ l. Each (λ item. IsCovered facts l item) (made_at b.work.walk.version h.st)) all plainly.covered)
+        subst (λ n. Each (λ item. IsCovered facts (items_of puts ++ sealed) item) (made_at n h.st)) h.goes_by.version (subst (λ l. Each (λ item. IsCovered facts l item) (made_at b.work.walk.version h.st)) all
+        (covered_whole facts (all_items (items_of puts) sealed b.work.packing) b.work.walk.file (made_at b.work.walk.version h.st) none plainly.covered))
 
 -- where the items ended and no part is left, nothing more waits
 pub piece_last : (facts : List Fact) (b : PieceBacking) (puts : List Put) (sealed : List Item) (es : Trace) (h : PieceAt facts b puts [] sealed es) → b.work.parts ≡ None → AreOver es → PieceAreLast es sealed

@@ -9,7 +9,6 @@ use Rattle.repo_name.specs.declared.kinds.Kind.{Kind}
 use Rattle.repo_name.specs.declared.names.Name.{Name}
 use Rattle.repo_name.specs.declared.tokens.Token.{Token}
 use Rattle.repo_pack.specs.PackLayout.{Item}
-use Rattle.repo_pack.specs.PackWriting.{IsOpen}
 use Rattle.repo_pack.specs.declared.writers.Sealed.{Sealed}
 use Rattle.repo_session.specs.Askers.{Asker, Holding}
 use Rattle.repo_session.specs.Jobs.{Rule, MayTurn, MayGoOn}
@@ -30,7 +29,7 @@ use Rattle.repo_backup.specs.Items.{Feeding}
 use Rattle.repo_backup.specs.Packings.{IsCovered, all_items}
 use Rattle.repo_backup.specs.PieceRules.{HasConfig, IsFullIndex, PieceAreLast, PiecePackRule, PieceAllows, PieceConcludes, PieceTooLarge, AreOver, WantsInput, piece_rule}
 use Rattle.repo_backup.specs.PieceStates.{piece_task, listed_of, waits, GoesBy, StandsAt, HasBegun, NothingFed, KnowsPiecePut, PieceWaits, PutsPack, PutsIndex, KnowsPieces, WantsPieces, IsDueAt, IsIdleAt, IsPieceDone, IsPieceIdle, IsPieceLarge, PutsSnapshotOf, large_end}
-use Rattle.repo_backup.specs.Pieces.{IsAt, AreTextsAround, WorkStands, at_beginning}
+use Rattle.repo_backup.specs.Pieces.{HasRoom, IsCoveredSoFar, IsAt, AreTextsAround, WorkStands, at_beginning}
 use Rattle.repo_backup.specs.Folders.{nodes_of, tree_items}
 use Rattle.repo_backup.specs.PartsMade.{parts_by, open_dir}
 use Rattle.repo_backup.specs.Plans.{AreTreeTextsBelow}
@@ -46,7 +45,7 @@ use Rattle.repo_backup.specs.declared.piece_backing.PieceBacking.{PieceBacking}
 use Rattle.repo_backup.specs.declared.piece_works.PieceWork.{PieceWork}
 use Rattle.repo_writing.proofs.PutLemmas.{objects_put_other}
 use Rattle.repo_backup.proofs.PackingLemmas.{all_out, packing_out}
-use Rattle.repo_backup.proofs.Piecing.{packing_in}
+use Rattle.repo_backup.proofs.Piecing.{packing_in, room_as}
 use Rattle.repo_backup.proofs.PieceRuling.{over_is, piece_last, piece_snapshot, config_later, sent_is}
 use Rattle.repo_backup.proofs.Replying.{reading_puts}
 use Rattle.repo_backup.proofs.Staging.{facts_push}
@@ -67,7 +66,7 @@ stands_out w v known st sent items walk parts writer added none (inl h) =
         at = subst (λ x. IsAt x st) (sym walk) h.1.at;
         cut = subst (λ x. IsCutSoFar x.params st) (sym walk) h.1.cut;
         texts = subst (λ x. AreTreeTextsBelow x.version st.done × AreTextsAround x.version st.above) (sym walk) h.1.texts;
-        covered = subst (λ x. Each (λ item. IsCovered known (all_items (sent ++ items) [] v.packing) item) (made_at x.version st)) (sym walk) (subst (λ is. Each (λ item. IsCovered known is item) (made_at w.walk.version st)) (sym all) h.1.covered);
+        covered = subst (λ x. Each (λ item. IsCoveredSoFar known (all_items (sent ++ items) [] v.packing) x.file item) (made_at x.version st)) (sym walk) (subst (λ is. Each (λ item. IsCoveredSoFar known is w.walk.file item) (made_at w.walk.version st)) (sym all) h.1.covered);
       },
     )
 stands_out w v known st sent items walk parts writer added none (inr h) =
@@ -126,7 +125,7 @@ module _ (facts : List Fact) (b c : PieceBacking) (listed : PackFacts) (items : 
           kept = h.at.kept;
           goes_by = record { params = ap (λ x. x.params) walk ∙ h.at.goes_by.params; version = ap (λ x. x.version) walk ∙ h.at.goes_by.version; aim = ap (λ t. t.bytes) target ∙ h.at.goes_by.aim; aims = ap (λ x. x.target) writer ∙ h.at.goes_by.aims };
           stands = subst (λ x. WorkStands c.work facts h.at.st x []) (sym (items_push puts p)) stands;
-          opened = subst IsOpen (sym writer) h.at.opened;
+          opened = room_as b.work.walk.file c.work.walk.file b.work.packing c.work.packing (ap (λ x. x.file) walk) writer h.at.opened;
           ended = λ some. ap (λ x. x.items) writer ∙ h.at.ended (λ e. some (ap (λ x. x.root) walk ∙ e));
           written = subst (λ ws. HasWritten facts ws c.counts puts (p ∷ []) es) (sym all) written;
         };
@@ -148,7 +147,7 @@ at_later facts b c puts next puts' ask say items es work sent h written = record
   kept = h.kept;
   goes_by = subst (λ w. GoesBy h.config w) (sym work) h.goes_by;
   stands = subst (λ w. WorkStands w facts h.st (items_of (puts' ++ [])) []) (sym work) (subst (λ l. WorkStands b.work facts h.st l []) (sym sent) h.stands);
-  opened = subst (λ w. IsOpen w.packing.packer.writer) (sym work) h.opened;
+  opened = subst (λ w. HasRoom w.walk.file w.packing) (sym work) h.opened;
   ended = λ some. (let same = ap (λ w. w.packing.packer.writer.items) work in same ∙ h.ended (λ e. some (ap (λ w. w.walk.root) work ∙ e)));
   written = written;
 }
@@ -386,7 +385,7 @@ pack_noted facts b c n x items es work counts all h = record {
     kept = h.at.kept;
     goes_by = subst (λ w. GoesBy h.at.config w) (sym work) h.at.goes_by;
     stands = subst (λ w. WorkStands w facts h.at.st (items_of (h.puts ++ h.put ∷ [])) []) (sym work) h.at.stands;
-    opened = subst (λ w. IsOpen w.packing.packer.writer) (sym work) h.at.opened;
+    opened = subst (λ w. HasRoom w.walk.file w.packing) (sym work) h.at.opened;
     ended = λ some. (let same = ap (λ w. w.packing.packer.writer.items) work in same ∙ h.at.ended (λ e. some (ap (λ w. w.walk.root) work ∙ e)));
     written = subst (λ ws. HasWritten facts ws c.counts h.puts (h.put ∷ []) es) (sym all) (subst (λ k. HasWritten facts (waits b) k h.puts (h.put ∷ []) es) (sym counts) h.at.written);
   };

@@ -15,6 +15,7 @@ pub mod Items
 pub mod Standings
 pub mod PartsMade
 pub mod ItemLaws
+pub mod Waiting
 pub mod Pieces
 pub mod PieceRules
 pub mod PieceStates

@@ -9,7 +9,6 @@ use Rattle.repo_index.specs.declared.facts.Fact.{Fact}
 use Rattle.repo_index.specs.declared.facts.PackFacts.{PackFacts}
 use Rattle.repo_pack.specs.PackLayout.{Item, item_of}
 use Rattle.repo_name.specs.declared.kinds.BlobKind.TheVariants.{Tree}
-use Rattle.repo_pack.specs.PackWriting.{IsOpen}
 use Rattle.repo_session.specs.Askers.{Asker, Holding}
 use Rattle.repo_session.specs.Order.{Task}
 use Rattle.repo_session.specs.Readings.{KnowsIndexes}
@@ -27,7 +26,7 @@ use Rattle.repo_backup.specs.Items.{Feeding, NobodyGaveUp, AreTaken, place_of}
 use Rattle.repo_backup.specs.Packings.{IsListed}
 use Rattle.repo_backup.specs.Filling.{HasConfig, IsFullPack}
 use Rattle.repo_backup.specs.PieceRules.{IsStandingOf}
-use Rattle.repo_backup.specs.Pieces.{PieceStands, WorkStands, IsReady, reopened, at_beginning}
+use Rattle.repo_backup.specs.Pieces.{PieceStands, WorkStands, HasRoom, IsReady, reopened, at_beginning}
 use Rattle.repo_backup.specs.Standings.{Standing, made_at}
 use Rattle.repo_backup.specs.declared.piece_backing.PieceBacking.{PieceBacking}
 use Rattle.repo_backup.specs.declared.piece_backing.PieceNext.{PieceNext}
@@ -65,7 +64,7 @@ pub record StandsAt (facts : List Fact) (b : PieceBacking) (puts next : List Put
   pub kept : NobodyGaveUp items
   pub goes_by : GoesBy config b.work
   pub stands : WorkStands b.work facts st (items_of (puts ++ next)) sealed
-  pub opened : IsOpen b.work.packing.packer.writer
+  pub opened : HasRoom b.work.walk.file b.work.packing
   pub ended : b.work.walk.root ≢ None → b.work.packing.packer.writer.items ≡ []
   pub written : HasWritten facts (waits b) b.counts puts next es
 

@@ -2,7 +2,7 @@
 use Rattle.std.specs.Prelude.{◌≡◌, ◌≢◌, ◌<◌, ◌≤◌, ◌+◌, ◌⊎◌, ◌++◌, ◌∷◌, [], ⊤, ℕ, false, List, length, map, take, Option, Some, None, is_some, true, Contains}
 use Rattle.repo_name.specs.Limits.{blob_limit}
 use Rattle.repo_name.specs.Naming as naming
-use Rattle.repo_name.specs.declared.kinds.BlobKind.TheVariants.{Content, Tree}
+use Rattle.repo_name.specs.declared.kinds.BlobKind.TheVariants.{Tree}
 use Rattle.repo_name.specs.declared.names.Name.{Name}
 use Rattle.repo_chunk.specs.Cuts.{IsCut}
 use Rattle.repo_chunk.specs.Parameters.{Parameters}
@@ -21,7 +21,8 @@ use Rattle.repo_backup.specs.Items.{after, MayTake, ItemFault, IsCountOf, fed_pa
 use Rattle.repo_backup.specs.Packings.{IsPacking, IsCovered, IsSealedBy, IsListed, IsLeftOpen, GrowsBy, PacksOn, all_items}
 use Rattle.repo_backup.specs.PartsMade.{parts_by, IsLeft, left_count, open_dir, closed_dir}
 use Rattle.repo_backup.specs.Plans.{AreTreeTextsBelow}
-use Rattle.repo_backup.specs.Standings.{Around, FileCut, Standing, place_at, IsCutSoFar, made_at}
+use Rattle.repo_backup.specs.Standings.{Around, FileCut, Standing, place_at, IsCutSoFar, chunk_items, made_at}
+use Rattle.repo_backup.specs.Waiting.{TakesMore, PacksAll}
 use Rattle.repo_backup.specs.declared.packing.Packing.{Packing}
 use Rattle.repo_backup.specs.declared.packing.Sealing.{Sealing}
 use Rattle.repo_backup.specs.declared.items.FeedError.{FeedError}
@@ -37,11 +38,13 @@ use Rattle.repo_backup.specs.declared.packing.Packed.{Packed}
 
 -- ---- where the walk stands
 
--- the open file: its name and size, its chunks' names, the bytes behind them, and the parameters of its chunks
+-- the open file: its name and size, its chunks, of which some have names and those behind them wait, the bytes behind them, and the parameters of its chunks
 pub record IsPieceAt (params : Parameters) (f : PieceFile) (o : FileCut) : Type 0 where
   pub name : f.name ≡ o.name
   pub size : f.size ≡ length (joined o.chunks ++ o.rest)
-  pub content : f.content.items ≡ map naming.name o.chunks
+  pub named : List (List ℕ)
+  pub chunks : o.chunks ≡ named ++ f.ended
+  pub content : f.content.items ≡ map naming.name named
   pub rest : f.rest.items ≡ o.rest
   pub by : f.params ≡ params
 
@@ -82,10 +85,25 @@ abbrev pub first_rest : Option (List ℕ) → PieceFile → List ℕ
 first_rest None f = f.rest.items
 first_rest (Some rest) f = rest
 
--- a chunk ended where the file's bytes end
+-- these chunks, or those of the file that wait to be named
+abbrev pub first_ended : Option (List (List ℕ)) → PieceFile → List (List ℕ)
+first_ended None f = f.ended
+first_ended (Some ended) f = ended
+
+-- a chunk ended where the file's bytes end, and none waits for a name
 abbrev pub HasNoRest : Option PieceFile → Type 0
 HasNoRest None = ⊥
-HasNoRest (Some f) = f.rest.items ≡ []
+HasNoRest (Some f) = (f.rest.items ≡ []) × (f.ended ≡ [])
+
+-- the chunks of the open file that ended and wait to be named, as blobs
+abbrev pub waiting_in : Option PieceFile → List layout.Item
+waiting_in None = []
+waiting_in (Some f) = chunk_items f.ended
+
+-- with those that wait the open pack still takes more
+abbrev pub HasRoom : Option PieceFile → Packing → Type 0
+HasRoom None p = IsOpen p.packer.writer
+HasRoom (Some f) p = TakesMore p.packer.writer f.ended
 
 -- ---- the work
 
@@ -94,14 +112,18 @@ abbrev pub AreTextsAround : ℕ → List Around → Type 0
 AreTextsAround version [] = ⊤
 AreTextsAround version (a ∷ above) = AreTreeTextsBelow version a.done × AreTextsAround version above
 
--- the work stands here: the packs as they are known; all their blobs were made; and each blob made so far is known or in them
+-- a blob is known, or one of these; or it is a chunk that waits to be named
+abbrev pub IsCoveredSoFar : List Fact → List layout.Item → Option PieceFile → layout.Item → Type 0
+IsCoveredSoFar known items file item = IsCovered known items item ⊎ Contains (waiting_in file) item
+
+-- the work stands here: the packs as they are known; all their blobs were made; and each blob made so far is known or in them, but for the chunks that wait
 pub record PieceStands (w : PieceWork) (known : List Fact) (st : Standing) (sent sealed : List layout.Item) : Type 0 where
   pub packing : IsPacking w.packing known sent sealed
   pub of_made : (item : layout.Item) → Contains (all_items sent sealed w.packing) item → Contains (made_at w.walk.version st) item
   pub at : IsAt w.walk st
   pub cut : IsCutSoFar w.walk.params st
   pub texts : AreTreeTextsBelow w.walk.version st.done × AreTextsAround w.walk.version st.above
-  pub covered : Each (λ item. IsCovered known (all_items sent sealed w.packing) item) (made_at w.walk.version st)
+  pub covered : Each (λ item. IsCoveredSoFar known (all_items sent sealed w.packing) w.walk.file item) (made_at w.walk.version st)
 
 -- the work makes the parts of the directory that was closed here, some of which are left: the packs as they are known; all their blobs were made; and each
 -- blob made before, and of the parts made so far, is known or in them
@@ -131,11 +153,11 @@ WorkStands w known st sent sealed = ((w.parts ≡ None) × PieceStands w known s
 abbrev pub at_beginning : Standing
 at_beginning = record { done = nothing; above = []; file = None; over = false }
 
--- it may be fed: no pack is sealed, the open one takes more, no part of a directory is left to be made, and not all ended
+-- it may be fed: no pack is sealed, the open one takes more, also with the chunks that wait, no part of a directory is left to be made, and not all ended
 pub record IsReady (w : PieceWork) : Type 0 where
   pub unsealed : w.packing.packer.sealed ≡ None
   pub unlaid : w.parts ≡ None
-  pub opened : IsOpen w.packing.packer.writer
+  pub opened : HasRoom w.walk.file w.packing
   pub unended : w.walk.root ≡ None
 
 -- no pack was sealed, or it was just due; or no more blob comes, and no part of a directory is left to be made
@@ -160,17 +182,29 @@ Refuses known item old e = (st : Standing) (sent : List layout.Item) → PieceSt
 
 -- the file is as it was
 abbrev pub IsSameFile : PieceFile → PieceFile → Type 0
-IsSameFile f g = (g.name ≡ f.name) × (g.size ≡ f.size) × (g.content.items ≡ f.content.items) × (g.rest.items ≡ f.rest.items) × (g.params ≡ f.params)
+IsSameFile f g = (g.name ≡ f.name) × (g.size ≡ f.size) × (g.content.items ≡ f.content.items) × (g.rest.items ≡ f.rest.items) × (g.params ≡ f.params) × (g.ended ≡ f.ended)
 
 -- a work with this open file and these packs
 abbrev pub with_file : PieceWork → PieceFile → Packing → PieceWork
 with_file w f p = record w { walk = record w.walk { file = Some f }; packing = p }
 
--- what was taken of a piece: all of it, and the chunk goes on; or so many of its bytes, at which this chunk ended, which was made a blob
-abbrev pub Bites : List Fact → List ℕ → PieceFile → Packing → ℕ → Option (List ℕ) → Option PackFacts → PieceFile → Packing → Type 0
-Bites known piece f p n None listed g q = (n ≡ length piece) × (listed ≡ None) × (g.rest.items ≡ f.rest.items ++ piece) × (g.content.items ≡ f.content.items) × (q ≡ p)
-Bites known piece f p n (Some chunk) listed g q = (chunk ≡ f.rest.items ++ take n piece) × IsCut f.params (f.rest.items ++ piece) (length f.rest.items + n) × (g.rest.items ≡ [])
-    × (g.content.items ≡ f.content.items ++ naming.name chunk ∷ []) × IsListed listed q × (listed ≡ None → GrowsBy p q) × PacksOn known Sealing.Due (item_of Content chunk) p q
+-- these chunks, which waited, were named and made blobs; a pack may be sealed
+pub record NamesAll (known : List Fact) (chunks : List (List ℕ)) (f : PieceFile) (p : Packing) (listed : Option PackFacts) (g : PieceFile) (q : Packing) : Type 0 where
+  pub ended : g.ended ≡ []
+  pub content : g.content.items ≡ f.content.items ++ map naming.name chunks
+  pub lists : IsListed listed q
+  pub grows : listed ≡ None → GrowsBy p q
+  pub packs : PacksAll known Sealing.Due (chunk_items chunks) p q
+
+-- a chunk that ended waits behind the others; or it and the others were named
+abbrev pub EndsChunk : List Fact → List ℕ → PieceFile → Packing → Option (List (List ℕ)) → Option PackFacts → PieceFile → Packing → Type 0
+EndsChunk known chunk f p None listed g q = (listed ≡ None) × (g.ended ≡ f.ended ++ chunk ∷ []) × (g.content.items ≡ f.content.items) × (q ≡ p)
+EndsChunk known chunk f p (Some named) listed g q = (named ≡ f.ended ++ chunk ∷ []) × NamesAll known named f p listed g q
+
+-- what was taken of a piece: all of it, and the chunk goes on; or so many of its bytes, at which this chunk ended
+abbrev pub Bites : List Fact → List ℕ → PieceFile → Packing → ℕ → Option (List ℕ) → Option (List (List ℕ)) → Option PackFacts → PieceFile → Packing → Type 0
+Bites known piece f p n None named listed g q = (n ≡ length piece) × (named ≡ None) × (listed ≡ None) × (g.rest.items ≡ f.rest.items ++ piece) × (g.content.items ≡ f.content.items) × (g.ended ≡ f.ended) × (q ≡ p)
+Bites known piece f p n (Some chunk) named listed g q = (chunk ≡ f.rest.items ++ take n piece) × IsCut f.params (f.rest.items ++ piece) (length f.rest.items + n) × (g.rest.items ≡ []) × EndsChunk known chunk f p named listed g q
 
 -- what became of a piece: so many of its bytes were taken, at least one, where there are some; fewer than all only where a pack was sealed, and then a chunk ended there
 abbrev pub TakesBytes : List Fact → List ℕ → PieceWork → Took → PieceWork → Type 0
@@ -187,6 +221,11 @@ TakesItem known sealing item old Took.TooLarge new = EndsTooLarge known item old
 abbrev pub LeavesPacked : Sealing → Took → PieceWork → Type 0
 LeavesPacked sealing (Took.All n listed) new = IsListed listed new.packing × IsLeftOpen sealing listed new.packing × (listed ≡ None → new.parts ≡ None)
 LeavesPacked sealing Took.TooLarge new = ⊤
+
+-- and then there is room for more
+abbrev pub LeavesRoom : Took → PieceWork → Type 0
+LeavesRoom (Took.All n listed) new = HasRoom new.walk.file new.packing
+LeavesRoom Took.TooLarge new = ⊤
 
 -- wherever it stood, it stands
 abbrev pub Stays : List Fact → PieceWork → PieceWork → Type 0

@@ -72,6 +72,11 @@ pub record LeadTo (params : Parameters) (items : Feeding) (st : Standing) : Type
   pub place : place_at st ≡ place_of items
   pub cut : IsCutSoFar params st
 
+-- what is left of a file is its last chunk, if it isn't empty
+abbrev pub last_chunk : List ℕ → List (List ℕ)
+last_chunk [] = []
+last_chunk (b ∷ bytes) = (b ∷ bytes) ∷ []
+
 -- ---- what is made
 
 -- some chunks as blobs

@@ -2,11 +2,14 @@
 //!
 //! A [`Backup`] is a client of repo_session. The entries handed in are checked, and laid out as the steps of a walk
 //! through their folder. Once the store's indexes were read, the walk feeds the steps' items to the work, which cuts
-//! files into chunks and makes the trees of directories; each of these blobs is added to a pack, unless an index gives it
-//! or it was added before. By a config of version 2 a directory is in parts, which are made from the last one to the first,
-//! each a tree of its own; where a pack is full between two of them, it is put before the next one is made. A pack is put
-//! as soon as it is full, and the last one at the end; an index whenever 20,000 blobs or more wait for one and at the end;
-//! and the snapshot, of the config's version, last.
+//! files into chunks and makes the trees of directories; each of these blobs is added to a pack, unless an index gives
+//! it or it was added before. Chunks that ended wait for their names, so that eight are named side by side, which is
+//! faster than one by one: until there are eight, or 8,388,608 bytes of them, or the open pack would be full with them,
+//! and at most until the file ends. So no pack is full before the chunk that makes it so was taken. By a config of
+//! version 2 a directory is in parts, which are made from the last one to the first, each a tree of its own; where a
+//! pack is full between two of them, it is put before the next one is made. A pack is put as soon as it is full, and
+//! the last one at the end; an index whenever 20,000 blobs or more wait for one and at the end; and the snapshot, of
+//! the config's version, last.
 //!
 //! Promised: entries are refused for the first fault of the first one that has one; each pack, index and snapshot that
 //! is put is one that the rule of a backup allows after the exchanges before it, whoever answers; `Stored` comes only
@@ -28,12 +31,14 @@
 //! `Items` says where items lead, which may be taken, and the first fault of others; `Standings` the same in chunks, and
 //! what is made so far; `ItemLaws` that what they spell may be handed in. `PieceRules` says what such a backup may ask for,
 //! when it may want input, and how it may end; what is known on the way stands in `PartsMade` (the parts of a directory),
-//! `Pieces` (the work, which both share), `PieceStates`, `PieceBackups` and `PieceObedience`.
+//! `Waiting` (chunks that wait for their names), `Pieces` (the work, which both share), `PieceStates`, `PieceBackups` and
+//! `PieceObedience`.
 #![tactic(auto)]
 
 mod added;
 mod backups;
 mod checks;
+mod ended;
 mod faults;
 mod item_laws;
 mod item_steps;

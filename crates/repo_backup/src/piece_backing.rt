@@ -9,7 +9,7 @@ ghost use Rattle.repo_backup.specs.Items.{fed_of};
 ghost use Rattle.repo_backup.specs.Plans.{left_fed};
 ghost use Rattle.repo_backup.specs.declared.walks.Went.{Went};
 ghost use Rattle.repo_backup.specs.Packings.{AimsOn};
-ghost use Rattle.repo_backup.specs.Pieces.{IsReady, WorkTakes, LeavesPacked, ReopensAt, Refuses, Stays, sealing_at};
+ghost use Rattle.repo_backup.specs.Pieces.{IsReady, WorkTakes, LeavesPacked, LeavesRoom, ReopensAt, Refuses, Stays, sealing_at};
 ghost use Rattle.repo_backup.specs.PieceStates.{waits, IsNextPiece, LaysSo, large_end};
 
 use crate::items::{FeedError, Item};
@@ -66,6 +66,7 @@ impl PieceBacking {
         requires { IsReady self.old.work }
         ensures ok { IfOk result (λ took. WorkTakes lookup.now item.entry self.old.work took self.new.work) }
         ensures packed { IfOk result (λ took. LeavesPacked (sealing_at item.entry) took self.new.work) }
+        ensures roomy { IfOk result (λ took. LeavesRoom took self.new.work) }
         ensures back { IfOk result (λ took. ReopensAt lookup.now item.entry self.old.work took self.new.work) }
         ensures aims { AimsOn self.old.work.packing self.new.work.packing }
         ensures refused { IfErr result (λ e. Refuses lookup.now (fed_of item.entry) self.old.work e) }

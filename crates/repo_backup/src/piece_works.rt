@@ -4,28 +4,28 @@ ghost use Rattle.std.specs.Prelude.{◌≡◌, ◌≢◌, ◌↔◌, ◌≤◌, 
 ghost use Rattle.repo_name.specs.Limits.{blob_limit, file_end};
 ghost use Rattle.repo_index.specs.declared.facts.Fact.{Fact};
 ghost use Rattle.repo_session.specs.Feeds.{fed_bytes, fed_close, fed_dir, fed_end, fed_file};
-ghost use Rattle.repo_name.specs.Naming as naming;
-ghost use Rattle.repo_name.specs.declared.kinds.BlobKind.TheVariants.{Content};
-ghost use Rattle.repo_pack.specs.PackLayout.{item_of};
 ghost use Rattle.repo_pack.specs.PackWriting.{IsOpen};
 ghost use Rattle.repo_backup.specs.Items.{MayOpen, NameFault, fed_of};
-ghost use Rattle.repo_backup.specs.Packings.{AimsOn, GrowsBy, IsListed, PacksOn, StaysPacked};
-ghost use Rattle.repo_backup.specs.Standings.{Standing, place_at};
+ghost use Rattle.repo_backup.specs.Packings.{AimsOn, StaysPacked};
+ghost use Rattle.repo_backup.specs.Standings.{Standing, last_chunk, place_at};
 ghost use Rattle.repo_backup.specs.declared.packing.Sealing.{Sealing};
 ghost use Rattle.repo_backup.specs.PartsMade.{left_count};
-ghost use Rattle.repo_backup.specs.Pieces.{IsAt, Bites, IsSameFile, with_file, TakesBytes, TakesItem, WorkTakes, ReopensAt, LeavesPacked, sealing_at, Stays, Refuses, IsReady, PieceStands, Reopens, reopened, at_beginning};
+ghost use Rattle.repo_backup.specs.Waiting.{TakesAllButOne, TakesMore};
+ghost use Rattle.repo_backup.specs.Pieces.{IsAt, Bites, EndsChunk, HasRoom, LeavesRoom, NamesAll, IsSameFile, with_file, TakesBytes, TakesItem, WorkTakes, ReopensAt, LeavesPacked, sealing_at, Stays, Refuses, IsReady, PieceStands, Reopens, reopened, at_beginning};
 ghost use Rattle.repo_backup.specs.Pieces.{sealing_in, closing_in, LaysOn, LaysStill, IsStill, IsSteady, LeavesLater, EndsSteady};
 ghost use Rattle.repo_backup.specs.declared.parts.PartsLeft.{PartsLeft};
 
+use crate::ended::Ended;
 use crate::items::{FeedError, Item};
 use crate::packing::{Packed, Packing, Sealing};
 use crate::parts::{PartsLeft, between, pack_part, sizes_by};
 use crate::pieces::{PieceFile, PieceWalk, Scanned};
 use repo_chunk::Params;
 use repo_index::{Lookup, PackFacts};
-use repo_name::{BlobKind, FILE_END, Name, Text};
+use repo_name::{FILE_END, Name, Text};
 use repo_writing::Target;
 use std::alloc::{AllocError, Global};
+use std::mem;
 
 /// What became of an item that was taken.
 #[derive(Drop)]
@@ -46,83 +46,125 @@ pub struct PieceWork {
     alloc: Global,
 }
 
-/// What was taken of a piece: so many bytes; the chunk that ended, if one did; and how an index lists the pack that was
-/// sealed, if one was.
+/// What was taken of a piece: so many bytes; the chunk that ended, if one did; the chunks that were named then, if some were;
+/// and how an index lists the pack that was sealed, if one was.
 #[derive(Drop)]
 struct Bite {
     count: usize,
     chunk: Option<Vec<u8>>,
+    named: Option<Ended>,
     listed: Option<PackFacts>,
 }
 
-/// Makes a chunk of a file a blob, and notes its name behind those of the chunks before it: how an index lists the pack that
-/// was sealed, if one was. It fails for memory alone, and then all stands as it stood.
-fn pack_chunk(
+/// Names the chunks of a file that wait, side by side, makes them blobs, and notes their names: these chunks; and how an
+/// index lists the pack that was sealed, if one was. It fails for memory alone, and then all stands as it stood.
+fn name_ended(
     packing: &mut Packing,
-    content: &mut Vec<Name>,
+    file: &mut PieceFile,
     lookup: &Lookup,
-    chunk: &[u8],
-) -> Result<Option<PackFacts>, AllocError>
-    requires open { IsOpen packing.old.packer.writer }
+) -> Result<(Ended, Option<PackFacts>), AllocError>
+    requires room { TakesAllButOne packing.old.packer.writer file.old.ended }
     requires unsealed { packing.old.packer.sealed ≡ None }
-    requires some { (1 ≤ length chunk.now) × (length chunk.now ≤ blob_limit) }
-    ensures ok { OnOk result (PacksOn lookup.now Sealing.Due (item_of Content chunk.now) packing.old packing.new) }
-    ensures named { OnOk result (content.new.items ≡ content.old.items ++ naming.name chunk.now ∷ []) }
-    ensures listed { IfOk result (λ listed. IsListed listed packing.new) }
-    ensures grows { IfOk result (λ listed. listed ≡ None → GrowsBy packing.old packing.new) }
-    ensures open { IsOpen packing.new.packer.writer }
+    ensures ended { IfOk result (λ r. r.0 ≡ file.old.ended) }
+    ensures ok { IfOk result (λ r. NamesAll lookup.now file.old.ended file.old packing.old r.1 file.new packing.new) }
+    ensures open { OnOk result (IsOpen packing.new.packer.writer) }
     ensures aims { AimsOn packing.old packing.new }
-    ensures same { OnErr result (content.new.items ≡ content.old.items) }
-    ensures err { OnErr result (StaysPacked lookup.now packing.old packing.new) }
+    ensures rest { file.new.rest ≡ file.old.rest }
+    ensures size { file.new.size ≡ file.old.size }
+    ensures name { file.new.name ≡ file.old.name }
+    ensures params { file.new.params ≡ file.old.params }
+    ensures err { OnErr result (IsSameFile file.old file.new × StaysPacked lookup.now packing.old packing.new) }
 {
-    content.reserve(1)?;
-    let Packed { name, listed } = packing.pack(lookup, BlobKind::Content, chunk, Sealing::Due)?;
-    content.push(name).unwrap();
-    Ok(listed)
+    let alloc = *file.content.allocator();
+    let names = file.ended.names(alloc)?;
+    file.content.reserve(names.len())?;
+    let listed = packing.pack_all(lookup, &file.ended, &names)?;
+    file.content.extend_from_slice(&names).unwrap();
+    let ended = mem::replace(&mut file.ended, Ended::new(alloc));
+    Ok((ended, listed))
 }
 
-/// Makes what is left of a file its last chunk, where something is. It fails for memory alone, and then all stands as it
-/// stood.
+/// Lets a chunk of a file that ended wait for its name; where they are enough, or the pack would be due with them, all are
+/// named: these chunks, if some were; and how an index lists the pack that was sealed, if one was. It fails for memory alone,
+/// and then all stands as it stood.
+fn end_chunk(
+    packing: &mut Packing,
+    file: &mut PieceFile,
+    lookup: &Lookup,
+    chunk: &[u8],
+) -> Result<(Option<Ended>, Option<PackFacts>), AllocError>
+    requires room { TakesMore packing.old.packer.writer file.old.ended }
+    requires unsealed { packing.old.packer.sealed ≡ None }
+    requires some { (1 ≤ length chunk.now) × (length chunk.now ≤ blob_limit) }
+    ensures ok { IfOk result (λ r. EndsChunk lookup.now chunk.now file.old packing.old r.0 r.1 file.new packing.new) }
+    ensures room { OnOk result (TakesMore packing.new.packer.writer file.new.ended) }
+    ensures aims { AimsOn packing.old packing.new }
+    ensures rest { file.new.rest ≡ file.old.rest }
+    ensures size { file.new.size ≡ file.old.size }
+    ensures name { file.new.name ≡ file.old.name }
+    ensures params { file.new.params ≡ file.old.params }
+    ensures err { OnErr result (IsSameFile file.old file.new × StaysPacked lookup.now packing.old packing.new) }
+{
+    let count = file.ended.len();
+    file.ended.push(chunk)?;
+    if !file.ended.is_full(&packing.packer.writer) {
+        return Ok((None, None));
+    }
+    match name_ended(packing, file, lookup) {
+        Ok((ended, listed)) => Ok((Some(ended), listed)),
+        Err(error) => {
+            file.ended.truncate(count);
+            Err(error)
+        }
+    }
+}
+
+/// Makes what is left of a file its last chunk, where something is, and names all chunks that wait. It fails for memory
+/// alone, and then all stands as it stood.
 fn pack_rest(
     packing: &mut Packing,
     file: &mut PieceFile,
     lookup: &Lookup,
 ) -> Result<Option<PackFacts>, AllocError>
-    requires open { IsOpen packing.old.packer.writer }
+    requires room { TakesMore packing.old.packer.writer file.old.ended }
     requires unsealed { packing.old.packer.sealed ≡ None }
-    ensures whole { OnOk result (file.old.rest.items ≡ [] → (packing.new ≡ packing.old) × (file.new.content.items ≡ file.old.content.items)) }
-    ensures chunk { OnOk result (file.old.rest.items ≢ [] → PacksOn lookup.now Sealing.Due (item_of Content file.old.rest.items) packing.old packing.new
-        × (file.new.content.items ≡ file.old.content.items ++ naming.name file.old.rest.items ∷ [])) }
-    ensures listed { IfOk result (λ listed. IsListed listed packing.new) }
-    ensures open { IsOpen packing.new.packer.writer }
+    ensures ok { IfOk result (λ listed. NamesAll lookup.now (file.old.ended ++ last_chunk file.old.rest.items) file.old packing.old listed file.new packing.new) }
+    ensures open { OnOk result (IsOpen packing.new.packer.writer) }
     ensures aims { AimsOn packing.old packing.new }
     ensures name { file.new.name ≡ file.old.name }
     ensures size { file.new.size ≡ file.old.size }
     ensures params { file.new.params ≡ file.old.params }
     ensures err { OnErr result (IsSameFile file.old file.new × StaysPacked lookup.now packing.old packing.new) }
 {
-    if file.rest.is_empty() {
-        return Ok(None);
+    let count = file.ended.len();
+    if !file.rest.is_empty() {
+        file.ended.push(&file.rest)?;
     }
-    pack_chunk(packing, &mut file.content, lookup, &file.rest)
+    match name_ended(packing, file, lookup) {
+        Ok((_, listed)) => Ok(listed),
+        Err(error) => {
+            file.ended.truncate(count);
+            Err(error)
+        }
+    }
 }
 
-/// Takes a piece of a file as far as the end of a chunk, which is made a blob. It fails for memory alone, and then all
-/// stands as it stood.
+/// Takes a piece of a file as far as the end of a chunk, which waits for its name or is named. It fails for memory alone, and
+/// then all stands as it stood.
 fn take_piece(
     packing: &mut Packing,
     file: &mut PieceFile,
     lookup: &Lookup,
     piece: &[u8],
 ) -> Result<Bite, AllocError>
-    requires open { IsOpen packing.old.packer.writer }
+    requires room { TakesMore packing.old.packer.writer file.old.ended }
     requires unsealed { packing.old.packer.sealed ≡ None }
     requires some { 1 ≤ length piece.now }
     requires small { file.old.size + length piece.now < file_end }
     ensures count { IfOk result (λ bite. (1 ≤ bite.count) × (bite.count ≤ length piece.now)) }
-    ensures ok { IfOk result (λ bite. Bites lookup.now piece.now file.old packing.old bite.count (option_map (λ v. v.items) bite.chunk) bite.listed file.new packing.new) }
+    ensures ok { IfOk result (λ bite. Bites lookup.now piece.now file.old packing.old bite.count (option_map (λ v. v.items) bite.chunk) bite.named bite.listed file.new packing.new) }
     ensures size { IfOk result (λ bite. file.new.size ≡ file.old.size + bite.count) }
-    ensures open { IsOpen packing.new.packer.writer }
+    ensures room { OnOk result (TakesMore packing.new.packer.writer file.new.ended) }
     ensures aims { AimsOn packing.old packing.new }
     ensures name { file.new.name ≡ file.old.name }
     ensures params { file.new.params ≡ file.old.params }
@@ -134,21 +176,21 @@ fn take_piece(
         Scanned::More => Ok(Bite {
             count: piece.len(),
             chunk: None,
+            named: None,
             listed: None,
         }),
-        Scanned::Chunk(count, chunk) => {
-            match pack_chunk(packing, &mut file.content, lookup, &chunk) {
-                Ok(listed) => Ok(Bite {
-                    count,
-                    chunk: Some(chunk),
-                    listed,
-                }),
-                Err(error) => {
-                    file.back(mark, Some(chunk));
-                    Err(error)
-                }
+        Scanned::Chunk(count, chunk) => match end_chunk(packing, file, lookup, &chunk) {
+            Ok((named, listed)) => Ok(Bite {
+                count,
+                chunk: Some(chunk),
+                named,
+                listed,
+            }),
+            Err(error) => {
+                file.back(mark, Some(chunk), None);
+                Err(error)
             }
-        }
+        },
     }
 }
 
@@ -160,38 +202,47 @@ fn take_bytes(
     lookup: &Lookup,
     piece: &[u8],
 ) -> Result<Took, AllocError>
-    requires open { IsOpen packing.old.packer.writer }
+    requires room { TakesMore packing.old.packer.writer file.old.ended }
     requires unsealed { packing.old.packer.sealed ≡ None }
     requires small { file.old.size + length piece.now < file_end }
     ensures ok { IfOk result (λ took. (w : PieceWork) → w.walk.root ≡ None → w.parts ≡ None → TakesBytes lookup.now piece.now (with_file w file.old packing.old) took (with_file w file.new packing.new)) }
     ensures packed { IfOk result (λ took. (w : PieceWork) → w.parts ≡ None → LeavesPacked Sealing.Due took (with_file w file.new packing.new)) }
+    ensures room { OnOk result (TakesMore packing.new.packer.writer file.new.ended) }
     ensures aims { AimsOn packing.old packing.new }
     ensures err { OnErr result (IsSameFile file.old file.new × StaysPacked lookup.now packing.old packing.new) }
     ensures still { OnErr result (packing.new.packer.sealed ≡ None) }
 {
     let mark = file.mark();
-    let count = packing.packer.writer.len();
+    let packed = packing.packer.writer.len();
     let mut first = None;
+    let mut ended = None;
     let mut taken = 0;
     while taken < piece.len() {
         let (_, rest) = piece.split_at(taken);
         match take_piece(packing, file, lookup, rest) {
             Ok(bite) => {
-                taken += bite.count;
-                if bite.listed.is_some() {
-                    return Ok(Took::All(taken, bite.listed));
+                let Bite {
+                    count,
+                    chunk,
+                    named,
+                    listed,
+                } = bite;
+                taken += count;
+                if listed.is_some() {
+                    file.ended.reuse(ended.or(named));
+                    return Ok(Took::All(taken, listed));
                 }
-                if first.is_none() {
-                    first = bite.chunk;
-                }
+                first = first.or(chunk);
+                ended = ended.or(named);
             }
             Err(error) => {
-                packing.take_back(count);
-                file.back(mark, first);
+                packing.take_back(packed);
+                file.back(mark, first, ended);
                 return Err(error);
             }
         }
     }
+    file.ended.reuse(ended);
     Ok(Took::All(taken, None))
 }
 
@@ -239,6 +290,7 @@ impl PieceWork {
         requires { IsReady self.old }
         ensures ok { IfOk result (λ took. (known : List Fact) → TakesItem known Sealing.Due (fed_dir name.now) self.old took self.new) }
         ensures packed { IfOk result (λ took. LeavesPacked Sealing.Due took self.new) }
+        ensures roomy { IfOk result (λ took. LeavesRoom took self.new) }
         ensures aims { AimsOn self.old.packing self.new.packing }
         ensures refused { IfErr result (λ e. (known : List Fact) → Refuses known (fed_dir name.now) self.old e) }
         ensures stays { OnErr result ((known : List Fact) → Stays known self.old self.new) }
@@ -257,6 +309,7 @@ impl PieceWork {
         requires { IsReady self.old }
         ensures ok { IfOk result (λ took. (known : List Fact) → TakesItem known Sealing.Due (fed_file name.now) self.old took self.new) }
         ensures packed { IfOk result (λ took. LeavesPacked Sealing.Due took self.new) }
+        ensures roomy { IfOk result (λ took. LeavesRoom took self.new) }
         ensures aims { AimsOn self.old.packing self.new.packing }
         ensures refused { IfErr result (λ e. (known : List Fact) → Refuses known (fed_file name.now) self.old e) }
         ensures stays { OnErr result ((known : List Fact) → Stays known self.old self.new) }
@@ -275,6 +328,7 @@ impl PieceWork {
         requires { IsReady self.old }
         ensures ok { IfOk result (λ took. TakesBytes lookup.now piece.now self.old took self.new) }
         ensures packed { IfOk result (λ took. LeavesPacked Sealing.Due took self.new) }
+        ensures roomy { IfOk result (λ took. LeavesRoom took self.new) }
         ensures aims { AimsOn self.old.packing self.new.packing }
         ensures refused { IfErr result (λ e. (known : List Fact) → Refuses known (fed_bytes piece.now) self.old e) }
         ensures stays { OnErr result (Stays lookup.now self.old self.new) }
@@ -299,6 +353,7 @@ impl PieceWork {
         requires { IsReady self.old }
         ensures ok { IfOk result (λ took. TakesItem lookup.now Sealing.Due fed_close self.old took self.new) }
         ensures packed { IfOk result (λ took. LeavesPacked Sealing.Due took self.new) }
+        ensures roomy { IfOk result (λ took. LeavesRoom took self.new) }
         ensures aims { AimsOn self.old.packing self.new.packing }
         ensures refused { IfErr result (λ e. (known : List Fact) → Refuses known fed_close self.old e) }
         ensures stays { OnErr result (Stays lookup.now self.old self.new) }
@@ -322,6 +377,7 @@ impl PieceWork {
         requires file { IsSome self.old.walk.file }
         ensures ok { IfOk result (λ took. TakesItem lookup.now Sealing.Due fed_close self.old took self.new) }
         ensures packed { IfOk result (λ took. LeavesPacked Sealing.Due took self.new) }
+        ensures roomy { IfOk result (λ took. LeavesRoom took self.new) }
         ensures aims { AimsOn self.old.packing self.new.packing }
         ensures stays { OnErr result (Stays lookup.now self.old self.new) }
         ensures ready { OnErr result (IsReady self.new) }
@@ -418,6 +474,7 @@ impl PieceWork {
         requires top { self.old.walk.above.items ≡ [] }
         ensures ok { IfOk result (λ took. LaysOn lookup.now self.old took self.new) }
         ensures packed { IfOk result (λ took. LeavesPacked Sealing.Last took self.new) }
+        ensures file { self.new.walk.file ≡ self.old.walk.file }
         ensures steady { IfOk result (λ took. EndsSteady lookup.now [] self.old took self.new) }
         ensures aims { AimsOn self.old.packing self.new.packing }
         ensures params { self.new.walk.params ≡ self.old.walk.params }
@@ -452,6 +509,7 @@ impl PieceWork {
         requires deep { 1 ≤ length self.old.walk.above.items }
         ensures ok { IfOk result (λ took. LaysOn lookup.now self.old took self.new) }
         ensures packed { IfOk result (λ took. LeavesPacked Sealing.Due took self.new) }
+        ensures file { self.new.walk.file ≡ self.old.walk.file }
         ensures aims { AimsOn self.old.packing self.new.packing }
         ensures params { self.new.walk.params ≡ self.old.walk.params }
         ensures version { self.new.walk.version ≡ self.old.walk.version }
@@ -484,6 +542,7 @@ impl PieceWork {
         requires one { left_count self.old.parts ≡ 1 }
         ensures ok { IfOk result (λ took. LaysOn lookup.now self.old took self.new) }
         ensures packed { IfOk result (λ took. LeavesPacked (sealing_in self.old.walk.above.items) took self.new) }
+        ensures file { self.new.walk.file ≡ self.old.walk.file }
         ensures steady { IfOk result (λ took. EndsSteady lookup.now self.old.walk.above.items self.old took self.new) }
         ensures aims { AimsOn self.old.packing self.new.packing }
         ensures params { self.new.walk.params ≡ self.old.walk.params }
@@ -505,6 +564,7 @@ impl PieceWork {
         requires some { 1 ≤ left_count self.old.parts }
         ensures ok { IfOk result (λ took. LaysOn lookup.now self.old took self.new) }
         ensures packed { IfOk result (λ took. LeavesPacked (sealing_in self.old.walk.above.items) took self.new) }
+        ensures file { self.new.walk.file ≡ self.old.walk.file }
         ensures steady { IfOk result (λ took. EndsSteady lookup.now self.old.walk.above.items self.old took self.new) }
         ensures aims { AimsOn self.old.packing self.new.packing }
         ensures params { self.new.walk.params ≡ self.old.walk.params }
@@ -530,6 +590,7 @@ impl PieceWork {
         requires file { self.old.walk.file ≡ None }
         ensures ok { IfOk result (λ took. TakesItem lookup.now (sealing_in self.old.walk.above.items) (closing_in self.old.walk.above.items) self.old took self.new) }
         ensures packed { IfOk result (λ took. LeavesPacked (sealing_in self.old.walk.above.items) took self.new) }
+        ensures roomy { IfOk result (λ took. LeavesRoom took self.new) }
         ensures back { self.old.walk.above.items ≡ [] → IfOk result (λ took. Reopens lookup.now self.old took self.new) }
         ensures aims { AimsOn self.old.packing self.new.packing }
         ensures stays { OnErr result (Stays lookup.now self.old self.new) }
@@ -558,6 +619,7 @@ impl PieceWork {
         requires { IsReady self.old }
         ensures ok { IfOk result (λ took. TakesItem lookup.now Sealing.Last fed_end self.old took self.new) }
         ensures packed { IfOk result (λ took. LeavesPacked Sealing.Last took self.new) }
+        ensures roomy { IfOk result (λ took. LeavesRoom took self.new) }
         ensures back { IfOk result (λ took. Reopens lookup.now self.old took self.new) }
         ensures aims { AimsOn self.old.packing self.new.packing }
         ensures refused { IfErr result (λ e. (known : List Fact) → Refuses known fed_end self.old e) }
@@ -577,6 +639,7 @@ impl PieceWork {
         requires { IsReady self.old }
         ensures ok { IfOk result (λ took. WorkTakes lookup.now item.entry self.old took self.new) }
         ensures packed { IfOk result (λ took. LeavesPacked (sealing_at item.entry) took self.new) }
+        ensures roomy { IfOk result (λ took. LeavesRoom took self.new) }
         ensures back { IfOk result (λ took. ReopensAt lookup.now item.entry self.old took self.new) }
         ensures aims { AimsOn self.old.packing self.new.packing }
         ensures refused { IfErr result (λ e. Refuses lookup.now (fed_of item.entry) self.old e) }
@@ -600,7 +663,20 @@ impl PieceWork {
     pub fn is_ready(&self) -> bool
         ensures { IsTrue result ↔ IsReady self.now }
     {
-        self.is_open() && self.parts.is_none() && self.walk.root.is_none()
+        self.packing.packer.sealed.is_none()
+            && self.has_room()
+            && self.parts.is_none()
+            && self.walk.root.is_none()
+    }
+
+    /// Whether the open pack takes more, also with the chunks that wait for names.
+    fn has_room(&self) -> bool
+        ensures { IsTrue result ↔ HasRoom self.now.walk.file self.now.packing }
+    {
+        match &self.walk.file {
+            Some(file) => file.ended.fits(&self.packing.packer.writer),
+            None => !self.packing.packer.writer.is_due(),
+        }
     }
 
     /// Whether no pack is sealed, and the open one takes more.

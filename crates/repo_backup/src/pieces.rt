@@ -8,6 +8,7 @@ ghost use Rattle.repo_backup.specs.inner.Holdings.{holds_prop};
 ghost use Rattle.repo_chunk.specs.Parameters.{AreLawful};
 ghost use Rattle.repo_name.specs.Limits.{blob_limit, file_end};
 
+use crate::ended::Ended;
 use crate::items::FeedError;
 use repo_chunk::{Chunker, Params, Scan};
 use repo_name::{Name, Names, Text};
@@ -23,13 +24,14 @@ pub struct Outer {
     pub name: Text,
 }
 
-/// A file that is open: its name, how many bytes it has so far, the names of its chunks so far, the bytes behind these,
-/// and the chunker that holds them.
+/// A file that is open: its name, how many bytes it has so far, the names of its first chunks, the chunks that ended behind
+/// these and have no name yet, the bytes behind all chunks, and the chunker that holds them.
 #[derive(Drop)]
 pub struct PieceFile {
     pub name: Text,
     pub size: u64,
     pub content: Vec<Name>,
+    pub ended: Ended,
     pub rest: Vec<u8>,
     pub params: Params,
     pub chunker: Chunker,
@@ -38,11 +40,13 @@ pub struct PieceFile {
     ghost lawful: { AreLawful params },
 }
 
-/// How much a file had: so many bytes behind its chunks, so many chunks, and so many bytes in all.
+/// How much a file had: so many bytes behind its chunks, so many chunks that have names, so many that waited for one, and
+/// so many bytes in all.
 #[derive(Clone, Copy)]
 pub struct Mark {
     pub rest: usize,
     pub chunks: usize,
+    pub ended: usize,
     pub size: u64,
 }
 
@@ -106,13 +110,14 @@ fn append(
 }
 
 impl PieceFile {
-    ghost use Rattle.repo_backup.specs.Pieces.{ScansOn, first_rest};
+    ghost use Rattle.repo_backup.specs.Pieces.{ScansOn, first_ended, first_rest};
 
     /// An empty file. It takes no memory.
     pub fn new(alloc: Global, params: Params, name: Text) -> PieceFile
         ensures name { result.name ≡ name }
         ensures size { result.size ≡ 0 }
         ensures content { result.content.items ≡ [] }
+        ensures ended { result.ended ≡ [] }
         ensures rest { result.rest.items ≡ [] }
         ensures params { result.params ≡ params }
     {
@@ -120,6 +125,7 @@ impl PieceFile {
             name,
             size: 0,
             content: Vec::new(alloc),
+            ended: Ended::new(alloc),
             rest: Vec::new(alloc),
             params,
             chunker: Chunker::new(params),
@@ -130,21 +136,24 @@ impl PieceFile {
     pub fn mark(&self) -> Mark
         ensures rest { result.rest ≡ length self.now.rest.items }
         ensures chunks { result.chunks ≡ length self.now.content.items }
+        ensures ended { result.ended ≡ length self.now.ended }
         ensures size { result.size ≡ self.now.size }
     {
         Mark {
             rest: self.rest.len(),
             chunks: self.content.len(),
+            ended: self.ended.len(),
             size: self.size,
         }
     }
 
-    /// Goes back to where it had so much: the bytes behind the chunks are the first ones of these, or of those that it has. It
-    /// takes no memory.
-    pub fn back(&mut self, mark: Mark, first: Option<Vec<u8>>)
+    /// Goes back to where it had so much: the bytes behind the chunks are the first ones of these, or of those that it has;
+    /// and so are the chunks that wait for a name. It takes no memory.
+    pub fn back(&mut self, mark: Mark, first: Option<Vec<u8>>, named: Option<Ended>)
         requires { HasNoCut self.old.params (take mark.rest (first_rest (option_map (λ v. v.items) first) self.old)) }
         ensures rest { self.new.rest.items ≡ take mark.rest (first_rest (option_map (λ v. v.items) first) self.old) }
         ensures content { self.new.content.items ≡ take mark.chunks self.old.content.items }
+        ensures ended { self.new.ended ≡ take mark.ended (first_ended named self.old) }
         ensures size { self.new.size ≡ mark.size }
         ensures name { self.new.name ≡ self.old.name }
         ensures params { self.new.params ≡ self.old.params }
@@ -152,6 +161,10 @@ impl PieceFile {
         if let Some(rest) = first {
             self.rest = rest;
         }
+        if let Some(ended) = named {
+            self.ended = ended;
+        }
+        self.ended.truncate(mark.ended);
         self.rest.truncate(mark.rest);
         self.chunker = chunker_of(self.params, self.rest.as_slice());
         self.content.truncate(mark.chunks);
@@ -166,6 +179,7 @@ impl PieceFile {
         ensures err { OnErr result ((self.new.rest.items ≡ self.old.rest.items) × (self.new.size ≡ self.old.size)) }
         ensures name { self.new.name ≡ self.old.name }
         ensures content { self.new.content ≡ self.old.content }
+        ensures ended { self.new.ended ≡ self.old.ended }
     {
         let alloc = *self.rest.allocator();
         match self.chunker.feed(piece) {
@@ -204,7 +218,7 @@ impl PieceWalk {
     ghost use Rattle.repo_tree.specs.declared.nodes.NodeKind.{NodeKind};
     ghost use Rattle.repo_backup.specs.Folders.{nothing};
     ghost use Rattle.repo_backup.specs.Items.{MayOpen, NameFault};
-    ghost use Rattle.repo_backup.specs.Pieces.{AreOuterAt, IsAt};
+    ghost use Rattle.repo_backup.specs.Pieces.{AreOuterAt, IsAt, waiting_in};
     ghost use Rattle.repo_backup.specs.Standings.{Around, Standing, place_at};
     ghost use Rattle.repo_backup.specs.declared.pieces.Outer.{Outer};
 
@@ -288,6 +302,7 @@ impl PieceWalk {
     pub fn begin_file(&mut self, alloc: Global, name: Text)
         requires { self.old.file ≡ None }
         ensures walk { (st : Standing) → IsAt self.old st → IsAt self.new (record { done = st.done; above = st.above; file = Some (record { name = name; chunks = []; rest = [] }); over = st.over }) }
+        ensures waiting { waiting_in self.new.file ≡ [] }
         ensures params { self.new.params ≡ self.old.params }
         ensures version { self.new.version ≡ self.old.version }
         ensures root { self.new.root ≡ self.old.root }

@@ -1,7 +1,7 @@
 use Rattle.std.proofs.Common.{arith, ◌≡◌, ◌<◌, ◌-◌, Some, None, [], length, refl, sym, ap, subst, ◌∙◌}
 use Rattle.repo_backup.specs.BackupStates.{GoesSo}
 use Rattle.repo_backup.specs.Items.{fed_of, size_of}
-use Rattle.repo_backup.specs.Pieces.{WorkTakes, LeavesPacked, sealing_at}
+use Rattle.repo_backup.specs.Pieces.{WorkTakes, LeavesPacked, LeavesRoom, sealing_at}
 use Rattle.repo_backup.specs.Plans.{left_fed, behind, before}
 use Rattle.repo_backup.specs.declared.piece_works.Took.{Took}
 use Rattle.repo_backup.specs.declared.walks.Went.{Went}
@@ -28,9 +28,10 @@ returns-in-Some-clause-ok c =
     let is : k.field-0 ≡ took = k.field-0-is ∙ ap (Took.All k.count) c.in-Some.is in
     let takes : WorkTakes facts item old took new = subst (λ t. WorkTakes facts item old t new) is k.ensures.ok in
     let left : LeavesPacked (sealing_at item) took new = subst (λ t. LeavesPacked (sealing_at item) t new) is k.ensures.packed in
+    let room : LeavesRoom took new = subst (λ t. LeavesRoom t new) is k.ensures.roomy in
     let less : c.saturating_sub.result ≡ size_of item - k.count = c.saturating_sub.ensures ∙ ap (λ n. n - k.count) c.bytes_in.ensures in
     let at : before (size_of item - k.count) (behind p (fed_of item)) ≡ c.before-in-Ok-All.result = sym (c.before-in-Ok-All.ensures ∙ (λ i. before (less i) (c.next_item.ensures.behind i))) in
-    subst (λ q. GoesSo facts old (left_fed p steps) (Went.Pack c.in-Some.listed) new (left_fed q steps)) at (went_pack facts steps p item old new c.requires.going c.next_item.ensures.item ready k.ensures.aims k.ensures.params k.ensures.version k.count c.in-Some.listed takes left)
+    subst (λ q. GoesSo facts old (left_fed p steps) (Went.Pack c.in-Some.listed) new (left_fed q steps)) at (went_pack facts steps p item old new c.requires.going c.next_item.ensures.item ready k.ensures.aims k.ensures.params k.ensures.version k.count c.in-Some.listed takes left room)
 
 pub returns-in-None-clause-ok : goal.returns-in-None-clause-ok
 returns-in-None-clause-ok c =
@@ -46,9 +47,10 @@ returns-in-None-clause-ok c =
     let is : k.field-0 ≡ took = k.field-0-is ∙ ap (Took.All k.count) c.in-None.is in
     let takes : WorkTakes facts item old took new = subst (λ t. WorkTakes facts item old t new) is k.ensures.ok in
     let left : LeavesPacked (sealing_at item) took new = subst (λ t. LeavesPacked (sealing_at item) t new) is k.ensures.packed in
+    let room : LeavesRoom took new = subst (λ t. LeavesRoom t new) is k.ensures.roomy in
     let less : c.saturating_sub.result ≡ size_of item - k.count = c.saturating_sub.ensures ∙ ap (λ n. n - k.count) c.bytes_in.ensures in
     let at : before (size_of item - k.count) (behind p (fed_of item)) ≡ c.before-in-Ok-All.result = sym (c.before-in-Ok-All.ensures ∙ (λ i. before (less i) (c.next_item.ensures.behind i))) in
-    subst (λ q. GoesSo facts old (left_fed p steps) Went.On new (left_fed q steps)) at (went_on facts steps p item old new c.requires.going c.next_item.ensures.item ready k.ensures.aims k.ensures.params k.ensures.version k.count takes left)
+    subst (λ q. GoesSo facts old (left_fed p steps) Went.On new (left_fed q steps)) at (went_on facts steps p item old new c.requires.going c.next_item.ensures.item ready k.ensures.aims k.ensures.params k.ensures.version k.count takes left room)
 
 pub returns-in-None-clause-less : goal.returns-in-None-clause-less
 returns-in-None-clause-less c = λ on.

@@ -5,10 +5,10 @@ use Rattle.repo_session.specs.declared.catalogs.Catalog.{Catalog}
 use Rattle.repo_writing.specs.Writing.{items_of}
 use Rattle.repo_backup.specs.Items.{MayTake, fed_of, fed_part, size_of, place_of}
 use Rattle.repo_backup.specs.PieceStates.{PieceWaits, reopened_backing}
-use Rattle.repo_backup.specs.Pieces.{Goes, Stays, IsReady, WorkTakes, LeavesPacked, ReopensAt, sealing_at}
+use Rattle.repo_backup.specs.Pieces.{Goes, Stays, IsReady, WorkTakes, LeavesPacked, LeavesRoom, ReopensAt, sealing_at}
 use Rattle.repo_backup.specs.declared.piece_works.Took.{Took}
 use Rattle.repo_backup.proofs.FedOn.{fed_working}
-use Rattle.repo_backup.proofs.PieceFeeding.{works_on, stands_plain, plain_item, fed_waits, fed_done, fed_due, fed_large, fed_fault, fed_still, ended_once, end_memory, left_open, one_taken}
+use Rattle.repo_backup.proofs.PieceFeeding.{works_on, stands_plain, plain_item, fed_waits, fed_done, fed_due, fed_large, fed_fault, fed_still, ended_once, end_memory, one_taken}
 use Rattle.repo_backup.proofs.PieceStepping.{input_wanted}
 use Rattle.repo_backup.proofs.piece_jobs.PieceJob.feed.Goals as goal
 
@@ -27,11 +27,12 @@ returns-in-Ok-All-default-Some c =
     let is : k.field-0 ≡ took = k.field-0-is ∙ ap (Took.All n) k.field-0-1-is in
     let takes : WorkTakes facts item a.work took d.work = subst (λ t. WorkTakes facts item a.work t d.work) is e.ok in
     let left : LeavesPacked (sealing_at item) took d.work = subst (λ t. LeavesPacked (sealing_at item) t d.work) is e.packed in
+    let room : LeavesRoom took d.work = subst (λ t. LeavesRoom t d.work) is e.roomy in
     record {
       ok = λ es working wants. (
           let h : PieceWaits facts a es = subst (λ b. PieceWaits facts b es) (same_Some wants.0 a (sym wants.1 ∙ c.in-Some.is)) wants.2 in
           let some = works_on _ c.args.holder.now.token es working in
-          let due = fed_due facts a d es h some (ap (λ b. b.waiting) same) (ap (λ b. b.listed) same) (ap (λ b. b.counts) same) n item c.in_default.not-Abandon takes.2 e.params e.version e.aims (Some k.listed) left.1 k.listed left.0 in
+          let due = fed_due facts a d es h some (ap (λ b. b.waiting) same) (ap (λ b. b.listed) same) (ap (λ b. b.counts) same) n item c.in_default.not-Abandon takes.2 e.params e.version e.aims (Some k.listed) left.1 room k.listed left.0 in
           let held = fed_working _ c.args.holder.now.token (fed_part n item) es h.at.written.indexed.listed.complete working in
           (c.send_pack.ensures.sends d (feeding (fed_part n item) es) held refl due, (λ less. c.send_pack.ensures.busy d (feeding (fed_part n item) es) refl due), one_taken facts a d es h some (ap (λ b. b.waiting) same) (ap (λ b. b.listed) same) (ap (λ b. b.counts) same) (fed_part n item) (takes.2 h.at.st (items_of (h.puts ++ [])) (stands_plain facts a d h.puts [] (fed_in es) es h.at h.ready)).0));
       short = c.send_pack.ensures.short;
@@ -53,6 +54,7 @@ returns-in-Ok c =
     let is : k.field-0 ≡ took = k.field-0-is ∙ ap (Took.All k.count) k.field-0-1-is in
     let takes : WorkTakes facts item a.work took d.work = subst (λ t. WorkTakes facts item a.work t d.work) is e.ok in
     let left : LeavesPacked (sealing_at item) took d.work = subst (λ t. LeavesPacked (sealing_at item) t d.work) is e.packed in
+    let room : LeavesRoom took d.work = subst (λ t. LeavesRoom t d.work) is e.roomy in
     let none : size_of item ≡ 0 = ap size_of c.in-End.is in
     let part : fed_part 0 item ≡ fed_part k.count item = ended_once 0 k.count item c.in-End.is in
     record {
@@ -60,7 +62,7 @@ returns-in-Ok c =
           let h : PieceWaits facts a es = subst (λ b. PieceWaits facts b es) (same_Some wants.0 a (sym wants.1 ∙ c.in-Some.is)) wants.2 in
           let some = works_on _ c.args.holder.now.token es working in
           let goes = subst (λ f. Goes facts (sealing_at item) f a.work d.work) (sym part) takes.2 in
-          let done = fed_done facts a d es h some (ap (λ b. b.waiting) same) (ap (λ b. b.listed) same) (ap (λ b. b.counts) same) 0 item c.in_default.not-Abandon goes e.params e.version e.aims None left.1 left.0 (left.2 refl) in
+          let done = fed_done facts a d es h some (ap (λ b. b.waiting) same) (ap (λ b. b.listed) same) (ap (λ b. b.counts) same) 0 item c.in_default.not-Abandon goes e.params e.version e.aims None left.1 room left.0 (left.2 refl) in
           let held = fed_working _ c.args.holder.now.token (fed_part 0 item) es h.at.written.indexed.listed.complete working in
           (c.in-Ok.ensures.sends d (feeding (fed_part 0 item) es) held refl done, (λ less. absurd (omega (arith, none, less))), one_taken facts a d es h some (ap (λ b. b.waiting) same) (ap (λ b. b.listed) same) (ap (λ b. b.counts) same) (fed_part 0 item) (goes h.at.st (items_of (h.puts ++ [])) (stands_plain facts a d h.puts [] (fed_in es) es h.at h.ready)).0));
       short = c.in-Ok.ensures.short;
@@ -82,6 +84,7 @@ returns-in-Err-end c =
     let is : k.field-0 ≡ took = k.field-0-is ∙ ap (Took.All k.count) k.field-0-1-is in
     let takes : WorkTakes facts item a.work took d.work = subst (λ t. WorkTakes facts item a.work t d.work) is e.ok in
     let left : LeavesPacked (sealing_at item) took d.work = subst (λ t. LeavesPacked (sealing_at item) t d.work) is e.packed in
+    let room : LeavesRoom took d.work = subst (λ t. LeavesRoom t d.work) is e.roomy in
     let back : ReopensAt facts item a.work took d.work = subst (λ t. ReopensAt facts item a.work t d.work) is e.back in
     record {
       ok = tt;
@@ -93,7 +96,7 @@ returns-in-Err-end c =
           let goes = subst (λ f. Goes facts (sealing_at item) f a.work d.work) (ended_once k.count 0 item c.in-End.is) takes.2 in
           let may = subst (λ p. MayTake p (fed_part 0 item)) h.at.at.lead.place (goes h.at.st (items_of (h.puts ++ [])) (stands_plain facts a d h.puts [] (fed_in es) es h.at h.ready)).0 in
           let stays : Stays facts a.work r.work = subst (λ x. ReopensAt facts x a.work took d.work) c.in-End.is back in
-          let ready : IsReady r.work = record { unsealed = left.0; unlaid = left.2 refl; opened = left_open (sealing_at item) None d.work.packing left.1; unended = refl } in
+          let ready : IsReady r.work = record { unsealed = left.0; unlaid = left.2 refl; opened = room; unended = refl } in
           let still = fed_still facts a r es h (ap (λ b. b.waiting) same) (ap (λ b. b.listed) same) (ap (λ b. b.counts) same) stays ready e.params e.version e.aims in (
             end_memory (place_of (fed_in es)) item c.in-Err-end.error c.in-End.is c.in-Err-end.ensures.err may,
             (r, c.in-Err-end.ensures.backing, subst (λ (x : Catalog). PieceWaits x.lookup r es) (sym c.end.ensures.catalog) still),
@@ -115,12 +118,13 @@ returns-in_default-item c =
     let is : k.field-0 ≡ took = k.field-0-is ∙ ap (Took.All n) k.field-0-1-is in
     let takes : WorkTakes facts item a.work took d.work = subst (λ t. WorkTakes facts item a.work t d.work) is e.ok in
     let left : LeavesPacked (sealing_at item) took d.work = subst (λ t. LeavesPacked (sealing_at item) t d.work) is e.packed in
+    let room : LeavesRoom took d.work = subst (λ t. LeavesRoom t d.work) is e.roomy in
     record {
       ok = λ es working wants. (
           let h : PieceWaits facts a es = subst (λ b. PieceWaits facts b es) (same_Some wants.0 a (sym wants.1 ∙ c.in-Some.is)) wants.2 in
           let some = works_on _ c.args.holder.now.token es working in
           let plain = plain_item item c.in_default-item.not-End c.in_default.not-Abandon in
-          let waits = fed_waits facts a d es h some (ap (λ b. b.waiting) same) (ap (λ b. b.listed) same) (ap (λ b. b.counts) same) n item c.in_default.not-Abandon takes.2 e.params e.version e.aims None left.1 plain left.0 (left.2 refl) in
+          let waits = fed_waits facts a d es h some (ap (λ b. b.waiting) same) (ap (λ b. b.listed) same) (ap (λ b. b.counts) same) n item c.in_default.not-Abandon takes.2 e.params e.version e.aims None left.1 room plain left.0 (left.2 refl) in
           (input_wanted old.catalog (Some d) d (feeding (fed_part n item) es) refl waits, (λ less. absurd (takes.1 less refl)), one_taken facts a d es h some (ap (λ b. b.waiting) same) (ap (λ b. b.listed) same) (ap (λ b. b.counts) same) (fed_part n item) (takes.2 h.at.st (items_of (h.puts ++ [])) (stands_plain facts a d h.puts [] (fed_in es) es h.at h.ready)).0));
       short = tt;
       count = takes.0;

@@ -18,4 +18,4 @@ returns-in_err-taken-clause-stays c =
     let g = c.take_bytes-taken.new.file in
     let v : PieceWork = with_file w g c.take_bytes-taken.new.packing in
     let err = c.in_err-taken.ensures.err in
-    on_any _ c.from_residual.result (nothing_taken w v f g c.args.lookup.now (sym c.in-Some.ensures.value) (record { params = refl; version = refl; above = refl; nodes = refl; root = refl }) refl c.requires.unlaid err.0.0 err.0.1 err.0.2 err.0.3 err.0.4 err.1.2 (ap (λ x. x.items) err.1.0))
+    on_any _ c.from_residual.result (nothing_taken w v f g c.args.lookup.now (sym c.in-Some.ensures.value) (record { params = refl; version = refl; above = refl; nodes = refl; root = refl }) refl c.requires.unlaid err.0.0 err.0.1 err.0.2 err.0.3 err.0.4 err.0.5 err.1.2 (ap (λ x. x.items) err.1.0))

@@ -4,7 +4,7 @@ use Rattle.repo_backup.specs.Standings.{IsCutSoFar, made_at}
 use Rattle.repo_backup.specs.declared.piece_works.PieceWork.{PieceWork}
 use Rattle.repo_backup.proofs.Leading.{next_file}
 use Rattle.repo_backup.proofs.Lengthening.{no_file}
-use Rattle.repo_backup.proofs.Piecing.{stands_on}
+use Rattle.repo_backup.proofs.Piecing.{none_waits, room_open, room_waiting, stands_on}
 use Rattle.repo_backup.proofs.piece_works.PieceWork.feed_file.Goals as goal
 
 pub returns-clause-ok : goal.returns-clause-ok
@@ -23,7 +23,12 @@ returns-clause-ok c = λ known. (
         n.now,
         [],
         n.place,
-        inl (c.requires.unlaid, stands_on w v known st n.now sent [] refl c.begin_file.ensures.version (n.made ∙ append-nil (made_at w.walk.version st)) at (subst (λ q. IsCutSoFar q n.now) (sym c.begin_file.ensures.params) n.cut) h.texts h),
+        inl (c.requires.unlaid, stands_on w v known st n.now sent [] refl c.begin_file.ensures.version (n.made ∙ append-nil (made_at w.walk.version st)) at (subst (λ q. IsCutSoFar q n.now) (sym c.begin_file.ensures.params) n.cut) h.texts (λ x among. absurd (none_waits w.walk.file x c.in_ok-name.ensures.unopened among)) h),
         inl (inl refl),
       ),
 )
+
+pub returns-clause-roomy : goal.returns-clause-roomy
+returns-clause-roomy c =
+    let w = c.args.self.now in
+    room_waiting c.begin_file.new.self.file w.packing c.begin_file.ensures.waiting (room_open w.walk.file w.packing c.requires.opened)
