@@ -1,7 +1,6 @@
 -- A backup that feeds itself goes on, item by item.
 use Rattle.std.specs.Prelude.{◌++◌, ⊤, IsSome, is_some, string_bytes}
 use Rattle.std.proofs.Common.{arith, ◌≡◌, ◌≢◌, ◌≤◌, ◌∷◌, ◌⊎◌, [], ℕ, Bool, true, false, List, length, take, drop, Option, Some, None, refl, sym, ap, subst, inl, inr, length-append, ◌∙◌}
-use Rattle.std.proofs.lemmas.List.{take-append-drop}
 use Rattle.repo_name.specs.declared.kinds.Kind.{Kind}
 use Rattle.repo_name.specs.declared.tokens.Token.{Token}
 use Rattle.repo_wire.specs.declared.messages.Ask.{Ask}
@@ -19,7 +18,7 @@ use Rattle.repo_session.specs.declared.outcomes.End.{End}
 use Rattle.repo_session.specs.declared.outcomes.Outcome.{Outcome}
 use Rattle.repo_session.proofs.Sessioning.{wants_of}
 use Rattle.repo_backup.specs.declared.items.Item.{Item}
-use Rattle.repo_feeding.specs.inner.Rooms.{Fills, IsItemOf}
+use Rattle.repo_feeding.specs.inner.Rooms.{Fills, IsItemOf, IsLessBy}
 use Rattle.repo_feeding.specs.declared.reasons.GivenUp.{GivenUp}
 use Rattle.repo_feeding.specs.declared.sources.Found.{Found}
 use Rattle.repo_backup.specs.Items.{fed_of, fed_part, size_of, NobodyGaveUp, MayTake, Place, after, place_of}
@@ -30,12 +29,12 @@ use Rattle.repo_backup.specs.PieceStates.{piece_task}
 use Rattle.repo_backup.specs.declared.piece_backups.PieceBackup.{PieceBackup}
 use Rattle.repo_feeding.specs.FedObedience.{right_at, before_right}
 use Rattle.repo_feeding.specs.FedRules.{IsAsTold, IsOnTheWay, IsFedLate, AreWelcome}
-use Rattle.repo_feeding.specs.FedStates.{Feeder, IsFedRight, AreFedRight, LeadsOn, IsFed, IsFedUpto, FitsFed}
-use Rattle.repo_feeding.specs.Reasons.{IsReason, HasReason}
+use Rattle.repo_feeding.specs.FedStates.{Feeder, IsFedRight, AreFedRight, HasCome, IsFed, IsFedUpto, FitsFed}
+use Rattle.repo_feeding.specs.Reasons.{IsNextItem, HasReason}
 use Rattle.repo_feeding.specs.Sources.{Told, whole_of, IsSound, IsUntouched, Comes}
 use Rattle.repo_feeding.specs.Unfed.{unfed}
 use Rattle.repo_feeding.proofs.Among.{before_exchanged}
-use Rattle.repo_feeding.proofs.Places.{bytes_joined, nothing_more, not_over, on_the_way, over_more, comes_whole, comes_on, comes_told, fresh_on}
+use Rattle.repo_feeding.proofs.Places.{not_over, on_the_way, over_more, clear_of, come_clear, come_part, comes_whole, comes_on, comes_told, comes_waiting, comes_next, next_part, fresh_on, less_first}
 
 -- a backup, what its source was told, what waits, whether it was given up, and the cause of that
 abbrev pub standing : PieceBackup → Option Told → List ℕ → Bool → (Place → Type 0) → Feeder
@@ -150,9 +149,9 @@ still_kept item (e ∷ fs) long on gone = on (fed_in (e ∷ fs)) gone
 module _ (f : Feeder) (new : PieceBackup) (es fs : Trace) (hungry : IsHungry f.backup) (fed : IsFed f es fs) where
   -- one by which nobody gives up
   fed_more : (item : Fed) (told : Option Told) (rest : List ℕ) (cause : Place → Type 0) → MayTake (place_of (fed_in fs)) item → GoesOn item → whole_of told ≡ whole_of f.told → FitsPieces new (feeding item fs)
-      → IsAsTold (whole_of told) (after (place_of (fed_in fs)) item) → LeadsOn told (after (after (place_of (fed_in fs)) item) (fed_bytes rest)) → ((p : Place) → cause p)
+      → IsAsTold (whole_of told) (after (place_of (fed_in fs)) item) → HasCome told (after (place_of (fed_in fs)) item) rest → ((p : Place) → cause p)
       → IsFedUpto (standing new told rest f.gave cause) es (feeding item fs)
-  fed_more item told rest cause may on same fits right leads caused =
+  fed_more item told rest cause may on same fits right come caused =
       let long = hungry_long f.backup fs hungry fed.at in
       let wants = hungry_wants f.backup fs hungry fed.at in
       let place = fed_place item fs long in
@@ -164,13 +163,13 @@ module _ (f : Feeder) (new : PieceBackup) (es fs : Trace) (hungry : IsHungry f.b
               (record {
                 welcome = welcome_fed item fs long (hungry_open f.backup fs hungry fed.at) wants may (right_at (whole_of f.told) f.gave fs fed.right).welcome;
                 late = late_fed item fs long (right_at (whole_of f.told) f.gave fs fed.right).late;
-                so_far = λ kept. subst (λ p. IsOnTheWay (whole_of told) p) (sym place) (on_the_way told (after (place_of (fed_in fs)) item) rest leads);
+                so_far = λ kept. subst (λ p. IsOnTheWay (whole_of told) p) (sym place) (on_the_way told (after (place_of (fed_in fs)) item) rest come);
                 told = subst (λ p. IsAsTold (whole_of told) p) (sym place) right;
                 reason = λ gone. absurd (still_kept item fs long on gone);
               });
           gone = λ gave. absurd (nobody_gone (fed_in fs) wants.kept (fed.gone gave).0);
         };
-        leads_on = λ kept. subst (λ p. LeadsOn told (after p (fed_bytes rest))) (sym place) leads;
+        come = λ kept. subst (λ p. HasCome told p rest) (sym place) come;
         caused = caused (place_of (fed_in (feeding item fs)));
       }
 
@@ -196,7 +195,7 @@ module _ (f : Feeder) (new : PieceBackup) (es fs : Trace) (hungry : IsHungry f.b
                 });
             gone = λ gave. (abandoned fs long, ap (λ (p : Place). p.over) place ∙ wants.goes_on);
           };
-          leads_on = λ kept. absurd (gone_up fs long kept);
+          come = λ kept. absurd (gone_up fs long kept);
           caused = subst cause (sym place) caused;
         };
         full = full_gone new fs long fits;
@@ -212,15 +211,13 @@ module _ (f : Feeder) (new : PieceBackup) (es fs : Trace) (hungry : IsHungry f.b
 
 module _ (f : Feeder) (new : PieceBackup) (es fs : Trace) (hungry : IsHungry f.backup) (upto : IsFedUpto f es fs) where
   -- some first bytes of those that wait
-  pub fed_part_of : (n : ℕ) (cause : Place → Type 0) → MayTake (place_of (fed_in fs)) (fed_bytes (take n f.rest)) → ((p : Place) → cause p) → FitsPieces new (feeding (fed_bytes (take n f.rest)) fs)
+  pub fed_part_of : (n : ℕ) (cause : Place → Type 0) → f.rest ≢ [] → MayTake (place_of (fed_in fs)) (fed_bytes (take n f.rest)) → ((p : Place) → cause p) → FitsPieces new (feeding (fed_bytes (take n f.rest)) fs)
       → IsFedUpto (standing new f.told (drop n f.rest) f.gave cause) es (feeding (fed_bytes (take n f.rest)) fs)
-  fed_part_of n cause may caused fits =
+  fed_part_of n cause some may caused fits =
       let wants = hungry_wants f.backup fs hungry upto.fed.at in
       let p = place_of (fed_in fs) in
-      let whole : after (after p (fed_bytes (take n f.rest))) (fed_bytes (drop n f.rest)) ≡ after p (fed_bytes f.rest)
-      = bytes_joined p (take n f.rest) (drop n f.rest) ∙ ap (λ bytes. after p (fed_bytes bytes)) (take-append-drop n f.rest) in
       fed_more f new es fs hungry upto.fed (fed_bytes (take n f.rest)) f.told (drop n f.rest) cause may (λ items gone. gone) refl fits
-      (not_over (whole_of f.told) (after p (fed_bytes (take n f.rest))) wants.goes_on) (subst (λ q. LeadsOn f.told q) (sym whole) (upto.leads_on wants.kept)) caused
+      (not_over (whole_of f.told) (after p (fed_bytes (take n f.rest))) wants.goes_on) (come_part f.told p f.rest n some may (upto.come wants.kept)) caused
 
   -- what came, where nothing waits
   pub fed_found_item : (item : Fed) (told : Option Told) (cause : Place → Type 0) → MayTake (place_of (fed_in fs)) item → f.rest ≡ [] → GoesOn item → Comes f.told (Some item) told → ((p : Place) → cause p) → FitsPieces new (feeding item fs)
@@ -228,10 +225,24 @@ module _ (f : Feeder) (new : PieceBackup) (es fs : Trace) (hungry : IsHungry f.b
   fed_found_item item told cause may none on comes caused fits =
       let wants = hungry_wants f.backup fs hungry upto.fed.at in
       let p = place_of (fed_in fs) in
-      let here : LeadsOn f.told p = subst (λ q. LeadsOn f.told q) (ap (λ bytes. after p (fed_bytes bytes)) none ∙ nothing_more p) (upto.leads_on wants.kept) in
-      let next = comes_on f.told item told p comes here in
+      let here = clear_of f.told p f.rest none (upto.come wants.kept) in
+      let next = comes_on f.told item told p may comes here in
       fed_more f new es fs hungry upto.fed item told [] cause may on (comes_whole f.told (Some item) told comes) fits
-      (comes_told f.told item told p comes wants.goes_on next) (subst (λ q. LeadsOn told q) (sym (nothing_more (after p item))) next) caused
+      (comes_told f.told item told p comes wants.goes_on next) (come_clear told (after p item) next) caused
+
+  -- what came comes next, where nothing waits
+  pub found_next : (item : Fed) (told : Option Told) → f.rest ≡ [] → Comes f.told (Some item) told → IsNextItem (whole_of told) (place_of (fed_in fs)) item
+  found_next item told none comes =
+      let wants = hungry_wants f.backup fs hungry upto.fed.at in
+      comes_next f.told item told (place_of (fed_in fs)) comes (clear_of f.told (place_of (fed_in fs)) f.rest none (upto.come wants.kept))
+
+  -- the bytes that wait do
+  pub rest_next : f.rest ≢ [] → IsNextItem (whole_of f.told) (place_of (fed_in fs)) (fed_bytes f.rest)
+  rest_next some = let wants = hungry_wants f.backup fs hungry upto.fed.at in next_part f.told (place_of (fed_in fs)) f.rest some (upto.come wants.kept)
+
+  -- no more is to come, and waits, than the source was made to give
+  pub hungry_less : IsLessBy 0 f.told f.rest
+  hungry_less = let wants = hungry_wants f.backup fs hungry upto.fed.at in less_first f.told (place_of (fed_in fs)) f.rest (upto.come wants.kept)
 
 -- bytes came, where nothing waits
 pub bytes_found : (f : Feeder) (es fs : Trace) (bytes : List ℕ) (told : Option Told) (cause : Place → Type 0) → f.rest ≡ [] → Comes f.told (Some (fed_bytes bytes)) told → ((p : Place) → cause p) → IsFedUpto f es fs
@@ -241,9 +252,7 @@ bytes_found f es fs bytes told cause none comes caused upto =
     let same = comes_whole f.told (Some (fed_bytes bytes)) told comes in
     record {
       fed = record { same = upto.fed.same; at = upto.fed.at; right = subst (λ whole. AreFedRight whole f.gave fs) (sym same) upto.fed.right; gone = upto.fed.gone };
-      leads_on = λ kept. (
-          let here : LeadsOn f.told p = subst (λ q. LeadsOn f.told q) (ap (λ more. after p (fed_bytes more)) none ∙ nothing_more p) (upto.leads_on kept) in
-          comes_on f.told (fed_bytes bytes) told p comes here);
+      come = λ kept. comes_waiting f.told bytes told p comes (clear_of f.told p f.rest none (upto.come kept));
       caused = caused p;
     }
 
@@ -266,7 +275,7 @@ taken_on f new es fs ask say emitted fits upto = record {
     right = right_next (whole_of f.told) f.gave ask say emitted fs upto.fed.right;
     gone = upto.fed.gone;
   };
-  leads_on = upto.leads_on;
+  come = upto.come;
   caused = upto.caused;
 }
 
@@ -275,7 +284,7 @@ taken_on f new es fs ask say emitted fits upto = record {
 pub fits_first : (b : PieceBackup) (told : Option Told) (cause : Place → Type 0) → FitsPieces b [] → IsUntouched told → ((p : Place) → cause p) → FitsFed (standing b told [] false cause) []
 fits_first b told cause fits fresh caused = record {
   fs = [];
-  upto = record { fed = record { same = refl; at = fits; right = tt; gone = λ gave. absurd (cc) }; leads_on = λ kept. fresh_on told fresh; caused = caused (place_of []) };
+  upto = record { fed = record { same = refl; at = fits; right = tt; gone = λ gave. absurd (cc) }; come = λ kept. come_clear told (place_of []) (fresh_on told fresh); caused = caused (place_of []) };
   full = full_first b fits;
 }
 
@@ -365,12 +374,12 @@ no_reason f es fs hungry fed gave = nobody_gone (fed_in fs) (hungry_wants f.back
 pub full_with : (f : Feeder) (es fs : Trace) → IsFed f es fs → f.gave ≡ true → ¬ IsHungry f.backup
 full_with f es fs fed gave hungry = no_reason f es fs hungry fed gave
 
-module _ {E : Type 0} (failed : E → Type 0) where
+module _ {E : Type 0} (failed : E → Type 0) (whole : Option (List Fed)) where
   -- where there is no reason its source hasn't failed
-  pub sound_of : (p : Place) (given_up : Option (GivenUp E)) → is_some given_up ≢ true → HasReason failed p given_up → IsSound failed
+  pub sound_of : (p : Place) (given_up : Option (GivenUp E)) → is_some given_up ≢ true → HasReason failed whole p given_up → IsSound failed
   sound_of p None none h = h
   sound_of p (Some reason) none h = absurd (none refl)
 
-  pub reason_so : (given_up : Option (GivenUp E)) → is_some given_up ≢ true → IsSound failed → (p : Place) → HasReason failed p given_up
+  pub reason_so : (given_up : Option (GivenUp E)) → is_some given_up ≢ true → IsSound failed → (p : Place) → HasReason failed whole p given_up
   reason_so None none h p = h
   reason_so (Some reason) none h p = absurd (none refl)

@@ -1,16 +1,16 @@
 -- Where a backup that feeds itself stands.
-use Rattle.std.specs.Prelude.{◌≡◌, ◌∷◌, [], ⊤, ℕ, Bool, true, false, List, is_some, Option, Some, None}
+use Rattle.std.specs.Prelude.{◌≡◌, ◌⊎◌, ◌∷◌, [], ⊤, ℕ, Bool, true, false, List, is_some, Option, Some, None}
 use Rattle.repo_session.specs.Askers.{Asker}
-use Rattle.repo_session.specs.Feeds.{Fed, fed_bytes}
+use Rattle.repo_session.specs.Feeds.{Fed}
 use Rattle.repo_session.specs.Sessions.{who_in}
 use Rattle.repo_session.specs.Traces.{Trace, fed_in}
-use Rattle.repo_backup.specs.Items.{Place, NobodyGaveUp, at_root, after, place_of}
+use Rattle.repo_backup.specs.Items.{Place, NobodyGaveUp, place_of}
 use Rattle.repo_backup.specs.PieceBackups.{FitsPieces, IsHungry}
 use Rattle.repo_backup.specs.PieceRules.{WasGivenUp}
 use Rattle.repo_backup.specs.declared.piece_backups.PieceBackup.{PieceBackup}
 use Rattle.repo_feeding.specs.FedRules.{IsAsTold, IsOnTheWay, IsFedLate, AreWelcome}
 use Rattle.repo_feeding.specs.Reasons.{IsReason, HasReason}
-use Rattle.repo_feeding.specs.Sources.{Told, whole_of, leads}
+use Rattle.repo_feeding.specs.Sources.{Told, whole_of, IsAt, IsWithin}
 use Rattle.repo_feeding.specs.Unfed.{unfed}
 use Rattle.repo_feeding.specs.declared.reasons.GivenUp.{GivenUp}
 
@@ -30,7 +30,7 @@ pub record Feeder : Type 1 where
 
 -- of a source that failed for such reasons, with the reason why it was given up
 abbrev pub feeder : {E : Type 0} → PieceBackup → Option Told → List ℕ → (E → Type 0) → Option (GivenUp E) → Feeder
-feeder backup told rest failed given_up = record { backup = backup; told = told; rest = rest; gave = is_some given_up; cause = λ p. HasReason failed p given_up }
+feeder backup told rest failed given_up = record { backup = backup; told = told; rest = rest; gave = is_some given_up; cause = λ p. HasReason failed (whole_of told) p given_up }
 
 abbrev pub job_of : Feeder → FedJob
 job_of f = record { who = who_in f.backup.session; whole = whole_of f.told }
@@ -52,10 +52,10 @@ abbrev pub AreFedRight : Option (List Fed) → Bool → Trace → Type 0
 AreFedRight whole gave [] = ⊤
 AreFedRight whole gave (e ∷ fs) = IsFedRight whole gave (e ∷ fs) × AreFedRight whole gave fs
 
--- with what is still to come, a place leads where all leads that the source was made to give
-abbrev pub LeadsOn : Option Told → Place → Type 0
-LeadsOn None p = ⊤
-LeadsOn (Some told) p = leads p told.coming ≡ leads at_root told.whole
+-- what came from the source was taken, each item where those before it lead, and leads here but for the bytes that wait: nothing waits, or the rest of a piece does that was fed in part
+abbrev pub HasCome : Option Told → Place → List ℕ → Type 0
+HasCome None p rest = ⊤
+HasCome (Some told) p rest = ((rest ≡ []) × IsAt told.whole p told.coming) ⊎ IsWithin told.whole p rest told.coming
 
 -- its backup stands where the exchanges leave it, with these items between them; where there is a reason somebody gave up by them, before they ended
 pub record IsFed (f : Feeder) (es fs : Trace) : Type 0 where
@@ -67,7 +67,7 @@ pub record IsFed (f : Feeder) (es fs : Trace) : Type 0 where
 -- and so far all that came from the source was fed, or waits, unless somebody gave up; and the source failed where that is the reason, and nowhere else
 pub record IsFedUpto (f : Feeder) (es fs : Trace) : Type 0 where
   pub fed : IsFed f es fs
-  pub leads_on : NobodyGaveUp (fed_in fs) → LeadsOn f.told (after (place_of (fed_in fs)) (fed_bytes f.rest))
+  pub come : NobodyGaveUp (fed_in fs) → HasCome f.told (place_of (fed_in fs)) f.rest
   pub caused : f.cause (place_of (fed_in fs))
 
 -- it does so with some items, and wants no input
@@ -84,11 +84,11 @@ FeedsOn old new = (es fs : Trace) → IsFedUpto old es fs → (more : Trace) × 
 
 -- nothing was fed, and what came may be lost; there is this cause to give up
 abbrev pub FeedsPart : {E : Type 0} → (E → Type 0) → GivenUp E → Feeder → Feeder → Type 0
-FeedsPart failed reason old new = (es fs : Trace) → IsFedUpto old es fs → IsFed new es fs × IsReason failed (place_of (fed_in fs)) reason
+FeedsPart failed reason old new = (es fs : Trace) → IsFedUpto old es fs → IsFed new es fs × IsReason failed (whole_of new.told) (place_of (fed_in fs)) reason
 
 -- it was given up for this reason, where that is so
 abbrev pub GivesUp : {E : Type 0} → (E → Type 0) → GivenUp E → Feeder → Feeder → Type 0
-GivesUp failed reason old new = (es fs : Trace) → IsFed old es fs → IsReason failed (place_of (fed_in fs)) reason → FitsFed new es
+GivesUp failed reason old new = (es fs : Trace) → IsFed old es fs → IsReason failed (whole_of old.told) (place_of (fed_in fs)) reason → FitsFed new es
 
 -- more was fed, or it was given up, and now it wants no input
 abbrev pub FeedsUp : Feeder → Feeder → Type 0

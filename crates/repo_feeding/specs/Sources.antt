@@ -1,8 +1,8 @@
 -- What comes from a source of items, and what is still to come.
-use Rattle.std.specs.Prelude.{◌≡◌, ◌≤◌, ◌∷◌, [], ⊤, ℕ, List, take, string_bytes, Option, Some, None, Result, Ok, Err}
+use Rattle.std.specs.Prelude.{◌≡◌, ◌⊎◌, ◌≤◌, ◌+◌, ◌++◌, ◌∷◌, [], ⊤, ℕ, List, length, take, string_bytes, Option, Some, None, Result, Ok, Err}
 use Rattle.repo_tree.specs.declared.entries.Entry.{Entry}
 use Rattle.repo_session.specs.Feeds.{Fed, fed_dir, fed_file, fed_bytes, fed_close, fed_end}
-use Rattle.repo_backup.specs.Items.{Place, at_root, after}
+use Rattle.repo_backup.specs.Items.{Place, MayTake, at_root, after}
 use Rattle.repo_feeding.specs.declared.sources.Found.{Found}
 
 -- what a source was made to give, in order, and what of it is still to come
@@ -61,6 +61,34 @@ Comes (Some old) (Some item) new = (now : Told) × (new ≡ Some now) × (now.wh
 abbrev pub leads : Place → List Fed → Place
 leads p [] = p
 leads p (item ∷ items) = leads (after p item) items
+
+-- the item may be taken here; or it is a piece of no bytes, which is passed over
+abbrev pub IsTakenAt : Place → Fed → Type 0
+IsTakenAt p item = MayTake p item ⊎ (item ≡ fed_bytes [])
+
+-- each of these items, the next one first, may be taken where those before it lead, or is passed over
+abbrev pub AreTakenFrom : Place → List Fed → Type 0
+AreTakenFrom p [] = ⊤
+AreTakenFrom p (item ∷ items) = IsTakenAt p item × AreTakenFrom (after p item) items
+
+-- some first items of those that a source was made to give, each of which may be taken where those before it lead, lead here, and these come behind them: so none is
+-- among the first that came out of order there
+abbrev pub IsAt : List Fed → Place → List Fed → Type 0
+IsAt whole p coming = (before : List Fed) × (whole ≡ before ++ coming) × AreTakenFrom at_root before × (leads at_root before ≡ p)
+
+-- with a part of a piece of bytes behind them, which may be taken there unless it is none, they lead here; the rest of the piece comes next, and then these
+abbrev pub IsWithin : List Fed → Place → List ℕ → List Fed → Type 0
+IsWithin whole p rest coming = (q : Place) × (part : List ℕ) × IsAt whole q (fed_bytes (part ++ rest) ∷ coming) × IsTakenAt q (fed_bytes part) × (after q (fed_bytes part) ≡ p)
+
+-- an item counts one, and each of its bytes one more
+abbrev pub count_of : Fed → ℕ
+count_of (fed_bytes bytes) = 1 + length bytes
+count_of item = 1
+
+-- how many items and bytes these are in all
+abbrev pub count_in : List Fed → ℕ
+count_in [] = 0
+count_in (item ∷ items) = count_of item + count_in items
 
 -- the entries that all of these items spell, the first one first
 abbrev pub spelled_in : List Fed → List Entry

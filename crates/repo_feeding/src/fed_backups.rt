@@ -13,7 +13,7 @@ ghost use Rattle.repo_session.specs.Traces.{fed_in};
 ghost use Rattle.repo_backup.specs.Items.{place_of};
 ghost use Rattle.repo_feeding.specs.Reasons.{IsReason};
 ghost use Rattle.repo_feeding.specs.declared.reasons.GivenUp.{GivenUp};
-ghost use Rattle.repo_feeding.specs.inner.Rooms.{IsItemOf};
+ghost use Rattle.repo_feeding.specs.inner.Rooms.{IsItemOf, Lessens};
 ghost use Rattle.repo_feeding.specs.Sources.{IsFresh, whole_of};
 
 use crate::reasons::GivenUp;
@@ -64,12 +64,14 @@ impl<S: Source + Drop> FedBackup<S> {
     }
 
     /// Why it was given up, where it was. Where it ended as one that was given up, there is a reason, and where its snapshot
-    /// is stored, there is none. The reason is so: that the source failed, and for what; or, where it didn't, that an item
-    /// couldn't be taken behind those that were fed, and for what, or that it was fed without end.
+    /// is stored, there is none. The reason is so: that the source failed, and for what; or, where it didn't, that the item
+    /// that came next couldn't be taken behind those that were fed, and for what, or that it was fed without end: of 2^64 - 1
+    /// items and bytes at least. Of a source of which it isn't known what it was made to give, neither is which item came
+    /// next, nor how many came.
     pub fn given_up(&self) -> Option<&GivenUp<S::Error>>
         ensures abandoned { (es : Trace) → FitsFed (feeder self.now.backup (S.told self.now.source) self.now.room (S.failed self.now.source) self.now.given_up) es → ended_in self.now.backup.session ≡ Some (Outcome.Ended End.Abandoned) → IsSome result }
         ensures stored { (es : Trace) (name : Name) (blobs bytes : ℕ) → FitsFed (feeder self.now.backup (S.told self.now.source) self.now.room (S.failed self.now.source) self.now.given_up) es → ended_in self.now.backup.session ≡ Some (Outcome.Stored name blobs bytes) → ¬ IsSome result }
-        ensures cause { (es : Trace) (fits : FitsFed (feeder self.now.backup (S.told self.now.source) self.now.room (S.failed self.now.source) self.now.given_up) es) → IfSome result (λ reason. IsReason (S.failed self.now.source) (place_of (fed_in fits.fs)) reason.now) }
+        ensures cause { (es : Trace) (fits : FitsFed (feeder self.now.backup (S.told self.now.source) self.now.room (S.failed self.now.source) self.now.given_up) es) → IfSome result (λ reason. IsReason (S.failed self.now.source) (whole_of (S.told self.now.source)) (place_of (fed_in fits.fs)) reason.now) }
     {
         self.given_up.as_ref()
     }
@@ -91,25 +93,6 @@ impl<S: Source + Drop> FedBackup<S> {
         }
     }
 
-    /// Feeds what is left of a piece, and lets what wasn't taken wait.
-    fn feed_rest(&mut self) -> Result<(), GivenUp<S::Error>>
-        requires { IsHungry self.old.backup }
-        ensures ok { OnOk result (FeedsOn (feeder self.old.backup (S.told self.old.source) self.old.room (S.failed self.old.source) self.old.given_up) (feeder self.new.backup (S.told self.new.source) self.new.room (S.failed self.new.source) self.new.given_up)) }
-        ensures err { IfErr result (λ reason. FeedsPart (S.failed self.new.source) reason (feeder self.old.backup (S.told self.old.source) self.old.room (S.failed self.old.source) self.old.given_up) (feeder self.new.backup (S.told self.new.source) self.new.room (S.failed self.new.source) self.new.given_up)) }
-        ensures known { ¬ IsErrOf result GivenUp.Endless }
-        ensures same { self.new.given_up ≡ self.old.given_up }
-        ensures hungry { OnErr result (IsHungry self.new.backup) }
-        ensures job { job_of (feeder self.new.backup (S.told self.new.source) self.new.room (S.failed self.new.source) self.new.given_up) ≡ job_of (feeder self.old.backup (S.told self.old.source) self.old.room (S.failed self.old.source) self.old.given_up) }
-    {
-        match self.backup.feed(Item::Bytes(self.room.rest())) {
-            Ok(count) => {
-                self.room.pass(count);
-                Ok(())
-            }
-            Err(error) => Err(GivenUp::Refused(error)),
-        }
-    }
-
     /// Takes what comes next, and feeds it; bytes wait in the room.
     fn feed_found(&mut self) -> Result<(), GivenUp<S::Error>>
         requires empty { self.old.room ≡ [] }
@@ -118,6 +101,7 @@ impl<S: Source + Drop> FedBackup<S> {
         ensures err { IfErr result (λ reason. FeedsPart (S.failed self.new.source) reason (feeder self.old.backup (S.told self.old.source) self.old.room (S.failed self.old.source) self.old.given_up) (feeder self.new.backup (S.told self.new.source) self.new.room (S.failed self.new.source) self.new.given_up)) }
         ensures known { ¬ IsErrOf result GivenUp.Endless }
         ensures same { self.new.given_up ≡ self.old.given_up }
+        ensures fewer { OnOk result (Lessens (S.told self.old.source) self.old.room (S.told self.new.source) self.new.room) }
         ensures hungry { OnErr result (IsHungry self.new.backup) }
         ensures job { job_of (feeder self.new.backup (S.told self.new.source) self.new.room (S.failed self.new.source) self.new.given_up) ≡ job_of (feeder self.old.backup (S.told self.old.source) self.old.room (S.failed self.old.source) self.old.given_up) }
     {
@@ -134,20 +118,27 @@ impl<S: Source + Drop> FedBackup<S> {
         }
     }
 
-    /// Feeds what is left of a piece, else what comes next.
+    /// Feeds what is left of a piece, and lets what wasn't taken wait; else what comes next.
     fn feed_next(&mut self) -> Result<(), GivenUp<S::Error>>
         requires { IsHungry self.old.backup }
         ensures ok { OnOk result (FeedsOn (feeder self.old.backup (S.told self.old.source) self.old.room (S.failed self.old.source) self.old.given_up) (feeder self.new.backup (S.told self.new.source) self.new.room (S.failed self.new.source) self.new.given_up)) }
         ensures err { IfErr result (λ reason. FeedsPart (S.failed self.new.source) reason (feeder self.old.backup (S.told self.old.source) self.old.room (S.failed self.old.source) self.old.given_up) (feeder self.new.backup (S.told self.new.source) self.new.room (S.failed self.new.source) self.new.given_up)) }
         ensures known { ¬ IsErrOf result GivenUp.Endless }
         ensures same { self.new.given_up ≡ self.old.given_up }
+        ensures fewer { OnOk result (Lessens (S.told self.old.source) self.old.room (S.told self.new.source) self.new.room) }
         ensures hungry { OnErr result (IsHungry self.new.backup) }
         ensures job { job_of (feeder self.new.backup (S.told self.new.source) self.new.room (S.failed self.new.source) self.new.given_up) ≡ job_of (feeder self.old.backup (S.told self.old.source) self.old.room (S.failed self.old.source) self.old.given_up) }
     {
-        if self.room.rest().is_empty() {
-            self.feed_found()
-        } else {
-            self.feed_rest()
+        let rest = self.room.rest();
+        if rest.is_empty() {
+            return self.feed_found();
+        }
+        match self.backup.feed(Item::Bytes(rest)) {
+            Ok(count) => {
+                self.room.pass(count);
+                Ok(())
+            }
+            Err(error) => Err(GivenUp::Refused(error)),
         }
     }
 
@@ -168,6 +159,7 @@ impl<S: Source + Drop> FedBackup<S> {
     fn feed_once(&mut self)
         requires { IsHungry self.old.backup }
         ensures cause { GaveUpAtOnce self.old.given_up self.new.given_up }
+        ensures fewer { (es fs : Trace) → IsFedUpto (feeder self.old.backup (S.told self.old.source) self.old.room (S.failed self.old.source) self.old.given_up) es fs → IsHungry self.new.backup → Lessens (S.told self.old.source) self.old.room (S.told self.new.source) self.new.room }
         ensures goes { FeedsOn (feeder self.old.backup (S.told self.old.source) self.old.room (S.failed self.old.source) self.old.given_up) (feeder self.new.backup (S.told self.new.source) self.new.room (S.failed self.new.source) self.new.given_up) }
         ensures job { job_of (feeder self.new.backup (S.told self.new.source) self.new.room (S.failed self.new.source) self.new.given_up) ≡ job_of (feeder self.old.backup (S.told self.old.source) self.old.room (S.failed self.old.source) self.old.given_up) }
     {
@@ -183,7 +175,7 @@ impl<S: Source + Drop> FedBackup<S> {
         ensures spared { (es fs : Trace) → IsFedUpto (feeder self.old.backup (S.told self.old.source) self.old.room (S.failed self.old.source) self.old.given_up) es fs → is_some self.old.given_up ≡ true → self.new ≡ self.old }
         ensures job { job_of (feeder self.new.backup (S.told self.new.source) self.new.room (S.failed self.new.source) self.new.given_up) ≡ job_of (feeder self.old.backup (S.told self.old.source) self.old.room (S.failed self.old.source) self.old.given_up) }
     {
-        for _ in 0..u64::MAX {
+        for turn in 0..u64::MAX {
             if !self.backup.wants() {
                 return;
             }

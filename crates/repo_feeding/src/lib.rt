@@ -9,7 +9,8 @@
 //! exchanges, and no snapshot is put but of items that ended. Where the source fails, or an item isn't taken, the backup is
 //! given up, and for no other reason but that it was fed without end; the reason is kept, and is the true one; and a source
 //! that failed is asked no more. Where it is known what a source was made to give, the items so far are on the way to that,
-//! and a snapshot spells just that.
+//! the one that isn't taken is the next of it, without end is at least 2^64 - 1 items and bytes, and a snapshot spells just
+//! that.
 //! Not promised: that a source ends. But each reply is taken in fewer than 2^64 turns.
 //!
 //! The definitions stand in `specs/`: `Sources` (what comes from a source), `Unfed` and `FedRules` (what such a backup may

@@ -7,7 +7,7 @@ use repo_backup::FeedError;
 pub enum GivenUp<E: Drop> {
     /// The source failed, for this reason.
     Source(E),
-    /// An item that came wasn't taken, for this reason.
+    /// The item that came next wasn't taken, for this reason.
     Refused(FeedError),
     /// It was fed 2^64 - 1 times on one reply, and wanted more.
     Endless,

@@ -15,3 +15,9 @@ returns-in-Err-clause-cause g c = λ is. (
 
 pub returns-in_default-clause-cause : goal.returns-in_default-clause-cause
 returns-in_default-clause-cause g c = λ is. sym c.in_default.ensures.same ∙ is
+
+pub returns-in-Err-clause-fewer : goal.returns-in-Err-clause-fewer
+returns-in-Err-clause-fewer g c = λ es fs upto hungry. (
+    let part = c.in-Err.ensures.err es fs upto in
+    let up = c.give_up.ensures.up es fs part.0 part.1 in
+    absurd (up.full hungry))

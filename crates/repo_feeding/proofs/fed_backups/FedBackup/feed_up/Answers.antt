@@ -1,49 +1,64 @@
-use Rattle.std.proofs.Common.{refl, ◌∙◌}
+use Rattle.std.specs.Prelude.{◌-◌, ◌^◌}
+use Rattle.std.proofs.Common.{arith, ◌≤◌, refl, ◌∙◌}
 use Rattle.repo_session.specs.Traces.{fed_in}
 use Rattle.repo_backup.specs.Items.{place_of}
 use Rattle.repo_feeding.specs.FedStates.{feeder}
-use Rattle.repo_feeding.proofs.Feeding.{full_with, no_reason, sound_of}
+use Rattle.repo_feeding.specs.Sources.{whole_of}
+use Rattle.repo_feeding.proofs.Feeding.{full_with, hungry_less, no_reason, sound_of}
+use Rattle.repo_feeding.proofs.Places.{less_endless, less_on}
 use Rattle.repo_feeding.proofs.fed_backups.FedBackup.feed_up.Goals as goal
 
-pub loop-init : goal.loop-init
-loop-init g c = record { goes = λ es fs upto. (fs, upto); full = λ none. refl; still = λ none. none; job = refl }
+pub loop-turn-init : goal.loop-turn-init
+loop-turn-init g c =
+    let s = c.args.self.now in
+    let f = feeder s.backup (g.S.Source.told s.source) s.room (g.S.Source.failed s.source) s.given_up in
+    record { goes = λ es fs upto. (fs, upto); less = λ es fs upto hungry. hungry_less f s.backup es fs hungry upto; full = λ none. refl; still = λ none. none; job = refl }
 
-pub loop-preserved : goal.loop-preserved
-loop-preserved g c =
+pub loop-turn-preserved : goal.loop-turn-preserved
+loop-turn-preserved g c =
     let hungry = c.wants.ensures.0 c.if-not-wants.false in
     record {
-      goes = λ es fs upto. (let m = c.loop.invariant.goes es fs upto in c.feed_once.ensures.goes es m.0 m.1);
-      full = λ none. absurd (c.loop.invariant.still none hungry);
-      still = λ none. absurd (c.loop.invariant.still none hungry);
-      job = c.feed_once.ensures.job ∙ c.loop.invariant.job;
+      goes = λ es fs upto. (let m = c.loop-turn.invariant.goes es fs upto in c.feed_once.ensures.goes es m.0 m.1);
+      less = λ es fs upto now. (
+          let m = c.loop-turn.invariant.goes es fs upto in
+          less_on c.loop-turn.turn _ _ _ _ (c.feed_once.ensures.fewer es m.0 m.1 now) (c.loop-turn.invariant.less es fs upto hungry));
+      full = λ none. absurd (c.loop-turn.invariant.still none hungry);
+      still = λ none. absurd (c.loop-turn.invariant.still none hungry);
+      job = c.feed_once.ensures.job ∙ c.loop-turn.invariant.job;
     }
 
 pub returns-then-not-wants-clause-up : goal.returns-then-not-wants-clause-up
 returns-then-not-wants-clause-up g c = λ es fs upto. (
-    let m = c.loop.invariant.goes es fs upto in
+    let m = c.loop-turn.invariant.goes es fs upto in
     record { fs = m.0; upto = m.1; full = λ hungry. (let h = c.wants.ensures.1 hungry in absurd (cc)) })
 
 pub returns-then-not-wants-clause-full : goal.returns-then-not-wants-clause-full
-returns-then-not-wants-clause-full g c = c.loop.invariant.full
+returns-then-not-wants-clause-full g c = c.loop-turn.invariant.full
 
 pub returns-then-not-wants-clause-job : goal.returns-then-not-wants-clause-job
-returns-then-not-wants-clause-job g c = c.loop.invariant.job
+returns-then-not-wants-clause-job g c = c.loop-turn.invariant.job
 
 pub returns-then-wants-clause-up : goal.returns-then-wants-clause-up
 returns-then-wants-clause-up g c = λ es fs upto. (
-    let m = c.loop.invariant.goes es fs upto in
-    c.give_up.ensures.up es m.0 m.1.fed (sound_of (g.S.Source.failed c.loop.self.source) (place_of (fed_in m.0)) c.loop.self.given_up (no_reason (feeder c.loop.self.backup (g.S.Source.told c.loop.self.source) c.loop.self.room (g.S.Source.failed c.loop.self.source) c.loop.self.given_up) es m.0 (c.wants-2.ensures.0 c.if-wants.true) m.1.fed) m.1.caused))
+    let m = c.loop-turn.invariant.goes es fs upto in
+    let s = c.loop-turn.self in
+    let told = g.S.Source.told s.source in
+    let f = feeder s.backup told s.room (g.S.Source.failed s.source) s.given_up in
+    let hungry = c.wants-2.ensures.0 c.if-wants.true in
+    let sound = sound_of (g.S.Source.failed s.source) (whole_of told) (place_of (fed_in m.0)) s.given_up (no_reason f es m.0 hungry m.1.fed) m.1.caused in
+    let many : 2 ^ 64 - 1 ≤ c.loop-turn.turn = omega (arith, c.loop-turn-test.false) in
+    c.give_up.ensures.up es m.0 m.1.fed (sound, less_endless c.loop-turn.turn told s.room many (c.loop-turn.invariant.less es fs upto hungry)))
 
 pub returns-else-wants-clause-up : goal.returns-else-wants-clause-up
 returns-else-wants-clause-up g c = λ es fs upto. (
-    let m = c.loop.invariant.goes es fs upto in
+    let m = c.loop-turn.invariant.goes es fs upto in
     record { fs = m.0; upto = m.1; full = λ hungry. (let h = c.wants-2.ensures.1 hungry in absurd (cc)) })
 
 pub returns-then-not-wants-clause-spared : goal.returns-then-not-wants-clause-spared
-returns-then-not-wants-clause-spared g c = λ es fs upto gave. c.loop.invariant.full (full_with (feeder c.args.self.now.backup (g.S.Source.told c.args.self.now.source) c.args.self.now.room (g.S.Source.failed c.args.self.now.source) c.args.self.now.given_up) es fs upto.fed gave)
+returns-then-not-wants-clause-spared g c = λ es fs upto gave. c.loop-turn.invariant.full (full_with (feeder c.args.self.now.backup (g.S.Source.told c.args.self.now.source) c.args.self.now.room (g.S.Source.failed c.args.self.now.source) c.args.self.now.given_up) es fs upto.fed gave)
 
 pub returns-then-wants-clause-spared : goal.returns-then-wants-clause-spared
-returns-then-wants-clause-spared g c = λ es fs upto gave. absurd (c.loop.invariant.still (full_with (feeder c.args.self.now.backup (g.S.Source.told c.args.self.now.source) c.args.self.now.room (g.S.Source.failed c.args.self.now.source) c.args.self.now.given_up) es fs upto.fed gave) (c.wants-2.ensures.0 c.if-wants.true))
+returns-then-wants-clause-spared g c = λ es fs upto gave. absurd (c.loop-turn.invariant.still (full_with (feeder c.args.self.now.backup (g.S.Source.told c.args.self.now.source) c.args.self.now.room (g.S.Source.failed c.args.self.now.source) c.args.self.now.given_up) es fs upto.fed gave) (c.wants-2.ensures.0 c.if-wants.true))
 
 pub returns-else-wants-clause-spared : goal.returns-else-wants-clause-spared
-returns-else-wants-clause-spared g c = λ es fs upto gave. c.loop.invariant.full (full_with (feeder c.args.self.now.backup (g.S.Source.told c.args.self.now.source) c.args.self.now.room (g.S.Source.failed c.args.self.now.source) c.args.self.now.given_up) es fs upto.fed gave)
+returns-else-wants-clause-spared g c = λ es fs upto gave. c.loop-turn.invariant.full (full_with (feeder c.args.self.now.backup (g.S.Source.told c.args.self.now.source) c.args.self.now.room (g.S.Source.failed c.args.self.now.source) c.args.self.now.given_up) es fs upto.fed gave)
