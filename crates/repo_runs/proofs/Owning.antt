@@ -11,9 +11,9 @@ use Rattle.repo_hall.specs.Happenings.{Log, Brought, Answered, Given, Stay, goin
 use Rattle.repo_hall.specs.Joined.{AtMostPending}
 use Rattle.repo_world.specs.Clients.{Client}
 use Rattle.repo_world.specs.Events.{MayAnybodySend, Takes}
-use Rattle.repo_world.specs.World.{Asked, IsOneOf, client_at}
+use Rattle.repo_world.specs.World.{Message, Asked, IsOneOf, client_at}
 use Rattle.repo_runs.proofs.Nourishing.{Nourished, nourished}
-use Rattle.repo_runs.specs.Connected.{GoesBy, HallGoes, IsTaken, OwnedGuestsGo, Senders, TakesTurn, with_store}
+use Rattle.repo_runs.specs.Connected.{AreAtEnds, GoesAmid, GoesBy, GoesInParts, HallGoes, HallPartsGo, IsForNoClient, IsTaken, OwnedGuestsGo, Senders, TakesTurn, with_store}
 
 -- ---- lists
 
@@ -37,53 +37,71 @@ each_front P (x ∷ xs) y h = let r = each_front P xs y h.1 in ((h.0, r.0), r.1)
 
 -- ---- a client, by what was answered to its guest
 
--- it went by a talk, and at most its pending request was answered beside
+-- what is pending on its connection is its own, or what anybody may ask
+abbrev WaitsOn : Client → Option Request → Type 0
+WaitsOn end next = (request : Request) → next ≡ Some request → (end.next ≡ Some request) ⊎ MayAnybodySend request
+
+-- it went by its turns of a talk, and at most what was pending was answered beside
 record Along (c : Client) (asked : List Request) (replies : List Reply) (end : Client) : Type 0 where
   talk : Talk
-  goes : GoesBy c talk end
+  goes : GoesAmid c talk end
+  next : Option Request
+  waits : WaitsOn end next
   left : List Request
   further : List Reply
   asked_are : asked ≡ sent_in talk ++ left
   replies_are : replies ≡ taken_in talk ++ further
-  pending : AtMostPending end.next left further
+  pending : AtMostPending next left further
+
+-- nothing was answered beside its turns
+along_turns : (c : Client) (asked : List Request) (replies : List Reply) (end : Client) (talk : Talk) → GoesAmid c talk end → asked ≡ sent_in talk → replies ≡ taken_in talk → Along c asked replies end
+along_turns c asked replies end talk goes a r = record {
+  talk = talk;
+  goes = goes;
+  next = None;
+  waits = λ request e. absurd (none-some request e);
+  left = [];
+  further = [];
+  asked_are = a ∙ sym (append-nil (sent_in talk));
+  replies_are = r ∙ sym (append-nil (taken_in talk));
+  pending = inl (refl, refl);
+}
 
 -- nothing was answered so far
-began : (c end : Client) (talk : Talk) (left : List Request) → GoesBy c talk end → [] ≡ sent_in talk ++ left → end ≡ c
+began : (c end : Client) (talk : Talk) (left : List Request) → GoesAmid c talk end → [] ≡ sent_in talk ++ left → end ≡ c
 began c end [] left g e = g
 began c end (turn ∷ talk) left g e = absurd (omega (arith, ap length e, length-append (sent_in talk ++ turn.request ∷ []) left, length-append (sent_in talk) (turn.request ∷ [])))
 
--- what the last answer was: it was taken, or it was lost
+-- what the last answer was: it was taken, or it is what anybody may ask, or it was lost
 data Last (c : Client) (asked : List Request) (replies : List Reply) (request : Request) (reply : Reply) (end : Client) : Type 0 where
   took : (turn : Turn) → (mid : Client) → turn.request ≡ request → turn.reply ≡ reply → TakesTurn mid turn end → Along c asked replies mid → Last c asked replies request reply end
+  anybodys : MayAnybodySend request → Along c asked replies end → Last c asked replies request reply end
   lost : end.next ≡ Some request → Along c asked replies end → Last c asked replies request reply end
 
-last_by : (c : Client) (asked : List Request) (replies : List Reply) (q : Request) (r : Reply) (end : Client) (talk : Talk) → GoesBy c talk end → (left : List Request) (further : List Reply)
-    → asked ++ q ∷ [] ≡ sent_in talk ++ left → replies ++ r ∷ [] ≡ taken_in talk ++ further → AtMostPending end.next left further → Last c asked replies q r end
-last_by c asked replies q r end [] g left further e f (inl (l, m)) = absurd (no_nil asked q (sym (e ∙ l)))
-last_by c asked replies q r end (turn ∷ talk) g left further e f (inl (l, m)) =
+-- a turn that was its own, or wasn't
+last_turn : (c : Client) (asked : List Request) (replies : List Reply) (end mid : Client) (talk : Talk) (turn : Turn) → GoesAmid c talk mid → TakesTurn mid turn end ⊎ (MayAnybodySend turn.request × (end ≡ mid))
+    → asked ≡ sent_in talk → replies ≡ taken_in talk → (q : Request) (r : Reply) → turn.request ≡ q → turn.reply ≡ r → Last c asked replies q r end
+last_turn c asked replies end mid talk turn goes (inl takes) a b q r asks says = Last.took turn mid asks says takes (along_turns c asked replies mid talk goes a b)
+last_turn c asked replies end mid talk turn goes (inr (may, same)) a b q r asks says =
+    Last.anybodys (subst MayAnybodySend asks may) (along_turns c asked replies end talk (subst (λ x. GoesAmid c talk x) (sym same) goes) a b)
+
+-- one that was pending
+last_pending : (c : Client) (asked : List Request) (replies : List Reply) (q : Request) (r : Reply) (end : Client) (request : Request) → (end.next ≡ Some request) ⊎ MayAnybodySend request → request ≡ q
+    → Along c asked replies end → Last c asked replies q r end
+last_pending c asked replies q r end request (inl own) same along = Last.lost (own ∙ ap Some same) along
+last_pending c asked replies q r end request (inr may) same along = Last.anybodys (subst MayAnybodySend same may) along
+
+last_by : (c : Client) (asked : List Request) (replies : List Reply) (q : Request) (r : Reply) (end : Client) (next : Option Request) → WaitsOn end next → (talk : Talk) → GoesAmid c talk end
+    → (left : List Request) (further : List Reply) → asked ++ q ∷ [] ≡ sent_in talk ++ left → replies ++ r ∷ [] ≡ taken_in talk ++ further → AtMostPending next left further → Last c asked replies q r end
+last_by c asked replies q r end next w [] g left further e f (inl (l, m)) = absurd (no_nil asked q (sym (e ∙ l)))
+last_by c asked replies q r end next w (turn ∷ talk) g left further e f (inl (l, m)) =
     let s = snoc asked (sent_in talk) q turn.request (e ∙ ap (λ x. (sent_in talk ++ turn.request ∷ []) ++ x) l ∙ append-nil (sent_in talk ++ turn.request ∷ [])) in
     let t = snoc replies (taken_in talk) r turn.reply (f ∙ ap (λ x. (taken_in talk ++ turn.reply ∷ []) ++ x) m ∙ append-nil (taken_in talk ++ turn.reply ∷ [])) in
-    Last.took turn g.0 (sym s.1) (sym t.1) g.2 (record {
-      talk = talk;
-      goes = g.1;
-      left = [];
-      further = [];
-      asked_are = s.0 ∙ sym (append-nil (sent_in talk));
-      replies_are = t.0 ∙ sym (append-nil (taken_in talk));
-      pending = inl (refl, refl);
-    })
-last_by c asked replies q r end talk g left further e f (inr (request, reply, next, answers, l, m)) =
+    last_turn c asked replies end g.0 talk turn g.1 g.2 s.0 t.0 q r (sym s.1) (sym t.1)
+last_by c asked replies q r end next w talk g left further e f (inr (request, reply, pending, answers, l, m)) =
     let s = snoc asked (sent_in talk) q request (e ∙ ap (λ x. sent_in talk ++ x) l) in
     let t = snoc replies (taken_in talk) r reply (f ∙ ap (λ x. taken_in talk ++ x) m) in
-    Last.lost (next ∙ ap Some (sym s.1)) (record {
-      talk = talk;
-      goes = g;
-      left = [];
-      further = [];
-      asked_are = s.0 ∙ sym (append-nil (sent_in talk));
-      replies_are = t.0 ∙ sym (append-nil (taken_in talk));
-      pending = inl (refl, refl);
-    })
+    last_pending c asked replies q r end request (w request pending) (sym s.1) (along_turns c asked replies end talk g s.0 t.0)
 
 -- ---- what happens to one guest, and to the others
 
@@ -118,16 +136,24 @@ module _ (old : Senders) (who : ℕ → Option ℕ) (apart : (i j k : ℕ) → w
   AreAlong log end = (g k : ℕ) → who g ≡ Some k → Along (client_at old.clients k) (stay g log).asked (stay g log).replies (end g)
 
   abbrev AreOthers : Log → Type 0
-  AreOthers log = (g : ℕ) → who g ≡ None → Each MayAnybodySend (stay g log).asked
+  AreOthers log = (g : ℕ) → who g ≡ None → Each (IsForNoClient old) (stay g log).asked
 
   abbrev Ends : Senders → (ℕ → Client) → Type 0
-  Ends new end = (g k : ℕ) → who g ≡ Some k → (client_at new.clients k ≡ end g) × ((request : Request) → (end g).next ≡ Some request → IsOneOf new.sent (Asked k request))
+  Ends new end = AreAtEnds who end new
 
   abbrev Rest : Senders → Type 0
   Rest new = (j : ℕ) → ((g : ℕ) → who g ≢ Some j) → client_at new.clients j ≡ client_at old.clients j
 
+  abbrev Kept : Senders → Type 0
+  Kept new = (m : Message) → IsOneOf old.sent m → IsOneOf new.sent m
+
   abbrev Go : Log → (ℕ → Client) → Type 0
-  Go log end = (new : Senders) × HallGoes old log new × Ends new end × Rest new
+  Go log end = (new : Senders) × HallGoes old log new × Ends new end × Rest new × Kept new
+
+  -- what was sent before is for no client, or for one that waits for it no more
+  still_sent : (mid : Senders) (q : Request) → Kept mid → IsForNoClient old q → IsForNoClient mid q
+  still_sent mid q kept (inl h) = inl (h.0, kept (Asked h.0 q) h.1)
+  still_sent mid q kept (inr may) = inr may
 
   -- whatever was answered before goes so
   abbrev Before : Log → Type 0
@@ -138,11 +164,11 @@ module _ (old : Senders) (who : ℕ → Option ℕ) (apart : (i j k : ℕ) → w
     along_away : AreAlong (Answered n q r ∷ log) end → (g k : ℕ) → n ≢ g → who g ≡ Some k → Along (client_at old.clients k) (stay g log).asked (stay g log).replies (end g)
     along_away along g k other w = subst (λ (s : Stay). Along (client_at old.clients k) s.asked s.replies (end g)) (away n q r log g other) (along g k w)
 
-    others_away : AreOthers (Answered n q r ∷ log) → (g : ℕ) → n ≢ g → who g ≡ None → Each MayAnybodySend (stay g log).asked
-    others_away others g other w = subst (λ (s : Stay). Each MayAnybodySend s.asked) (away n q r log g other) (others g w)
+    others_away : AreOthers (Answered n q r ∷ log) → (g : ℕ) → n ≢ g → who g ≡ None → Each (IsForNoClient old) (stay g log).asked
+    others_away others g other w = subst (λ (s : Stay). Each (IsForNoClient old) s.asked) (away n q r log g other) (others g w)
 
-    strange_asked : AreOthers (Answered n q r ∷ log) → who n ≡ None → Each MayAnybodySend (stay n log).asked × MayAnybodySend q
-    strange_asked others w = each_front MayAnybodySend (stay n log).asked q (subst (λ (s : Stay). Each MayAnybodySend s.asked) (own n q r log) (others n w))
+    strange_asked : AreOthers (Answered n q r ∷ log) → who n ≡ None → Each (IsForNoClient old) (stay n log).asked × IsForNoClient old q
+    strange_asked others w = each_front (IsForNoClient old) (stay n log).asked q (subst (λ (s : Stay). Each (IsForNoClient old) s.asked) (own n q r log) (others n w))
 
     -- the same client
     same_client : (k g j : ℕ) → who n ≡ Some k → n ≡ g → who g ≡ Some j → k ≡ j
@@ -163,11 +189,11 @@ module _ (old : Senders) (who : ℕ → Option ℕ) (apart : (i j k : ℕ) → w
     along_none w along g k v = ⊎_elim (λ e. absurd (none-some k (sym w ∙ ap who e ∙ v))) (λ other. along_away along g k other v) (decide n g)
 
     others_none : who n ≡ None → AreOthers (Answered n q r ∷ log) → AreOthers log
-    others_none w others g v = ⊎_elim (λ e. subst (λ i. Each MayAnybodySend (stay i log).asked) e (strange_asked others w).0) (λ other. others_away others g other v) (decide n g)
+    others_none w others g v = ⊎_elim (λ e. subst (λ i. Each (IsForNoClient old) (stay i log).asked) e (strange_asked others w).0) (λ other. others_away others g other v) (decide n g)
 
     -- the client took the reply
     module _ (k : ℕ) (w : who n ≡ Some k) (turn : Turn) (mid : Client) (asks : turn.request ≡ q) (says : turn.reply ≡ r) (t : TakesTurn mid turn (end n)) (m : Senders)
-        (ends : Ends m (but n mid end)) (rests : Rest m) where
+        (ends : Ends m (but n mid end)) (rests : Rest m) (kept : Kept m) where
       mid_is : client_at m.clients k ≡ mid
       mid_is = (ends n k w).0 ∙ but_here n mid end
 
@@ -211,10 +237,10 @@ module _ (old : Senders) (who : ℕ → Option ℕ) (apart : (i j k : ℕ) → w
       }
 
       took_goes : HallGoes old log m → Go (Answered n q r ∷ log) end
-      took_goes goes = (fed.new, (m, goes, inl taken), ends_new, rests_new)
+      took_goes goes = (fed.new, (m, goes, inl taken), ends_new, rests_new, λ y h. fed.reached.kept y (kept y h))
 
   go : (log : Log) (end : ℕ → Client) → AreAlong log end → AreOthers log → Go log end
-  go [] end along others = (old, refl, ends, λ j none. refl)
+  go [] end along others = (old, refl, ends, (λ j none. refl), λ m h. h)
     where
       ends : Ends old end
       ends g k w =
@@ -224,43 +250,76 @@ module _ (old : Senders) (who : ℕ → Option ℕ) (apart : (i j k : ℕ) → w
   go (Brought n piece ∷ log) end along others = go log end
       (λ g k w. (let p = pass (eqb n g) (stay g log) (going_on (Brought n piece) (stay g log)) refl refl in
       subst (λ x. Along (client_at old.clients k) x (stay g log).replies (end g)) p.0 (subst (λ y. Along (client_at old.clients k) (stay g (Brought n piece ∷ log)).asked y (end g)) p.1 (along g k w))))
-      (λ g w. subst (λ x. Each MayAnybodySend x) (pass (eqb n g) (stay g log) (going_on (Brought n piece) (stay g log)) refl refl).0 (others g w))
+      (λ g w. subst (λ x. Each (IsForNoClient old) x) (pass (eqb n g) (stay g log) (going_on (Brought n piece) (stay g log)) refl refl).0 (others g w))
   go (Given n piece ∷ log) end along others = go log end
       (λ g k w. (let p = pass (eqb n g) (stay g log) (going_on (Given n piece) (stay g log)) refl refl in
       subst (λ x. Along (client_at old.clients k) x (stay g log).replies (end g)) p.0 (subst (λ y. Along (client_at old.clients k) (stay g (Given n piece ∷ log)).asked y (end g)) p.1 (along g k w))))
-      (λ g w. subst (λ x. Each MayAnybodySend x) (pass (eqb n g) (stay g log) (going_on (Given n piece) (stay g log)) refl refl).0 (others g w))
+      (λ g w. subst (λ x. Each (IsForNoClient old) x) (pass (eqb n g) (stay g log) (going_on (Given n piece) (stay g log)) refl refl).0 (others g w))
   go (Answered n q r ∷ log) end along others = by_owner (λ ends a o. go log ends a o) (who n) refl
     where
       by_last : Before log → (k : ℕ) → who n ≡ Some k → Last (client_at old.clients k) (stay n log).asked (stay n log).replies q r (end n) → Go (Answered n q r ∷ log) end
       by_last before k w (Last.lost next a) =
           let i = before end (along_with n q r log end k w end a (along_away n q r log end along)) (others_with n q r log end k w others) in
-          (i.0, (i.0, i.1, inr (inl (k, (i.2 n k w).1 q next), refl)), i.2, i.3)
+          (i.0, (i.0, i.1, inr (inl (k, (i.2 n k w).1 q next), refl)), i.2, i.3, i.4)
+      by_last before k w (Last.anybodys may a) =
+          let i = before end (along_with n q r log end k w end a (along_away n q r log end along)) (others_with n q r log end k w others) in
+          (i.0, (i.0, i.1, inr (inr may, refl)), i.2, i.3, i.4)
       by_last before k w (Last.took turn mid asks says t a) =
           let ends : ℕ → Client = but n mid end in
           let own_along : Along (client_at old.clients k) (stay n log).asked (stay n log).replies (ends n) = subst (λ c. Along (client_at old.clients k) (stay n log).asked (stay n log).replies c) (sym (but_here n mid end)) a in
           let rest : (g j : ℕ) → n ≢ g → who g ≡ Some j → Along (client_at old.clients j) (stay g log).asked (stay g log).replies (ends g) = λ g j other v. subst (λ c. Along (client_at old.clients j) (stay g log).asked (stay g log).replies c) (sym (but_there n mid end g other)) (along_away n q r log end along g j other v) in
           let i = before ends (along_with n q r log end k w ends own_along rest) (others_with n q r log end k w others) in
-          took_goes n q r log end k w turn mid asks says t i.0 i.2 i.3 i.1
+          took_goes n q r log end k w turn mid asks says t i.0 i.2 i.3 i.4 i.1
 
       by_owner : Before log → (o : Option ℕ) → who n ≡ o → Go (Answered n q r ∷ log) end
       by_owner before None w =
           let i = before end (along_none n q r log end w along) (others_none n q r log end w others) in
-          (i.0, (i.0, i.1, inr (inr (strange_asked n q r log end others w).1, refl)), i.2, i.3)
+          (i.0, (i.0, i.1, inr (still_sent i.0 q i.4 (strange_asked n q r log end others w).1, refl)), i.2, i.3, i.4)
       by_owner before (Some k) w =
           let a = subst (λ (s : Stay). Along (client_at old.clients k) s.asked s.replies (end n)) (own n q r log) (along n k w) in
-          by_last before k w (last_by (client_at old.clients k) (stay n log).asked (stay n log).replies q r (end n) a.talk a.goes a.left a.further a.asked_are a.replies_are a.pending)
+          by_last before k w (last_by (client_at old.clients k) (stay n log).asked (stay n log).replies q r (end n) a.next a.waits a.talk a.goes a.left a.further a.asked_are a.replies_are a.pending)
 
 pub owned_guests_go : OwnedGuestsGo
 owned_guests_go old log who end owned =
-    let found = go old who owned.apart (λ g k w. (owned.clients g k w).sent) log end
+    go old who owned.apart (λ g k w. (owned.clients g k w).sent) log end
     (λ g k w. (let c = owned.clients g k w in record {
       talk = c.said.talk;
       goes = c.goes;
+      next = c.next;
+      waits = c.waits;
       left = c.along.left;
       further = c.along.further;
       asked_are = c.along.asked;
       replies_are = c.along.replies;
       pending = c.along.pending;
     }))
-    owned.others in
-    (found.0, found.1, (λ g k w. (found.2 g k w).0), found.3)
+    owned.others
+
+-- ---- a hall in parts
+
+pub hall_parts_go : HallPartsGo
+hall_parts_go old mid new earlier [] first rest = subst (λ s. HallGoes old earlier s) (sym rest) first
+hall_parts_go old mid new earlier (Brought n piece ∷ later) first rest = hall_parts_go old mid new earlier later first rest
+hall_parts_go old mid new earlier (Answered n request reply ∷ later) first rest = (rest.0, hall_parts_go old mid rest.0 earlier later first rest.1, rest.2)
+hall_parts_go old mid new earlier (Given n piece ∷ later) first rest = hall_parts_go old mid new earlier later first rest
+
+-- ---- a client's talk in parts
+
+stands_still : (c : Client) (opening : Talk) → Each (λ (turn : Turn). MayAnybodySend turn.request) opening → GoesAmid c opening c
+stands_still c [] h = refl
+stands_still c (turn ∷ opening) h = (c, stands_still c opening h.1, inr (h.0, refl))
+
+goes_behind : (old new : Client) (opening talk : Talk) → Each (λ (turn : Turn). MayAnybodySend turn.request) opening → GoesBy old talk new → GoesAmid old (talk ++ opening) new
+goes_behind old new opening [] h g = subst (λ c. GoesAmid old opening c) (sym g) (stands_still old opening h)
+goes_behind old new opening (turn ∷ talk) h g = (g.0, goes_behind old g.0 opening talk h g.1, inl g.2)
+
+parts_of : (old new : Client) (talk later : Talk) → GoesBy old (later ++ talk) new → (mid : Client) × GoesBy old talk mid × GoesBy mid later new
+parts_of old new talk [] g = (new, g, refl)
+parts_of old new talk (turn ∷ later) g =
+    let r = parts_of old g.0 talk later g.1 in
+    (r.0, r.1, (g.0, r.2, g.2))
+
+pub goes_in_parts : GoesInParts
+goes_in_parts old new opening talk later h g =
+    let r = parts_of old new talk later g in
+    (r.0, goes_behind old r.0 opening talk h r.1, r.2)

@@ -1,5 +1,5 @@
 -- What is answered over connections, to clients of a world and to others, one after another or many at once, as a run of the world.
-use Rattle.std.specs.Prelude.{◌≡◌, ◌≢◌, ◌⊎◌, ◌∷◌, [], ℕ, false, List, Option, Some, None}
+use Rattle.std.specs.Prelude.{◌≡◌, ◌≢◌, ◌⊎◌, ◌++◌, ◌∷◌, [], ℕ, false, List, Option, Some, None}
 use Rattle.repo_wire.specs.declared.messages.Reply.{Reply}
 use Rattle.repo_wire.specs.declared.messages.Request.{Request}
 use Rattle.repo_store.specs.Serving.{Moment, Past, SomeServed, plain}
@@ -106,24 +106,48 @@ abbrev pub GoesBy : Client → Talk → Client → Type 0
 GoesBy old [] new = new ≡ old
 GoesBy old (turn ∷ talk) new = (mid : Client) × GoesBy old talk mid × TakesTurn mid turn new
 
--- what a client said over its connection goes along with what happened to the guest; it goes by that talk to where it ends; and the request that was
--- pending before was sent
+-- it goes by those turns of a talk that are its own; the others ask what anybody may, as a command does that asks a store for its config before it begins
+abbrev pub GoesAmid : Client → Talk → Client → Type 0
+GoesAmid old [] new = new ≡ old
+GoesAmid old (turn ∷ talk) new = (mid : Client) × GoesAmid old talk mid × (TakesTurn mid turn new ⊎ (MayAnybodySend turn.request × (new ≡ mid)))
+
+-- what was said over a client's connection goes along with what happened to the guest; the client goes by its turns of that talk to where it ends, and what
+-- is pending on the connection then is the client's, or what anybody may ask; and the request that was pending before was sent
 pub record IsClients (old : Senders) (k : ℕ) (s : Stay) (end : Client) : Type 0 where
   pub said : Said
-  pub along : TalksAlong said end.next s
-  pub goes : GoesBy (client_at old.clients k) said.talk end
+  pub next : Option Request
+  pub along : TalksAlong said next s
+  pub goes : GoesAmid (client_at old.clients k) said.talk end
+  pub waits : (request : Request) → next ≡ Some request → (end.next ≡ Some request) ⊎ MayAnybodySend request
   pub sent : (request : Request) → (client_at old.clients k).next ≡ Some request → IsOneOf old.sent (Asked k request)
 
--- each guest is a client's, and no client has two; or it is somebody's who is no client
+-- each guest is a client's, and no client has two; or it is somebody's who is no client, or one on whose connection a client sent what is answered now, and
+-- waits there no more
 pub record AreOwned (old : Senders) (log : Log) (who : ℕ → Option ℕ) (end : ℕ → Client) : Type 0 where
   pub apart : (i j k : ℕ) → who i ≡ Some k → who j ≡ Some k → i ≡ j
   pub clients : (g k : ℕ) → who g ≡ Some k → IsClients old k (stay g log) (end g)
-  pub others : (g : ℕ) → who g ≡ None → Each MayAnybodySend (stay g log).asked
+  pub others : (g : ℕ) → who g ≡ None → Each (IsForNoClient old) (stay g log).asked
 
--- then the answers go so, each client of a guest ends where its talk ends, and the other clients are as they were
+-- clients end so, and what they have pending there was sent
+abbrev pub AreAtEnds : (ℕ → Option ℕ) → (ℕ → Client) → Senders → Type 0
+AreAtEnds who end new =
+    (g k : ℕ) → who g ≡ Some k → (client_at new.clients k ≡ end g) × ((request : Request) → (end g).next ≡ Some request → IsOneOf new.sent (Asked k request))
+
+-- then the answers go so, each client of a guest ends where its talk ends, the other clients are as they were, and what was sent before stays so
 abbrev pub OwnedGuestsGo : Type 0
 OwnedGuestsGo = (old : Senders) (log : Log) (who : ℕ → Option ℕ) (end : ℕ → Client) → AreOwned old log who end
-    → (new : Senders) × HallGoes old log new × ((g k : ℕ) → who g ≡ Some k → client_at new.clients k ≡ end g) × ((j : ℕ) → ((g : ℕ) → who g ≢ Some j) → client_at new.clients j ≡ client_at old.clients j)
+    → (new : Senders) × HallGoes old log new × AreAtEnds who end new × ((j : ℕ) → ((g : ℕ) → who g ≢ Some j) → client_at new.clients j ≡ client_at old.clients j)
+    × ((m : Message) → IsOneOf old.sent m → IsOneOf new.sent m)
+
+-- what happened in a hall goes so where a first part of it does, and the rest behind it: as a client may have one guest in each part, the parts may be cut
+-- where a client connects once more
+abbrev pub HallPartsGo : Type 0
+HallPartsGo = (old mid new : Senders) (earlier later : Log) → HallGoes old earlier mid → HallGoes mid later new → HallGoes old (later ++ earlier) new
+
+-- what a client goes by over one connection after another it goes by in parts, also where turns that ask what anybody may stand before those of a part
+abbrev pub GoesInParts : Type 0
+GoesInParts = (old new : Client) (opening talk later : Talk) → Each (λ turn. MayAnybodySend turn.request) opening → GoesBy old (later ++ talk) new
+    → (mid : Client) × GoesAmid old (talk ++ opening) mid × GoesBy mid later new
 
 -- ---- a backup that feeds itself
 

@@ -37,7 +37,8 @@ pub use bag_laws::{
     upgraded_is_of_version,
 };
 pub use connections::{
-    connections_are_a_run, fed_backup_goes, owned_guests_go, serving_is_hosting,
+    connections_are_a_run, fed_backup_goes, goes_in_parts, hall_parts_go, owned_guests_go,
+    serving_is_hosting,
 };
 pub use examples::{
     backup_is_a_run, example_is_a_run, fed_backup_is_a_run, forget_is_a_run, lone_talk_is_a_run,
