@@ -5,13 +5,15 @@ use crate::told::Told;
 use repo_name::{Instance, Kind, Name};
 use repo_prog::fault_word;
 use repo_session::{
-    CheckFault, Client, Emission, End, Outcome, StepError, Who, lockstep, result_text, thing_word,
+    CheckFault, Client, Emission, End, Outcome, StepError, Who, lockstep, result_text, take_each,
+    thing_word,
 };
 use repo_store::{FaultShelf, Kept, MemShelf, Shelf};
 use repo_tree::Snapshot;
 use repo_wire::{Ask, Reply, write_request};
 use repo_world::{AnyClient, Job, NotBegun};
 use std::alloc::{AllocError, Global};
+use std::slice;
 
 /// A client, and what it sent last.
 #[derive(Drop)]
@@ -218,7 +220,9 @@ impl Seat {
 
     /// Takes a reply, and tells what it gave out.
     pub fn take(&mut self, reply: &Reply, told: &mut Told) -> Result<(), AllocError> {
-        self.client.take(reply)?;
+        if take_each(&mut self.client, slice::from_ref(reply)).is_err() {
+            return Err(AllocError);
+        }
         told.emissions(self.client.emitted())
     }
 

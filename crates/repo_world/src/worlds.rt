@@ -2,6 +2,7 @@
 
 ghost use Rattle.std.specs.Prelude.{◌≡◌, ◌≢◌, ◌<◌, ◌↔◌, [], ℕ, List, IfOk, IfErr, IsErrOf, IsOk, IsTrue, OnErr, OnOk, None, length, option_map, slice_get, string_bytes, take, Some, ⊤};
 ghost use Rattle.repo_tree.specs.ConfigText.{config_text, IsTarget};
+ghost use Rattle.repo_tree.specs.Versions.{greatest_version, IsKnownTo};
 ghost use Rattle.repo_wire.specs.declared.messages.Code.{Code};
 ghost use Rattle.repo_wire.specs.declared.messages.Say.{Say};
 ghost use Rattle.repo_store.specs.declared.making.InitError.{InitError};
@@ -84,10 +85,10 @@ fn wants_memory(say: &Say) -> bool
 }
 
 impl World<MemShelf> {
-    /// A world over an empty shelf in memory, with this config. The config's version has to be 1, and its target within its
-    /// limits. It fails for memory alone.
+    /// A world over an empty shelf in memory, with this config. The config's version has to be one that there is, and its
+    /// target within its limits. It fails for memory alone.
     pub fn in_memory(alloc: Global, config: &Config) -> Result<World<MemShelf>, AllocError>
-        requires version { config.now.version ≡ 1 }
+        requires version { IsKnownTo greatest_version config.now.version }
         requires target { IsTarget config.now.target }
         ensures begins { IfOk result (λ w. BeginsWithConfig (config_text config.now) empty (seen store_of w)) }
     {
@@ -101,13 +102,13 @@ impl World<MemShelf> {
 
 impl<S: Shelf + Drop> World<S> {
     /// A world over a device that is honest, has no object, and gave no ticket, with this config. The config's version has
-    /// to be 1, and its target within its limits.
+    /// to be one that there is, and its target within its limits.
     ///
     /// `Exists` comes first, where the device has a config. `Fault` comes only where the device failed.
     pub fn new(alloc: Global, shelf: S, config: &Config) -> Result<World<S>, InitError>
         requires honest { S.honest shelf }
         requires empty { IsEmpty (S.store shelf) }
-        requires version { config.now.version ≡ 1 }
+        requires version { IsKnownTo greatest_version config.now.version }
         requires target { IsTarget config.now.target }
         ensures begins { IfOk result (λ w. BeginsWithConfig (config_text config.now) (S.store shelf) (seen S.store w)) }
         ensures exists { IsErrOf result InitError.Exists → (S.store shelf).config ≢ None }
