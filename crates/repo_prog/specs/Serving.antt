@@ -1,7 +1,7 @@
 -- What serving connections one after another gives.
-use Rattle.std.specs.Prelude.{◌≡◌, ◌⊎◌, ◌∷◌, [], ℕ, List, All, Option, Result, IsErr, IsOk}
+use Rattle.std.specs.Prelude.{◌≡◌, ◌⊎◌, ◌∷◌, [], ℕ, Bool, true, false, List, All, Option, Result, IsErr, IsOk}
 use Rattle.repo_store.specs.Serving.{ServesConnection, seen}
-use Rattle.repo_store.specs.Stores.{Store}
+use Rattle.repo_store.specs.Stores.{Store, appending}
 use Rattle.repo_store.specs.declared.serving.ServeError.{ServeError}
 
 -- a connection that was served: its two ends as they came, as they were left, and how it ended
@@ -32,3 +32,8 @@ abbrev pub ServesOne : {T : Type 0} → (remaining contents : T → Option (List
 ServesOne {T} remaining contents Such result old failed new failing =
     ((new ≡ old) × (failing ≡ failed) × IsErr result)
     ⊎ ((it : Connection T) × Such it.writer × (it.result ≡ result) × IsServed remaining contents it old failed new failing)
+
+-- a store as it is served: as one that only appends, where it is to be
+abbrev pub as_served : Bool → Store → Store
+as_served true store = appending store
+as_served false store = store

@@ -1,12 +1,14 @@
 //! `vault serve`.
 
-ghost use Rattle.std.specs.Prelude.{◌≡◌, ◌≤◌, ◌<◌, ⊤, List, length, IsErr, IsOk};
+ghost use Rattle.std.specs.Prelude.{◌≡◌, ◌≤◌, ◌<◌, ⊤, true, List, length, IsErr, IsOk};
 ghost use Rattle.std.specs.Io.KnownBytes.{Appends};
 ghost use Rattle.repo_hall.specs.Halls.{Hosted};
 ghost use Rattle.repo_hall.specs.Happenings.{Log};
 ghost use Rattle.repo_prog.specs.Commands.{listening_line, IsEnd};
-ghost use Rattle.repo_prog.specs.Serving.{AreServed, AreWell, Connection, ServesOne};
+ghost use Rattle.repo_prog.specs.Serving.{AreServed, AreWell, Connection, ServesOne, as_served};
 ghost use Rattle.repo_prog.specs.declared.status.Status.{Status};
+ghost use Rattle.repo_store.specs.AppendOnly.{KeepsObjects, OnlyAppends};
+ghost use Rattle.repo_store.specs.Serving.{Ran};
 
 use crate::status::{Status, failed, failed_by};
 use repo_dial::reader_of;
@@ -30,6 +32,7 @@ fn serve_stream<T: Read + Write + OpenStream + Drop, S: Shelf>(
 ) -> Result<u64, ServeError>
     ensures served { S.honest shelf.old → ServesOne T.remaining T.contents (λ writer. writer ≡ stream)
         result (S.store shelf.old) (S.failed shelf.old) (S.store shelf.new) (S.failed shelf.new) }
+    ensures kept { S.honest shelf.old → OnlyAppends (S.store shelf.old) (S.store shelf.new) }
     ensures honest { S.honest shelf.old → S.honest shelf.new }
 {
     let Ok(mut reader) = reader_of(&stream, idle) else {
@@ -49,6 +52,7 @@ where
     L::Stream: Read + Write + OpenStream,
     ensures served { S.honest shelf.old → ServesOne L.Stream.remaining L.Stream.contents (λ writer. ⊤)
         result (S.store shelf.old) (S.failed shelf.old) (S.store shelf.new) (S.failed shelf.new) }
+    ensures kept { S.honest shelf.old → OnlyAppends (S.store shelf.old) (S.store shelf.new) }
     ensures honest { S.honest shelf.old → S.honest shelf.new }
 {
     match listener.accept() {
@@ -91,6 +95,7 @@ where
     ensures served { S.honest shelf.old → (served : List (Connection L.Stream)) × (length served ≤ connections)
         × AreServed L.Stream.remaining L.Stream.contents served (S.store shelf.old) (S.failed shelf.old) (S.store shelf.new) (S.failed shelf.new)
         × (result ≡ Status.Done → (length served ≡ connections) × AreWell served) }
+    ensures kept { S.honest shelf.old → OnlyAppends (S.store shelf.old) (S.store shelf.new) }
     ensures honest { S.honest shelf.old → S.honest shelf.new }
     ensures silent { result ≡ Status.Done → faults.new ≡ faults.old }
     ensures status { IsEnd result }
@@ -115,6 +120,7 @@ fn serve_at_once<R: Net + Clock + AllocGlobal, L: OpenListener + AsRawFd, S: She
 where
     L::Stream: Read + Write + OpenStream + AsRawFd,
     ensures hosted { S.honest shelf.old → (log : Log) × Hosted (S.store shelf.old) (S.failed shelf.old) log (S.store shelf.new) (S.failed shelf.new) }
+    ensures kept { S.honest shelf.old → OnlyAppends (S.store shelf.old) (S.store shelf.new) }
     ensures honest { S.honest shelf.old → S.honest shelf.new }
     ensures silent { result ≡ Status.Done → faults.new ≡ faults.old }
     ensures status { IsEnd result }
@@ -141,6 +147,8 @@ fn serve_listener<R: Net + Clock + AllocGlobal, L: OpenListener + AsRawFd, S: Sh
 ) -> Status
 where
     L::Stream: Read + Write + OpenStream + AsRawFd,
+    ensures kept { S.honest shelf.old → OnlyAppends (S.store shelf.old) (S.store shelf.new) }
+    ensures ran { S.honest shelf.old → Ran (S.store shelf.old) (S.failed shelf.old) (S.store shelf.new) (S.failed shelf.new) }
     ensures honest { S.honest shelf.old → S.honest shelf.new }
     ensures silent { result ≡ Status.Done → faults.new ≡ faults.old }
     ensures status { IsEnd result }
@@ -158,25 +166,33 @@ where
     )
 }
 
-/// Serves a shelf as it is to be served. What it has is remembered, so nobody else may write to it.
+/// Serves a shelf as it is to be served, and gives it back. What it has is remembered, so nobody else may write to it.
+///
+/// Its store is where requests lead, and nothing else. Where it only appends each object that it had is there, with the
+/// same bytes, whatever was asked.
 fn serve_shelf<R: Net + Clock + AllocGlobal, L: OpenListener + AsRawFd, S: Shelf + Drop, F: Write>(
     rt: &R,
     listener: &L,
     serving: Serving,
     shelf: S,
     faults: &mut F,
-) -> Status
+) -> (Status, S)
 where
     L::Stream: Read + Write + OpenStream + AsRawFd,
-    ensures silent { result ≡ Status.Done → faults.new ≡ faults.old }
-    ensures status { IsEnd result }
+    ensures kept { S.honest shelf → serving.append_only ≡ true → KeepsObjects (S.store shelf) (S.store result.1) }
+    ensures ran { S.honest shelf → Ran (as_served serving.append_only (S.store shelf)) (S.failed shelf) (as_served serving.append_only (S.store result.1)) (S.failed result.1) }
+    ensures honest { S.honest shelf → S.honest result.1 }
+    ensures silent { result.0 ≡ Status.Done → faults.new ≡ faults.old }
+    ensures status { IsEnd result.0 }
 {
     if serving.append_only {
-        let mut shelf = Kept::new(rt.alloc(), AppendOnly::new(shelf));
-        return serve_listener(rt, listener, serving, &mut shelf, faults);
+        let mut kept = Kept::new(rt.alloc(), AppendOnly::new(shelf));
+        let status = serve_listener(rt, listener, serving, &mut kept, faults);
+        return (status, kept.into_inner().into_inner());
     }
-    let mut shelf = Kept::new(rt.alloc(), shelf);
-    serve_listener(rt, listener, serving, &mut shelf, faults)
+    let mut kept = Kept::new(rt.alloc(), shelf);
+    let status = serve_listener(rt, listener, serving, &mut kept, faults);
+    (status, kept.into_inner())
 }
 
 /// How a store is served.
@@ -225,5 +241,6 @@ where
     if write_whole(output, b"listening\n").is_err() || output.flush().is_err() {
         return failed(faults, &"write failed");
     }
-    serve_shelf(rt, &listener, serving, shelf, faults)
+    let (status, _) = serve_shelf(rt, &listener, serving, shelf, faults);
+    status
 }

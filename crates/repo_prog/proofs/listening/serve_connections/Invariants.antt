@@ -1,4 +1,5 @@
 use Rattle.std.proofs.Common.{◌≡◌}
+use Rattle.repo_store.specs.AppendOnly.{OnlyAppends}
 use Rattle.repo_prog.specs.Commands.{IsEnd}
 use Rattle.repo_prog.specs.declared.status.Status.{Status}
 use Rattle.repo_prog.proofs.ServedLemmas.{Served}
@@ -8,6 +9,7 @@ abbrev pub invariant-loop-turn : goal.invariant-loop-turn
 invariant-loop-turn g l = record {
   served : g.S.Shelf.honest l.fn.shelf
       → Served g.L.Stream.Read.remaining g.L.Stream.Write.contents l.turn l.status (g.S.Shelf.store l.fn.shelf) (g.S.Shelf.failed l.fn.shelf) (g.S.Shelf.store l.shelf) (g.S.Shelf.failed l.shelf);
+  kept : g.S.Shelf.honest l.fn.shelf → OnlyAppends (g.S.Shelf.store l.fn.shelf) (g.S.Shelf.store l.shelf);
   honest : g.S.Shelf.honest l.fn.shelf → g.S.Shelf.honest l.shelf;
   silent : l.status ≡ Status.Done → l.faults ≡ l.fn.faults;
   status : IsEnd l.status;
