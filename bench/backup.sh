@@ -10,7 +10,8 @@
 #
 # Usage: bench/backup.sh [MIB [FILES [MIXED]]]. Without words: one file of 512 MiB, 20,000 files of 2 KiB, a tree of 256 MiB.
 # With 64 2000 32 it takes about a minute. VAULT=PATH times that program in place of the one that is built; PROCESSOR is handed to
-# scripts/vault.sh. The port is 7082, or PORT. All that it makes lies in a temporary folder, which is removed at the end.
+# scripts/vault.sh. RESTIC=PATH and BORG=PATH are other programs than those on the path. The port is 7082, or PORT. All that it makes
+# lies in a temporary folder, which is removed at the end.
 set -euo pipefail
 here=$(cd "$(dirname "$0")" && pwd)
 declare -A sizes=([large]=${1:-512} [small]=${2:-20000} [mixed]=${3:-256})
@@ -22,9 +23,11 @@ work=$(mktemp -d)
 trap 'rm -rf "$work"' EXIT
 export RESTIC_PASSWORD=none RESTIC_CACHE_DIR=$work/cache BORG_BASE_DIR=$work/base BORG_UNKNOWN_UNENCRYPTED_REPO_ACCESS_IS_OK=yes
 programs=(restic vault borg)
+restic=${RESTIC:-restic}
+borg=${BORG:-borg}
 
 has() {
-    [ "$1" = vault ] || command -v "$1" >/dev/null
+    [ "$1" = vault ] || command -v "${!1}" >/dev/null
 }
 
 # Times a command, in FILE: seconds of the clock, seconds of processors in user and system mode, and KiB resident at most.
@@ -54,11 +57,11 @@ run_vault() {
 }
 
 run_restic() {
-    timed "$work/client" restic --quiet "$@" >"$work/told"
+    timed "$work/client" "$restic" --quiet "$@" >"$work/told"
 }
 
 run_borg() {
-    timed "$work/client" sh -c "cd '$work/again' && borg $1" >"$work/told"
+    timed "$work/client" sh -c "cd '$work/again' && '$borg' $1" >"$work/told"
 }
 
 # Does a step with a program; `folder` is what is backed up.
@@ -85,7 +88,7 @@ step() {
     "borg: restore") run_borg "extract ::edited" ;;
     "borg: list") run_borg list ;;
     "borg: check") run_borg "check --verify-data" ;;
-    "borg: forget and prune") run_borg "prune --keep-last 1 && borg compact --threshold 0" ;;
+    "borg: forget and prune") run_borg "prune --keep-last 1 && '$borg' compact --threshold 0" ;;
     esac
     if [ "$1" = vault ] && grep -q '^stored' "$work/told"; then cp "$work/told" "$work/stored"; fi
 }
@@ -113,8 +116,8 @@ echo "$(lscpu | sed -n 's/^Model name: *//p'), $(nproc) processors"
 for program in "${programs[@]}"; do
     ! has "$program" || case $program in
     vault) "$vault" --version ;;
-    restic) restic version ;;
-    borg) borg --version ;;
+    restic) "$restic" version ;;
+    borg) "$borg" --version ;;
     esac
 done
 printf '| %-29s | %-7s | %9s | %7s | %15s | %11s | %7s |\n' step program "of restic" clock "processors" MiB "stored"
@@ -124,8 +127,8 @@ for kind in large small mixed; do
     "$here/files.py" make "$kind" "$folder" "${sizes[$kind]}"
     export RESTIC_REPOSITORY=$work/restic BORG_REPO=$work/borg
     "$vault" init "$work/store" >"$work/told"
-    ! has restic || restic --quiet init >"$work/told"
-    ! has borg || borg init --encryption none >"$work/told"
+    ! has restic || "$restic" --quiet init >"$work/told"
+    ! has borg || "$borg" init --encryption none >"$work/told"
     for name in backup again "again, all read" edited restore list check "forget and prune"; do
         [ "$name" != edited ] || "$here/files.py" edit "$folder"
         rm -rf "$work/again" "$work/restic-seconds"

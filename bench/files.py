@@ -1,7 +1,7 @@
 #!/usr/bin/env python3
 """Makes the files that bench/backup.sh backs up, and edits them. The same words give the same bytes.
 
-Usage: files.py make KIND FOLDER SIZE, with a KIND of
+Usage: files.py make KIND FOLDER SIZE [SEED], with a KIND of
   large   one file of SIZE MiB of random bytes
   small   SIZE files of 2 KiB of random bytes, in folders of 1,000
   mixed   files of 1 byte to 4 MiB, half of them text and half random bytes, in folders of folders, until they have SIZE MiB
@@ -61,6 +61,6 @@ words = sys.argv[1:]
 if words[0] == "make":
     target = Path(words[2])
     target.mkdir()
-    {"large": large, "small": small, "mixed": mixed}[words[1]](target, int(words[3]), random.Random(words[1]))
+    {"large": large, "small": small, "mixed": mixed}[words[1]](target, int(words[3]), random.Random(" ".join([words[1], *words[4:]])))
 else:
     edit(Path(words[1]), random.Random("edit"))

@@ -74,13 +74,22 @@ def stamp_of(made):
     return (made / "stamp").read_bytes() if (made / "stamp").exists() else None
 
 
+def linked(one, other):
+    """Gives a file a second name: rt makes such a file anew, and never writes into it."""
+    try:
+        os.link(one, other)
+    except OSError:
+        shutil.copy2(one, other)
+
+
 def carries(name, parts, giver, taker):
-    """What rt made of a crate, from one copy of the sources to another that hasn't it."""
+    """What rt made of a crate, from one copy of the sources to another that hasn't it. A library's files are shared, so that one
+    that is there in each copy takes its room once."""
     for part in parts:
         made, place = (top / "crates" / name / "out" / part for top in (giver, taker))
         if made.is_dir() and (stamp_of(made) is None or stamp_of(made) != stamp_of(place)):
             shutil.rmtree(place, ignore_errors=True)
-            shutil.copytree(made, place, dirs_exist_ok=True)
+            shutil.copytree(made, place, copy_function=linked if part == "rlib" else shutil.copy2, dirs_exist_ok=True)
 
 
 class Job:

@@ -2,6 +2,7 @@
 """Tries edits that the prover has to refuse, many at a time.
 
 Usage: scripts/more-edits.py [--gate] [--alone] [CRATE..]
+or: scripts/more-edits.py --stale
 
 Of each crate (all without a word) it tries the edits in more-edits/CRATE and, with --gate, those in crates/CRATE/must-fail too.
 Edits that turn functions of their own go into one check together. An open goal at a line of an edited function comes from that
@@ -11,8 +12,12 @@ with --alone all are.
 
 It works on a copy of the repository, with the libraries that were built here (rt lib in each crate below).
 The last line is 'N refused, M not'.
+
+Where each edit in more-edits/CRATE was refused, more-edits/TRIED has a line of it: the crate, how many they were, and the digest of
+these edits and of the crate's sources, contracts and proofs. --stale tells the crates without a line, or whose files are others now.
 """
 import difflib
+import hashlib
 import os
 import re
 import shutil
@@ -24,6 +29,7 @@ import kit
 
 rt = kit.load()
 ROOT = os.path.dirname(os.path.dirname(os.path.abspath(__file__)))
+TRIED = f"{ROOT}/more-edits/TRIED"
 FUNCTION = re.compile(r"^ *(?:pub(?:\(crate\))? )?fn (\w+)")
 PLACE = re.compile(r"^(?:note: )?(?:\./)?(\S+?):(\d+):\d+: (.*)$")
 NAMES_ALONE = re.compile(r"^(?:note: )?(\./)?proofs/.*(has no field|is not in scope|has no `|was not admitted)")
@@ -168,6 +174,44 @@ def edits_of(crate, with_gate):
     return [f"{folder}/{name}" for folder in folders if os.path.isdir(folder) for name in sorted(os.listdir(folder))]
 
 
+def crates_with_edits():
+    return sorted(crate for crate in os.listdir(f"{ROOT}/more-edits") if os.path.isdir(f"{ROOT}/more-edits/{crate}"))
+
+
+def line_of(crate):
+    """The line of a crate in TRIED, were all its edits tried now."""
+    folders = [f"{ROOT}/crates/{crate}/{part}" for part in ("src", "specs", "proofs")] + [f"{ROOT}/more-edits/{crate}"]
+    digest = hashlib.sha256()
+    for path in sorted(os.path.join(place, name) for folder in folders for place, _, names in os.walk(folder) for name in names):
+        with open(path, "rb") as it:
+            digest.update(f"{os.path.relpath(path, ROOT)} {hashlib.sha256(it.read()).hexdigest()}\n".encode())
+    return f"{crate} {len(edits_of(crate, False))} {digest.hexdigest()[:16]}"
+
+
+def lines_of_tried():
+    """The lines of TRIED by their crates."""
+    if not os.path.exists(TRIED):
+        return {}
+    with open(TRIED, encoding="utf-8") as it:
+        return {line.split()[0]: line.rstrip("\n") for line in it}
+
+
+def note_tried(crate):
+    lines = lines_of_tried() | {crate: line_of(crate)}
+    with open(TRIED, "w", encoding="utf-8") as it:
+        it.writelines(f"{lines[name]}\n" for name in sorted(lines))
+
+
+def tell_stale():
+    lines = lines_of_tried()
+    for crate in crates_with_edits():
+        if crate not in lines:
+            print(f"{crate}: not tried")
+        elif lines[crate] != line_of(crate):
+            print(f"{crate}: changed since")
+    return 0
+
+
 def copied(top, crates):
     """Copies the repository, with its built libraries, and what was proved of the crates whose edits are tried."""
     files = subprocess.run(["git", "ls-files", "-z"], cwd=ROOT, capture_output=True, check=True).stdout
@@ -181,15 +225,24 @@ def copied(top, crates):
     os.makedirs(f"{top}/.git/info", exist_ok=True)
 
 
-def main(words):
-    crates = [word for word in words if not word.startswith("--")] or sorted(os.listdir(f"{ROOT}/more-edits"))
+def tries_crate(top, crate, words):
+    """How many edits of a crate were refused, and how many weren't."""
     refused = failed = 0
+    for edit, is_well, why in tried(Copy(top, crate), edits_of(crate, "--gate" in words), "--alone" in words):
+        refused, failed = refused + is_well, failed + (not is_well)
+        print(f"{'refused' if is_well else 'NOT REFUSED'} {label(edit)}: {why}", flush=True)
+    if not failed:
+        note_tried(crate)
+    return refused, failed
+
+
+def main(words):
+    if "--stale" in words:
+        return tell_stale()
+    crates = [word for word in words if not word.startswith("--")] or crates_with_edits()
     with tempfile.TemporaryDirectory(prefix="edits-") as top:
         copied(top, crates)
-        for crate in crates:
-            for edit, is_well, why in tried(Copy(top, crate), edits_of(crate, "--gate" in words), "--alone" in words):
-                refused, failed = refused + is_well, failed + (not is_well)
-                print(f"{'refused' if is_well else 'NOT REFUSED'} {label(edit)}: {why}", flush=True)
+        refused, failed = map(sum, zip(*(tries_crate(top, crate, words) for crate in crates)))
     print(f"{refused} refused, {failed} not")
     return 1 if failed else 0
 
