@@ -38,7 +38,7 @@ use Rattle.repo_restore.specs.declared.walks.Walk.{Walk}
 use Rattle.repo_restore.specs.Flowing.{is_open, TurnFlows}
 use Rattle.repo_session.specs.Received.{Received}
 use Rattle.repo_session.specs.Trees.{HasRoot, Under}
-use Rattle.repo_restore.specs.Restoring.{HaveLength, IsUneven, IsBadTree, MayGive, counted, restore_rule, RestoreConcludes}
+use Rattle.repo_restore.specs.Restoring.{HaveLength, IsUneven, IsBadTree, MayGive, ClosedAreWhole, counted, restore_rule, RestoreConcludes}
 use Rattle.repo_restore.specs.RestoreStates.{IsRangeOf, IsBefore, IsNewRestore, IsWalking, KnowsAtStage, KnowsRestore, RestoreTurnIs}
 use Rattle.repo_restore.specs.Walking.{WalkEnds, WaitsForBlob, Turns, TurnGives, IsUnevenIn, IsUnfitIn}
 use Rattle.repo_restore.specs.Walks.{Sums, WalkGives}
@@ -123,8 +123,15 @@ turn_flowed old out (Turn.Ended end) begun f g = (g.0, follow_both false begun g
 
 turn_gave : (facts : List Fact) (version : ℕ) (B : Blobs) (root : Name) (levels : List Level) (sent : ℕ) (onward : Bool) (entries : ℕ) (old out : List Emission) (turn : Turn) → TurnGives facts version B root levels sent onward entries old out turn → Each (WalkGives facts version B root) out
 turn_gave facts version B root levels sent onward entries old out (Turn.Ask fact) h = h.1
-turn_gave facts version B root levels sent onward entries old out (Turn.Complete count) h = h.2
-turn_gave facts version B root levels sent onward entries old out (Turn.Ended end) h = h.1
+turn_gave facts version B root levels sent onward entries old out (Turn.Complete count) h = h.2.each
+turn_gave facts version B root levels sent onward entries old out (Turn.Ended end) h = h.1.each
+
+-- each file that was closed is whole
+pub turn_closed : (facts : List Fact) (version : ℕ) (B : Blobs) (root : Name) (levels : List Level) (sent : ℕ) (onward : Bool) (entries : ℕ) (old out : List Emission) (turn : Turn) → TurnGives facts version B root levels sent onward entries old out turn
+    → ClosedAreWhole version B root (old ++ out)
+turn_closed facts version B root levels sent onward entries old out (Turn.Ask fact) h = h.0.closed
+turn_closed facts version B root levels sent onward entries old out (Turn.Complete count) h = h.2.closed
+turn_closed facts version B root levels sent onward entries old out (Turn.Ended end) h = h.1.closed
 
 may_give : (c : Catalog) (es : Trace) (version : ℕ) (root : Name) (given : Emission) → Catalogs c true es → WalkGives c.lookup version (Received es) root given → MayGive es version root given
 may_give c es version root (Emission.Dir path) h g = g

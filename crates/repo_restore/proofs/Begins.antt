@@ -13,17 +13,16 @@ use Rattle.repo_tree.specs.Spelling.{Joined, NodeSpells, Spells, dir_entry, file
 use Rattle.repo_session.specs.declared.emissions.Emission.{Emission}
 use Rattle.repo_session.specs.declared.outcomes.End.{End}
 use Rattle.repo_session.specs.Rebuilding.{rebuilt}
-use Rattle.repo_session.specs.Traces.{Each}
-use Rattle.repo_session.proofs.Receiving.{each_both}
 use Rattle.repo_session.proofs.Descending.{under_more}
 use Rattle.repo_restore.specs.declared.nodes.Begun.{Begun}
 use Rattle.repo_restore.specs.declared.nodes.Level.{Level}
 use Rattle.repo_session.specs.Trees.{Under, IsNodeAt}
 use Rattle.repo_restore.specs.Walking.{NodeBegins, NextBegins, LevelStands, WaitsAs, WaitsIn, WalkEnds}
 use Rattle.repo_session.specs.Catalogs.{IsBlobNowhere}
-use Rattle.repo_restore.specs.Walks.{IsWriting, PartIs, Sums, WalkGives, AtLevel, AtOpen}
+use Rattle.repo_restore.specs.Walks.{IsWriting, PartIs, Sums, WalkGave, AtLevel, AtOpen}
 use Rattle.repo_restore.specs.Nodes.{PartFollows}
 use Rattle.repo_restore.proofs.Rebuilds.{rebuilt_both, writing_new}
+use Rattle.repo_restore.proofs.Closing.{whole_dir, whole_begun, whole_empty, gave_more}
 use Rattle.repo_name.proofs.Containing.{contains_got}
 use Rattle.repo_restore.proofs.Trees.{part_lists, under_onward, node_at, open_more, open_all, close_level}
 
@@ -31,41 +30,42 @@ split : (old mid new last : List Emission) → new ≡ mid ++ last → old ++ ne
 split old mid new last p = ap (λ m. old ++ m) p ∙ sym (append_assoc old mid last)
 
 -- a node that was given out whole
-step_done : (facts : List Fact) (version : ℕ) (B : Blobs) (root tree : Name) (path : List (List ℕ)) (what : NodeKind) (old mid new : List Emission) → IsNodeAt version B root path what → NodeBegins facts tree path what mid new Begun.Done → Each (WalkGives facts version B root) mid
-    → (more : List Entry) × NodeSpells B (Spells version B) path what more × (rebuilt (old ++ new) ≡ rebuilt (old ++ mid) ++ more) × Each (WalkGives facts version B root) new
+step_done : (facts : List Fact) (version : ℕ) (B : Blobs) (root tree : Name) (path : List (List ℕ)) (what : NodeKind) (old mid new : List Emission) → IsNodeAt version B root path what → NodeBegins facts tree path what mid new Begun.Done → WalkGave facts version B root old mid
+    → (more : List Entry) × NodeSpells B (Spells version B) path what more × (rebuilt (old ++ new) ≡ rebuilt (old ++ mid) ++ more) × WalkGave facts version B root old new
 step_done facts version B root tree path (NodeKind.Dir subtree) old mid new at h given = absurd h
 step_done facts version B root tree path (NodeKind.File size content) old mid new at h given =
     let last : List Emission = Emission.File path ∷ Emission.Close ∷ [] in
+    let all : content ≡ [] → Joined B content [] = λ none. subst (λ ns. Joined B ns []) (sym none) refl in
     let even : content ≡ [] → size ≡ 0 → Sums facts content size = λ none zero. subst (λ ns. Sums facts ns size) (sym none) zero in (
       file_entry path [] ∷ [],
-      ([], subst (λ ns. Joined B ns []) (sym h.0) refl, sym h.1, refl),
+      ([], all h.0, sym h.1, refl),
       ap (λ (e : List Emission). rebuilt e) (split old mid new last h.2) ∙ rebuilt_both (old ++ mid) last refl,
-      subst (λ e. Each (WalkGives facts version B root) e) (sym h.2) (each_both (WalkGives facts version B root) mid last given ((size, content, at, even h.0 h.1), (tt, tt))),
+      gave_more facts version B root old mid new last h.2 given ((size, content, at, even h.0 h.1), (tt, tt)) (whole_empty version B root (old ++ mid) path (size, content, at, all h.0, sym h.1)),
     )
 
 -- a node that waits
 step_waits : (facts : List Fact) (version : ℕ) (B : Blobs) (root tree : Name) (path : List (List ℕ)) (what : NodeKind) (old mid new : List Emission) (fact : Fact) (all : List Entry) → IsNodeAt version B root path what
-    → NodeBegins facts tree path what mid new (Begun.Waits fact) → Each (WalkGives facts version B root) mid → rebuilt (old ++ mid) ≡ all → WaitsAs facts what path fact all (old ++ new) × Each (WalkGives facts version B root) new
+    → NodeBegins facts tree path what mid new (Begun.Waits fact) → WalkGave facts version B root old mid → rebuilt (old ++ mid) ≡ all → WaitsAs facts what path fact all (old ++ new) × WalkGave facts version B root old new
 step_waits facts version B root tree path (NodeKind.Dir subtree) old mid new fact all at h given whole =
     let last : List Emission = Emission.Dir path ∷ [] in (
       (h.0, ap (λ (e : List Emission). rebuilt e) (split old mid new last h.1) ∙ rebuilt_both (old ++ mid) last refl ∙ ap (λ es. es ++ dir_entry path ∷ []) whole),
-      subst (λ e. Each (WalkGives facts version B root) e) (sym h.1) (each_both (WalkGives facts version B root) mid last given ((subtree, at), tt)),
+      gave_more facts version B root old mid new last h.1 given ((subtree, at), tt) (whole_dir version B root (old ++ mid) path),
     )
 step_waits facts version B root tree path (NodeKind.File size content) old mid new fact all at h given whole =
     let last : List Emission = Emission.File path ∷ [] in (
       (h.0, h.1, h.2, subst (λ e. IsWriting e all path []) (sym (split old mid new last h.3)) (writing_new (old ++ mid) all path whole)),
-      subst (λ e. Each (WalkGives facts version B root) e) (sym h.3) (each_both (WalkGives facts version B root) mid last given ((size, content, at, h.2), tt)),
+      gave_more facts version B root old mid new last h.3 given ((size, content, at, h.2), tt) (whole_begun version B root (old ++ mid) path),
     )
 
 -- a node that can't be given out
-step_ends : (facts : List Fact) (version : ℕ) (B : Blobs) (root tree : Name) (path : List (List ℕ)) (name : List ℕ) (what : NodeKind) (nodes : List Node) (mid new : List Emission) (end : End) (above : List (List ℕ)) → Under version B root above tree → path ≡ above ++ name ∷ [] → IsNodeAt version B root path what → ListsBy version B tree nodes
-    → Contains nodes (record { name = name; what = what }) → NodeBegins facts tree path what mid new (Begun.Ended end) → Each (WalkGives facts version B root) mid → WalkEnds facts version B root end × Each (WalkGives facts version B root) new
-step_ends facts version B root tree path name (NodeKind.Dir subtree) nodes mid new end above under is at read among h given =
+step_ends : (facts : List Fact) (version : ℕ) (B : Blobs) (root tree : Name) (path : List (List ℕ)) (name : List ℕ) (what : NodeKind) (nodes : List Node) (old mid new : List Emission) (end : End) (above : List (List ℕ)) → Under version B root above tree → path ≡ above ++ name ∷ [] → IsNodeAt version B root path what → ListsBy version B tree nodes
+    → Contains nodes (record { name = name; what = what }) → NodeBegins facts tree path what mid new (Begun.Ended end) → WalkGave facts version B root old mid → WalkEnds facts version B root end × WalkGave facts version B root old new
+step_ends facts version B root tree path name (NodeKind.Dir subtree) nodes old mid new end above under is at read among h given =
     let last : List Emission = Emission.Dir path ∷ [] in (
       subst (λ x. WalkEnds facts version B root x) (sym h.0) (BlobKind.Tree, refl, h.1, (above ++ name ∷ [], under_more version B root above tree nodes name subtree under read among)),
-      subst (λ e. Each (WalkGives facts version B root) e) (sym h.2) (each_both (WalkGives facts version B root) mid last given ((subtree, at), tt)),
+      gave_more facts version B root old mid new last h.2 given ((subtree, at), tt) (whole_dir version B root (old ++ mid) path),
     )
-step_ends facts version B root tree path name (NodeKind.File size content) nodes mid new end above under is at read among h given = (why h.1, subst (λ e. Each (WalkGives facts version B root) e) (sym h.0) given)
+step_ends facts version B root tree path name (NodeKind.File size content) nodes old mid new end above under is at read among h given = (why h.1, subst (λ e. WalkGave facts version B root old e) (sym h.0) given)
   where
     why : ((n : Name) × (end ≡ End.Missing Thing.Content n) × Contains content n × IsBlobNowhere facts BlobKind.Content n) ⊎ ((end ≡ End.BadObject Thing.Tree tree) × ((total : ℕ) × Sums facts content total × (total ≢ size))) → WalkEnds facts version B root end
     why (inl m) = subst (λ x. WalkEnds facts version B root x) (sym m.1) (BlobKind.Content, refl, m.3, (path, size, content, at, m.2))
@@ -89,9 +89,9 @@ module _ (facts : List Fact) (version : ℕ) (B : Blobs) (root first : Name) (le
       record { at = at; counts = refl; node = node; node_is = p; inside = h.inside; opened = h.opened; waits = r.0; given = r.1 }
 
   pub begun_ends : (end : End) → LevelStands facts version B root first level at before old mid → slice_get level.nodes.items at ≡ Some node → NodeBegins facts level.tree (level.path ++ node.name ∷ []) node.what mid new (Begun.Ended end)
-      → WalkEnds facts version B root end × Each (WalkGives facts version B root) new
+      → WalkEnds facts version B root end × WalkGave facts version B root old new
   begun_ends end h p b =
-      step_ends facts version B root level.tree (level.path ++ node.name ∷ []) node.name node.what level.nodes.items mid new end level.path h.opened.under refl (node_at version B root first level.tree level.path level.nodes.items level.next at at h.inside node h.opened p)
+      step_ends facts version B root level.tree (level.path ++ node.name ∷ []) node.name node.what level.nodes.items old mid new end level.path h.opened.under refl (node_at version B root first level.tree level.path level.nodes.items level.next at at h.inside node h.opened p)
       (part_lists version B level.tree level.nodes.items level.next h.opened.read) (contains_got level.nodes.items at node p) b h.given
 
 -- past the last node of a level
@@ -115,7 +115,7 @@ part_follows facts version B root first level before old out now (Begun.Ended en
 
 -- the level of which nodes are begun stands
 pub level_stands : (facts : List Fact) (version : ℕ) (B : Blobs) (root : Name) (levels : List Level) (depth begun : ℕ) (level : Level) (old out : List Emission) (h : AtLevel version B root levels depth begun level (rebuilt (old ++ out)))
-    → Each (WalkGives facts version B root) out → LevelStands facts version B root h.first level begun h.before old out
+    → WalkGave facts version B root old out → LevelStands facts version B root h.first level begun h.before old out
 level_stands facts version B root levels depth begun level old out h given = record { inside = h.inside; opened = h.opened; whole = h.whole; given = given }
 
 pub level_done : (facts : List Fact) (version : ℕ) (B : Blobs) (root : Name) (levels : List Level) (depth begun above : ℕ) (level : Level) (old out new : List Emission) (h : AtLevel version B root levels depth begun level (rebuilt (old ++ out)))

@@ -1,5 +1,6 @@
 pub mod Summing
 pub mod Rebuilds
+pub mod Closing
 pub mod Flows
 pub mod Trees
 pub mod Begins

@@ -32,12 +32,13 @@ rebuilt_length (Emission.File path ∷ xs) ys = let h = rebuilt_length xs ys in 
 rebuilt_length (Emission.Piece bytes ∷ xs) ys = rebuilt_length xs ys
 rebuilt_length (Emission.Close ∷ xs) ys = rebuilt_length xs ys
 
-pieces_are : (ps : List Emission) (bytes : List ℕ) → ArePieces ps bytes → pieces (ps ++ Emission.Close ∷ []) ≡ bytes
-pieces_are [] bytes h = sym h
-pieces_are (Emission.Piece first ∷ ps) bytes h = ap (λ r. first ++ r) (pieces_are ps h.0 h.1) ∙ sym h.2
-pieces_are (Emission.Dir path ∷ ps) bytes h = absurd h
-pieces_are (Emission.File path ∷ ps) bytes h = absurd h
-pieces_are (Emission.Close ∷ ps) bytes h = absurd h
+-- pieces that were closed
+pub pieces_are : (ps after : List Emission) (bytes : List ℕ) → ArePieces ps bytes → pieces (ps ++ Emission.Close ∷ after) ≡ bytes
+pieces_are [] after bytes h = sym h
+pieces_are (Emission.Piece first ∷ ps) after bytes h = ap (λ r. first ++ r) (pieces_are ps after h.0 h.1) ∙ sym h.2
+pieces_are (Emission.Dir path ∷ ps) after bytes h = absurd h
+pieces_are (Emission.File path ∷ ps) after bytes h = absurd h
+pieces_are (Emission.Close ∷ ps) after bytes h = absurd h
 
 pieces_alone : (ps : List Emission) (bytes : List ℕ) → ArePieces ps bytes → rebuilt (ps ++ Emission.Close ∷ []) ≡ []
 pieces_alone [] bytes h = refl
@@ -75,7 +76,7 @@ writing_done emitted before path bytes h =
     ∙ ap (λ (e : List Emission). rebuilt e) (append_assoc h.first (Emission.File path ∷ h.last) (Emission.Close ∷ []))
     ∙ rebuilt_both h.first (Emission.File path ∷ last) refl
     ∙ ap (λ es. es ++ file_entry path (pieces last) ∷ rebuilt last) h.entries
-    ∙ ap (λ b. before ++ file_entry path b ∷ rebuilt last) (pieces_are h.last bytes h.written)
+    ∙ ap (λ b. before ++ file_entry path b ∷ rebuilt last) (pieces_are h.last [] bytes h.written)
     ∙ ap (λ es. before ++ file_entry path bytes ∷ es) (pieces_alone h.last bytes h.written)
 
 -- one more emission is counted

@@ -1,5 +1,5 @@
 -- What holds of a restore and of a list that are alone with their store, and of a restore whatever the replies, by the definitions alone.
-use Rattle.std.specs.Prelude.{◌≡◌, ◌<◌, ◌^◌, ◌-◌, [], ⊤, ℕ, List, length, Option, Some, None, Contains}
+use Rattle.std.specs.Prelude.{◌≡◌, ◌<◌, ◌^◌, ◌-◌, ◌++◌, ◌∷◌, [], ⊤, ℕ, List, length, Option, Some, None, Contains}
 use Rattle.repo_name.specs.declared.kinds.Kind.{Kind}
 use Rattle.repo_name.specs.declared.names.Name.{Name}
 use Rattle.repo_wire.specs.declared.messages.Code.{Code}
@@ -13,6 +13,7 @@ use Rattle.repo_session.specs.Askers.{Asker}
 use Rattle.repo_session.specs.Clients.{IsObedient}
 use Rattle.repo_session.specs.Ends.{before_unlock}
 use Rattle.repo_session.specs.Sessions.{next_in, ended_in}
+use Rattle.repo_session.specs.Received.{Received}
 use Rattle.repo_session.specs.Talks.{Talk, trace_of, given_in, TalkRan, MayBeAhead, TookEach, CameIn}
 use Rattle.repo_session.specs.Traces.{Trace, emitted_in}
 use Rattle.repo_session.specs.Trees.{HasRoot}
@@ -20,9 +21,10 @@ use Rattle.repo_session.specs.declared.emissions.Emission.{Emission}
 use Rattle.repo_session.specs.declared.outcomes.End.{End}
 use Rattle.repo_session.specs.declared.outcomes.Outcome.{Outcome}
 use Rattle.repo_restore.specs.Listing.{list_task, ListAllows, ListGives, ListConcludes}
-use Rattle.repo_restore.specs.Restoring.{Wish, restore_task, MayGive, IsRestored, RestoreAllows, RestoreGives, RestoreConcludes}
+use Rattle.repo_restore.specs.Restoring.{Wish, restore_task, MayGive, IsFileAt, IsRestored, RestoreAllows, RestoreGives, RestoreConcludes}
 use Rattle.repo_restore.specs.RestoreObedience.{wish_of}
 use Rattle.repo_restore.specs.RestoreStates.{FitsRestore}
+use Rattle.repo_restore.specs.Walks.{ArePieces}
 use Rattle.repo_restore.specs.declared.restores.Restore.{Restore}
 
 -- these exchanges, what is pending and the outcome are a restore's
@@ -85,3 +87,12 @@ MayBeGiven es snapshot given = (version : ℕ) × (root : Name) × HasRoot es sn
 abbrev pub GivenIsWhatCame : Type 0
 GivenIsWhatCame = (old new : Restore) (replies : List Reply) (talk : Talk) (given : Emission) → RestoreTook old replies talk new → Contains (given_in talk) given
     → CameIn replies (trace_of talk) × MayBeGiven (trace_of talk) (wish_of old).snapshot given
+
+-- by what was received, the file at this path has these bytes where the snapshot is restored
+abbrev pub FileHolds : Trace → Name → List (List ℕ) → List ℕ → Type 0
+FileHolds es snapshot path bytes = (version : ℕ) × (root : Name) × HasRoot es snapshot version root × IsFileAt version (Received es) root path bytes
+
+-- And so is a file that it closed whole: wherever it gave out a file's beginning, pieces of some bytes and a close, the file at that path has these bytes.
+abbrev pub ClosedIsWhole : Type 0
+ClosedIsWhole = (old new : Restore) (replies : List Reply) (talk : Talk) (before inside after : List Emission) (path : List (List ℕ)) (bytes : List ℕ) → RestoreTook old replies talk new
+    → given_in talk ≡ before ++ Emission.File path ∷ (inside ++ Emission.Close ∷ after) → ArePieces inside bytes → CameIn replies (trace_of talk) × FileHolds (trace_of talk) (wish_of old).snapshot path bytes

@@ -14,9 +14,11 @@ use Rattle.repo_tree.specs.Spelling.{Joined, NodesSpell, Spells, greatest_depth,
 use Rattle.repo_session.specs.declared.emissions.Emission.{Emission}
 use Rattle.repo_session.specs.Catalogs.{IsBlobNowhere}
 use Rattle.repo_session.specs.Rebuilding.{rebuilt}
+use Rattle.repo_session.specs.Traces.{Each}
 use Rattle.repo_session.specs.Trees.{Under, IsNodeAt}
 use Rattle.repo_restore.specs.declared.nodes.Filed.{Filed}
 use Rattle.repo_restore.specs.declared.nodes.Level.{Level}
+use Rattle.repo_restore.specs.Restoring.{ClosedAreWhole}
 
 -- the least places of content blobs of these names have so many bytes
 abbrev pub Sums : List Fact → List Name → ℕ → Type 0
@@ -30,6 +32,11 @@ WalkGives facts version B root (Emission.Dir path) = (subtree : Name) × IsNodeA
 WalkGives facts version B root (Emission.File path) = (size : ℕ) × (content : List Name) × IsNodeAt version B root path (NodeKind.File size content) × Sums facts content size
 WalkGives facts version B root (Emission.Piece bytes) = B BlobKind.Content bytes
 WalkGives facts version B root Emission.Close = ⊤
+
+-- what a walk gave out behind what was given before: each part is one that it may give out, and each file that was closed by then is whole
+pub record WalkGave (facts : List Fact) (version : ℕ) (B : Blobs) (root : Name) (old out : List Emission) : Type 0 where
+  pub each : Each (WalkGives facts version B root) out
+  pub closed : ClosedAreWhole version B root (old ++ out)
 
 -- what is left of a size after so many bytes, if they aren't more
 abbrev pub LeftOf : Option ℕ → ℕ → ℕ → Type 0

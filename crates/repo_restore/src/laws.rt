@@ -1,7 +1,7 @@
 //! What holds of a restore and of a list that are alone with their store, and of a restore whatever the replies, by the
 //! definitions alone. Each function is empty, and its contract is the law.
 
-ghost use Rattle.repo_restore.specs.Laws.{RestoreChangesNothing, ListChangesNothing, ListEndsWell, RestoreEndsWell, RestoredIsWhatCame, GivenIsWhatCame};
+ghost use Rattle.repo_restore.specs.Laws.{RestoreChangesNothing, ListChangesNothing, ListEndsWell, RestoreEndsWell, RestoredIsWhatCame, GivenIsWhatCame, ClosedIsWhole};
 
 /// A restore changes no object of its store, also where the store has gone one step further than it.
 pub fn restore_changes_nothing()
@@ -36,4 +36,10 @@ pub fn restored_is_what_came()
 /// tree which was received has at its path, or the end of a file.
 pub fn given_is_what_came()
     ensures { GivenIsWhatCame }
+{}
+
+/// And whatever its end, each file that it closed is whole: the pieces between its beginning and its close have just the bytes
+/// that a tree which was received lists at its path, in the blobs that were received.
+pub fn closed_is_whole()
+    ensures { ClosedIsWhole }
 {}

@@ -9,8 +9,9 @@
 //! the bytes that were read under its name say. `Complete` comes only where what was given out is what the
 //! snapshot's tree spells in the blobs that were received, which have the names that indexes which were read give
 //! them; each part given out is a piece of such a blob, or a directory or a file that a tree which was received has
-//! at its path; and both hold over any replies ([`restored_is_what_came`], [`given_is_what_came`]). Not promised: that a store
-//! answers, or that a list or a restore ends well.
+//! at its path; each file that is closed, however the restore ends, has just the bytes that such a tree lists there; and all
+//! this holds over any replies ([`restored_is_what_came`], [`given_is_what_came`], [`closed_is_whole`]). Not promised: that
+//! a store answers, or that a list or a restore ends well.
 //!
 //! The definitions stand in `specs/`: `Listing` (when a list may be told), `Restoring` (what a restore may give out and
 //! tell, over the trees of repo_session's `Trees`); and what is known on the way: `ListStates`, `Walks`, `Nodes`
@@ -25,8 +26,8 @@ mod steps;
 mod walks;
 
 pub use laws::{
-    given_is_what_came, list_changes_nothing, list_ends_well, restore_changes_nothing,
-    restore_ends_well, restored_is_what_came,
+    closed_is_whole, given_is_what_came, list_changes_nothing, list_ends_well,
+    restore_changes_nothing, restore_ends_well, restored_is_what_came,
 };
 pub use listings::SnapshotList;
 pub use restores::Restore;

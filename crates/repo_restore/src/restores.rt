@@ -238,7 +238,7 @@ impl Job for RestoreJob {
 }
 
 /// A client that restores a snapshot: it gives out the directories and files that the snapshot's tree spells, in
-/// order, a file by pieces. Its outcome is `Complete` where all was given out.
+/// order, a file by pieces. A file that it closes is whole. Its outcome is `Complete` where all was given out.
 ///
 /// A blob in no index ends it as `Missing`: a file's blobs are all looked up before anything of the file is given
 /// out, a directory's tree right after the directory. Bytes of another name, of another length than their place's,

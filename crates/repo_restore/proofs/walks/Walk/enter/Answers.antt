@@ -4,12 +4,12 @@ use Rattle.repo_name.specs.declared.names.Name.{Name}
 use Rattle.repo_tree.specs.declared.nodes.Node.{Node}
 use Rattle.repo_tree.specs.Spelling.{greatest_depth}
 use Rattle.repo_session.specs.declared.emissions.Emission.{Emission}
-use Rattle.repo_session.specs.Traces.{Each}
 use Rattle.repo_restore.specs.declared.nodes.Level.{Level}
 use Rattle.repo_session.specs.Received.{Received}
 use Rattle.repo_session.specs.Trees.{Under}
 use Rattle.repo_restore.specs.Walking.{WaitsByKind, TreeWaitsBy, StopsAt, Turns}
-use Rattle.repo_restore.specs.Walks.{PartIs, AtOpen, WalkGives}
+use Rattle.repo_restore.specs.Walks.{PartIs, AtOpen}
+use Rattle.repo_restore.proofs.Closing.{gave_none}
 use Rattle.repo_session.specs.Rebuilding.{rebuilt, Follow}
 use Rattle.repo_restore.specs.Flowing.{FlowsTo, TurnFlows}
 use Rattle.repo_restore.proofs.Passing.{path_is, entered}
@@ -27,8 +27,7 @@ returns-then-is_too_deep-clause-ok c = λ gs version root fact old h first k n t
     let D : List (List ℕ) → Type 0 = λ p. greatest_depth ≤ length p in
     let N : List Node → Type 0 = λ ns. ns ≢ [] in
     let U : Name → Type 0 = λ m. Under version (Received gs) root tree.0 m in
-    let E : List Emission → Type 0 = λ e. Each (WalkGives c.args.lookup.now version (Received gs) root) e in
-    ((refl, (tree.0, subst U n tree.2, inl (inr (inl (c.args.nodes.items, part_lists version (Received gs) c.args.tree c.args.nodes.items c.args.next t, subst N c.as_slice.ensures.value deep.1, subst D at deep.0))))), subst E (sym none) tt)
+    ((refl, (tree.0, subst U n tree.2, inl (inr (inl (c.args.nodes.items, part_lists version (Received gs) c.args.tree c.args.nodes.items c.args.next t, subst N c.as_slice.ensures.value deep.1, subst D at deep.0))))), gave_none c.args.lookup.now version (Received gs) root old _ none h.closed)
 
 pub returns-in-Ok-clause-ok : goal.returns-in-Ok-clause-ok
 returns-in-Ok-clause-ok c = λ gs version root fact old h first k n t none.
@@ -45,8 +44,7 @@ returns-in-Ok-clause-ok c = λ gs version root fact old h first k n t none.
     let same : c.as_slice-2.result.now ≡ levels ++ level ∷ [] = c.as_slice-2.ensures.value ∙ c.in_ok-push.ensures.items in
     let A : List Level → Type 0 = λ ls. AtOpen version (Received gs) root ls (length ls) 0 (rebuilt (old ++ [])) in
     let O : List Emission → Type 0 = λ e. AtOpen version (Received gs) root c.as_slice-2.result.now (length c.as_slice-2.result.now) 0 (rebuilt (old ++ e)) in
-    let E : List Emission → Type 0 = λ e. Each (WalkGives c.args.lookup.now version (Received gs) root) e in
-    let stops = c.in-Ok.ensures.stops gs version root old (subst O (sym none) (subst A (sym same) start)) (subst E (sym none) tt) in
+    let stops = c.in-Ok.ensures.stops gs version root old (subst O (sym none) (subst A (sym same) start)) (gave_none c.args.lookup.now version (Received gs) root old _ none h.closed) in
     let out = c.go_on.new.out.items in
     let stop = c.in-Ok.stop in
     let F : List Level → Type 0 = λ ls. StopsAt c.args.lookup.now version (Received gs) root ls old out stop.depth stop.begun stop.what in

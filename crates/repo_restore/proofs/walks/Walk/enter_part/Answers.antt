@@ -6,11 +6,11 @@ use Rattle.repo_session.specs.declared.outcomes.End.{End}
 use Rattle.repo_tree.specs.declared.nodes.Node.{Node}
 use Rattle.repo_tree.specs.Spelling.{greatest_depth}
 use Rattle.repo_session.specs.declared.emissions.Emission.{Emission}
-use Rattle.repo_session.specs.Traces.{Each}
 use Rattle.repo_restore.specs.declared.nodes.Level.{Level}
 use Rattle.repo_session.specs.Received.{Received}
 use Rattle.repo_restore.specs.Walking.{MayFollow, WalkEnds, WaitsByKind, TreeWaitsBy, StopsAt, Turns}
-use Rattle.repo_restore.specs.Walks.{PartIs, AtOpen, WalkGives}
+use Rattle.repo_restore.specs.Walks.{PartIs, AtOpen}
+use Rattle.repo_restore.proofs.Closing.{gave_none}
 use Rattle.repo_session.specs.Rebuilding.{rebuilt, Follow}
 use Rattle.repo_restore.specs.Flowing.{FlowsTo, TurnFlows}
 use Rattle.repo_restore.proofs.Passing.{entered_part, part_refused, path_deep, put_twice}
@@ -25,10 +25,9 @@ returns-then-is_too_deep-clause-ok c = λ gs version root fact old h onward k n 
     let deep = c.is_too_deep.ensures.yes c.if-is_too_deep.true in
     let N : List Node → Type 0 = λ ns. ns ≢ [] in
     let T : Name → Type 0 = λ m. PartIs version (Received gs) m c.args.nodes.items c.args.next in
-    let D : Name → Type 0 = λ m. WalkEnds c.args.lookup.now version (Received gs) root (End.BadObject Thing.Tree m) in
-    let E : List Emission → Type 0 = λ e. Each (WalkGives c.args.lookup.now version (Received gs) root) e in (
+    let D : Name → Type 0 = λ m. WalkEnds c.args.lookup.now version (Received gs) root (End.BadObject Thing.Tree m) in (
       subst D n (part_refused c.args.lookup.now version (Received gs) root w.levels.items fact old c.args.nodes.items c.args.next p (subst T (sym n) t) (inl (path_deep c.in_ok-path.path p.level.path c.args.nodes.items at (deep.0, subst N c.as_slice.ensures.value deep.1)))),
-      subst E (sym none) tt,
+      gave_none c.args.lookup.now version (Received gs) root old _ none h.closed,
     )
 
 pub returns-then-not-come_behind-clause-ok : goal.returns-then-not-come_behind-clause-ok
@@ -38,13 +37,12 @@ returns-then-not-come_behind-clause-ok c = λ gs version root fact old h onward 
     let p = subst (λ o. TreeWaitsBy o version (Received gs) root w.levels.items fact old) onward (subst K k h.waits) in
     let T : Name → Type 0 = λ m. PartIs version (Received gs) m c.args.nodes.items c.args.next in
     let D : Name → Type 0 = λ m. WalkEnds c.args.lookup.now version (Received gs) root (End.BadObject Thing.Tree m) in
-    let E : List Emission → Type 0 = λ e. Each (WalkGives c.args.lookup.now version (Received gs) root) e in
     let wrong : ¬ MayFollow p.level.nodes.items c.args.nodes.items = λ may. (
     let yes = (c.come_behind.ensures p.above p.level (c.as_slice-2.ensures.value ∙ p.levels_are)).1 (subst (MayFollow p.level.nodes.items) (sym c.as_slice-3.ensures.value) may) in
     let no = c.if-not-come_behind.true in
     absurd (cc)) in (
       subst D n (part_refused c.args.lookup.now version (Received gs) root w.levels.items fact old c.args.nodes.items c.args.next p (subst T (sym n) t) (inr wrong)),
-      subst E (sym none) tt,
+      gave_none c.args.lookup.now version (Received gs) root old _ none h.closed,
     )
 
 pub returns-in-Ok-clause-ok : goal.returns-in-Ok-clause-ok
@@ -63,8 +61,7 @@ returns-in-Ok-clause-ok c = λ gs version root fact old h onward k n t none.
     let same : c.as_slice-4.result.now ≡ new = c.as_slice-4.ensures.value ∙ (c.replace_last-before.ensures.some p.above p.level p.levels_are).1 in
     let A : List Level → Type 0 = λ ls. AtOpen version (Received gs) root ls (length ls) 0 (rebuilt (old ++ [])) in
     let O : List Emission → Type 0 = λ e. AtOpen version (Received gs) root c.as_slice-4.result.now (length c.as_slice-4.result.now) 0 (rebuilt (old ++ e)) in
-    let E : List Emission → Type 0 = λ e. Each (WalkGives c.args.lookup.now version (Received gs) root) e in
-    let stops = c.in-Ok.ensures.stops gs version root old (subst O (sym none) (subst A (sym same) start)) (subst E (sym none) tt) in
+    let stops = c.in-Ok.ensures.stops gs version root old (subst O (sym none) (subst A (sym same) start)) (gave_none c.args.lookup.now version (Received gs) root old _ none h.closed) in
     let out = c.go_on.new.out.items in
     let stop = c.in-Ok.stop in
     let F : List Level → Type 0 = λ ls. StopsAt c.args.lookup.now version (Received gs) root ls old out stop.depth stop.begun stop.what in

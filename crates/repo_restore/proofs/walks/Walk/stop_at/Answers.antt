@@ -18,7 +18,7 @@ returns-in-Waits-clause-turns c = λ facts gs version root old h count.
     let now = counted_more c.args.self.now.entries c.count_entries.result c.saturating_add-entries.result old out count c.count_entries.ensures c.saturating_add-entries.ensures in
     let kept = kept_open facts version (Received gs) root s.1 (take c.args.stop.depth c.args.self.now.levels.items) s.0 c.args.stop.begun s.2 old out fact c.saturating_add-entries.result s.5 s.4 now in
     let L : List Level → Type 0 = λ ls. WalkWaits facts version (Received gs) root ls 0 false c.saturating_add-entries.result fact (old ++ out) in
-    (subst L (sym (c.keep_open.ensures s.0 s.3)) kept, s.5.given)
+    (subst L (sym (c.keep_open.ensures s.0 s.3)) kept, s.5.given.each)
 
 pub returns-in-GoesOn-clause-turns : goal.returns-in-GoesOn-clause-turns
 returns-in-GoesOn-clause-turns c = λ facts gs version root old h count.
@@ -28,4 +28,4 @@ returns-in-GoesOn-clause-turns c = λ facts gs version root old h count.
     let now = counted_more c.args.self.now.entries c.count_entries.result c.saturating_add-entries.result old out count c.count_entries.ensures c.saturating_add-entries.ensures in
     let kept = part_open facts version (Received gs) root s.1 (take c.args.stop.depth c.args.self.now.levels.items) s.0 c.args.stop.begun s.2 old out fact c.saturating_add-entries.result s.5 s.4 now in
     let L : List Level → Type 0 = λ ls. WalkWaits facts version (Received gs) root ls 0 true c.saturating_add-entries.result fact (old ++ out) in
-    (subst L (sym (c.keep_open-in-GoesOn.ensures s.0 s.3)) kept, s.5.stands.given)
+    (subst L (sym (c.keep_open-in-GoesOn.ensures s.0 s.3)) kept, s.5.stands.given.each)

@@ -31,7 +31,7 @@ returns-in_ok-stop-in-Done-clause-ok c = λ gs version root fact old h k among n
     let count = c.one_more-sent.ensures (let P : List Name → Type 0 = λ ns. w.sent < length ns in subst P (sym same) within) in
     let m : mid ≡ out ++ Emission.Piece bytes ∷ [] = c.in_ok-push.ensures.items ∙ ap (λ b. out ++ Emission.Piece b ∷ []) c.in_ok-piece.ensures in
     let b = rw c.in-Done.is at c.in_ok-next_blob.ensures in
-    let last = blob_last facts version (Received gs) root levels w.sent w.onward w.entries fact old out mid new content next bytes f both.1 same count among named long none m b in
+    let last = blob_last facts version (Received gs) root levels w.sent w.onward w.entries fact old out mid new content next bytes f both.1 same count among named long none m h.closed b in
     let begun : c.innermost_begun-begun.result ≡ f.level.begun = c.innermost_begun-begun.ensures f.above f.level (c.as_slice-in-Done.ensures.value ∙ f.levels_are) in
     let slice = c.as_slice-in-Done-2.result.now in
     let N : ℕ → Type 0 = λ n. AtOpen version (Received gs) root levels (length levels) n (rebuilt (old ++ new)) in
@@ -62,7 +62,7 @@ returns-in-Waits-clause-ok c = λ gs version root fact old h k among named long 
     let count = c.one_more-sent.ensures (let P : List Name → Type 0 = λ ns. w.sent < length ns in subst P (sym same) within) in
     let m : mid ≡ out ++ Emission.Piece bytes ∷ [] = c.in_ok-push.ensures.items ∙ ap (λ b. out ++ Emission.Piece b ∷ []) c.in_ok-piece.ensures in
     let b = rw c.in-Waits.is at c.in_ok-next_blob.ensures in
-    blob_more facts version (Received gs) root levels w.sent w.onward w.entries fact old out mid new content next bytes c.in-Waits.fact f both.1 same count among named long none m h.count b
+    blob_more facts version (Received gs) root levels w.sent w.onward w.entries fact old out mid new content next bytes c.in-Waits.fact f both.1 same count among named long none m h.count h.closed b
 
 pub returns-in-Ended-clause-ok : goal.returns-in-Ended-clause-ok
 returns-in-Ended-clause-ok c = λ gs version root fact old h k among named long none.
@@ -80,7 +80,7 @@ returns-in-Ended-clause-ok c = λ gs version root fact old h k among named long 
     let same = c.open_content-content.ensures f.above f.level f.node f.size f.content (c.as_slice.ensures.value ∙ f.levels_are) (f.begun.at, f.begun.counts, f.begun.node_is) f.file in
     let m : mid ≡ out ++ Emission.Piece bytes ∷ [] = c.in_ok-push.ensures.items ∙ ap (λ b. out ++ Emission.Piece b ∷ []) c.in_ok-piece.ensures in
     let b = rw c.in-Ended.is at c.in_ok-next_blob.ensures in
-    blob_ends facts version (Received gs) root levels w.sent w.onward w.entries fact old out mid new content next bytes f same c.in-Ended.end among none m b
+    blob_ends facts version (Received gs) root levels w.sent w.onward w.entries fact old out mid new content next bytes f same c.in-Ended.end among none m h.closed b
 
 pub returns-in_ok-stop-in-Done-clause-flows : goal.returns-in_ok-stop-in-Done-clause-flows
 returns-in_ok-stop-in-Done-clause-flows c = λ none.
