@@ -1,3 +1,4 @@
 mod Staying
 pub mod Hosting
 mod Joining
+pub mod Turning

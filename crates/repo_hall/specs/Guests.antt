@@ -62,11 +62,21 @@ GuestGoes old (Err ServiceError.Memory) new from failed to failing = GuestRests 
 GuestGoes old (Err ServiceError.Write) new from failed to failing = ⊥
 GuestGoes old (Err ServiceError.Limit) new from failed to failing = ⊥
 
+-- nothing of what a guest brought is left but less than a whole frame, and no fault
+abbrev pub IsLessThanAFrame : Guest → Type 0
+IsLessThanAFrame g = (g.reader.fault ≡ None) × IsPartial g.reader.unread
+
+-- a guest of which more is awaited: it is answered still, has nothing to be given yet, and brought less than a whole frame
+pub record IsAwaited (g : Guest) : Type 0 where
+  pub up : g.ended ≡ false
+  pub given : out_of g ≡ []
+  pub less : IsLessThanAFrame g
+
 -- what each answer comes for: a guest isn't answered only where it is answered no more, has something to be given yet, or brought less than a whole
 -- frame; a fault is told only where its stream has it
 abbrev pub AnswerCause : Guest → Result Bool ServiceError → Type 0
 AnswerCause g (Ok true) = (g.ended ≡ false) × (out_of g ≡ [])
-AnswerCause g (Ok false) = (g.ended ≡ true) ⊎ ((out_of g ≢ []) ⊎ IsPartial g.reader.unread)
+AnswerCause g (Ok false) = (g.ended ≡ true) ⊎ ((out_of g ≢ []) ⊎ IsLessThanAFrame g)
 AnswerCause g (Err (ServiceError.Wire fault)) =
     (g.ended ≡ false) × (out_of g ≡ []) × ((g.reader.fault ≡ Some fault) ⊎ HasFault requests g.reader.unread fault)
 AnswerCause g (Err ServiceError.Memory) = (g.ended ≡ false) × (out_of g ≡ [])

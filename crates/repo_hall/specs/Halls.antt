@@ -1,5 +1,5 @@
 -- How a hall stands after what happened.
-use Rattle.std.specs.Prelude.{◌≡◌, ◌⊎◌, ◌≤◌, ◌<◌, ◌∷◌, ℕ, Bool, true, false, List, Option, Some, Result, Ok, Err, slice_get}
+use Rattle.std.specs.Prelude.{◌≡◌, ◌⊎◌, ◌≤◌, ◌<◌, ◌++◌, ◌∷◌, ℕ, Bool, true, false, List, Option, Some, Result, Ok, Err, slice_get}
 use Rattle.repo_wire.specs.declared.messages.Reply.{Reply}
 use Rattle.repo_wire.specs.declared.messages.Request.{Request}
 use Rattle.repo_wire.specs.Messages.{requests}
@@ -11,7 +11,7 @@ use Rattle.repo_store.specs.Stores.{Store}
 use Rattle.repo_hall.specs.declared.guests.Guest.{Guest}
 use Rattle.repo_hall.specs.declared.halls.Hall.{Hall}
 use Rattle.repo_hall.specs.Guests.{IsGuest}
-use Rattle.repo_hall.specs.Happenings.{Happening, Answered, Log, IsStay, all_asked, all_replies, no_stay, stay}
+use Rattle.repo_hall.specs.Happenings.{Happening, Answered, AreInTurn, Log, IsStay, all_asked, all_replies, no_stay, stay}
 
 -- what was answered to all guests, in that order, is one run of the store machine, and a failure of the device that a reply tells was counted; and of
 -- every guest, of those that left too, what happened to it is a stay
@@ -64,10 +64,10 @@ abbrev pub NothingHappens : Hall → Hall → Type 0
 NothingHappens old new = (from to : Store) (failed failing : ℕ) (log : Log) → Stands from failed old.guests.items old.entered log to failing
     → Stands from failed new.guests.items new.entered log to failing
 
--- from wherever a hall stands, it leads to where it stands after something more
+-- from wherever a hall stands after happenings in turn, more happens, all of it in turn, and it stands after that
 abbrev pub HallLeads : Hall → Store → ℕ → Hall → Store → ℕ → Type 0
-HallLeads old mid k new to l = (from : Store) (failed : ℕ) (log : Log) → Stands from failed old.guests.items old.entered log mid k
-    → (next : Log) × Stands from failed new.guests.items new.entered next to l
+HallLeads old mid k new to l = (from : Store) (failed : ℕ) (log : Log) → Stands from failed old.guests.items old.entered log mid k → AreInTurn log
+    → (more : Log) × Stands from failed new.guests.items new.entered (more ++ log) to l × AreInTurn (more ++ log)
 
 -- the same, whatever the store, which stays as it is
 abbrev pub HallLeavesStore : Hall → Hall → Type 0

@@ -4,7 +4,7 @@ use Rattle.repo_wire.specs.declared.messages.Reply.{Reply}
 use Rattle.repo_wire.specs.declared.messages.Request.{Request}
 use Rattle.repo_wire.specs.Messages as messages
 use Rattle.repo_wire.specs.Messages.{requests}
-use Rattle.repo_wire.specs.Stream.{FitsFrame, AreFrames}
+use Rattle.repo_wire.specs.Stream.{FitsFrame, AreFrames, IsStream, Waits}
 use Rattle.repo_store.specs.Serving.{plain, shown}
 use Rattle.repo_session.specs.Clients.{IsReplyTo}
 use Rattle.repo_session.specs.Joined.{AreFirst}
@@ -77,3 +77,19 @@ pub record IsStay (s : Stay) : Type 0 where
   pub answers : AreRepliesTo s.asked s.replies
   pub fits : All (FitsFrame messages.replies) s.replies
   pub told : AreFirst s.given (shown plain s.replies)
+
+-- ---- turns
+
+-- a guest was served all that it brought: each whole request in that was answered, and it was given the frames of all replies
+pub record IsAtRest (s : Stay) : Type 0 where
+  pub unread : List ℕ
+  pub stream : IsStream requests s.bytes s.asked (Waits unread)
+  pub told : s.given ≡ shown plain s.replies
+
+-- whenever a guest brought more, it had been served all that it had brought before; and whenever a request of it was answered, it had been given the frames
+-- of all replies before
+abbrev pub AreInTurn : Log → Type 0
+AreInTurn [] = ⊤
+AreInTurn (Brought n piece ∷ log) = AreInTurn log × IsAtRest (stay n log)
+AreInTurn (Answered n request reply ∷ log) = AreInTurn log × ((stay n log).given ≡ shown plain (stay n log).replies)
+AreInTurn (Given n piece ∷ log) = AreInTurn log

@@ -9,10 +9,12 @@
 //! order in which they were answered; of each guest the requests are those of its own stream, in their
 //! order, each is answered once, and what it was given are the first bytes of their replies' frames. Where
 //! each guest is joined to a client, that run is made of the clients' talks. Not promised: in which order
-//! guests are answered, which is the caller's choice.
+//! guests are answered, which is the caller's choice; nor that a guest brings more only once it was served
+//! all that it brought, which is the caller's to keep (`AreInTurn`): more is awaited of it where it wasn't
+//! answered, hasn't ended, and has nothing to be given.
 //!
-//! The definitions stand in `specs/`: `Happenings` (what happened in a hall, and to one guest of it),
-//! `Guests` (what is done for a guest), `Halls` (how a hall stands after what happened), `Joined` (the law).
+//! The definitions stand in `specs/`: `Happenings` (what happened in a hall, and to one guest of it, and
+//! that it was in turn), `Guests` (what is done for a guest), `Halls` (how a hall stands after what happened), `Joined` (the law).
 #![tactic(auto)]
 
 mod guests;

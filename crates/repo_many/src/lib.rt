@@ -7,11 +7,12 @@
 //!
 //! Promised: whatever the connections bring, what they were answered, in the order in which they were, is
 //! one run of the store machine; and of each connection what its guest was given are the first bytes of the
-//! frames of the replies to its own requests. Where each went well, nothing was told as a fault. Not
-//! promised, since a listener and a poll tell no contract what they did: that anybody is served, and how
-//! long anybody waits.
+//! frames of the replies to its own requests. Each turn goes on in turn: a connection brings more only once each
+//! whole request that it brought was answered, and all replies were given. Where each went well, nothing was told
+//! as a fault. Not promised, since a listener and a poll tell no contract what they did: that anybody is served,
+//! and how long anybody waits.
 //!
-//! The definitions are those of `repo_hall`: `Halls.Hosted`, `HallLeads`.
+//! The definitions are those of `repo_hall`: `Halls.Hosted`, `HallLeads`, `Happenings.AreInTurn`.
 #![tactic(auto)]
 
 mod arrivals;

@@ -3,7 +3,7 @@
 ghost use Rattle.std.specs.Prelude.{◌≡◌, [], IfOk, ℕ};
 ghost use Rattle.repo_store.specs.Stores.{Store};
 ghost use Rattle.repo_hall.specs.Halls.{Hosted, Stands, HallLeads};
-ghost use Rattle.repo_hall.specs.Happenings.{Log};
+ghost use Rattle.repo_hall.specs.Happenings.{AreInTurn, Log};
 ghost use Rattle.repo_many.specs.declared.times.Served.{Served};
 
 use crate::arrivals::{Door, watch};
@@ -183,9 +183,9 @@ where
 /// there is no memory to begin.
 ///
 /// Whatever the connections bring, what was answered to all of them, in that order, is one run of the store
-/// machine, and what happened to each of them is a stay of its guest. No clause says which connections were
-/// taken, nor that a guest's bytes are those of its socket, since a listener and its sockets tell no
-/// contract what they did.
+/// machine, and what happened to each of them is a stay of its guest. There is a log of that in which they were
+/// served in turn; that each turn keeps it is a clause of the rounds. No clause says which connections were
+/// taken, since a listener tells no contract what it did, nor that a place's socket stays that of its guest.
 pub fn serve_many<R: Net + Clock + AllocGlobal, L: OpenListener + AsRawFd, S: Shelf, F: Write>(
     rt: &R,
     listener: &L,
@@ -195,7 +195,7 @@ pub fn serve_many<R: Net + Clock + AllocGlobal, L: OpenListener + AsRawFd, S: Sh
 ) -> io::Result<Served>
 where
     L::Stream: Read + Write + OpenStream + AsRawFd,
-    ensures hosted { S.honest shelf.old → (log : Log) × Hosted (S.store shelf.old) (S.failed shelf.old) log (S.store shelf.new) (S.failed shelf.new) }
+    ensures hosted { S.honest shelf.old → (log : Log) × Hosted (S.store shelf.old) (S.failed shelf.old) log (S.store shelf.new) (S.failed shelf.new) × AreInTurn log }
     ensures honest { S.honest shelf.old → S.honest shelf.new }
     ensures silent { IfOk result (λ served. served ≡ Served.Well → faults.new ≡ faults.old) }
 {

@@ -1,7 +1,9 @@
 //! One connection, with its socket.
 
-ghost use Rattle.std.specs.Prelude.{◌≡◌, ◌<◌, length};
+ghost use Rattle.std.specs.Prelude.{◌≡◌, ◌<◌, length, slice_get, Some};
+ghost use Rattle.repo_hall.specs.Guests.{IsAwaited};
 ghost use Rattle.repo_hall.specs.Halls.{HallLeads, HallLeavesStore};
+ghost use Rattle.repo_hall.specs.declared.guests.Guest.{Guest};
 
 use crate::large_frames::{HEAD, Room};
 use crate::steps::{Progress, give, reply, take};
@@ -68,9 +70,10 @@ impl<T: Read + Write + Drop> Socket<T> {
         }
     }
 
-    /// Goes on with the input: a piece is taken, or it ended.
+    /// Goes on with the input of a guest of which more is awaited: a piece is taken, or it ended.
     fn take_more(&mut self, hall: &mut Hall, place: usize, piece: &mut [u8], room: Room) -> Progress
-        requires { place < length hall.old.guests.items }
+        requires place { place < length hall.old.guests.items }
+        requires awaited { (g : Guest) → slice_get hall.old.guests.items place ≡ Some g → IsAwaited g }
         ensures leaves { HallLeavesStore hall.old hall.new }
         ensures places { length hall.new.guests.items ≡ length hall.old.guests.items }
     {
@@ -98,7 +101,7 @@ impl<T: Read + Write + Drop> Socket<T> {
     }
 
     /// What is to be given is written; where nothing is, one request is answered; and where there is none, a
-    /// piece is read.
+    /// piece is read. Nothing more is done for a guest that is answered no more.
     fn advance<S: Shelf>(
         &mut self,
         hall: &mut Hall,
@@ -119,11 +122,15 @@ impl<T: Read + Write + Drop> Socket<T> {
         if given != Progress::Still || !hall.out(place).is_empty() {
             return given;
         }
-        let replied = reply(hall, place, shelf);
-        if replied != Progress::Still {
-            return replied;
+        match reply(hall, place, shelf) {
+            Progress::Still => {
+                if hall.has_ended(place) {
+                    return Progress::AtEnd;
+                }
+                self.take_more(hall, place, piece, room)
+            }
+            replied => replied,
         }
-        self.take_more(hall, place, piece, room)
     }
 
     /// What becomes of a connection that stands still: it fails where it does for too long.

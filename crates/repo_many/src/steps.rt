@@ -1,7 +1,12 @@
 //! What a connection's turn is made of: one write, one answer, or one read.
 
-ghost use Rattle.std.specs.Prelude.{◌≡◌, ◌<◌, length};
-ghost use Rattle.repo_hall.specs.Halls.{HallLeads, HallLeavesStore};
+ghost use Rattle.std.specs.Prelude.{◌≡◌, ◌⊎◌, ◌<◌, ℕ, List, length, slice_get, take, Some, Ok, false};
+ghost use Rattle.std.specs.Io.KnownBytes.{Appends, Consumes};
+ghost use Rattle.repo_hall.specs.Guests.{AnswerCause, IsAwaited, out_of};
+ghost use Rattle.repo_hall.specs.Halls.{HallLeads, HallLeavesStore, HappensAt, NothingHappens};
+ghost use Rattle.repo_hall.specs.Happenings.{Brought};
+ghost use Rattle.repo_hall.specs.declared.guests.Guest.{Guest};
+ghost use Rattle.repo_many.specs.declared.steps.Progress.{Progress};
 
 use repo_hall::Hall;
 use repo_store::{ServeError, Shelf};
@@ -16,15 +21,17 @@ pub enum Progress {
     Barred,
     /// It went on.
     Moved,
-    /// Its input ended, and all that it brought is done.
+    /// Its input ended, and all that it brought is done; or it is answered no more.
     AtEnd,
     /// It failed.
     Failed(ServeError),
 }
 
-/// Gives the guest at a place some of what it is to be given, by one write at most.
+/// Gives the guest at a place some of what it is to be given, by one write at most, which is of nothing else.
 pub fn give<W: Write>(hall: &mut Hall, place: usize, writer: &mut W) -> Progress
     requires { place < length hall.old.guests.items }
+    ensures written { (g : Guest) → slice_get hall.old.guests.items place ≡ Some g
+        → (n : ℕ) × Appends (W.contents writer.old) (W.contents writer.new) (take n (out_of g)) }
     ensures leaves { HallLeavesStore hall.old hall.new }
     ensures places { length hall.new.guests.items ≡ length hall.old.guests.items }
 {
@@ -44,9 +51,12 @@ pub fn give<W: Write>(hall: &mut Hall, place: usize, writer: &mut W) -> Progress
     }
 }
 
-/// Takes a piece of what the guest at a place brings, by one read.
+/// Takes a piece of what the guest at a place brings, of which more is awaited, by one read: what is read is what it brings.
 pub fn take<R: Read>(hall: &mut Hall, place: usize, piece: &mut [u8], reader: &mut R) -> Progress
-    requires { place < length hall.old.guests.items }
+    requires place { place < length hall.old.guests.items }
+    requires awaited { (g : Guest) → slice_get hall.old.guests.items place ≡ Some g → IsAwaited g }
+    ensures read { (bytes : List ℕ) × Consumes (R.remaining reader.old) (R.remaining reader.new) bytes
+        × (NothingHappens hall.old hall.new ⊎ HappensAt (λ k. Brought k bytes) hall.old place hall.new) }
     ensures leaves { HallLeavesStore hall.old hall.new }
     ensures places { length hall.new.guests.items ≡ length hall.old.guests.items }
 {
@@ -62,9 +72,11 @@ pub fn take<R: Read>(hall: &mut Hall, place: usize, piece: &mut [u8], reader: &m
     }
 }
 
-/// Answers one request of the guest at a place, where a whole one is there.
+/// Answers one request of the guest at a place, where a whole one is there. Where none is, nothing changed.
 pub fn reply<S: Shelf>(hall: &mut Hall, place: usize, shelf: &mut S) -> Progress
     requires { place < length hall.old.guests.items }
+    ensures still { result ≡ Progress.Still → (hall.new.guests.items ≡ hall.old.guests.items)
+        × ((g : Guest) → slice_get hall.old.guests.items place ≡ Some g → AnswerCause g (Ok false)) }
     ensures leads { S.honest shelf.old → HallLeads hall.old (S.store shelf.old) (S.failed shelf.old) hall.new (S.store shelf.new) (S.failed shelf.new) }
     ensures honest { S.honest shelf.old → S.honest shelf.new }
     ensures places { length hall.new.guests.items ≡ length hall.old.guests.items }

@@ -1,12 +1,27 @@
+use Rattle.std.proofs.Common.{rules, ◌≡◌, Some, List, length, slice_get, sym, subst, ◌∙◌}
+use Rattle.std.proofs.lemmas.List.{nil_from_length}
+use Rattle.repo_hall.specs.declared.guests.Guest.{Guest}
+use Rattle.repo_hall.proofs.Turning.{is_awaited}
 use Rattle.repo_many.proofs.Leading.{leads_on}
 use Rattle.repo_many.proofs.sockets.Socket.advance.Goals as goal
 
 pub returns-then-ne-clause-leads : goal.returns-then-ne-clause-leads
 returns-then-ne-clause-leads g c honest = c.give-given.ensures.leaves _ _
 
-pub returns-then-ne-2-clause-leads : goal.returns-then-ne-2-clause-leads
-returns-then-ne-2-clause-leads g c honest = leads_on _ _ _ _ _ _ _ _ _ _ _ _ (c.give-given.ensures.leaves _ _) (c.reply-replied.ensures.leads honest)
+pub returns-in_default-clause-leads : goal.returns-in_default-clause-leads
+returns-in_default-clause-leads g c honest = leads_on _ _ _ _ _ _ _ _ _ _ _ _ (c.give-given.ensures.leaves _ _) (c.reply.ensures.leads honest)
 
-pub returns-clause-leads : goal.returns-clause-leads
-returns-clause-leads g c honest =
-    leads_on _ _ _ _ _ _ _ _ _ _ _ _ (leads_on _ _ _ _ _ _ _ _ _ _ _ _ (c.give-given.ensures.leaves _ _) (c.reply-replied.ensures.leads honest)) (c.take_more.ensures.leaves _ _)
+pub returns-then-has_ended-clause-leads : goal.returns-then-has_ended-clause-leads
+returns-then-has_ended-clause-leads g c honest = leads_on _ _ _ _ _ _ _ _ _ _ _ _ (c.give-given.ensures.leaves _ _) (c.reply.ensures.leads honest)
+
+-- where none was answered, and the guest is answered still, more is awaited of it
+pub take_more-requires-clause-awaited : goal.take_more-requires-clause-awaited
+take_more-requires-clause-awaited g c h found =
+    let still = c.reply.ensures.still c.in-Still.is in
+    let at : slice_get c.give-given.new.hall.guests.items c.args.place ≡ Some h = subst (λ (guests : List Guest). slice_get guests c.args.place ≡ Some h) still.0 found in
+    let none : length c.out.result.now ≡ 0 = search rules in
+    is_awaited h (still.1 h at) (sym (c.has_ended.ensures h found) ∙ c.if-has_ended.false) (sym (c.out.ensures h at) ∙ nil_from_length c.out.result.now none)
+
+pub returns-else-has_ended-clause-leads : goal.returns-else-has_ended-clause-leads
+returns-else-has_ended-clause-leads g c honest =
+    leads_on _ _ _ _ _ _ _ _ _ _ _ _ (leads_on _ _ _ _ _ _ _ _ _ _ _ _ (c.give-given.ensures.leaves _ _) (c.reply.ensures.leads honest)) (c.take_more.ensures.leaves _ _)
