@@ -4,25 +4,20 @@ use Rattle.std.proofs.Common.{◌≡◌, ◌≤◌, ◌++◌, ◌∷◌, [], ℕ
 use Rattle.repo_name.specs.declared.names.Instance.{Instance}
 use Rattle.repo_wire.specs.declared.messages.Ask.{Ask}
 use Rattle.repo_wire.specs.declared.messages.Request.{Request}
+use Rattle.repo_store.specs.Channels.{said_in}
 use Rattle.repo_session.specs.declared.driving.DriveError.{DriveError}
 use Rattle.repo_session.specs.declared.outcomes.Outcome.{Outcome}
 use Rattle.repo_session.specs.Askers.{Asker}
 use Rattle.repo_session.specs.Jobs.{Rule}
-use Rattle.repo_session.specs.Talks.{Talk, Said, AreNumbered, Drives, WritesPart, trace_of, sent_in}
+use Rattle.repo_session.specs.Talks.{Talk, Said, AreNumbered, trace_of}
 use Rattle.repo_session.specs.Traces.{Each, Trace}
 use Rattle.repo_session.proofs.Joining.{driven_said}
-use Rattle.repo_session.proofs.Talking.{whole_part}
 use Rattle.repo_dial.specs.Bringing.{IsObedientBy, EndsLockOf, BroughtOn, IsBroughtOn, IsBegunBy, Ended, Obeyed}
-use Rattle.repo_dial.specs.Dialing.{Asking, Call, Coming, Driven, Try, Missed, Turned, Carried, config_request, talk_in, talk_over, AreAtOneStore, AreDialed, DrivenOver, EndsOwnLock, TryGives, AreCut, DrivesAgain}
+use Rattle.repo_dial.specs.Dialing.{Asking, Call, Connections, Driven, Try, Missed, Turned, Carried, config_request, talk_in, talk_over, AreAtOneStore, AreDialed, AreKept, farewell_in, is_cut, DrivenOver, EndsOwnLock, TryGives, AreCut, DrivesAgain}
 use Rattle.repo_dial.specs.declared.again.TryError.{TryError}
 use Rattle.repo_dial.specs.declared.peers.Acquaintance.{Acquaintance}
-use Rattle.repo_dial.proofs.DialLemmas.{trace_of_both, went_driven, first_driven, went_try, same_try}
-
--- what was written over a connection
-written : {C : Type 0} (instance : Instance) (Fits : C → Trace → Type 0) (next : C → Option Request) (old : C) (result : Result ℕ DriveError) (new : C) (said : Said) (start contents : Option (List ℕ))
-    → Drives instance Fits next old result new said start contents → WritesPart start (sent_in said.talk) (next new) contents
-written instance Fits next old (Ok n) new said start contents d = whole_part start contents (sent_in said.talk) (next new) d.5
-written instance Fits next old (Err error) new said start contents d = d.2
+use Rattle.repo_dial.proofs.DialLemmas.{trace_of_both, went_driven, first_driven, written, went_try, same_try}
+use Rattle.repo_dial.proofs.TryLemmas.{behind_leave, kept_cut}
 
 -- the unlock is of the ticket of the trace at which the client stands
 ends_at : {C : Type 0} (Fits : C → Trace → Type 0) (client : C) (es : Trace) (farewell : Option Asking) → Fits client es → EndsOwnLock Fits client farewell → EndsLockOf es farewell
@@ -35,17 +30,18 @@ module _ {C J : Type 0} (d : Driven C J) (reached : C → Option Outcome) (rule 
       → ((es : Trace) → d.fits new es → IsObedientBy rule who (d.next new) (reached new) es) → BroughtOn rule who earlier (d.next old) call (d.next new) (reached new)
   brought old new earlier call result o own_is fits obeys =
       let said : Said = call.said in
-      let is = driven_said (d.own (d.job old)) d.fits d.next old result new said call.came.sent call.left.sent o.drives in
-      let went = went_driven (d.own (d.job old)) d.fits d.next old result new said call.came.sent call.left.sent o.drives in
+      let is = driven_said (d.own (d.job old)) d.fits d.next old result new said (Some []) (Some (said_in call.passages)) o.drives in
+      let went = went_driven (d.own (d.job old)) d.fits d.next old result new said (Some []) (Some (said_in call.passages)) o.drives in
       let here : d.fits new (trace_of (said.talk ++ earlier)) = subst (λ x. d.fits new x) (sym (trace_of_both said.talk earlier)) (went.fits (trace_of earlier) fits) in
       record {
-        read = o.read;
+        over = o.over;
         heard = is.1;
         turns = is.0;
         numbered = subst (λ instance. AreNumbered instance (length (trace_of earlier)) said.talk) own_is (went.numbered (trace_of earlier) fits);
-        sent = written (d.own (d.job old)) d.fits d.next old result new said call.came.sent call.left.sent o.drives;
-        first = first_driven (d.own (d.job old)) d.fits d.next old result new said call.came.sent call.left.sent o.drives;
+        sent = written (d.own (d.job old)) d.fits d.next old result new said (Some []) (Some (said_in call.passages)) o.drives;
+        first = first_driven (d.own (d.job old)) d.fits d.next old result new said (Some []) (Some (said_in call.passages)) o.drives;
         obeyed = obeys (trace_of (said.talk ++ earlier)) here;
+        behind = behind_leave result (d.next new) (d.told new) call o.leaves;
         ends = ends_at d.fits new (trace_of (said.talk ++ earlier)) call.farewell here o.ends;
       }
 
@@ -59,6 +55,16 @@ module _ {C J : Type 0} (d : Driven C J) (reached : C → Option Outcome) (rule 
   same_cut : (begun : Acquaintance) (old : C) (tries : List Try) (new : C) (known : Acquaintance) → AreCut d begun old tries new known → d.job new ≡ d.job old
   same_cut begun old [] new known h = ap d.job h.0
   same_cut begun old (try ∷ tries) new known h = same_try d h.1 h.0 try (Err h.3.0) new known h.3.1 ∙ same_cut begun old tries h.0 h.1 h.2
+
+  -- the lock is kept in a try that is cut off
+  kept_try : (known : Acquaintance) (old : C) (try : Try) (error : TryError) (new : C) (after : Acquaintance) → TryGives d known old try (Err error) new after → is_cut error ≡ true → farewell_in try ≡ None
+  kept_try known old Missed error new after g cut = refl
+  kept_try known old (Turned asking) error new after g cut = refl
+  kept_try known old (Carried asking call) error new after g cut = kept_cut g.0 error (d.next new) (d.told new) call g.2 cut g.1.leaves
+
+  kept_all : (begun : Acquaintance) (old : C) (tries : List Try) (new : C) (known : Acquaintance) → AreCut d begun old tries new known → AreKept tries
+  kept_all begun old [] new known h = tt
+  kept_all begun old (try ∷ tries) new known h = (kept_try h.1 h.0 try h.3.0 new known h.3.1 h.3.2, kept_all begun old tries h.0 h.1 h.2)
 
   module _ (begun : Acquaintance) (old : C) (obeys : (c : C) → d.job c ≡ d.job old → (es : Trace) → d.fits c es → IsObedientBy rule who (d.next c) (reached c) es) (own_is : d.own (d.job old) ≡ who.instance) (fits : d.fits old []) where
     -- the ask for the config has the asker's instance
@@ -96,7 +102,7 @@ module _ {C J : Type 0} (d : Driven C J) (reached : C → Option Outcome) (rule 
         )
 
     -- the last try brought it to its end
-    ended_by : (retry n : ℕ) (mid new : C) (known ended : Acquaintance) (coming after : Coming) (outcome : Outcome) (cut : List Try) (last : Try) → AreCut d begun old cut mid known
+    ended_by : (retry n : ℕ) (mid new : C) (known ended : Acquaintance) (coming after : Connections) (outcome : Outcome) (cut : List Try) (last : Try) → AreCut d begun old cut mid known
         → TryGives d known mid last (Ok n) new ended → AreDialed coming (last ∷ cut) after → AreAtOneStore retry (last ∷ cut) → length cut ≤ retry → reached new ≡ Some outcome → Ended rule who outcome retry coming after
     ended_by retry n mid new known ended coming after outcome cut Missed before gives dialed store few is = let e = gives.0 in absurd (cc)
     ended_by retry n mid new known ended coming after outcome cut (Turned asking) before gives dialed store few is = let e = gives.1 in absurd (cc)
@@ -114,6 +120,7 @@ module _ {C J : Type 0} (d : Driven C J) (reached : C → Option Outcome) (rule 
           dialed = dialed;
           begun_by = (begun_try known mid (trace_of (talk_over cut)) (Carried asking call) (Ok n) new ended (same_cut begun old cut mid known before) here (Ok m, driven, told, met, left), begun_cut cut mid known before);
           store = store;
+          kept = (driven.leaves, kept_all begun old cut mid known before);
           begun = d.next old;
           waiting = d.next mid;
           before = brought_cut cut mid known before;
@@ -121,7 +128,7 @@ module _ {C J : Type 0} (d : Driven C J) (reached : C → Option Outcome) (rule 
         }
 
     -- however it ended, it was brought on by its rules
-    obeyed_by : (retry : ℕ) (result : Result ℕ TryError) (mid new : C) (known ended : Acquaintance) (coming after : Coming) (cut : List Try) (last : Try) → AreCut d begun old cut mid known
+    obeyed_by : (retry : ℕ) (result : Result ℕ TryError) (mid new : C) (known ended : Acquaintance) (coming after : Connections) (cut : List Try) (last : Try) → AreCut d begun old cut mid known
         → TryGives d known mid last result new ended → AreDialed coming (last ∷ cut) after → AreAtOneStore retry (last ∷ cut) → length cut ≤ retry → Obeyed rule who retry coming after
     obeyed_by retry result mid new known ended coming after cut Missed before gives dialed store few = record {
       tries = Missed ∷ cut;
@@ -129,6 +136,7 @@ module _ {C J : Type 0} (d : Driven C J) (reached : C → Option Outcome) (rule 
       dialed = dialed;
       begun_by = (tt, begun_cut cut mid known before);
       store = store;
+      kept = kept_all begun old cut mid known before;
       begun = d.next old;
       waiting = d.next mid;
       brought = brought_cut cut mid known before;
@@ -139,6 +147,7 @@ module _ {C J : Type 0} (d : Driven C J) (reached : C → Option Outcome) (rule 
       dialed = dialed;
       begun_by = (begun_try known mid (trace_of (talk_over cut)) (Turned asking) result new ended (same_cut begun old cut mid known before) (fits_cut begun old cut mid known before fits) gives, begun_cut cut mid known before);
       store = store;
+      kept = kept_all begun old cut mid known before;
       begun = d.next old;
       waiting = d.next mid;
       brought = brought_cut cut mid known before;
@@ -151,6 +160,7 @@ module _ {C J : Type 0} (d : Driven C J) (reached : C → Option Outcome) (rule 
           dialed = dialed;
           begun_by = (begun_try known mid (trace_of (talk_over cut)) (Carried asking call) result new ended (same_cut begun old cut mid known before) here gives, begun_cut cut mid known before);
           store = store;
+          kept = kept_all begun old cut mid known before;
           begun = d.next old;
           waiting = d.next new;
           brought = (
@@ -161,13 +171,13 @@ module _ {C J : Type 0} (d : Driven C J) (reached : C → Option Outcome) (rule 
         }
 
   module _ (old : C) (obeys : (c : C) → d.job c ≡ d.job old → (es : Trace) → d.fits c es → IsObedientBy rule who (d.next c) (reached c) es) (own_is : d.own (d.job old) ≡ who.instance) (fits : d.fits old []) where
-    pub ended_over : (retry n : ℕ) (new : C) (coming after : Coming) (outcome : Outcome) → DrivesAgain d retry old (Ok n) new coming after → reached new ≡ Some outcome
+    pub ended_over : (retry n : ℕ) (new : C) (coming after : Connections) (outcome : Outcome) → DrivesAgain d retry old (Ok n) new coming after → reached new ≡ Some outcome
         → Ended rule who outcome retry coming after
     ended_over retry n new coming after outcome a is = ended_by a.begun old obeys own_is fits retry n a.mid new a.known a.ended coming after outcome a.cut a.last a.before a.gives a.dialed a.store a.few is
 
-    pub obeyed_over : (retry : ℕ) (result : Result ℕ TryError) (new : C) (coming after : Coming) → DrivesAgain d retry old result new coming after → Obeyed rule who retry coming after
+    pub obeyed_over : (retry : ℕ) (result : Result ℕ TryError) (new : C) (coming after : Connections) → DrivesAgain d retry old result new coming after → Obeyed rule who retry coming after
     obeyed_over retry result new coming after a = obeyed_by a.begun old obeys own_is fits retry result a.mid new a.known a.ended coming after a.cut a.last a.before a.gives a.dialed a.store a.few
 
 -- no connection was asked for
-pub obeyed_none : (rule : Rule) (who : Asker) (retry : ℕ) (coming : Coming) → Obeyed rule who retry coming coming
-obeyed_none rule who retry coming = record { tries = []; few = omega arith; dialed = refl; begun_by = tt; store = (true, [], λ h. refl, tt); begun = None; waiting = None; brought = refl }
+pub obeyed_none : (rule : Rule) (who : Asker) (retry : ℕ) (coming : Connections) → Obeyed rule who retry coming coming
+obeyed_none rule who retry coming = record { tries = []; few = omega arith; dialed = refl; begun_by = tt; store = (true, [], λ h. refl, tt, tt); kept = tt; begun = None; waiting = None; brought = refl }

@@ -1,18 +1,20 @@
 -- A client that is driven over one connection after another.
-use Rattle.std.proofs.Common.{◌≡◌, ◌≢◌, ◌<◌, ◌≤◌, ◌+◌, ◌⊎◌, ◌++◌, ◌∷◌, [], ℕ, Bool, true, List, Option, Some, None, Result, Ok, Err, length, refl, sym, ap, subst, arith, inl, inr, append_assoc, length-append, ◌∙◌}
+use Rattle.std.proofs.Common.{◌≡◌, ◌≢◌, ◌<◌, ◌≤◌, ◌+◌, ◌⊎◌, ◌++◌, ◌∷◌, [], ℕ, zero, suc, take, Bool, true, List, Option, Some, None, IfSome, Result, Ok, Err, length, refl, sym, ap, subst, arith, inl, inr, append_assoc, length-append, ◌∙◌}
 use Rattle.std.proofs.lemmas.List.{append-nil, length-map, map-append}
 use Rattle.repo_name.specs.declared.names.Instance.{Instance}
 use Rattle.repo_wire.specs.declared.messages.Reply.{Reply}
 use Rattle.repo_wire.specs.declared.messages.Request.{Request}
 use Rattle.repo_wire.specs.declared.messages.Say.{Say}
+use Rattle.repo_store.specs.Channels.{said_in}
 use Rattle.repo_session.specs.declared.driving.DriveError.{DriveError}
 use Rattle.repo_session.specs.Clients.{exchange}
-use Rattle.repo_session.specs.Talks.{Talk, Said, IsTurn, AreNumbered, Drives, Went, first_carried, sent_in, trace_of}
+use Rattle.repo_session.specs.Talks.{Talk, Said, IsTurn, AreNumbered, Drives, Went, WritesPart, first_carried, pending_frame, sent_in, trace_of}
 use Rattle.repo_session.specs.Traces.{Each, Trace}
-use Rattle.repo_session.proofs.Talking.{went_nowhere}
-use Rattle.repo_dial.specs.Dialing.{Coming, Driven, Try, Missed, Turned, Carried, dialed_in, talk_in, talk_over, AreAtOneStore, AreDialed, Dials, IsAtStore, Meets, MeetsSay, TryGives, AreCut, is_cut, DrivesAgain}
+use Rattle.repo_session.proofs.Talking.{went_nowhere, whole_part}
+use Rattle.repo_dial.specs.Dialing.{Connections, Driven, Try, Missed, Turned, Carried, talk_in, talk_over, AreAtOneStore, AreDialed, IsDialed, IsAtStore, Meets, MeetsSay, config_in, config_of, config_told, or_else, first_told, TryGives, AreCut, is_cut, DrivesAgain}
 use Rattle.repo_dial.specs.declared.peers.Acquaintance.{Acquaintance}
 use Rattle.repo_dial.specs.declared.again.TryError.{TryError}
+use Rattle.repo_dial.proofs.TryLemmas.{no_farewell}
 
 -- ---- talks, one after another
 
@@ -58,10 +60,21 @@ some_first : (sent : List Request) (request : Request) (next : Option Request) �
 some_first [] request next p = absurd (cc)
 some_first (r ∷ sent) request next p = absurd (cc)
 
+-- what was written over a connection
+pub written : {C : Type 0} (instance : Instance) (Fits : C → Trace → Type 0) (next : C → Option Request) (old : C) (result : Result ℕ DriveError) (new : C) (said : Said) (start contents : Option (List ℕ))
+    → Drives instance Fits next old result new said start contents → WritesPart start (sent_in said.talk) (next new) contents
+written instance Fits next old (Ok n) new said start contents d = whole_part start contents (sent_in said.talk) (next new) d.5
+written instance Fits next old (Err error) new said start contents d = d.2
+
+take_none : (k : ℕ) → take k (pending_frame None) ≡ []
+take_none zero = refl
+take_none (suc k) = refl
+
 -- where nothing was pending nothing was said
-silent : (talk : Talk) (next : Option Request) → first_carried (sent_in talk) next ≡ None → talk ≡ []
-silent [] next p = refl
-silent (turn ∷ talk) next p = absurd (some_first (sent_in talk) turn.request next p)
+silent : (talk : Talk) (next : Option Request) (contents : List ℕ) → first_carried (sent_in talk) next ≡ None → WritesPart (Some []) (sent_in talk) next (Some contents) → (talk ≡ []) × (contents ≡ []) × (next ≡ None)
+silent [] None contents p w = (refl, w.1 ∙ take_none w.0, refl)
+silent [] (Some request) contents p w = absurd (cc)
+silent (turn ∷ talk) next contents p w = absurd (some_first (sent_in talk) turn.request next p)
 
 -- ---- the store of a try
 
@@ -77,6 +90,24 @@ keeps_say (Some known) (Say.LockList rows) result after config m p = m.1 ∙ p
 keeps_config : (known : Option (List ℕ)) (answer : Result Reply DriveError) (result : Result (Unit {0}) TryError) (after : Option (List ℕ)) (config : List ℕ) → Meets known answer result after → known ≡ Some config → after ≡ Some config
 keeps_config known (Ok reply) result after config m p = keeps_say known reply.say result after config m p
 keeps_config known (Err error) result after config m p = m.1 ∙ p
+
+or_none : (known : Option (List ℕ)) → or_else known None ≡ known
+or_none None = refl
+or_none (Some known) = refl
+
+-- the first one that was told is known
+known_say : (known : Option (List ℕ)) (say : Say) (result : Result (Unit {0}) TryError) (after : Option (List ℕ)) → MeetsSay known say result after → after ≡ or_else known (config_in say)
+known_say None (Say.Bytes x) result after m = m.1
+known_say (Some known) (Say.Bytes x) result after m = m.0
+known_say known (Say.Refused code) result after m = m.1 ∙ sym (or_none known)
+known_say known (Say.Token token) result after m = m.1 ∙ sym (or_none known)
+known_say known Say.Done result after m = m.1 ∙ sym (or_none known)
+known_say known (Say.Names more names) result after m = m.1 ∙ sym (or_none known)
+known_say known (Say.LockList rows) result after m = m.1 ∙ sym (or_none known)
+
+known_told : (known : Option (List ℕ)) (answer : Result Reply DriveError) (result : Result (Unit {0}) TryError) (after : Option (List ℕ)) → Meets known answer result after → after ≡ or_else known (config_of answer)
+known_told known (Ok reply) result after m = known_say known reply.say result after m
+known_told known (Err error) result after m = m.1 ∙ sym (or_none known)
 
 -- no other config is known
 abbrev pub MayBe : Option (List ℕ) → List ℕ → Type 0
@@ -104,7 +135,7 @@ module _ {C J : Type 0} (d : Driven C J) where
       → TryGives d known old try result new after → Went (d.own (d.job old)) d.fits old (talk_in try) new
   went_try known old Missed result new after g = subst (λ c. Went (d.own (d.job old)) d.fits old [] c) (sym g.1) (went_nowhere (d.own (d.job old)) d.fits old)
   went_try known old (Turned asking) result new after g = subst (λ c. Went (d.own (d.job old)) d.fits old [] c) (sym g.2) (went_nowhere (d.own (d.job old)) d.fits old)
-  went_try known old (Carried asking call) result new after g = went_driven (d.own (d.job old)) d.fits d.next old g.0 new call.said call.came.sent call.left.sent g.1.drives
+  went_try known old (Carried asking call) result new after g = went_driven (d.own (d.job old)) d.fits d.next old g.0 new call.said (Some []) (Some (said_in call.passages)) g.1.drives
 
   -- the client has the same job
   pub same_try : (known : Acquaintance) (old : C) (try : Try) (result : Result ℕ TryError) (new : C) (after : Acquaintance) → TryGives d known old try result new after → d.job new ≡ d.job old
@@ -126,6 +157,13 @@ module _ {C J : Type 0} (d : Driven C J) where
   config_stays known old (Carried None call) result new after config g p = let m = g.3 in ap (λ (a : Acquaintance). a.config) m.1 ∙ p
   config_stays known old (Carried (Some asking) call) result new after config g p = let m = g.3 in keeps_config known.config asking.answer (Ok tt) after.config config m.4 p
 
+  known_try : (known : Acquaintance) (old : C) (try : Try) (result : Result ℕ TryError) (new : C) (after : Acquaintance) → TryGives d known old try result new after
+      → after.config ≡ or_else known.config (config_told try)
+  known_try known old Missed result new after g = ap (λ (a : Acquaintance). a.config) g.2 ∙ sym (or_none known.config)
+  known_try known old (Turned asking) result new after g = let m = g.3 in known_told known.config asking.answer (Err g.0) after.config m.4
+  known_try known old (Carried None call) result new after g = let m = g.3 in ap (λ (a : Acquaintance). a.config) m.1 ∙ sym (or_none known.config)
+  known_try known old (Carried (Some asking) call) result new after g = let m = g.3 in known_told known.config asking.answer (Ok tt) after.config m.4
+
   may_before : (known : Acquaintance) (old : C) (try : Try) (result : Result ℕ TryError) (new : C) (after : Acquaintance) (config : List ℕ) (was : Option (List ℕ)) → known.config ≡ was
       → TryGives d known old try result new after → MayBe after.config config → MayBe known.config config
   may_before known old try result new after config None is g may = inl is
@@ -138,74 +176,85 @@ module _ {C J : Type 0} (d : Driven C J) where
   at_store asks known old Missed result new after config is g may = tt
   at_store asks known old (Turned asking) result new after config is g may = let m = g.3 in sym is ∙ m.0
   at_store asks known old (Carried None call) result new after config is g may =
-      let m = g.3 in λ on. silent call.said.talk (d.next new) (first_driven (d.own (d.job old)) d.fits d.next old g.0 new call.said call.came.sent call.left.sent g.1.drives ∙ m.2 (is ∙ on))
+      let m = g.3 in
+      let all = said_in call.passages in
+      λ on.
+      let none = silent call.said.talk (d.next new) all (first_driven (d.own (d.job old)) d.fits d.next old g.0 new call.said (Some []) (Some all) g.1.drives ∙ m.2 (is ∙ on))
+      (written (d.own (d.job old)) d.fits d.next old g.0 new call.said (Some []) (Some all) g.1.drives) in
+      (none.0, none.1, no_farewell g.0 (d.next new) (d.told new) call none.2 g.1.leaves)
   at_store asks known old (Carried (Some asking) call) result new after config is g may =
       let m = g.3 in (sym is ∙ m.0, told_config known.config asking.answer after.config config m.4 may)
 
 -- ---- tries, one after another
 
--- the last of some tries gave this result, and those before it, so many, were cut off
-pub record Tried {C J : Type 0} (d : Driven C J) (asks : Bool) (old : C) (result : Result ℕ TryError) (new : C) (ended : Acquaintance) (coming after : Coming) (n : ℕ) : Type 0 where
+-- the last of some tries gave this result, and those before it, so many, were cut off; before the first one no config was known
+pub record Tried {C J : Type 0} (d : Driven C J) (asks : Bool) (old : C) (result : Result ℕ TryError) (new : C) (ended : Acquaintance) (coming after : Connections) (n : ℕ) : Type 0 where
   pub begun : Acquaintance
   pub known : Acquaintance
   pub cut : List Try
   pub mid : C
   pub last : Try
+  pub fresh : (begun.config ≡ None) × (begun.asks ≡ asks)
   pub before : AreCut d begun old cut mid known
   pub gives : TryGives d known mid last result new ended
   pub dialed : AreDialed coming (last ∷ cut) after
   pub went : Went (d.own (d.job old)) d.fits old (talk_over (last ∷ cut)) new
   pub store : (config : List ℕ) → MayBe ended.config config → Each (IsAtStore asks config) (last ∷ cut)
+  pub first : ended.config ≡ first_told (last ∷ cut)
   pub asked : ended.asks ≡ asks
   pub count : length cut ≡ n
   pub same : d.job new ≡ d.job old
 
 module _ {C J : Type 0} (d : Driven C J) (asks : Bool) (old : C) where
   -- the first
-  pub tried_first : (begun : Acquaintance) (result : Result ℕ TryError) (new : C) (ended : Acquaintance) (coming after : Coming) (try : Try) → begun.asks ≡ asks → Dials coming (dialed_in try) after
+  pub tried_first : (begun : Acquaintance) (result : Result ℕ TryError) (new : C) (ended : Acquaintance) (coming after : Connections) (try : Try) → begun.config ≡ None → begun.asks ≡ asks → IsDialed coming try after
       → TryGives d begun old try result new ended → Tried d asks old result new ended coming after 0
-  tried_first begun result new ended coming after try is dials gives = record {
+  tried_first begun result new ended coming after try none is dials gives = record {
     begun = begun;
     known = begun;
     cut = [];
     mid = old;
     last = try;
+    fresh = (none, is);
     before = (refl, refl);
     gives = gives;
     dialed = (coming, refl, dials);
     went = subst (λ t. Went (d.own (d.job old)) d.fits old t new) (sym (append-nil (talk_in try))) (went_try d begun old try result new ended gives);
     store = λ config may. (at_store d asks begun old try result new ended config is gives may, tt);
+    first = known_try d begun old try result new ended gives ∙ ap (λ o. or_else o (config_told try)) none;
     asked = asks_same d begun old try result new ended gives ∙ is;
     count = refl;
     same = same_try d begun old try result new ended gives;
   }
 
   -- one more
-  pub tried_again : (error : TryError) (result : Result ℕ TryError) (mid new : C) (known ended : Acquaintance) (coming between after : Coming) (n : ℕ) (try : Try) → Tried d asks old (Err error) mid known coming between n
-      → is_cut error ≡ true → Dials between (dialed_in try) after → TryGives d known mid try result new ended → Tried d asks old result new ended coming after (n + 1)
+  pub tried_again : (error : TryError) (result : Result ℕ TryError) (mid new : C) (known ended : Acquaintance) (coming between after : Connections) (n : ℕ) (try : Try) → Tried d asks old (Err error) mid known coming between n
+      → is_cut error ≡ true → IsDialed between try after → TryGives d known mid try result new ended → Tried d asks old result new ended coming after (n + 1)
   tried_again error result mid new known ended coming between after n try t is dials gives = record {
     begun = t.begun;
     known = known;
     cut = t.last ∷ t.cut;
     mid = mid;
     last = try;
+    fresh = t.fresh;
     before = (t.mid, t.known, t.before, (error, t.gives, is));
     gives = gives;
     dialed = (between, t.dialed, dials);
     went = went_both (d.own (d.job old)) d.fits old mid new (talk_over (t.last ∷ t.cut)) (talk_in try) t.went
         (subst (λ j. Went (d.own j) d.fits mid (talk_in try) new) t.same (went_try d known mid try result new ended gives));
     store = λ config may. (at_store d asks known mid try result new ended config t.asked gives may, t.store config (may_before d known mid try result new ended config known.config refl gives may));
+    first = known_try d known mid try result new ended gives ∙ ap (λ o. or_else o (config_told try)) t.first;
     asked = asks_same d known mid try result new ended gives ∙ t.asked;
     count = omega (arith, t.count);
     same = same_try d known mid try result new ended gives ∙ t.same;
   }
 
-  one_store : (retry : ℕ) (known : Option (List ℕ)) (tries : List Try) → ((config : List ℕ) → MayBe known config → Each (IsAtStore asks config) tries) → (0 < retry → asks ≡ true) → AreAtOneStore retry tries
-  one_store retry None tries store on = (asks, [], on, store [] (inl refl))
-  one_store retry (Some config) tries store on = (asks, config, on, store config (inr refl))
+  one_store : (retry : ℕ) (known : Option (List ℕ)) (tries : List Try) → ((config : List ℕ) → MayBe known config → Each (IsAtStore asks config) tries) → (0 < retry → asks ≡ true) → known ≡ first_told tries → AreAtOneStore retry tries
+  one_store retry None tries store on first = (asks, [], on, store [] (inl refl), subst (λ o. IfSome o (λ x. [] ≡ x)) first tt)
+  one_store retry (Some config) tries store on first = (asks, config, on, store config (inr refl), subst (λ o. IfSome o (λ x. config ≡ x)) first refl)
 
   -- all that may be tried, or it came to an end before
-  pub drives_again : (retry : ℕ) (result : Result ℕ TryError) (new : C) (ended : Acquaintance) (coming after : Coming) (n : ℕ) → Tried d asks old result new ended coming after n → n ≤ retry
+  pub drives_again : (retry : ℕ) (result : Result ℕ TryError) (new : C) (ended : Acquaintance) (coming after : Connections) (n : ℕ) → Tried d asks old result new ended coming after n → n ≤ retry
       → (0 < retry → asks ≡ true) → ((error : TryError) → result ≡ Err error → is_cut error ≡ true → n ≡ retry) → DrivesAgain d retry old result new coming after
   drives_again retry result new ended coming after n t few on spent = record {
     begun = t.begun;
@@ -214,11 +263,12 @@ module _ {C J : Type 0} (d : Driven C J) (asks : Bool) (old : C) where
     cut = t.cut;
     mid = t.mid;
     last = t.last;
+    fresh = (t.fresh.0, λ more. t.fresh.1 ∙ on more);
     before = t.before;
     gives = t.gives;
     dialed = t.dialed;
     went = t.went;
-    store = one_store retry ended.config (t.last ∷ t.cut) t.store on;
+    store = one_store retry ended.config (t.last ∷ t.cut) t.store on t.first;
     few = omega (arith, t.count, few);
     spent = λ error is cut. t.count ∙ spent error is cut;
   }

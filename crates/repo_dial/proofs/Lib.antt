@@ -1,3 +1,5 @@
 pub mod DialLemmas
 pub mod BringLemmas
 pub mod TryLemmas
+pub mod GoingLemmas
+pub mod RecordLemmas

@@ -1,8 +1,9 @@
 -- One try: the store is met, the client is driven, and its lock is given back.
-use Rattle.std.proofs.Common.{◌≡◌, ◌≢◌, ◌++◌, ◌∷◌, [], ℕ, Option, Some, None, Result, Ok, Err, refl, sym, ap, subst, inl, inr, ◌∙◌}
+use Rattle.std.proofs.Common.{◌≡◌, ◌≢◌, ◌++◌, ◌∷◌, [], ℕ, true, Option, Some, None, Result, Ok, Err, refl, sym, ap, subst, inl, inr, ◌∙◌}
 use Rattle.std.specs.Prelude.{option_map}
 use Rattle.repo_name.specs.declared.tokens.Token.{Token}
 use Rattle.repo_wire.specs.declared.messages.Ask.{Ask}
+use Rattle.repo_wire.specs.declared.messages.Reply.{Reply}
 use Rattle.repo_wire.specs.declared.messages.Request.{Request}
 use Rattle.repo_wire.specs.declared.messages.Say.{Say}
 use Rattle.repo_session.specs.declared.driving.DriveError.{DriveError}
@@ -10,7 +11,8 @@ use Rattle.repo_session.specs.declared.outcomes.Outcome.{Outcome}
 use Rattle.repo_session.specs.Clients.{IsObedientWith, TellsToken}
 use Rattle.repo_session.specs.Order.{Task, locked, May}
 use Rattle.repo_session.specs.Traces.{Exchange, Exchanged, Trace}
-use Rattle.repo_dial.specs.Dialing.{Asking, Call, Coming, ConnectionEnds, Driven, DrivenOver, Try, Turned, Carried, Dials, EndsOwnLock, HasMet, IsFarewell, TakesLeave, TryGives, as_try, dialed_in, ends_met, farewell_of, token_to_end, unlock_in_place}
+use Rattle.repo_dial.specs.Dialing.{Asking, AsksOnce, Call, Connections, Driven, DrivenOver, Try, Turned, Carried, Dials, EndsOwnLock, HangsUp, HasMet, IsBehind, IsDialed, IsFarewell, IsGivenBack, TakesLeave, TryGives, as_try, dialed_in, is_cut, ends_behind, farewell_of, left_in, token_to_end, unlock_in_place}
+use Rattle.repo_dial.specs.Ends.{ConnectionEnds}
 use Rattle.repo_dial.specs.declared.again.TryError.{TryError}
 use Rattle.repo_dial.specs.declared.peers.Acquaintance.{Acquaintance}
 
@@ -24,6 +26,52 @@ no_leave (Err DriveError.Malformed) next told call isnt none = none
 no_leave (Err DriveError.Limit) next told call isnt none = none
 no_leave (Err DriveError.Memory) next told call isnt none = none
 no_leave (Err DriveError.Sink) next told call isnt none = absurd (isnt refl)
+
+-- after an error with which the job may go on over another connection nothing is asked for, nor where it came to its end
+pub kept_cut : (driven : Result ℕ DriveError) (error : TryError) (next : Option Request) (told : Option Token) (call : Call) → Err error ≡ as_try driven → is_cut error ≡ true → TakesLeave driven next told call
+    → call.farewell ≡ None
+kept_cut (Ok n) error next told call is cut none = none
+kept_cut (Err DriveError.Read) error next told call is cut none = none
+kept_cut (Err DriveError.Write) error next told call is cut none = none
+kept_cut (Err DriveError.Malformed) error next told call is cut none = none
+kept_cut (Err DriveError.Limit) error next told call is cut none = none
+kept_cut (Err DriveError.Memory) error next told call is cut none = none
+kept_cut (Err DriveError.Sink) error next told call is cut none = absurd (cc)
+
+-- nor where nothing is pending
+pub no_farewell : (driven : Result ℕ DriveError) (next : Option Request) (told : Option Token) (call : Call) → next ≡ None → TakesLeave driven next told call → call.farewell ≡ None
+no_farewell (Ok n) next told call is none = none
+no_farewell (Err DriveError.Read) next told call is none = none
+no_farewell (Err DriveError.Write) next told call is none = none
+no_farewell (Err DriveError.Malformed) next told call is none = none
+no_farewell (Err DriveError.Limit) next told call is none = none
+no_farewell (Err DriveError.Memory) next told call is none = none
+no_farewell (Err DriveError.Sink) next told call is h = subst (λ o. IsFarewell (farewell_of o told) call.left call.farewell) is h
+
+behind_none : (left : ConnectionEnds) (farewell : Option Asking) → farewell ≡ None → IsBehind left farewell
+behind_none left farewell none = subst (λ f. IsBehind left f) (sym none) tt
+
+behind_farewell : (request : Option Request) (left : ConnectionEnds) (farewell : Option Asking) → IsFarewell request left farewell → IsBehind left farewell
+behind_farewell None left farewell none = behind_none left farewell none
+behind_farewell (Some request) left None h = absurd h
+behind_farewell (Some request) left (Some asking) h = (h.0, h.2)
+
+-- behind a drive at most the unlock is asked for
+pub behind_leave : (result : Result ℕ DriveError) (next : Option Request) (told : Option Token) (call : Call) → TakesLeave result next told call → IsBehind call.left call.farewell
+behind_leave (Ok n) next told call none = behind_none call.left call.farewell none
+behind_leave (Err DriveError.Read) next told call none = behind_none call.left call.farewell none
+behind_leave (Err DriveError.Write) next told call none = behind_none call.left call.farewell none
+behind_leave (Err DriveError.Malformed) next told call none = behind_none call.left call.farewell none
+behind_leave (Err DriveError.Limit) next told call none = behind_none call.left call.farewell none
+behind_leave (Err DriveError.Memory) next told call none = behind_none call.left call.farewell none
+behind_leave (Err DriveError.Sink) next told call h = behind_farewell (farewell_of next told) call.left call.farewell h
+
+-- it was asked for
+pub farewell_asked : (o : Option Request) (request : Request) (came left : ConnectionEnds) (answer : Result Reply DriveError) → Some request ≡ o → AsksOnce request came answer left
+    → (farewell : Option Asking) × IsFarewell o came farewell × (left ≡ ends_behind came farewell)
+farewell_asked o request came left answer is n =
+    let asking : Asking = record { came = came; request = request; passages = n.0; said = n.1; answer = answer; left = left } in
+    (Some asking, subst (λ x. IsFarewell x came (Some asking)) is (refl, refl, n.2), refl)
 
 still_exchanged : (later es : Trace) (ask : Ask) (say : Say) → Exchanged es ask say → Exchanged (later ++ es) ask say
 still_exchanged [] es ask say h = h
@@ -67,18 +115,23 @@ module _ {C : Type 0} (Fits : C → Trace → Type 0) (client : C) (task : Task)
 -- ---- a try
 
 -- the store wasn't the job's
-pub turned : {C J : Type 0} (d : Driven C J) (known : Acquaintance) (old : C) (error : TryError) (after : Acquaintance) (came : ConnectionEnds) (coming left : Coming) (asking : Option Asking)
-    → HasMet (d.next old) known asking (Err error) after → ((a : Asking) → asking ≡ Some a → a.came ≡ came) → Dials coming (Some came) left
-    → (try : Try) × Dials coming (dialed_in try) left × TryGives d known old try (Err error) old after
-turned d known old error after came coming left None met from dials = let m = met.0 in absurd (cc)
-turned d known old error after came coming left (Some asking) met from dials =
-    (Turned asking, subst (λ x. Dials coming (Some x) left) (sym (from asking refl)) dials, (error, refl, refl, met))
+pub turned : {C J : Type 0} (d : Driven C J) (known : Acquaintance) (old : C) (error : TryError) (after : Acquaintance) (came left : ConnectionEnds) (asking : Option Asking)
+    → HasMet (d.next old) known asking (Err error) after → left ≡ ends_behind came asking → ((a : Asking) → asking ≡ Some a → a.came ≡ came)
+    → (try : Try) × (dialed_in try ≡ Some came) × (left_in try ≡ Some left) × TryGives d known old try (Err error) old after
+turned d known old error after came left None met at from = let m = met.0 in absurd (cc)
+turned d known old error after came left (Some asking) met at from = (Turned asking, ap Some (from asking refl), ap Some (sym at), (error, refl, refl, met))
 
 -- it was, and the client was driven
-pub carried : {C J : Type 0} (d : Driven C J) (known : Acquaintance) (old : C) (driven : Result ℕ DriveError) (result : Result ℕ TryError) (new : C) (after : Acquaintance) (came begun : ConnectionEnds) (coming left : Coming)
-    (asking : Option Asking) (call : Call) → HasMet (d.next old) known asking (Ok tt) after → begun ≡ ends_met came asking → ((a : Asking) → asking ≡ Some a → a.came ≡ came) → Dials coming (Some came) left
-    → call.came ≡ begun → DrivenOver d old call driven new → result ≡ as_try driven → (try : Try) × Dials coming (dialed_in try) left × TryGives d known old try result new after
-carried d known old driven result new after came begun coming left None call met at from dials is over gives =
-    (Carried None call, subst (λ x. Dials coming (Some x) left) (sym (is ∙ at)) dials, (driven, over, gives, met, λ a p. absurd (cc)))
-carried d known old driven result new after came begun coming left (Some asking) call met at from dials is over gives =
-    (Carried (Some asking) call, subst (λ x. Dials coming (Some x) left) (sym (from asking refl)) dials, (driven, over, gives, met, λ a p. let q : asking ≡ a = cc in ap (λ (x : Asking). x.left) (sym q) ∙ sym (is ∙ at)))
+pub carried : {C J : Type 0} (d : Driven C J) (known : Acquaintance) (old : C) (driven : Result ℕ DriveError) (result : Result ℕ TryError) (new : C) (after : Acquaintance) (came begun left : ConnectionEnds)
+    (asking : Option Asking) (call : Call) → HasMet (d.next old) known asking (Ok tt) after → begun ≡ ends_behind came asking → ((a : Asking) → asking ≡ Some a → a.came ≡ came)
+    → call.came ≡ begun → ends_behind call.left call.farewell ≡ left → DrivenOver d old call driven new → result ≡ as_try driven
+    → (try : Try) × (dialed_in try ≡ Some came) × (left_in try ≡ Some left) × TryGives d known old try result new after
+carried d known old driven result new after came begun left None call met at from is behind over gives =
+    (Carried None call, ap Some (is ∙ at), ap Some behind, (driven, over, gives, met, λ a p. absurd (cc)))
+carried d known old driven result new after came begun left (Some asking) call met at from is behind over gives =
+    (Carried (Some asking) call, ap Some (from asking refl), ap Some behind, (driven, over, gives, met, λ a p. let q : asking ≡ a = cc in ap (λ (x : Asking). x.left) (sym q) ∙ sym (is ∙ at)))
+
+-- its connection was the next one, and was given back
+pub dialed : (old mid new : Connections) (try : Try) (came left : ConnectionEnds) → dialed_in try ≡ Some came → left_in try ≡ Some left → Dials old (Some came) mid → HangsUp mid left new → IsDialed old try new
+dialed old mid new try came left is to dials hangs =
+    (mid, subst (λ x. Dials old x mid) (sym is) dials, subst (λ x. IsGivenBack mid x new) (sym to) hangs)

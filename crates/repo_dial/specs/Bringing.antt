@@ -1,18 +1,18 @@
 -- A job that is brought to its end, by its own rule, over connections that are made one after another.
-use Rattle.std.specs.Prelude.{◌≡◌, ◌≤◌, ◌+◌, ◌++◌, ◌∷◌, [], ⊤, ℕ, List, length, Option, Some, None}
-use Rattle.std.specs.Io.KnownBytes.{Consumes}
+use Rattle.std.specs.Prelude.{◌≡◌, ◌≤◌, ◌+◌, ◌++◌, ◌∷◌, [], ⊤, ℕ, List, length, drop, Option, Some, None}
 use Rattle.repo_name.specs.declared.names.Instance.{Instance}
 use Rattle.repo_name.specs.declared.tokens.Token.{Token}
 use Rattle.repo_wire.specs.declared.messages.Ask.{Ask}
 use Rattle.repo_wire.specs.declared.messages.Request.{Request}
 use Rattle.repo_wire.specs.declared.messages.Say.{Say}
+use Rattle.repo_store.specs.Channels.{said_in}
 use Rattle.repo_session.specs.declared.outcomes.Outcome.{Outcome}
 use Rattle.repo_session.specs.Askers.{Asker}
 use Rattle.repo_session.specs.Clients.{IsObedientWith}
 use Rattle.repo_session.specs.Jobs.{Rule, task_under}
 use Rattle.repo_session.specs.Talks.{Talk, IsTurn, AreNumbered, IsHeard, WritesPart, first_carried, sent_in, trace_of}
 use Rattle.repo_session.specs.Traces.{Each, Exchanged, Trace}
-use Rattle.repo_dial.specs.Dialing.{Asking, Call, Coming, Try, Missed, Turned, Carried, IsAsking, talk_over, AreAtOneStore, AreDialed}
+use Rattle.repo_dial.specs.Dialing.{Asking, Call, Connections, Try, Missed, Turned, Carried, GoesInTurn, IsAsking, IsBehind, talk_over, AreAtOneStore, AreDialed, AreKept}
 
 -- a client stands at a trace by its job's rule
 abbrev pub IsObedientBy : Rule → Asker → Option Request → Option Outcome → Trace → Type 0
@@ -23,17 +23,18 @@ abbrev pub EndsLockOf : Trace → Option Asking → Type 0
 EndsLockOf es None = ⊤
 EndsLockOf es (Some asking) = (token : Token) × (asking.request.ask ≡ Ask.Unlock token) × Exchanged es Ask.Ticket (Say.Token token)
 
--- A job was brought on over a connection, by its rule: what was said over it was read from it and written to it, with some first part of the request that was
--- pending at its end; each request has the asker's instance and the number after those before it; what was pending before went first; and the job stands, by
--- its rule, at the trace of that and of all that was said before. Behind it nothing was asked for but the end of its own lock.
+-- A job was brought on over a connection, by its rule: what was said went over it in turn, with some first part of the request that was pending at its end;
+-- each request has the asker's instance and the number after those before it; what was pending before went first; and the job stands, by its rule, at the
+-- trace of that and of all that was said before. Behind it nothing was asked for but the end of its own lock.
 pub record BroughtOn (rule : Rule) (who : Asker) (earlier : Talk) (before : Option Request) (call : Call) (next : Option Request) (outcome : Option Outcome) : Type 0 where
-  pub read : Consumes call.came.ahead call.left.ahead call.said.bytes
+  pub over : GoesInTurn call next
   pub heard : IsHeard call.said
   pub turns : Each IsTurn call.said.talk
   pub numbered : AreNumbered who.instance (length (trace_of earlier)) call.said.talk
-  pub sent : WritesPart call.came.sent (sent_in call.said.talk) next call.left.sent
+  pub sent : WritesPart (Some []) (sent_in call.said.talk) next (Some (said_in call.passages))
   pub first : first_carried (sent_in call.said.talk) next ≡ before
   pub obeyed : IsObedientBy rule who next outcome (trace_of (call.said.talk ++ earlier))
+  pub behind : IsBehind call.left call.farewell
   pub ends : EndsLockOf (trace_of (call.said.talk ++ earlier)) call.farewell
 
 -- it was brought on so over each connection of these tries, the newest first, from one pending request to another: each connection begins with the
@@ -56,8 +57,9 @@ IsBegunBy instance (Carried None call) = ⊤
 IsBegunBy instance (Carried (Some asking) call) = AsksConfig instance asking × (asking.left ≡ call.came)
 
 -- a job was brought to its end over connections that were made one after another, so many at most after the first: over each it was brought on, and over
--- the last to its end, with this outcome by its own rules. They hold of all that was said as over one connection, and all were to one store.
-pub record Ended (rule : Rule) (who : Asker) (outcome : Outcome) (retry : ℕ) (coming after : Coming) : Type 0 where
+-- the last to its end, with this outcome by its own rules. They hold of all that was said as over one connection, and all were to one store. Behind
+-- none of them the end of its lock was asked for.
+pub record Ended (rule : Rule) (who : Asker) (outcome : Outcome) (retry : ℕ) (coming after : Connections) : Type 0 where
   pub cut : List Try
   pub asking : Option Asking
   pub last : Call
@@ -65,19 +67,21 @@ pub record Ended (rule : Rule) (who : Asker) (outcome : Outcome) (retry : ℕ) (
   pub dialed : AreDialed coming (Carried asking last ∷ cut) after
   pub begun_by : Each (IsBegunBy who.instance) (Carried asking last ∷ cut)
   pub store : AreAtOneStore retry (Carried asking last ∷ cut)
+  pub kept : AreKept (Carried asking last ∷ cut)
   pub begun : Option Request
   pub waiting : Option Request
   pub before : IsBroughtOn rule who begun cut waiting
   pub ended : BroughtOn rule who (talk_over cut) waiting last None (Some outcome)
 
 -- however far a job was brought over connections that were made one after another, so many at most after the first: over each it was brought on by its own
--- rules, and all were to one store
-pub record Obeyed (rule : Rule) (who : Asker) (retry : ℕ) (coming after : Coming) : Type 0 where
+-- rules, and all were to one store; the end of its lock was asked for behind the last one at most
+pub record Obeyed (rule : Rule) (who : Asker) (retry : ℕ) (coming after : Connections) : Type 0 where
   pub tries : List Try
   pub few : length tries ≤ retry + 1
   pub dialed : AreDialed coming tries after
   pub begun_by : Each (IsBegunBy who.instance) tries
   pub store : AreAtOneStore retry tries
+  pub kept : AreKept (drop 1 tries)
   pub begun : Option Request
   pub waiting : Option Request
   pub brought : IsBroughtOn rule who begun tries waiting

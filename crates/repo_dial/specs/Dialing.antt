@@ -1,63 +1,97 @@
 -- What is said over connections that are made one after another.
-use Rattle.std.specs.Prelude.{◌≡◌, ◌≢◌, ◌<◌, ◌≤◌, ◌++◌, ◌∷◌, [], ⊤, ℕ, Bool, true, false, List, length, Option, Some, None, option_map, Result, Ok, Err}
-use Rattle.std.specs.Io.KnownBytes.{Consumes}
+use Rattle.std.specs.Prelude.{◌≡◌, ◌≢◌, ◌<◌, ◌≤◌, ◌++◌, ◌∷◌, [], ⊤, ℕ, Bool, true, false, List, length, map, Option, Some, None, IfSome, option_map, Result, Ok, Err}
 use Rattle.repo_name.specs.declared.names.Instance.{Instance}
 use Rattle.repo_name.specs.declared.tokens.Token.{Token}
 use Rattle.repo_wire.specs.declared.messages.Ask.{Ask}
 use Rattle.repo_wire.specs.declared.messages.Reply.{Reply}
 use Rattle.repo_wire.specs.declared.messages.Request.{Request}
 use Rattle.repo_wire.specs.declared.messages.Say.{Say}
+use Rattle.repo_store.specs.Channels.{Passage, heard_in, said_in}
 use Rattle.repo_session.specs.declared.driving.DriveError.{DriveError}
 use Rattle.repo_session.specs.Order.{Task}
 use Rattle.repo_session.specs.Talks.{Talk, Said, AskGives, Drives, Went}
 use Rattle.repo_session.specs.Traces.{Each, Exchanged, Trace}
+use Rattle.repo_session.specs.Turns.{AreAskedInTurn, IsAskedFirst, asked_in}
+use Rattle.repo_dial.specs.Ends.{ConnectionEnds, GoesBy}
 use Rattle.repo_dial.specs.declared.again.TryError.{TryError}
 use Rattle.repo_dial.specs.declared.peers.Acquaintance.{Acquaintance}
 
--- the ends of a connection: what its reader will still give, and what was written to its writer, where that is known
-pub record ConnectionEnds : Type 0 where
-  pub ahead : Option (List ℕ)
-  pub sent : Option (List ℕ)
+-- connections that are made one after another: those that will be had, one for each time that one is asked for, or none; and those that were had and given
+-- back, each as it was left, the newest first; where each of these is known
+pub record Connections : Type 0 where
+  pub coming : Option (List (Option ConnectionEnds))
+  pub had : Option (List ConnectionEnds)
 
-abbrev pub ends : Option (List ℕ) → Option (List ℕ) → ConnectionEnds
-ends ahead sent = record { ahead = ahead; sent = sent }
-
--- the connections that will be had, one for each time that one is asked for, or none, where that is known
-abbrev pub Coming : Type 0
-Coming = Option (List (Option ConnectionEnds))
-
--- those of a connection that is there already: it, and none once it was had
-abbrev pub coming_once : {R W : Type 0} → (R → Option (List ℕ)) → (W → Option (List ℕ)) → Option (R × W) → Coming
-coming_once ahead sent None = Some []
-coming_once ahead sent (Some pair) = Some (Some (ends (ahead pair.0) (sent pair.1)) ∷ [])
+-- those of which nothing is known
+abbrev pub unknown : Connections
+unknown = record { coming = None; had = None }
 
 -- one that was asked for is the next of those that were coming
-abbrev pub Dials : Coming → Option ConnectionEnds → Coming → Type 0
-Dials None dialed after = ⊤
-Dials (Some []) dialed after = (dialed ≡ None) × (after ≡ Some [])
-Dials (Some (next ∷ coming)) dialed after = (dialed ≡ next) × (after ≡ Some coming)
+abbrev pub IsNext : Option (List (Option ConnectionEnds)) → Option ConnectionEnds → Option (List (Option ConnectionEnds)) → Type 0
+IsNext None dialed after = ⊤
+IsNext (Some []) dialed after = (dialed ≡ None) × (after ≡ Some [])
+IsNext (Some (next ∷ coming)) dialed after = (dialed ≡ next) × (after ≡ Some coming)
+
+abbrev pub Dials : Connections → Option ConnectionEnds → Connections → Type 0
+Dials old dialed new = IsNext old.coming dialed new.coming × (new.had ≡ old.had)
+
+-- where it is known in the end how those that were had were left, it was before, and this one was left so; and it is known of the first one that is given
+-- back, where it was known that none was so far
+abbrev pub IsLeft : Option (List ConnectionEnds) → ConnectionEnds → Option (List ConnectionEnds) → Type 0
+IsLeft had left None = had ≢ Some []
+IsLeft None left (Some after) = ⊥
+IsLeft (Some had) left (Some after) = after ≡ left ∷ had
+
+-- one was given back
+abbrev pub HangsUp : Connections → ConnectionEnds → Connections → Type 0
+HangsUp old left new = (new.coming ≡ old.coming) × IsLeft old.had left new.had
+
+-- those of a connection that is there already: it, and none once it was had; and it, once it was given back, where that is known
+abbrev pub only : {E : Type 0} → (E → ConnectionEnds) → Option E → List ConnectionEnds
+only known None = []
+only known (Some connection) = known connection ∷ []
+
+abbrev pub once : {E : Type 0} → (E → ConnectionEnds) → Option E → Option (Option E) → Connections
+once known ready left = record { coming = Some (map Some (only known ready)); had = option_map (only known) left }
 
 -- ---- what is said over a connection
 
--- one request was asked over a connection: what was said, what came of it, and the ends before and after it
+-- one request was asked over a connection: what went over it, what was said by that, what came of it, and the ends before and after it
 pub record Asking : Type 0 where
   pub came : ConnectionEnds
   pub request : Request
+  pub passages : List Passage
   pub said : Said
   pub answer : Result Reply DriveError
   pub left : ConnectionEnds
 
+-- nothing else went over it; and whenever something was heard, the request had been said whole, and the reply to it wasn't there yet
 pub record IsAsking (a : Asking) : Type 0 where
-  pub read : Consumes a.came.ahead a.left.ahead a.said.bytes
-  pub gives : AskGives a.request a.answer a.said a.came.sent a.left.sent
+  pub goes : GoesBy a.came a.passages a.left
+  pub in_turn : IsAskedFirst [] [] a.request a.passages
+  pub bytes : a.said.bytes ≡ heard_in a.passages
+  pub gives : AskGives a.request a.answer a.said (Some []) (Some (said_in a.passages))
 
--- a client was driven over a connection: its ends before that, what was said, its ends after that, and the unlock that was asked for
--- behind it, if one was
+-- from these ends to those one request was asked, and this came of it
+abbrev pub AsksOnce : Request → ConnectionEnds → Result Reply DriveError → ConnectionEnds → Type 0
+AsksOnce request came answer left =
+    (passages : List Passage) × (said : Said) × IsAsking (record { came = came; request = request; passages = passages; said = said; answer = answer; left = left })
+
+-- a client was driven over a connection: its ends before that, what went over it, what was said by that, its ends after that, and the unlock that was
+-- asked for behind it, if one was
 pub record Call : Type 0 where
   pub came : ConnectionEnds
+  pub passages : List Passage
   pub said : Said
   pub left : ConnectionEnds
   pub farewell : Option Asking
+
+-- nothing else went over it; and whenever something was heard, one of the client's requests, of which this one is pending in the end, had been said whole
+-- behind those before it, these had been answered, and it hadn't
+pub record GoesInTurn (call : Call) (next : Option Request) : Type 0 where
+  pub goes : GoesBy call.came call.passages call.left
+  pub in_turn : AreAskedInTurn [] [] (asked_in call.said.talk next) call.passages
+  pub bytes : call.said.bytes ≡ heard_in call.passages
 
 -- a try: no connection could be had; one over which the store was asked for its config, and wasn't the job's; or one over which the client was
 -- driven, after its store was asked for its config, if it was
@@ -82,10 +116,39 @@ abbrev pub talk_over : List Try → Talk
 talk_over [] = []
 talk_over (try ∷ tries) = talk_in try ++ talk_over tries
 
--- the connections of the tries are those that were coming
-abbrev pub AreDialed : Coming → List Try → Coming → Type 0
-AreDialed coming [] after = after ≡ coming
-AreDialed coming (try ∷ tries) after = (mid : Coming) × AreDialed coming tries mid × Dials mid (dialed_in try) after
+-- the ends of a connection behind an ask, if there was one
+abbrev pub ends_behind : ConnectionEnds → Option Asking → ConnectionEnds
+ends_behind came None = came
+ends_behind came (Some asking) = asking.left
+
+-- as its connection was left
+abbrev pub left_in : Try → Option ConnectionEnds
+left_in Missed = None
+left_in (Turned asking) = Some asking.left
+left_in (Carried asking call) = Some (ends_behind call.left call.farewell)
+
+-- the unlock that was asked for behind what a client said over it, if one was
+abbrev pub farewell_in : Try → Option Asking
+farewell_in Missed = None
+farewell_in (Turned asking) = None
+farewell_in (Carried asking call) = call.farewell
+
+-- in none of these tries the client's lock was given back so
+abbrev pub AreKept : List Try → Type 0
+AreKept tries = Each (λ try. farewell_in try ≡ None) tries
+
+abbrev pub IsGivenBack : Connections → Option ConnectionEnds → Connections → Type 0
+IsGivenBack old None new = new ≡ old
+IsGivenBack old (Some left) new = HangsUp old left new
+
+-- the connection of a try was the next one, and was given back as it was left
+abbrev pub IsDialed : Connections → Try → Connections → Type 0
+IsDialed old try new = (mid : Connections) × Dials old (dialed_in try) mid × IsGivenBack mid (left_in try) new
+
+-- so were those of all tries
+abbrev pub AreDialed : Connections → List Try → Connections → Type 0
+AreDialed old [] new = new ≡ old
+AreDialed old (try ∷ tries) new = (mid : Connections) × AreDialed old tries mid × IsDialed mid try new
 
 -- ---- one store for one job
 
@@ -113,16 +176,44 @@ abbrev pub Meets : Option (List ℕ) → Result Reply DriveError → Result (Uni
 Meets known (Ok reply) result after = MeetsSay known reply.say result after
 Meets known (Err error) result after = (result ≡ Err (TryError.Drive error)) × (after ≡ known)
 
--- the store of a try is the one with this config, where stores are asked for it: no exchange of the client stands at another
+-- the store of a try is the one with this config, where stores are asked for it: the client says nothing to one that wasn't asked, and no exchange of the client
+-- stands at another
 abbrev pub IsAtStore : Bool → List ℕ → Try → Type 0
 IsAtStore asks config Missed = ⊤
 IsAtStore asks config (Turned asking) = asks ≡ true
-IsAtStore asks config (Carried None call) = asks ≡ true → call.said.talk ≡ []
+IsAtStore asks config (Carried None call) = asks ≡ true → (call.said.talk ≡ []) × (said_in call.passages ≡ []) × (call.farewell ≡ None)
 IsAtStore asks config (Carried (Some asking) call) = (asks ≡ true) × Tells asking config
 
--- all tries of a job are at one store: where more than one connection may be made, each is asked for its config before anything else
+-- the config that was told to an ask
+abbrev pub config_in : Say → Option (List ℕ)
+config_in (Say.Bytes config) = Some config
+config_in _ = None
+
+abbrev pub config_of : Result Reply DriveError → Option (List ℕ)
+config_of (Ok reply) = config_in reply.say
+config_of (Err error) = None
+
+-- the config that was told in a try
+abbrev pub config_told : Try → Option (List ℕ)
+config_told Missed = None
+config_told (Turned asking) = config_of asking.answer
+config_told (Carried None call) = None
+config_told (Carried (Some asking) call) = config_of asking.answer
+
+-- the one that was told before, or else this one
+abbrev pub or_else : Option (List ℕ) → Option (List ℕ) → Option (List ℕ)
+or_else None told = told
+or_else (Some before) told = Some before
+
+-- the config that was told first over some tries, of which the newest is the first
+abbrev pub first_told : List Try → Option (List ℕ)
+first_told [] = None
+first_told (try ∷ tries) = or_else (first_told tries) (config_told try)
+
+-- All tries of a job are at one store: where more than one connection may be made, nothing is said over any before its store was asked for its config, and
+-- the one store is the one whose config was told first.
 abbrev pub AreAtOneStore : ℕ → List Try → Type 0
-AreAtOneStore retry tries = (asks : Bool) × (config : List ℕ) × (0 < retry → asks ≡ true) × Each (IsAtStore asks config) tries
+AreAtOneStore retry tries = (asks : Bool) × (config : List ℕ) × (0 < retry → asks ≡ true) × Each (IsAtStore asks config) tries × IfSome (first_told tries) (λ first. config ≡ first)
 
 -- ---- the end of a lock that isn't gone on with
 
@@ -145,6 +236,11 @@ abbrev pub IsFarewell : Option Request → ConnectionEnds → Option Asking → 
 IsFarewell None left farewell = farewell ≡ None
 IsFarewell (Some request) left None = ⊥
 IsFarewell (Some request) left (Some asking) = (asking.came ≡ left) × (asking.request ≡ request) × IsAsking asking
+
+-- behind what was said before at most this was asked
+abbrev pub IsBehind : ConnectionEnds → Option Asking → Type 0
+IsBehind left None = ⊤
+IsBehind left (Some asking) = (asking.came ≡ left) × IsAsking asking
 
 -- where the sink took no more the lock is given back; after another error nothing is asked for
 abbrev pub TakesLeave : Result ℕ DriveError → Option Request → Option Token → Call → Type 0
@@ -170,10 +266,10 @@ pub record Driven (C J : Type 0) : Type 1 where
 abbrev pub driven_by : {C J : Type 0} → (J → Task) → (C → J) → (C → Trace → Type 0) → (C → Option Request) → (C → Option Token) → Driven C J
 driven_by task job fits next told = record { own = λ j. (task j).who.instance; job = job; fits = fits; next = next; told = told }
 
--- a client was driven over a connection, to this result
+-- a client was driven over a connection, in turn, to this result
 pub record DrivenOver {C J : Type 0} (d : Driven C J) (old : C) (call : Call) (result : Result ℕ DriveError) (new : C) : Type 0 where
-  pub read : Consumes call.came.ahead call.left.ahead call.said.bytes
-  pub drives : Drives (d.own (d.job old)) d.fits d.next old result new call.said call.came.sent call.left.sent
+  pub over : GoesInTurn call (d.next new)
+  pub drives : Drives (d.own (d.job old)) d.fits d.next old result new call.said (Some []) (Some (said_in call.passages))
   pub same : d.job new ≡ d.job old
   pub leaves : TakesLeave result (d.next new) (d.told new) call
   pub ends : EndsOwnLock d.fits new call.farewell
@@ -183,11 +279,6 @@ abbrev pub HasMet : Option Request → Acquaintance → Option Asking → Result
 HasMet next known None result after = (result ≡ Ok tt) × (after ≡ known) × (known.asks ≡ true → next ≡ None)
 HasMet next known (Some asking) result after = (known.asks ≡ true) × (after.asks ≡ true) × (option_map config_request next ≡ Some asking.request) × IsAsking asking
     × Meets known.config asking.answer result after.config
-
--- the ends of a connection once its store was met
-abbrev pub ends_met : ConnectionEnds → Option Asking → ConnectionEnds
-ends_met came None = came
-ends_met came (Some asking) = asking.left
 
 -- what a driver gives, as a try gives it
 abbrev pub as_try : Result ℕ DriveError → Result ℕ TryError
@@ -222,14 +313,16 @@ AreCut {C} d known old (try ∷ tries) new after =
     (mid : C) × (between : Acquaintance) × AreCut d known old tries mid between × ((error : TryError) × TryGives d between mid try (Err error) new after × (is_cut error ≡ true))
 
 -- what driving a client over connections gives, where the first may be followed by so many more: the last try gave the result, and all before it
--- were cut off; the client went as over one connection, and all were to one store; and where the last one was cut off too, no more were left
-pub record DrivesAgain {C J : Type 0} (d : Driven C J) (retry : ℕ) (old : C) (result : Result ℕ TryError) (new : C) (coming after : Coming) : Type 0 where
+-- were cut off; before the first one no config was known, and where more may be made stores are asked for it; the client went as over one connection,
+-- and all were to one store; and where the last one was cut off too, no more were left
+pub record DrivesAgain {C J : Type 0} (d : Driven C J) (retry : ℕ) (old : C) (result : Result ℕ TryError) (new : C) (coming after : Connections) : Type 0 where
   pub begun : Acquaintance
   pub known : Acquaintance
   pub ended : Acquaintance
   pub cut : List Try
   pub mid : C
   pub last : Try
+  pub fresh : (begun.config ≡ None) × (0 < retry → begun.asks ≡ true)
   pub before : AreCut d begun old cut mid known
   pub gives : TryGives d known mid last result new ended
   pub dialed : AreDialed coming (last ∷ cut) after

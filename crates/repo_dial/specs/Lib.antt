@@ -1,2 +1,4 @@
+pub mod Ends
 pub mod Dialing
 pub mod Bringing
+pub mod Recording

@@ -1,15 +1,15 @@
 //! The driver of a client over connections that are made one after another.
 
-ghost use Rattle.std.specs.Prelude.{◌≡◌};
-ghost use Rattle.repo_dial.specs.Dialing.{Call, Try, driven_by, ends, dialed_in, Dials, DrivenOver, TryGives, is_cut, DrivesAgain};
+ghost use Rattle.std.specs.Prelude.{◌≡◌, Some};
+ghost use Rattle.repo_dial.specs.Dialing.{Call, Try, driven_by, dialed_in, left_in, ends_behind, IsDialed, DrivenOver, TryGives, is_cut, DrivesAgain};
 
 use crate::dialing::Dial;
+use crate::ends::KnownChannel;
 use crate::farewells::give_back;
 use crate::peers::Acquaintance;
-use repo_session::{Client, DriveError, Emission, drive};
+use repo_session::{Client, Connection, DriveError, Emission, drive_over};
 use repo_wire::Code;
 use std::alloc::{AllocError, Global};
-use std::io::{Read, Write};
 use thiserror::Error;
 
 /// Why a client wasn't brought to its end by the last connection that was tried.
@@ -56,26 +56,48 @@ fn is_cut(error: TryError) -> bool
     }
 }
 
-/// Drives a client over a connection. Where the sink takes no more, the client's lock is given back over it.
-fn carry<C: Client, R: Read, W: Write, F: FnMut(&Emission) -> bool>(
+/// Drives a client over a connection, in turn. Where the sink takes no more, the client's lock is given back over it.
+fn carry<C: Client, E: KnownChannel, F: FnMut(&Emission) -> bool>(
     alloc: Global,
     client: &mut C,
-    reader: &mut R,
-    writer: &mut W,
+    channel: &mut E,
     sink: &mut F,
 ) -> Result<u64, DriveError>
     requires callable { (state : F) (x : _) → F.pre state x }
-    ensures { (call : Call) × (call.came ≡ ends (R.remaining reader.old) (W.contents writer.old))
+    ensures { (call : Call) × (call.came ≡ E.ends channel.old) × (ends_behind call.left call.farewell ≡ E.ends channel.new)
         × DrivenOver (driven_by C.task C.job C.fits C.next C.token_of) client.old call result client.new }
 {
-    let driven = drive(alloc, client, reader, writer, sink);
-    if driven == Err(DriveError::Sink) {
-        give_back(alloc, client, reader, writer);
+    let mut connection = Connection::new(alloc)?;
+    let driven = drive_over(client, &mut connection, channel, sink);
+    if driven != Err(DriveError::Sink) {
+        return driven;
     }
+    give_back(alloc, client, channel);
     driven
 }
 
-/// Drives a client over the next connection, where its store is the one that is known.
+/// Drives a client over a connection, where its store is the one that is known.
+fn try_over<C: Client, E: KnownChannel, F: FnMut(&Emission) -> bool>(
+    alloc: Global,
+    client: &mut C,
+    channel: &mut E,
+    known: &mut Acquaintance,
+    sink: &mut F,
+) -> Result<u64, TryError>
+    requires callable { (state : F) (x : _) → F.pre state x }
+    ensures { (try : Try) × (dialed_in try ≡ Some (E.ends channel.old)) × (left_in try ≡ Some (E.ends channel.new))
+        × TryGives (driven_by C.task C.job C.fits C.next C.token_of) known.old client.old try result client.new known.new }
+{
+    if let Err(error) = known.meet(alloc, client, channel) {
+        return Err(error);
+    }
+    match carry(alloc, client, channel, sink) {
+        Ok(count) => Ok(count),
+        Err(error) => Err(TryError::Drive(error)),
+    }
+}
+
+/// Drives a client so over the next connection, and gives that back.
 fn try_once<C: Client, D: Dial, F: FnMut(&Emission) -> bool>(
     alloc: Global,
     client: &mut C,
@@ -84,22 +106,18 @@ fn try_once<C: Client, D: Dial, F: FnMut(&Emission) -> bool>(
     sink: &mut F,
 ) -> Result<u64, TryError>
     requires callable { (state : F) (x : _) → F.pre state x }
-    ensures { (try : Try) × Dials (D.coming dial.old) (dialed_in try) (D.coming dial.new)
+    ensures { (try : Try) × IsDialed (D.connections dial.old) try (D.connections dial.new)
         × TryGives (driven_by C.task C.job C.fits C.next C.token_of) known.old client.old try result client.new known.new }
 {
-    let Some((mut reader, mut writer)) = dial.dial() else {
+    let Some(mut channel) = dial.dial() else {
         return Err(TryError::NotReached);
     };
-    if let Err(error) = known.meet(alloc, client, &mut reader, &mut writer) {
-        return Err(error);
-    }
-    match carry(alloc, client, &mut reader, &mut writer, sink) {
-        Ok(count) => Ok(count),
-        Err(error) => Err(TryError::Drive(error)),
-    }
+    let result = try_over(alloc, client, &mut channel, known, sink);
+    dial.hang_up(channel);
+    result
 }
 
-/// Carries a client's requests as `drive` does, over one connection after another: where one can't be had, ends, or
+/// Carries a client's requests as `drive_over` does, over one connection after another: where one can't be had, ends, or
 /// breaks, or brings what is no stream of replies, it goes on over the next, and sends the request again that is
 /// pending. So many are tried after the first; the error of the last one is told. Other errors end it at once.
 ///
@@ -117,7 +135,7 @@ pub fn drive_again<C: Client, D: Dial, F: FnMut(&Emission) -> bool>(
 ) -> Result<u64, TryError>
     requires callable { (state : F) (x : _) → F.pre state x }
     ensures again { DrivesAgain (driven_by C.task C.job C.fits C.next C.token_of) retry client.old result client.new
-        (D.coming dial.old) (D.coming dial.new) }
+        (D.connections dial.old) (D.connections dial.new) }
     ensures job { C.job client.new ≡ C.job client.old }
 {
     let mut known = Acquaintance::new(retry);

@@ -1,25 +1,27 @@
 //! Connections to a server, made one after another.
 
-ghost use Rattle.std.specs.Prelude.{◌≡◌, ◌≤◌, ◌↔◌, ◌∷◌, [], Some, IfSome, IsSome, option_map};
-ghost use Rattle.repo_dial.specs.Dialing.{Coming, coming_once, ends, Dials};
+ghost use Rattle.std.specs.Prelude.{◌≡◌, ◌≤◌, ◌↔◌, ◌∷◌, [], Some, IfSome, IsSome, option_and_then, option_map};
+ghost use Rattle.repo_dial.specs.Dialing.{Connections, Dials, HangsUp, once};
 
-use std::io;
-use std::io::{Read, Write};
-use std::net::{Net, OpenStream, TcpStream};
+use crate::ends::{KnownChannel, Pair, pair_of};
+use std::net::{Net, TcpStream};
 use std::time::Duration;
 
 /// A way to connect to a server, which may be asked for one connection after another.
 pub trait Dial {
-    type Reader: Read + Drop;
+    /// A connection: both its ends, as one channel.
+    type Ends: KnownChannel + Drop;
 
-    type Writer: Write + Drop;
+    /// The connections that will be had, and those that were had and given back, where that is known.
+    ghost connections: { Self → Connections };
 
-    /// The connections that will be had, where that is known.
-    ghost coming: { Self → Coming };
+    /// The next connection. `None` where it can't be had.
+    fn dial(&mut self) -> Option<Self::Ends>
+        ensures { Dials (connections self.old) (option_map Self.Ends.ends result) (connections self.new) };
 
-    /// The next connection: its reader and its writer. `None` where it can't be had.
-    fn dial(&mut self) -> Option<(Self::Reader, Self::Writer)>
-        ensures { Dials (coming self.old) (option_map (λ c. ends (Self.Reader.remaining c.0) (Self.Writer.contents c.1)) result) (coming self.new) };
+    /// Takes a connection back over which nothing more is said.
+    fn hang_up(&mut self, connection: Self::Ends)
+        ensures { HangsUp (connections self.old) (Self.Ends.ends connection) (connections self.new) };
 }
 
 /// A server's address, at which each connection is made anew. The first one may be made before it is asked for.
@@ -28,30 +30,17 @@ pub struct Address<'a, T: Net> {
     rt: &'a T,
     address: &'a str,
     idle: Option<Duration>,
-    ready: Option<(T::Stream, T::Stream)>,
+    ready: Option<Pair<T::Stream, T::Stream>>,
 }
 
-/// The reading end of a connection. Where there is a time for `idle`, each read and each write of the connection
-/// fails that waits for longer.
-pub fn reader_of<T: OpenStream>(stream: &T, idle: Option<Duration>) -> io::Result<T> {
-    if idle.is_some() {
-        stream.set_read_timeout(idle)?;
-        stream.set_write_timeout(idle)?;
-    }
-    stream.try_clone()
-}
-
-/// Connects to an address: the reading and the writing end.
+/// Connects to an address.
 fn connect<T: Net>(
     rt: &T,
     address: &str,
     idle: Option<Duration>,
-) -> Option<(T::Stream, T::Stream)> {
-    let Ok(writer) = TcpStream::connect(rt, address) else {
-        return None;
-    };
-    match reader_of(&writer, idle) {
-        Ok(reader) => Some((reader, writer)),
+) -> Option<Pair<T::Stream, T::Stream>> {
+    match TcpStream::connect(rt, address) {
+        Ok(stream) => pair_of(stream, idle),
         Err(_) => None,
     }
 }
@@ -86,49 +75,65 @@ impl<'a, T: Net> Address<'a, T> {
 }
 
 impl<T: Net> Dial for Address<'_, T> {
-    ghost use Rattle.std.specs.Prelude.{None};
+    ghost use Rattle.repo_dial.specs.Dialing.{unknown};
 
-    type Reader = T::Stream;
+    type Ends = Pair<T::Stream, T::Stream>;
 
-    type Writer = T::Stream;
+    ghost connections = { λ _. unknown };
 
-    ghost coming = { λ _. None };
-
-    fn dial(&mut self) -> Option<(T::Stream, T::Stream)> {
+    fn dial(&mut self) -> Option<Pair<T::Stream, T::Stream>> {
         match self.ready.take() {
-            Some(ends) => Some(ends),
+            Some(ready) => Some(ready),
             None => connect(self.rt, self.address, self.idle),
         }
     }
+
+    /// The connection is closed.
+    fn hang_up(&mut self, _connection: Pair<T::Stream, T::Stream>) {}
 }
 
-/// A connection that is there already; there is no other.
+/// A connection that is there already; there is no other. It is kept as it was left, once it was given back.
 #[derive(Drop)]
-pub struct Once<R: Drop, W: Drop> {
-    ends: Option<(R, W)>,
+pub struct Once<E: Drop> {
+    ready: Option<E>,
+    /// What was given back; not known, where more than one was.
+    left: Option<Option<E>>,
 }
 
-impl<R: Read + Drop, W: Write + Drop> Once<R, W> {
-    /// The connection of this reader and this writer.
-    pub fn new(reader: R, writer: W) -> Once<R, W>
-        ensures { coming_once R.remaining W.contents result.ends ≡ Some (Some (ends (R.remaining reader) (W.contents writer)) ∷ []) }
+impl<E: KnownChannel + Drop> Once<E> {
+    /// This connection.
+    pub fn new(connection: E) -> Once<E>
+        ensures { once E.ends result.ready result.left ≡ record { coming = Some (Some (E.ends connection) ∷ []); had = Some [] } }
     {
         Once {
-            ends: Some((reader, writer)),
+            ready: Some(connection),
+            left: Some(None),
         }
+    }
+
+    /// The connection as it was left, once it was given back.
+    pub fn given_back(self) -> Option<E>
+        ensures { result ≡ option_and_then (λ left. left) self.left }
+    {
+        self.left.flatten()
     }
 }
 
-impl<R: Read + Drop, W: Write + Drop> Dial for Once<R, W> {
-    ghost use Rattle.repo_dial.specs.Dialing.{coming_once};
+impl<E: KnownChannel + Drop> Dial for Once<E> {
+    ghost use Rattle.repo_dial.specs.Dialing.{once};
 
-    type Reader = R;
+    type Ends = E;
 
-    type Writer = W;
+    ghost connections = { λ x. once E.ends x.ready x.left };
 
-    ghost coming = { λ once. coming_once R.remaining W.contents once.ends };
+    fn dial(&mut self) -> Option<E> {
+        self.ready.take()
+    }
 
-    fn dial(&mut self) -> Option<(R, W)> {
-        self.ends.take()
+    fn hang_up(&mut self, connection: E) {
+        self.left = match self.left {
+            Some(None) => Some(Some(connection)),
+            _ => None,
+        };
     }
 }

@@ -3,13 +3,14 @@
 ghost use Rattle.std.specs.Prelude.{◌≡◌, IfSome, Option};
 ghost use Rattle.repo_wire.specs.Messages.{requests};
 ghost use Rattle.repo_wire.specs.Stream.{FitsFrame};
-ghost use Rattle.repo_dial.specs.Dialing.{Asking, IsFarewell, ends, farewell_of, token_to_end, unlock_in_place};
+ghost use Rattle.repo_dial.specs.Dialing.{Asking, IsFarewell, ends_behind, farewell_of, token_to_end, unlock_in_place};
 
+use crate::asking::ask_once;
+use crate::ends::KnownChannel;
 use repo_name::Token;
-use repo_session::{Client, ask};
+use repo_session::Client;
 use repo_wire::{Ask, Request};
 use std::alloc::Global;
-use std::io::{Read, Write};
 
 /// The token whose lock is to be ended: that of the unlock that is pending, or else the one that the client tells.
 fn token_to_end(next: &Ask, told: Option<Token>) -> Option<Token>
@@ -50,15 +51,11 @@ fn farewell_of<C: Client>(client: &C) -> Option<Request>
 
 /// Asks for the end of a client's lock, over the connection that stands. What comes of it isn't told: the client is at
 /// its end either way.
-pub fn give_back<C: Client, R: Read, W: Write>(
-    alloc: Global,
-    client: &C,
-    reader: &mut R,
-    writer: &mut W,
-)
-    ensures { (farewell : Option Asking) × IsFarewell (farewell_of (C.next client.now) (C.token_of client.now)) (ends (R.remaining reader.old) (W.contents writer.old)) farewell }
+pub fn give_back<C: Client, E: KnownChannel>(alloc: Global, client: &C, channel: &mut E)
+    ensures { (farewell : Option Asking) × IsFarewell (farewell_of (C.next client.now) (C.token_of client.now)) (E.ends channel.old) farewell
+        × (E.ends channel.new ≡ ends_behind (E.ends channel.old) farewell) }
 {
     if let Some(request) = farewell_of(client) {
-        let _ = ask(alloc, reader, writer, &request);
+        let _ = ask_once(alloc, channel, &request);
     }
 }

@@ -3,19 +3,20 @@
 ghost use Rattle.std.specs.Prelude.{◌≡◌, ◌<◌, true, None, Some, Option};
 ghost use Rattle.repo_wire.specs.Messages.{requests};
 ghost use Rattle.repo_wire.specs.Stream.{FitsFrame};
-ghost use Rattle.repo_dial.specs.Dialing.{Asking, HasMet, IsAsking, Meets, MeetsSay, Recognizes, config_request, ends, ends_met};
+ghost use Rattle.repo_dial.specs.Dialing.{Asking, HasMet, Meets, MeetsSay, Recognizes, config_request, ends_behind};
 
 use crate::again::TryError;
+use crate::asking::ask_once;
+use crate::ends::KnownChannel;
 use repo_name::Bytes;
-use repo_session::{Client, ask};
+use repo_session::Client;
 use repo_wire::{Ask, Request, Say};
 use std::alloc::Global;
-use std::io::{Read, Write};
 
 /// What a job knows of the store at the other end of its connections.
 #[derive(Drop)]
 pub struct Acquaintance {
-    /// Whether the store is asked for its config before anything else, over each connection.
+    /// Whether the store is asked for its config before anything else is said, over each connection.
     pub asks: bool,
     /// The config that was told first.
     pub config: Option<Bytes>,
@@ -76,16 +77,15 @@ impl Acquaintance {
 
     /// Asks the store at the other end of a connection for its config, before the client says anything: an error where it
     /// isn't the one that is known, or tells none. Where stores aren't asked, or nothing is pending, nothing is said.
-    pub fn meet<C: Client, R: Read, W: Write>(
+    pub fn meet<C: Client, E: KnownChannel>(
         &mut self,
         alloc: Global,
         client: &C,
-        reader: &mut R,
-        writer: &mut W,
+        channel: &mut E,
     ) -> Result<(), TryError>
         ensures { (asking : Option Asking) × HasMet (C.next client.now) self.old asking result self.new
-            × (ends (R.remaining reader.new) (W.contents writer.new) ≡ ends_met (ends (R.remaining reader.old) (W.contents writer.old)) asking)
-            × ((a : Asking) → asking ≡ Some a → a.came ≡ ends (R.remaining reader.old) (W.contents writer.old)) }
+            × (E.ends channel.new ≡ ends_behind (E.ends channel.old) asking)
+            × ((a : Asking) → asking ≡ Some a → a.came ≡ E.ends channel.old) }
     {
         if !self.asks {
             return Ok(());
@@ -93,7 +93,7 @@ impl Acquaintance {
         let Some(next) = client.pending() else {
             return Ok(());
         };
-        match ask(alloc, reader, writer, &config_request(next)) {
+        match ask_once(alloc, channel, &config_request(next)) {
             Ok(reply) => self.take(reply.say),
             Err(error) => Err(TryError::Drive(error)),
         }

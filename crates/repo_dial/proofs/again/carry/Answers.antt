@@ -1,45 +1,52 @@
-use Rattle.std.proofs.Common.{rules, ◌≡◌, ◌≢◌, None, Err, refl, sym, subst}
+use Rattle.std.proofs.Common.{rules, ◌≡◌, ◌≢◌, [], None, Err, refl, sym, subst}
+use Rattle.std.proofs.lemmas.Result.{err_from_is_err_and}
 use Rattle.repo_session.specs.declared.driving.DriveError.{DriveError}
-use Rattle.repo_dial.specs.Dialing.{Call, TakesLeave, ends}
+use Rattle.repo_dial.specs.Dialing.{Call, TakesLeave, driven_by}
+use Rattle.repo_dial.proofs.GoingLemmas.{goes_over, no_call, not_driven}
 use Rattle.repo_dial.proofs.TryLemmas.{ends_own, no_leave}
 use Rattle.repo_dial.proofs.again.carry.Goals as goal
 
-pub returns-then-eq : goal.returns-then-eq
-returns-then-eq g c =
-    let w = c.drive-driven.ensures.carries in
+pub returns-in_err-connection : goal.returns-in_err-connection
+returns-in_err-connection g c =
+    let p = err_from_is_err_and c.from_residual.result c.from_residual.ensures.1 in
+    let came = g.E.KnownChannel.ends c.args.channel.now in
+    rw (p.1, p.2) (no_call came, refl, refl, not_driven (driven_by g.C.Client.task g.C.Client.job g.C.Client.fits g.C.Client.next g.C.Client.token_of) c.args.client.now came)
+
+pub returns : goal.returns
+returns g c =
+    let n = c.drive_over-driven.ensures.carries [] [] c.in_ok-connection.ensures in
     let f = c.give_back.ensures in
-    let client = c.drive-driven.new.client in
-    let came = ends (g.R.Read.remaining c.args.reader.now) (g.W.Write.contents c.args.writer.now) in
-    let left = ends (g.R.Read.remaining c.drive-driven.new.reader) (g.W.Write.contents c.drive-driven.new.writer) in
-    let call : Call = record { came = came; said = w.0; left = left; farewell = f.0 } in
-    let is : c.drive-driven.result ≡ Err DriveError.Sink = search rules in (
+    let client = c.drive_over-driven.new.client in
+    let left = g.E.KnownChannel.ends c.drive_over-driven.new.channel in
+    let call : Call = record { came = g.E.KnownChannel.ends c.args.channel.now; passages = n.passages; said = n.said; left = left; farewell = f.0 } in
+    let is : c.drive_over-driven.result ≡ Err DriveError.Sink = search rules in (
       call,
       refl,
+      sym f.2,
       record {
-        read = w.1;
-        drives = w.2;
-        same = c.drive-driven.ensures.job;
+        over = record { goes = goes_over g.E.Channel.hears g.E.Channel.says g.E.KnownChannel.ends g.met.E.KnownChannel.hears_on g.met.E.KnownChannel.says_on _ _ n.passages n.passes; in_turn = n.in_turn; bytes = n.bytes };
+        drives = n.drives;
+        same = c.drive_over-driven.ensures.job;
         leaves = subst (λ r. TakesLeave r (g.C.Client.next client) (g.C.Client.token_of client) call) (sym is) f.1;
         ends = ends_own g.C.Client.fits client (g.C.Client.task (g.C.Client.job client)) (g.C.Client.allows (g.C.Client.job client)) (g.C.Client.gives (g.C.Client.job client)) (g.C.Client.concludes (g.C.Client.job client))
             (g.C.Client.wanting (g.C.Client.job client)) (g.C.Client.next client) (g.C.Client.ended client) (g.C.Client.token_of client) (λ es h. g.met.C.Client.obedient client es h) (λ es h. g.met.C.Client.ticketed client es h) left f.0 f.1;
       },
     )
 
-pub returns-else-eq : goal.returns-else-eq
-returns-else-eq g c =
-    let w = c.drive-driven.ensures.carries in
-    let client = c.drive-driven.new.client in
-    let came = ends (g.R.Read.remaining c.args.reader.now) (g.W.Write.contents c.args.writer.now) in
-    let left = ends (g.R.Read.remaining c.drive-driven.new.reader) (g.W.Write.contents c.drive-driven.new.writer) in
-    let call : Call = record { came = came; said = w.0; left = left; farewell = None } in
-    let isnt : c.drive-driven.result ≢ Err DriveError.Sink = search rules in (
+pub returns-then-ne : goal.returns-then-ne
+returns-then-ne g c =
+    let n = c.drive_over-driven.ensures.carries [] [] c.in_ok-connection.ensures in
+    let client = c.drive_over-driven.new.client in
+    let call : Call = record { came = g.E.KnownChannel.ends c.args.channel.now; passages = n.passages; said = n.said; left = g.E.KnownChannel.ends c.drive_over-driven.new.channel; farewell = None } in
+    let isnt : c.drive_over-driven.result ≢ Err DriveError.Sink = search rules in (
       call,
       refl,
+      refl,
       record {
-        read = w.1;
-        drives = w.2;
-        same = c.drive-driven.ensures.job;
-        leaves = no_leave c.drive-driven.result (g.C.Client.next client) (g.C.Client.token_of client) call isnt refl;
+        over = record { goes = goes_over g.E.Channel.hears g.E.Channel.says g.E.KnownChannel.ends g.met.E.KnownChannel.hears_on g.met.E.KnownChannel.says_on _ _ n.passages n.passes; in_turn = n.in_turn; bytes = n.bytes };
+        drives = n.drives;
+        same = c.drive_over-driven.ensures.job;
+        leaves = no_leave c.drive_over-driven.result (g.C.Client.next client) (g.C.Client.token_of client) call isnt refl;
         ends = tt;
       },
     )

@@ -1,30 +1,11 @@
-use Rattle.std.proofs.Common.{rules, ◌≡◌, Ok, Err, refl, subst}
-use Rattle.repo_dial.specs.Dialing.{HasMet, driven_by, ends}
-use Rattle.repo_dial.proofs.TryLemmas.{carried, turned}
+use Rattle.repo_dial.proofs.TryLemmas.{dialed}
 use Rattle.repo_dial.proofs.again.try_once.Goals as goal
-
-pub returns-in-Err : goal.returns-in-Err
-returns-in-Err g c =
-    let m = c.in-Err.ensures in
-    turned (driven_by g.C.Client.task g.C.Client.job g.C.Client.fits g.C.Client.next g.C.Client.token_of) c.args.known.now c.args.client.now c.in-Err.error c.meet.new.self
-    (ends (g.D.Reader.Read.remaining c.in-Some.reader) (g.D.Writer.Write.contents c.in-Some.writer)) (g.D.Dial.coming c.args.dial.now) (g.D.Dial.coming c.dial.new.self) m.0 m.1 m.3 c.in-Some.ensures
-
-pub returns-in-Ok : goal.returns-in-Ok
-returns-in-Ok g c =
-    let m = c.meet.ensures in
-    let ok : c.meet.result ≡ Ok tt = search rules in
-    let met = subst (λ r. HasMet (g.C.Client.next c.args.client.now) c.args.known.now m.0 r c.meet.new.self) ok m.1 in
-    let w = c.in-Ok.ensures in
-    carried (driven_by g.C.Client.task g.C.Client.job g.C.Client.fits g.C.Client.next g.C.Client.token_of) c.args.known.now c.args.client.now (Ok c.in-Ok.count) (Ok c.in-Ok.count) c.carry.new.client c.meet.new.self
-    (ends (g.D.Reader.Read.remaining c.in-Some.reader) (g.D.Writer.Write.contents c.in-Some.writer)) (ends (g.D.Reader.Read.remaining c.meet.new.reader) (g.D.Writer.Write.contents c.meet.new.writer))
-    (g.D.Dial.coming c.args.dial.now) (g.D.Dial.coming c.dial.new.self) m.0 w.0 met m.2 m.3 c.in-Some.ensures w.1 w.2 refl
 
 pub returns : goal.returns
 returns g c =
-    let m = c.meet.ensures in
-    let ok : c.meet.result ≡ Ok tt = search rules in
-    let met = subst (λ r. HasMet (g.C.Client.next c.args.client.now) c.args.known.now m.0 r c.meet.new.self) ok m.1 in
-    let w = c.in-Err-carry.ensures in
-    carried (driven_by g.C.Client.task g.C.Client.job g.C.Client.fits g.C.Client.next g.C.Client.token_of) c.args.known.now c.args.client.now (Err c.in-Err-carry.error) _ c.carry.new.client c.meet.new.self
-    (ends (g.D.Reader.Read.remaining c.in-Some.reader) (g.D.Writer.Write.contents c.in-Some.writer)) (ends (g.D.Reader.Read.remaining c.meet.new.reader) (g.D.Writer.Write.contents c.meet.new.writer))
-    (g.D.Dial.coming c.args.dial.now) (g.D.Dial.coming c.dial.new.self) m.0 w.0 met m.2 m.3 c.in-Some.ensures w.1 w.2 refl
+    let t = c.try_over-result.ensures in
+    let known = g.D.Ends.KnownChannel.ends in (
+      t.0,
+      dialed (g.D.Dial.connections c.args.dial.now) (g.D.Dial.connections c.dial.new.self) (g.D.Dial.connections c.hang_up.new.self) t.0 (known c.in-Some.channel) (known c.try_over-result.new.channel) t.1 t.2 c.in-Some.ensures c.hang_up.ensures,
+      t.3,
+    )
