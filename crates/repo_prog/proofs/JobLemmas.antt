@@ -8,7 +8,7 @@ use Rattle.repo_session.specs.Sessions.{Given, next_in, ended_in, token_in}
 use Rattle.repo_session.specs.Feeds.{Fed}
 use Rattle.repo_session.specs.Traces.{Trace}
 use Rattle.repo_dial.specs.Bringing.{IsObedientBy}
-use Rattle.repo_dial.specs.Dialing.{Coming, Driven, DrivesAgain, driven_by}
+use Rattle.repo_dial.specs.Dialing.{Connections, Driven, DrivesAgain, driven_by}
 use Rattle.repo_dial.specs.declared.again.TryError.{TryError}
 use Rattle.repo_dial.proofs.BringLemmas.{ended_over, obeyed_over, obeyed_none}
 use Rattle.repo_backup.specs.PieceStates.{piece_task}
@@ -94,7 +94,7 @@ check_driven = driven_by check_task checking.checker_of checking.FitsCheck (λ (
 -- ---- the jobs
 
 -- a list of snapshots
-pub listed : (caller : Caller) (retry n : ℕ) (old new : SnapshotList) (coming after : Coming) (rows : List (Name × Snapshot))
+pub listed : (caller : Caller) (retry n : ℕ) (old new : SnapshotList) (coming after : Connections) (rows : List (Name × Snapshot))
     → FitsList old [] → who_of old ≡ vault_asker caller → DrivesAgain list_driven retry old (Ok n) new coming after
     → ended_in new.session ≡ Some (Outcome.Listed rows) → ListsSnapshots caller rows retry coming after
 listed caller retry n old new coming after rows fits who d is =
@@ -104,7 +104,7 @@ listed caller retry n old new coming after rows fits who d is =
     old (λ l same es f. subst (P l es) (same ∙ who) (list_obeys l es f)) (ap (λ (w : Asker). w.instance) who) fits retry n new coming after (Outcome.Listed rows) d is
 
 -- a restore
-pub restored : (caller : Caller) (name : Name) (retry n : ℕ) (old new : Restore) (coming after : Coming) (entries : ℕ)
+pub restored : (caller : Caller) (name : Name) (retry n : ℕ) (old new : Restore) (coming after : Connections) (entries : ℕ)
     → FitsRestore old [] → wish_of old ≡ vault_wish caller name → DrivesAgain restore_driven retry old (Ok n) new coming after
     → ended_in new.session ≡ Some (Outcome.Complete entries) → RestoresSnapshot caller name entries retry coming after
 restored caller name retry n old new coming after entries fits wish d is =
@@ -113,7 +113,7 @@ restored caller name retry n old new coming after entries fits wish d is =
     old (λ r same es f. subst (P r es) (same ∙ wish) (restore_obeys r es f)) (ap (λ (w : Wish). w.who.instance) wish) fits retry n new coming after (Outcome.Complete entries) d is
 
 -- a backup
-pub stored : {C : Type 0} (feeder_of : C → Feeder) (caller : Caller) (host : List ℕ) (whole : Option (List Fed)) (retry n : ℕ) (old new : C) (coming after : Coming) (name : Name) (blobs bytes : ℕ)
+pub stored : {C : Type 0} (feeder_of : C → Feeder) (caller : Caller) (host : List ℕ) (whole : Option (List Fed)) (retry n : ℕ) (old new : C) (coming after : Connections) (name : Name) (blobs bytes : ℕ)
     → FitsFed (feeder_of old) [] → job_of (feeder_of old) ≡ backup_job caller host whole → DrivesAgain (backup_driven feeder_of) retry old (Ok n) new coming after
     → ended_in (feeder_of new).backup.session ≡ Some (Outcome.Stored name blobs bytes) → Stores caller host whole name blobs bytes retry coming after
 stored {C} feeder_of caller host whole retry n old new coming after name blobs bytes fits job d is =
@@ -122,7 +122,7 @@ stored {C} feeder_of caller host whole retry n old new coming after name blobs b
     old (λ c same es h. subst (P c es) (same ∙ job) (fed_obeys (feeder_of c) es h)) (ap (λ (j : FedJob). j.who.instance) job) fits retry n new coming after (Outcome.Stored name blobs bytes) d is
 
 -- a forget
-pub forgotten : (caller : Caller) (choice : Choice) (retry n : ℕ) (old new : Forget) (coming after : Coming) (names : List Name)
+pub forgotten : (caller : Caller) (choice : Choice) (retry n : ℕ) (old new : Forget) (coming after : Connections) (names : List Name)
     → forgetting.FitsForget old [] → choosing_of old ≡ choosing caller choice → DrivesAgain forget_driven retry old (Ok n) new coming after
     → ended_in new.session ≡ Some (Outcome.Forgotten names) → Forgets caller choice names retry coming after
 forgotten caller choice retry n old new coming after names fits job d is =
@@ -131,7 +131,7 @@ forgotten caller choice retry n old new coming after names fits job d is =
     old (λ f same es h. subst (P f es) (same ∙ job) (forget_obeys f es h)) (ap (λ (g : Given Choice). g.who.instance) job) fits retry n new coming after (Outcome.Forgotten names) d is
 
 -- a prune
-pub pruned : (caller : Caller) (retry n : ℕ) (old new : Prune) (coming after : Coming) (packs bytes : ℕ)
+pub pruned : (caller : Caller) (retry n : ℕ) (old new : Prune) (coming after : Connections) (packs bytes : ℕ)
     → pruning.FitsPrune old [] → pruning.pruner_of old ≡ vault_asker caller → DrivesAgain prune_driven retry old (Ok n) new coming after
     → ended_in new.session ≡ Some (Outcome.Pruned packs bytes) → Prunes caller packs bytes retry coming after
 pruned caller retry n old new coming after packs bytes fits who d is =
@@ -140,7 +140,7 @@ pruned caller retry n old new coming after packs bytes fits who d is =
     old (λ p same es f. subst (P p es) (same ∙ who) (prune_obeys p es f)) (ap (λ (w : Asker). w.instance) who) fits retry n new coming after (Outcome.Pruned packs bytes) d is
 
 -- an upgrade
-pub upgraded : (caller : Caller) (retry n : ℕ) (old new : Upgrade) (coming after : Coming)
+pub upgraded : (caller : Caller) (retry n : ℕ) (old new : Upgrade) (coming after : Connections)
     → upgrading.FitsUpgrade old [] → upgrading.who_of_upgrade old ≡ vault_asker caller → DrivesAgain upgrade_driven retry old (Ok n) new coming after
     → ended_in new.session ≡ Some Outcome.Upgraded → Upgrades caller retry coming after
 upgraded caller retry n old new coming after fits who d is =
@@ -149,7 +149,7 @@ upgraded caller retry n old new coming after fits who d is =
     old (λ u same es f. subst (P u es) (same ∙ who) (upgrade_obeys u es f)) (ap (λ (w : Asker). w.instance) who) fits retry n new coming after Outcome.Upgraded d is
 
 -- a check
-pub checked : (caller : Caller) (retry n : ℕ) (old new : Check) (coming after : Coming) (outcome : Outcome)
+pub checked : (caller : Caller) (retry n : ℕ) (old new : Check) (coming after : Connections) (outcome : Outcome)
     → checking.FitsCheck old [] → checking.checker_of old ≡ vault_asker caller → DrivesAgain check_driven retry old (Ok n) new coming after
     → ended_in new.session ≡ Some outcome → Checks caller outcome retry coming after
 checked caller retry n old new coming after outcome fits who d is =
@@ -159,49 +159,49 @@ checked caller retry n old new coming after outcome fits who d is =
 
 -- ---- the same, however it ended
 
-pub list_obeyed : (caller : Caller) (retry : ℕ) (old new : SnapshotList) (result : Result ℕ TryError) (coming after : Coming)
+pub list_obeyed : (caller : Caller) (retry : ℕ) (old new : SnapshotList) (result : Result ℕ TryError) (coming after : Connections)
     → FitsList old [] → who_of old ≡ vault_asker caller → DrivesAgain list_driven retry old result new coming after → ListObeyed caller retry coming after
 list_obeyed caller retry old new result coming after fits who d =
     let P : SnapshotList → Trace → Asker → Type 0 = λ l es w. IsObedientBy list_rule w (next_in l.session) (ended_in l.session) es in
     obeyed_over list_driven (λ (l : SnapshotList). ended_in l.session) list_rule (vault_asker caller)
     old (λ l same es f. subst (P l es) (same ∙ who) (list_obeys l es f)) (ap (λ (w : Asker). w.instance) who) fits retry result new coming after d
 
-pub restore_obeyed : (caller : Caller) (name : Name) (retry : ℕ) (old new : Restore) (result : Result ℕ TryError) (coming after : Coming)
+pub restore_obeyed : (caller : Caller) (name : Name) (retry : ℕ) (old new : Restore) (result : Result ℕ TryError) (coming after : Connections)
     → FitsRestore old [] → wish_of old ≡ vault_wish caller name → DrivesAgain restore_driven retry old result new coming after → RestoreObeyed caller name retry coming after
 restore_obeyed caller name retry old new result coming after fits wish d =
     let P : Restore → Trace → Wish → Type 0 = λ r es w. IsObedientBy (restore_rule w.snapshot) w.who (next_in r.session) (ended_in r.session) es in
     obeyed_over restore_driven (λ (r : Restore). ended_in r.session) (restore_rule name) (vault_asker caller)
     old (λ r same es f. subst (P r es) (same ∙ wish) (restore_obeys r es f)) (ap (λ (w : Wish). w.who.instance) wish) fits retry result new coming after d
 
-pub backup_obeyed : {C : Type 0} (feeder_of : C → Feeder) (caller : Caller) (host : List ℕ) (whole : Option (List Fed)) (retry : ℕ) (old new : C) (result : Result ℕ TryError) (coming after : Coming)
+pub backup_obeyed : {C : Type 0} (feeder_of : C → Feeder) (caller : Caller) (host : List ℕ) (whole : Option (List Fed)) (retry : ℕ) (old new : C) (result : Result ℕ TryError) (coming after : Connections)
     → FitsFed (feeder_of old) [] → job_of (feeder_of old) ≡ backup_job caller host whole → DrivesAgain (backup_driven feeder_of) retry old result new coming after → BackupObeyed caller host whole retry coming after
 backup_obeyed {C} feeder_of caller host whole retry old new result coming after fits job d =
     let P : C → Trace → FedJob → Type 0 = λ c es j. IsObedientBy (fed_rule j.who j.whole) j.who (next_in (feeder_of c).backup.session) (ended_in (feeder_of c).backup.session) es in
     obeyed_over (backup_driven feeder_of) (λ (c : C). ended_in (feeder_of c).backup.session) (fed_rule (backup_asker caller host) whole) (backup_asker caller host)
     old (λ c same es h. subst (P c es) (same ∙ job) (fed_obeys (feeder_of c) es h)) (ap (λ (j : FedJob). j.who.instance) job) fits retry result new coming after d
 
-pub forget_obeyed : (caller : Caller) (choice : Choice) (retry : ℕ) (old new : Forget) (result : Result ℕ TryError) (coming after : Coming)
+pub forget_obeyed : (caller : Caller) (choice : Choice) (retry : ℕ) (old new : Forget) (result : Result ℕ TryError) (coming after : Connections)
     → forgetting.FitsForget old [] → choosing_of old ≡ choosing caller choice → DrivesAgain forget_driven retry old result new coming after → ForgetObeyed caller choice retry coming after
 forget_obeyed caller choice retry old new result coming after fits job d =
     let P : Forget → Trace → Given Choice → Type 0 = λ x es w. IsObedientBy (forget_rule w.handed) w.who (next_in x.session) (ended_in x.session) es in
     obeyed_over forget_driven (λ (x : Forget). ended_in x.session) (forget_rule choice) (vault_asker caller)
     old (λ x same es f. subst (P x es) (same ∙ job) (forget_obeys x es f)) (ap (λ (g : Given Choice). g.who.instance) job) fits retry result new coming after d
 
-pub prune_obeyed : (caller : Caller) (retry : ℕ) (old new : Prune) (result : Result ℕ TryError) (coming after : Coming)
+pub prune_obeyed : (caller : Caller) (retry : ℕ) (old new : Prune) (result : Result ℕ TryError) (coming after : Connections)
     → pruning.FitsPrune old [] → pruning.pruner_of old ≡ vault_asker caller → DrivesAgain prune_driven retry old result new coming after → PruneObeyed caller retry coming after
 prune_obeyed caller retry old new result coming after fits who d =
     let P : Prune → Trace → Asker → Type 0 = λ p es w. IsObedientBy prune_rule w (next_in p.session) (ended_in p.session) es in
     obeyed_over prune_driven (λ (p : Prune). ended_in p.session) prune_rule (vault_asker caller)
     old (λ p same es f. subst (P p es) (same ∙ who) (prune_obeys p es f)) (ap (λ (w : Asker). w.instance) who) fits retry result new coming after d
 
-pub upgrade_obeyed : (caller : Caller) (retry : ℕ) (old new : Upgrade) (result : Result ℕ TryError) (coming after : Coming)
+pub upgrade_obeyed : (caller : Caller) (retry : ℕ) (old new : Upgrade) (result : Result ℕ TryError) (coming after : Connections)
     → upgrading.FitsUpgrade old [] → upgrading.who_of_upgrade old ≡ vault_asker caller → DrivesAgain upgrade_driven retry old result new coming after → UpgradeObeyed caller retry coming after
 upgrade_obeyed caller retry old new result coming after fits who d =
     let P : Upgrade → Trace → Asker → Type 0 = λ u es w. IsObedientBy upgrade_rule w (next_in u.session) (ended_in u.session) es in
     obeyed_over upgrade_driven (λ (u : Upgrade). ended_in u.session) upgrade_rule (vault_asker caller)
     old (λ u same es f. subst (P u es) (same ∙ who) (upgrade_obeys u es f)) (ap (λ (w : Asker). w.instance) who) fits retry result new coming after d
 
-pub check_obeyed : (caller : Caller) (retry : ℕ) (old new : Check) (result : Result ℕ TryError) (coming after : Coming)
+pub check_obeyed : (caller : Caller) (retry : ℕ) (old new : Check) (result : Result ℕ TryError) (coming after : Connections)
     → checking.FitsCheck old [] → checking.checker_of old ≡ vault_asker caller → DrivesAgain check_driven retry old result new coming after → CheckObeyed caller retry coming after
 check_obeyed caller retry old new result coming after fits who d =
     let P : Check → Trace → Asker → Type 0 = λ x es w. IsObedientBy check_rule w (next_in x.session) (ended_in x.session) es in
@@ -210,23 +210,23 @@ check_obeyed caller retry old new result coming after fits who d =
 
 -- ---- no connection was asked for
 
-pub list_none : (caller : Caller) (retry : ℕ) (coming : Coming) → ListObeyed caller retry coming coming
+pub list_none : (caller : Caller) (retry : ℕ) (coming : Connections) → ListObeyed caller retry coming coming
 list_none caller retry coming = obeyed_none list_rule (vault_asker caller) retry coming
 
-pub restore_none : (caller : Caller) (name : Name) (retry : ℕ) (coming : Coming) → RestoreObeyed caller name retry coming coming
+pub restore_none : (caller : Caller) (name : Name) (retry : ℕ) (coming : Connections) → RestoreObeyed caller name retry coming coming
 restore_none caller name retry coming = obeyed_none (restore_rule name) (vault_asker caller) retry coming
 
-pub backup_none : (caller : Caller) (host : List ℕ) (whole : Option (List Fed)) (retry : ℕ) (coming : Coming) → BackupObeyed caller host whole retry coming coming
+pub backup_none : (caller : Caller) (host : List ℕ) (whole : Option (List Fed)) (retry : ℕ) (coming : Connections) → BackupObeyed caller host whole retry coming coming
 backup_none caller host whole retry coming = obeyed_none (fed_rule (backup_asker caller host) whole) (backup_asker caller host) retry coming
 
-pub forget_none : (caller : Caller) (choice : Choice) (retry : ℕ) (coming : Coming) → ForgetObeyed caller choice retry coming coming
+pub forget_none : (caller : Caller) (choice : Choice) (retry : ℕ) (coming : Connections) → ForgetObeyed caller choice retry coming coming
 forget_none caller choice retry coming = obeyed_none (forget_rule choice) (vault_asker caller) retry coming
 
-pub prune_none : (caller : Caller) (retry : ℕ) (coming : Coming) → PruneObeyed caller retry coming coming
+pub prune_none : (caller : Caller) (retry : ℕ) (coming : Connections) → PruneObeyed caller retry coming coming
 prune_none caller retry coming = obeyed_none prune_rule (vault_asker caller) retry coming
 
-pub upgrade_none : (caller : Caller) (retry : ℕ) (coming : Coming) → UpgradeObeyed caller retry coming coming
+pub upgrade_none : (caller : Caller) (retry : ℕ) (coming : Connections) → UpgradeObeyed caller retry coming coming
 upgrade_none caller retry coming = obeyed_none upgrade_rule (vault_asker caller) retry coming
 
-pub check_none : (caller : Caller) (retry : ℕ) (coming : Coming) → CheckObeyed caller retry coming coming
+pub check_none : (caller : Caller) (retry : ℕ) (coming : Connections) → CheckObeyed caller retry coming coming
 check_none caller retry coming = obeyed_none check_rule (vault_asker caller) retry coming

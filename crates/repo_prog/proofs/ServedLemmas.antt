@@ -1,15 +1,16 @@
 -- Connections that are served one after another.
-use Rattle.std.proofs.Common.{◌≡◌, ◌≢◌, ◌≤◌, ◌∷◌, [], List, Option, Ok, Err, Result, IsErr, IsOk, ℕ, length, ◌+◌, inl, inr, refl, sym, subst, arith}
-use Rattle.std.proofs.lemmas.List.Elements.{All-nil, All-cons}
+use Rattle.std.proofs.Common.{◌≡◌, ◌↔◌, ◌++◌, ◌∷◌, [], List, Option, Some, None, Result, IsOk, ℕ, ◌+◌, refl, sym, subst, arith}
+use Rattle.std.proofs.lemmas.List.Elements.{All-nil, All-cons, All-head, All-tail}
 use Rattle.repo_store.specs.AppendOnly.{OnlyAppends}
 use Rattle.repo_store.specs.Serving.{Ran, seen}
+use Rattle.repo_store.specs.Channels.{ServesChannel, heard_in, said_in}
 use Rattle.repo_store.specs.Stores.{Store}
 use Rattle.repo_store.specs.declared.serving.ServeError.{ServeError}
 use Rattle.repo_hall.specs.Halls.{Hosted}
 use Rattle.repo_hall.specs.Happenings.{Log, all_asked, all_replies}
 use Rattle.repo_store.proofs.Appending.{runs_only_append}
 use Rattle.repo_store.proofs.ServiceLemmas.{runs_compose, serving_runs}
-use Rattle.repo_prog.specs.Serving.{Connection, AreServed, AreWell, ServesOne}
+use Rattle.repo_prog.specs.Serving.{AreServed, IsServed, ServesInTurn, Visit, ending}
 use Rattle.repo_prog.specs.declared.status.Status.{Status}
 
 -- ---- what stays of a store
@@ -34,52 +35,46 @@ hosted_kept old failed log new failing h = runs_only_append old new (all_asked l
 
 -- ---- connections
 
-module _ {T : Type 0} (remaining contents : T → Option (List ℕ)) where
-  -- up to so many connections were served, the last of which left this; and where all is done so far, just so many, and each ended well
-  abbrev pub Served : ℕ → Status → Store → ℕ → Store → ℕ → Type 0
-  Served count status old failed new failing =
-      (served : List (Connection T)) × (length served ≤ count) × AreServed remaining contents served old failed new failing
-      × (status ≡ Status.Done → (length served ≡ count) × AreWell served)
-
+module _ {L C : Type 0} (Accepts : L → Option C → L → Type 0) (Leaves : L → C → L → Type 0) (Hears Says : C → List ℕ → C → Type 0) (IsOver : C → Type 0) where
   -- none was
-  pub none_served : (status : Status) (old : Store) (failed : ℕ) → Served 0 status old failed old failed
-  none_served status old failed = ([], omega arith, (refl, refl), λ done. (refl, All-nil (λ it. IsOk it.result)))
+  pub none_served : (old : L) (from : Store) (failures : ℕ) → ServesInTurn Accepts Leaves Hears Says IsOver 0 Status.Done old from failures old from failures
+  none_served old from failures = record {
+    visits = [];
+    number = refl;
+    served = (refl, refl, refl);
+    done = ((λ done. All-nil (λ visit. IsOk (ending {C = C} visit))), λ well. refl);
+  }
 
-  -- what was served leads on to an equal end
-  leads : (served : List (Connection T)) (old mid new : Store) (failed between failing : ℕ) → new ≡ mid → failing ≡ between
-      → AreServed remaining contents served old failed mid between → AreServed remaining contents served old failed new failing
-  leads served old mid new failed between failing same alike are =
-      subst (λ here. AreServed remaining contents served old failed here failing) (sym same)
-      (subst (λ here. AreServed remaining contents served old failed mid here) (sym alike) are)
+  -- one more, after others
+  pub more_served : (count : ℕ) (before after : Status) (result : Result ℕ ServeError) (old mid new : L) (from between to : Store) (failures k failing : ℕ)
+      → ((after ≡ Status.Done) ↔ ((before ≡ Status.Done) × IsOk result)) → ServesInTurn Accepts Leaves Hears Says IsOver count before old from failures mid between k
+      → (visit : Option (Visit C)) × (result ≡ ending visit) × IsServed Accepts Leaves Hears Says IsOver visit mid between k new to failing
+      → ServesInTurn Accepts Leaves Hears Says IsOver (count + 1) after old from failures new to failing
+  more_served count before after result old mid new from between to failures k failing turn h (visit, is, one) = record {
+    visits = visit ∷ h.visits;
+    number = let n = h.number in omega (arith, n);
+    served = (mid, between, k, h.served, one);
+    done = (
+      (λ ends. let t = turn.0 ends in All-cons P visit h.visits (subst (λ here. IsOk here) is t.1) (h.done.0 t.0)),
+      λ well. turn.1 (h.done.1 (All-tail P visit h.visits well), subst (λ here. IsOk here) (sym is) (All-head P visit h.visits well)),
+    );
+  } where
+    P : Option (Visit C) → Type 0
+    P visit = IsOk (ending visit)
 
-  -- what is no error is well
-  well : (result : Result ℕ ServeError) → (IsErr result → ⊥) → IsOk result
-  well (Ok n) never = refl
-  well (Err error) never = absurd (never refl)
-
-  -- one more, or none that could be had, after others
-  pub more_served : (Such : T → Type 0) (count : ℕ) (before after : Status) (result : Result ℕ ServeError) (old mid new : Store) (failed between failing : ℕ)
-      → (after ≡ Status.Done → before ≡ Status.Done) → (IsErr result → after ≢ Status.Done)
-      → Served count before old failed mid between → ServesOne remaining contents Such result mid between new failing → Served (count + 1) after old failed new failing
-  more_served Such count before after result old mid new failed between failing still bad (served, few, are, done) (inl (same, alike, error)) =
-      (served, omega (arith, few), leads served old mid new failed between failing same alike are, λ ends. absurd (bad error ends))
-  more_served Such count before after result old mid new failed between failing still bad (served, few, are, done) (inr (it, such, is, one)) = (
-    it ∷ served,
-    omega (arith, few),
-    (mid, between, are, one),
-    λ ends. let before_done = done (still ends) in
-        (omega (arith, before_done.0), All-cons (λ it. IsOk it.result) it served (subst (λ here. IsOk here) (sym is) (well result (λ error. bad error ends))) before_done.1),
-  )
-
-  -- with one writer, so with any
-  pub any_writer : (Such : T → Type 0) (result : Result ℕ ServeError) (old new : Store) (failed failing : ℕ)
-      → ServesOne remaining contents Such result old failed new failing → ServesOne remaining contents (λ writer. Unit) result old failed new failing
-  any_writer Such result old new failed failing (inl none) = inl none
-  any_writer Such result old new failed failing (inr (it, such, is, one)) = inr (it, tt, is, one)
+  -- what serving a channel asked is a run
+  channel_ran : (came left : C) (result : Result ℕ ServeError) (from to : Store) (failures count : ℕ) → ServesChannel Hears Says IsOver came from failures result left to count → Ran from failures to count
+  channel_ran came left result from to failures count h =
+      serving_runs (Some (heard_in h.passages ++ h.left)) (Some h.left) (seen from failures (Some [])) (seen to count (Some (said_in h.passages))) result h.serves
 
   -- what connections asked is a run
-  pub served_ran : (served : List (Connection T)) (old new : Store) (failed failing : ℕ) → AreServed remaining contents served old failed new failing → Ran old failed new failing
-  served_ran [] old new failed failing (same, alike) = subst (λ here. Ran old failed here failing) (sym same) (subst (λ here. Ran old failed old here) (sym alike) (ran_still old failed))
-  served_ran (it ∷ earlier) old new failed failing (mid, between, are, one) =
-      runs_compose old mid new failed between failing (served_ran earlier old mid failed between are)
-      (serving_runs (remaining it.reader) (remaining it.unread) (seen mid between (contents it.writer)) (seen new failing (contents it.written)) it.result one)
+  served_ran : (visits : List (Option (Visit C))) (old new : L) (from to : Store) (failures count : ℕ) → AreServed Accepts Leaves Hears Says IsOver visits old from failures new to count → Ran from failures to count
+  served_ran [] old new from to failures count (same, is, alike) = subst (λ here. Ran from failures here count) (sym is) (subst (λ here. Ran from failures from here) (sym alike) (ran_still from failures))
+  served_ran (Some visit ∷ earlier) old new from to failures count (mid, between, k, are, one) =
+      runs_compose from between to failures k count (served_ran earlier old mid from between failures k are)
+      (channel_ran visit.came visit.left visit.result between to k count one.2)
+  served_ran (None ∷ earlier) old new from to failures count (mid, between, k, are, one) =
+      subst (λ here. Ran from failures here count) (sym one.1) (subst (λ here. Ran from failures between here) (sym one.2) (served_ran earlier old mid from between failures k are))
+
+  pub in_turn_ran : (connections : ℕ) (status : Status) (old new : L) (from to : Store) (failures count : ℕ) → ServesInTurn Accepts Leaves Hears Says IsOver connections status old from failures new to count → Ran from failures to count
+  in_turn_ran connections status old new from to failures count h = served_ran h.visits old new from to failures count h.served

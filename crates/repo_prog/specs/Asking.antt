@@ -1,6 +1,5 @@
 -- What the commands do that ask a store themselves.
 use Rattle.std.specs.Prelude.{◌≡◌, ◌⊎◌, ◌+◌, ◌++◌, ◌∷◌, [], ℕ, Bool, true, false, List, length, Option, None, Result, Ok, Err}
-use Rattle.std.specs.Io.KnownBytes.{Consumes}
 use Rattle.repo_name.specs.declared.rows.LockRow.{LockRow}
 use Rattle.repo_name.specs.declared.tokens.Token.{Token}
 use Rattle.repo_wire.specs.declared.messages.Ask.{Ask}
@@ -10,19 +9,19 @@ use Rattle.repo_wire.specs.declared.messages.Say.{Say}
 use Rattle.repo_locks.specs.Ages.{stale_tokens}
 use Rattle.repo_locks.specs.TokenMachine.{tokens_of}
 use Rattle.repo_session.specs.declared.driving.DriveError.{DriveError}
-use Rattle.repo_session.specs.Talks.{Said, AskGives}
+use Rattle.repo_dial.specs.Dialing.{AsksOnce}
+use Rattle.repo_dial.specs.Ends.{ConnectionEnds}
 use Rattle.repo_prog.specs.declared.callers.Caller.{Caller}
 use Rattle.repo_prog.specs.declared.status.Status.{Status}
 use Rattle.repo_prog.specs.Tellings.{TellsIfThere, removal_told}
 
--- a command's streams: what the connection will still give, what was written to it, and what on the output
+-- a command's streams: its connection, and what was written on the output
 pub record Streams : Type 0 where
-  pub ahead : Option (List ℕ)
-  pub sent : Option (List ℕ)
+  pub connection : ConnectionEnds
   pub shown : Option (List ℕ)
 
-abbrev pub streams : Option (List ℕ) → Option (List ℕ) → Option (List ℕ) → Streams
-streams ahead sent shown = record { ahead = ahead; sent = sent; shown = shown }
+abbrev pub streams : ConnectionEnds → Option (List ℕ) → Streams
+streams connection shown = record { connection = connection; shown = shown }
 
 -- a caller's request of this number
 abbrev pub request_of : Caller → ℕ → Ask → Request
@@ -33,12 +32,10 @@ abbrev pub told_by : (Say → Option (List ℕ)) → Result Reply DriveError →
 told_by told (Ok reply) = told reply.say
 told_by told (Err error) = None
 
--- one request was asked, and its answer was told
+-- one request was asked over the connection, and its answer was told
 pub record Asked (request : Request) (told : Say → Option (List ℕ)) (old : Streams) (status : Status) (new : Streams) : Type 0 where
-  pub said : Said
   pub answer : Result Reply DriveError
-  pub read : Consumes old.ahead new.ahead said.bytes
-  pub gives : AskGives request answer said old.sent new.sent
+  pub asks : AsksOnce request old.connection answer new.connection
   pub tells : TellsIfThere (told_by told answer) status old.shown new.shown
 
 -- the tokens that are to be removed: of all rows, or of the stale ones
@@ -70,9 +67,7 @@ Removes caller tokens old Status.Usage new = ⊥
 
 -- the store's live locks were asked for, and nothing was written on the output
 pub record HeardOf (request : Request) (old : Streams) (answer : Result Reply DriveError) (new : Streams) : Type 0 where
-  pub said : Said
-  pub read : Consumes old.ahead new.ahead said.bytes
-  pub gives : AskGives request answer said old.sent new.sent
+  pub asks : AsksOnce request old.connection answer new.connection
   pub same : new.shown ≡ old.shown
 
 -- live locks were listed, and those chosen of them removed

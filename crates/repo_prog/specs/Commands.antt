@@ -141,6 +141,10 @@ LoopGives input start Status.Failed left contents = ((left ≡ Some input) × (c
 LoopGives input start Status.Usage left contents = ⊥
 LoopGives input start Status.Flawed left contents = ⊥
 
+-- the config of a store that is made so, with this instance
+abbrev pub config_by : Making → Instance → Config
+config_by making id = record { version = making.version; id = id; params = making.params; target = making.target }
+
 -- the line that tells a new store's instance
 abbrev pub created_line : Instance → List ℕ
 created_line id = codes "created " ++ encode_lower id.0 ++ line_feed ∷ []

@@ -1,5 +1,7 @@
 -- What a client's errand gives: what its command does.
-use Rattle.std.specs.Prelude.{◌≡◌, ◌⊎◌, ◌≤◌, ⊤, ℕ, List, Option, Some, None}
+use Rattle.std.specs.Prelude.{◌≡◌, ◌≢◌, ◌⊎◌, ◌≤◌, ⊤, ℕ, List, Option, Some, None, Result, Ok, Err}
+use Rattle.clap.specs.Values.{kind_of}
+use Rattle.clap.specs.declared.error.kind.ErrorKind.{ErrorKind}
 use Rattle.std.specs.Io.KnownBytes.{Appends}
 use Rattle.repo_name.specs.Naming.{IsInstance}
 use Rattle.repo_name.specs.declared.names.Instance.{Instance}
@@ -9,11 +11,13 @@ use Rattle.repo_prog.specs.declared.errands.Errand.{Errand}
 use Rattle.repo_prog.specs.declared.errands.LockErrand.{LockErrand}
 use Rattle.repo_prog.specs.declared.status.Status.{Status}
 use Rattle.repo_prog.specs.declared.words.Order.{Order}
+use Rattle.repo_prog.specs.declared.words.WordsError.{WordsError}
 use Rattle.repo_prune.specs.Forgetting.{IsNoPolicy}
 use Rattle.repo_prog.specs.Asking.{Streams, streams, Asked, RemovesLocks, request_of}
 use Rattle.repo_prog.specs.Tellings.{locks_told, refresh_told}
 use Rattle.repo_prog.specs.Commands.{IsEnd, created_line, listening_line}
-use Rattle.repo_dial.specs.Dialing.{Coming, ConnectionEnds, Dials}
+use Rattle.repo_dial.specs.Dialing.{Connections, Dials, HangsUp, unknown}
+use Rattle.repo_dial.specs.Ends.{ConnectionEnds}
 use Rattle.repo_prog.specs.Jobs.{ListObeyed, RestoreObeyed, ForgetObeyed, PruneObeyed, UpgradeObeyed, CheckObeyed, BackupObeyed}
 use Rattle.repo_prog.specs.Shown.{TellsStored, TellsListed, TellsRestored, TellsForeseen, TellsForgotten, TellsPruned, TellsUpgraded, TellsChecked, unflawed}
 
@@ -23,20 +27,20 @@ LockGives LockErrand.List caller old status new = Asked (request_of caller 1 Ask
 LockGives (LockErrand.Refresh token) caller old status new = Asked (request_of caller 1 (Ask.Refresh token caller.time)) refresh_told old status new
 LockGives (LockErrand.Remove all) caller old status new = RemovesLocks caller all old status new
 
--- over the next connection, or there is none and nothing is told
-abbrev pub LocksGive : LockErrand → Caller → Coming → Coming → Option (List ℕ) → Status → Option (List ℕ) → Type 0
+-- over the next connection, which is given back as it was left by that, or there is none and nothing is told
+abbrev pub LocksGive : LockErrand → Caller → Connections → Connections → Option (List ℕ) → Status → Option (List ℕ) → Type 0
 LocksGive errand caller coming after start status contents =
     (Dials coming None after × (status ≡ Status.Failed) × (contents ≡ start))
-    ⊎ ((came left : ConnectionEnds) × Dials coming (Some came) after
-    × LockGives errand caller (streams came.ahead came.sent start) status (streams left.ahead left.sent contents))
+    ⊎ ((came left : ConnectionEnds) × ((mid : Connections) × Dials coming (Some came) mid × HangsUp mid left after)
+    × LockGives errand caller (streams came start) status (streams left contents))
 
 -- what a folder holds is backed up, of which nothing is known
-abbrev pub BacksUp : Caller → List ℕ → ℕ → Coming → Coming → Option (List ℕ) → Status → Option (List ℕ) → Type 0
+abbrev pub BacksUp : Caller → List ℕ → ℕ → Connections → Connections → Option (List ℕ) → Status → Option (List ℕ) → Type 0
 BacksUp caller host retry coming after start status contents =
     BackupObeyed caller host None retry coming after × TellsStored caller host None retry coming after (unflawed status) start contents
 
 -- what each errand gives, over so many connections at most after the first
-abbrev pub ErrandGives : Errand → Caller → ℕ → Coming → Coming → Option (List ℕ) → Status → Option (List ℕ) → Type 0
+abbrev pub ErrandGives : Errand → Caller → ℕ → Connections → Connections → Option (List ℕ) → Status → Option (List ℕ) → Type 0
 ErrandGives (Errand.Backup host folder) caller retry coming after start status contents = BacksUp caller host retry coming after start status contents
 ErrandGives Errand.Snapshots caller retry coming after start status contents =
     ListObeyed caller retry coming after × TellsListed caller retry coming after status start contents
@@ -59,7 +63,7 @@ ErrandGives (Errand.Locks errand) caller retry coming after start status content
 -- what an errand gives at an address, of whose connections nothing is known: it failed, and nothing was written; or somebody did it over them
 abbrev pub AddressGives : Errand → ℕ → Option (List ℕ) → Status → Option (List ℕ) → Type 0
 AddressGives errand retry start status contents = ((status ≡ Status.Failed) × (contents ≡ start))
-    ⊎ ((caller : Caller) × (left : ℕ) × IsInstance caller.instance × (left ≤ retry) × ErrandGives errand caller left None None start status contents)
+    ⊎ ((caller : Caller) × (left : ℕ) × IsInstance caller.instance × (left ≤ retry) × ErrandGives errand caller left unknown unknown start status contents)
 
 -- what an order gives on the output, where it reads no input
 abbrev pub OrderGives : Order → Option (List ℕ) → Status → Option (List ℕ) → Type 0
@@ -67,3 +71,22 @@ OrderGives (Order.Init folder making) start status contents = IsEnd status × (s
 OrderGives (Order.Serve folder address serving) start status contents = IsEnd status × (status ≡ Status.Done → Appends start contents listening_line)
 OrderGives (Order.Client address errand retry idle) start status contents = AddressGives errand retry start status contents
 OrderGives _ start status contents = ⊤
+
+-- help that was asked for, or the version
+abbrev pub IsToShow : ErrorKind → Type 0
+IsToShow kind = (kind ≡ ErrorKind.DisplayHelp) ⊎ (kind ≡ ErrorKind.DisplayVersion)
+
+-- how it ends where words make no order: what clap says of them is done where it is help or the version, and fails where that can't be written, or for want of
+-- memory; all else is refused
+abbrev pub RefusesWords : WordsError → Status → Type 0
+RefusesWords (WordsError.Clap error) status =
+    (status ≡ Status.Done → IsToShow (kind_of error)) × (status ≡ Status.Failed → IsToShow (kind_of error) ⊎ (kind_of error ≡ ErrorKind.OutOfMemory))
+    × (status ≡ Status.Usage → ¬ IsToShow (kind_of error)) × (status ≢ Status.Flawed)
+RefusesWords WordsError.BadArgument status = status ≡ Status.Usage
+RefusesWords WordsError.NamesAndPolicy status = status ≡ Status.Usage
+RefusesWords WordsError.Memory status = status ≡ Status.Failed
+
+-- what following words gives: what their order gives, or they are refused
+abbrev pub Follows : Result Order WordsError → Option (List ℕ) → Status → Option (List ℕ) → Type 0
+Follows (Ok order) start status contents = OrderGives order start status contents
+Follows (Err error) start status contents = RefusesWords error status

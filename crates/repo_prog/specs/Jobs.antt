@@ -6,7 +6,7 @@ use Rattle.repo_session.specs.declared.outcomes.Outcome.{Outcome}
 use Rattle.repo_session.specs.Askers.{Asker, asker}
 use Rattle.repo_session.specs.declared.versions.Versions.{Versions}
 use Rattle.repo_dial.specs.Bringing.{Ended, Obeyed}
-use Rattle.repo_dial.specs.Dialing.{Coming}
+use Rattle.repo_dial.specs.Dialing.{Connections}
 use Rattle.repo_session.specs.Feeds.{Fed}
 use Rattle.repo_feeding.specs.FedRules.{fed_rule}
 use Rattle.repo_check.specs.Checking.{check_rule}
@@ -31,56 +31,56 @@ abbrev pub backup_asker : Caller → List ℕ → Asker
 backup_asker caller host = asker caller.instance host caller.time Versions.Both
 
 -- the snapshots were listed
-abbrev pub ListsSnapshots : Caller → List (Name × Snapshot) → ℕ → Coming → Coming → Type 0
+abbrev pub ListsSnapshots : Caller → List (Name × Snapshot) → ℕ → Connections → Connections → Type 0
 ListsSnapshots caller rows retry coming after = Ended list_rule (vault_asker caller) (Outcome.Listed rows) retry coming after
 
 -- the snapshot was restored
-abbrev pub RestoresSnapshot : Caller → Name → ℕ → ℕ → Coming → Coming → Type 0
+abbrev pub RestoresSnapshot : Caller → Name → ℕ → ℕ → Connections → Connections → Type 0
 RestoresSnapshot caller name entries retry coming after = Ended (restore_rule name) (vault_asker caller) (Outcome.Complete entries) retry coming after
 
 -- the chosen snapshots were forgotten: those of these names
-abbrev pub Forgets : Caller → Choice → List Name → ℕ → Coming → Coming → Type 0
+abbrev pub Forgets : Caller → Choice → List Name → ℕ → Connections → Connections → Type 0
 Forgets caller choice names retry coming after = Ended (forget_rule choice) (vault_asker caller) (Outcome.Forgotten names) retry coming after
 
 -- the snapshots were listed, and of them the chosen ones would be forgotten: those of these names
-abbrev pub Foresees : Caller → Choice → List Name → ℕ → Coming → Coming → Type 0
+abbrev pub Foresees : Caller → Choice → List Name → ℕ → Connections → Connections → Type 0
 Foresees caller choice names retry coming after = (rows : List (Name × Snapshot)) × ListsSnapshots caller rows retry coming after × WouldForget choice rows names
 
 -- what no snapshot needs was removed: so many packs were deleted, and so many bytes of blobs put
-abbrev pub Prunes : Caller → ℕ → ℕ → ℕ → Coming → Coming → Type 0
+abbrev pub Prunes : Caller → ℕ → ℕ → ℕ → Connections → Connections → Type 0
 Prunes caller packs bytes retry coming after = Ended prune_rule (vault_asker caller) (Outcome.Pruned packs bytes) retry coming after
 
 -- the store's config is of version 2
-abbrev pub Upgrades : Caller → ℕ → Coming → Coming → Type 0
+abbrev pub Upgrades : Caller → ℕ → Connections → Connections → Type 0
 Upgrades caller retry coming after = Ended upgrade_rule (vault_asker caller) Outcome.Upgraded retry coming after
 
 -- the store was checked, with this outcome: it is clean, or things are at fault
-abbrev pub Checks : Caller → Outcome → ℕ → Coming → Coming → Type 0
+abbrev pub Checks : Caller → Outcome → ℕ → Connections → Connections → Type 0
 Checks caller outcome retry coming after = Ended check_rule (vault_asker caller) outcome retry coming after
 
 -- what a source gave was stored under this name: all that it was made to give, where that is known
-abbrev pub Stores : Caller → List ℕ → Option (List Fed) → Name → ℕ → ℕ → ℕ → Coming → Coming → Type 0
+abbrev pub Stores : Caller → List ℕ → Option (List Fed) → Name → ℕ → ℕ → ℕ → Connections → Connections → Type 0
 Stores caller host whole name blobs bytes retry coming after = Ended (fed_rule (backup_asker caller host) whole) (backup_asker caller host) (Outcome.Stored name blobs bytes) retry coming after
 
 -- ---- by job: however it ended, its rules were met
 
-abbrev pub ListObeyed : Caller → ℕ → Coming → Coming → Type 0
+abbrev pub ListObeyed : Caller → ℕ → Connections → Connections → Type 0
 ListObeyed caller retry coming after = Obeyed list_rule (vault_asker caller) retry coming after
 
-abbrev pub RestoreObeyed : Caller → Name → ℕ → Coming → Coming → Type 0
+abbrev pub RestoreObeyed : Caller → Name → ℕ → Connections → Connections → Type 0
 RestoreObeyed caller name retry coming after = Obeyed (restore_rule name) (vault_asker caller) retry coming after
 
-abbrev pub ForgetObeyed : Caller → Choice → ℕ → Coming → Coming → Type 0
+abbrev pub ForgetObeyed : Caller → Choice → ℕ → Connections → Connections → Type 0
 ForgetObeyed caller choice retry coming after = Obeyed (forget_rule choice) (vault_asker caller) retry coming after
 
-abbrev pub PruneObeyed : Caller → ℕ → Coming → Coming → Type 0
+abbrev pub PruneObeyed : Caller → ℕ → Connections → Connections → Type 0
 PruneObeyed caller retry coming after = Obeyed prune_rule (vault_asker caller) retry coming after
 
-abbrev pub UpgradeObeyed : Caller → ℕ → Coming → Coming → Type 0
+abbrev pub UpgradeObeyed : Caller → ℕ → Connections → Connections → Type 0
 UpgradeObeyed caller retry coming after = Obeyed upgrade_rule (vault_asker caller) retry coming after
 
-abbrev pub CheckObeyed : Caller → ℕ → Coming → Coming → Type 0
+abbrev pub CheckObeyed : Caller → ℕ → Connections → Connections → Type 0
 CheckObeyed caller retry coming after = Obeyed check_rule (vault_asker caller) retry coming after
 
-abbrev pub BackupObeyed : Caller → List ℕ → Option (List Fed) → ℕ → Coming → Coming → Type 0
+abbrev pub BackupObeyed : Caller → List ℕ → Option (List Fed) → ℕ → Connections → Connections → Type 0
 BackupObeyed caller host whole retry coming after = Obeyed (fed_rule (backup_asker caller host) whole) (backup_asker caller host) retry coming after

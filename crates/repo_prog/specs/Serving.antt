@@ -1,37 +1,52 @@
 -- What serving connections one after another gives.
-use Rattle.std.specs.Prelude.{◌≡◌, ◌⊎◌, ◌∷◌, [], ℕ, Bool, true, false, List, All, Option, Result, IsErr, IsOk}
-use Rattle.repo_store.specs.Serving.{ServesConnection, seen}
+use Rattle.std.specs.Prelude.{◌≡◌, ◌↔◌, ◌∷◌, [], ℕ, Bool, true, false, List, All, length, Option, Some, None, Result, Err, IsOk}
+use Rattle.repo_hall.specs.Halls.{Hosted}
+use Rattle.repo_hall.specs.Happenings.{AreInTurn, Log}
+use Rattle.repo_store.specs.Channels.{ServesChannel}
 use Rattle.repo_store.specs.Stores.{Store, appending}
 use Rattle.repo_store.specs.declared.serving.ServeError.{ServeError}
+use Rattle.repo_prog.specs.declared.status.Status.{Status}
 
--- a connection that was served: its two ends as they came, as they were left, and how it ended
-pub record Connection (T : Type 0) : Type 0 where
-  pub reader : T
-  pub writer : T
-  pub unread : T
-  pub written : T
+-- a connection that was served: its channel as it came, as it was left, and how serving it ended
+pub record Visit (C : Type 0) : Type 0 where
+  pub came : C
+  pub left : C
   pub result : Result ℕ ServeError
 
--- each request in what its reader had was answered, by a run of the store machine over just these, and the replies went to its writer
-abbrev pub IsServed : {T : Type 0} → (remaining contents : T → Option (List ℕ)) → Connection T → Store → ℕ → Store → ℕ → Type 0
-IsServed remaining contents it old failed new failing =
-    ServesConnection (remaining it.reader) (seen old failed (contents it.writer)) it.result (remaining it.unread) (seen new failing (contents it.written))
+-- how the next connection ended; where none could be had, as one of which nothing could be read
+abbrev pub ending : {C : Type 0} → Option (Visit C) → Result ℕ ServeError
+ending (Some visit) = visit.result
+ending None = Err ServeError.Read
 
--- these connections were served, the newest first, each over the store that the one before it left; and nothing else was done to the store
-abbrev pub AreServed : {T : Type 0} → (remaining contents : T → Option (List ℕ)) → List (Connection T) → Store → ℕ → Store → ℕ → Type 0
-AreServed remaining contents [] old failed new failing = (new ≡ old) × (failing ≡ failed)
-AreServed remaining contents (it ∷ earlier) old failed new failing =
-    (mid : Store) × (between : ℕ) × AreServed remaining contents earlier old failed mid between × IsServed remaining contents it mid between new failing
+-- the next connection was accepted, served over this store, and given back to the listener as serving left it; or none could be had, and nothing was done
+-- to the store
+abbrev pub IsServed : {L C : Type 0} → (Accepts : L → Option C → L → Type 0) → (Leaves : L → C → L → Type 0) → (Hears Says : C → List ℕ → C → Type 0) → (IsOver : C → Type 0) → Option (Visit C) → L → Store → ℕ → L → Store → ℕ → Type 0
+IsServed {L} Accepts Leaves Hears Says IsOver (Some visit) old from failures new to count =
+    (mid : L) × Accepts old (Some visit.came) mid × ServesChannel Hears Says IsOver visit.came from failures visit.result visit.left to count × Leaves mid visit.left new
+IsServed Accepts Leaves Hears Says IsOver None old from failures new to count = Accepts old None new × (to ≡ from) × (count ≡ failures)
 
--- each ended well
-abbrev pub AreWell : {T : Type 0} → List (Connection T) → Type 0
-AreWell served = All (λ it. IsOk it.result) served
+-- these were served, the newest first, each accepted from the listener as the one before it left that, and served over the store that the one before it
+-- left; and nothing else was done to either
+abbrev pub AreServed : {L C : Type 0} → (Accepts : L → Option C → L → Type 0) → (Leaves : L → C → L → Type 0) → (Hears Says : C → List ℕ → C → Type 0) → (IsOver : C → Type 0) → List (Option (Visit C)) → L → Store → ℕ → L → Store → ℕ → Type 0
+AreServed Accepts Leaves Hears Says IsOver [] old from failures new to count = (new ≡ old) × (to ≡ from) × (count ≡ failures)
+AreServed {L} Accepts Leaves Hears Says IsOver (visit ∷ earlier) old from failures new to count =
+    (mid : L) × (between : Store) × (k : ℕ) × AreServed Accepts Leaves Hears Says IsOver earlier old from failures mid between k × IsServed Accepts Leaves Hears Says IsOver visit mid between k new to count
 
--- one connection with such a writer was served, and this is how it ended; or none could be had, which is an error, and nothing was done
-abbrev pub ServesOne : {T : Type 0} → (remaining contents : T → Option (List ℕ)) → (T → Type 0) → Result ℕ ServeError → Store → ℕ → Store → ℕ → Type 0
-ServesOne {T} remaining contents Such result old failed new failing =
-    ((new ≡ old) × (failing ≡ failed) × IsErr result)
-    ⊎ ((it : Connection T) × Such it.writer × (it.result ≡ result) × IsServed remaining contents it old failed new failing)
+-- each could be had, and ended well
+abbrev pub AreWell : {C : Type 0} → List (Option (Visit C)) → Type 0
+AreWell visits = All (λ visit. IsOk (ending visit)) visits
+
+-- just so many connections were served one after another, and all is done exactly where each could be had, and ended well
+pub record ServesInTurn {L C : Type 0} (Accepts : L → Option C → L → Type 0) (Leaves : L → C → L → Type 0) (Hears Says : C → List ℕ → C → Type 0) (IsOver : C → Type 0) (connections : ℕ) (status : Status)
+    (old : L) (from : Store) (failures : ℕ) (new : L) (to : Store) (count : ℕ) : Type 0 where
+  pub visits : List (Option (Visit C))
+  pub number : length visits ≡ connections
+  pub served : AreServed Accepts Leaves Hears Says IsOver visits old from failures new to count
+  pub done : (status ≡ Status.Done) ↔ AreWell visits
+
+-- what connections that were served at once asked was answered in a hall, by some log in which its guests were served in turn
+abbrev pub ServesAtOnce : Store → ℕ → Store → ℕ → Type 0
+ServesAtOnce from failures to count = (log : Log) × Hosted from failures log to count × AreInTurn log
 
 -- a store as it is served: as one that only appends, where it is to be
 abbrev pub as_served : Bool → Store → Store

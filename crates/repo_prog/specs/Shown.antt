@@ -1,7 +1,7 @@
 -- What commands show of their jobs.
 use Rattle.std.specs.Prelude.{◌≡◌, ⊤, ◌⊎◌, Option, ℕ, List, Some}
 use Rattle.repo_prog.specs.Tellings.{snapshot_lines, complete_line, stored_line, foreseen_lines, forgotten_lines, pruned_line, upgraded_line, fault_lines, clean_line}
-use Rattle.repo_dial.specs.Dialing.{Coming}
+use Rattle.repo_dial.specs.Dialing.{Connections}
 use Rattle.repo_prog.specs.declared.callers.Caller.{Caller}
 use Rattle.repo_prog.specs.declared.status.Status.{Status}
 use Rattle.repo_prog.specs.Jobs.{RestoresSnapshot, Prunes, Checks, Stores, Foresees, Forgets, ListsSnapshots, Upgrades}
@@ -106,29 +106,29 @@ ShowsChecked outcome status before after =
 
 -- ---- a command tells what its job came to, over the connections that were made
 
-abbrev pub TellsStored : Caller → List ℕ → Option (List Fed) → ℕ → Coming → Coming → Status → Option (List ℕ) → Option (List ℕ) → Type 0
+abbrev pub TellsStored : Caller → List ℕ → Option (List Fed) → ℕ → Connections → Connections → Status → Option (List ℕ) → Option (List ℕ) → Type 0
 TellsStored caller host whole retry coming left status before after =
     Tells (λ (s : Stored). Stores caller host whole s.0 s.1 s.2 retry coming left) stored_lines status before after
 
-abbrev pub TellsListed : Caller → ℕ → Coming → Coming → Status → Option (List ℕ) → Option (List ℕ) → Type 0
+abbrev pub TellsListed : Caller → ℕ → Connections → Connections → Status → Option (List ℕ) → Option (List ℕ) → Type 0
 TellsListed caller retry coming left status before after = Tells (λ rows. ListsSnapshots caller rows retry coming left) snapshot_lines status before after
 
-abbrev pub TellsRestored : Caller → Name → ℕ → Coming → Coming → Status → Option (List ℕ) → Option (List ℕ) → Type 0
+abbrev pub TellsRestored : Caller → Name → ℕ → Connections → Connections → Status → Option (List ℕ) → Option (List ℕ) → Type 0
 TellsRestored caller name retry coming left status before after = Tells (λ entries. RestoresSnapshot caller name entries retry coming left) complete_line status before after
 
-abbrev pub TellsForgotten : Caller → Choice → ℕ → Coming → Coming → Status → Option (List ℕ) → Option (List ℕ) → Type 0
+abbrev pub TellsForgotten : Caller → Choice → ℕ → Connections → Connections → Status → Option (List ℕ) → Option (List ℕ) → Type 0
 TellsForgotten caller choice retry coming left status before after = Tells (λ names. Forgets caller choice names retry coming left) forgotten_lines status before after
 
-abbrev pub TellsForeseen : Caller → Choice → ℕ → Coming → Coming → Status → Option (List ℕ) → Option (List ℕ) → Type 0
+abbrev pub TellsForeseen : Caller → Choice → ℕ → Connections → Connections → Status → Option (List ℕ) → Option (List ℕ) → Type 0
 TellsForeseen caller choice retry coming left status before after = Tells (λ names. Foresees caller choice names retry coming left) foreseen_lines status before after
 
-abbrev pub TellsPruned : Caller → ℕ → Coming → Coming → Status → Option (List ℕ) → Option (List ℕ) → Type 0
+abbrev pub TellsPruned : Caller → ℕ → Connections → Connections → Status → Option (List ℕ) → Option (List ℕ) → Type 0
 TellsPruned caller retry coming left status before after = Tells (λ (p : Pruned). Prunes caller p.0 p.1 retry coming left) pruned_lines status before after
 
-abbrev pub TellsUpgraded : Caller → ℕ → Coming → Coming → Status → Option (List ℕ) → Option (List ℕ) → Type 0
+abbrev pub TellsUpgraded : Caller → ℕ → Connections → Connections → Status → Option (List ℕ) → Option (List ℕ) → Type 0
 TellsUpgraded caller retry coming left status before after = Tells (λ (done : ⊤). Upgrades caller retry coming left) upgraded_lines status before after
 
-abbrev pub TellsChecked : Caller → ℕ → Coming → Coming → Status → Option (List ℕ) → Option (List ℕ) → Type 0
+abbrev pub TellsChecked : Caller → ℕ → Connections → Connections → Status → Option (List ℕ) → Option (List ℕ) → Type 0
 TellsChecked caller retry coming left status before after =
     TellsEither (λ (c : Clean). Checks caller (Outcome.Clean c.0 c.1 c.2 c.3) retry coming left) clean_lines (λ found. Checks caller (Outcome.Faults found) retry coming left) fault_lines
     status before after

@@ -186,10 +186,10 @@ pub fn backup_from<S: Source<Error = WalkError> + LeavesOut + Drop, D: Dial, O: 
 ) -> Status
     requires host { IsHost host.now }
     requires fresh { IsFresh (S.told source) (S.failed source) }
-    ensures obeyed { BackupObeyed caller.now host.now (whole_of (S.told source)) retry (D.coming dial.old) (D.coming dial.new) }
+    ensures obeyed { BackupObeyed caller.now host.now (whole_of (S.told source)) retry (D.connections dial.old) (D.connections dial.new) }
     ensures whole { result ≡ Status.Done → (left : S) × HasStoredFrom (S.told left) (S.failed left) × (S.skipped left ≡ []) }
     ensures flawed { result ≡ Status.Flawed → (left : S) × HasStoredFrom (S.told left) (S.failed left) × (S.skipped left ≢ []) }
-    ensures tells { TellsStored caller.now host.now (whole_of (S.told source)) retry (D.coming dial.old) (D.coming dial.new) (unflawed result) (O.contents output.old) (O.contents output.new) }
+    ensures tells { TellsStored caller.now host.now (whole_of (S.told source)) retry (D.connections dial.old) (D.connections dial.new) (unflawed result) (O.contents output.old) (O.contents output.new) }
     ensures silent { result ≡ Status.Done → faults.new ≡ faults.old }
     ensures status { result ≢ Status.Usage }
 {
@@ -221,7 +221,7 @@ pub fn backup_command<T: Files + AllocGlobal + Clone + Drop, D: Dial, O: Write, 
     faults: &mut F,
 ) -> Status
     requires { IsHost host.now }
-    ensures gives { BacksUp caller.now host.now retry (D.coming dial.old) (D.coming dial.new) (O.contents output.old) result (O.contents output.new) }
+    ensures gives { BacksUp caller.now host.now retry (D.connections dial.old) (D.connections dial.new) (O.contents output.old) result (O.contents output.new) }
     ensures silent { result ≡ Status.Done → faults.new ≡ faults.old }
     ensures status { result ≢ Status.Usage }
 {

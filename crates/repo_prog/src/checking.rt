@@ -55,8 +55,8 @@ pub fn check_command<D: Dial, O: Write, F: Write>(
     output: &mut O,
     faults: &mut F,
 ) -> Status
-    ensures obeyed { CheckObeyed caller.now retry (D.coming dial.old) (D.coming dial.new) }
-    ensures tells { TellsChecked caller.now retry (D.coming dial.old) (D.coming dial.new) result (O.contents output.old) (O.contents output.new) }
+    ensures obeyed { CheckObeyed caller.now retry (D.connections dial.old) (D.connections dial.new) }
+    ensures tells { TellsChecked caller.now retry (D.connections dial.old) (D.connections dial.new) result (O.contents output.old) (O.contents output.new) }
     ensures silent { IsStoredStatus result → faults.new ≡ faults.old }
 {
     let Ok(who) = caller.who(alloc, HOST) else {

@@ -1,12 +1,13 @@
 //! What the command line's words ask for, done over readers, writers and a machine.
 
-ghost use Rattle.std.specs.Prelude.{◌≡◌, ◌≢◌, ℕ, List, Some};
+ghost use Rattle.std.specs.Prelude.{◌≡◌, ◌≢◌, ◌⊎◌, ℕ, List, Some, Ok, Err, IfOk};
 ghost use Rattle.clap.specs.Values.{kind_of};
 ghost use Rattle.clap.specs.declared.error.kind.ErrorKind.{ErrorKind};
 ghost use Rattle.repo_prog.specs.Commands.{FramesGives, IsOrder, ReadsInput, LoopGives, PlayGives};
-ghost use Rattle.repo_prog.specs.Errands.{OrderGives};
+ghost use Rattle.repo_prog.specs.Errands.{OrderGives, Follows, IsToShow};
 ghost use Rattle.repo_prog.specs.declared.status.Status.{Status};
 ghost use Rattle.repo_prog.specs.declared.words.Order.{Order};
+ghost use Rattle.repo_prog.specs.declared.words.WordsError.{WordsError};
 
 use crate::connecting::run_errand;
 use crate::frames_engine::frames;
@@ -49,6 +50,9 @@ fn show<W: Write, F: Write>(error: &clap::Error, output: &mut W, faults: &mut F)
     ensures silent { result ≡ Status.Done → faults.new ≡ faults.old }
     ensures usage { result ≡ Status.Usage → output.new ≡ output.old }
     ensures memory { kind_of error.now ≡ ErrorKind.OutOfMemory → result ≡ Status.Failed }
+    ensures done { result ≡ Status.Done → IsToShow (kind_of error.now) }
+    ensures failed { result ≡ Status.Failed → IsToShow (kind_of error.now) ⊎ (kind_of error.now ≡ ErrorKind.OutOfMemory) }
+    ensures refused { result ≡ Status.Usage → ¬ IsToShow (kind_of error.now) }
 {
     match error.kind() {
         ErrorKind::OutOfMemory => failed(faults, &DriveError::Memory),
@@ -111,7 +115,38 @@ where
     }
 }
 
-/// Does what the words ask for, the program's name first. Where they make no command nothing is read, and
+/// Does what was asked for; or tells why words make no order, of which help and the version alone are done. Then nothing is read,
+/// and nothing is written but the fault, or what was to be shown.
+fn follow<
+    T: Files + Net + AllocGlobal + RandomSource + Clock + Clone + Drop,
+    R: Read,
+    W: Write,
+    F: Write,
+>(rt: &T, order: Result<Order, WordsError>, input: &mut R, output: &mut W, faults: &mut F) -> Status
+where
+    T::File: HoldFile,
+    requires { IfOk order IsOrder }
+    ensures follows { Follows order (W.contents output.old) result (W.contents output.new) }
+    ensures frames { order ≡ Ok Order.Frames → (text : List ℕ) → R.remaining input.old ≡ Some text
+        → FramesGives text (W.contents output.old) result (W.contents output.new) }
+    ensures plays { order ≡ Ok Order.Play → (text : List ℕ) → R.remaining input.old ≡ Some text
+        → PlayGives text (W.contents output.old) result (W.contents output.new) }
+    ensures loops { order ≡ Ok Order.Loop → (text : List ℕ) → R.remaining input.old ≡ Some text
+        → LoopGives text (W.contents output.old) result (R.remaining input.new) (W.contents output.new) }
+    ensures unread { (error : WordsError) → order ≡ Err error → input.new ≡ input.old }
+    ensures silent { result ≡ Status.Done → faults.new ≡ faults.old }
+    ensures usage { result ≡ Status.Usage → (input.new ≡ input.old) × (output.new ≡ output.old) }
+{
+    match order {
+        Ok(order) => perform(rt, order, input, output, faults),
+        Err(WordsError::Clap(error)) => show(&error, output, faults),
+        Err(WordsError::BadArgument) => refuse_words(faults),
+        Err(WordsError::NamesAndPolicy) => refuse_both(faults),
+        Err(WordsError::Memory) => failed(faults, &"out of memory"),
+    }
+}
+
+/// Does what the words ask for, the program's name first. Where they make no command nothing is read; and where it ends with 2
 /// nothing is written but the fault. What words mean is `clap`'s, and no clause.
 pub fn run<
     T: Files + Net + AllocGlobal + RandomSource + Clock + Clone + Drop,
@@ -124,11 +159,5 @@ where
     ensures silent { result ≡ Status.Done → faults.new ≡ faults.old }
     ensures usage { result ≡ Status.Usage → (input.new ≡ input.old) × (output.new ≡ output.old) }
 {
-    match order_of(rt.alloc(), words) {
-        Ok(order) => perform(rt, order, input, output, faults),
-        Err(WordsError::Clap(error)) => show(&error, output, faults),
-        Err(WordsError::BadArgument) => refuse_words(faults),
-        Err(WordsError::NamesAndPolicy) => refuse_both(faults),
-        Err(WordsError::Memory) => failed(faults, &"out of memory"),
-    }
+    follow(rt, order_of(rt.alloc(), words), input, output, faults)
 }

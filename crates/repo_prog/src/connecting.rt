@@ -2,7 +2,8 @@
 
 ghost use Rattle.std.specs.Prelude.{◌≡◌, ◌≢◌};
 ghost use Rattle.repo_prog.specs.Commands.{IsErrand};
-ghost use Rattle.repo_prog.specs.Errands.{AddressGives, ErrandGives, LocksGive};
+ghost use Rattle.repo_prog.specs.Asking.{streams};
+ghost use Rattle.repo_prog.specs.Errands.{AddressGives, ErrandGives, LockGives, LocksGive};
 ghost use Rattle.repo_prog.specs.declared.status.Status.{Status};
 
 use crate::backing::backup_command;
@@ -16,7 +17,7 @@ use crate::pruning::prune_command;
 use crate::restoring::{restore_command, snapshots_command};
 use crate::status::{Status, failed};
 use crate::upgrading::upgrade_command;
-use repo_dial::{Address, Dial};
+use repo_dial::{Address, Dial, KnownChannel};
 use std::alloc::{AllocGlobal, Global};
 use std::fs::Files;
 use std::io::Write;
@@ -25,7 +26,29 @@ use std::random::RandomSource;
 use std::rt::Clock;
 use std::time::Duration;
 
-/// Asks about the locks, over the next connection.
+/// Asks about the locks.
+fn ask_about_locks<E: KnownChannel, O: Write, F: Write>(
+    alloc: Global,
+    caller: &Caller,
+    errand: LockErrand,
+    channel: &mut E,
+    output: &mut O,
+    faults: &mut F,
+) -> Status
+    ensures gives { LockGives errand caller.now (streams (E.ends channel.old) (O.contents output.old)) result (streams (E.ends channel.new) (O.contents output.new)) }
+    ensures silent { result ≡ Status.Done → faults.new ≡ faults.old }
+    ensures status { result ≢ Status.Usage }
+{
+    match errand {
+        LockErrand::List => locks_command(alloc, caller, channel, output, faults),
+        LockErrand::Refresh(token) => {
+            refresh_command(alloc, caller, token, channel, output, faults)
+        }
+        LockErrand::Remove { all } => unlock_command(alloc, caller, all, channel, output, faults),
+    }
+}
+
+/// Asks about the locks, over the next connection, and gives that back.
 fn ask_locks<D: Dial, O: Write, F: Write>(
     alloc: Global,
     caller: &Caller,
@@ -34,19 +57,16 @@ fn ask_locks<D: Dial, O: Write, F: Write>(
     output: &mut O,
     faults: &mut F,
 ) -> Status
-    ensures gives { LocksGive errand caller.now (D.coming dial.old) (D.coming dial.new) (O.contents output.old) result (O.contents output.new) }
+    ensures gives { LocksGive errand caller.now (D.connections dial.old) (D.connections dial.new) (O.contents output.old) result (O.contents output.new) }
     ensures silent { result ≡ Status.Done → faults.new ≡ faults.old }
     ensures status { result ≢ Status.Usage }
 {
-    let Some((mut reader, mut writer)) = dial.dial() else {
+    let Some(mut channel) = dial.dial() else {
         return failed(faults, &"not reached");
     };
-    let (r, w) = (&mut reader, &mut writer);
-    match errand {
-        LockErrand::List => locks_command(alloc, caller, r, w, output, faults),
-        LockErrand::Refresh(token) => refresh_command(alloc, caller, token, r, w, output, faults),
-        LockErrand::Remove { all } => unlock_command(alloc, caller, all, r, w, output, faults),
-    }
+    let status = ask_about_locks(alloc, caller, errand, &mut channel, output, faults);
+    dial.hang_up(channel);
+    status
 }
 
 /// Does an errand over connections that are made one after another: of a job, so many at most after the first; of what
@@ -61,7 +81,7 @@ pub fn do_errand<T: Files + AllocGlobal + Clone + Drop, D: Dial, O: Write, F: Wr
     faults: &mut F,
 ) -> Status
     requires { IsErrand errand }
-    ensures gives { ErrandGives errand caller.now retry (D.coming dial.old) (D.coming dial.new) (O.contents output.old) result (O.contents output.new) }
+    ensures gives { ErrandGives errand caller.now retry (D.connections dial.old) (D.connections dial.new) (O.contents output.old) result (O.contents output.new) }
     ensures silent { result ≡ Status.Done → faults.new ≡ faults.old }
     ensures status { result ≢ Status.Usage }
 {

@@ -1,6 +1,6 @@
 //! The words of what a client asks of a server.
 
-ghost use Rattle.std.specs.Prelude.{◌≡◌, IfOk, codes};
+ghost use Rattle.std.specs.Prelude.{◌≡◌, IfOk, IsTrue, IsFalse, codes};
 ghost use Rattle.repo_prog.specs.Commands.{IsErrand, errand_word};
 
 use crate::choosing::{choice_of, choice_words};
@@ -188,15 +188,24 @@ fn restore_errand(alloc: Global, words: &ArgMatches) -> Result<Errand, WordsErro
     Ok(Errand::Restore { name, folder })
 }
 
+/// The errand of a choice: it is forgotten, or only told what would be.
+fn forget_by(choice: Choice, is_dry_run: bool) -> Errand
+    ensures dry { IsTrue is_dry_run → result ≡ Errand.Foresee choice }
+    ensures real { IsFalse is_dry_run → result ≡ Errand.Forget choice }
+{
+    if is_dry_run {
+        Errand::Foresee(choice)
+    } else {
+        Errand::Forget(choice)
+    }
+}
+
 fn forget_errand(alloc: Global, words: &ArgMatches) -> Result<Errand, WordsError>
     ensures within { IfOk result IsErrand }
     ensures word { IfOk result (λ errand. errand_word errand ≡ codes "forget") }
 {
     let choice = choice_of(alloc, words)?;
-    if words.get_flag("dry-run") {
-        return Ok(Errand::Foresee(choice));
-    }
-    Ok(Errand::Forget(choice))
+    Ok(forget_by(choice, words.get_flag("dry-run")))
 }
 
 /// How often it is connected again, by the words of one of these commands: 0 where it has no word for that.

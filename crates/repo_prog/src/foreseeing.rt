@@ -48,8 +48,8 @@ pub fn foresee_command<D: Dial, O: Write, F: Write>(
     output: &mut O,
     faults: &mut F,
 ) -> Status
-    ensures obeyed { ListObeyed caller.now retry (D.coming dial.old) (D.coming dial.new) }
-    ensures tells { TellsForeseen caller.now choice.now retry (D.coming dial.old) (D.coming dial.new) result (O.contents output.old) (O.contents output.new) }
+    ensures obeyed { ListObeyed caller.now retry (D.connections dial.old) (D.connections dial.new) }
+    ensures tells { TellsForeseen caller.now choice.now retry (D.connections dial.old) (D.connections dial.new) result (O.contents output.old) (O.contents output.new) }
     ensures none { IsNoPolicy choice.now → (result ≡ Status.Failed) × (dial.new ≡ dial.old) × (output.new ≡ output.old) }
     ensures silent { result ≡ Status.Done → faults.new ≡ faults.old }
 {

@@ -43,8 +43,8 @@ pub fn forget_command<D: Dial, O: Write, F: Write>(
     output: &mut O,
     faults: &mut F,
 ) -> Status
-    ensures obeyed { ForgetObeyed caller.now choice retry (D.coming dial.old) (D.coming dial.new) }
-    ensures tells { TellsForgotten caller.now choice retry (D.coming dial.old) (D.coming dial.new) result (O.contents output.old) (O.contents output.new) }
+    ensures obeyed { ForgetObeyed caller.now choice retry (D.connections dial.old) (D.connections dial.new) }
+    ensures tells { TellsForgotten caller.now choice retry (D.connections dial.old) (D.connections dial.new) result (O.contents output.old) (O.contents output.new) }
     ensures none { IsNoPolicy choice → (result ≡ Status.Failed) × (dial.new ≡ dial.old) × (output.new ≡ output.old) }
     ensures silent { result ≡ Status.Done → faults.new ≡ faults.old }
 {

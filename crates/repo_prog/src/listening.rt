@@ -1,20 +1,18 @@
 //! `vault serve`.
 
-ghost use Rattle.std.specs.Prelude.{◌≡◌, ◌≤◌, ◌<◌, ⊤, true, List, length, IsErr, IsOk};
+ghost use Rattle.std.specs.Prelude.{◌≡◌, ◌≤◌, ◌<◌, ◌↔◌, Option, true, IsOk};
 ghost use Rattle.std.specs.Io.KnownBytes.{Appends};
-ghost use Rattle.repo_hall.specs.Halls.{Hosted};
-ghost use Rattle.repo_hall.specs.Happenings.{Log};
 ghost use Rattle.repo_prog.specs.Commands.{listening_line, IsEnd};
-ghost use Rattle.repo_prog.specs.Serving.{AreServed, AreWell, Connection, ServesOne, as_served};
+ghost use Rattle.repo_prog.specs.Serving.{IsServed, ServesAtOnce, ServesInTurn, Visit, as_served, ending};
 ghost use Rattle.repo_prog.specs.declared.status.Status.{Status};
 ghost use Rattle.repo_store.specs.AppendOnly.{KeepsObjects, OnlyAppends};
 ghost use Rattle.repo_store.specs.Serving.{Ran};
 
+use crate::listeners::{Arrivals, Listen};
 use crate::status::{Status, failed, failed_by};
-use repo_dial::reader_of;
 use repo_files::{HoldFile, open_store};
 use repo_many::{Manner, Served, serve_many};
-use repo_store::{AppendOnly, Kept, ServeError, Shelf, serve, write_whole};
+use repo_store::{AppendOnly, Kept, ServeError, Shelf, serve_over, write_whole};
 use std::alloc::{AllocGlobal, Global};
 use std::fs::Files;
 use std::io::{Read, Write};
@@ -23,50 +21,34 @@ use std::os::fd::AsRawFd;
 use std::rt::Clock;
 use std::time::Duration;
 
-/// Serves one connection, from its first request to its end.
-fn serve_stream<T: Read + Write + OpenStream + Drop, S: Shelf>(
+/// Waits for the next connection, serves it, from its first request to its end, and gives it back as serving left it. One that
+/// can't be had is as one of which nothing can be read.
+fn serve_next<L: Listen, S: Shelf>(
     alloc: Global,
-    mut stream: T,
-    idle: Option<Duration>,
+    listener: &mut L,
     shelf: &mut S,
 ) -> Result<u64, ServeError>
-    ensures served { S.honest shelf.old → ServesOne T.remaining T.contents (λ writer. writer ≡ stream)
-        result (S.store shelf.old) (S.failed shelf.old) (S.store shelf.new) (S.failed shelf.new) }
-    ensures kept { S.honest shelf.old → OnlyAppends (S.store shelf.old) (S.store shelf.new) }
-    ensures honest { S.honest shelf.old → S.honest shelf.new }
-{
-    let Ok(mut reader) = reader_of(&stream, idle) else {
-        return Err(ServeError::Read);
-    };
-    serve(alloc, &mut reader, &mut stream, shelf)
-}
-
-/// Takes the next connection, and serves it.
-fn serve_next<L: OpenListener, S: Shelf>(
-    alloc: Global,
-    listener: &L,
-    idle: Option<Duration>,
-    shelf: &mut S,
-) -> Result<u64, ServeError>
-where
-    L::Stream: Read + Write + OpenStream,
-    ensures served { S.honest shelf.old → ServesOne L.Stream.remaining L.Stream.contents (λ writer. ⊤)
-        result (S.store shelf.old) (S.failed shelf.old) (S.store shelf.new) (S.failed shelf.new) }
+    ensures served { S.honest shelf.old → (visit : Option (Visit L.Ends)) × (result ≡ ending visit)
+        × IsServed L.accepts L.leaves L.Ends.hears L.Ends.says L.Ends.is_over visit listener.old (S.store shelf.old) (S.failed shelf.old)
+        listener.new (S.store shelf.new) (S.failed shelf.new) }
     ensures kept { S.honest shelf.old → OnlyAppends (S.store shelf.old) (S.store shelf.new) }
     ensures honest { S.honest shelf.old → S.honest shelf.new }
 {
     match listener.accept() {
-        Ok((stream, _)) => serve_stream(alloc, stream, idle, shelf),
-        Err(_) => Err(ServeError::Read),
+        Some(mut ends) => {
+            let served = serve_over(alloc, &mut ends, shelf);
+            listener.hang_up(ends);
+            served
+        }
+        None => Err(ServeError::Read),
     }
 }
 
 /// The status after a connection: where it ended by an error the text is told.
 fn status_after<F: Write>(status: Status, served: Result<u64, ServeError>, faults: &mut F) -> Status
-    ensures silent { result ≡ Status.Done → (status ≡ Status.Done) × (faults.new ≡ faults.old) }
+    ensures silent { result ≡ Status.Done → faults.new ≡ faults.old }
     ensures status { IsEnd status → IsEnd result }
-    ensures done { IsOk served → result ≡ status }
-    ensures failed { IsErr served → result ≡ Status.Failed }
+    ensures done { (result ≡ Status.Done) ↔ ((status ≡ Status.Done) × IsOk served) }
 {
     match served {
         Ok(_) => status,
@@ -74,27 +56,22 @@ fn status_after<F: Write>(status: Status, served: Result<u64, ServeError>, fault
     }
 }
 
-/// Takes so many connections of a bound listener, one after another, and serves each. Where one ends by
-/// an error its text is told, the next is served, and the status at the end is `Failed`. A connection
-/// that can't be taken counts, with the text `read failed`. With a time for `idle`, a connection on which
-/// nothing comes for so long ends with `read failed`, and one that takes nothing of what is written for so long
-/// with `write failed`.
+/// Waits so many times for a connection, one after another, serves each, from its first request to its end, and gives it back
+/// to the listener as serving left it: nothing goes over it behind that. Where one ends by an error its text is told, the next
+/// is served, and the status at the end is `Failed`. A connection that can't be had counts, with the text `read failed`. `Done`
+/// says that each could be had, and ended without an error.
 ///
-/// The shelf is where the connections' own requests lead, connection after connection, and nothing else, as far as
-/// they tell their bytes. `Done` says that as many were served as was said, each to its end without an error.
-pub fn serve_connections<L: OpenListener, S: Shelf, F: Write>(
+/// The shelf is where the connections' own requests lead, connection after connection, and nothing else; over each, whenever
+/// more was heard, all was served that had been heard before. Whatever they bring, a store that only appends keeps each object.
+pub fn serve_connections<L: Listen, S: Shelf, F: Write>(
     alloc: Global,
-    listener: &L,
+    listener: &mut L,
     connections: u64,
-    idle: Option<Duration>,
     shelf: &mut S,
     faults: &mut F,
 ) -> Status
-where
-    L::Stream: Read + Write + OpenStream,
-    ensures served { S.honest shelf.old → (served : List (Connection L.Stream)) × (length served ≤ connections)
-        × AreServed L.Stream.remaining L.Stream.contents served (S.store shelf.old) (S.failed shelf.old) (S.store shelf.new) (S.failed shelf.new)
-        × (result ≡ Status.Done → (length served ≡ connections) × AreWell served) }
+    ensures served { S.honest shelf.old → ServesInTurn L.accepts L.leaves L.Ends.hears L.Ends.says L.Ends.is_over connections result
+        listener.old (S.store shelf.old) (S.failed shelf.old) listener.new (S.store shelf.new) (S.failed shelf.new) }
     ensures kept { S.honest shelf.old → OnlyAppends (S.store shelf.old) (S.store shelf.new) }
     ensures honest { S.honest shelf.old → S.honest shelf.new }
     ensures silent { result ≡ Status.Done → faults.new ≡ faults.old }
@@ -102,7 +79,7 @@ where
 {
     let mut status = Status::Done;
     for turn in 0..connections {
-        let served = serve_next(alloc, listener, idle, shelf);
+        let served = serve_next(alloc, listener, shelf);
         status = status_after(status, served, faults);
     }
     status
@@ -119,7 +96,7 @@ fn serve_at_once<R: Net + Clock + AllocGlobal, L: OpenListener + AsRawFd, S: She
 ) -> Status
 where
     L::Stream: Read + Write + OpenStream + AsRawFd,
-    ensures hosted { S.honest shelf.old → (log : Log) × Hosted (S.store shelf.old) (S.failed shelf.old) log (S.store shelf.new) (S.failed shelf.new) }
+    ensures hosted { S.honest shelf.old → ServesAtOnce (S.store shelf.old) (S.failed shelf.old) (S.store shelf.new) (S.failed shelf.new) }
     ensures kept { S.honest shelf.old → OnlyAppends (S.store shelf.old) (S.store shelf.new) }
     ensures honest { S.honest shelf.old → S.honest shelf.new }
     ensures silent { result ≡ Status.Done → faults.new ≡ faults.old }
@@ -137,16 +114,20 @@ where
     }
 }
 
-/// Serves connections of a bound listener as they are to be served: one after another, or several at once.
-fn serve_listener<R: Net + Clock + AllocGlobal, L: OpenListener + AsRawFd, S: Shelf, F: Write>(
-    rt: &R,
-    listener: &L,
-    serving: Serving,
-    shelf: &mut S,
-    faults: &mut F,
-) -> Status
+/// Serves connections as they are to be served: one after another, as they arrive, or several at once, as the bound listener
+/// has them.
+fn serve_listener<
+    R: Net + Clock + AllocGlobal,
+    L: OpenListener + AsRawFd,
+    A: Listen,
+    S: Shelf,
+    F: Write,
+>(rt: &R, listener: &L, arrivals: &mut A, serving: Serving, shelf: &mut S, faults: &mut F) -> Status
 where
     L::Stream: Read + Write + OpenStream + AsRawFd,
+    ensures served { S.honest shelf.old → serving.at_once ≤ 1 → ServesInTurn A.accepts A.leaves A.Ends.hears A.Ends.says A.Ends.is_over serving.connections result
+        arrivals.old (S.store shelf.old) (S.failed shelf.old) arrivals.new (S.store shelf.new) (S.failed shelf.new) }
+    ensures hosted { S.honest shelf.old → 1 < serving.at_once → ServesAtOnce (S.store shelf.old) (S.failed shelf.old) (S.store shelf.new) (S.failed shelf.new) }
     ensures kept { S.honest shelf.old → OnlyAppends (S.store shelf.old) (S.store shelf.new) }
     ensures ran { S.honest shelf.old → Ran (S.store shelf.old) (S.failed shelf.old) (S.store shelf.new) (S.failed shelf.new) }
     ensures honest { S.honest shelf.old → S.honest shelf.new }
@@ -156,29 +137,26 @@ where
     if serving.at_once > 1 {
         return serve_at_once(rt, listener, serving, shelf, faults);
     }
-    serve_connections(
-        rt.alloc(),
-        listener,
-        serving.connections,
-        serving.idle,
-        shelf,
-        faults,
-    )
+    serve_connections(rt.alloc(), arrivals, serving.connections, shelf, faults)
 }
 
 /// Serves a shelf as it is to be served, and gives it back. What it has is remembered, so nobody else may write to it.
 ///
 /// Its store is where requests lead, and nothing else. Where it only appends each object that it had is there, with the
 /// same bytes, whatever was asked.
-fn serve_shelf<R: Net + Clock + AllocGlobal, L: OpenListener + AsRawFd, S: Shelf + Drop, F: Write>(
-    rt: &R,
-    listener: &L,
-    serving: Serving,
-    shelf: S,
-    faults: &mut F,
-) -> (Status, S)
+fn serve_shelf<
+    R: Net + Clock + AllocGlobal,
+    L: OpenListener + AsRawFd,
+    A: Listen,
+    S: Shelf + Drop,
+    F: Write,
+>(rt: &R, listener: &L, arrivals: &mut A, serving: Serving, shelf: S, faults: &mut F) -> (Status, S)
 where
     L::Stream: Read + Write + OpenStream + AsRawFd,
+    ensures served { S.honest shelf → serving.at_once ≤ 1 → ServesInTurn A.accepts A.leaves A.Ends.hears A.Ends.says A.Ends.is_over serving.connections result.0
+        arrivals.old (as_served serving.append_only (S.store shelf)) (S.failed shelf) arrivals.new (as_served serving.append_only (S.store result.1)) (S.failed result.1) }
+    ensures hosted { S.honest shelf → 1 < serving.at_once
+        → ServesAtOnce (as_served serving.append_only (S.store shelf)) (S.failed shelf) (as_served serving.append_only (S.store result.1)) (S.failed result.1) }
     ensures kept { S.honest shelf → serving.append_only ≡ true → KeepsObjects (S.store shelf) (S.store result.1) }
     ensures ran { S.honest shelf → Ran (as_served serving.append_only (S.store shelf)) (S.failed shelf) (as_served serving.append_only (S.store result.1)) (S.failed result.1) }
     ensures honest { S.honest shelf → S.honest result.1 }
@@ -187,11 +165,11 @@ where
 {
     if serving.append_only {
         let mut kept = Kept::new(rt.alloc(), AppendOnly::new(shelf));
-        let status = serve_listener(rt, listener, serving, &mut kept, faults);
+        let status = serve_listener(rt, listener, arrivals, serving, &mut kept, faults);
         return (status, kept.into_inner().into_inner());
     }
     let mut kept = Kept::new(rt.alloc(), shelf);
-    let status = serve_listener(rt, listener, serving, &mut kept, faults);
+    let status = serve_listener(rt, listener, arrivals, serving, &mut kept, faults);
     (status, kept.into_inner())
 }
 
@@ -241,6 +219,7 @@ where
     if write_whole(output, b"listening\n").is_err() || output.flush().is_err() {
         return failed(faults, &"write failed");
     }
-    let (status, _) = serve_shelf(rt, &listener, serving, shelf, faults);
+    let mut arrivals = Arrivals::at(&listener, serving.idle);
+    let (status, _) = serve_shelf(rt, &listener, &mut arrivals, serving, shelf, faults);
     status
 }

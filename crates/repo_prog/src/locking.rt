@@ -12,12 +12,13 @@ ghost use Rattle.repo_prog.specs.declared.status.Status.{Status};
 use crate::callers::Caller;
 use crate::status::{Status, failed};
 use crate::telling::{lock_lines, removed_line, show, show_made, unwelcome};
+use repo_dial::{KnownChannel, ask_once};
 use repo_locks::stale;
 use repo_name::{LockRow, Token};
-use repo_session::{DriveError, ask};
+use repo_session::DriveError;
 use repo_wire::{Ask, Say};
 use std::alloc::{AllocError, Global};
-use std::io::{Read, Write};
+use std::io::Write;
 
 /// Writes the live locks of a reply, or tells of a reply that has none.
 fn show_locks<O: Write, F: Write>(
@@ -37,20 +38,19 @@ fn show_locks<O: Write, F: Write>(
 }
 
 /// `vault locks`: lists the live locks, a line each.
-pub fn locks_command<R: Read, W: Write, O: Write, F: Write>(
+pub fn locks_command<E: KnownChannel, O: Write, F: Write>(
     alloc: Global,
     caller: &Caller,
-    reader: &mut R,
-    writer: &mut W,
+    channel: &mut E,
     output: &mut O,
     faults: &mut F,
 ) -> Status
-    ensures asked { Asked (request_of caller.now 1 Ask.Locks) locks_told (streams (R.remaining reader.old) (W.contents writer.old) (O.contents output.old))
-        result (streams (R.remaining reader.new) (W.contents writer.new) (O.contents output.new)) }
+    ensures asked { Asked (request_of caller.now 1 Ask.Locks) locks_told (streams (E.ends channel.old) (O.contents output.old))
+        result (streams (E.ends channel.new) (O.contents output.new)) }
     ensures silent { result ≡ Status.Done → faults.new ≡ faults.old }
     ensures status { IsEnd result }
 {
-    match ask(alloc, reader, writer, &caller.request(1, Ask::Locks)) {
+    match ask_once(alloc, channel, &caller.request(1, Ask::Locks)) {
         Ok(reply) => show_locks(alloc, &reply.say, output, faults),
         Err(error) => failed(faults, &error),
     }
@@ -77,23 +77,22 @@ fn refresh_of(token: Token, time: u64) -> Ask
 }
 
 /// `vault refresh`: gives a token's live lock this moment as its time.
-pub fn refresh_command<R: Read, W: Write, O: Write, F: Write>(
+pub fn refresh_command<E: KnownChannel, O: Write, F: Write>(
     alloc: Global,
     caller: &Caller,
     token: Token,
-    reader: &mut R,
-    writer: &mut W,
+    channel: &mut E,
     output: &mut O,
     faults: &mut F,
 ) -> Status
     ensures asked { Asked (request_of caller.now 1 (Ask.Refresh token caller.now.time)) refresh_told
-        (streams (R.remaining reader.old) (W.contents writer.old) (O.contents output.old))
-        result (streams (R.remaining reader.new) (W.contents writer.new) (O.contents output.new)) }
+        (streams (E.ends channel.old) (O.contents output.old))
+        result (streams (E.ends channel.new) (O.contents output.new)) }
     ensures silent { result ≡ Status.Done → faults.new ≡ faults.old }
     ensures status { IsEnd result }
 {
     let refresh = refresh_of(token, caller.time);
-    match ask(alloc, reader, writer, &caller.request(1, refresh)) {
+    match ask_once(alloc, channel, &caller.request(1, refresh)) {
         Ok(reply) => show_refresh(&reply.say, output, faults),
         Err(error) => failed(faults, &error),
     }
@@ -118,24 +117,23 @@ fn show_removal<O: Write, F: Write>(
 }
 
 /// Removes the lock of a token, by the request of this number, and tells that it is done.
-fn remove_lock<R: Read, W: Write, O: Write, F: Write>(
+fn remove_lock<E: KnownChannel, O: Write, F: Write>(
     alloc: Global,
     caller: &Caller,
     sequence: u64,
     token: Token,
-    reader: &mut R,
-    writer: &mut W,
+    channel: &mut E,
     output: &mut O,
     faults: &mut F,
 ) -> Status
     ensures asked { Asked (request_of caller.now sequence (Ask.Unlock token)) (removal_told token)
-        (streams (R.remaining reader.old) (W.contents writer.old) (O.contents output.old))
-        result (streams (R.remaining reader.new) (W.contents writer.new) (O.contents output.new)) }
+        (streams (E.ends channel.old) (O.contents output.old))
+        result (streams (E.ends channel.new) (O.contents output.new)) }
     ensures silent { result ≡ Status.Done → faults.new ≡ faults.old }
     ensures status { IsEnd result }
 {
     let request = caller.request(sequence, Ask::Unlock(token));
-    match ask(alloc, reader, writer, &request) {
+    match ask_once(alloc, channel, &request) {
         Ok(reply) => show_removal(alloc, token, &reply.say, output, faults),
         Err(error) => failed(faults, &error),
     }
@@ -143,26 +141,23 @@ fn remove_lock<R: Read, W: Write, O: Write, F: Write>(
 
 /// Removes locks one after another, from the request of number 2 on, and tells each as it is done. The first one
 /// that isn't done ends it.
-fn remove_locks<R: Read, W: Write, O: Write, F: Write>(
+fn remove_locks<E: KnownChannel, O: Write, F: Write>(
     alloc: Global,
     caller: &Caller,
     tokens: &[Token],
-    reader: &mut R,
-    writer: &mut W,
+    channel: &mut E,
     output: &mut O,
     faults: &mut F,
 ) -> Status
     requires few { length tokens.now < 2 ^ 62 }
-    ensures removes { Removes caller.now tokens.now (streams (R.remaining reader.old) (W.contents writer.old) (O.contents output.old))
-        result (streams (R.remaining reader.new) (W.contents writer.new) (O.contents output.new)) }
+    ensures removes { Removes caller.now tokens.now (streams (E.ends channel.old) (O.contents output.old))
+        result (streams (E.ends channel.new) (O.contents output.new)) }
     ensures silent { result ≡ Status.Done → faults.new ≡ faults.old }
     ensures status { IsEnd result }
 {
     let mut sequence = 2;
     for token in tokens {
-        match remove_lock(
-            alloc, caller, sequence, *token, reader, writer, output, faults,
-        ) {
+        match remove_lock(alloc, caller, sequence, *token, channel, output, faults) {
             Status::Done => sequence += 1,
             other => return other,
         }
@@ -190,21 +185,20 @@ fn chosen(alloc: Global, rows: &[LockRow], now: u64, all: bool) -> Result<Vec<To
 
 /// `vault unlock`: removes the stale locks, or all, and tells each as it is done. What a client does afterwards
 /// whose lock was removed is refused.
-pub fn unlock_command<R: Read, W: Write, O: Write, F: Write>(
+pub fn unlock_command<E: KnownChannel, O: Write, F: Write>(
     alloc: Global,
     caller: &Caller,
     all: bool,
-    reader: &mut R,
-    writer: &mut W,
+    channel: &mut E,
     output: &mut O,
     faults: &mut F,
 ) -> Status
-    ensures unlocks { RemovesLocks caller.now all (streams (R.remaining reader.old) (W.contents writer.old) (O.contents output.old))
-        result (streams (R.remaining reader.new) (W.contents writer.new) (O.contents output.new)) }
+    ensures unlocks { RemovesLocks caller.now all (streams (E.ends channel.old) (O.contents output.old))
+        result (streams (E.ends channel.new) (O.contents output.new)) }
     ensures silent { result ≡ Status.Done → faults.new ≡ faults.old }
     ensures status { IsEnd result }
 {
-    let reply = match ask(alloc, reader, writer, &caller.request(1, Ask::Locks)) {
+    let reply = match ask_once(alloc, channel, &caller.request(1, Ask::Locks)) {
         Ok(reply) => reply,
         Err(error) => return failed(faults, &error),
     };
@@ -212,15 +206,7 @@ pub fn unlock_command<R: Read, W: Write, O: Write, F: Write>(
         return unwelcome(&reply.say, faults);
     };
     match chosen(alloc, rows.as_slice(), caller.time, all) {
-        Ok(tokens) => remove_locks(
-            alloc,
-            caller,
-            tokens.as_slice(),
-            reader,
-            writer,
-            output,
-            faults,
-        ),
+        Ok(tokens) => remove_locks(alloc, caller, tokens.as_slice(), channel, output, faults),
         Err(_) => failed(faults, &DriveError::Memory),
     }
 }

@@ -6,7 +6,7 @@ ghost use Rattle.repo_name.specs.declared.names.Instance.{Instance};
 ghost use Rattle.repo_name.specs.Naming.{IsInstance};
 ghost use Rattle.repo_tree.specs.ConfigText.{IsTarget};
 ghost use Rattle.repo_tree.specs.Versions.{greatest_version, IsKnownTo};
-ghost use Rattle.repo_prog.specs.Commands.{created_line, InitGives, IsCutShort, IsEnd, IsMaking};
+ghost use Rattle.repo_prog.specs.Commands.{config_by, created_line, InitGives, IsCutShort, IsEnd, IsMaking};
 ghost use Rattle.repo_prog.specs.declared.status.Status.{Status};
 
 use crate::status::{Status, failed, failed_by};
@@ -80,7 +80,7 @@ pub fn init_command<S: Shelf, W: Write, F: Write>(
 
 /// The config of a store that is made so.
 fn config_of(making: &Making, id: Instance) -> Config
-    ensures { result ≡ record { version = making.now.version; id = id; params = making.now.params; target = making.now.target } }
+    ensures { result ≡ config_by making.now id }
 {
     Config {
         version: making.version,
@@ -88,6 +88,26 @@ fn config_of(making: &Making, id: Instance) -> Config
         params: making.params,
         target: making.target,
     }
+}
+
+/// Keeps the config of a store that is made so, with this instance, as [`init_command`] does.
+fn make_on<S: Shelf, W: Write, F: Write>(
+    alloc: Global,
+    shelf: &mut S,
+    making: &Making,
+    id: Instance,
+    output: &mut W,
+    faults: &mut F,
+) -> Status
+    requires { IsMaking making.now }
+    ensures gives { S.honest shelf.old → InitGives (config_by making.now id) (S.store shelf.old) (W.contents output.old) result (S.store shelf.new) (W.contents output.new) }
+    ensures honest { S.honest shelf.old → S.honest shelf.new }
+    ensures silent { result ≡ Status.Done → faults.new ≡ faults.old }
+    ensures status { IsEnd result }
+    ensures written { result ≡ Status.Done → Appends (W.contents output.old) (W.contents output.new) (created_line id) }
+    ensures cut { result ≡ Status.Failed → IsCutShort (W.contents output.old) (W.contents output.new) (created_line id) }
+{
+    init_command(alloc, shelf, &config_of(making, id), output, faults)
 }
 
 /// `vault init`: makes a store in a folder, which is made where it isn't there. What is in it stays as it is:
@@ -116,9 +136,8 @@ where
     if let Ok(true) = has_config(rt, folder) {
         return failed(faults, &InitError::Exists);
     }
-    let config = config_of(making, id);
     match create_store(rt, folder) {
-        Ok(mut shelf) => init_command(rt.alloc(), &mut shelf, &config, output, faults),
+        Ok(mut shelf) => make_on(rt.alloc(), &mut shelf, making, id, output, faults),
         Err(error) => failed_by(faults, &error, "shelf failed"),
     }
 }

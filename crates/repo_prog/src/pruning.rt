@@ -41,8 +41,8 @@ pub fn prune_command<D: Dial, O: Write, F: Write>(
     output: &mut O,
     faults: &mut F,
 ) -> Status
-    ensures obeyed { PruneObeyed caller.now retry (D.coming dial.old) (D.coming dial.new) }
-    ensures tells { TellsPruned caller.now retry (D.coming dial.old) (D.coming dial.new) result (O.contents output.old) (O.contents output.new) }
+    ensures obeyed { PruneObeyed caller.now retry (D.connections dial.old) (D.connections dial.new) }
+    ensures tells { TellsPruned caller.now retry (D.connections dial.old) (D.connections dial.new) result (O.contents output.old) (O.contents output.new) }
     ensures silent { result ≡ Status.Done → faults.new ≡ faults.old }
 {
     let Ok(who) = caller.who(alloc, HOST) else {

@@ -45,8 +45,8 @@ pub fn snapshots_command<D: Dial, O: Write, F: Write>(
     output: &mut O,
     faults: &mut F,
 ) -> Status
-    ensures obeyed { ListObeyed caller.now retry (D.coming dial.old) (D.coming dial.new) }
-    ensures tells { TellsListed caller.now retry (D.coming dial.old) (D.coming dial.new) result (O.contents output.old) (O.contents output.new) }
+    ensures obeyed { ListObeyed caller.now retry (D.connections dial.old) (D.connections dial.new) }
+    ensures tells { TellsListed caller.now retry (D.connections dial.old) (D.connections dial.new) result (O.contents output.old) (O.contents output.new) }
     ensures silent { result ≡ Status.Done → faults.new ≡ faults.old }
 {
     let Ok(who) = caller.who(alloc, HOST) else {
@@ -91,9 +91,9 @@ fn restored<D: Dial, S: FnMut(&Emission) -> bool>(
     retry: u64,
 ) -> Result<Restore, TryError>
     requires callable { (state : S) (x : _) → S.pre state x }
-    ensures obeyed { RestoreObeyed caller.now name retry (D.coming dial.old) (D.coming dial.new) }
+    ensures obeyed { RestoreObeyed caller.now name retry (D.connections dial.old) (D.connections dial.new) }
     ensures ended { IfOk result (λ restore. (entries : ℕ) → ended_in restore.session ≡ Some (Outcome.Complete entries)
-        → RestoresSnapshot caller.now name entries retry (D.coming dial.old) (D.coming dial.new)) }
+        → RestoresSnapshot caller.now name entries retry (D.connections dial.old) (D.connections dial.new)) }
 {
     let who = caller.who(alloc, HOST)?;
     let mut restore = Restore::new(alloc, who, name);
@@ -113,8 +113,8 @@ pub fn restore_into<D: Dial, S: FnMut(&Emission) -> bool, O: Write, F: Write>(
     faults: &mut F,
 ) -> Status
     requires callable { (state : S) (x : _) → S.pre state x }
-    ensures obeyed { RestoreObeyed caller.now name retry (D.coming dial.old) (D.coming dial.new) }
-    ensures tells { TellsRestored caller.now name retry (D.coming dial.old) (D.coming dial.new) result (O.contents output.old) (O.contents output.new) }
+    ensures obeyed { RestoreObeyed caller.now name retry (D.connections dial.old) (D.connections dial.new) }
+    ensures tells { TellsRestored caller.now name retry (D.connections dial.old) (D.connections dial.new) result (O.contents output.old) (O.contents output.new) }
     ensures silent { result ≡ Status.Done → faults.new ≡ faults.old }
 {
     match restored(alloc, caller, name, sink, dial, retry) {
@@ -149,8 +149,8 @@ pub fn restore_command<T: Files + AllocGlobal + Clone + Drop, D: Dial, O: Write,
     output: &mut O,
     faults: &mut F,
 ) -> Status
-    ensures obeyed { RestoreObeyed caller.now name retry (D.coming dial.old) (D.coming dial.new) }
-    ensures tells { TellsRestored caller.now name retry (D.coming dial.old) (D.coming dial.new) result (O.contents output.old) (O.contents output.new) }
+    ensures obeyed { RestoreObeyed caller.now name retry (D.connections dial.old) (D.connections dial.new) }
+    ensures tells { TellsRestored caller.now name retry (D.connections dial.old) (D.connections dial.new) result (O.contents output.old) (O.contents output.new) }
     ensures silent { result ≡ Status.Done → faults.new ≡ faults.old }
 {
     let mut restorer = match Restorer::new(rt, folder) {

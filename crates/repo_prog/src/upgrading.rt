@@ -40,8 +40,8 @@ pub fn upgrade_command<D: Dial, O: Write, F: Write>(
     output: &mut O,
     faults: &mut F,
 ) -> Status
-    ensures obeyed { UpgradeObeyed caller.now retry (D.coming dial.old) (D.coming dial.new) }
-    ensures tells { TellsUpgraded caller.now retry (D.coming dial.old) (D.coming dial.new) result (O.contents output.old) (O.contents output.new) }
+    ensures obeyed { UpgradeObeyed caller.now retry (D.connections dial.old) (D.connections dial.new) }
+    ensures tells { TellsUpgraded caller.now retry (D.connections dial.old) (D.connections dial.new) result (O.contents output.old) (O.contents output.new) }
     ensures silent { result ≡ Status.Done → faults.new ≡ faults.old }
 {
     let Ok(who) = caller.who(alloc, HOST) else {

@@ -7,17 +7,17 @@ use Rattle.repo_prog.proofs.TellLemmas.{came_done, tells_as}
 use Rattle.repo_prog.proofs.backing.backup_from.Goals as goal
 
 pub returns-in_default-clause-obeyed : goal.returns-in_default-clause-obeyed
-returns-in_default-clause-obeyed g c = backup_none c.args.caller.now c.args.host.now (whole_of (g.S.Source.told c.args.source)) c.args.retry (g.D.Dial.coming c.args.dial.now)
+returns-in_default-clause-obeyed g c = backup_none c.args.caller.now c.args.host.now (whole_of (g.S.Source.told c.args.source)) c.args.retry (g.D.Dial.connections c.args.dial.now)
 
 pub returns-in_default-new-clause-obeyed : goal.returns-in_default-new-clause-obeyed
-returns-in_default-new-clause-obeyed g c = backup_none c.args.caller.now c.args.host.now (whole_of (g.S.Source.told c.args.source)) c.args.retry (g.D.Dial.coming c.args.dial.now)
+returns-in_default-new-clause-obeyed g c = backup_none c.args.caller.now c.args.host.now (whole_of (g.S.Source.told c.args.source)) c.args.retry (g.D.Dial.connections c.args.dial.now)
 
 pub returns-in-Ok-drive_again-clause-obeyed : goal.returns-in-Ok-drive_again-clause-obeyed
 returns-in-Ok-drive_again-clause-obeyed g c =
     let told = g.S.Source.told c.args.source in
     let made = c.in-Ok-new.ensures in
     let job = made.job ∙ ap (λ (w : Asker). fed_job w told) c.in-Ok.ensures in
-    backup_obeyed (λ b. feeder b.backup (g.S.Source.told b.source) b.room (g.S.Source.failed b.source) b.given_up) c.args.caller.now c.args.host.now (whole_of told) c.args.retry c.in-Ok-new.backup c.drive_again.new.client _ (g.D.Dial.coming c.args.dial.now) (g.D.Dial.coming c.drive_again.new.dial)
+    backup_obeyed (λ b. feeder b.backup (g.S.Source.told b.source) b.room (g.S.Source.failed b.source) b.given_up) c.args.caller.now c.args.host.now (whole_of told) c.args.retry c.in-Ok-new.backup c.drive_again.new.client _ (g.D.Dial.connections c.args.dial.now) (g.D.Dial.connections c.drive_again.new.dial)
     (made.fits c.requires.fresh) job c.in-Ok-drive_again.ensures.again
 
 pub returns-in-Ok-drive_again-clause-tells : goal.returns-in-Ok-drive_again-clause-tells
@@ -26,14 +26,14 @@ returns-in-Ok-drive_again-clause-tells g c =
     let made = c.in-Ok-new.ensures in
     let job = made.job ∙ ap (λ (w : Asker). fed_job w told) c.in-Ok.ensures in
     tells_as _ _ _ _ _ (λ s is. stored (λ b. feeder b.backup (g.S.Source.told b.source) b.room (g.S.Source.failed b.source) b.given_up) c.args.caller.now c.args.host.now (whole_of told) c.args.retry c.in-Ok-drive_again.field-0 c.in-Ok-new.backup c.drive_again.new.client
-    (g.D.Dial.coming c.args.dial.now) (g.D.Dial.coming c.drive_again.new.dial) s.0 s.1 s.2 (made.fits c.requires.fresh) job c.in-Ok-drive_again.ensures.again is) _ c.show_ended.ensures.shows
+    (g.D.Dial.connections c.args.dial.now) (g.D.Dial.connections c.drive_again.new.dial) s.0 s.1 s.2 (made.fits c.requires.fresh) job c.in-Ok-drive_again.ensures.again is) _ c.show_ended.ensures.shows
 
 pub returns-clause-obeyed : goal.returns-clause-obeyed
 returns-clause-obeyed g c =
     let told = g.S.Source.told c.args.source in
     let made = c.in-Ok-new.ensures in
     let job = made.job ∙ ap (λ (w : Asker). fed_job w told) c.in-Ok.ensures in
-    backup_obeyed (λ b. feeder b.backup (g.S.Source.told b.source) b.room (g.S.Source.failed b.source) b.given_up) c.args.caller.now c.args.host.now (whole_of told) c.args.retry c.in-Ok-new.backup c.drive_again.new.client _ (g.D.Dial.coming c.args.dial.now) (g.D.Dial.coming c.drive_again.new.dial)
+    backup_obeyed (λ b. feeder b.backup (g.S.Source.told b.source) b.room (g.S.Source.failed b.source) b.given_up) c.args.caller.now c.args.host.now (whole_of told) c.args.retry c.in-Ok-new.backup c.drive_again.new.client _ (g.D.Dial.connections c.args.dial.now) (g.D.Dial.connections c.drive_again.new.dial)
     (made.fits c.requires.fresh) job c.in-Err.ensures.again
 
 pub returns-in-Ok-drive_again-clause-whole : goal.returns-in-Ok-drive_again-clause-whole

@@ -4,18 +4,18 @@ use Rattle.repo_prog.proofs.TellLemmas.{nothing_told, tells_as}
 use Rattle.repo_prog.proofs.foreseeing.foresee_command.Goals as goal
 
 pub returns-then-is_no_policy-clause-obeyed : goal.returns-then-is_no_policy-clause-obeyed
-returns-then-is_no_policy-clause-obeyed g c = list_none c.args.caller.now c.args.retry (g.D.Dial.coming c.args.dial.now)
+returns-then-is_no_policy-clause-obeyed g c = list_none c.args.caller.now c.args.retry (g.D.Dial.connections c.args.dial.now)
 
 pub returns-in_default-clause-obeyed : goal.returns-in_default-clause-obeyed
-returns-in_default-clause-obeyed g c = list_none c.args.caller.now c.args.retry (g.D.Dial.coming c.args.dial.now)
+returns-in_default-clause-obeyed g c = list_none c.args.caller.now c.args.retry (g.D.Dial.connections c.args.dial.now)
 
 pub returns-in-Ok-drive_again-clause-obeyed : goal.returns-in-Ok-drive_again-clause-obeyed
 returns-in-Ok-drive_again-clause-obeyed g c =
-    list_obeyed c.args.caller.now c.args.retry c.new-list.result c.drive_again.new.client _ (g.D.Dial.coming c.args.dial.now) (g.D.Dial.coming c.drive_again.new.dial) c.new-list.ensures.fits (c.new-list.ensures.who ∙ c.in-Ok.ensures) c.in-Ok-drive_again.ensures.again
+    list_obeyed c.args.caller.now c.args.retry c.new-list.result c.drive_again.new.client _ (g.D.Dial.connections c.args.dial.now) (g.D.Dial.connections c.drive_again.new.dial) c.new-list.ensures.fits (c.new-list.ensures.who ∙ c.in-Ok.ensures) c.in-Ok-drive_again.ensures.again
 
 pub returns-clause-obeyed : goal.returns-clause-obeyed
 returns-clause-obeyed g c =
-    list_obeyed c.args.caller.now c.args.retry c.new-list.result c.drive_again.new.client _ (g.D.Dial.coming c.args.dial.now) (g.D.Dial.coming c.drive_again.new.dial) c.new-list.ensures.fits (c.new-list.ensures.who ∙ c.in-Ok.ensures) c.in-Err.ensures.again
+    list_obeyed c.args.caller.now c.args.retry c.new-list.result c.drive_again.new.client _ (g.D.Dial.connections c.args.dial.now) (g.D.Dial.connections c.drive_again.new.dial) c.new-list.ensures.fits (c.new-list.ensures.who ∙ c.in-Ok.ensures) c.in-Err.ensures.again
 
 pub returns-then-is_no_policy-clause-tells : goal.returns-then-is_no_policy-clause-tells
 returns-then-is_no_policy-clause-tells g c = nothing_told _ _ _ _ _ c.failed.ensures refl
@@ -27,7 +27,7 @@ pub returns-in-Ok-drive_again-clause-tells : goal.returns-in-Ok-drive_again-clau
 returns-in-Ok-drive_again-clause-tells g c =
     tells_as _ _ _ _ _ (λ names is. (
       is.0,
-      listed c.args.caller.now c.args.retry c.in-Ok-drive_again.field-0 c.new-list.result c.drive_again.new.client (g.D.Dial.coming c.args.dial.now) (g.D.Dial.coming c.drive_again.new.dial) is.0
+      listed c.args.caller.now c.args.retry c.in-Ok-drive_again.field-0 c.new-list.result c.drive_again.new.client (g.D.Dial.connections c.args.dial.now) (g.D.Dial.connections c.drive_again.new.dial) is.0
           c.new-list.ensures.fits (c.new-list.ensures.who ∙ c.in-Ok.ensures) c.in-Ok-drive_again.ensures.again (sym c.outcome.ensures ∙ is.1),
       is.2,
     )) _ c.show_foreseen.ensures.shows

@@ -4,7 +4,7 @@ use Rattle.repo_prog.proofs.listening.serve_connections.Goals as goal
 
 pub loop-turn-init : goal.loop-turn-init
 loop-turn-init g c = record {
-  served = λ honest. none_served _ _ _ _ _;
+  served = λ honest. none_served _ _ _ _ _ _ _ _;
   kept = λ honest. kept_still (g.S.Shelf.store c.args.shelf.now);
   honest = λ honest. honest;
   silent = λ done. refl;
@@ -13,11 +13,10 @@ loop-turn-init g c = record {
 
 pub loop-turn-preserved : goal.loop-turn-preserved
 loop-turn-preserved g c = record {
-  served = λ honest. more_served _ _ (λ writer. Unit) _ _ _ _ _ _ _ _ _ _
-      (λ done. (c.status_after-status.ensures.silent done).0) (λ error done. absurd (cc (c.status_after-status.ensures.failed error, done)))
+  served = λ honest. more_served _ _ _ _ _ _ _ _ _ _ _ _ _ _ _ _ _ _ c.status_after-status.ensures.done
       (c.loop-turn.invariant.served honest) (c.serve_next-served.ensures.served (c.loop-turn.invariant.honest honest));
   kept = λ honest. kept_on (g.S.Shelf.store c.args.shelf.now) (g.S.Shelf.store c.loop-turn.shelf) (g.S.Shelf.store c.serve_next-served.new.shelf) (c.loop-turn.invariant.kept honest) (c.serve_next-served.ensures.kept (c.loop-turn.invariant.honest honest));
   honest = λ honest. c.serve_next-served.ensures.honest (c.loop-turn.invariant.honest honest);
-  silent = λ done. let s = c.status_after-status.ensures.silent done in s.1 ∙ c.loop-turn.invariant.silent s.0;
+  silent = λ done. c.status_after-status.ensures.silent done ∙ c.loop-turn.invariant.silent (c.status_after-status.ensures.done.0 done).0;
   status = c.status_after-status.ensures.status c.loop-turn.invariant.status;
 }

@@ -5,7 +5,7 @@ use Rattle.repo_prog.proofs.locking.remove_locks.Given as goal
 abbrev pub invariant-loop-token : goal.invariant-loop-token
 invariant-loop-token g l = record {
   sequence : l.sequence ≡ l.token-index + 2;
-  removed : AreRemoved l.caller 2 (take l.token-index l.tokens) (streams (g.R.Read.remaining l.fn.reader) (g.W.Write.contents l.fn.writer) (g.O.Write.contents l.fn.output))
-      (streams (g.R.Read.remaining l.reader) (g.W.Write.contents l.writer) (g.O.Write.contents l.output));
+  removed : AreRemoved l.caller 2 (take l.token-index l.tokens) (streams (g.E.KnownChannel.ends l.fn.channel) (g.O.Write.contents l.fn.output))
+      (streams (g.E.KnownChannel.ends l.channel) (g.O.Write.contents l.output));
   silent : l.faults ≡ l.fn.faults;
 }

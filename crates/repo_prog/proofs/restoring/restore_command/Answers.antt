@@ -4,7 +4,7 @@ use Rattle.repo_prog.proofs.TellLemmas.{nothing_told, tells_as}
 use Rattle.repo_prog.proofs.restoring.restore_command.Goals as goal
 
 pub returns-in-Err-clause-obeyed : goal.returns-in-Err-clause-obeyed
-returns-in-Err-clause-obeyed g c = restore_none c.args.caller.now c.args.name c.args.retry (g.D.Dial.coming c.args.dial.now)
+returns-in-Err-clause-obeyed g c = restore_none c.args.caller.now c.args.name c.args.retry (g.D.Dial.connections c.args.dial.now)
 
 pub returns-in-Err-clause-tells : goal.returns-in-Err-clause-tells
 returns-in-Err-clause-tells g c = nothing_told _ _ _ _ _ c.not_begun.ensures refl
