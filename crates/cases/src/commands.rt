@@ -10,7 +10,9 @@ use crate::streams::{Inlet, Outlet, Pace};
 use crate::told::Told;
 use repo_files::Skipped;
 use repo_name::{Instance, Name, Names, Text, Token};
-use repo_prog::{Caller, Errand, LockErrand, Once, Status, backup_from, do_errand, restore_into};
+use repo_prog::{
+    Caller, Errand, LockErrand, Once, Pair, Status, backup_from, do_errand, restore_into,
+};
 use repo_prune::{Choice, Policy};
 use repo_session::Emission;
 use repo_tree::Entry;
@@ -141,7 +143,10 @@ impl Talk<'_> {
     fn errand(&mut self, errand: Errand) -> Status
         requires { IsErrand errand }
     {
-        let mut dial = Once::new(&mut self.reader, &mut self.sent);
+        let mut dial = Once::new(Pair {
+            reader: &mut self.reader,
+            writer: &mut self.sent,
+        });
         let (o, f) = (&mut self.output, &mut self.faults);
         do_errand(self.rt, &self.caller, errand, &mut dial, 0, o, f)
     }
@@ -150,7 +155,10 @@ impl Talk<'_> {
         if !is_host(host) || !found.is_sound() {
             return Err(ScriptError::Line);
         }
-        let mut dial = Once::new(&mut self.reader, &mut self.sent);
+        let mut dial = Once::new(Pair {
+            reader: &mut self.reader,
+            writer: &mut self.sent,
+        });
         let (o, f) = (&mut self.output, &mut self.faults);
         Ok(backup_from(
             self.rt.alloc(),
@@ -165,7 +173,10 @@ impl Talk<'_> {
     }
 
     fn restore(&mut self, name: Name) -> Status {
-        let mut dial = Once::new(&mut self.reader, &mut self.sent);
+        let mut dial = Once::new(Pair {
+            reader: &mut self.reader,
+            writer: &mut self.sent,
+        });
         let (o, f) = (&mut self.output, &mut self.faults);
         let sink = &mut self.sink;
         let takes = |emission: &Emission| sink.take(emission);

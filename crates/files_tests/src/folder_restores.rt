@@ -3,7 +3,7 @@
 use crate::replies::{FILE_TREE, one_file, snapshot};
 use crate::runs::{CALLER, Run};
 use repo_name::name_of;
-use repo_prog::{Once, restore_command};
+use repo_prog::{Once, Pair, restore_command};
 use std::alloc::{AllocError, AllocGlobal};
 use std::fs::Files;
 use std::io::Read;
@@ -17,7 +17,10 @@ pub(crate) fn restored<T: Files + AllocGlobal + Clone + Drop, R: Read>(
 ) -> Result<Run, AllocError> {
     let name = name_of(snapshot(rt.alloc(), tree)?.as_bytes());
     let mut run = Run::new(rt.alloc());
-    let mut dial = Once::new(replies, &mut run.sent);
+    let mut dial = Once::new(Pair {
+        reader: replies,
+        writer: &mut run.sent,
+    });
     let (o, f) = (&mut run.output, &mut run.faults);
     run.status = restore_command(rt, &CALLER, name, folder, &mut dial, 0, o, f);
     Ok(run)

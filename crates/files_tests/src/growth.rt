@@ -7,7 +7,7 @@ use repo_feeding::{Found, Source};
 use repo_files::{Skipped, WalkError};
 use repo_name::{Token, name_of};
 use repo_prog::{
-    FramesError, LeavesOut, Once, backup_from, frames as answer_frames, locks_command,
+    FramesError, LeavesOut, Once, Pair, backup_from, frames as answer_frames, locks_command,
     refresh_command, restore_into,
 };
 use repo_session::Emission;
@@ -53,12 +53,15 @@ fn listed(alloc: Global) -> Result<String, AllocError> {
     let Ok(reply) = hex::decode(alloc, LISTED) else {
         return Err(AllocError);
     };
-    let mut reader = Slow {
-        left: reply.as_slice(),
-    };
     let mut run = Run::new(alloc);
-    let (w, o, f) = (&mut run.sent, &mut run.output, &mut run.faults);
-    run.status = locks_command(alloc, &CALLER, &mut reader, w, o, f);
+    let mut pair = Pair {
+        reader: Slow {
+            left: reply.as_slice(),
+        },
+        writer: Vec::new(alloc),
+    };
+    let (o, f) = (&mut run.output, &mut run.faults);
+    run.status = locks_command(alloc, &CALLER, &mut pair, o, f);
     run.told(alloc)
 }
 
@@ -67,12 +70,15 @@ fn refreshed(alloc: Global) -> Result<String, AllocError> {
     let mut replies = Replies::new(alloc);
     replies.says(Say::Done);
     let replies = replies.frames()?;
-    let mut reader = Slow {
-        left: replies.as_slice(),
-    };
     let mut run = Run::new(alloc);
-    let (w, o, f) = (&mut run.sent, &mut run.output, &mut run.faults);
-    run.status = refresh_command(alloc, &CALLER, Token(7), &mut reader, w, o, f);
+    let mut pair = Pair {
+        reader: Slow {
+            left: replies.as_slice(),
+        },
+        writer: Vec::new(alloc),
+    };
+    let (o, f) = (&mut run.output, &mut run.faults);
+    run.status = refresh_command(alloc, &CALLER, Token(7), &mut pair, o, f);
     run.told(alloc)
 }
 
@@ -107,11 +113,13 @@ impl LeavesOut for Nothing {
 /// What a backup of nothing tells.
 fn backed_up(alloc: Global) -> Result<String, AllocError> {
     let replies = granted(alloc, 4)?;
-    let mut reader = Slow {
-        left: replies.as_slice(),
-    };
     let mut run = Run::new(alloc);
-    let mut dial = Once::new(&mut reader, &mut run.sent);
+    let mut dial = Once::new(Pair {
+        reader: Slow {
+            left: replies.as_slice(),
+        },
+        writer: &mut run.sent,
+    });
     let (o, f) = (&mut run.output, &mut run.faults);
     run.status = backup_from(alloc, &CALLER, "a", Nothing, &mut dial, 0, o, f);
     run.told(alloc)
@@ -129,7 +137,10 @@ fn given_out(alloc: Global) -> Result<String, AllocError> {
     let replies = one_file(alloc)?;
     let name = name_of(snapshot(alloc, FILE_TREE)?.as_bytes());
     let mut run = Run::new(alloc);
-    let mut dial = Once::new(replies.as_slice(), &mut run.sent);
+    let mut dial = Once::new(Pair {
+        reader: replies.as_slice(),
+        writer: &mut run.sent,
+    });
     let (o, f) = (&mut run.output, &mut run.faults);
     let takes = |_: &Emission| true;
     run.status = restore_into(alloc, &CALLER, name, takes, &mut dial, 0, o, f);

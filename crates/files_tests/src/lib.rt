@@ -1,6 +1,7 @@
 //! Tests of what has to fail in the middle: shelves in folders whose machine stops, is killed, or fails in a call, walks and
-//! restores that meet the same, jobs whose connections end or lead to another store, and commands whose growth is refused.
-//! What the program does over real folders and sockets otherwise is tried on the program itself (`trials/`).
+//! restores that meet the same, jobs whose connections end or lead to another store, and commands whose growth is refused;
+//! and of the turns that commands take. What the program does over real folders and sockets otherwise is tried on the
+//! program itself (`trials/`).
 //!
 //! They stand in a crate of their own since the proof of a crate with tests is made twice, with them and without.
 #![tactic(auto)]
@@ -37,6 +38,8 @@ mod serving;
 mod shelves;
 #[cfg(test)]
 mod texts;
+#[cfg(test)]
+mod turns;
 #[cfg(test)]
 mod undoing;
 #[cfg(test)]

@@ -3,7 +3,7 @@
 use crate::growth::Slow;
 use crate::runs::{CALLER, Run};
 use repo_name::{Bytes, Names, Token};
-use repo_prog::{Dial, snapshots_command};
+use repo_prog::{Dial, Pair, snapshots_command};
 use repo_wire::{Code, Reply, Say, write_reply};
 use std::alloc::{AllocError, Global};
 use std::cell::RefCell;
@@ -42,20 +42,23 @@ struct Script<'a> {
 }
 
 impl<'a> Dial for Script<'a> {
-    ghost use Rattle.std.specs.Prelude.{None};
+    ghost use Rattle.repo_dial.specs.Dialing.{unknown};
 
-    type Reader = Slow<'a>;
+    type Ends = Pair<Slow<'a>, Sent<'a>>;
 
-    type Writer = Sent<'a>;
+    ghost connections = { λ _. unknown };
 
-    ghost coming = { λ _. None };
-
-    fn dial(&mut self) -> Option<(Slow<'a>, Sent<'a>)> {
+    fn dial(&mut self) -> Option<Pair<Slow<'a>, Sent<'a>>> {
         let (brings, at) = (self.brings, self.dialed);
         let bytes = brings.get(at).copied()?;
         self.dialed = at.saturating_add(1);
-        Some((Slow { left: bytes }, Sent { bytes: self.sent }))
+        Some(Pair {
+            reader: Slow { left: bytes },
+            writer: Sent { bytes: self.sent },
+        })
     }
+
+    fn hang_up(&mut self, _connection: Pair<Slow<'a>, Sent<'a>>) {}
 }
 
 /// What a list of the snapshots told over such connections, how many of them it asked for, and what it sent, in hexadecimal.

@@ -27,3 +27,5 @@ mod pages;
 mod remembered_growth;
 #[cfg(test)]
 mod remembering;
+#[cfg(test)]
+mod tapes;
