@@ -2,7 +2,7 @@
 # processor or for the sort that PROCESSOR has, goes to its folder, and gives them `least` and `kernel`. To be sourced.
 . "$(dirname "${BASH_SOURCE[0]}")/least.sh"
 cd "$(dirname "${BASH_SOURCE[0]}")/../crates/cases"
-rt run --cpu "${PROCESSOR:-$(../../scripts/processor.sh)}" </dev/null >/dev/null 2>&1
+../../scripts/rt run --cpu "${PROCESSOR:-$(../../scripts/processor.sh)}" </dev/null >/dev/null 2>&1
 
 # Runs the kernel of a word at a size, and prints its line.
 kernel() {

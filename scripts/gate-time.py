@@ -79,8 +79,7 @@ def main():
     rt.in_lanes = lambda tasks: lanes({key: (*task[:3], noting(part_of(key), task[3])) for key, task in tasks.items()})
     subprocess.Popen._try_wait = counted
     ThreadPoolExecutor.submit = inheriting(ThreadPoolExecutor.submit)
-    names = [word for word in sys.argv[1:] if word != "--anew"]
-    status = rt.ci("--anew" in sys.argv[1:], names)
+    status = rt.main(["ci", *sys.argv[1:]])
     shown()
     return status
 

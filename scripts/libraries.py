@@ -101,8 +101,8 @@ class Job:
             yard.takes(lower, "rlib")
         yard.takes(name, "rlib", "incremental")
         self.begun, self.said = time.monotonic(), tempfile.TemporaryFile()
-        self.process = subprocess.Popen(["rt", "lib", "--jobs", "1"], cwd=yard.top / "crates" / name, stdin=subprocess.DEVNULL,
-                                        stdout=self.said, stderr=subprocess.STDOUT, start_new_session=True)
+        self.process = subprocess.Popen([ROOT / "scripts/rt", "lib", "--jobs", "1"], cwd=yard.top / "crates" / name,
+                                        stdin=subprocess.DEVNULL, stdout=self.said, stderr=subprocess.STDOUT, start_new_session=True)
 
     def seconds(self):
         return round(time.monotonic() - self.begun)

@@ -85,7 +85,7 @@ class Copy:
     def check(self):
         """The exit status and the lines of a check."""
         how = {"cwd": self.folder, "stdin": subprocess.DEVNULL, "stdout": subprocess.PIPE, "stderr": subprocess.STDOUT, "text": True, "errors": "replace"}
-        ran = subprocess.run(["rt", "check", "--jobs", "2"], **how)
+        ran = subprocess.run([f"{ROOT}/scripts/rt", "check", "--jobs", "2"], **how)
         return ran.returncode, ran.stdout.rstrip("\n").split("\n")
 
 

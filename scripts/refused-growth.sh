@@ -11,7 +11,7 @@ most=${2:-20000}
 cd "$(dirname "$0")/../crates/$1"
 work=$(mktemp -d)
 trap 'rm -rf "$work"' EXIT
-rt test >"$work/tests" 2>&1 || { tail -n 5 "$work/tests" >&2; exit 1; }
+../../scripts/rt test >"$work/tests" 2>&1 || { tail -n 5 "$work/tests" >&2; exit 1; }
 
 gcc -shared -fPIC -O1 -o "$work/refuse.so" ../../scripts/refuse.c
 

@@ -12,5 +12,5 @@ processor=${1:-$("$here/processor.sh")}
 told=$(mktemp)
 trap 'rm -f "$told"' EXIT
 echo "proving and building vault itself: five minutes, the first time" >&2
-(cd "$crate" && rt run --cpu "$processor" -- --version) >"$told" 2>&1 || { cat "$told" >&2; exit 1; }
+(cd "$crate" && "$here/rt" run --cpu "$processor" -- --version) >"$told" 2>&1 || { cat "$told" >&2; exit 1; }
 echo "$crate/out/vault"
