@@ -58,7 +58,8 @@ Architecture: amd64
 Maintainer: $maker
 Installed-Size: $(du -sk "$root/usr" | cut -f1)
 Depends: libc6, passwd
-Suggests: openssh-client, nftables, man-db
+Recommends: nftables, openssh-client
+Suggests: openssh-server, python3, man-db
 Conflicts: vault
 Section: admin
 Priority: optional
@@ -89,6 +90,7 @@ if [ "$1" = configure ]; then
         # a server may be killed at any time; clients that were told --retry go on
         deb-systemd-invoke try-restart jibrekt-serve.service || true
     fi
+    echo "jibrekt: /usr/share/doc/jibrekt/MANUAL.md tells how to begin, under 'A daily job'"
 fi
 TEXT
 cat >"$root/DEBIAN/prerm" <<'TEXT'
@@ -97,6 +99,10 @@ set -e
 if [ "$1" = remove ] && systemctl daemon-reload 2>/dev/null; then
     deb-systemd-invoke stop jibrekt-backup.timer jibrekt-prune.timer jibrekt-check.timer jibrekt-serve.service \
         jibrekt-tunnel.service jibrekt-guard.service || true
+fi
+if [ "$1" = remove ]; then
+    systemctl --no-reload disable jibrekt-backup.timer jibrekt-prune.timer jibrekt-check.timer jibrekt-serve.service \
+        jibrekt-tunnel.service jibrekt-guard.service >/dev/null 2>&1 || true
 fi
 TEXT
 cat >"$root/DEBIAN/postrm" <<'TEXT'

@@ -164,7 +164,7 @@ def statuses(text):
 
 
 def meaning(word):
-    return word.text + "." * bool(word.text) + (f" Without it {word.default}." if word.default not in ("", "0") else "")
+    return word.text + "." * bool(word.text) + (f" Without it {word.default}." if word.default != "" else "")
 
 
 def page(name, about, *sections, number=1):
@@ -175,6 +175,15 @@ def page(name, about, *sections, number=1):
     return "\n".join(lines) + "\n"
 
 
+# Where the manual is.
+MANUALS = "docs/MANUAL.md of the sources (/usr/share/doc/jibrekt/MANUAL.md of the package)"
+
+# What somebody has to know who has a page alone.
+KEPT = "Names and bytes of files and folders are kept: no owners, no modes, no times, no links."
+OPEN = "There are no passwords, and nothing is encrypted: who reaches the port can read and delete all."
+NOTES = {"backup": KEPT, "restore": KEPT, "serve": OPEN}
+
+
 def command_page(name, about, text, words):
     parts = re.split(r"(?:^|\n\n)(Example|Exit status):\n", text)
     parts = {"Text": parts[0], **dict(zip(parts[1::2], parts[2::2]))}
@@ -183,7 +192,8 @@ def command_page(name, about, text, words):
     return page(f"vault-{name}", about, ("SYNOPSIS", [synopsis]), ("DESCRIPTION", [prose(about + "."), *block("\n" * bool(parts["Text"]) + parts["Text"])]),
                 ("ARGUMENTS", given), ("EXAMPLES", block(parts["Example"])), ("EXIT STATUS", statuses(parts["Exit status"])),
                 ("FILES", [part for at, text in FILES.items() for part in item(bold(at), text)] if name in ("init", "serve") else []),
-                ("SEE ALSO", [f"{bold('vault')}(1), {bold('vault-texts')}(7), and docs/MANUAL.md of the sources."]))
+                ("NOTES", [prose(NOTES[name])] if name in NOTES else []),
+                ("SEE ALSO", [f"{bold('vault')}(1), {bold('vault-texts')}(7), and {MANUALS}."]))
 
 
 def table(head):
@@ -207,7 +217,7 @@ def texts_page():
     said = [prose("The texts that go to standard error, with the commands that tell them, and their exit statuses. `client` is each command "
                   "that goes to a server, `job` each of these but `locks`, `refresh` and `unlock`.")]
     return page("vault-texts", about, ("DESCRIPTION", said), ("TEXTS", told), ("REASONS OF A REFUSAL", codes),
-                ("SEE ALSO", [bold("vault") + "(1), and docs/MANUAL.md of the sources."]), number=7)
+                ("SEE ALSO", [bold("vault") + f"(1), and {MANUALS}."]), number=7)
 
 
 def program_page(about, commands):
@@ -215,8 +225,8 @@ def program_page(about, commands):
     synopsis = [bold("vault") + " " + italic("COMMAND") + " ..", ".br", bold("vault") + " " + italic("COMMAND") + " " + bold("--help"),
                 ".br", bold("vault --version")]
     said = [prose(about + ". Results go to standard output, one line each, and what went wrong to standard error.")]
-    return page("vault", about, ("SYNOPSIS", synopsis), ("DESCRIPTION", said), ("COMMANDS", listed),
-                ("SEE ALSO", [bold("vault-texts") + "(7), and docs/MANUAL.md of the sources, which goes by tasks."]))
+    return page("vault", about, ("SYNOPSIS", synopsis), ("DESCRIPTION", said), ("COMMANDS", listed), ("NOTES", [prose(f"{KEPT} {OPEN}")]),
+                ("SEE ALSO", [bold("vault-texts") + f"(7), and {MANUALS}, which goes by tasks."]))
 
 
 def version():
