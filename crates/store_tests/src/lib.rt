@@ -22,10 +22,10 @@ mod guests;
 #[cfg(test)]
 mod limits;
 #[cfg(test)]
+mod noting;
+#[cfg(test)]
 mod pages;
 #[cfg(test)]
 mod remembered_growth;
 #[cfg(test)]
 mod remembering;
-#[cfg(test)]
-mod tapes;

@@ -13,16 +13,16 @@ enum Note {
 
 /// A channel that brings two pieces, one at a time, and notes what is heard and said.
 #[derive(Drop)]
-struct Tape<'a> {
+struct Noting<'a> {
     left: &'a [u8],
     then: &'a [u8],
     notes: Vec<Note>,
     said: Vec<u8>,
 }
 
-impl Channel for Tape<'_> {
+impl Channel for Noting<'_> {
     ghost use Rattle.std.specs.Prelude.{◌≡◌, ◌⊎◌, ◌++◌, ◌∷◌, [], ⊤, length};
-    ghost use Rattle.store_tests.specs.declared.tapes.Note.{Note};
+    ghost use Rattle.store_tests.specs.declared.noting.Note.{Note};
 
     ghost hears = { λ a bytes b. (b.notes.items ≡ a.notes.items ++ Note.Heard (length bytes) ∷ []) ⊎ ((bytes ≡ []) × (b.notes.items ≡ a.notes.items)) };
 
@@ -61,21 +61,21 @@ impl Channel for Tape<'_> {
 /// where it was anything else.
 fn went<'a>(alloc: Global, left: &'a [u8], then: &'a [u8]) -> Vec<Note> {
     let mut shelf = MemShelf::new(alloc);
-    let mut tape = Tape {
+    let mut noting = Noting {
         left,
         then,
         notes: Vec::new(alloc),
         said: Vec::new(alloc),
     };
-    let served = serve_over(alloc, &mut tape, &mut shelf);
-    let (first, second) = tape.said.as_slice().split_at(tape.said.len().min(37));
+    let served = serve_over(alloc, &mut noting, &mut shelf);
+    let (first, second) = noting.said.as_slice().split_at(noting.said.len().min(37));
     if served != Ok::<u64, ServeError>(2)
         || first != token(1).as_slice()
         || second != token(2).as_slice()
     {
-        tape.notes.clear();
+        noting.notes.clear();
     }
-    tape.notes
+    noting.notes
 }
 
 #[test]
