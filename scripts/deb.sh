@@ -96,13 +96,13 @@ TEXT
 cat >"$root/DEBIAN/prerm" <<'TEXT'
 #!/bin/sh
 set -e
-if [ "$1" = remove ] && systemctl daemon-reload 2>/dev/null; then
-    deb-systemd-invoke stop jibrekt-backup.timer jibrekt-prune.timer jibrekt-check.timer jibrekt-serve.service \
-        jibrekt-tunnel.service jibrekt-guard.service || true
-fi
+units="jibrekt-backup.timer jibrekt-prune.timer jibrekt-check.timer jibrekt-serve.service jibrekt-tunnel.service jibrekt-guard.service"
 if [ "$1" = remove ]; then
-    systemctl --no-reload disable jibrekt-backup.timer jibrekt-prune.timer jibrekt-check.timer jibrekt-serve.service \
-        jibrekt-tunnel.service jibrekt-guard.service >/dev/null 2>&1 || true
+    if systemctl daemon-reload 2>/dev/null; then
+        deb-systemd-invoke stop $units || true
+    fi
+    # as well where no systemd runs: their links would lead nowhere
+    systemctl --no-reload disable $units >/dev/null 2>&1 || true
 fi
 TEXT
 cat >"$root/DEBIAN/postrm" <<'TEXT'
