@@ -68,6 +68,7 @@ def lists(talk, count):
             more, after = page[0] == 1, page[-32:]
 
 
-talk = Talk(int(sys.argv[1]))
-{"locks": locks, "puts": puts, "lists": lists}[sys.argv[2]](talk, int(sys.argv[3]))
-print(talk.count)
+if __name__ == "__main__":
+    talk = Talk(int(sys.argv[1]))
+    {"locks": locks, "puts": puts, "lists": lists}[sys.argv[2]](talk, int(sys.argv[3]))
+    print(talk.count)
