@@ -9,6 +9,7 @@ use Rattle.repo_wire.specs.declared.messages.Say.{Say}
 use Rattle.repo_store.specs.Laws.{greatest_count}
 use Rattle.repo_store.specs.Serving.{HaveCause}
 use Rattle.repo_store.specs.Stores.{Store}
+use Rattle.repo_store.proofs.ServiceLemmas.{causes_rise}
 use Rattle.repo_session.specs.Alone.{RanBy, ToldNoFault}
 use Rattle.repo_session.specs.Clients.{exchange}
 use Rattle.repo_session.specs.Feeds.{Fed, fed_bytes}
@@ -97,7 +98,7 @@ extends_fed item es = ([], item ∷ [], refl)
 -- after the turns no fault was told, where the count stayed
 turns_calm : (talk : Talk) (es : Trace) (failed count failing : ℕ) → HaveCause failed (taken_in talk) count → count ≤ failing → failing ≡ failed → failed < greatest_count → ToldNoFault es → ToldNoFault (trace_of talk ++ es)
 turns_calm talk es failed count failing cause within same low calm =
-    let rose = cause.0 in
+    let rose = causes_rise failed count (taken_in talk) cause in
     let stayed : count ≡ failed = omega (arith, rose, within, same) in
     each_on (λ (e : Exchange). e.say ≢ Say.Refused Code.Fault) (trace_of talk) es (calm_by talk (calm_of failed talk low (subst (λ n. HaveCause failed (taken_in talk) n) stayed cause))) calm
 
@@ -112,7 +113,7 @@ steps_go instance old (Ok n) new talk from failed to failing out kept h start es
   ran = goes_by start es from talk to ran (led from talk to h.3.run);
   ahead = may_stay to (next_in new.session);
   gives = (talk_fed talk es, omega (arith, talk_more talk es, h.1));
-  counted = h.3.cause.0;
+  counted = causes_rise failed failing (taken_in talk) h.3.cause;
   calm = λ same low calm. turns_calm talk es failed failing failing h.3.cause (omega arith) same low calm;
 }
 steps_go instance old (Err StepError.Limit) new talk from failed to failing out kept h start es fits ran = record {
@@ -123,7 +124,7 @@ steps_go instance old (Err StepError.Limit) new talk from failed to failing out 
   ran = goes_by start es from talk to ran (led from talk to h.3.run);
   ahead = may_stay to (next_in new.session);
   gives = (talk_fed talk es, omega (arith, talk_more talk es, h.1));
-  counted = h.3.cause.0;
+  counted = causes_rise failed failing (taken_in talk) h.3.cause;
   calm = λ same low calm. turns_calm talk es failed failing failing h.3.cause (omega arith) same low calm;
 }
 steps_go instance old (Err StepError.Memory) new talk from failed to failing out kept h start es fits ran =
@@ -131,7 +132,7 @@ steps_go instance old (Err StepError.Memory) new talk from failed to failing out
     let count = h.1.1 in
     let run = h.1.2 in
     let within = h.1.3 in
-    let rose = run.cause.0 in
+    let rose = causes_rise failed count (taken_in talk) run.cause in
     record {
       now = trace_of talk ++ es;
       fits = h.0.fits es fits;

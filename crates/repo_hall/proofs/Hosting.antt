@@ -8,9 +8,8 @@ use Rattle.repo_wire.specs.Messages.{requests}
 use Rattle.repo_wire.specs.Reading.{Reading, Follows, fed}
 use Rattle.repo_wire.proofs.Streams.{readers_follow}
 use Rattle.repo_store.specs.declared.forms.ServiceError.{ServiceError}
-use Rattle.repo_store.specs.Laws.{greatest_count}
 use Rattle.repo_store.specs.Runs.{StoreRun}
-use Rattle.repo_store.specs.Serving.{HaveCause, Ran, TellsFault}
+use Rattle.repo_store.specs.Serving.{HaveCause, Ran}
 use Rattle.repo_store.specs.Stores.{Store}
 use Rattle.repo_store.proofs.RunLemmas.{run_on}
 use Rattle.repo_store.proofs.ServiceLemmas.{causes_on}
@@ -65,7 +64,7 @@ set_same (x ∷ xs) zero d h = let e : x ≡ d = cc h in ap (λ y. y ∷ xs) (sy
 set_same (x ∷ xs) (suc k) d h = ap (λ ys. x ∷ ys) (set_same xs k d h)
 
 no_cause : (n : ℕ) → HaveCause n [] n
-no_cause n = (omega (arith), λ tells. absurd tells)
+no_cause n = refl
 
 pub begins : (from : Store) (failed : ℕ) → Stands from failed [] 0 [] from failed
 begins from failed = record {
@@ -124,10 +123,7 @@ hall_answers guests entered place (Err ServiceError.Limit) old new mid k to l at
 
 -- whatever stood before, it is a run
 answered_ran : (old new : Guest) (request : Request) (reply : Reply) (from : Store) (failed : ℕ) (to : Store) (failing : ℕ) → GuestAnswered old new request reply from failed to failing → Ran from failed to failing
-answered_ran old new request reply from failed to failing a = (request ∷ [], reply ∷ [], (to, a.step, refl), (a.cause.0, cause)) where
-  cause : TellsFault (reply ∷ []) → (failed < failing) ⊎ (failing ≡ greatest_count)
-  cause (inl says) = a.cause.1 says
-  cause (inr none) = absurd none
+answered_ran old new request reply from failed to failing a = (request ∷ [], reply ∷ [], (to, a.step, refl), (failing, a.cause, refl))
 
 rests_ran : (old new : Guest) (from : Store) (failed : ℕ) (to : Store) (failing : ℕ) → GuestRests old new from failed to failing → Ran from failed to failing
 rests_ran old new from failed to failing r =

@@ -27,7 +27,7 @@ kept_on a b c first then only =
 
 -- nothing that is asked leads nowhere else
 ran_still : (store : Store) (failures : ℕ) → Ran store failures store failures
-ran_still store failures = ([], [], refl, (omega arith, λ told. absurd told))
+ran_still store failures = ([], [], refl, refl)
 
 -- what a hall answered keeps them
 pub hosted_kept : (old : Store) (failed : ℕ) (log : Log) (new : Store) (failing : ℕ) → Hosted old failed log new failing → OnlyAppends old new

@@ -135,8 +135,8 @@ pub fn serve_over<C: Channel, S: Shelf>(
 /// [`ServeError`] for when each error comes, and what stands then.
 ///
 /// Whatever the reader and the writer tell of their bytes, the shelf is where a run of the machine leads,
-/// and a reply says that the device failed only where the device counted a failure. Whatever the stream
-/// brings, a store that only appends keeps each object.
+/// and each reply that says that the device failed has a failure of its own that the device counted, or the count
+/// stands at its greatest. Whatever the stream brings, a store that only appends keeps each object.
 pub fn serve<R: Read, W: Write, S: Shelf>(
     alloc: Global,
     reader: &mut R,
