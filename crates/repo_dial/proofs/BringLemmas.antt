@@ -2,6 +2,7 @@
 use Rattle.std.specs.Prelude.{option_map}
 use Rattle.std.proofs.Common.{◌≡◌, ◌≤◌, ◌++◌, ◌∷◌, [], ℕ, true, List, Option, Some, None, Result, Ok, Err, length, refl, sym, ap, subst, arith, ◌∙◌}
 use Rattle.repo_name.specs.declared.names.Instance.{Instance}
+use Rattle.repo_name.specs.declared.tokens.Token.{Token}
 use Rattle.repo_wire.specs.declared.messages.Ask.{Ask}
 use Rattle.repo_wire.specs.declared.messages.Request.{Request}
 use Rattle.repo_store.specs.Channels.{said_in}
@@ -9,20 +10,48 @@ use Rattle.repo_session.specs.declared.driving.DriveError.{DriveError}
 use Rattle.repo_session.specs.declared.outcomes.Outcome.{Outcome}
 use Rattle.repo_session.specs.Askers.{Asker}
 use Rattle.repo_session.specs.Jobs.{Rule}
-use Rattle.repo_session.specs.Talks.{Talk, Said, AreNumbered, trace_of}
+use Rattle.repo_session.specs.Talks.{Talk, Said, AreNumbered, WritesPart, WritesBy, frames_of, sent_in, trace_of}
 use Rattle.repo_session.specs.Traces.{Each, Trace}
 use Rattle.repo_session.proofs.Joining.{driven_said}
-use Rattle.repo_dial.specs.Bringing.{IsObedientBy, EndsLockOf, BroughtOn, IsBroughtOn, IsBegunBy, Ended, Obeyed}
-use Rattle.repo_dial.specs.Dialing.{Asking, Call, Connections, Driven, Try, Missed, Turned, Carried, config_request, talk_in, talk_over, AreAtOneStore, AreDialed, AreKept, farewell_in, is_cut, DrivenOver, EndsOwnLock, TryGives, AreCut, DrivesAgain}
+use Rattle.repo_session.proofs.Talking.{whole_part}
+use Rattle.repo_dial.specs.Bringing.{IsObedientBy, EndsLockOf, SendsBy, BroughtOn, IsBroughtOn, IsBegunBy, Ended, Obeyed}
+use Rattle.repo_dial.specs.Dialing.{Asking, Call, Connections, Driven, Try, Missed, Turned, Carried, config_request, talk_in, talk_over, AreAtOneStore, AreDialed, AreKept, farewell_in, is_cut, DrivenOver, EndsOwnLock, TakesLeave, TryGives, AreCut, DrivesAgain}
 use Rattle.repo_dial.specs.declared.again.TryError.{TryError}
 use Rattle.repo_dial.specs.declared.peers.Acquaintance.{Acquaintance}
-use Rattle.repo_dial.proofs.DialLemmas.{trace_of_both, went_driven, first_driven, written, went_try, same_try}
+use Rattle.repo_dial.proofs.DialLemmas.{trace_of_both, went_driven, first_driven, went_try, same_try}
 use Rattle.repo_dial.proofs.TryLemmas.{behind_leave, kept_cut}
 
 -- the unlock is of the ticket of the trace at which the client stands
-ends_at : {C : Type 0} (Fits : C → Trace → Type 0) (client : C) (es : Trace) (farewell : Option Asking) → Fits client es → EndsOwnLock Fits client farewell → EndsLockOf es farewell
-ends_at Fits client es None fits h = tt
-ends_at Fits client es (Some asking) fits h = (h.0, h.1, h.2 es fits)
+ends_at : {C : Type 0} (instance : Instance) (Fits : C → Trace → Type 0) (client : C) (es : Trace) (farewell : Option Asking) → Fits client es → EndsOwnLock instance Fits client farewell
+    → EndsLockOf instance es farewell
+ends_at instance Fits client es None fits h = tt
+ends_at instance Fits client es (Some asking) fits h = let n = h.2 es fits in (h.0, h.1, n.0, n.1, n.2)
+
+-- where nothing was asked for behind
+sends_none : (farewell : Option Asking) (talk : Talk) (next : Option Request) (bytes : List ℕ) → farewell ≡ None → WritesPart (Some []) (sent_in talk) next (Some bytes) → SendsBy farewell talk next bytes
+sends_none farewell talk next bytes none w = subst (λ f. SendsBy f talk next bytes) (sym none) w
+
+-- where nothing of the pending request was said
+sends_all : (farewell : Option Asking) (talk : Talk) (next : Option Request) (bytes : List ℕ) → bytes ≡ frames_of (sent_in talk) → SendsBy farewell talk next bytes
+sends_all None talk next bytes all = whole_part (Some []) (Some bytes) (sent_in talk) next all
+sends_all (Some asking) talk next bytes all = all
+
+sends_error : (error : DriveError) (talk : Talk) (next : Option Request) (told : Option Token) (call : Call) (bytes : List ℕ) → WritesBy error (Some []) (sent_in talk) next (Some bytes)
+    → TakesLeave (Err error) next told call → SendsBy call.farewell talk next bytes
+sends_error DriveError.Read talk next told call bytes w none = sends_none call.farewell talk next bytes none w
+sends_error DriveError.Write talk next told call bytes w none = sends_none call.farewell talk next bytes none w
+sends_error DriveError.Malformed talk next told call bytes w none = sends_none call.farewell talk next bytes none w
+sends_error DriveError.Limit talk next told call bytes w none = sends_none call.farewell talk next bytes none w
+sends_error DriveError.Memory talk next told call bytes w none = sends_none call.farewell talk next bytes none w
+sends_error DriveError.Sink talk next told call bytes w leaves = sends_all call.farewell talk next bytes w
+
+-- what was said over a connection
+sends : {C J : Type 0} (d : Driven C J) (old : C) (call : Call) (result : Result ℕ DriveError) (new : C) → DrivenOver d old call result new
+    → SendsBy call.farewell call.said.talk (d.next new) (said_in call.passages)
+sends d old call (Ok n) new o =
+    let all = said_in call.passages in
+    sends_none call.farewell call.said.talk (d.next new) all o.leaves (whole_part (Some []) (Some all) (sent_in call.said.talk) (d.next new) o.drives.5)
+sends d old call (Err error) new o = sends_error error call.said.talk (d.next new) (d.told new) call (said_in call.passages) o.drives.2 o.leaves
 
 module _ {C J : Type 0} (d : Driven C J) (reached : C → Option Outcome) (rule : Rule) (who : Asker) where
   -- over one connection
@@ -38,11 +67,12 @@ module _ {C J : Type 0} (d : Driven C J) (reached : C → Option Outcome) (rule 
         heard = is.1;
         turns = is.0;
         numbered = subst (λ instance. AreNumbered instance (length (trace_of earlier)) said.talk) own_is (went.numbered (trace_of earlier) fits);
-        sent = written (d.own (d.job old)) d.fits d.next old result new said (Some []) (Some (said_in call.passages)) o.drives;
+        sent = sends d old call result new o;
         first = first_driven (d.own (d.job old)) d.fits d.next old result new said (Some []) (Some (said_in call.passages)) o.drives;
         obeyed = obeys (trace_of (said.talk ++ earlier)) here;
         behind = behind_leave result (d.next new) (d.told new) call o.leaves;
-        ends = ends_at d.fits new (trace_of (said.talk ++ earlier)) call.farewell here o.ends;
+        ends = subst (λ instance. EndsLockOf instance (trace_of (said.talk ++ earlier)) call.farewell) (ap d.own o.same ∙ own_is)
+            (ends_at (d.own (d.job new)) d.fits new (trace_of (said.talk ++ earlier)) call.farewell here o.ends);
       }
 
   -- after tries that were cut off the client stands where they lead

@@ -10,7 +10,7 @@ use Rattle.repo_session.specs.declared.driving.DriveError.{DriveError}
 use Rattle.repo_session.specs.Clients.{exchange}
 use Rattle.repo_session.specs.Talks.{Talk, Said, IsTurn, AreNumbered, Drives, Went, WritesPart, first_carried, pending_frame, sent_in, trace_of}
 use Rattle.repo_session.specs.Traces.{Each, Trace}
-use Rattle.repo_session.proofs.Talking.{went_nowhere, whole_part}
+use Rattle.repo_session.proofs.Talking.{by_part, went_nowhere, whole_part}
 use Rattle.repo_dial.specs.Dialing.{Connections, Driven, Try, Missed, Turned, Carried, talk_in, talk_over, AreAtOneStore, AreDialed, IsDialed, IsAtStore, Meets, MeetsSay, config_in, config_of, config_told, or_else, first_told, TryGives, AreCut, is_cut, DrivesAgain}
 use Rattle.repo_dial.specs.declared.peers.Acquaintance.{Acquaintance}
 use Rattle.repo_dial.specs.declared.again.TryError.{TryError}
@@ -64,7 +64,7 @@ some_first (r ∷ sent) request next p = absurd (cc)
 pub written : {C : Type 0} (instance : Instance) (Fits : C → Trace → Type 0) (next : C → Option Request) (old : C) (result : Result ℕ DriveError) (new : C) (said : Said) (start contents : Option (List ℕ))
     → Drives instance Fits next old result new said start contents → WritesPart start (sent_in said.talk) (next new) contents
 written instance Fits next old (Ok n) new said start contents d = whole_part start contents (sent_in said.talk) (next new) d.5
-written instance Fits next old (Err error) new said start contents d = d.2
+written instance Fits next old (Err error) new said start contents d = by_part error start contents (sent_in said.talk) (next new) d.2
 
 take_none : (k : ℕ) → take k (pending_frame None) ≡ []
 take_none zero = refl

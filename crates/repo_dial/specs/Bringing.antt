@@ -10,7 +10,7 @@ use Rattle.repo_session.specs.declared.outcomes.Outcome.{Outcome}
 use Rattle.repo_session.specs.Askers.{Asker}
 use Rattle.repo_session.specs.Clients.{IsObedientWith}
 use Rattle.repo_session.specs.Jobs.{Rule, task_under}
-use Rattle.repo_session.specs.Talks.{Talk, IsTurn, AreNumbered, IsHeard, WritesPart, first_carried, sent_in, trace_of}
+use Rattle.repo_session.specs.Talks.{Talk, IsTurn, AreNumbered, IsHeard, WritesPart, first_carried, frames_of, sent_in, trace_of}
 use Rattle.repo_session.specs.Traces.{Each, Exchanged, Trace}
 use Rattle.repo_dial.specs.Dialing.{Asking, Call, Connections, Try, Missed, Turned, Carried, GoesInTurn, IsAsking, IsBehind, talk_over, AreAtOneStore, AreDialed, AreKept}
 
@@ -18,24 +18,31 @@ use Rattle.repo_dial.specs.Dialing.{Asking, Call, Connections, Try, Missed, Turn
 abbrev pub IsObedientBy : Rule → Asker → Option Request → Option Outcome → Trace → Type 0
 IsObedientBy rule who next outcome es = IsObedientWith (task_under rule who) rule.allows rule.gives rule.concludes rule.wanting next outcome es
 
--- what is asked for behind a job is the end of the lock of its own ticket
-abbrev pub EndsLockOf : Trace → Option Asking → Type 0
-EndsLockOf es None = ⊤
-EndsLockOf es (Some asking) = (token : Token) × (asking.request.ask ≡ Ask.Unlock token) × Exchanged es Ask.Ticket (Say.Token token)
+-- what is asked for behind a job is the end of the lock of its own ticket, with the instance, and a number that no request before it had: the one after theirs
+abbrev pub EndsLockOf : Instance → Trace → Option Asking → Type 0
+EndsLockOf instance es None = ⊤
+EndsLockOf instance es (Some asking) = (token : Token) × (asking.request.ask ≡ Ask.Unlock token) × Exchanged es Ask.Ticket (Say.Token token)
+    × (asking.request.instance ≡ instance) × (asking.request.sequence ≡ length es + 1)
+
+-- the bytes are the frames of a talk's requests, and some first part of that of the pending one; or nothing of that, where something was asked for behind
+abbrev pub SendsBy : Option Asking → Talk → Option Request → List ℕ → Type 0
+SendsBy None talk next bytes = WritesPart (Some []) (sent_in talk) next (Some bytes)
+SendsBy (Some asking) talk next bytes = bytes ≡ frames_of (sent_in talk)
 
 -- A job was brought on over a connection, by its rule: what was said went over it in turn, with some first part of the request that was pending at its end;
 -- each request has the asker's instance and the number after those before it; what was pending before went first; and the job stands, by its rule, at the
--- trace of that and of all that was said before. Behind it nothing was asked for but the end of its own lock.
+-- trace of that and of all that was said before. Behind it nothing was asked for but the end of its own lock, and that only where nothing of the pending
+-- request was said, whose number it has.
 pub record BroughtOn (rule : Rule) (who : Asker) (earlier : Talk) (before : Option Request) (call : Call) (next : Option Request) (outcome : Option Outcome) : Type 0 where
   pub over : GoesInTurn call next
   pub heard : IsHeard call.said
   pub turns : Each IsTurn call.said.talk
   pub numbered : AreNumbered who.instance (length (trace_of earlier)) call.said.talk
-  pub sent : WritesPart (Some []) (sent_in call.said.talk) next (Some (said_in call.passages))
+  pub sent : SendsBy call.farewell call.said.talk next (said_in call.passages)
   pub first : first_carried (sent_in call.said.talk) next ≡ before
   pub obeyed : IsObedientBy rule who next outcome (trace_of (call.said.talk ++ earlier))
   pub behind : IsBehind call.left call.farewell
-  pub ends : EndsLockOf (trace_of (call.said.talk ++ earlier)) call.farewell
+  pub ends : EndsLockOf who.instance (trace_of (call.said.talk ++ earlier)) call.farewell
 
 -- it was brought on so over each connection of these tries, the newest first, from one pending request to another: each connection begins with the
 -- request at which the one before it ended

@@ -1,5 +1,5 @@
 -- What is said over connections that are made one after another.
-use Rattle.std.specs.Prelude.{◌≡◌, ◌≢◌, ◌<◌, ◌≤◌, ◌++◌, ◌∷◌, [], ⊤, ℕ, Bool, true, false, List, length, map, Option, Some, None, IfSome, option_map, Result, Ok, Err}
+use Rattle.std.specs.Prelude.{◌≡◌, ◌≢◌, ◌<◌, ◌≤◌, ◌+◌, ◌++◌, ◌∷◌, [], ⊤, ℕ, Bool, true, false, List, length, map, Option, Some, None, IfSome, option_map, Result, Ok, Err}
 use Rattle.repo_name.specs.declared.names.Instance.{Instance}
 use Rattle.repo_name.specs.declared.tokens.Token.{Token}
 use Rattle.repo_wire.specs.declared.messages.Ask.{Ask}
@@ -247,10 +247,11 @@ abbrev pub TakesLeave : Result ℕ DriveError → Option Request → Option Toke
 TakesLeave (Err DriveError.Sink) next told call = IsFarewell (farewell_of next told) call.left call.farewell
 TakesLeave _ next told call = call.farewell ≡ None
 
--- it is an unlock of the token that the client was given
-abbrev pub EndsOwnLock : {C : Type 0} → (C → Trace → Type 0) → C → Option Asking → Type 0
-EndsOwnLock Fits client None = ⊤
-EndsOwnLock Fits client (Some asking) = (token : Token) × (asking.request.ask ≡ Ask.Unlock token) × ((es : Trace) → Fits client es → Exchanged es Ask.Ticket (Say.Token token))
+-- it is an unlock of the token that the client was given, of this instance, with the number after those of all exchanges
+abbrev pub EndsOwnLock : {C : Type 0} → Instance → (C → Trace → Type 0) → C → Option Asking → Type 0
+EndsOwnLock instance Fits client None = ⊤
+EndsOwnLock instance Fits client (Some asking) = (token : Token) × (asking.request.ask ≡ Ask.Unlock token)
+    × ((es : Trace) → Fits client es → Exchanged es Ask.Ticket (Say.Token token) × (asking.request.instance ≡ instance) × (asking.request.sequence ≡ length es + 1))
 
 -- ---- a client
 
@@ -272,7 +273,7 @@ pub record DrivenOver {C J : Type 0} (d : Driven C J) (old : C) (call : Call) (r
   pub drives : Drives (d.own (d.job old)) d.fits d.next old result new call.said (Some []) (Some (said_in call.passages))
   pub same : d.job new ≡ d.job old
   pub leaves : TakesLeave result (d.next new) (d.told new) call
-  pub ends : EndsOwnLock d.fits new call.farewell
+  pub ends : EndsOwnLock (d.own (d.job new)) d.fits new call.farewell
 
 -- the store was asked for its config before the client, or it isn't asked, or nothing is pending
 abbrev pub HasMet : Option Request → Acquaintance → Option Asking → Result (Unit {0}) TryError → Acquaintance → Type 0

@@ -125,7 +125,7 @@ fn try_once<C: Client, D: Dial, F: FnMut(&Emission) -> bool>(
 /// anything, and the job goes on only at the store of the first one: `OtherStore` where the config has other bytes.
 ///
 /// What the client gave out is handed to the sink once, whatever connections it takes. Where the sink takes no more, the
-/// client's lock is given back over the same connection.
+/// client's lock is given back over the same connection, by an unlock whose number was not used before.
 pub fn drive_again<C: Client, D: Dial, F: FnMut(&Emission) -> bool>(
     alloc: Global,
     client: &mut C,

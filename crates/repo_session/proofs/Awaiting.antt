@@ -19,7 +19,7 @@ use Rattle.repo_session.specs.Talks.{Talk, IsTurn, Said, Went, DrivesAfter, firs
 use Rattle.repo_session.specs.Traces.{Each, Trace}
 use Rattle.repo_session.specs.Turns.{IsWaiting, IsUnanswered, AreHeardWhile, HearsBy, SendsOver, IsAskedFirst, AsksOver, IsAwaiting, AreAskedInTurn, asked_in, DrivesOver}
 use Rattle.repo_session.proofs.Connecting.{asked, begins, begins_more, head_cut, rest_cut, told_none, unsent}
-use Rattle.repo_session.proofs.Talking.{first_of_more, frames_on, heard_all, part_next, passed_none, unanswered, went_nowhere, went_same, whole_next, whole_part, written_on}
+use Rattle.repo_session.proofs.Talking.{first_of_more, frames_on, heard_all, part_next, passed_none, unanswered, went_nowhere, went_same, whole_next, whole_part, written_by, written_on}
 
 -- where nothing was said
 said_none : (Awaits : List ℕ → Type 0) (later earlier : List Passage) → AreHeardWhile Awaits later → said_in (later ++ earlier) ≡ said_in earlier
@@ -165,7 +165,7 @@ pub drives_written : {C : Type 0} (before : List ℕ) (told : List Reply) (insta
     (start written : Option (List ℕ)) (all : List ℕ) → Appends start written all
     → DrivesAfter before told instance Fits next old result new what (Some []) (Some all) → DrivesAfter before told instance Fits next old result new what start written
 drives_written before told instance Fits next old (Ok n) new what start written all a h = (h.0, h.1, h.2, h.3, h.4, subst (λ x. Appends start written x) h.5 a, h.6)
-drives_written before told instance Fits next old (Err error) new what start written all a h = (h.0, h.1, (h.2.0, subst (λ x. Appends start written x) h.2.1 a), h.3)
+drives_written before told instance Fits next old (Err error) new what start written all a h = (h.0, h.1, written_by error (sent_in what.talk) (next new) start written all a h.2, h.3)
 
 -- ---- one request more
 
@@ -376,7 +376,7 @@ module _ {L C : Type 0} (Hearing Saying : L → List ℕ → L → Type 0) (befo
               drives = (
                 went,
                 (heard_all before (heard_in all) told talk (begins (before ++ heard_in all) (told ++ read_in talk) connection2 reads_all), refl, gave),
-                whole_part (Some []) (Some (said_in all)) (sent_in talk) (next later) said_all,
+                said_all,
                 first_of_more (sent_in i.talk) request (next old) (next new) (next later) pending i.first,
               );
               rests = tt;

@@ -1,5 +1,5 @@
 -- What a talk has, after one turn more.
-use Rattle.std.proofs.Common.{◌≡◌, ◌<◌, ◌+◌, ◌++◌, ◌∷◌, [], ℕ, List, Option, Some, None, Result, Ok, Err, length, take, refl, sym, ap, subst, arith, inl, inr, append_assoc, length-append, get_or, suc, ◌∙◌}
+use Rattle.std.proofs.Common.{◌≡◌, ◌≢◌, ◌<◌, ◌+◌, ◌++◌, ◌∷◌, [], ℕ, List, Option, Some, None, Result, Ok, Err, length, take, refl, sym, ap, subst, arith, inl, inr, append_assoc, length-append, get_or, suc, ◌∙◌}
 use Rattle.std.specs.Io.KnownBytes.{Appends, Consumes}
 use Rattle.std.proofs.KnownBytes.{Appends-trans, Appends-nil}
 use Rattle.std.proofs.Math.Seq.{take-length, take-append-add, take-suc}
@@ -23,7 +23,7 @@ use Rattle.repo_session.specs.declared.outcomes.Outcome.{Outcome}
 use Rattle.repo_session.specs.Clients.{IsReplyTo, IsObedientWith, exchange}
 use Rattle.repo_session.specs.Order.{Task}
 use Rattle.repo_session.specs.Connections.{BeginsWithReplies, Asks}
-use Rattle.repo_session.specs.Talks.{Turn, Talk, IsTurn, first_carried, trace_of, sent_in, taken_in, read_in, frames_of, Went, Said, IsHeardAfter, WritesPart, ArePassed, DriveCauseAfter, TalkRan, MayBeAhead, AskGives}
+use Rattle.repo_session.specs.Talks.{Turn, Talk, IsTurn, first_carried, trace_of, sent_in, taken_in, read_in, frames_of, Went, Said, IsHeardAfter, WritesPart, WritesBy, ArePassed, DriveCauseAfter, TalkRan, MayBeAhead, AskGives}
 use Rattle.repo_session.specs.Traces.{Each, Exchange, Trace}
 use Rattle.repo_session.proofs.Connecting.{begins}
 
@@ -54,6 +54,34 @@ whole_next a b sent request p =
     let body = frame (request_body request) in
     let same : frames_of (sent ++ request ∷ []) ≡ frames_of sent ++ take (length body) body = frames_on sent request ∙ ap (λ x. frames_of sent ++ x) (sym (take-length body)) in
     (length body, subst (λ x. Appends a b x) same p)
+
+-- by an error but the sink's
+part_by : (error : DriveError) (a c : Option (List ℕ)) (sent : List Request) (next : Option Request) → error ≢ DriveError.Sink → WritesPart a sent next c → WritesBy error a sent next c
+part_by DriveError.Read a c sent next other p = p
+part_by DriveError.Write a c sent next other p = p
+part_by DriveError.Malformed a c sent next other p = p
+part_by DriveError.Limit a c sent next other p = p
+part_by DriveError.Memory a c sent next other p = p
+part_by DriveError.Sink a c sent next other p = absurd (other refl)
+
+-- by whatever error, it is some first part
+pub by_part : (error : DriveError) (a c : Option (List ℕ)) (sent : List Request) (next : Option Request) → WritesBy error a sent next c → WritesPart a sent next c
+by_part DriveError.Read a c sent next w = w
+by_part DriveError.Write a c sent next w = w
+by_part DriveError.Malformed a c sent next w = w
+by_part DriveError.Limit a c sent next w = w
+by_part DriveError.Memory a c sent next w = w
+by_part DriveError.Sink a c sent next w = whole_part a c sent next w
+
+-- what was said as what was written
+pub written_by : (error : DriveError) (sent : List Request) (next : Option Request) (start written : Option (List ℕ)) (all : List ℕ) → Appends start written all → WritesBy error (Some []) sent next (Some all)
+    → WritesBy error start sent next written
+written_by DriveError.Read sent next start written all a w = (w.0, subst (λ x. Appends start written x) w.1 a)
+written_by DriveError.Write sent next start written all a w = (w.0, subst (λ x. Appends start written x) w.1 a)
+written_by DriveError.Malformed sent next start written all a w = (w.0, subst (λ x. Appends start written x) w.1 a)
+written_by DriveError.Limit sent next start written all a w = (w.0, subst (λ x. Appends start written x) w.1 a)
+written_by DriveError.Memory sent next start written all a w = (w.0, subst (λ x. Appends start written x) w.1 a)
+written_by DriveError.Sink sent next start written all a w = subst (λ x. Appends start written x) w a
 
 -- after one turn more the same request is the one that is carried first
 pub first_of_more : (sent : List Request) (request : Request) (before now later : Option Request) → now ≡ Some request → first_carried sent now ≡ before
@@ -87,10 +115,12 @@ heard_all before more told talk h = subst (λ x. BeginsWithReplies (before ++ mo
 -- why a request wasn't answered
 pub unanswered : (error : DriveError) (request : Request) (before more : List ℕ) (told : List Reply) (talk : Talk) (passed : List Reply) (new : Connection) (next : Option Request) (a b c : Option (List ℕ))
     → next ≡ Some request → ArePassed (Some request) passed → Asks request (Err error) (before ++ more) (told ++ read_in talk) passed new b c → Appends a b (frames_of (sent_in talk))
-    → DriveCauseAfter before told error (record { bytes = more; talk = talk; more = passed }) next × WritesPart a (sent_in talk) next c
+    → DriveCauseAfter before told error (record { bytes = more; talk = talk; more = passed }) next × WritesBy error a (sent_in talk) next c
 unanswered error request before more told talk passed new next a b c same h asks w =
     let r = at error asks in
-    (subst (λ n. DriveCauseAfter before told error said n) (sym same) r.0, part_next a c (sent_in talk) request next same (written_part a b c (sent_in talk) request r.1.0 w r.1.1))
+    let part = part_next a c (sent_in talk) request next same (written_part a b c (sent_in talk) request r.1.0 w r.1.1) in
+    let other : error ≢ DriveError.Sink = λ is. subst (λ e. Asks request (Err e) (before ++ more) (told ++ read_in talk) passed new b c) is asks in
+    (subst (λ n. DriveCauseAfter before told error said n) (sym same) r.0, part_by error a c (sent_in talk) next other part)
   where
     said : Said
     said = record { bytes = more; talk = talk; more = passed }
@@ -201,4 +231,4 @@ once_asked request fits (Ok reply) bytes passed new a b c d read others asks =
     )
 once_asked request fits (Err error) bytes passed new a b c d read others asks =
     let r = unanswered error request [] bytes [] [] passed new (Some request) c c d refl others asks (Appends-nil c) in
-    (record { bytes = bytes; talk = []; more = passed }, read, (refl, r.0, r.1))
+    (record { bytes = bytes; talk = []; more = passed }, read, (refl, r.0, by_part error c d [] (Some request) r.1))
