@@ -6,7 +6,7 @@ Usage: scripts/libraries.py [--jobs N] [CRATE]
 It goes along the crates from below (crates.txt), and works on as many at once as processors and memory allow: one for each
 processor, with 3 GB free for each; --jobs says another number. As rt locks all crates below the one that it works on, each of
 those that are proved at once stands in a copy of the sources of its own, with the libraries below it; what is proved comes back
-into this repository. What was proved before, and changed in nothing, takes a second. CRATE is the one for which it is done, vault
+into this repository. What was proved before, as it stands now, is passed over. CRATE is the one for which it is done, vault
 without the word; that one itself isn't built. Exit status 1 where a crate isn't proved: what rt said of it is printed.
 """
 import argparse
@@ -21,6 +21,7 @@ from pathlib import Path
 
 sys.dont_write_bytecode = True
 
+import kit  # noqa: E402
 from graph import below  # noqa: E402
 
 ROOT = Path(__file__).resolve().parents[1]
@@ -50,6 +51,11 @@ def jobs_here():
     """As many jobs as this machine has processors and free memory for, at least one."""
     free = next(int(line.split()[1]) * 1024 for line in open("/proc/meminfo") if line.startswith("MemAvailable:"))
     return max(1, min(len(os.sched_getaffinity(0)), free // MEMORY))
+
+
+def built():
+    """The crates that are proved as they stand."""
+    return {crate.name for crate in kit.load().crates_of(str(ROOT)) if crate.is_built()}
 
 
 class Yard:
@@ -118,10 +124,10 @@ class Job:
             self.process.wait()
 
 
-def proves(names, crates, yards):
-    """Proves the crates, one in each yard, those with the longest chains above them first; the one that isn't proved, if there is
-    one."""
-    height, left, done, running = heights(names, crates), set(names), set(), []
+def proves(names, crates, yards, done):
+    """Proves the crates but for those that are done, one in each yard, those with the longest chains above them first; the one that
+    isn't proved, if there is one."""
+    height, left, running = heights(names, crates), set(names) - done, []
     try:
         while left or running:
             ready = [name for name in left if done >= set(crates[name])]
@@ -156,11 +162,13 @@ def main():
     if given.crate not in crates:
         parser.error(f"there is no crate {given.crate}")
     names, jobs = below(crates, given.crate), given.jobs or jobs_here()
-    print(f"proving {len(names)} crates, {jobs} at once: an hour on two processors, where none is proved yet."
-          " Unproved the program runs in a minute and a half: examples/first-frame.sh", flush=True)
+    done = built() & set(names)
+    print(f"proving {len(names) - len(done)} crates of {len(names)}, {jobs} at once: an hour on two processors, where none is proved"
+          " yet. Unproved the program runs in a minute and a half: examples/first-frame.sh", flush=True)
     begun = time.monotonic()
     with tempfile.TemporaryDirectory() as top:
-        open_one = proves(names, crates, [Yard(Path(top) / str(place)) for place in range(max(1, jobs))])
+        yards = [Yard(Path(top) / str(place)) for place in range(min(max(1, jobs), len(names) - len(done)))]
+        open_one = proves(names, crates, yards, done)
     if open_one:
         print(open_one.text(), end="")
         sys.exit(f"{open_one.name} isn't proved")
