@@ -2,6 +2,7 @@
 """Recovers a snapshot from the folder of a store, without vault, by docs/FORMATS.md alone.
 
 Usage: scripts/recover.py STORE-FOLDER SNAPSHOT TARGET
+or: scripts/recover.py --spoiled STORE-FOLDER
 
 SNAPSHOT is the name of a file under snapshots/. TARGET is made where it isn't there, and has to be empty. Nothing in the store is
 changed. The snapshot, each index and each blob is taken only where its bytes have its name (SHA-256). A blob is looked for in
@@ -9,7 +10,12 @@ each place that an index, or a pack's own entries, tell of. What is missing or b
 recovered: a file that can't be had whole is left out. At the end it prints how many directories and files are recovered, and
 how many losses there are. Where it is stopped before, begin anew. Exit status: 0 no loss; 1 some; 2 the words are wrong, or
 TARGET isn't empty.
+
+With --spoiled it recovers nothing, and prints the names of the snapshots of which something is missing or bad, one a line,
+ascending. Each blob that snapshots need is read once. Exit status: 0 there is none; 1 there are some; 2 the words are
+wrong, or the folder has no `snapshots`.
 """
+import functools
 import json
 import struct
 import sys
@@ -20,7 +26,9 @@ NAME = "[0-9a-f]" * 64
 FAULTS = (OSError, ValueError, LookupError, TypeError, AttributeError, struct.error)
 
 
+@functools.cache
 def tell(text):
+    """Each text once."""
     print(text, file=sys.stderr)
 
 
@@ -97,13 +105,17 @@ def nodes_of(places, tree, follows):
         tree = text.get("next") if follows else None
 
 
+def check_name(name, depth):
+    if depth == 100 or not 1 <= len(name.encode()) <= 255 or name in (".", "..") or set("/\0") & set(name):
+        raise ValueError("no name of an entry, or too deep")
+
+
 def recovered(places, tree, target, follows, depth=0):
     """Recovers what a directory lists; gives of each entry None, or what is lost."""
     for node in nodes_of(places, tree, follows):
         try:
-            name, path = node["name"], target / node["name"]
-            if depth == 100 or not 1 <= len(name.encode()) <= 255 or name in (".", "..") or set("/\0") & set(name):
-                raise ValueError("no name of an entry, or too deep")
+            path = target / node["name"]
+            check_name(node["name"], depth)
             path.mkdir() if node["type"] == "dir" else write_file(places, node, path)
             yield None
             if node["type"] == "dir":
@@ -112,17 +124,62 @@ def recovered(places, tree, target, follows, depth=0):
             yield f"{path}: {error}"
 
 
+class Look:
+    """What was found whole already: the lengths of pieces of files, and directories with all below them."""
+
+    def __init__(self, store):
+        self.store, self.places, self.whole = store, places_in(store), set()
+        self.length = functools.cache(lambda name: len(blob(self.places, "data", name)))
+
+    def look(self, tree, follows, depth=0):
+        """An error where something below a directory is missing or bad."""
+        if (tree, follows, depth) in self.whole:
+            return
+        for node in nodes_of(self.places, tree, follows):
+            check_name(node["name"], depth)
+            if node["type"] == "dir":
+                self.look(node["subtree"], follows, depth + 1)
+            elif sum(map(self.length, node["content"])) != node["size"]:
+                raise ValueError("another size")
+        self.whole.add((tree, follows, depth))
+
+    def is_whole(self, name):
+        try:
+            snapshot = read_snapshot(self.store, name)
+            self.look(snapshot["tree"], snapshot["version"] == 2)
+            return True
+        except FAULTS as error:
+            tell(f"snapshot {name}: {error}")
+            return False
+
+
+def print_spoiled(store):
+    look = Look(store)
+    spoiled = [it.name for it in sorted(store.glob("snapshots/" + NAME)) if not look.is_whole(it.name)]
+    print("".join(name + "\n" for name in spoiled), end="")
+    return 1 if spoiled else 0
+
+
+def read_snapshot(store, name):
+    snapshot = json.loads(checked((store / "snapshots" / name).read_bytes(), name))
+    if snapshot["version"] not in (1, 2):
+        raise ValueError("another version")
+    return snapshot
+
+
 def main():
-    if len(sys.argv) != 4 or any(Path(sys.argv[3]).glob("*")):
+    words = sys.argv[1:]
+    is_look = words[:1] == ["--spoiled"]
+    if is_look and len(words) == 2 and Path(words[1], "snapshots").is_dir():
+        return print_spoiled(Path(words[1]))
+    if is_look or len(words) != 3 or any(Path(words[2]).glob("*")):
         tell(__doc__)
         return 2
-    store, name, target = Path(sys.argv[1]), sys.argv[2], Path(sys.argv[3])
+    store, name, target = Path(words[0]), words[1], Path(words[2])
     done = lost = 0
     try:
         target.mkdir(parents=True, exist_ok=True)
-        snapshot = json.loads(checked((store / "snapshots" / name).read_bytes(), name))
-        if snapshot["version"] not in (1, 2):
-            raise ValueError("another version")
+        snapshot = read_snapshot(store, name)
         for loss in recovered(places_in(store), snapshot["tree"], target, snapshot["version"] == 2):
             if loss:
                 tell(f"lost {loss}")
