@@ -14,10 +14,11 @@ TICKET_, LOCK, UNLOCK, LIST, GET, RANGE, CONFIG = 1, 2, 4, 6, 7, 8, 11
 
 @in_store
 def targets_of_restores(yard):
-    """It is made with the folders above it; one that isn't empty, or that lies below a file, is left alone and nothing is asked."""
+    """It is made with the folders above it; one that isn't empty, or that lies below a file, is left alone and nothing is asked. Where it can't be
+    made the restore ends."""
     root = filled(yard.top / "from", {"x": b"abc"})
     (yard.top / "void").mkdir()
-    with Server(yard.root, connections=9) as server:
+    with Server(yard.root, connections=12) as server:
         name = stored(server.address, root)
         for target in ("above/target", "void", "a/b/../c"):
             if ".." in target:
@@ -29,7 +30,27 @@ def targets_of_restores(yard):
                 same(told("restore", line.address, name, yard.top / target), f"1||{text}\n", target)
         same(line.count, 0, "requests")
         same(entries(root), {"x": b"abc"})
-        same(told("restore", server.address, name, ""), "1||stopped\n")
+        for target in ("", "/proc/target"):
+            same(told("restore", server.address, name, target), "1||stopped\n", target)
+        same(told("locks", server.address), "0||")
+
+
+@in_store
+def a_target_is_made_once_something_is_restored(yard):
+    """Not where there is no such snapshot, or where nothing of it comes; one that was there stays. Of an empty folder's snapshot it is made."""
+    root, void, target = filled(yard.top / "from", {"x": b"abc"}), yard.top / "void", yard.top / "above/target"
+    void.mkdir()
+    with Server(yard.root, connections=9) as server:
+        name = stored(server.address, root)
+        for folder in (void, target):
+            same(told("restore", server.address, "0" * 64, folder), "1||missing snapshot\n", folder)
+        with Watched(server.port, lambda at, _: at < 3) as line:
+            same(told("restore", line.address, name, target), "1||read failed\n")
+        same(sorted(os.listdir(yard.top)), ["from", "root", "void"])
+        same(told("restore", server.address, name, void), "0|complete 1\n|")
+        (root / "x").unlink()
+        restores(server.address, stored(server.address, root), target, {})
+        same(target.is_dir(), True)
 
 
 @in_store
@@ -106,7 +127,7 @@ def a_restore_that_is_cut_off_leaves_whole_files(yard):
         with Watched(server.port) as line:
             restores(line.address, name, yard.top / "to", entries(yard.top / "from"))
         for stop in range(line.count):
-            shutil.rmtree(yard.top / "to")
+            shutil.rmtree(yard.top / "to", ignore_errors=True)
             with Watched(server.port, before=lambda at, _, stop=stop: at != stop) as cut:
                 got = told("restore", cut.address, name, yard.top / "to")
             same(got, "1||read failed\n" if stop < line.count - 1 else got, f"cut off before request {stop}")
@@ -172,7 +193,7 @@ def names_that_lead_elsewhere_are_not_written():
             same(gets(yard, {"nodes": [file_node(name)]}), ("1||bad tree\n", {}), repr(name))
             node = {"name": name, "subtree": name_of(b"").hex(), "type": "dir"}
             same(gets(yard, {"nodes": [node]}), ("1||bad tree\n", {}), repr(name))
-        same(os.listdir(yard.top), ["to"])
+        same(os.listdir(yard.top), [])
 
 
 @trial

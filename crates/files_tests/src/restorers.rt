@@ -59,7 +59,7 @@ fn directory(alloc: Global, component: &str) -> Result<Emission, AllocError> {
 }
 
 /// Why a folder can't be restored into.
-pub(crate) fn refusal(rt: HostRuntime, root: &str) -> Option<RestorerError> {
+fn refusal(rt: HostRuntime, root: &str) -> Option<RestorerError> {
     Restorer::new(rt, root).err()
 }
 

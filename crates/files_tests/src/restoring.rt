@@ -1,6 +1,6 @@
 //! What a restorer writes into a real folder.
 
-use crate::restorers::{Way, refusal};
+use crate::restorers::Way;
 use crate::yards::Yard;
 use repo_files::RestorerError;
 use std::panic::Expect;
@@ -21,11 +21,29 @@ fn folders_and_files_are_written(rt: HostRuntime) {
 fn a_target_that_holds_something_is_refused(rt: HostRuntime) {
     let mut yard = Yard::new(rt, "refused").expect(&rt, "no folder");
     yard.refuses("target", None);
+    yard.lacks("target");
+    yard.makes("target");
     yard.refuses("target", None);
     yard.writes("target/file", "x");
     yard.refuses("target", Some(RestorerError::NotEmpty));
     yard.refuses("target/file", Some(RestorerError::Unwritable));
-    yard.count(refusal(rt, "") == Some(RestorerError::Unwritable));
+    yard.refuses("target/file/below", Some(RestorerError::Unwritable));
+    yard.end(&rt);
+}
+
+#[test]
+fn a_target_is_made_for_its_first_part_or_at_the_end(rt: HostRuntime) {
+    let mut yard = Yard::empty(rt, "made").expect(&rt, "no folder");
+    yard.restores("above/target", "", 0);
+    yard.lacks("above");
+    yard.restores("above/target", "dir a", 1);
+    yard.holds("above/target", 1);
+    yard.lacks("target");
+    yard.ends("", true);
+    yard.holds("target", 0);
+    yard.links("link", "away");
+    yard.restores("link", "dir a", 0);
+    yard.lacks("away");
     yard.end(&rt);
 }
 

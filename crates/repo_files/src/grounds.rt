@@ -7,6 +7,7 @@ ghost use Rattle.repo_tree.specs.Paths.{IsPath};
 use crate::drafts::Draft;
 use crate::folders::{Access, Folder, sync_at};
 use crate::places::{place_below, without_slash};
+use crate::system::if_there;
 use repo_tree::{Path, is_path};
 use std::alloc::{AllocError, AllocGlobal};
 use std::fs::{File, Files, OpenFile};
@@ -16,11 +17,26 @@ use std::{fs, io};
 /// What a temporary name begins with; a number follows.
 const TEMPORARY: &str = "!restoring-";
 
+/// Whether nothing is in the folder of this path, which need not be there.
+fn is_empty<R: Files + AllocGlobal + Clone>(rt: &R, path: &str) -> io::Result<bool> {
+    let Some(mut entries) = if_there(fs::read_dir(rt, path))? else {
+        return Ok(true);
+    };
+    match entries.next() {
+        None => Ok(true),
+        Some(Ok(_)) => Ok(false),
+        Some(Err(error)) if error.kind() == ErrorKind::InvalidFilename => Ok(false),
+        Some(Err(error)) => Err(error),
+    }
+}
+
 /// The folder that is restored into.
 #[derive(Drop)]
 pub struct Ground<R> {
     pub rt: R,
-    /// Its path, without the `/` at its end.
+    /// Its path, as it was told.
+    told: String,
+    /// The same without the `/` at its end.
     folder: String,
     /// The number of the next temporary name.
     number: u64,
@@ -30,28 +46,28 @@ pub struct Ground<R> {
 }
 
 impl<R: Files + AllocGlobal + Clone + Drop> Ground<R> {
-    /// The folder of this path, where nothing is in it; else `None`. It is made where it isn't there, with
-    /// all above it, so that it lasts.
-    pub fn of(rt: R, folder: &str) -> io::Result<Option<Ground<R>>> {
-        Folder::of(rt.clone()?, folder)?.make_whole(Access::Masked)?;
-        let is_empty = match fs::read_dir(&rt, folder)?.next() {
-            None => true,
-            Some(Ok(_)) => false,
-            Some(Err(error)) if error.kind() == ErrorKind::InvalidFilename => false,
-            Some(Err(error)) => return Err(error),
-        };
-        if !is_empty {
+    /// The folder of this path, where nothing is in it, or it isn't there; else `None`. Nothing is made.
+    pub fn of(rt: R, told: &str) -> io::Result<Option<Ground<R>>> {
+        if !is_empty(&rt, told)? {
             return Ok(None);
         }
-        let mut made = Vec::new(rt.alloc());
-        made.push(String::from_str(rt.alloc(), folder)?)?;
-        let folder = String::from_str(rt.alloc(), without_slash(folder))?;
+        let folder = String::from_str(rt.alloc(), without_slash(told))?;
+        let told = String::from_str(rt.alloc(), told)?;
+        let made = Vec::new(rt.alloc());
         Ok(Some(Ground {
             rt,
+            told,
             folder,
             number: 0,
             made,
         }))
+    }
+
+    /// Makes the folder where it isn't there, with all above it, so that it lasts.
+    pub fn open(&mut self) -> io::Result<()> {
+        let folder = Folder::of(self.rt.clone()?, self.told.as_str())?;
+        folder.make_whole(Access::Masked)?;
+        self.note(folder.root)
     }
 
     /// The place of an entry. The error tells, but for memory, that its path isn't one: it is empty, or

@@ -5,6 +5,8 @@ use crate::drafts::Draft;
 /// What a restorer is in the midst of.
 #[derive(Drop)]
 pub enum Phase<F> {
+    /// Nothing was written: the folder that is restored into is empty, or isn't there.
+    Untouched,
     /// No file is open.
     Between,
     /// A file is open.
@@ -16,6 +18,8 @@ pub enum Phase<F> {
 /// The same, as contracts tell it.
 #[derive(Clone, Copy, Debug, PartialEq, Eq)]
 pub enum Standing {
+    /// Nothing was written: the folder that is restored into is empty, or isn't there.
+    Untouched,
     /// No file is open.
     Between,
     /// A file is open.

@@ -1,7 +1,7 @@
 //! Writes what a restore gives out into a folder.
 
 ghost use Rattle.std.specs.Prelude.{◌≡◌, IfOk, IsTrue, IsFalse};
-ghost use Rattle.repo_files.specs.Restoring.{standing_of, TakesEmission};
+ghost use Rattle.repo_files.specs.Restoring.{standing_of, StandsBetween, TakesEmission};
 ghost use Rattle.repo_files.specs.declared.phases.Standing.{Standing};
 
 use crate::drafts::{fill, remove, settle};
@@ -15,6 +15,9 @@ use std::marker::Model;
 use std::{io, mem};
 
 /// Writes what a restore gives out into a folder. A clause sees where it stands.
+///
+/// The folder is made, with all above it, when the first part is written, or else at the end. Before that nothing is made, and what
+/// may be made is only looked at.
 ///
 /// A file is written under a temporary name, `!restoring-` and a number, in the directory where it is to
 /// stand, and gets its own name when it ends. So what stands under its own name is whole, whenever the
@@ -39,9 +42,9 @@ pub struct Restorer<R: Files> {
 /// Why a folder can't be restored into.
 #[derive(Clone, Copy, Debug, PartialEq, Eq)]
 pub enum RestorerError {
-    /// It holds something already. Nothing changed.
+    /// It holds something already.
     NotEmpty,
-    /// It can't be made, or can't be read.
+    /// It can't be read, and not because it isn't there: it is a file, say, or is to stand below one.
     Unwritable,
     /// There was no memory.
     Memory,
@@ -57,15 +60,15 @@ impl<R: Files> Model for Restorer<R> {
 }
 
 impl<R: Files + AllocGlobal + Clone + Drop> Restorer<R> {
-    /// A restorer into the folder of this path, which is made where it isn't there, with all above it. A
-    /// link to a folder is followed.
+    /// A restorer into the folder of this path, which has to be empty, or isn't there. Nothing is made. A link to a folder is
+    /// followed.
     pub fn new(rt: R, folder: &str) -> Result<Restorer<R>, RestorerError>
-        ensures { IfOk result (λ restorer. restorer ≡ Standing.Between) }
+        ensures { IfOk result (λ restorer. restorer ≡ Standing.Untouched) }
     {
         match Ground::of(rt, folder) {
             Ok(Some(ground)) => Ok(Restorer {
                 ground,
-                phase: Phase::Between,
+                phase: Phase::Untouched,
             }),
             Ok(None) => Err(RestorerError::NotEmpty),
             Err(error) if error.kind() == ErrorKind::OutOfMemory => Err(RestorerError::Memory),
@@ -73,8 +76,8 @@ impl<R: Files + AllocGlobal + Clone + Drop> Restorer<R> {
         }
     }
 
-    /// Writes the next part. It answers false where a file or directory can't be made or written, where a
-    /// path isn't one, and where a part doesn't belong there; nothing more is taken then. A file that is
+    /// Writes the next part. It answers false where the folder, a file or a directory can't be made or written,
+    /// where a path isn't one, and where a part doesn't belong there; nothing more is taken then. A file that is
     /// open then is removed; what was written before it stays.
     pub fn write(&mut self, emission: &Emission) -> bool
         ensures taken { IsTrue result → TakesEmission self.old emission.now self.new }
@@ -90,13 +93,15 @@ impl<R: Files + AllocGlobal + Clone + Drop> Restorer<R> {
         }
     }
 
-    /// Syncs all that was written, and takes no more. It answers false where something can't be synced, where
-    /// a file is open, which is removed then, and where a part was refused before.
+    /// Syncs all that was written, and takes no more; where nothing was, the folder is made. It answers false where
+    /// that can't be, where something can't be synced, where a file is open, which is removed then, and where a part was
+    /// refused before.
     pub fn finish(&mut self) -> bool
-        ensures whole { IsTrue result → self.old ≡ Standing.Between }
+        ensures whole { IsTrue result → StandsBetween self.old }
         ensures ended { self.new ≡ Standing.Stopped }
     {
         match mem::replace(&mut self.phase, Phase::Stopped) {
+            Phase::Untouched => self.ground.open().is_ok() && self.ground.sync().is_ok(),
             Phase::Between => self.ground.sync().is_ok(),
             Phase::InFile(draft) => {
                 remove(&self.ground.rt, draft);
@@ -107,7 +112,7 @@ impl<R: Files + AllocGlobal + Clone + Drop> Restorer<R> {
     }
 }
 
-/// Writes a part, and tells what follows.
+/// Writes a part, and tells what follows. The folder is made before the first one.
 fn step<R: Files + AllocGlobal + Clone + Drop>(
     ground: &mut Ground<R>,
     phase: Phase<R::File>,
@@ -115,12 +120,17 @@ fn step<R: Files + AllocGlobal + Clone + Drop>(
 ) -> io::Result<Phase<R::File>>
     ensures { IfOk result (λ next. TakesEmission (standing_of phase) emission.now (standing_of next)) }
 {
+    if let Phase::Untouched = &phase {
+        ground.open()?;
+    }
     match (phase, emission) {
-        (Phase::Between, Emission::Dir(path)) => {
+        (Phase::Untouched | Phase::Between, Emission::Dir(path)) => {
             ground.make(path)?;
             Ok(Phase::Between)
         }
-        (Phase::Between, Emission::File(path)) => Ok(Phase::InFile(ground.begin(path)?)),
+        (Phase::Untouched | Phase::Between, Emission::File(path)) => {
+            Ok(Phase::InFile(ground.begin(path)?))
+        }
         (Phase::InFile(draft), Emission::Piece(bytes)) => {
             Ok(Phase::InFile(fill(&ground.rt, draft, bytes.as_slice())?))
         }

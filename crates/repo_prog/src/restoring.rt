@@ -134,8 +134,9 @@ fn not_begun<F: Write>(error: RestorerError, faults: &mut F) -> Status
     }
 }
 
-/// `vault restore`: restores a snapshot into a folder, which is made where it isn't there and has to be empty. What
-/// was written before an end stays. All of it is synced before it is told as complete.
+/// `vault restore`: restores a snapshot into a folder, which has to be empty, or isn't there: it is made for the first thing
+/// that is given out, or where the restore is complete. What was written before an end stays. All of it is synced before it is
+/// told as complete.
 ///
 /// After the first connection `retry` more are made at most; the folder is begun once, whatever connections it takes. That the
 /// folder then holds what was given out is no clause, since no contract sees a file.
