@@ -9,6 +9,7 @@ from yards import FAILED, in_folder, in_store, large_gets
 
 DELETION = frame(10, number(9), b"\0", bytes([7] * 32)).hex()
 NOWHERE = "127.0.0.1:0"
+NOT_OURS = "192.0.2.1:1"  # an address of no machine
 
 
 @in_store
@@ -47,7 +48,7 @@ def a_silent_client_of_a_folder_is_ended(yard):
 
 @in_store
 def addresses_that_cannot_be_listened_to(yard):
-    same(told("serve", yard.root, "nowhere"), "1||not reached\n")
+    same(told("serve", yard.root, NOT_OURS), "1||not reached\n")
     with socket.create_server(("127.0.0.1", 0)) as taken:
         same(told("serve", yard.root, f"127.0.0.1:{taken.getsockname()[1]}"), "1||not reached\n")
 
@@ -142,7 +143,7 @@ def has_tmp(yard):
 @in_store
 def a_server_removes_its_own_leftovers_alone(yard):
     fills_tmp(yard)
-    same(told("serve", yard.root, "nowhere"), "1||not reached\n")
+    same(told("serve", yard.root, NOT_OURS), "1||not reached\n")
     with open(yard.at("lock")) as held:
         fcntl.flock(held, fcntl.LOCK_EX)
         same(told("serve", yard.root, NOWHERE), FAILED)
@@ -158,7 +159,7 @@ def a_folder_that_is_no_store_is_not_served(yard):
     """`shelf failed`, since the folder is looked at before the address."""
     fills_tmp(yard)
     yard.makes("config", "ledger")
-    same(told("serve", yard.root, "nowhere"), FAILED)
+    same(told("serve", yard.root, NOT_OURS), FAILED)
     same(told("serve", yard.root, NOWHERE), FAILED)
     has_tmp(yard)
     yard.has("tmp/config.vault-part", "half")

@@ -3,7 +3,7 @@ import re
 
 from program import TICKET, Server, frame, has_status, lock, matches, refused, token, told
 from trying import holds, same, trial
-from yards import Yard, filled, in_store
+from yards import Yard, filled, in_folder, in_store
 
 COMMANDS = "frames init serve backup snapshots restore forget prune check upgrade locks refresh unlock play loop".split()
 NAME = "0" * 64
@@ -51,6 +51,19 @@ def words_out_of_bounds():
     same(told("forget", ANY, "--keep-last", 1, NAME), "2||names and a policy exclude each other\n")
     same(told("forget", ANY, NAME, "--keep-daily", 1), "2||names and a policy exclude each other\n")
     same(told("forget", ANY, NAME, "--host", "h", "--dry-run"), "2||names and a policy exclude each other\n")
+
+
+@in_folder
+def addresses_that_are_none(yard):
+    """`bad argument`, before anything is opened: no folder is made, and none is missed."""
+    away = yard.at("away")
+    for address in ("nowhere", "", ":", ":7070", "127.0.0.1", "127.0.0.1:", "127.0.0.1:http", "127.0.0.1:65536", "127.0.0.1:-1", "127.0.0.1:7070/", "::", "[::1]"):
+        for words in (["serve", away, address], ["backup", address, "h", away], ["snapshots", address], ["restore", address, NAME, away], ["forget", address, NAME],
+                      ["prune", address], ["check", address, "--retry", 3], ["upgrade", address], ["locks", address], ["refresh", address, 1], ["unlock", address]):
+            same(told(*words), "2||bad argument\n", words)
+    yard.holds("", 0)
+    for address in (ANY, "localhost:1", "[::1]:1", "::1:1", "127.0.0.1:00001", "a.name.that.is.none.invalid:65535"):
+        same(told("snapshots", address), "1||not reached\n", address)
 
 
 @in_store

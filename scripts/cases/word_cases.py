@@ -6,6 +6,7 @@ from naming import name_of
 
 A, E = name_of(b"abc"), name_of(b"")
 UPPER = A.hex().upper()
+ADDRESS = "127.0.0.1:0"  # of which nobody takes a connection
 
 
 def frame(what, sequence=1, instance=INSTANCE):
@@ -19,12 +20,27 @@ def asks(*whats):
 def bad_arguments(script):
     """Words that clap takes and the program doesn't."""
     for words in ("init x --min 63", "init x --max 63", "init x --min 129 --max 128", "init x --max 8388609", "init x --bits 0",
-                  "init x --bits 33", "init x --target 1023", "init x --target 16777217", "init x --format 0", "init x --format 3", "serve x y --connections 0",
-                  "backup x  p", "backup x " + "h" * 256 + " p", "backup x " + "é" * 128 + " p",
-                  "restore x 12 d", "restore x " + UPPER + " d", "restore x " + A.hex() + "0 d", "restore x " + "g" * 64 + " d",
-                  "forget x --keep-last 1 --host " + "h" * 256, "forget x --host " + "é" * 128 + " --dry-run",
-                  "forget x 12", "forget x --dry-run 12", "forget x " + UPPER, "forget x " + A.hex() + " " + "g" * 64, "forget x " + A.hex() + "0 " + A.hex()):
+                  "init x --bits 33", "init x --target 1023", "init x --target 16777217", "init x --format 0", "init x --format 3", "serve x ADDR --connections 0",
+                  "backup ADDR  p", "backup ADDR " + "h" * 256 + " p", "backup ADDR " + "é" * 128 + " p",
+                  "restore ADDR 12 d", "restore ADDR " + UPPER + " d", "restore ADDR " + A.hex() + "0 d", "restore ADDR " + "g" * 64 + " d",
+                  "forget ADDR --keep-last 1 --host " + "h" * 256, "forget ADDR --host " + "é" * 128 + " --dry-run",
+                  "forget ADDR 12", "forget ADDR --dry-run 12", "forget ADDR " + UPPER, "forget ADDR " + A.hex() + " " + "g" * 64, "forget ADDR " + A.hex() + "0 " + A.hex()):
         script.heading("words that make no command")
+        script.vault("vault " + words.replace("ADDR", ADDRESS))
+        script.ended(2, "", "bad argument\n")
+
+
+def bad_addresses(script):
+    """Addresses that are none: texts that the socket's call doesn't take, whoever is to be asked there."""
+    for address in ("127.0.0.1", "nowhere", "", ":", ":0", "127.0.0.1:", "127.0.0.1:x", "127.0.0.1:-1", "127.0.0.1:0x1", "127.0.0.1:65536",
+                    "127.0.0.1:18446744073709551616", "127.0.0.1:++1", "127.0.0.1:\u0661", "[::1]", "[::1]:", "::", "127.0.0.1;1"):
+        script.heading("an address that is none")
+        script.vault("vault locks " + address)
+        script.ended(2, "", "bad argument\n")
+    for words in ("serve x nowhere", "locks nowhere", "snapshots nowhere", "refresh nowhere 1", "unlock nowhere --remove-all", "backup nowhere h p --retry 1",
+                  "restore nowhere " + A.hex() + " d", "prune nowhere", "check nowhere --retry 1", "forget nowhere", "forget nowhere " + A.hex(),
+                  "forget nowhere --keep-last 1 --dry-run", "upgrade nowhere"):
+        script.heading("an address that is none, of each command")
         script.vault("vault " + words)
         script.ended(2, "", "bad argument\n")
 
@@ -34,7 +50,7 @@ def both(script):
     for words in ("--keep-last 1 " + A.hex(), A.hex() + " --keep-daily 1", f"--keep-last 0 --keep-daily 4294967295 {A.hex()} {E.hex()}",
                   "--host a " + A.hex(), "--dry-run --keep-last 1 " + A.hex()):
         script.heading("snapshots to be forgotten by their names and by a policy")
-        script.vault("vault forget nowhere " + words)
+        script.vault(f"vault forget {ADDRESS} " + words)
         script.ended(2, "", "names and a policy exclude each other\n")
 
 
@@ -85,15 +101,15 @@ def claps(script):
 
 
 def unreached(script):
-    """Addresses that are none: the text that the socket's call refuses."""
-    for words in ("locks nowhere", "snapshots nowhere", "refresh nowhere 1", "refresh nowhere 18446744073709551615",
-                  "unlock nowhere", "unlock nowhere --remove-all", "backup nowhere " + "h" * 255 + " p", "backup nowhere h p",
-                  "restore nowhere " + A.hex() + " d", "prune nowhere", "check nowhere", "forget nowhere", "forget nowhere --keep-last 1", "forget nowhere --keep-daily 4294967295",
-                  "forget nowhere " + A.hex() + " " + A.hex(), f"forget nowhere {A.hex()} --keep-last 0 {E.hex()} --keep-daily 0", "locks 127.0.0.1", "locks 127.0.0.1:x", "locks 127.0.0.1:0", "locks 127.0.0.1:65536",
-                  "backup nowhere h p --retry 0", "snapshots nowhere --retry 1", "restore nowhere " + A.hex() + " d --retry 2", "forget nowhere --retry 3",
-                  "prune nowhere --retry 4", "check nowhere --retry 5", "upgrade nowhere", "upgrade nowhere --retry 1"):
+    """Addresses at which nobody listens, in each form that a port may have."""
+    for words in ("locks ADDR", "snapshots ADDR", "refresh ADDR 1", "refresh ADDR 18446744073709551615",
+                  "unlock ADDR", "unlock ADDR --remove-all", "backup ADDR " + "h" * 255 + " p", "backup ADDR h p",
+                  "restore ADDR " + A.hex() + " d", "prune ADDR", "check ADDR", "forget ADDR", "forget ADDR --keep-last 1", "forget ADDR --keep-daily 4294967295",
+                  "forget ADDR " + A.hex() + " " + A.hex(), f"forget ADDR {A.hex()} --keep-last 0 {E.hex()} --keep-daily 0", "locks 127.0.0.1:0", "locks 127.0.0.1:+0", "locks 127.0.0.1:00000", "locks [::1]:0", "locks ::1:0",
+                  "backup ADDR h p --retry 0", "snapshots ADDR --retry 1", "restore ADDR " + A.hex() + " d --retry 2", "forget ADDR --retry 3",
+                  "prune ADDR --retry 4", "check ADDR --retry 5", "upgrade ADDR", "upgrade ADDR --retry 1"):
         script.heading("an address that can't be connected to")
-        script.vault("vault " + words)
+        script.vault("vault " + words.replace("ADDR", ADDRESS))
         script.ended(1, "", "not reached\n")
 
 
@@ -184,4 +200,4 @@ def bad_streams(script):
         script.frames([ticket], b"00", **shape)
 
 
-ALL = [bad_arguments, both, claps, unreached, worked, bad_streams]
+ALL = [bad_arguments, bad_addresses, both, claps, unreached, worked, bad_streams]

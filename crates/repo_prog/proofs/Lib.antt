@@ -1,4 +1,5 @@
 pub mod LineLemmas
+pub mod AddressLemmas
 pub mod TalkLemmas
 pub mod AskLemmas
 pub mod JobLemmas

@@ -1,4 +1,4 @@
-use Rattle.std.specs.Prelude.{◌≡◌, ◌≢◌, ◌⊎◌, ◌<◌, ◌≤◌, ◌++◌, ◌∷◌, [], ⊤, ℕ, List, Option, Some, None, Ok, Err, codes}
+use Rattle.std.specs.Prelude.{◌≡◌, ◌≢◌, ◌⊎◌, ◌<◌, ◌≤◌, ◌++◌, ◌∷◌, [], ⊤, ℕ, List, Option, Some, None, Ok, Err, codes, string_bytes}
 use Rattle.std.specs.Duration.{as_nanos}
 use Rattle.std.specs.declared.time.Duration.{Duration}
 use Rattle.std.specs.Io.KnownBytes.{Appends}
@@ -24,6 +24,7 @@ use Rattle.repo_prog.specs.declared.errors.FramesError.{FramesError}
 use Rattle.repo_prog.specs.declared.status.Status.{Status}
 use Rattle.repo_prog.specs.declared.words.Making.{Making}
 use Rattle.repo_prog.specs.declared.words.Order.{Order}
+use Rattle.repo_prog.specs.Addresses.{IsAddress}
 use Rattle.repo_prog.specs.FramesRun.{FramesGive}
 use Rattle.repo_prog.specs.HexLines.{line_feed}
 
@@ -108,8 +109,8 @@ IsOrder Order.Frames = ⊤
 IsOrder Order.Play = ⊤
 IsOrder Order.Loop = ⊤
 IsOrder (Order.Init folder making) = IsMaking making
-IsOrder (Order.Serve folder address serving) = (1 ≤ serving.connections) × IsAtOnce serving.at_once × IsIdle serving.idle
-IsOrder (Order.Client address errand retry idle) = IsErrand errand × IsIdle idle
+IsOrder (Order.Serve folder address serving) = IsAddress (string_bytes address) × (1 ≤ serving.connections) × IsAtOnce serving.at_once × IsIdle serving.idle
+IsOrder (Order.Client address errand retry idle) = IsAddress (string_bytes address) × IsErrand errand × IsIdle idle
 
 -- an order that reads the input
 abbrev pub ReadsInput : Order → Type 0

@@ -1,3 +1,4 @@
+pub mod Addresses
 pub mod Commands
 pub mod FramesRun
 pub mod HexLines

@@ -17,13 +17,14 @@
 //! sent and the replies that were read; or of a reply. However it ends, a job's rules are kept. Not promised: what a terminal or a
 //! file gives or takes.
 //!
-//! The definitions stand in `specs/`: `HexLines` (lines, and the bytes that they spell), `FramesRun`
+//! The definitions stand in `specs/`: `Addresses` (what an address is, as a text), `HexLines` (lines, and the bytes that they spell), `FramesRun`
 //! (what `frames` gives), `Talks` (what holds while it runs), `Commands` (what the commands give), `Tellings` (the lines
 //! of the clients' commands), `Printing` (texts of others as they are printed), `Asking` (what those do that ask), `Jobs`
 //! (what those do that bring a job to its end, or as far as it comes), `Shown` (what is shown of a job's outcome), `Errands` (what
 //! a client's errand gives).
 #![tactic(auto)]
 
+mod addresses;
 mod backing;
 mod callers;
 mod checking;
@@ -52,6 +53,7 @@ mod telling;
 mod upgrading;
 mod words;
 
+pub use addresses::is_address;
 pub use backing::{LeavesOut, backup_command, backup_from};
 pub use callers::{Caller, caller_now};
 pub use checking::check_command;

@@ -6,6 +6,7 @@ ghost use Rattle.repo_tree.specs.ConfigText.{IsTarget};
 ghost use Rattle.repo_tree.specs.Versions.{greatest_version, IsKnownTo};
 ghost use Rattle.repo_prog.specs.Commands.{IsAtOnce, IsMaking, IsOrder};
 
+use crate::addresses::address_of;
 use crate::errands::{Errand, errand_of, retry_of, with_command, with_errands};
 use crate::help::{FRAMES, INIT, LOOP, PLAY, SERVE};
 use crate::listening::Serving;
@@ -300,7 +301,7 @@ fn serve_order(alloc: Global, matches: &ArgMatches) -> Result<Order, WordsError>
     ensures { IfOk result IsOrder }
 {
     let folder = word_of(alloc, matches, "DIR")?;
-    let address = word_of(alloc, matches, "ADDR")?;
+    let address = address_of(alloc, matches)?;
     let connections = number_of(matches, "connections")?;
     if connections == 0 {
         return Err(WordsError::BadArgument);
@@ -328,7 +329,7 @@ fn client_order(alloc: Global, command: &str, words: &ArgMatches) -> Result<Orde
     ensures { IfOk result IsOrder }
 {
     let errand = errand_of(alloc, command, words)?;
-    let address = word_of(alloc, words, "ADDR")?;
+    let address = address_of(alloc, words)?;
     let retry = retry_of(words);
     let idle = idle_of(number_of(words, "idle")?);
     Ok(Order::Client {

@@ -1,0 +1,30 @@
+//! The addresses of servers, as words of the command line.
+
+ghost use Rattle.std.specs.Prelude.{◌↔◌, IfOk, IsTrue, string_bytes};
+ghost use Rattle.repo_prog.specs.Addresses.{IsAddress};
+
+use crate::words::{WordsError, word_of};
+use clap::ArgMatches;
+use std::alloc::Global;
+
+/// Whether a text is an address as a socket's call takes it: a host that isn't empty, a colon, and behind the last colon a port,
+/// 0 to 65535. Whether there is such a host isn't asked.
+pub fn is_address(text: &str) -> bool
+    ensures { IsTrue result ↔ IsAddress text.now }
+{
+    match text.rsplit_once(':') {
+        Some((host, port)) => !host.is_empty() && port.parse::<u16>().is_ok(),
+        None => false,
+    }
+}
+
+/// The address among the words of a command.
+pub fn address_of(alloc: Global, words: &ArgMatches) -> Result<String, WordsError>
+    ensures { IfOk result (λ address. IsAddress (string_bytes address)) }
+{
+    let address = word_of(alloc, words, "ADDR")?;
+    if !is_address(address.as_str()) {
+        return Err(WordsError::BadArgument);
+    }
+    Ok(address)
+}
