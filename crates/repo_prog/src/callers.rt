@@ -10,7 +10,7 @@ ghost use Rattle.repo_session.specs.Askers.{asker};
 ghost use Rattle.repo_session.specs.declared.versions.Versions.{Versions};
 ghost use Rattle.repo_prog.specs.Asking.{request_of};
 
-use crate::making::random_instance;
+use crate::init::random_instance;
 use repo_name::Instance;
 use repo_session::{Who, WhoError};
 use repo_wire::{Ask, Request};

@@ -11,9 +11,9 @@ ghost use Rattle.repo_prog.specs.declared.words.WordsError.{WordsError};
 
 use crate::connecting::run_errand;
 use crate::frames_engine::frames;
-use crate::listening::serve_folder;
-use crate::making::init_folder;
+use crate::init::init_folder;
 use crate::playing::{loop_command, play_command};
+use crate::serve::serve_folder;
 use crate::status::{Status, failed, refuse_both, refuse_words};
 use crate::words::{Order, WordsError, order_of};
 use clap::error::ErrorKind;

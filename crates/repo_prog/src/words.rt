@@ -9,11 +9,11 @@ ghost use Rattle.repo_prog.specs.Commands.{IsAtOnce, IsMaking, IsOrder};
 use crate::addresses::address_of;
 use crate::errands::{Errand, errand_of, retry_of, with_command, with_errands};
 use crate::help::{FRAMES, INIT, LOOP, PLAY, SERVE};
-use crate::listening::Serving;
 use crate::meanings::{
     APPEND_ONLY, AT_ONCE, BITS, CONNECTIONS, FORMAT, IDLE, LISTENER, MAX, MIN, NEW_STORE, STORE,
     TARGET,
 };
+use crate::serve::Serving;
 use clap::error::ErrorKind;
 use clap::{Arg, ArgAction, ArgMatches, Command};
 use repo_chunk::Params;

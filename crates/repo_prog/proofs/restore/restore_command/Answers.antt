@@ -1,0 +1,16 @@
+use Rattle.std.proofs.Common.{refl, sym, ◌∙◌}
+use Rattle.repo_prog.proofs.JobLemmas.{restore_none}
+use Rattle.repo_prog.proofs.TellLemmas.{nothing_told, tells_as}
+use Rattle.repo_prog.proofs.restore.restore_command.Goals as goal
+
+pub returns-in-Err-clause-obeyed : goal.returns-in-Err-clause-obeyed
+returns-in-Err-clause-obeyed g c = restore_none c.args.caller.now c.args.name c.args.retry (g.D.Dial.connections c.args.dial.now)
+
+pub returns-in-Err-clause-tells : goal.returns-in-Err-clause-tells
+returns-in-Err-clause-tells g c = nothing_told _ _ _ _ _ c.not_begun.ensures refl
+
+pub returns-in-Err-restored-clause-tells : goal.returns-in-Err-restored-clause-tells
+returns-in-Err-restored-clause-tells g c = nothing_told _ _ _ _ _ c.failed.ensures refl
+
+pub returns-clause-tells : goal.returns-clause-tells
+returns-clause-tells g c = tells_as _ _ _ _ _ (λ entries is. c.in-Ok-restored.ensures.ended entries (sym c.outcome.ensures ∙ is)) _ c.show_restored.ensures.shows
