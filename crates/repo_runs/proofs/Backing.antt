@@ -1,5 +1,5 @@
 -- A backup of an empty folder is a run.
-use Rattle.std.proofs.Common.{◌≡◌, ◌⊎◌, ◌<◌, ◌≤◌, ◌^◌, ◌-◌, ◌&&◌, lit≤, min, inl, inr, ⊎_elim, ℕ, Bool, true, false, cond, ◌∷◌, ◌++◌, [], List, length, refl, sym, ◌∙◌, ap, subst, Option, Some, None, arith, Ok, Contains}
+use Rattle.std.proofs.Common.{◌≡◌, ◌⊎◌, ◌<◌, ◌≤◌, ◌^◌, ◌&&◌, lit≤, inl, inr, ⊎_elim, ℕ, Bool, true, false, cond, ◌∷◌, ◌++◌, [], List, length, refl, sym, ◌∙◌, ap, subst, Some, None, arith, Ok, Contains}
 use Rattle.std.specs.declared.cmp.Ordering.{Ordering}
 use Rattle.std.specs.declared.cmp.Ordering.TheVariants.{Less, Equal, Greater}
 use Rattle.std.specs.Cmp.Lexicographic.{nat_list_cmp_total}
@@ -29,27 +29,25 @@ use Rattle.repo_store.specs.StoreMachine.{Step, object_limit}
 use Rattle.repo_store.specs.Stores.{Store, Objects, Added}
 use Rattle.repo_session.specs.declared.versions.Versions.{Versions}
 use Rattle.repo_session.specs.Askers.{asker}
-use Rattle.repo_session.specs.Catalogs.{AreIndexed}
-use Rattle.repo_session.specs.Ends as ends
 use Rattle.repo_session.specs.Order.{Task, IsWorking, Obeys, opened, lock_row}
-use Rattle.repo_session.specs.Traces.{Trace, Exchanged, Object, IsGiven, silent, same_kind}
+use Rattle.repo_session.specs.Traces.{Trace, IsGiven, silent, same_kind}
 use Rattle.repo_name.proofs.Containing.{none_contained, first_contained, contained_or, contains_flat}
 use Rattle.repo_session.proofs.Holding.{working_more, holds_of, opened_working}
 use Rattle.repo_session.proofs.Meeting.{first_page}
 use Rattle.repo_session.proofs.Rolling.{same_self}
 use Rattle.repo_session.proofs.Receiving.{kinds_same}
-use Rattle.repo_writing.specs.Putting.{PutDone, AreDone, IsPacked, IsIndexed, IsListedPack}
-use Rattle.repo_writing.specs.Writing.{bytes_of}
-use Rattle.repo_writing.proofs.PutLemmas.{indexed_later}
-use Rattle.repo_backup.specs.Folders.{nothing, blobs_of}
-use Rattle.repo_backup.specs.Rules as backing
+use Rattle.repo_writing.specs.Laws.{AreGiven, IsPutOrKept, blobs_in}
+use Rattle.repo_writing.specs.Putting.{IsIndexOf, IsIndexed}
+use Rattle.repo_backup.specs.Folders.{nothing}
+use Rattle.repo_prune.proofs.PruneRuns.{nothing_deleted}
 use Rattle.repo_runs.specs.Backed.{configured, empty_tree, snapshot_of, AreTexts, AreStored, stored, IsBackedUp, BackupIsARun}
-use Rattle.repo_world.specs.Clients.{task_of, JobAllows, JobGives, JobConcludes, Client, IsDutiful}
+use Rattle.repo_world.specs.Clients.{Client, task_of}
+use Rattle.repo_world.specs.Duties.{GivesAny, IsDutiful, MayPutSnapshot, Owes, Tells}
 use Rattle.repo_world.specs.Events.{Run}
 use Rattle.repo_runs.specs.Lone.{ended}
 use Rattle.repo_world.specs.World.{World, client_at, beginning, instance_of}
 use Rattle.repo_runs.proofs.Calming.{empty_blobs, ExchangesFew, IsQuiet, quiet_first, quiet_more, backs_nothing, few_config, few_pack, few_index, few_snapshot, calm}
-use Rattle.repo_runs.proofs.Joining.{AreUnfed, Stepped, finished, held_end, posts}
+use Rattle.repo_runs.proofs.Joining.{AreUnfed, Stepped, finished, posts}
 use Rattle.repo_world.specs.declared.jobs.Job.{Job}
 use Rattle.repo_world.specs.declared.events.Event.{Event}
 
@@ -149,83 +147,19 @@ module _ (host : List ℕ) (time : ℕ) (config pack index snapshot : List ℕ) 
   works_4 : IsWorking task token storing
   works_4 = working_more task token (silent (Ask.Put token Kind.Snapshot (naming.name snapshot) snapshot) Say.Done) indexing works_3 done_no_dead (λ t h. put_no_unlock token Kind.Snapshot (naming.name snapshot) snapshot t h)
 
-  -- ---- there is no index
-
-  no_page : (after : Option Name) → Exchanged listing (Ask.List Kind.Index after) (Say.Names true []) → ⊥
-  no_page after (inl h) = let q : Say.Names false [] ≡ Say.Names true [] = h.1 in absurd (cc)
-  no_page after (inr (inl h)) = let q = h.0 in absurd (cc)
-  no_page after (inr (inr (inl h))) = let q = h.0 in absurd (cc)
-  no_page after (inr (inr (inr (inl h)))) = let q = h.0 in absurd (cc)
-  no_page after (inr (inr (inr (inr h)))) = h
-
-  indexed_1 : AreIndexed listing
-  indexed_1 = record { listed = record { complete = refl; rise = record { ascend = tt; moves = no_page } }; each = λ n l. absurd l }
-
-  indexed_2 : AreIndexed packing
-  indexed_2 = indexed_later (silent (Ask.Put token Kind.Pack (naming.name pack) pack) Say.Done) listing token Kind.Pack (naming.name pack) pack refl indexed_1
-
-  indexed_3 : AreIndexed indexing
-  indexed_3 = indexed_later (silent (Ask.Put token Kind.Index (naming.name index) index) Say.Done) packing token Kind.Index (naming.name index) index refl indexed_2
-
-  none_got : (n : Name) (x : List ℕ) → Exchanged listing (Ask.Get Kind.Index n) (Say.Bytes x) → ⊥
-  none_got n x (inl h) = let q = h.0 in absurd (cc)
-  none_got n x (inr (inl h)) = let q = h.0 in absurd (cc)
-  none_got n x (inr (inr (inl h))) = let q = h.0 in absurd (cc)
-  none_got n x (inr (inr (inr (inl h)))) = let q = h.0 in absurd (cc)
-  none_got n x (inr (inr (inr (inr h)))) = h
-
   -- ---- its puts
 
-  made : (es : Trace) → Exchanged es Ask.Config (Say.Bytes config) → backing.IsMade [] es nothing
-  made es read = record { text = config; config = texts.read; read = read; reads = texts.configured; known = (let first = texts.first in omega (arith, first)); cut = record { holds = refl; cut = tt } }
-
-  pack_rule : backing.PackRule [] listing pack
-  unfolding made
-  pack_rule = record {
-    indexes = indexed_1;
-    first = refl;
-    items = empty_tree ∷ [];
-    pack = texts.packed;
-    folder = nothing;
-    cut = made listing (inr (inl (refl, refl)));
-    made = λ item c. subst (λ l. Contains l item) (sym (empty_blobs texts.read.version)) c;
-    once = ((λ h. none_contained h.0 h.1), tt);
-    unread = λ item c g. none_got g.1.index g.1.text g.1.read.0;
-    unput = λ item c p. none_contained p.pack p.put;
-    full = inr (record { folder = nothing; cut = made listing (inr (inl (refl, refl))); all = λ item c. inr (inr (item, subst (λ l. Contains l item) (empty_blobs texts.read.version) c, refl, refl)) });
-  }
-
-  -- all its blobs are in the pack that was put
-  all_packed : (item : Item) → Contains (blobs_of texts.read.version nothing) item → IsPacked packing item.kind item.name
-  all_packed item c = record { pack = record { name = naming.name pack; bytes = pack }; items = empty_tree ∷ []; put = first_contained (record { name = naming.name pack; bytes = pack }) []; holds = texts.packed; among = (item, subst (λ l. Contains l item) (empty_blobs texts.read.version) c, refl, refl) }
-
-  nothing_waits : backing.AreLast [] packing []
-  unfolding made
-  nothing_waits = record { folder = nothing; cut = made packing (inr (inr (inl (refl, refl)))); all = λ item c. inr (inl (all_packed item c)) }
-
-  index_rule : backing.IndexRule packing index
-  index_rule = record {
-    indexes = indexed_2;
-    first = refl;
-    lists = record {
-      packs = record { pack = naming.name pack; facts = texts.facts } ∷ [];
-      reads = texts.indexed;
-      some = λ none. omega (arith, ap length none);
-      each = λ listed c. listed_is listed (contained_or (record { pack = naming.name pack; facts = texts.facts }) [] listed c);
-    };
+  index_lists : IsIndexOf (IsPutOrKept packing) index
+  index_lists = record {
+    packs = record { pack = naming.name pack; facts = texts.facts } ∷ [];
+    reads = texts.indexed;
+    some = λ none. omega (arith, ap length none);
+    each = λ listed c. listed_is listed (contained_or (record { pack = naming.name pack; facts = texts.facts }) [] listed c);
   }
     where
-      listed_is : (listed : PackFacts) → (record { pack = naming.name pack; facts = texts.facts } ≡ listed) ⊎ Contains [] listed → IsListedPack packing listed
-      listed_is listed (inl same) = subst (λ (l : PackFacts). IsListedPack packing l) same (record { bytes = pack; items = empty_tree ∷ []; put = (token, inl (refl, refl)); holds = texts.packed; exact = texts.exact })
+      listed_is : (listed : PackFacts) → (record { pack = naming.name pack; facts = texts.facts } ≡ listed) ⊎ Contains [] listed → IsPutOrKept packing listed
+      listed_is listed (inl same) = subst (λ (l : PackFacts). IsPutOrKept packing l) same (inl (record { bytes = pack; items = empty_tree ∷ []; put = (token, inl (refl, refl)); holds = texts.packed; exact = texts.exact }))
       listed_is listed (inr none) = absurd (none_contained listed none)
-
-  only : (a b : Object) → Contains (a ∷ []) b → a ≡ b
-  only a b c = ⊎_elim (λ same. same) (λ none. absurd (none_contained b none)) (contained_or a [] b c)
-
-  all_done : AreDone indexing
-  all_done Kind.Pack object c = subst (λ (o : Object). PutDone indexing Kind.Pack o.name o.bytes) (only (record { name = naming.name pack; bytes = pack }) object c) (token, inr (inl (refl, refl)))
-  all_done Kind.Index object c = subst (λ (o : Object). PutDone indexing Kind.Index o.name o.bytes) (only (record { name = naming.name index; bytes = index }) object c) (token, inl (refl, refl))
-  all_done Kind.Snapshot object c = absurd (none_contained object c)
 
   tree_given : IsIndexed indexing Tree (naming.name (tree_text []))
   tree_given =
@@ -246,32 +180,37 @@ module _ (host : List ℕ) (time : ℕ) (config pack index snapshot : List ℕ) 
         name = refl;
       }
 
-  given : (item : Item) → Contains (blobs_of texts.read.version nothing) item → IsGiven indexing item.kind item.name ⊎ IsIndexed indexing item.kind item.name
-  given item c = ⊎_elim (λ same. subst (λ (i : Item). IsGiven indexing i.kind i.name ⊎ IsIndexed indexing i.kind i.name) same (inr tree_given)) (λ none. absurd (none_contained item none)) (contained_or empty_tree [] item (subst (λ l. Contains l item) (empty_blobs texts.read.version) c))
+  given : AreGiven indexing (empty_tree ∷ [])
+  given item c = ⊎_elim (λ same. subst (λ (i : Item). IsGiven indexing i.kind i.name ⊎ IsIndexed indexing i.kind i.name) same (inr tree_given)) (λ none. absurd (none_contained item none)) (contained_or empty_tree [] item c)
 
-  snapshot_rule : backing.SnapshotRule [] indexing token snapshot
-  unfolding made
+  snapshot_rule : MayPutSnapshot (Job.Backup []) indexing token snapshot
   snapshot_rule = record {
-    indexes = indexed_3;
-    first = refl;
-    done = all_done;
     snapshot = snapshot_of host time;
     reads = texts.reads;
     token_is = refl;
-    row = lock_row task token;
-    locked = inr (inr (inr (inr (inl (refl, refl)))));
-    own = refl;
-    host_is = refl;
-    time_is = refl;
-    folder = nothing;
-    cut = made indexing (inr (inr (inr (inl (refl, refl)))));
-    version_is = sym texts.first;
-    spells = empty_spelled 1 (λ k y. Contains (blobs_of texts.read.version nothing) (item_of k y)) (naming.name (tree_text [])) []
-        (record { text = tree_text []; among = subst (λ l. Contains l empty_tree) (sym (empty_blobs texts.read.version)) (first_contained empty_tree []); named = refl; reads = texts.empty });
+    version_is = record { text = config; config = texts.read; read = inr (inr (inr (inl (refl, refl)))); reads = texts.configured; of_version = texts.first };
+    entries = [];
+    handed = refl;
+    all = tt;
+    items = empty_tree ∷ [];
+    made = λ kind y c. record {
+      folder = nothing;
+      kind = kind;
+      cut = record {
+        text = config;
+        config = texts.read;
+        read = inr (inr (inr (inl (refl, refl))));
+        reads = texts.configured;
+        known = (let first = texts.first in omega (arith, first));
+        cut = record { holds = refl; cut = tt };
+      };
+      among = subst (λ l. Contains l (item_of kind y)) (sym (empty_blobs texts.read.version)) c;
+    };
     given = given;
+    spells = empty_spelled 1 (blobs_in (empty_tree ∷ [])) (naming.name (tree_text [])) [] (record { text = tree_text []; among = first_contained empty_tree []; named = refl; reads = texts.empty });
   }
 
-  obeys : Obeys task (JobAllows (Job.Backup [])) (JobGives (Job.Backup [])) all
+  obeys : Obeys task (Owes (Job.Backup [])) GivesAny all
   obeys = (
     holds_of task token storing works_4,
     (λ w. absurd w),
@@ -282,11 +221,11 @@ module _ (host : List ℕ) (time : ℕ) (config pack index snapshot : List ℕ) 
       inl refl,
       (
         (works_2, refl, texts.index_short),
-        (λ w. (index_rule, inr nothing_waits)),
+        (λ w. (nothing_deleted packing (λ k. refl), index_lists)),
         inl refl,
         (
           (works_1, refl, texts.pack_short),
-          (λ w. pack_rule),
+          (λ w. (nothing_deleted listing (λ k. refl), (empty_tree ∷ [], texts.packed))),
           inl refl,
           (
             ((token, works_0), first_page task token config Kind.Index),
@@ -299,28 +238,11 @@ module _ (host : List ℕ) (time : ℕ) (config pack index snapshot : List ℕ) 
     ),
   )
 
-  is_stored : backing.IsStored storing (naming.name snapshot) 1 (min (bytes_of (empty_tree ∷ [])) (2 ^ 64 - 1))
-  is_stored = record {
-    text = snapshot;
-    put = (token, inl (refl, refl));
-    counted = record {
-      packs = record { pack = record { name = naming.name pack; bytes = pack }; items = empty_tree ∷ [] } ∷ [];
-      are = refl;
-      each = (texts.packed, tt);
-      blobs_are = refl;
-      bytes_are = refl;
-    };
-  }
-
   pub dutiful : IsDutiful (ended 0 (Job.Backup []) host time all (Some (stored snapshot)))
   dutiful = record {
     obeys = obeys;
     pending = λ r h. absurd (none-some r h);
-    settled = λ e q. absurd (none-some (stored snapshot) (sym q));
-    concluded = λ o e. subst (λ x. ends.Concludes 1 (JobConcludes (Job.Backup [])) storing x) (same_Some (stored snapshot) o e) is_stored;
-    released = λ e o t h. absurd (held_end task t h.later (silent (Ask.Unlock token) Say.Done) storing h.since h.held.unended tt);
-    beside = λ r h o. absurd (none-some r h);
-    ending = λ r h u. absurd (none-some r h);
+    concluded = λ o e. subst (λ x. Tells (Job.Backup []) all x) (same_Some (stored snapshot) o e) (snapshot, (token, inr (inl (refl, refl))));
   }
 
   -- ---- the store's steps

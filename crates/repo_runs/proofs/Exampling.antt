@@ -1,10 +1,9 @@
 -- The example is a run.
 use Rattle.std.specs.Prelude.{⊤}
-use Rattle.std.proofs.Common.{◌≡◌, ◌⊎◌, ◌<◌, ◌^◌, inl, inr, ⊎_elim, ℕ, zero, suc, true, false, ◌++◌, ◌∷◌, [], List, refl, sym, ◌∙◌, ap, subst, Some, None, arith, lit≤, replicate, Ok}
+use Rattle.std.proofs.Common.{◌≡◌, ◌⊎◌, ◌<◌, ◌^◌, inl, inr, ⊎_elim, ℕ, zero, suc, true, false, ◌∷◌, [], List, refl, sym, ◌∙◌, ap, subst, Some, None, arith, lit≤, replicate, Ok}
 use Rattle.std.proofs.lemmas.Option.{none-some, same_Some}
 use Rattle.hex.specs.Hex.{IsBytes}
 use Rattle.repo_name.specs.Rows.{IsHost}
-use Rattle.repo_name.specs.declared.tokens.Token.{Token}
 use Rattle.repo_wire.specs.declared.messages.Ask.{Ask}
 use Rattle.repo_wire.specs.declared.messages.Code.{Code}
 use Rattle.repo_wire.specs.declared.messages.Reply.{Reply}
@@ -20,12 +19,11 @@ use Rattle.repo_store.specs.Stores.{empty}
 use Rattle.repo_session.specs.declared.versions.Versions.{Versions}
 use Rattle.repo_session.specs.Askers.{asker}
 use Rattle.repo_session.specs.Clients.{exchange, IsNextRequest}
-use Rattle.repo_session.specs.Ends as ends
-use Rattle.repo_session.specs.Order.{IsUnlock, locked}
-use Rattle.repo_session.specs.Traces.{Trace, Exchanged}
+use Rattle.repo_session.specs.Traces.{Exchanged}
 use Rattle.repo_session.specs.declared.outcomes.End.{End}
 use Rattle.repo_session.specs.declared.outcomes.Outcome.{Outcome}
-use Rattle.repo_world.specs.Clients.{task_of, JobAllows, JobConcludes, Client, IsDutiful}
+use Rattle.repo_world.specs.Clients.{Client, task_of}
+use Rattle.repo_world.specs.Duties.{IsDutiful, Owes, Tells}
 use Rattle.repo_world.specs.Events.{Happens, Run}
 use Rattle.repo_runs.specs.Example.{host, token, given, row, second, failed, done, removal, with_tokens, refused, last, events, ExampleIsARun}
 use Rattle.repo_world.specs.Safe.{IsSpoken, by_put, by_reply, IsKnown, known_spoken, known_part, known_made, HasNoClash}
@@ -63,46 +61,21 @@ w6 = record { store = with_tokens (granted (issued start) row); clients = refuse
 
 -- ---- the client
 
-some_none : (r : Request) → Some r ≡ None → ⊥
-some_none r e = absurd (cc)
-
-next_1 : IsNextRequest (task_of (Job.Backup []) asking.who) (JobAllows (Job.Backup [])) asking.trace second
+next_1 : IsNextRequest (task_of (Job.Backup []) asking.who) (Owes (Job.Backup [])) asking.trace second
 next_1 = record { instance = refl; sequence = refl; may = (token, refl, refl); permitted = λ work. absurd work }
 
 dutiful_1 : IsDutiful asking
 dutiful_1 = record {
   obeys = (refl, (λ work. absurd work), inl refl, tt);
-  pending = λ r e. subst (λ (q : Request). IsNextRequest (task_of (Job.Backup []) asking.who) (JobAllows (Job.Backup [])) asking.trace q) (same_Some second r e) next_1;
-  settled = λ e. absurd (some_none second e);
+  pending = λ r e. subst (λ (q : Request). IsNextRequest (task_of (Job.Backup []) asking.who) (Owes (Job.Backup [])) asking.trace q) (same_Some second r e) next_1;
   concluded = λ o e. absurd (none-some o e);
-  released = λ e. absurd (some_none second e);
-  beside = λ r e o. absurd (o refl);
-  ending = λ r e u. absurd (subst (λ (q : Request). IsUnlock q.ask) (sym (same_Some second r e)) u);
 }
-
-abbrev first_say : Trace → Say
-first_say [] = Say.Done
-first_say (e ∷ es) = e.say
-
--- its lock wasn't granted
-not_held : (later : Trace) (t : Token) → refused.trace ≡ later ++ locked (task_of (Job.Backup []) refused.who) t → ⊥
-not_held [] t e = let q : Say.Refused Code.Fault ≡ Say.Done = ap first_say e in absurd (cc)
-not_held (x ∷ []) t e = absurd (cc)
-not_held (x ∷ y ∷ []) t e = absurd (cc)
-not_held (x ∷ y ∷ z ∷ later) t e = absurd (cc)
-
-caused : ends.Concludes 1 (JobConcludes (Job.Backup [])) refused.trace (Outcome.Ended (End.Refused Code.Fault))
-caused = inl (inl (refl, ((λ q. absurd (cc)), (λ q. absurd (cc)))))
 
 dutiful_2 : IsDutiful refused
 dutiful_2 = record {
   obeys = ((token, refl, refl), (λ work. absurd work), inl refl, (refl, (λ work. absurd work), inl refl, tt));
   pending = λ r e. absurd (none-some r e);
-  settled = λ e q. absurd (none-some (Outcome.Ended (End.Refused Code.Fault)) (sym q));
-  concluded = λ o e. subst (λ x. ends.Concludes 1 (JobConcludes (Job.Backup [])) refused.trace x) (same_Some (Outcome.Ended (End.Refused Code.Fault)) o e) caused;
-  released = λ e o t h. absurd (not_held h.later t h.since);
-  beside = λ r e o. absurd (none-some r e);
-  ending = λ r e u. absurd (none-some r e);
+  concluded = λ o e. subst (λ x. Tells (Job.Backup []) refused.trace x) (same_Some (Outcome.Ended (End.Refused Code.Fault)) o e) tt;
 }
 
 -- ---- its steps

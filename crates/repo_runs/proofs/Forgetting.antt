@@ -13,25 +13,20 @@ use Rattle.repo_wire.specs.declared.messages.Say.{Say}
 use Rattle.repo_wire.specs.Messages.{page_limit}
 use Rattle.repo_locks.specs.declared.outcomes.Grant.{Grant}
 use Rattle.repo_locks.specs.TokenMachine.{issued, granted, unlocked, Tokens}
-use Rattle.repo_index.specs.declared.facts.PackFacts.{PackFacts}
-use Rattle.repo_index.specs.IndexText.{IsIndexText}
 use Rattle.repo_store.specs.Pages.{IsPage}
 use Rattle.repo_store.specs.StoreMachine.{object_limit, GetSays}
 use Rattle.repo_store.specs.Stores.{Store, Objects}
 use Rattle.repo_session.specs.declared.versions.Versions.{Versions}
 use Rattle.repo_session.specs.Askers.{asker}
-use Rattle.repo_session.specs.Catalogs.{AreIndexed}
-use Rattle.repo_session.specs.Ends as ends
-use Rattle.repo_session.specs.Listings.{IsSnapshotListing}
 use Rattle.repo_session.specs.Order.{Task, IsWorking, Obeys, opened, lock_row}
-use Rattle.repo_session.specs.Traces.{Trace, Exchanged, WasAsked, Object, silent}
+use Rattle.repo_session.specs.Traces.{Trace, Exchanged, WasAsked, silent}
 use Rattle.repo_session.specs.declared.outcomes.Outcome.{Outcome}
-use Rattle.repo_name.proofs.Containing.{none_contained, first_contained}
+use Rattle.repo_name.proofs.Containing.{none_contained}
 use Rattle.repo_session.proofs.Holding.{working_more, holds_of, opened_working}
 use Rattle.repo_session.proofs.Meeting.{first_page}
-use Rattle.repo_prune.specs.Pruning.{AreCovered, IsSettled, IsPruned}
 use Rattle.repo_runs.specs.Backed.{configured, AreTexts, stored}
-use Rattle.repo_world.specs.Clients.{task_of, JobAllows, JobGives, JobConcludes, Client, IsDutiful}
+use Rattle.repo_world.specs.Clients.{Client, task_of}
+use Rattle.repo_world.specs.Duties.{GivesAny, IndexMayGo, IsDutiful, Owes, PackMayGo, Tells}
 use Rattle.repo_world.specs.Events.{Run}
 use Rattle.repo_runs.specs.Lone.{ended}
 use Rattle.repo_world.specs.World.{World, client_at, beginning, instance_of}
@@ -39,20 +34,15 @@ use Rattle.repo_runs.proofs.Backing as backup
 use Rattle.repo_runs.proofs.Backing.{there_now}
 use Rattle.repo_runs.proofs.GivingBack.{bytes_no_dead, names_no_dead, token}
 use Rattle.repo_runs.proofs.Calming.{ExchangesFew, IsQuiet, quiet_more, few_config, few_index, calm}
-use Rattle.repo_runs.proofs.Joining.{Stepped, finished, held_end}
+use Rattle.repo_runs.proofs.Joining.{Stepped, finished}
 use Rattle.std.proofs.Common.{◌⊎◌}
 use Rattle.repo_name.specs.declared.tokens.Token.{Token}
-use Rattle.std.specs.List.Sorted.{IsStrictlySortedBy}
 use Rattle.repo_store.specs.Stores.{Removed}
 use Rattle.repo_session.specs.Deletions.{DeleteDone}
 use Rattle.repo_session.specs.Told.{AskedToPut}
-use Rattle.repo_session.specs.Traces.{IsRead, objects_put}
-use Rattle.repo_prune.specs.Forgetting as forgets
-use Rattle.repo_prune.specs.Pruning.{MayDeleteIndex, MayDeletePack}
 use Rattle.repo_prune.specs.declared.choices.Choice.{Choice}
 use Rattle.repo_runs.specs.Backed.{IsForgottenInRun, ForgetIsARun}
 use Rattle.repo_runs.proofs.Backing.{is_here, at_here, here_is}
-use Rattle.repo_runs.proofs.Tidying.{only}
 use Rattle.repo_world.specs.declared.jobs.Job.{Job}
 use Rattle.repo_world.specs.declared.events.Event.{Event}
 
@@ -85,10 +75,6 @@ third = record { 0 = 3 }
 
 no_unlock_delete : (t : Token) (k : Kind) (n : Name) (u : Token) → Ask.Delete t k n ≡ Ask.Unlock u → ⊥
 no_unlock_delete t k n u h = absurd (cc)
-
-strictly_one : (n : Name) → IsStrictlySortedBy name_cmp (n ∷ [])
-unfolding IsStrictlySortedBy
-strictly_one n = (tt, tt)
 
 module _ (host : List ℕ) (time : ℕ) (config pack index snapshot : List ℕ) (names : List Name) (limits : (time < 2 ^ 64) × IsHost host) (texts : AreTexts host time config pack index snapshot) (chosen : Contains names (naming.name snapshot)) where
   abbrev np : Name
@@ -152,55 +138,29 @@ module _ (host : List ℕ) (time : ℕ) (config pack index snapshot : List ℕ) 
     no_more_names : (more : List Name) (x : Name) → Say.Names false (x ∷ more) ≡ Say.Names true [] → ⊥
     no_more_names more x h = absurd (cc)
 
-    no_page : (after : Option Name) → Exchanged f2 (Ask.List Kind.Snapshot after) (Say.Names true []) → ⊥
-    no_page after (inl h) = let q = h.0 in absurd (cc)
-    no_page after (inr (inl h)) = no_more_names [] ns h.1
-    no_page after (inr (inr (inl h))) = let q = h.0 in absurd (cc)
-    no_page after (inr (inr (inr (inl h)))) = let q = h.0 in absurd (cc)
-    no_page after (inr (inr (inr (inr (inl h))))) = let q = h.0 in absurd (cc)
-    no_page after (inr (inr (inr (inr (inr h))))) = h
-
-    obeys : Obeys task (JobAllows (Job.Forget choice)) (JobGives (Job.Forget choice)) forgetting
+    obeys : Obeys task (Owes (Job.Forget choice)) GivesAny forgetting
     obeys = (
       holds_of task token f2 works_2,
       (λ x. absurd x),
       inl refl,
       (
         (works_1, refl),
-        (λ x. (refl, record { rows = []; decided = record { complete = refl; rise = record { ascend = (tt, tt); moves = λ after h. no_page after (inr h) } }; among = inl refl; chosen = chosen })),
+        (λ x. (choice, refl)),
         inl refl,
         (
           ((token, works_0), first_page task token config Kind.Snapshot),
-          (λ x. (tt, λ k. refl)),
+          (λ x. tt),
           inl refl,
           ((token, refl), (λ x. absurd x), inl refl, ((token, refl, refl), (λ x. absurd x), inl refl, (refl, (λ x. absurd x), inl refl, tt))),
         ),
       ),
     )
 
-    is_forgotten : forgets.IsForgotten choice f2 (ns ∷ [])
-    is_forgotten = record {
-      chosen = record {
-        rows = [];
-        decided = record { complete = refl; rise = record { ascend = (tt, tt); moves = no_page } };
-        each = λ n. (
-          λ c. (let e = only ns n c in (inl (sym e), subst (λ m. Contains names m) e chosen)),
-          λ l. ⊎_elim (λ e. subst (λ m. Contains (ns ∷ []) m) (sym e) (first_contained ns [])) (λ none. absurd none) l.0,
-        );
-        ascend = strictly_one ns;
-      };
-      done = λ n c. subst (λ m. DeleteDone f2 Kind.Snapshot m) (only ns n c) (token, inl (refl, refl));
-    }
-
     dutiful : IsDutiful (ended (length w.clients) (Job.Forget choice) host time forgetting (Some (Outcome.Forgotten (ns ∷ []))))
     dutiful = record {
       obeys = obeys;
       pending = λ r h. absurd (none-some r h);
-      settled = λ e q. absurd (none-some (Outcome.Forgotten (ns ∷ [])) (sym q));
-      concluded = λ o e. subst (λ x. ends.Concludes 1 (JobConcludes (Job.Forget choice)) f2 x) (same_Some (Outcome.Forgotten (ns ∷ [])) o e) is_forgotten;
-      released = λ e o t h. absurd (held_end task t h.later (silent (Ask.Unlock token) Say.Done) f2 h.since h.held.unended tt);
-      beside = λ r h o. absurd (none-some r h);
-      ending = λ r h u. absurd (none-some r h);
+      concluded = λ o e. subst (λ x. Tells (Job.Forget choice) forgetting x) (same_Some (Outcome.Forgotten (ns ∷ [])) o e) tt;
     }
 
     abbrev tokens : Tokens
@@ -322,68 +282,29 @@ module _ (host : List ℕ) (time : ℕ) (config pack index snapshot : List ℕ) 
       no_put t k n x (inr (inr (inr (inr (inr (inr (inr (inr (inl h))))))))) = absurd (cc)
       no_put t k n x (inr (inr (inr (inr (inr (inr (inr (inr (inr h))))))))) = h
 
-      nothing_covered : (es : Trace) → AreCovered es [] []
-      nothing_covered es = record {
-        texts = [];
-        trees = record { received = λ x c. absurd (none_contained x c); one = λ x y a b e. absurd (none_contained x a) };
-        walked = λ row n among r. absurd (none_contained row among);
-        given = λ k n h. absurd (none_contained h.row h.among);
-        just = λ f c. absurd (none_contained f c);
-        once = tt;
-      }
-
-      -- nothing is needed, and nothing was put
-      settled_at : (es : Trace) → IsSnapshotListing es [] → AreIndexed es → ((k : Kind) → objects_put k es ≡ []) → IsSettled es []
-      settled_at es listing indexed none = record {
-        rows = [];
-        snapshots = listing;
-        indexes = indexed;
-        done = λ k object c. absurd (none_contained object (subst (λ (os : List Object). Contains os object) (none k) c));
-        listed = record { listings = []; indexes = sym (none Kind.Index); read_back = tt; lists = refl };
-        full = λ l c. absurd (none_contained l c);
-        stand = λ object c. absurd (none_contained object (subst (λ (os : List Object). Contains os object) (none Kind.Pack) c));
-        covered = nothing_covered es;
-      }
-
-      listed_index : (es : Trace) (n : Name) → (n ≡ ni) ⊎ ⊥ → Exchanged es (Ask.Get Kind.Index ni) (Say.Bytes index) → (x : List ℕ) × (packs : List PackFacts) × IsRead es Kind.Index n x × IsIndexText x packs
-      listed_index es n l h = ⊎_elim (λ e. (index, record { pack = np; facts = texts.facts } ∷ [], subst (λ m. IsRead es Kind.Index m index) (sym e) (h, refl), texts.indexed)) (λ none. absurd none) l
-
-      settled_4 : IsSettled p4 []
-      settled_4 = settled_at p4
-          (record { listed = record { complete = refl; rise = record { ascend = tt; moves = λ after h. no_turn Kind.Snapshot after (inr (inr h)) } }; names = refl; each = tt })
-          (record { listed = record { complete = refl; rise = record { ascend = (tt, tt); moves = λ after h. no_turn Kind.Index after (inr (inr h)) } }; each = λ n l. listed_index p4 n l (inr (inl (refl, refl))) })
-          (λ k. refl)
-
-      settled_5 : IsSettled p5 []
-      settled_5 = settled_at p5
-          (record { listed = record { complete = refl; rise = record { ascend = tt; moves = λ after h. no_turn Kind.Snapshot after (inr h) } }; names = refl; each = tt })
-          (record { listed = record { complete = refl; rise = record { ascend = (tt, tt); moves = λ after h. no_turn Kind.Index after (inr h) } }; each = λ n l. listed_index p5 n l (inr (inr (inl (refl, refl)))) })
-          (λ k. refl)
-
-      settled_6 : IsSettled p6 []
-      settled_6 = settled_at p6
-          (record { listed = record { complete = refl; rise = record { ascend = tt; moves = no_turn Kind.Snapshot } }; names = refl; each = tt })
-          (record { listed = record { complete = refl; rise = record { ascend = (tt, tt); moves = no_turn Kind.Index } }; each = λ n l. listed_index p6 n l (inr (inr (inr (inl (refl, refl))))) })
-          (λ k. refl)
-
       index_gone : (es : Trace) (n : Name) → (n ≡ ni) ⊎ ⊥ → DeleteDone es Kind.Index ni → AskedToPut es Kind.Index n ⊎ DeleteDone es Kind.Index n
       index_gone es n l d = ⊎_elim (λ e. inr (subst (λ m. DeleteDone es Kind.Index m) (sym e) d)) (λ none. absurd none) l
 
-      index_rule : MayDeleteIndex p4 ni
-      index_rule = record { packs = []; settled = settled_4; among = inl refl; unput = λ p. no_put p.0 Kind.Index ni p.1 (inr (inr p.2)) }
-
-      pack_rule : MayDeletePack p5 np
-      pack_rule = record {
-        packs = [];
-        settled = settled_5;
-        replaced = λ n l. index_gone p5 n l (third, inl (refl, refl));
-        all = record { complete = refl; rise = record { ascend = (tt, tt); moves = λ after h. no_turn Kind.Pack after (inr h) } };
-        among = inl refl;
-        unput = λ p. no_put p.0 Kind.Pack np p.1 (inr p.2);
-        unlisted = λ l. none_contained l.0 l.1;
+      -- nothing is needed, and nothing was put
+      index_rule : IndexMayGo p4 ni
+      index_rule = record {
+        listed = record { complete = refl; rise = record { ascend = tt; moves = λ after h. no_turn Kind.Snapshot after (inr (inr h)) } };
+        trees = [];
+        received = λ x c. absurd (none_contained x c);
+        carried = λ s l. absurd l;
+        done = λ t i x asked. absurd (no_put t Kind.Index i x (inr (inr asked)));
+        unput = λ p. no_put p.0 Kind.Index ni p.1 (inr (inr p.2));
       }
 
-      keeps_order : Obeys work (JobAllows Job.Prune) (JobGives Job.Prune) pruning
+      pack_rule : PackMayGo p5 np
+      pack_rule = record {
+        listed = record { complete = refl; rise = record { ascend = (tt, tt); moves = λ after h. no_turn Kind.Index after (inr h) } };
+        replaced = λ n l. index_gone p5 n l (third, inl (refl, refl));
+        unput = λ p. no_put p.0 Kind.Pack np p.1 (inr p.2);
+        unnamed = λ t i x fact asked says. absurd (no_put t Kind.Index i x (inr asked));
+      }
+
+      keeps_order : Obeys work (Owes Job.Prune) GivesAny pruning
       keeps_order = (
         holds_of work third p6 at_6,
         (λ x. absurd x),
@@ -398,19 +319,19 @@ module _ (host : List ℕ) (time : ℕ) (config pack index snapshot : List ℕ) 
             inl refl,
             (
               ((third, at_3), record { rise = record { ascend = tt; moves = λ after h. no_turn Kind.Pack after (inr (inr (inr h))) }; incomplete = refl; last = refl }),
-              (λ x. (tt, λ k. refl)),
+              (λ x. tt),
               inl refl,
               (
                 ((third, at_2), inl (record { ascend = (tt, tt); moves = λ after h. no_turn Kind.Index after (inr (inr (inr (inr h)))) }, inl refl)),
-                (λ x. (tt, λ k. refl)),
+                (λ x. tt),
                 inl refl,
                 (
                   ((third, at_1), record { rise = record { ascend = tt; moves = λ after h. no_turn Kind.Index after (inr (inr (inr (inr (inr h))))) }; incomplete = refl; last = refl }),
-                  (λ x. (tt, λ k. refl)),
+                  (λ x. tt),
                   inl refl,
                   (
                     ((third, at_0), first_page work third config Kind.Snapshot),
-                    (λ x. (tt, λ k. refl)),
+                    (λ x. tt),
                     inl refl,
                     ((third, refl), (λ x. absurd x), inl refl, ((third, refl, refl), (λ x. absurd x), inl refl, (refl, (λ x. absurd x), inl refl, tt))),
                   ),
@@ -421,27 +342,11 @@ module _ (host : List ℕ) (time : ℕ) (config pack index snapshot : List ℕ) 
         ),
       )
 
-      is_pruned : IsPruned p6 1 0
-      is_pruned = record {
-        packs = [];
-        settled = settled_6;
-        replaced = λ n l. index_gone p6 n l (third, inr (inl (refl, refl)));
-        all = record { complete = refl; rise = record { ascend = (tt, tt); moves = no_turn Kind.Pack } };
-        gone = λ n l. ⊎_elim (λ e. inr (subst (λ m. DeleteDone p6 Kind.Pack m) (sym e) (third, inl (refl, refl)))) (λ none. absurd none) l;
-        deleted_are = refl;
-        blobs = 0;
-        counted = record { packs = []; are = refl; each = tt; blobs_are = refl; bytes_are = refl };
-      }
-
       prunes_well : IsDutiful (ended (length v.clients) Job.Prune host time pruning (Some (Outcome.Pruned 1 0)))
       prunes_well = record {
         obeys = keeps_order;
         pending = λ r h. absurd (none-some r h);
-        settled = λ e q. absurd (none-some (Outcome.Pruned 1 0) (sym q));
-        concluded = λ o e. subst (λ x. ends.Concludes 1 (JobConcludes Job.Prune) p6 x) (same_Some (Outcome.Pruned 1 0) o e) is_pruned;
-        released = λ e o t h. absurd (held_end work t h.later (silent (Ask.Unlock third) Say.Done) p6 h.since h.held.unended tt);
-        beside = λ r h o. absurd (none-some r h);
-        ending = λ r h u. absurd (none-some r h);
+        concluded = λ o e. subst (λ x. Tells Job.Prune pruning x) (same_Some (Outcome.Pruned 1 0) o e) tt;
       }
 
       abbrev last_tokens : Tokens

@@ -30,23 +30,22 @@ use Rattle.repo_store.specs.StoreMachine.{Step, object_limit, GetSays}
 use Rattle.repo_store.specs.Stores.{Store, Objects}
 use Rattle.repo_session.specs.declared.versions.Versions.{Versions}
 use Rattle.repo_session.specs.Askers.{asker}
-use Rattle.repo_session.specs.Ends as ends
 use Rattle.repo_session.specs.Order.{Task, IsWorking, Obeys, opened, lock_row}
 use Rattle.repo_session.specs.Received.{Received}
 use Rattle.repo_session.specs.Traces.{Trace, Exchanged, ReadFact, silent}
 use Rattle.repo_session.specs.declared.outcomes.Outcome.{Outcome}
 use Rattle.repo_name.proofs.Containing.{first_contained, contains_flat}
 use Rattle.repo_session.proofs.Holding.{working_more, holds_of, opened_working}
-use Rattle.repo_restore.specs.Restoring.{IsRestored}
 use Rattle.repo_runs.specs.Backed.{configured, empty_tree, snapshot_of, AreTexts, stored, IsGivenBack, RestoreIsARun}
-use Rattle.repo_world.specs.Clients.{task_of, JobAllows, JobGives, JobConcludes, Client, IsDutiful}
+use Rattle.repo_world.specs.Clients.{Client, task_of}
+use Rattle.repo_world.specs.Duties.{GivesAny, HasGivenBack, IsDutiful, Owes, Tells}
 use Rattle.repo_world.specs.Events.{Run}
 use Rattle.repo_runs.specs.Lone.{ended}
 use Rattle.repo_world.specs.World.{World, client_at, beginning, instance_of}
 use Rattle.repo_runs.proofs.Backing as backup
 use Rattle.repo_runs.proofs.Backing.{there_now}
 use Rattle.repo_runs.proofs.Calming.{ExchangesFew, IsQuiet, quiet_more, few_config, few_index, few_snapshot, few_tree, calm}
-use Rattle.repo_runs.proofs.Joining.{Stepped, finished, held_end}
+use Rattle.repo_runs.proofs.Joining.{Stepped, finished}
 use Rattle.repo_world.specs.declared.jobs.Job.{Job}
 use Rattle.repo_world.specs.declared.events.Event.{Event}
 
@@ -138,7 +137,7 @@ module _ (host : List ℕ) (time : ℕ) (config pack index snapshot : List ℕ) 
     read_fact : (es : Trace) → Exchanged es (Ask.Get Kind.Index ni) (Say.Bytes index) → ReadFact es fact
     read_fact es h = record { index = ni; text = index; read = (h, refl); says = says }
 
-    obeys : Obeys task (JobAllows (Job.Restore ns)) (JobGives (Job.Restore ns)) all
+    obeys : Obeys task (Owes (Job.Restore ns)) GivesAny all
     obeys = (
       holds_of task token walking works_4,
       (λ x. absurd x),
@@ -166,28 +165,23 @@ module _ (host : List ℕ) (time : ℕ) (config pack index snapshot : List ℕ) 
       ),
     )
 
-    tree_received : Received walking Tree (tree_text [])
-    tree_received = record { fact = fact; given = read_fact walking (inr (inl (refl, refl))); of_kind = refl; replied = inl (refl, refl); named = refl }
+    tree_received : Received all Tree (tree_text [])
+    tree_received = record { fact = fact; given = read_fact all (inr (inr (inl (refl, refl)))); of_kind = refl; replied = inr (inl (refl, refl)); named = refl }
 
-    restored : IsRestored walking ns 0
-    restored = (
-      1,
-      naming.name (tree_text []),
-      (snapshot, snapshot_of host time, (inr (inr (inr (inl (refl, refl)))), refl), texts.reads, refl, refl),
-      empty_spelled 1 (Received walking) (naming.name (tree_text [])) [] (record { text = tree_text []; among = tree_received; named = refl; reads = texts.empty }),
-      refl,
-      refl,
-    )
+    given_back : HasGivenBack all ns
+    given_back = record {
+      version = 1;
+      root = naming.name (tree_text []);
+      found = (snapshot, snapshot_of host time, (inr (inr (inr (inr (inl (refl, refl))))), refl), texts.reads, refl, refl);
+      spells = empty_spelled 1 (Received all) (naming.name (tree_text [])) [] (record { text = tree_text []; among = tree_received; named = refl; reads = texts.empty });
+      whole = refl;
+    }
 
     dutiful : IsDutiful (ended (length w.clients) (Job.Restore ns) host time all (Some (Outcome.Complete 0)))
     dutiful = record {
       obeys = obeys;
       pending = λ r h. absurd (none-some r h);
-      settled = λ e q. absurd (none-some (Outcome.Complete 0) (sym q));
-      concluded = λ o e. subst (λ x. ends.Concludes 1 (JobConcludes (Job.Restore ns)) walking x) (same_Some (Outcome.Complete 0) o e) restored;
-      released = λ e o t h. absurd (held_end task t h.later (silent (Ask.Unlock token) Say.Done) walking h.since h.held.unended tt);
-      beside = λ r h o. absurd (none-some r h);
-      ending = λ r h u. absurd (none-some r h);
+      concluded = λ o e. subst (λ x. Tells (Job.Restore ns) all x) (same_Some (Outcome.Complete 0) o e) given_back;
     }
 
     -- ---- the store's steps
@@ -290,11 +284,11 @@ module _ (host : List ℕ) (time : ℕ) (config pack index snapshot : List ℕ) 
         calm = λ apart. calm config pack index snapshot host time texts apart _ (quiet_more config pack index snapshot w (restorer w same) (all w same) (store_of w same (unlocked (tokens w same) token)) quiet (all_few w same) (λ x none. absurd none));
       }
 
-  given_back : IsGivenBack config pack index snapshot
-  given_back =
+  restored : IsGivenBack config pack index snapshot
+  restored =
       let first = finished (beginning (configured config)) (Job.Backup []) host time tt limits (silent (Ask.Unlock backup.token) Say.Done) (backup.storing host time config pack index snapshot limits texts) from (stored snapshot)
       (backup.steps host time config pack index snapshot limits texts) (backup.all_unfed host time config pack index snapshot limits texts) (backup.dutiful host time config pack index snapshot limits texts) in
       after _ first.0 first.1 refl refl (backup.quiet host time config pack index snapshot limits texts)
 
 pub restore_is_a_run : RestoreIsARun
-restore_is_a_run host time config pack index snapshot limits texts = given_back host time config pack index snapshot limits texts
+restore_is_a_run host time config pack index snapshot limits texts = restored host time config pack index snapshot limits texts

@@ -1,6 +1,6 @@
 -- What a client that is alone with its store does is a part of a run.
 use Rattle.std.specs.Prelude.{⊤}
-use Rattle.std.proofs.Common.{arith, take_all, ◌≡◌, ◌≢◌, ◌⊎◌, ◌<◌, ◌^◌, inl, inr, ⊎_elim, ℕ, ◌+◌, false, ◌++◌, ◌∷◌, [], List, length, refl, sym, ◌∙◌, ap, subst, Option, Some, None, slice_get, slice_set, append-nil}
+use Rattle.std.proofs.Common.{arith, take_all, ◌≡◌, ◌≢◌, ◌<◌, ◌^◌, inl, inr, ℕ, ◌+◌, false, ◌++◌, ◌∷◌, [], List, length, refl, sym, ◌∙◌, ap, subst, Option, Some, None, slice_get, slice_set, append-nil}
 use Rattle.std.proofs.lemmas.Option.{none-some}
 use Rattle.repo_name.specs.Rows.{IsHost}
 use Rattle.repo_name.specs.declared.tokens.Token.{Token}
@@ -10,13 +10,11 @@ use Rattle.repo_wire.specs.declared.messages.Request.{Request}
 use Rattle.repo_wire.specs.declared.messages.Say.{Say}
 use Rattle.repo_store.specs.StoreMachine.{Step}
 use Rattle.repo_store.specs.Stores.{Store}
-use Rattle.repo_session.specs.Versions.{upto}
 use Rattle.repo_session.specs.declared.versions.Versions.{Versions}
 use Rattle.repo_session.specs.declared.outcomes.Outcome.{Outcome}
 use Rattle.repo_session.specs.Askers.{Asker, asker}
 use Rattle.repo_session.specs.Clients.{exchange}
-use Rattle.repo_session.specs.Ends as ends
-use Rattle.repo_session.specs.Order.{Task, May, IsPermitted, IsUnlock, IsNoUnlock, IsWorking, Obeys, opened, locked, ticketed}
+use Rattle.repo_session.specs.Order.{Task, May, IsPermitted, IsWorking, Obeys, opened, locked, ticketed}
 use Rattle.repo_session.specs.Talks.{Talk, trace_of}
 use Rattle.repo_session.specs.Feeds.{Fed, fed_dir, fed_file, fed_bytes, fed_close, fed_end, fed_abandon}
 use Rattle.repo_session.specs.Traces.{Each, Exchange, Trace, fed_in, feeding, giving}
@@ -28,12 +26,14 @@ use Rattle.repo_feeding.specs.FedRules.{AreWelcome, AreWelcomeOn}
 use Rattle.repo_feeding.specs.Unfed.{unfed}
 use Rattle.repo_feeding.proofs.Fed.{fed_clients}
 use Rattle.repo_session.proofs.Growing.{Led, led}
-use Rattle.repo_world.specs.Clients.{Accepts, task_of, JobAllows, JobGives, JobConcludes, JobWants, Client, IsDutiful}
+use Rattle.repo_world.specs.Clients.{Accepts, Client, task_of}
+use Rattle.repo_world.specs.Duties.{GivesAny, IsDutiful, Owes}
+use Rattle.repo_world.proofs.Owing.{ruled_dutiful}
 use Rattle.repo_world.specs.Events.{Delivers, Feeds, Takes, Happens, Run}
 use Rattle.repo_store.specs.Failing.{Plainly}
-use Rattle.repo_runs.proofs.Waiting.{ShowsThen, asked_of, is_unlock, waits_dutiful, without_older}
+use Rattle.repo_runs.proofs.Waiting.{asked_of, waits_dutiful}
 use Rattle.repo_runs.specs.Fed.{AreWelcomeTo, IsFedWell}
-use Rattle.repo_runs.specs.Lone.{FedBackupIsARun, LoneTalkIsARun}
+use Rattle.repo_runs.specs.Lone.{FedBackupIsARun, LoneTalkIsARun, ended}
 use Rattle.repo_world.specs.World.{World, Message, Asked, Said, client, client_at, sends, instance_of, first_of, started}
 use Rattle.repo_world.specs.declared.jobs.Job.{Job}
 use Rattle.repo_world.specs.declared.events.Event.{Event}
@@ -62,56 +62,7 @@ pub run_more : (w : World) (es fs : List Event) (u v : World) → Run w es u →
 run_more w [] fs u v h g = subst (λ (x : World). Run x fs v) h g
 run_more w (e ∷ es) fs u v h g = (h.0, h.1, run_more h.0 es fs u v h.2 g)
 
--- ---- nothing comes after the end of the lock
-
-unlock_ask : (a : Ask) (b : Ask) → a ≡ b → IsUnlock a → IsUnlock b
-unlock_ask a b e u = subst IsUnlock e u
-
-no_unlock_head : (e : Exchange) → IsNoUnlock e → IsUnlock e.ask → ⊥
-no_unlock_head e none u = is_one e.ask (λ t q. none t q) u
-  where
-    is_one : (a : Ask) → ((t : Token) → a ≢ Ask.Unlock t) → IsUnlock a → ⊥
-    is_one (Ask.Unlock t) never v = never t refl
-    is_one Ask.Ticket never v = v
-    is_one (Ask.Lock row) never v = v
-    is_one (Ask.Refresh t time) never v = v
-    is_one Ask.Locks never v = v
-    is_one (Ask.List k after) never v = v
-    is_one (Ask.Get k n) never v = v
-    is_one (Ask.Range p offset len) never v = v
-    is_one (Ask.Put t k n x) never v = v
-    is_one (Ask.Delete t k n) never v = v
-    is_one (Ask.Upgrade t) never v = v
-    is_one Ask.Config never v = v
-
-abbrev first_ask : Trace → Ask
-first_ask [] = Ask.Ticket
-first_ask (e ∷ es) = e.ask
-
-pub held_end : (task : Task) (token : Token) (later : Trace) (e : Exchange) (es : Trace) → e ∷ es ≡ later ++ locked task token → Each IsNoUnlock later → IsUnlock e.ask → ⊥
-held_end task token [] e es since none u = let q : e.ask ≡ Ask.Lock _ = ap first_ask since in subst IsUnlock q u
-held_end task token (x ∷ later) e es since none u = no_unlock_head x none.0 (subst IsUnlock (ap first_ask since) u)
-
-open_end : (task : Task) (token : Token) (text : List ℕ) (later : Trace) (e : Exchange) (es : Trace) → e ∷ es ≡ later ++ opened task token text → Each IsNoUnlock later → IsUnlock e.ask → ⊥
-open_end task token text [] e es since none u = subst IsUnlock (ap first_ask since) u
-open_end task token text (x ∷ later) e es since none u = no_unlock_head x none.0 (subst IsUnlock (ap first_ask since) u)
-
-working_end : (task : Task) (token : Token) (e : Exchange) (es : Trace) → IsWorking task token (e ∷ es) → IsUnlock e.ask → ⊥
-working_end task token e es w u = let o = w.1 in open_end task token o.text o.later e es o.since o.held.unended u
-
-pub no_more : (task : Task) (e : Exchange) (es : Trace) (a : Ask) → May task (e ∷ es) a → IsUnlock e.ask → ⊥
-no_more task e es Ask.Ticket m u = absurd (cc)
-no_more task e es (Ask.Lock row) m u = subst IsUnlock (ap first_ask m.1) u
-no_more task e es Ask.Config m u = subst IsUnlock (ap first_ask m.1) u
-no_more task e es (Ask.List k after) m u = working_end task m.0.0 e es m.0.1 u
-no_more task e es (Ask.Get k n) m u = working_end task m.0.0 e es m.0.1 u
-no_more task e es (Ask.Range p offset len) m u = working_end task m.0.0 e es m.0.1 u
-no_more task e es (Ask.Put t k n x) m u = working_end task t e es m.0 u
-no_more task e es (Ask.Delete t k n) m u = working_end task t e es m.0 u
-no_more task e es (Ask.Upgrade t) m u = working_end task t e es m.0 u
-no_more task e es (Ask.Unlock t) m u = held_end task t m.later e es m.since m.held.unended u
-no_more task e es (Ask.Refresh t time) m u = m
-no_more task e es Ask.Locks m u = m
+-- ---- first comes the ticket
 
 none_yet : (task : Task) (token : Token) → IsWorking task token [] → ⊥
 none_yet task token w = let o = w.1 in not_opened task token o.text o.later o.since
@@ -124,7 +75,6 @@ not_locked : (task : Task) (token : Token) (later : Trace) → [] ≡ later ++ l
 not_locked task token [] q = absurd (cc)
 not_locked task token (x ∷ later) q = absurd (cc)
 
--- first comes the ticket
 pub first_ticket : (task : Task) (a : Ask) → May task [] a → a ≡ Ask.Ticket
 first_ticket task Ask.Ticket m = refl
 first_ticket task (Ask.Lock row) m = let q : [] ≡ ticketed m.0 = m.1 in absurd (cc)
@@ -198,22 +148,9 @@ module _ (w : World) (job : Job) (host : List ℕ) (time : ℕ) (accepted : Acce
   abbrev at : Trace → Option Request → Option Outcome → Store → World
   at es next o store = record { store = store; clients = w.clients ++ talking es next o ∷ []; messages = sent es ++ sends (length w.clients) next }
 
-  -- a client that waits for input is dutiful, where it may want it
-  waits_input : (fed old : List Fed) (ask : Ask) (say : Say) (emitted : List Emission) (es : Trace) → job ≡ Job.Pieces → WantsInput (on_exchange fed ask say emitted ∷ es)
-      → Obeys (task_of job who) (JobAllows job) (JobGives job) (on_exchange old ask say emitted ∷ es) → IsDutiful (talking (on_exchange fed ask say emitted ∷ es) None None)
-  waits_input fed old ask say emitted es pieces wants obeys = record {
-    obeys = (obeys.0, obeys.1, quiet obeys.2, obeys.3);
-    pending = λ r q. absurd (none-some r q);
-    settled = λ q o. subst (λ j. JobWants j (on_exchange fed ask say emitted ∷ es)) (sym pieces) wants;
-    concluded = λ x q. absurd (none-some x q);
-    released = λ q there. absurd (there refl);
-    beside = λ r q there. absurd (none-some r q);
-    ending = λ r q u. absurd (none-some r q);
-  }
-    where
-      quiet : (emitted ≡ []) ⊎ JobGives job es (on_exchange old ask say emitted) → (emitted ≡ []) ⊎ JobGives job es (on_exchange fed ask say emitted)
-      quiet (inl none) = inl none
-      quiet (inr gives) = absurd (subst (λ j. JobGives j es (on_exchange old ask say emitted)) pieces gives)
+  -- a client that waits for input is dutiful
+  waits_input : (fed old : List Fed) (ask : Ask) (say : Say) (emitted : List Emission) (es : Trace) → Obeys (task_of job who) (Owes job) GivesAny (on_exchange old ask say emitted ∷ es) → IsDutiful (talking (on_exchange fed ask say emitted ∷ es) None None)
+  waits_input fed old ask say emitted es obeys = record { obeys = (obeys.0, obeys.1, inr tt, obeys.3); pending = λ r q. absurd (none-some r q); concluded = λ x q. absurd (none-some x q) }
 
   -- the request is delivered, and its reply
   module _ (es : Trace) (ask : Ask) (say : Say) (emitted : List Emission) (mid to : Store) (o : Option Outcome) (step : Step mid ask say to) where
@@ -307,18 +244,13 @@ module _ (w : World) (job : Job) (host : List ℕ) (time : ℕ) (accepted : Acce
       one_item = (Event.Feed (length w.clients) (as_item item) ∷ [], (at (on_exchange (item ∷ items) ask say emitted ∷ es) next p to, (Applied.Done, fed_now), refl))
 
     -- all items but the newest
-    older_items : (item : Fed) (items all : List Fed) → AreWelcomeOn (item ∷ items) ask say emitted es → Obeys (task_of job who) (JobAllows job) (JobGives job) (on_exchange all ask say emitted ∷ es)
+    older_items : (item : Fed) (items all : List Fed) → AreWelcomeOn (item ∷ items) ask say emitted es → Obeys (task_of job who) (Owes job) GivesAny (on_exchange all ask say emitted ∷ es)
         → (events : List Event) × Run (at (giving ask say emitted ∷ es) None None to) events (at (on_exchange items ask say emitted ∷ es) None None to)
     older_items item [] all welcome obeys = ([], refl)
     older_items item (older ∷ items) all welcome obeys =
         let before = older_items older items all welcome.3 obeys in
-        let one = one_item items older None None welcome.3.1 welcome.3.2 (waits_input (older ∷ items) all ask say emitted es pieces welcome.1 obeys) in
+        let one = one_item items older None None welcome.3.1 welcome.3.2 (waits_input (older ∷ items) all ask say emitted es obeys) in
         (before.0 ++ one.0, run_more (at (giving ask say emitted ∷ es) None None to) before.0 one.0 (at (on_exchange items ask say emitted ∷ es) None None to) (at (on_exchange (older ∷ items) ask say emitted ∷ es) None None to) before.1 one.1)
-
-  -- it wanted input before the first of them
-  wanted_first : (es : Trace) (ask : Ask) (say : Say) (emitted : List Emission) (item : Fed) (items : List Fed) → AreWelcomeOn (item ∷ items) ask say emitted es → WantsInput (giving ask say emitted ∷ es)
-  wanted_first es ask say emitted item [] welcome = welcome.1
-  wanted_first es ask say emitted item (older ∷ items) welcome = wanted_first es ask say emitted older items welcome.3
 
   -- one turn: the request is delivered, and its reply; and then the client is fed, if it is
   turn_by : (es : Trace) (ask : Ask) (say : Say) (emitted : List Emission) (items : List Fed) (mid to : Store) (o p : Option Outcome) (next : Option Request) → AreWelcomeTo job items ask say emitted es → Step mid ask say to
@@ -328,7 +260,7 @@ module _ (w : World) (job : Job) (host : List ℕ) (time : ℕ) (accepted : Acce
   turn_by es ask say emitted (item ∷ items) mid to o p next welcome step dutiful stays open_still =
       let obeys = dutiful.obeys in
       let none : o ≡ None = open_still (λ e. absurd (cc)) in
-      let first = waits_input [] (item ∷ items) ask say emitted es welcome.0 (wanted_first es ask say emitted item items welcome.1) obeys in
+      let first = waits_input [] (item ∷ items) ask say emitted es obeys in
       let reply = one_reply es ask say emitted mid to o step None None first (λ x q. absurd (none-some x (sym none ∙ q))) in
       let older = older_items es ask say emitted to welcome.0 item items (item ∷ items) welcome.1 obeys in
       let last = one_item es ask say emitted to welcome.0 items item next p welcome.1.1 welcome.1.2 dutiful in
@@ -342,69 +274,44 @@ module _ (w : World) (job : Job) (host : List ℕ) (time : ℕ) (accepted : Acce
       → ((x : Outcome) → o ≡ Some x → p ≡ Some x) → (e.fed ≢ [] → o ≡ None) → (events : List Event) × Run (at es (Some (asked_of (length w.clients) es e.ask)) o mid) events (at (e ∷ es) next p to)
   one_turn es e mid to o p next welcome step dutiful stays open_still = turn_by es e.ask e.say e.emitted e.fed mid to o p next welcome step dutiful stays open_still
 
-  -- what is shown while this is pending
-  abbrev Shows : Option Outcome → Ask → Trace → Type 0
-  Shows o a es = ShowsThen (length w.clients) job host time o a es
-
   -- the store's steps over these exchanges
   abbrev pub Stepped : Store → Trace → Store → Type 0
   Stepped from [] to = to ≡ from
   Stepped from (e ∷ es) to = (mid : Store) × Stepped from es mid × Step mid e.ask e.say to
 
-  waits : (es : Trace) (a : Ask) (o : Option Outcome) → Obeys (task_of job who) (JobAllows job) (JobGives job) es → May (task_of job who) es a → IsPermitted (JobAllows job) es a → Shows o a es → IsDutiful (talking es (Some (asked_of (length w.clients) es a)) o)
-  waits es a o obeys may permitted shows = waits_dutiful (length w.clients) job host time es a o obeys may permitted shows
-
   -- the client starts
-  starts : (a : Ask) (o : Option Outcome) → a ≡ Ask.Ticket → Shows o a [] → (events : List Event) × Run w events (at [] (Some (asked_of (length w.clients) [] a)) o w.store)
-  starts a o q shows = (
+  starts : (a : Ask) → a ≡ Ask.Ticket → (events : List Event) × Run w events (at [] (Some (asked_of (length w.clients) [] a)) None w.store)
+  starts a q = (
     Event.Start job host time false ∷ [],
-    (at [] (Some (asked_of (length w.clients) [] a)) o w.store, (Applied.Done, inl (refl, record { accepted = accepted; limits = limits; is = is })), refl),
+    (at [] (Some (asked_of (length w.clients) [] a)) None w.store, (Applied.Done, inl (refl, record { accepted = accepted; limits = limits; is = is })), refl),
   )
     where
-      none : o ≡ None
-      none = ⊎_elim (λ s. s.1) (λ s. absurd (subst IsUnlock q s.0)) shows
-
-      is : at [] (Some (asked_of (length w.clients) [] a)) o w.store
+      is : at [] (Some (asked_of (length w.clients) [] a)) None w.store
           ≡ record { store = w.store; clients = w.clients ++ started (length w.clients) job host time false ∷ []; messages = w.messages ++ Asked (length w.clients) (first_of (length w.clients)) ∷ [] }
-      is = ap (λ (b : Ask). at [] (Some (asked_of (length w.clients) [] b)) o w.store) q ∙ (ap (λ (p : Option Outcome). at [] (Some (first_of (length w.clients))) p w.store) none
-          ∙ ap (λ (ms : List Message). record { store = w.store; clients = w.clients ++ started (length w.clients) job host time false ∷ []; messages = ms ++ Asked (length w.clients) (first_of (length w.clients)) ∷ [] }) (append-nil w.messages))
+      is = ap (λ (b : Ask). at [] (Some (asked_of (length w.clients) [] b)) None w.store) q
+          ∙ ap (λ (ms : List Message). record { store = w.store; clients = w.clients ++ started (length w.clients) job host time false ∷ []; messages = ms ++ Asked (length w.clients) (first_of (length w.clients)) ∷ [] }) (append-nil w.messages)
 
   -- it comes to where a request is pending
-  comes : (es : Trace) (mid : Store) (a : Ask) (o : Option Outcome) → Stepped w.store es mid → IsFedWell job es → Obeys (task_of job who) (JobAllows job) (JobGives job) es → May (task_of job who) es a → IsPermitted (JobAllows job) es a → Shows o a es
-      → (events : List Event) × Run w events (at es (Some (asked_of (length w.clients) es a)) o mid)
-  comes [] mid a o steps well obeys may permitted shows =
-      subst (λ (s : Store). (events : List Event) × Run w events (at [] (Some (asked_of (length w.clients) [] a)) o s)) (sym steps) (starts a o (first_ticket (task_of job who) a may) shows)
-  comes (e ∷ es) mid a o steps well obeys may permitted shows =
-      let before = comes es steps.0 e.ask None steps.1 well.1 obeys.3 obeys.0 obeys.1 (inl ((λ u. no_more (task_of job who) e es a may u), refl)) in
-      let next = one_turn es e steps.0 mid None o (Some (asked_of (length w.clients) (e ∷ es) a)) well.0 steps.2 (waits (e ∷ es) a o obeys may permitted shows) (λ x q. absurd (none-some x q)) (λ some. refl) in (
+  comes : (es : Trace) (mid : Store) (a : Ask) → Stepped w.store es mid → IsFedWell job es → Obeys (task_of job who) (Owes job) GivesAny es → May (task_of job who) es a → IsPermitted (Owes job) es a
+      → (events : List Event) × Run w events (at es (Some (asked_of (length w.clients) es a)) None mid)
+  comes [] mid a steps well obeys may permitted =
+      subst (λ (s : Store). (events : List Event) × Run w events (at [] (Some (asked_of (length w.clients) [] a)) None s)) (sym steps) (starts a (first_ticket (task_of job who) a may))
+  comes (e ∷ es) mid a steps well obeys may permitted =
+      let before = comes es steps.0 e.ask steps.1 well.1 obeys.3 obeys.0 obeys.1 in
+      let next = one_turn es e steps.0 mid None None (Some (asked_of (length w.clients) (e ∷ es) a)) well.0 steps.2 (waits_dutiful (length w.clients) job host time (e ∷ es) a obeys may permitted) (λ x q. absurd (none-some x q)) (λ some. refl) in (
         before.0 ++ next.0,
-        run_more w before.0 next.0 (at es (Some (asked_of (length w.clients) es e.ask)) None steps.0) (at (e ∷ es) (Some (asked_of (length w.clients) (e ∷ es) a)) o mid) before.1 next.1,
+        run_more w before.0 next.0 (at es (Some (asked_of (length w.clients) es e.ask)) None steps.0) (at (e ∷ es) (Some (asked_of (length w.clients) (e ∷ es) a)) None mid) before.1 next.1,
       )
-
-  -- on an exchange on which something was fed no outcome was there
-  open_still : (e : Exchange) (es : Trace) (items : List Fed) (p : Option Outcome) → AreWelcomeTo job items e.ask e.say e.emitted es → Shows p e.ask es → items ≢ [] → p ≡ None
-  open_still e es [] p welcome shows some = absurd (some refl)
-  open_still e es (item ∷ items) p welcome (inl none) some = none.1
-  open_still e es (item ∷ items) p welcome (inr unlock) some = absurd (welcome.1.0 unlock.0)
 
   -- and to its end
-  ends_so : (e : Exchange) (es : Trace) (to : Store) (outcome p : Option Outcome) → Stepped w.store (e ∷ es) to → IsFedWell job (e ∷ es) → IsDutiful (talking (e ∷ es) None outcome) → Shows p e.ask es → ((x : Outcome) → p ≡ Some x → outcome ≡ Some x) → (events : List Event) × Run w events (at (e ∷ es) None outcome to)
-  ends_so e es to outcome p steps well dutiful shows stays =
-      let o = dutiful.obeys in
-      let before = comes es steps.0 e.ask p steps.1 well.1 o.3 o.0 o.1 shows in
-      let last = one_turn es e steps.0 to p outcome None well.0 steps.2 dutiful stays (open_still e es e.fed p well.0 shows) in (
-        before.0 ++ last.0,
-        run_more w before.0 last.0 (at es (Some (asked_of (length w.clients) es e.ask)) p steps.0) (at (e ∷ es) None outcome to) before.1 last.1,
-      )
-
   pub finished_fed : (e : Exchange) (es : Trace) (to : Store) (outcome : Outcome) → Stepped w.store (e ∷ es) to → IsFedWell job (e ∷ es) → IsDutiful (talking (e ∷ es) None (Some outcome)) → (events : List Event) × Run w events (at (e ∷ es) None (Some outcome) to)
-  finished_fed e es to outcome steps well dutiful = by_end (is_unlock e.ask)
-    where
-      by_end : (¬ IsUnlock e.ask) ⊎ IsUnlock e.ask → (events : List Event) × Run w events (at (e ∷ es) None (Some outcome) to)
-      by_end (inl other) = ends_so e es to (Some outcome) None steps well dutiful (inl (other, refl)) (λ x q. absurd (none-some x q))
-      by_end (inr u) =
-          let concluded = dutiful.concluded outcome refl in
-          ends_so e es to (Some outcome) (Some outcome) steps well dutiful (inr (u, (outcome, refl, subst (λ fs. ends.MayConclude (upto (task_of job who).versions) (task_of job who).notes (JobConcludes job) fs outcome) (without_older e.ask e es u) concluded))) (λ x q. q)
+  finished_fed e es to outcome steps well dutiful =
+      let o = dutiful.obeys in
+      let before = comes es steps.0 e.ask steps.1 well.1 o.3 o.0 o.1 in
+      let last = one_turn es e steps.0 to None (Some outcome) None well.0 steps.2 dutiful (λ x q. absurd (none-some x q)) (λ some. refl) in (
+        before.0 ++ last.0,
+        run_more w before.0 last.0 (at es (Some (asked_of (length w.clients) es e.ask)) None steps.0) (at (e ∷ es) None (Some outcome) to) before.1 last.1,
+      )
 
   -- so does one that isn't fed
   pub finished : (e : Exchange) (es : Trace) (to : Store) (outcome : Outcome) → Stepped w.store (e ∷ es) to → AreUnfed (e ∷ es) → IsDutiful (talking (e ∷ es) None (Some outcome)) → (events : List Event) × Run w events (at (e ∷ es) None (Some outcome) to)
@@ -447,4 +354,4 @@ unfed_talk (turn ∷ talk) = ap (λ (es : Trace). exchange turn.request turn.rep
 pub fed_backup : FedBackupIsARun
 fed_backup w whole host time turn talk to failed failing outcome limits ran is =
     let s = fed_clients (asker (instance_of (length w.clients)) host time Versions.Both) whole None (Some outcome) (trace_of (turn ∷ talk)) (unfed_talk (turn ∷ talk)) is in
-    (s.fs, s.same, s.told, lone_talk w Job.Pieces host time turn talk to failed failing outcome s.fs tt limits ran s.same (welcome_well s.fs s.welcome) s.fed)
+    (s.fs, s.same, s.told, lone_talk w Job.Pieces host time turn talk to failed failing outcome s.fs tt limits ran s.same (welcome_well s.fs s.welcome) (ruled_dutiful (ended (length w.clients) Job.Pieces host time s.fs (Some outcome)) s.fed))

@@ -10,9 +10,9 @@ use Rattle.repo_session.specs.Talks.{Turn}
 use Rattle.repo_session.specs.Traces.{Exchange, Trace, fed_in, feeding}
 use Rattle.repo_session.specs.declared.outcomes.Outcome.{Outcome}
 use Rattle.repo_backup.specs.Items.{AreTaken}
-use Rattle.repo_backup.specs.PieceRules.{WantsInput}
 use Rattle.repo_feeding.specs.FedRules.{AreWelcomeOn}
-use Rattle.repo_world.specs.Clients.{Client, IsDutiful, JobAllows, JobGives, JobWants, task_of}
+use Rattle.repo_world.specs.Clients.{Client, task_of}
+use Rattle.repo_world.specs.Duties.{GivesAny, IsDutiful, Owes}
 use Rattle.repo_world.specs.Events.{Feeds, Takes}
 use Rattle.repo_world.specs.World.{Message, Asked, IsOneOf, client_at, sends}
 use Rattle.repo_world.specs.declared.jobs.Job.{Job}
@@ -67,28 +67,11 @@ abbrev pub hungry_one : Client → List Fed → Exchange → Trace → Client
 hungry_one end items e es = record { job = end.job; who = end.who; trace = with_items items e ∷ es; next = None; outcome = None; crashed = false }
 
 module _ (end : Client) (all : List Fed) (e : Exchange) (es : Trace) (pieces : end.job ≡ Job.Pieces) (dutiful : IsDutiful end) (trace : end.trace ≡ with_items all e ∷ es) where
-  obeys : Obeys (task_of end.job end.who) (JobAllows end.job) (JobGives end.job) (with_items all e ∷ es)
-  obeys = subst (λ t. Obeys (task_of end.job end.who) (JobAllows end.job) (JobGives end.job) t) trace dutiful.obeys
+  obeys : Obeys (task_of end.job end.who) (Owes end.job) GivesAny (with_items all e ∷ es)
+  obeys = subst (λ t. Obeys (task_of end.job end.who) (Owes end.job) GivesAny t) trace dutiful.obeys
 
-  quiet : (items : List Fed) → (e.emitted ≡ []) ⊎ JobGives end.job es (with_items all e) → (e.emitted ≡ []) ⊎ JobGives end.job es (with_items items e)
-  quiet items (inl none) = inl none
-  quiet items (inr gives) = absurd (subst (λ j. JobGives j es (with_items all e)) pieces gives)
-
-  waits_input : (items : List Fed) → WantsInput (with_items items e ∷ es) → IsDutiful (hungry_one end items e es)
-  waits_input items wants = record {
-    obeys = (obeys.0, obeys.1, quiet items obeys.2, obeys.3);
-    pending = λ r q. absurd (none-some r q);
-    settled = λ q o. subst (λ j. JobWants j (with_items items e ∷ es)) (sym pieces) wants;
-    concluded = λ x q. absurd (none-some x q);
-    released = λ q there. absurd (there refl);
-    beside = λ r q there. absurd (none-some r q);
-    ending = λ r q u. absurd (none-some r q);
-  }
-
-  -- it wanted input before the first of them
-  wanted_first : (item : Fed) (items : List Fed) → AreWelcomeOn (item ∷ items) e.ask e.say e.emitted es → WantsInput (with_items [] e ∷ es)
-  wanted_first item [] welcome = welcome.1
-  wanted_first item (older ∷ items) welcome = wanted_first older items welcome.3
+  waits_input : (items : List Fed) → IsDutiful (hungry_one end items e es)
+  waits_input items = record { obeys = (obeys.0, obeys.1, inr tt, obeys.3); pending = λ r q. absurd (none-some r q); concluded = λ x q. absurd (none-some x q) }
 
   -- one item
   module _ (old : Senders) (k : ℕ) (items : List Fed) (item : Fed) (c : Client) (here : client_at old.clients k ≡ hungry_one end items e es) (welcome : AreWelcomeOn (item ∷ items) e.ask e.say e.emitted es)
@@ -120,7 +103,7 @@ module _ (end : Client) (all : List Fed) (e : Exchange) (es : Trace) (pieces : e
   older_fed old k item (older ∷ items) here welcome =
       let r = older_fed old k older items here welcome.3 in
       let c = hungry_one end (older ∷ items) e es in
-      let does = waits_input (older ∷ items) welcome.1 in
+      let does = waits_input (older ∷ items) in
       let fed = one_fed r.0 k items older c r.2.here welcome.3 refl refl refl refl does in
       let reached = one_reached r.0 k items older c r.2.here welcome.3 refl refl refl refl does in
       (put_in r.0 k c, (r.0, r.1, fed), reached_on old k (hungry_one end items e es) c r.0 (put_in r.0 k c) r.2 reached)
@@ -178,7 +161,7 @@ module _ (old : Senders) (k : ℕ) (turn : Turn) (mid end : Client) (is : client
       let pieces = welcome.0 in
       let all = item ∷ items in
       let first = hungry_one end [] e es in
-      let does = waits_input end all e es pieces t.dutiful trace [] (wanted_first end all e es pieces t.dutiful trace item items welcome.1) in
+      let does = waits_input end all e es pieces t.dutiful trace [] in
       let none : mid.outcome ≡ None = under_way (λ q. absurd (cc)) in
       let stays : (o : Outcome) → mid.outcome ≡ Some o → first.outcome ≡ Some o = λ o q. absurd (none-some o (sym none ∙ q)) in
       let begun = put_in old k first in

@@ -5,26 +5,22 @@ use Rattle.repo_wire.specs.declared.messages.Request.{Request}
 use Rattle.repo_wire.specs.declared.messages.Say.{Say}
 use Rattle.repo_store.specs.StoreMachine.{Answers, Step}
 use Rattle.repo_store.specs.Stores.{Store, Objects}
-use Rattle.repo_session.specs.Versions.{upto, shared}
+use Rattle.repo_session.specs.Versions.{upto}
 use Rattle.repo_session.specs.declared.versions.Versions.{Versions}
 use Rattle.repo_session.proofs.Growing.{range_same}
 use Rattle.repo_runs.specs.BagLaws.{PutKeepsBag, DeleteKeepsBag, UpgradeKeepsBag, PutsAreOfVersion, OldClientsAreFenced, UpgradedIsOfVersion, IsOfDead, DeadKeepBag, IsReadingAsk, ReadsKeepBag, IsOnLocks, LocksKeepBag}
 use Rattle.repo_world.specs.Events.{Serves}
 use Rattle.repo_world.specs.World.{World, client}
 use Rattle.repo_name.specs.declared.tokens.Token.{Token}
-use Rattle.repo_session.specs.Ends.{before_unlock}
-use Rattle.repo_session.specs.Ends as ends
 use Rattle.repo_session.specs.Order.{Task, IsWorking, opened}
 use Rattle.repo_session.specs.Traces.{Trace, Exchanged}
 use Rattle.repo_session.specs.declared.outcomes.Outcome.{Outcome}
-use Rattle.repo_session.proofs.Concluding.{exchanged_before}
-use Rattle.repo_prune.specs.Upgrading.{UpgradeConcludes}
-use Rattle.repo_world.specs.Bag.{AskedAt, IsOfVersion}
-use Rattle.repo_world.specs.Clients.{rule_of, task_of, JobConcludes}
+use Rattle.repo_prune.specs.Upgrading.{HasReadVersion}
+use Rattle.repo_world.specs.Bag.{AskedAt}
+use Rattle.repo_world.specs.Clients.{task_of}
 use Rattle.repo_world.specs.Safe.{Took}
-use Rattle.repo_world.proofs.Sending.{ruled, working_took, exchanged_later}
+use Rattle.repo_world.proofs.Sending.{dutiful, working_took, exchanged_later}
 use Rattle.repo_world.proofs.Serving.{put_versioned}
-use Rattle.repo_world.specs.declared.jobs.Job.{Job}
 use Rattle.repo_world.proofs.Happening.{serve_keeps}
 use Rattle.repo_world.proofs.Moving.{ObjectsMove, ConfigMoves, step_moves}
 
@@ -118,40 +114,25 @@ opened_read task token es h =
     let o = h.1 in
     subst (λ fs. Exchanged fs Ask.Config (Say.Bytes o.text)) (sym o.since) (exchanged_later o.later (opened task token o.text) Ask.Config (Say.Bytes o.text) (inl (refl, refl)))
 
--- who knows version 1 alone shares that alone
-first_shared : (own asked : Versions) → asked ≡ Versions.One → shared own asked ≡ Versions.One
-first_shared Versions.One asked old = refl
-first_shared Versions.Both asked old = old
-
 pub old_fenced : OldClientsAreFenced
 old_fenced w k t bag old working live never =
     let o = working.1 in
     let read : Exchanged (client w k).trace Ask.Config (Say.Bytes o.text) = opened_read (task_of (client w k).job (client w k).who) t (client w k).trace working in
     let took : Took w k t = working_took (task_of (client w k).job (client w k).who) t (client w k).trace working in
     let there = (bag.told k Ask.Config (Say.Bytes o.text) read).0.configured o.text refl refl t took live in
-    let low : working.0.version ≤ 1 = subst (λ (v : Versions). working.0.version ≤ upto v) (first_shared (rule_of (client w k).job).versions (client w k).who.versions old) o.known in
+    let low : working.0.version ≤ 1 = subst (λ (v : Versions). working.0.version ≤ upto v) old o.known in
     let known : 1 ≤ working.0.version = o.reads.known.0 in
     record { text = o.text; config = working.0; configured = ⊎_elim (λ u. absurd (never u)) (λ c. c) there; reads = o.reads; of_version = omega (arith, low, known) }
 
 -- who reported an upgrade
 pub upgraded_of_version : UpgradedIsOfVersion
-upgraded_of_version w k bag told = by_job (client w k).job refl
-  where
-    ended : ends.Concludes (upto (task_of (client w k).job (client w k).who).versions) (JobConcludes (client w k).job) (before_unlock (client w k).trace) Outcome.Upgraded
-    ended = (ruled (client w k) (bag.behave k)).concluded Outcome.Upgraded told
-
-    second : UpgradeConcludes (before_unlock (client w k).trace) Outcome.Upgraded → IsOfVersion w.store 2
-    second (inl r) =
-        let read : Exchanged (client w k).trace Ask.Config (Say.Bytes r.text) = exchanged_before (client w k).trace Ask.Config (Say.Bytes r.text) r.read in
-        record { text = r.text; config = r.config; configured = (bag.told k Ask.Config (Say.Bytes r.text) read).0.settled r.text r.config refl refl r.reads r.of_version; reads = r.reads; of_version = r.of_version }
-    second (inr d) = (bag.told k (Ask.Upgrade d.0) Say.Done (exchanged_before (client w k).trace (Ask.Upgrade d.0) Say.Done d.1)).0.raised d.0 refl refl
-
-    by_job : (b : Job) → (client w k).job ≡ b → IsOfVersion w.store 2
-    by_job Job.Upgrade e = second (subst (λ j. JobConcludes j (before_unlock (client w k).trace) Outcome.Upgraded) e ended)
-    by_job (Job.Backup entries) e = absurd (subst (λ j. JobConcludes j (before_unlock (client w k).trace) Outcome.Upgraded) e ended)
-    by_job Job.Pieces e = absurd (subst (λ j. JobConcludes j (before_unlock (client w k).trace) Outcome.Upgraded) e ended)
-    by_job (Job.Restore s) e = absurd (subst (λ j. JobConcludes j (before_unlock (client w k).trace) Outcome.Upgraded) e ended)
-    by_job Job.List e = absurd (subst (λ j. JobConcludes j (before_unlock (client w k).trace) Outcome.Upgraded) e ended)
-    by_job (Job.Forget choice) e = absurd (subst (λ j. JobConcludes j (before_unlock (client w k).trace) Outcome.Upgraded) e ended)
-    by_job Job.Prune e = absurd (subst (λ j. JobConcludes j (before_unlock (client w k).trace) Outcome.Upgraded) e ended)
-    by_job Job.Check e = absurd (subst (λ j. JobConcludes j (before_unlock (client w k).trace) Outcome.Upgraded) e ended)
+upgraded_of_version w k bag told = ⊎_elim
+    (λ (r : HasReadVersion (client w k).trace 2). record {
+      text = r.text;
+      config = r.config;
+      configured = (bag.told k Ask.Config (Say.Bytes r.text) r.read).0.settled r.text r.config refl refl r.reads r.of_version;
+      reads = r.reads;
+      of_version = r.of_version;
+    })
+    (λ d. (bag.told k (Ask.Upgrade d.0) Say.Done d.1).0.raised d.0 refl refl)
+    ((dutiful (client w k) (bag.behave k)).concluded Outcome.Upgraded told)

@@ -1,12 +1,10 @@
 -- A prune of what the backup stored is a run.
-use Rattle.std.proofs.Common.{◌≡◌, ◌<◌, ◌≤◌, ◌^◌, lit≤, inl, inr, ⊎_elim, ℕ, zero, suc, Bool, true, false, cond, ◌∷◌, ◌++◌, [], List, length, slice_get, refl, sym, ◌∙◌, ap, subst, Option, Some, None, arith, Ok, append-nil, Contains}
+use Rattle.std.proofs.Common.{◌≡◌, ◌<◌, ◌≤◌, ◌^◌, lit≤, inl, inr, ⊎_elim, ℕ, zero, suc, Bool, true, false, cond, ◌∷◌, ◌++◌, [], List, length, slice_get, refl, sym, ◌∙◌, ap, subst, Option, Some, None, arith, Ok, Contains}
 use Rattle.std.specs.Ordering.{is_eq}
 use Rattle.std.proofs.lemmas.Option.{none-some, same_Some}
 use Rattle.repo_name.specs.Naming as naming
 use Rattle.repo_name.specs.Naming.{name_cmp}
 use Rattle.repo_name.specs.Rows.{IsHost}
-use Rattle.repo_name.specs.declared.kinds.BlobKind.{BlobKind}
-use Rattle.repo_name.specs.declared.kinds.BlobKind.TheVariants.{Tree}
 use Rattle.repo_name.specs.declared.kinds.Kind.{Kind}
 use Rattle.repo_name.specs.declared.names.Name.{Name}
 use Rattle.repo_name.proofs.NameMaps.{same_name}
@@ -23,37 +21,26 @@ use Rattle.repo_index.specs.Exactness.{fact_at}
 use Rattle.repo_index.specs.IndexText.{IsIndexText, Says, facts_in}
 use Rattle.repo_index.proofs.ExactLemmas.{fact_there, item_there}
 use Rattle.repo_index.proofs.OneLemmas.{index_texts_one}
-use Rattle.repo_reach.specs.Collected.{tree_blobs}
-use Rattle.repo_tree.specs.Parts.{Blobs, HasNode, ListsBy}
-use Rattle.repo_tree.specs.Spelling.{ReachTo, Reach, greatest_depth}
-use Rattle.repo_tree.specs.TreeText.{IsTreeText}
 use Rattle.repo_tree.specs.TreeWriting.{tree_text}
-use Rattle.repo_tree.specs.declared.nodes.Node.{Node}
-use Rattle.repo_tree.proofs.TreeLemmas.{tree_texts_one}
 use Rattle.repo_store.specs.declared.shelves.Slice.{Slice}
 use Rattle.repo_store.specs.Pages.{IsPage}
 use Rattle.repo_store.specs.StoreMachine.{Step, object_limit, GetSays}
 use Rattle.repo_store.specs.Stores.{Store, Objects}
 use Rattle.repo_session.specs.declared.versions.Versions.{Versions}
 use Rattle.repo_session.specs.Askers.{asker}
-use Rattle.repo_session.specs.Catalogs.{AreIndexed}
-use Rattle.repo_session.specs.Ends as ends
-use Rattle.repo_session.specs.Listings.{IsSnapshotListing}
 use Rattle.repo_session.specs.Order.{Task, IsWorking, Obeys, opened, lock_row}
-use Rattle.repo_session.specs.Received.{Received}
-use Rattle.repo_session.specs.Traces.{Trace, Exchanged, WasAsked, Object, ReadFact, silent}
+use Rattle.repo_session.specs.Traces.{Trace, Exchanged, ReadFact, silent}
 use Rattle.repo_session.specs.declared.outcomes.Outcome.{Outcome}
 use Rattle.repo_name.proofs.Containing.{none_contained, first_contained, contained_or, contains_flat, flat_contains}
 use Rattle.repo_session.proofs.Holding.{working_more, holds_of, opened_working}
 use Rattle.repo_session.proofs.Meeting.{first_page}
-use Rattle.repo_writing.specs.Blobs.{HasFact}
-use Rattle.repo_writing.specs.Putting.{PutDone, AreDone, IsKeptPack}
+use Rattle.repo_writing.specs.Laws.{IsPutOrKept}
+use Rattle.repo_writing.specs.Putting.{IsIndexOf, IsKeptPack, PutDone}
 use Rattle.repo_writing.proofs.Keeping.{fact_of_listed}
-use Rattle.repo_writing.proofs.PutLemmas.{indexed_later}
-use Rattle.repo_prune.specs.Keeping.{Row}
-use Rattle.repo_prune.specs.Pruning.{AreCovered, AreFactsOnce, IsNeededBy, IsSettled, IsPruned, MayPutIndex}
-use Rattle.repo_runs.specs.Backed.{configured, empty_tree, snapshot_of, AreTexts, stored, IsTidied, PruneIsARun}
-use Rattle.repo_world.specs.Clients.{task_of, JobAllows, JobGives, JobConcludes, Client, IsDutiful}
+use Rattle.repo_prune.proofs.PruneRuns.{nothing_deleted}
+use Rattle.repo_runs.specs.Backed.{configured, empty_tree, AreTexts, stored, IsTidied, PruneIsARun}
+use Rattle.repo_world.specs.Clients.{Client, task_of}
+use Rattle.repo_world.specs.Duties.{GivesAny, IsDutiful, Owes, Tells}
 use Rattle.repo_world.specs.Events.{Run}
 use Rattle.repo_runs.specs.Lone.{ended}
 use Rattle.repo_world.specs.World.{World, client_at, beginning, instance_of}
@@ -61,8 +48,7 @@ use Rattle.repo_runs.proofs.Backing as backup
 use Rattle.repo_runs.proofs.Backing.{there_now}
 use Rattle.repo_runs.proofs.GivingBack.{bytes_no_dead, names_no_dead, token}
 use Rattle.repo_runs.proofs.Calming.{ExchangesFew, IsQuiet, quiet_more, few_config, few_index, few_snapshot, few_tree, calm}
-use Rattle.repo_runs.proofs.Joining.{Stepped, finished, held_end}
-use Rattle.repo_runs.proofs.WrongRules.{reaches_itself}
+use Rattle.repo_runs.proofs.Joining.{Stepped, finished}
 use Rattle.repo_world.specs.declared.jobs.Job.{Job}
 use Rattle.repo_world.specs.declared.events.Event.{Event}
 
@@ -70,28 +56,7 @@ use Rattle.repo_world.specs.declared.events.Event.{Event}
 pub only : {A : Type 0} (a b : A) → Contains (a ∷ []) b → a ≡ b
 only a b c = ⊎_elim (λ same. same) (λ none. absurd (none_contained b none)) (contained_or a [] b c)
 
--- ---- the one tree has no nodes
-
-abbrev trees : Blobs
-trees = tree_blobs (tree_text [] ∷ [])
-
-no_node : (t : Name) (node : Node) → IsTreeText (tree_text []) [] → HasNode 1 trees t node → ⊥
-no_node t node empty h =
-    let text : tree_text [] ≡ h.lists.text = only (tree_text []) h.lists.text h.lists.among.1 in
-    let none : h.own ≡ [] = tree_texts_one h.lists.text h.own [] h.lists.reads (subst (λ x. IsTreeText x []) text empty) in
-    none_contained node (subst (λ (ns : List Node). Contains ns node) none h.among)
-
-reaches_only : (depth : ℕ) (t : Name) (k : BlobKind) (n : Name) → IsTreeText (tree_text []) [] → ReachTo 1 depth trees t k n → (k ≡ Tree) × (n ≡ t)
-reaches_only zero t k n empty h = h
-reaches_only (suc depth) t k n empty (inl h) = h
-reaches_only (suc depth) t k n empty (inr h) = absurd (no_node t h.0 empty h.1)
-
 -- ---- facts of one item
-
-one_once : (facts : List Fact) → length facts ≡ 1 → AreFactsOnce facts
-one_once [] h = absurd (cc)
-one_once (f ∷ []) h = ((λ has. none_contained _ has.1), tt)
-one_once (f ∷ g ∷ facts) h = absurd (omega (arith, h))
 
 one_item : (items : List Item) (i j : Item) (k : ℕ) → slice_get (i ∷ []) k ≡ Some j → (k ≡ 0) × (j ≡ i)
 one_item items i j zero h = (refl, sym (same_Some i j h))
@@ -215,12 +180,6 @@ module _ (host : List ℕ) (time : ℕ) (config pack index snapshot : List ℕ) 
     read_fact : (es : Trace) (f : Fact) → Contains texts.facts f → Exchanged es (Ask.Get Kind.Index ni) (Say.Bytes index) → ReadFact es f
     read_fact es f c h = record { index = ni; text = index; read = (h, refl); says = says f c }
 
-    indexed : AreIndexed t6
-    indexed = record {
-      listed = record { complete = refl; rise = record { ascend = (tt, tt); moves = λ after h. no_page Kind.Index after (inr h) } };
-      each = λ n l. ⊎_elim (λ e. (index, listed ∷ [], subst (λ m. Exchanged t6 (Ask.Get Kind.Index m) (Say.Bytes index) × (naming.name index ≡ m)) (sym e) (inr (inr (inl (refl, refl))), refl), texts.indexed)) (λ none. absurd none) l;
-    }
-
     got_bytes : (i : Name) (x : List ℕ) → Exchanged t6 (Ask.Get Kind.Index i) (Say.Bytes x) → x ≡ index
     got_bytes i x (inl h) = let q = h.0 in absurd (cc)
     got_bytes i x (inr (inl h)) = let q = h.0 in absurd (cc)
@@ -243,45 +202,46 @@ module _ (host : List ℕ) (time : ℕ) (config pack index snapshot : List ℕ) 
           facts_back f (subst (λ (ps : List PackFacts). Contains (facts_in ps) f) packs r.0.says.among),
     )
 
-    index_rule : MayPutIndex t6 index
-    index_rule = record {
-      none = λ k. refl;
-      indexes = indexed;
-      lists = record { packs = listed ∷ []; reads = texts.indexed; some = λ none. omega (arith, ap length none); each = λ p c. inr (subst (λ (q : PackFacts). IsKeptPack t6 q) (only listed p c) kept) };
+    index_lists : IsIndexOf (IsPutOrKept t6) index
+    index_lists = record {
+      packs = listed ∷ [];
+      reads = texts.indexed;
+      some = λ none. omega (arith, ap length none);
+      each = λ p c. inr (subst (λ (q : PackFacts). IsKeptPack t6 q) (only listed p c) kept);
     }
 
-    obeys : Obeys task (JobAllows Job.Prune) (JobGives Job.Prune) all
+    obeys : Obeys task (Owes Job.Prune) GivesAny all
     obeys = (
       holds_of task token t7 works_7,
       (λ x. absurd x),
       inl refl,
       (
         (works_6, refl, texts.index_short),
-        (λ x. index_rule),
+        (λ x. (nothing_deleted t6 (λ k. refl), index_lists)),
         inl refl,
         (
           ((token, works_5), (fact, read_fact t5 fact fact_here (inr (inl (refl, refl))), refl, refl, refl)),
-          (λ x. (tt, λ k. refl)),
+          (λ x. tt),
           inl refl,
           (
             ((token, works_4), record { rise = record { ascend = tt; moves = λ after h. no_page Kind.Pack after (inr (inr (inr h))) }; incomplete = refl; last = refl }),
-            (λ x. (tt, λ k. refl)),
+            (λ x. tt),
             inl refl,
             (
               ((token, works_3), inl (record { ascend = (tt, tt); moves = λ after h. no_page Kind.Index after (inr (inr (inr (inr h)))) }, inl refl)),
-              (λ x. (tt, λ k. refl)),
+              (λ x. tt),
               inl refl,
               (
                 ((token, works_2), record { rise = record { ascend = tt; moves = λ after h. no_page Kind.Index after (inr (inr (inr (inr (inr h))))) }; incomplete = refl; last = refl }),
-                (λ x. (tt, λ k. refl)),
+                (λ x. tt),
                 inl refl,
                 (
                   ((token, works_1), inl (record { ascend = (tt, tt); moves = λ after h. no_page Kind.Snapshot after (inr (inr (inr (inr (inr (inr h)))))) }, inl refl)),
-                  (λ x. (tt, λ k. refl)),
+                  (λ x. tt),
                   inl refl,
                   (
                     ((token, works_0), first_page task token config Kind.Snapshot),
-                    (λ x. (tt, λ k. refl)),
+                    (λ x. tt),
                     inl refl,
                     ((token, refl), (λ x. absurd x), inl refl, ((token, refl, refl), (λ x. absurd x), inl refl, (refl, (λ x. absurd x), inl refl, tt))),
                   ),
@@ -293,81 +253,11 @@ module _ (host : List ℕ) (time : ℕ) (config pack index snapshot : List ℕ) 
       ),
     )
 
-    -- ---- it is done
-
-    abbrev rows : List Row
-    rows = (ns, snapshot_of host time) ∷ []
-
-    listing : IsSnapshotListing t7 rows
-    listing = record {
-      listed = record { complete = refl; rise = record { ascend = (tt, tt); moves = no_page Kind.Snapshot } };
-      names = refl;
-      each = ((snapshot, (inr (inr (inr (inr (inr (inl (refl, refl)))))), refl), texts.reads), tt);
-    }
-
-    tree_received : (x : List ℕ) → Contains (tree_text [] ∷ []) x → Received t7 Tree x
-    tree_received x c = subst (λ y. Received t7 Tree y) (only (tree_text []) x c)
-        (record { fact = fact; given = read_fact t7 fact fact_here (inr (inr (inr (inl (refl, refl))))); of_kind = refl; replied = inr (inl (refl, refl)); named = refl })
-
-    row_is : (row : Row) → Contains rows row → (ns, snapshot_of host time) ≡ row
-    row_is row c = only (ns, snapshot_of host time) row c
-
-    needed_only : (k : BlobKind) (n : Name) → IsNeededBy rows (tree_text [] ∷ []) k n → (k ≡ Tree) × (n ≡ naming.name (tree_text []))
-    needed_only k n h = reaches_only greatest_depth (naming.name (tree_text [])) k n texts.empty (subst (λ (r : Row). Reach r.1.version trees r.1.tree k n) (sym (row_is h.row h.among)) h.reaches)
-
-    covered : AreCovered t7 rows (listed ∷ [])
-    covered = record {
-      texts = tree_text [] ∷ [];
-      trees = record { received = tree_received; one = λ x y a b e. sym (only (tree_text []) x a) ∙ only (tree_text []) y b };
-      walked = λ row n among r. subst (λ (z : Row). (nodes : List Node) × ListsBy z.1.version trees n nodes) (row_is row among)
-          (subst (λ m. (nodes : List Node) × ListsBy 1 trees m nodes) (sym (needed_only Tree n (record { row = row; among = among; reaches = r })).1)
-          ([], record { text = tree_text []; among = (refl, first_contained (tree_text []) []); named = refl; reads = texts.empty }));
-      given = λ k n h.
-          let is = needed_only k n h in
-          subst (λ j. HasFact (facts_in (listed ∷ [])) j n) (sym is.0) (subst (λ m. HasFact (facts_in (listed ∷ [])) Tree m) (sym is.1) (fact.place, all_facts fact fact_here));
-      just = λ f c. subst (λ (g : Fact). IsNeededBy rows (tree_text [] ∷ []) g.kind g.name) (sym (one_fact f (facts_back f c)))
-          (record { row = (ns, snapshot_of host time); among = first_contained (ns, snapshot_of host time) []; reaches = reaches_itself greatest_depth 1 trees (naming.name (tree_text [])) });
-      once = subst (λ (fs : List Fact). AreFactsOnce fs) (sym (append-nil texts.facts)) (one_once texts.facts texts.exact.count);
-    }
-
-    done : AreDone t7
-    done Kind.Pack object c = absurd (none_contained object c)
-    done Kind.Index object c = subst (λ (o : Object). PutDone t7 Kind.Index o.name o.bytes) (only (record { name = ni; bytes = index }) object c) (token, inl (refl, refl))
-    done Kind.Snapshot object c = absurd (none_contained object c)
-
-    settled : IsSettled t7 (listed ∷ [])
-    settled = record {
-      rows = rows;
-      snapshots = listing;
-      indexes = indexed_later (silent (Ask.Put token Kind.Index ni index) Say.Done) t6 token Kind.Index ni index refl indexed;
-      done = done;
-      listed = record { listings = record { index = record { name = ni; bytes = index }; packs = listed ∷ [] } ∷ []; indexes = refl; read_back = (record { reads = texts.indexed; put = (token, inl (refl, refl)) }, tt); lists = refl };
-      full = λ l c. (fact, subst (λ (p : PackFacts). Contains p.facts fact) (only listed l c) fact_here);
-      stand = λ object c. absurd (none_contained object c);
-      covered = covered;
-    }
-
-    pruned : IsPruned t7 0 0
-    pruned = record {
-      packs = listed ∷ [];
-      settled = settled;
-      replaced = λ n l. ⊎_elim (λ e. inl (token, index, subst (λ m. WasAsked t7 (Ask.Put token Kind.Index m index)) (sym e) (inl refl))) (λ none. absurd none) l;
-      all = record { complete = refl; rise = record { ascend = (tt, tt); moves = no_page Kind.Pack } };
-      gone = λ n l. ⊎_elim (λ e. inl (listed, first_contained listed [], sym e)) (λ none. absurd none) l;
-      deleted_are = refl;
-      blobs = 0;
-      counted = record { packs = []; are = refl; each = tt; blobs_are = refl; bytes_are = refl };
-    }
-
     dutiful : IsDutiful (ended (length w.clients) Job.Prune host time all (Some (Outcome.Pruned 0 0)))
     dutiful = record {
       obeys = obeys;
       pending = λ r h. absurd (none-some r h);
-      settled = λ e q. absurd (none-some (Outcome.Pruned 0 0) (sym q));
-      concluded = λ o e. subst (λ x. ends.Concludes 1 (JobConcludes Job.Prune) t7 x) (same_Some (Outcome.Pruned 0 0) o e) pruned;
-      released = λ e o t h. absurd (held_end task t h.later (silent (Ask.Unlock token) Say.Done) t7 h.since h.held.unended tt);
-      beside = λ r h o. absurd (none-some r h);
-      ending = λ r h u. absurd (none-some r h);
+      concluded = λ o e. subst (λ x. Tells Job.Prune all x) (same_Some (Outcome.Pruned 0 0) o e) tt;
     }
 
     -- ---- the store's steps

@@ -17,7 +17,8 @@ use Rattle.repo_hall.specs.Halls.{Hosted}
 use Rattle.repo_hall.specs.Happenings.{Log, Brought, Answered, Given, Stay, all_asked, all_replies, no_stay, stay}
 use Rattle.repo_hall.specs.Joined.{TalksAlong}
 use Rattle.repo_runs.specs.Fed.{AreWelcomeTo, running, with_items}
-use Rattle.repo_world.specs.Clients.{Client, IsDutiful}
+use Rattle.repo_world.specs.Clients.{Client}
+use Rattle.repo_world.specs.Duties.{IsDutiful}
 use Rattle.repo_world.specs.Events.{Feeds, MayAnybodySend, Run, Takes}
 use Rattle.repo_world.specs.World.{Message, World, Asked, IsOneOf, client_at, instance_of, started}
 use Rattle.repo_world.specs.declared.events.Event.{Event}

@@ -11,7 +11,8 @@ use Rattle.repo_session.specs.declared.outcomes.Outcome.{Outcome}
 use Rattle.repo_feeding.specs.FedLaws.{IsFedClient}
 use Rattle.repo_feeding.specs.Unfed.{unfed}
 use Rattle.repo_runs.specs.Fed.{IsFedWell}
-use Rattle.repo_world.specs.Clients.{Accepts, Client, IsDutiful}
+use Rattle.repo_world.specs.Clients.{Accepts, Client}
+use Rattle.repo_world.specs.Duties.{IsDutiful}
 use Rattle.repo_world.specs.Events.{Run}
 use Rattle.repo_world.specs.World.{World, instance_of}
 use Rattle.repo_world.specs.declared.jobs.Job.{Job}

@@ -24,7 +24,7 @@ pub fn example_is_a_run()
     ensures { ExampleIsARun }
 {}
 
-/// The rule of a backup can be met to its end: with any texts as they are written, a run leads to a world with one client, a backup
+/// What a backup owes can be met to its end: with any texts as they are written, a run leads to a world with one client, a backup
 /// of an empty folder, which is reported as stored; its snapshot, its index and its pack are there. Nothing clashes in that world,
 /// nor in the last ones of the next three laws, where no two of these texts and the tree have one name, and none but the index
 /// reads as an index that says a fact.

@@ -13,7 +13,7 @@ pub fn events_only_append()
     ensures { EventsOnlyAppend }
 {}
 
-/// Over any event each client stands where the order and its job's rule allow, and an outcome that is there stays.
+/// Over any event each client stays dutiful, and an outcome that is there stays.
 pub fn each_event_keeps_reports()
     ensures { EachEventKeepsReports }
 {}

@@ -6,7 +6,7 @@
 //! config has, or of a lower one, and an upgrade that was reported holds ([`each_upgrade_holds`]). Of any world: which requests and events
 //! keep the bag of messages in order, and what each of them leaves as it was.
 //!
-//! And that the rules can be met: what a client does that is alone with its store is a part of a run ([`lone_talk_is_a_run`]), and so is
+//! And that what clients owe can be met: what a client does that is alone with its store is a part of a run ([`lone_talk_is_a_run`]), and so is
 //! what a backup does that feeds itself ([`fed_backup_is_a_run`], [`fed_backup_goes`]), and
 //! all that a server answers over connections, one after another or many at once ([`connections_are_a_run`]), to clients that may
 //! be fed between their exchanges; a run
@@ -19,7 +19,7 @@
 //! Not promised: anything of code. A world in code is `repo_world`'s, which stands on none of these laws; that every run is safe is a
 //! law of that crate.
 //!
-//! The definitions of the world stand in `repo_world`. Those of the laws stand in `specs/`: `Laws`, `BagLaws`; for how the rules are met,
+//! The definitions of the world stand in `repo_world`. Those of the laws stand in `specs/`: `Laws`, `BagLaws`; for how it is met,
 //! `Fed`, `Lone`, `Connected`, `Example`, `Backed`, `SomeTexts`; and wrong rules, a file each.
 #![tactic(auto)]
 

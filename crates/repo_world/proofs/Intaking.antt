@@ -1,8 +1,8 @@
 -- What is known of an item that was given to a client.
-use Rattle.std.proofs.Common.{arith, ◌≡◌, ◌≢◌, ◌⊎◌, ◌<◌, inl, inr, ⊎_elim, ℕ, Bor, List, length, take, take_all, Option, Some, None, refl, ap}
+use Rattle.std.proofs.Common.{arith, ◌≡◌, ◌≢◌, ◌⊎◌, inl, inr, ⊎_elim, ℕ, Bor, List, length, take, take_all, Option, Some, None, refl, ap}
 use Rattle.repo_wire.specs.declared.messages.Request.{Request}
 use Rattle.repo_session.specs.declared.outcomes.Outcome.{Outcome}
-use Rattle.repo_session.specs.Feeds.{Fed, fed_bytes}
+use Rattle.repo_session.specs.Feeds.{fed_bytes}
 use Rattle.repo_session.specs.Traces.{fed_in}
 use Rattle.repo_backup.specs.Items.{ItemFault, fed_of, fed_part, place_of, size_of}
 use Rattle.repo_backup.specs.declared.items.FeedError.{FeedError}

@@ -1,17 +1,21 @@
 -- What only grows.
-use Rattle.std.proofs.Common.{◌≡◌, ◌⊎◌, ◌++◌, ◌∷◌, [], ℕ, List, sym, ap, subst, inl, inr, ⊎_elim}
+use Rattle.std.proofs.Common.{◌≡◌, ◌⊎◌, ◌++◌, ◌∷◌, [], ℕ, List, Some, refl, sym, ap, subst, inl, inr, ⊎_elim}
 use Rattle.repo_name.specs.declared.kinds.Kind.{Kind}
 use Rattle.repo_name.specs.declared.names.Name.{Name}
 use Rattle.repo_wire.specs.declared.messages.Ask.{Ask}
 use Rattle.repo_wire.specs.declared.messages.Say.{Say}
 use Rattle.repo_pack.specs.PackLayout.{item_of}
 use Rattle.repo_session.specs.Traces.{Trace, Exchanged, fed_in}
+use Rattle.repo_tree.specs.declared.entries.Entry.{Entry}
+use Rattle.repo_backup.specs.Items.{AreTaken, spelled_by}
+use Rattle.repo_backup.specs.Laws.{IsMadeOf}
 use Rattle.repo_world.specs.Bag.{AskedAt, AskedIn, with_next, HasPut, HasDeleted, HasUpgraded}
-use Rattle.repo_world.specs.Clients.{MadeOf, Client}
+use Rattle.repo_world.specs.Clients.{MadeOf, Client, handed_by}
+use Rattle.repo_world.specs.Duties.{IsAllHanded}
 use Rattle.repo_world.specs.Safe.{IsPutBy, IsAsked, IsSpoken, by_put, by_reply, IsKnown, known_spoken, known_part, known_made, HasNoClash}
 use Rattle.repo_world.specs.World.{World, client, Message, IsOneOf, Asked, Said}
-use Rattle.repo_world.proofs.PieceMaking.{made_same}
-use Rattle.repo_world.proofs.Sending.{Within}
+use Rattle.repo_world.proofs.PieceMaking.{made_same, over_same}
+use Rattle.repo_world.proofs.Sending.{FedSince, Within}
 use Rattle.repo_world.specs.declared.jobs.Job.{Job}
 
 -- a client that has gone on
@@ -25,18 +29,34 @@ pub record Later (w v : World) : Type 0 where
   pub grows : (k : ℕ) → Grows (client w k) (client v k)
   pub messages : (m : Message) → IsOneOf w.messages m → IsOneOf v.messages m
 
--- what was made of what was handed is made of it as the trace grows, where nothing was fed between
-pub made_more : (b : Job) (es fs : Trace) → Within es fs → fed_in fs ≡ fed_in es → (x : List ℕ) → MadeOf b es x → MadeOf b fs x
-made_more (Job.Backup entries) es fs within same x m =
+-- what was made of entries is made of them as the trace grows
+made_of : (entries : List Entry) (es fs : Trace) → Within es fs → (x : List ℕ) → IsMadeOf entries es x → IsMadeOf entries fs x
+made_of entries es fs within x m =
     let c = m.cut in
     record { folder = m.folder; kind = m.kind; cut = record { text = c.text; config = c.config; read = within Ask.Config (Say.Bytes c.text) c.read; reads = c.reads; known = c.known; cut = c.cut }; among = m.among }
+
+-- so is what was made of what was handed, where nothing was fed between
+pub made_more : (b : Job) (es fs : Trace) → Within es fs → fed_in fs ≡ fed_in es → (x : List ℕ) → MadeOf b es x → MadeOf b fs x
+made_more (Job.Backup entries) es fs within same x m = made_of entries es fs within x m
 made_more Job.Pieces es fs within same x m = (m.0, made_same es fs within same (item_of m.0 x) m.1)
-made_more (Job.Restore s) es fs within same x m = m
-made_more Job.List es fs within same x m = m
-made_more (Job.Forget choice) es fs within same x m = m
-made_more Job.Prune es fs within same x m = m
-made_more Job.Check es fs within same x m = m
-made_more Job.Upgrade es fs within same x m = m
+made_more _ es fs within same x m = m
+
+-- and of what was handed whole
+pub made_still : (b : Job) (older es : Trace) → Within older es → FedSince older es → AreTaken (fed_in es) → IsAllHanded b older → (x : List ℕ) → MadeOf b older x → MadeOf b es x
+made_still (Job.Backup entries) older es within since taken all x m = made_of entries older es within x m
+made_still Job.Pieces older es within since taken all x m = made_more Job.Pieces older es within (over_same older es since taken all) x m
+made_still _ older es within since taken all x m = m
+
+-- nothing more is handed then
+pub handed_still : (b : Job) (older es : Trace) → FedSince older es → AreTaken (fed_in es) → IsAllHanded b older → handed_by b es ≡ handed_by b older
+handed_still Job.Pieces older es since taken all = ap (λ items. Some (spelled_by items)) (over_same older es since taken all)
+handed_still (Job.Backup entries) older es since taken all = refl
+handed_still (Job.Restore s) older es since taken all = refl
+handed_still Job.List older es since taken all = refl
+handed_still (Job.Forget choice) older es since taken all = refl
+handed_still Job.Prune older es since taken all = refl
+handed_still Job.Check older es since taken all = refl
+handed_still Job.Upgrade older es since taken all = refl
 
 -- a client of the same job that took more
 pub grows_with : (c d : Client) → d.job ≡ c.job → Within c.trace d.trace → fed_in d.trace ≡ fed_in c.trace → ((q : ℕ) (a : Ask) → AskedAt c q a → AskedAt d q a) → Grows c d

@@ -1,5 +1,5 @@
 -- What a backup that is fed made so far.
-use Rattle.std.proofs.Common.{◌≡◌, ◌++◌, ◌∷◌, [], ℕ, true, List, length, Some, None, refl, sym, ◌∙◌, ap, subst, append-nil, Contains}
+use Rattle.std.proofs.Common.{◌≡◌, ◌++◌, ◌∷◌, [], ℕ, true, None, refl, sym, ◌∙◌, ap, subst, append-nil, Contains}
 use Rattle.repo_pack.specs.PackLayout.{Item}
 use Rattle.repo_tree.specs.declared.configs.Config.{Config}
 use Rattle.repo_wire.specs.declared.messages.Ask.{Ask}

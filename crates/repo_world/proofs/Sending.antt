@@ -1,5 +1,5 @@
 -- What a client had done when it sent a request.
-use Rattle.std.proofs.Common.{◌≡◌, inl, inr, ⊎_elim, ℕ, ◌+◌, List, [], ◌∷◌, ◌++◌, length, refl, sym, ap, ◌∙◌, append_assoc, subst, Option, Some, None}
+use Rattle.std.proofs.Common.{◌≡◌, true, inl, inr, ⊎_elim, ℕ, ◌+◌, List, [], ◌∷◌, ◌++◌, length, refl, sym, ap, ◌∙◌, append_assoc, subst, Option, Some, None}
 use Rattle.std.proofs.lemmas.Option.{none-some}
 use Rattle.repo_name.specs.declared.kinds.Kind.{Kind}
 use Rattle.repo_name.specs.declared.names.Name.{Name}
@@ -7,22 +7,15 @@ use Rattle.repo_name.specs.declared.tokens.Token.{Token}
 use Rattle.repo_wire.specs.declared.messages.Ask.{Ask}
 use Rattle.repo_wire.specs.declared.messages.Request.{Request}
 use Rattle.repo_wire.specs.declared.messages.Say.{Say}
-use Rattle.repo_session.specs.Versions.{upto}
-use Rattle.repo_session.specs.declared.outcomes.Outcome.{Outcome}
 use Rattle.repo_session.specs.Askers.{Asker}
 use Rattle.repo_session.specs.Clients.{IsNextRequest}
-use Rattle.repo_session.specs.Deletions.{NoneDeleted}
-use Rattle.repo_session.specs.Ends as ends
 use Rattle.repo_session.specs.Order.{Task, May, IsPermitted, Obeys, IsWorking, opened, lock_row}
 use Rattle.repo_session.specs.Traces.{Exchange, Trace, Exchanged, WasAsked, fed_in}
 use Rattle.repo_backup.specs.Items.{Feeding}
-use Rattle.repo_session.proofs.Concluding.{IsUndeleted}
 use Rattle.repo_session.proofs.Spoken.{was_asked}
-use Rattle.repo_prune.specs.Pruning.{PruneAllows}
-use Rattle.repo_prune.proofs.ForgetRuns.{undeleted}
-use Rattle.repo_session.proofs.GoingOn.{concluded_of}
 use Rattle.repo_world.specs.Bag.{AskedIn, AskedAt, with_next}
-use Rattle.repo_world.specs.Clients.{task_of, JobAllows, JobGives, JobConcludes, Client}
+use Rattle.repo_world.specs.Clients.{Client, handed_by, task_of, wants_alone}
+use Rattle.repo_world.specs.Duties.{GivesAny, IsDutiful, NothingDeleted, Owes}
 use Rattle.repo_world.specs.Laws.{Behaves}
 use Rattle.repo_world.specs.World.{nobody}
 use Rattle.repo_world.specs.declared.jobs.Job.{Job}
@@ -82,49 +75,43 @@ working_locked task token es h =
     subst (λ fs. Exchanged fs (Ask.Lock (lock_row task token)) Say.Done) (sym o.since) (exchanged_later o.later (opened task token o.text) (Ask.Lock (lock_row task token)) Say.Done (inr (inl (refl, refl))))
 
 -- a client takes one ticket
-pub one_token : (task : Task) (JobAllows : Trace → Ask → Type 0) (JobGives : Trace → Exchange → Type 0) (es : Trace) (t u : Token) → Obeys task JobAllows JobGives es → Exchanged es Ask.Ticket (Say.Token t) → Exchanged es Ask.Ticket (Say.Token u) → t ≡ u
-one_token task JobAllows JobGives [] t u o x y = absurd x
-one_token task JobAllows JobGives (e ∷ es) t u o (inl x) (inl y) = let a : e.say ≡ Say.Token t = x.1 in let b : e.say ≡ Say.Token u = y.1 in cc
-one_token task JobAllows JobGives (e ∷ es) t u o (inl x) (inr y) = let m : es ≡ [] = subst (λ a. May task es a) x.0 o.0 in absurd (subst (λ fs. Exchanged fs Ask.Ticket (Say.Token u)) m y)
-one_token task JobAllows JobGives (e ∷ es) t u o (inr x) (inl y) = let m : es ≡ [] = subst (λ a. May task es a) y.0 o.0 in absurd (subst (λ fs. Exchanged fs Ask.Ticket (Say.Token t)) m x)
-one_token task JobAllows JobGives (e ∷ es) t u o (inr x) (inr y) = one_token task JobAllows JobGives es t u o.3 x y
+pub one_token : (task : Task) (Allows : Trace → Ask → Type 0) (Gives : Trace → Exchange → Type 0) (es : Trace) (t u : Token) → Obeys task Allows Gives es → Exchanged es Ask.Ticket (Say.Token t) → Exchanged es Ask.Ticket (Say.Token u) → t ≡ u
+one_token task Allows Gives [] t u o x y = absurd x
+one_token task Allows Gives (e ∷ es) t u o (inl x) (inl y) = let a : e.say ≡ Say.Token t = x.1 in let b : e.say ≡ Say.Token u = y.1 in cc
+one_token task Allows Gives (e ∷ es) t u o (inl x) (inr y) = let m : es ≡ [] = subst (λ a. May task es a) x.0 o.0 in absurd (subst (λ fs. Exchanged fs Ask.Ticket (Say.Token u)) m y)
+one_token task Allows Gives (e ∷ es) t u o (inr x) (inl y) = let m : es ≡ [] = subst (λ a. May task es a) y.0 o.0 in absurd (subst (λ fs. Exchanged fs Ask.Ticket (Say.Token t)) m x)
+one_token task Allows Gives (e ∷ es) t u o (inr x) (inr y) = one_token task Allows Gives es t u o.3 x y
 
--- ---- the rule of a client
+-- ---- what a client owes
 
--- what the rule of a job says of a client
-pub record IsRuled (b : Job) (c : Client) : Type 0 where
-  pub obeys : Obeys (task_of b c.who) (JobAllows b) (JobGives b) c.trace
-  pub pending : (r : Request) → c.next ≡ Some r → IsNextRequest (task_of b c.who) (JobAllows b) c.trace r
-  pub concluded : (o : Outcome) → c.outcome ≡ Some o → ends.Concludes (upto (task_of b c.who).versions) (JobConcludes b) (ends.before_unlock c.trace) o
+nobody_dutiful : IsDutiful nobody
+nobody_dutiful = record { obeys = tt; pending = λ r h. absurd (none-some r h); concluded = λ o h. absurd (none-some o h) }
 
-nobody_ruled : IsRuled nobody.job nobody
-nobody_ruled = record { obeys = tt; pending = λ r h. absurd (none-some r h); concluded = λ o h. absurd (none-some o h) }
+pub dutiful : (c : Client) → Behaves c → IsDutiful c
+dutiful c (inl e) = subst IsDutiful (sym e) nobody_dutiful
+dutiful c (inr d) = d
 
-pub ruled : (c : Client) → Behaves c → IsRuled c.job c
-ruled c (inl e) = subst (λ (d : Client). IsRuled d.job d) (sym e) nobody_ruled
-ruled c (inr d) = record {
-  obeys = d.obeys;
-  pending = d.pending;
-  concluded = λ o h. concluded_of (task_of c.job c.who).notes (upto (task_of c.job c.who).versions) (JobConcludes c.job) (ends.before_unlock c.trace) o (d.concluded o h);
-}
+-- its exchanges are in order, by what it owes
+abbrev pub Keeps : Job → Asker → Trace → Type 0
+Keeps b who es = Obeys (task_of b who) (Owes b) GivesAny es
 
-pub ruled_as : (c : Client) (b : Job) → c.job ≡ b → Behaves c → IsRuled b c
-ruled_as c b e h = subst (λ (j : Job). IsRuled j c) e (ruled c h)
+pub one_ticket : (c : Client) (t u : Token) → Behaves c → Exchanged c.trace Ask.Ticket (Say.Token t) → Exchanged c.trace Ask.Ticket (Say.Token u) → t ≡ u
+one_ticket c t u h x y = one_token (task_of c.job c.who) (Owes c.job) GivesAny c.trace t u (dutiful c h).obeys x y
 
 -- the exchanges before a request, which allow it
 pub record Sending (b : Job) (who : Asker) (es : Trace) (a : Ask) : Type 0 where
   pub older : Trace
   pub within : Within older es
   pub since : FedSince older es
-  pub obeys : Obeys (task_of b who) (JobAllows b) (JobGives b) older
+  pub obeys : Keeps b who older
   pub may : May (task_of b who) older a
-  pub permitted : IsPermitted (JobAllows b) older a
+  pub permitted : IsPermitted (Owes b) older a
 
 fed_more : (e : Exchange) (es older : Trace) → FedSince older es → FedSince older (e ∷ es)
 fed_more e es older since = (e.fed ++ since.0, ap (λ l. e.fed ++ l) since.1 ∙ sym (append_assoc e.fed since.0 (fed_in older)))
 
 module _ (b : Job) (who : Asker) where
-  sending_in : (es : Trace) (q : ℕ) (a : Ask) → Obeys (task_of b who) (JobAllows b) (JobGives b) es → AskedIn es q a → Sending b who es a
+  sending_in : (es : Trace) (q : ℕ) (a : Ask) → Keeps b who es → AskedIn es q a → Sending b who es a
   sending_in [] q a o h = absurd h
   sending_in (e ∷ es) q a o (inl h) = record {
     older = es;
@@ -132,13 +119,13 @@ module _ (b : Job) (who : Asker) where
     since = (e.fed, refl);
     obeys = o.3;
     may = subst (λ c. May (task_of b who) es c) h.0 o.0;
-    permitted = subst (λ c. IsPermitted (JobAllows b) es c) h.0 o.1;
+    permitted = subst (λ c. IsPermitted (Owes b) es c) h.0 o.1;
   }
   sending_in (e ∷ es) q a o (inr h) =
       let g = sending_in es q a o.3 h in
       record { older = g.older; within = λ c s x. inr (g.within c s x); since = fed_more e es g.older g.since; obeys = g.obeys; may = g.may; permitted = g.permitted }
 
-  sending_next : (next : Option Request) (es : Trace) (q : ℕ) (a : Ask) → Obeys (task_of b who) (JobAllows b) (JobGives b) es → ((r : Request) → next ≡ Some r → IsNextRequest (task_of b who) (JobAllows b) es r) → AskedIn (with_next next es) q a → Sending b who es a
+  sending_next : (next : Option Request) (es : Trace) (q : ℕ) (a : Ask) → Keeps b who es → ((r : Request) → next ≡ Some r → IsNextRequest (task_of b who) (Owes b) es r) → AskedIn (with_next next es) q a → Sending b who es a
   sending_next None es q a o m h = sending_in es q a o h
   sending_next (Some r) es q a o m (inl h) = record {
     older = es;
@@ -146,89 +133,89 @@ module _ (b : Job) (who : Asker) where
     since = ([], refl);
     obeys = o;
     may = subst (λ c. May (task_of b who) es c) h.0 (m r refl).may;
-    permitted = subst (λ c. IsPermitted (JobAllows b) es c) h.0 (m r refl).permitted;
+    permitted = subst (λ c. IsPermitted (Owes b) es c) h.0 (m r refl).permitted;
   }
   sending_next (Some r) es q a o m (inr h) = sending_in es q a o h
 
-pub sending : (b : Job) (c : Client) (q : ℕ) (a : Ask) → IsRuled b c → AskedAt c q a → Sending b c.who c.trace a
-sending b c q a is h = sending_next b c.who c.next c.trace q a is.obeys is.pending h
+pub sending : (c : Client) (q : ℕ) (a : Ask) → IsDutiful c → AskedAt c q a → Sending c.job c.who c.trace a
+sending c q a is h = sending_next c.job c.who c.next c.trace q a is.obeys is.pending h
 
--- ---- a prune's deletes
+-- ---- who deletes
 
-none_asked : (es : Trace) (t : Token) (k : Kind) (n : Name) → IsUndeleted es → WasAsked es (Ask.Delete t k n) → ⊥
-none_asked [] t k n none h = h
-none_asked (e ∷ es) t k n none (inl h) = none.0 t k n h
-none_asked (e ∷ es) t k n none (inr h) = none_asked es t k n none.1 h
+-- who has the lock alone was handed nothing
+pub handed_nothing : (b : Job) (es : Trace) → wants_alone b ≡ true → handed_by b es ≡ None
+handed_nothing (Job.Forget choice) es alone = refl
+handed_nothing Job.Prune es alone = refl
+handed_nothing Job.Check es alone = refl
+handed_nothing Job.Upgrade es alone = refl
+handed_nothing (Job.Backup entries) es alone = absurd (cc)
+handed_nothing Job.Pieces es alone = absurd (cc)
+handed_nothing (Job.Restore s) es alone = absurd (cc)
+handed_nothing Job.List es alone = absurd (cc)
 
-put_first : (es : Trace) (u : Token) (j : Kind) (n : Name) (x : List ℕ) → PruneAllows es (Ask.Put u j n x) → NoneDeleted es
-put_first es u Kind.Pack n x r = r.none
-put_first es u Kind.Index n x r = r.none
-put_first es u Kind.Snapshot n x r = absurd r
+-- what it puts it puts before that
+put_first : (b : Job) (es : Trace) (u : Token) (j : Kind) (n : Name) (x : List ℕ) → wants_alone b ≡ true → Owes b es (Ask.Put u j n x) → NothingDeleted es
+put_first b es u Kind.Pack n x alone r = r.0
+put_first b es u Kind.Index n x alone r = r.0
+put_first b es u Kind.Snapshot n x alone r = absurd (none-some r.entries (sym (handed_nothing b es alone) ∙ r.handed))
 
--- no put comes after a delete
-late_put : (es : Trace) (a : Ask) (p : ℕ) (t : Token) (i : Kind) (m : Name) (u : Token) (j : Kind) (n : Name) (x : List ℕ) → IsPermitted PruneAllows es a → AskedIn es p (Ask.Delete t i m) → a ≡ Ask.Put u j n x → ⊥
-late_put es a p t i m u j n x permitted h q =
-    none_asked es t i m (undeleted es (put_first es u j n x (subst (λ b. IsPermitted PruneAllows es b) q permitted tt))) (asked_exchange es p (Ask.Delete t i m) h)
-
--- the exchanges before a prune's delete: whatever it ever puts it has put then
-pub record Deleting (who : Asker) (es all : Trace) (t : Token) (i : Kind) (m : Name) : Type 0 where
+-- the exchanges before a delete: whatever its client ever puts it has put then
+pub record Deleting (b : Job) (who : Asker) (es all : Trace) (t : Token) (i : Kind) (m : Name) : Type 0 where
   pub older : Trace
   pub within : Within older es
-  pub obeys : Obeys (task_of Job.Prune who) (JobAllows Job.Prune) (JobGives Job.Prune) older
-  pub working : IsWorking (task_of Job.Prune who) t older
-  pub rule : PruneAllows older (Ask.Delete t i m)
+  pub obeys : Keeps b who older
+  pub rule : Owes b older (Ask.Delete t i m)
   pub before : (q : ℕ) (u : Token) (j : Kind) (n : Name) (x : List ℕ) → AskedIn all q (Ask.Put u j n x) → WasAsked older (Ask.Put u j n x)
 
 not_both : (a : Ask) (t : Token) (i : Kind) (m : Name) (u : Token) (j : Kind) (n : Name) (x : List ℕ) → a ≡ Ask.Delete t i m → a ≡ Ask.Put u j n x → ⊥
 not_both a t i m u j n x d p = absurd (cc)
 
-module _ (who : Asker) where
-  deleting_in : (es : Trace) (p : ℕ) (t : Token) (i : Kind) (m : Name) → Obeys (task_of Job.Prune who) (JobAllows Job.Prune) (JobGives Job.Prune) es → AskedIn es p (Ask.Delete t i m) → Deleting who es es t i m
+module _ (b : Job) (who : Asker) (alone : wants_alone b ≡ true) where
+  -- no put comes after a delete
+  late_put : (es : Trace) (a : Ask) (p : ℕ) (t : Token) (i : Kind) (m : Name) (u : Token) (j : Kind) (n : Name) (x : List ℕ) → IsPermitted (Owes b) es a → AskedIn es p (Ask.Delete t i m) → a ≡ Ask.Put u j n x → ⊥
+  late_put es a p t i m u j n x permitted h q =
+      put_first b es u j n x alone (subst (λ c. IsPermitted (Owes b) es c) q permitted tt) i m (t, asked_exchange es p (Ask.Delete t i m) h)
+
+  deleting_in : (es : Trace) (p : ℕ) (t : Token) (i : Kind) (m : Name) → Keeps b who es → AskedIn es p (Ask.Delete t i m) → Deleting b who es es t i m
   deleting_in [] p t i m o h = absurd h
-  deleting_in (d ∷ es) p t i m o (inl h) =
-      let may : May (task_of Job.Prune who) es (Ask.Delete t i m) = subst (λ a. May (task_of Job.Prune who) es a) h.0 o.0 in
-      record {
-        older = es;
-        within = λ b s g. inr g;
-        obeys = o.3;
-        working = may.0;
-        rule = subst (λ a. IsPermitted PruneAllows es a) h.0 o.1 tt;
-        before = λ q u j n x. ⊎_elim (λ f. absurd (not_both d.ask t i m u j n x h.0 f.0)) (asked_exchange es q (Ask.Put u j n x));
-      }
+  deleting_in (d ∷ es) p t i m o (inl h) = record {
+    older = es;
+    within = λ c s g. inr g;
+    obeys = o.3;
+    rule = subst (λ a. IsPermitted (Owes b) es a) h.0 o.1 tt;
+    before = λ q u j n x. ⊎_elim (λ f. absurd (not_both d.ask t i m u j n x h.0 f.0)) (asked_exchange es q (Ask.Put u j n x));
+  }
   deleting_in (d ∷ es) p t i m o (inr h) =
       let g = deleting_in es p t i m o.3 h in
       record {
         older = g.older;
-        within = λ b s x. inr (g.within b s x);
+        within = λ c s x. inr (g.within c s x);
         obeys = g.obeys;
-        working = g.working;
         rule = g.rule;
         before = λ q u j n x. ⊎_elim (λ f. absurd (late_put es d.ask p t i m u j n x o.1 h f.0)) (g.before q u j n x);
       }
 
-  deleting_next : (next : Option Request) (es : Trace) (p : ℕ) (t : Token) (i : Kind) (m : Name) → Obeys (task_of Job.Prune who) (JobAllows Job.Prune) (JobGives Job.Prune) es → ((r : Request) → next ≡ Some r → IsNextRequest (task_of Job.Prune who) (JobAllows Job.Prune) es r) → AskedIn (with_next next es) p (Ask.Delete t i m)
-      → Deleting who es (with_next next es) t i m
+  deleting_next : (next : Option Request) (es : Trace) (p : ℕ) (t : Token) (i : Kind) (m : Name) → Keeps b who es → ((r : Request) → next ≡ Some r → IsNextRequest (task_of b who) (Owes b) es r) → AskedIn (with_next next es) p (Ask.Delete t i m)
+      → Deleting b who es (with_next next es) t i m
   deleting_next None es p t i m o may h = deleting_in es p t i m o h
-  deleting_next (Some r) es p t i m o may (inl h) =
-      let w : May (task_of Job.Prune who) es (Ask.Delete t i m) = subst (λ a. May (task_of Job.Prune who) es a) h.0 (may r refl).may in
-      record {
-        older = es;
-        within = λ b s g. g;
-        obeys = o;
-        working = w.0;
-        rule = subst (λ a. IsPermitted PruneAllows es a) h.0 (may r refl).permitted tt;
-        before = λ q u j n x. ⊎_elim (λ f. absurd (not_both r.ask t i m u j n x h.0 f.0)) (asked_exchange es q (Ask.Put u j n x));
-      }
+  deleting_next (Some r) es p t i m o may (inl h) = record {
+    older = es;
+    within = λ c s g. g;
+    obeys = o;
+    rule = subst (λ a. IsPermitted (Owes b) es a) h.0 (may r refl).permitted tt;
+    before = λ q u j n x. ⊎_elim (λ f. absurd (not_both r.ask t i m u j n x h.0 f.0)) (asked_exchange es q (Ask.Put u j n x));
+  }
   deleting_next (Some r) es p t i m o may (inr h) =
       let g = deleting_in es p t i m o h in
       record {
         older = g.older;
         within = g.within;
         obeys = g.obeys;
-        working = g.working;
         rule = g.rule;
         before = λ q u j n x. ⊎_elim (λ f. absurd (late_put es r.ask p t i m u j n x (may r refl).permitted h f.0)) (g.before q u j n x);
       }
 
-pub deleting : (c : Client) (p : ℕ) (t : Token) (i : Kind) (m : Name) → IsRuled Job.Prune c → AskedAt c p (Ask.Delete t i m) → Deleting c.who c.trace (with_next c.next c.trace) t i m
-deleting c p t i m is h = deleting_next c.who c.next c.trace p t i m is.obeys is.pending h
+pub deleting : (c : Client) (p : ℕ) (t : Token) (i : Kind) (m : Name) → IsDutiful c → AskedAt c p (Ask.Delete t i m) → Deleting c.job c.who c.trace (with_next c.next c.trace) t i m
+deleting c p t i m is h =
+    let s = sending c p (Ask.Delete t i m) is h in
+    deleting_next c.job c.who s.may.1 c.next c.trace p t i m is.obeys is.pending h

@@ -11,26 +11,23 @@ use Rattle.repo_store.specs.StoreMachine.{Step}
 use Rattle.repo_store.specs.Stores.{Store, Objects}
 use Rattle.repo_world.specs.World.{World, client, IsOneOf, Asked, Said}
 use Rattle.repo_world.specs.Safe.{IsPutBy, Took, HasNoClash}
-use Rattle.repo_world.specs.Bag.{AskedAt, IsLive, IsOfVersion, IsVersioned, StillSays, HasBag}
+use Rattle.repo_world.specs.Bag.{AskedAt, HasUpgraded, IsLive, IsOfVersion, IsVersioned, StillSays, HasBag}
 use Rattle.repo_world.proofs.Later.{Later, grows_same, later_put, has_left, has_split}
 use Rattle.repo_world.proofs.Changing.{move_keeps_sound}
 use Rattle.repo_world.proofs.Staying.{Move, turn_of, served, still_served, says_now}
 use Rattle.repo_world.proofs.Moving.{StoreMoves, step_moves, ObjectsMove, ConfigMoves}
-use Rattle.repo_world.proofs.Knowing.{sent_as, put_took}
+use Rattle.repo_world.proofs.Knowing.{sent_now, put_took}
 use Rattle.repo_store.proofs.Upgrading.{Raises}
-use Rattle.repo_backup.specs.Items.{spelled_by}
-use Rattle.repo_backup.specs.Rules as backing
-use Rattle.repo_session.specs.Traces.{fed_in}
+use Rattle.repo_world.specs.Duties.{MayPutSnapshot}
 use Rattle.repo_tree.specs.declared.configs.Config.{Config}
 use Rattle.repo_tree.specs.declared.snapshots.Snapshot.{Snapshot}
 use Rattle.repo_tree.specs.ConfigText.{IsConfigText, config_text, upgraded}
 use Rattle.repo_tree.specs.SnapshotText.{IsSnapshotText}
 use Rattle.repo_tree.proofs.ConfigLemmas.{config_texts_one}
 use Rattle.repo_tree.proofs.SnapshotLemmas.{snapshot_texts_one}
-use Rattle.std.proofs.lemmas.Option.{same_Some}
-use Rattle.repo_world.specs.declared.jobs.Job.{Job}
+use Rattle.std.proofs.lemmas.Option.{none-some, same_Some}
 use Rattle.repo_world.proofs.Replying.{token_told}
-use Rattle.repo_world.proofs.Sending.{sent_as_asked}
+use Rattle.repo_world.proofs.Sending.{handed_nothing, sent_as_asked}
 
 -- ---- versions
 
@@ -52,33 +49,24 @@ versioned_after old ask new x (ConfigMoves.raises t e live r) v = versioned_rais
 
 module _ (w : World) (bag : HasBag w) where
   -- a snapshot that is put under a live token is of the version of the config there
-  source_versioned : (k q : ℕ) (t : Token) (n : Name) (x : List ℕ) (b : Job) → (client w k).job ≡ b → AskedAt (client w k) q (Ask.Put t Kind.Snapshot n x) → Took w k t → IsLive w t
+  source_versioned : (k q : ℕ) (t : Token) (n : Name) (x : List ℕ) → AskedAt (client w k) q (Ask.Put t Kind.Snapshot n x) → Took w k t → IsLive w t
       → (text : List ℕ) × (config : Config) × (snapshot : Snapshot) × (w.store.config ≡ Some text) × IsConfigText text config × IsSnapshotText x snapshot × (snapshot.version ≡ config.version)
-  source_versioned k q t n x (Job.Backup entries) e h took live =
-      let s = sent_as w bag k q (Ask.Put t Kind.Snapshot n x) (Job.Backup entries) e h in
-      let r : backing.SnapshotRule entries s.older t x = s.permitted tt in
-      let there = (bag.told k Ask.Config (Say.Bytes r.cut.text) (s.within Ask.Config (Say.Bytes r.cut.text) r.cut.read)).0.configured r.cut.text refl refl t took live in
-      (r.cut.text, r.cut.config, r.snapshot, ⊎_elim (λ u. absurd ((sent_as w bag k u.0 (Ask.Upgrade u.1) (Job.Backup entries) e u.2).permitted tt)) (λ c. c) there, r.cut.reads, r.reads, r.version_is)
-  source_versioned k q t n x Job.Pieces e h took live =
-      let s = sent_as w bag k q (Ask.Put t Kind.Snapshot n x) Job.Pieces e h in
-      let r : backing.SnapshotRule (spelled_by (fed_in s.older)) s.older t x = (s.permitted tt).2 in
-      let there = (bag.told k Ask.Config (Say.Bytes r.cut.text) (s.within Ask.Config (Say.Bytes r.cut.text) r.cut.read)).0.configured r.cut.text refl refl t took live in
-      (r.cut.text, r.cut.config, r.snapshot, ⊎_elim (λ u. absurd ((sent_as w bag k u.0 (Ask.Upgrade u.1) Job.Pieces e u.2).permitted tt)) (λ c. c) there, r.cut.reads, r.reads, r.version_is)
-  source_versioned k q t n x Job.Prune e h took live = absurd ((sent_as w bag k q (Ask.Put t Kind.Snapshot n x) Job.Prune e h).permitted tt)
-  source_versioned k q t n x (Job.Restore s) e h took live = absurd ((sent_as w bag k q (Ask.Put t Kind.Snapshot n x) (Job.Restore s) e h).permitted tt)
-  source_versioned k q t n x Job.List e h took live = absurd ((sent_as w bag k q (Ask.Put t Kind.Snapshot n x) Job.List e h).permitted tt)
-  source_versioned k q t n x Job.Check e h took live = absurd ((sent_as w bag k q (Ask.Put t Kind.Snapshot n x) Job.Check e h).permitted tt)
-  source_versioned k q t n x Job.Upgrade e h took live = absurd ((sent_as w bag k q (Ask.Put t Kind.Snapshot n x) Job.Upgrade e h).permitted tt)
-  source_versioned k q t n x (Job.Forget choice) e h took live = absurd ((sent_as w bag k q (Ask.Put t Kind.Snapshot n x) (Job.Forget choice) e h).permitted tt).0
+  source_versioned k q t n x h took live =
+      let s = sent_now w bag k q (Ask.Put t Kind.Snapshot n x) h in
+      let r : MayPutSnapshot (client w k).job s.older t x = s.permitted tt in
+      let v = r.version_is in
+      let there = (bag.told k Ask.Config (Say.Bytes v.text) (s.within Ask.Config (Say.Bytes v.text) v.read)).0.configured v.text refl refl t took live in
+      let alone : HasUpgraded w k → ⊥ = λ u. none-some r.entries (sym (handed_nothing (client w k).job s.older (sent_now w bag k u.0 (Ask.Upgrade u.1) u.2).may.1) ∙ r.handed) in
+      (v.text, v.config, r.snapshot, ⊎_elim (λ u. absurd (alone u)) (λ c. c) there, v.reads, r.reads, sym v.of_version)
 
   pub put_versioned : (k q : ℕ) (t : Token) (n : Name) (x : List ℕ) (snapshot : Snapshot) → AskedAt (client w k) q (Ask.Put t Kind.Snapshot n x) → IsLive w t → IsSnapshotText x snapshot → IsOfVersion w.store snapshot.version
   put_versioned k q t n x snapshot h live reads =
-      let s = source_versioned k q t n x (client w k).job refl h (put_took w bag k q t Kind.Snapshot n x h) live in
+      let s = source_versioned k q t n x h (put_took w bag k q t Kind.Snapshot n x h) live in
       record { text = s.0; config = s.1; configured = s.3; reads = s.4; of_version = sym s.6 ∙ ap (λ (z : Snapshot). z.version) (snapshot_texts_one x s.2 snapshot s.5 reads) }
 
   snapshot_put : (k q : ℕ) (t : Token) (n : Name) (x : List ℕ) → AskedAt (client w k) q (Ask.Put t Kind.Snapshot n x) → IsLive w t → IsVersioned w.store x
   snapshot_put k q t n x h live =
-      let s = source_versioned k q t n x (client w k).job refl h (put_took w bag k q t Kind.Snapshot n x h) live in
+      let s = source_versioned k q t n x h (put_took w bag k q t Kind.Snapshot n x h) live in
       let v : s.2.version ≡ s.1.version = s.6 in
       record { text = s.0; config = s.1; configured = s.3; reads = s.4; snapshot = s.2; is = s.5; within = omega (arith, v) }
 

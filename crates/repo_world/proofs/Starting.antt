@@ -17,7 +17,7 @@ use Rattle.repo_prune.specs.Forgetting.{IsForgotten, IsDecided}
 use Rattle.repo_prune.specs.declared.choices.Choice.{Choice}
 use Rattle.repo_session.proofs.GoingOn.{concluded_of}
 use Rattle.repo_world.specs.AnyClients.{FitsAny, any_ended, any_next, any_obeys, given_to}
-use Rattle.repo_world.specs.Clients.{JobAllows, JobConcludes, JobGives, JobWants, task_of}
+use Rattle.repo_world.specs.Rules.{JobAllows, JobConcludes, JobGives, JobWants, ruled_task}
 use Rattle.repo_world.specs.declared.any_clients.AnyClient.{AnyClient}
 use Rattle.repo_world.specs.declared.jobs.Job.{Job}
 
@@ -165,15 +165,15 @@ only_ticket task (Ask.Refresh token time) h = absurd h
 only_ticket task Ask.Locks h = absurd h
 
 module _ (c : AnyClient) (f : FitsAny c []) where
-  owes : IsObedientWith (task_of (given_to c).handed (given_to c).who) (JobAllows (given_to c).handed) (JobGives (given_to c).handed) (JobConcludes (given_to c).handed) (JobWants (given_to c).handed) (any_next c) (any_ended c) []
+  owes : IsObedientWith (ruled_task (given_to c).handed (given_to c).who) (JobAllows (given_to c).handed) (JobGives (given_to c).handed) (JobConcludes (given_to c).handed) (JobWants (given_to c).handed) (any_next c) (any_ended c) []
   owes = any_obeys c [] f
 
   pub no_outcome_yet : any_ended c ≡ None
   no_outcome_yet = go (any_ended c) refl where
     go : (o : Option Outcome) → any_ended c ≡ o → any_ended c ≡ None
     go None e = e
-    go (Some o) e = absurd (not_concluded (upto (task_of (given_to c).handed (given_to c).who).versions) (given_to c).handed o
-        (concluded_of (task_of (given_to c).handed (given_to c).who).notes (upto (task_of (given_to c).handed (given_to c).who).versions) (JobConcludes (given_to c).handed) [] o (owes.concluded o e)))
+    go (Some o) e = absurd (not_concluded (upto (ruled_task (given_to c).handed (given_to c).who).versions) (given_to c).handed o
+        (concluded_of (ruled_task (given_to c).handed (given_to c).who).notes (upto (ruled_task (given_to c).handed (given_to c).who).versions) (JobConcludes (given_to c).handed) [] o (owes.concluded o e)))
 
   pub ticket_pending : any_next c ≡ Some (record { instance = (given_to c).who.instance; sequence = 1; ask = Ask.Ticket })
   ticket_pending = go (any_next c) refl where
@@ -181,5 +181,5 @@ module _ (c : AnyClient) (f : FitsAny c []) where
     go None e = absurd (no_wish (given_to c).handed (owes.settled e no_outcome_yet))
     go (Some request) e =
         let n = owes.pending request e in
-        let t = only_ticket (task_of (given_to c).handed (given_to c).who) request.ask n.may in
+        let t = only_ticket (ruled_task (given_to c).handed (given_to c).who) request.ask n.may in
         e ∙ (λ i. Some (record { instance = n.instance i; sequence = n.sequence i; ask = t i }))

@@ -26,7 +26,8 @@ use Rattle.repo_prune.specs.UpgradeObedience.{upgrade_obeys, upgrade_tells}
 use Rattle.repo_prune.specs.UpgradeStates.{FitsUpgrade, who_of_upgrade}
 use Rattle.repo_check.specs.CheckObedience.{check_obeys, check_tells}
 use Rattle.repo_check.specs.CheckStates.{FitsCheck, checker_of}
-use Rattle.repo_world.specs.Clients.{JobAllows, Client, JobConcludes, JobGives, JobWants, task_of}
+use Rattle.repo_world.specs.Clients.{Client}
+use Rattle.repo_world.specs.Rules.{JobAllows, JobConcludes, JobGives, JobWants, ruled_task}
 use Rattle.repo_world.specs.declared.any_clients.AnyClient.{AnyClient}
 use Rattle.repo_world.specs.declared.jobs.Job.{Job}
 
@@ -100,8 +101,8 @@ any_token (AnyClient.Prune c) = token_in c.session
 any_token (AnyClient.Check c) = token_in c.session
 any_token (AnyClient.Upgrade c) = token_in c.session
 
--- it owes what its job owes
-pub any_obeys : (c : AnyClient) (es : Trace) → FitsAny c es → IsObedientWith (task_of (given_to c).handed (given_to c).who) (JobAllows (given_to c).handed) (JobGives (given_to c).handed)
+-- it goes by its job's rule
+pub any_obeys : (c : AnyClient) (es : Trace) → FitsAny c es → IsObedientWith (ruled_task (given_to c).handed (given_to c).who) (JobAllows (given_to c).handed) (JobGives (given_to c).handed)
     (JobConcludes (given_to c).handed) (JobWants (given_to c).handed) (any_next c) (any_ended c) es
 any_obeys (AnyClient.Backup c) es f = backup_obeys c es f
 any_obeys (AnyClient.Pieces c) es f = pieces_obey c es f

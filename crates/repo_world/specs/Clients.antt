@@ -1,43 +1,41 @@
--- The clients of a store: what each is for, by which rule it goes, and what it is at a moment.
-use Rattle.std.specs.Prelude.{◌≡◌, ⊤, ℕ, Bool, false, List, Option, Some, None}
+-- The clients of a store: what each is for, and what it is at a moment.
+use Rattle.std.specs.Prelude.{◌≡◌, ⊤, ℕ, Bool, true, false, List, Option, Some, None}
+use Rattle.repo_name.specs.declared.names.Name.{Name}
 use Rattle.repo_name.specs.declared.kinds.BlobKind.{BlobKind}
 use Rattle.repo_pack.specs.PackLayout.{item_of}
-use Rattle.repo_wire.specs.declared.messages.Ask.{Ask}
 use Rattle.repo_wire.specs.declared.messages.Request.{Request}
 use Rattle.repo_tree.specs.declared.entries.Entry.{Entry}
 use Rattle.repo_session.specs.declared.outcomes.Outcome.{Outcome}
 use Rattle.repo_session.specs.Askers.{Asker}
-use Rattle.repo_session.specs.Clients.{IsObedientWith}
-use Rattle.repo_session.specs.Jobs.{Rule, task_under}
 use Rattle.repo_session.specs.Order.{Task}
-use Rattle.repo_session.specs.Traces.{Exchange, Trace, fed_in}
+use Rattle.repo_session.specs.Traces.{Trace, fed_in}
 use Rattle.repo_backup.specs.declared.faults.BackupError.{BackupError}
-use Rattle.repo_backup.specs.BackupStates.{backup_rule}
 use Rattle.repo_backup.specs.Handed.{AreHanded, EntriesFault}
 use Rattle.repo_backup.specs.Items.{spelled_by}
 use Rattle.repo_backup.specs.Laws.{IsMadeOf}
-use Rattle.repo_backup.specs.PieceRules.{IsMadeSoFar, piece_rule}
-use Rattle.repo_restore.specs.Listing.{list_rule}
-use Rattle.repo_restore.specs.Restoring.{restore_rule}
-use Rattle.repo_prune.specs.Forgetting.{IsNoPolicy, forget_rule}
-use Rattle.repo_prune.specs.Pruning.{prune_rule}
-use Rattle.repo_prune.specs.Upgrading.{upgrade_rule}
-use Rattle.repo_check.specs.Checking.{check_rule}
+use Rattle.repo_backup.specs.PieceRules.{IsMadeSoFar}
+use Rattle.repo_prune.specs.Forgetting.{IsNoPolicy}
 use Rattle.repo_world.specs.declared.jobs.Job.{Job}
 use Rattle.repo_world.specs.declared.jobs.Refusal.{Refusal}
 
--- ---- what is said of each job. (This is the place where one more sort of job joins: with its rule, and with what it is handed.)
+-- ---- what is said of each job. (This is the place where one more sort of job joins: with the lock that it wants, and with what it is handed.)
 
--- the rule by which it goes
-abbrev pub rule_of : Job → Rule
-rule_of (Job.Backup entries) = backup_rule entries
-rule_of Job.Pieces = piece_rule
-rule_of (Job.Restore snapshot) = restore_rule snapshot
-rule_of Job.List = list_rule
-rule_of (Job.Forget choice) = forget_rule choice
-rule_of Job.Prune = prune_rule
-rule_of Job.Check = check_rule
-rule_of Job.Upgrade = upgrade_rule
+-- it wants the lock alone
+abbrev pub wants_alone : Job → Bool
+wants_alone (Job.Forget choice) = true
+wants_alone Job.Prune = true
+wants_alone Job.Check = true
+wants_alone Job.Upgrade = true
+wants_alone _ = false
+
+-- the snapshot that it may get without having listed it
+abbrev pub wanted_by : Job → Option Name
+wanted_by (Job.Restore snapshot) = Some snapshot
+wanted_by _ = None
+
+-- its task, for who asks
+abbrev pub task_of : Job → Asker → Task
+task_of job who = record { who = who; exclusive = wants_alone job; snapshot = wanted_by job; versions = who.versions; notes = false }
 
 -- the entries that it was handed, if it is a backup: at its start, or as the items spell them that it was fed since
 abbrev pub handed_by : Job → Trace → Option (List Entry)
@@ -73,22 +71,6 @@ Refuses _ refusal = ⊥
 
 -- ---- clients, whatever the job
 
--- a job's task, for who asks
-abbrev pub task_of : Job → Asker → Task
-task_of job who = task_under (rule_of job) who
-
--- what its rule lets it ask
-abbrev pub JobAllows : Job → Trace → Ask → Type 0
-JobAllows job = (rule_of job).allows
-
--- what its rule lets it give out
-abbrev pub JobGives : Job → Trace → Exchange → Type 0
-JobGives job = (rule_of job).gives
-
--- how its rule lets it end
-abbrev pub JobConcludes : Job → Trace → Outcome → Type 0
-JobConcludes job = (rule_of job).concludes
-
 -- a client: its job, who asks, all its exchanges, what is pending, how it ended, and whether it stopped for good
 pub record Client : Type 0 where
   pub job : Job
@@ -98,15 +80,7 @@ pub record Client : Type 0 where
   pub outcome : Option Outcome
   pub crashed : Bool
 
--- after which exchanges its rule lets it want input
-abbrev pub JobWants : Job → Trace → Type 0
-JobWants job = (rule_of job).wanting
-
--- it stands where the order and its rule allow
-abbrev pub IsDutiful : Client → Type 0
-IsDutiful c = IsObedientWith (task_of c.job c.who) (JobAllows c.job) (JobGives c.job) (JobConcludes c.job) (JobWants c.job) c.next c.outcome c.trace
-
--- it waits: nothing is pending, and it hasn't ended. (By its rule it wants input then.)
+-- it waits: nothing is pending, and it hasn't ended
 abbrev pub IsWaiting : Client → Type 0
 IsWaiting c = (c.next ≡ None) × (c.outcome ≡ None)
 

@@ -1,11 +1,13 @@
 -- The definitions of the world, in the order in which they are read: what is said of all runs comes first, and then why it holds.
 pub mod Clients
+pub mod Duties
 pub mod World
 pub mod Events
 pub mod Safe
 pub mod Laws
 pub mod Calmness
 pub mod Starting
+pub mod Rules
 pub mod AnyClients
 pub mod Seats
 pub mod Flows

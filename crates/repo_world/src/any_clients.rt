@@ -131,14 +131,14 @@ impl AnyClient {
 impl Client for AnyClient {
     ghost use Rattle.repo_session.specs.Sessions.{Given};
     ghost use Rattle.repo_world.specs.AnyClients.{FitsAny, any_ended, any_given, any_next, any_obeys, any_tells, any_token, given_to};
-    ghost use Rattle.repo_world.specs.Clients.{JobAllows, JobConcludes, JobGives, JobWants, rule_of, task_of};
+    ghost use Rattle.repo_world.specs.Rules.{JobAllows, JobConcludes, JobGives, JobWants, rule_of, ruled_task};
     ghost use Rattle.repo_world.specs.declared.jobs.Job.{Job as AnyJob};
 
     ghost Job = { Given AnyJob };
 
     ghost job = { given_to };
 
-    ghost task = { λ j. task_of j.handed j.who };
+    ghost task = { λ j. ruled_task j.handed j.who };
 
     ghost allows = { λ j. JobAllows j.handed };
 

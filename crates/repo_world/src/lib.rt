@@ -15,14 +15,14 @@
 //! A [`World`] makes just such runs, and is safe at every moment.
 //!
 //! Premises: no two of the byte lists that were sent, that stand as blobs in these, or that a backup made, have one name. Of the laws
-//! alone: the store makes steps of the store machine; the clients are those of this repository, each by the rule of its job. Of a
-//! [`World`] both are proved, over a device that keeps what it was given.
+//! alone: the store makes steps of the store machine; each client is dutiful (`Duties`): it asks in order, what it owes holds where it
+//! puts or deletes, and what it tells is so. Of a [`World`] both are proved, over a device that keeps what it was given.
 //!
 //! Not promised: that a client ever ends, that a message arrives, that what a crashed client put is freed before a prune.
 //!
-//! The definitions stand in `specs/`, in the order in which they are read: `Clients`, `World`, `Events` (with the store's `Failing`), `Safe`,
+//! The definitions stand in `specs/`, in the order in which they are read: `Clients`, `Duties`, `World`, `Events` (with the store's `Failing`), `Safe`,
 //! `Laws`; `Stages` with `Flows` and `Seats`, for what a [`World`] stands for, `Calmness` (which events take no memory) and `Reports`; what
-//! becomes of a seat (`Seating`), clients of any job (`AnyClients`, `Starting`); then, for why every run is safe, `Bag` and `BagLaws`. More
+//! becomes of a seat (`Seating`), clients of any job by its whole rule (`Rules`, `AnyClients`, `Starting`); then, for why every run is safe, `Bag` and `BagLaws`. More
 //! laws of all runs, and that the definitions can be met, stand in `repo_runs`.
 #![tactic(auto)]
 

@@ -15,7 +15,8 @@ use Rattle.repo_session.specs.Feeds.{Fed}
 use Rattle.repo_session.specs.Traces.{fed_in, feeding}
 use Rattle.repo_backup.specs.Items.{AreTaken, IsCountOf, fed_part, size_of}
 use Rattle.repo_backup.specs.declared.items.Item.{Item}
-use Rattle.repo_world.specs.Clients.{IsDutiful, IsWaiting, MayBeFed}
+use Rattle.repo_world.specs.Clients.{IsWaiting, MayBeFed}
+use Rattle.repo_world.specs.Duties.{IsDutiful}
 use Rattle.repo_world.specs.Events.{RefusesItem}
 use Rattle.repo_world.specs.Seats.{Seated, listed, nothing, silence}
 use Rattle.repo_world.specs.World.{crashed_one}

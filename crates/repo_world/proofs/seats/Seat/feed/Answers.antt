@@ -1,12 +1,11 @@
 use Rattle.std.proofs.Common.{rules, ◌≡◌, ◌∙◌, ◌++◌, ◌∷◌, [], Bool, false, List, sym, ap, subst}
 use Rattle.repo_backup.specs.Items.{fed_part}
-use Rattle.repo_world.specs.AnyClients.{given_to}
 use Rattle.repo_world.specs.Clients.{MayBeFed}
 use Rattle.repo_world.specs.inner.Seating.{SeatFed}
 use Rattle.repo_world.specs.Seats.{IsSeated, Seated, exchanges_of, kept_item, part_of, seated}
 use Rattle.repo_world.specs.declared.fed_items.FedItem.{FedItem}
 use Rattle.repo_world.specs.declared.seats.Intake.{Intake}
-use Rattle.repo_world.proofs.Intaking.{part_is, refuses}
+use Rattle.repo_world.proofs.Intaking.{part_is}
 use Rattle.repo_world.proofs.SeatParts.{fed_item, fed_seated, same_seat, still_seated}
 use Rattle.repo_world.proofs.seats.Seat.feed.Goals as goal
 
