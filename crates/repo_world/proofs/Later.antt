@@ -50,13 +50,7 @@ made_still _ older es within since taken all x m = m
 -- nothing more is handed then
 pub handed_still : (b : Job) (older es : Trace) → FedSince older es → AreTaken (fed_in es) → IsAllHanded b older → handed_by b es ≡ handed_by b older
 handed_still Job.Pieces older es since taken all = ap (λ items. Some (spelled_by items)) (over_same older es since taken all)
-handed_still (Job.Backup entries) older es since taken all = refl
-handed_still (Job.Restore s) older es since taken all = refl
-handed_still Job.List older es since taken all = refl
-handed_still (Job.Forget choice) older es since taken all = refl
-handed_still Job.Prune older es since taken all = refl
-handed_still Job.Check older es since taken all = refl
-handed_still Job.Upgrade older es since taken all = refl
+handed_still _ older es since taken all = refl
 
 -- a client of the same job that took more
 pub grows_with : (c d : Client) → d.job ≡ c.job → Within c.trace d.trace → fed_in d.trace ≡ fed_in c.trace → ((q : ℕ) (a : Ask) → AskedAt c q a → AskedAt d q a) → Grows c d

@@ -144,14 +144,9 @@ sending c q a is h = sending_next c.job c.who c.next c.trace q a is.obeys is.pen
 
 -- who has the lock alone was handed nothing
 pub handed_nothing : (b : Job) (es : Trace) → wants_alone b ≡ true → handed_by b es ≡ None
-handed_nothing (Job.Forget choice) es alone = refl
-handed_nothing Job.Prune es alone = refl
-handed_nothing Job.Check es alone = refl
-handed_nothing Job.Upgrade es alone = refl
 handed_nothing (Job.Backup entries) es alone = absurd (cc)
 handed_nothing Job.Pieces es alone = absurd (cc)
-handed_nothing (Job.Restore s) es alone = absurd (cc)
-handed_nothing Job.List es alone = absurd (cc)
+handed_nothing _ es alone = refl
 
 -- what it puts it puts before that
 put_first : (b : Job) (es : Trace) (u : Token) (j : Kind) (n : Name) (x : List ℕ) → wants_alone b ≡ true → Owes b es (Ask.Put u j n x) → NothingDeleted es

@@ -90,7 +90,7 @@ pub record PackMayGo (es : Trace) (n : Name) : Type 0 where
 -- ---- what it owes
 
 -- what it owes where it asks for this. It puts true packs, and indexes of packs that it put or keeps, before it deletes anything; a snapshot where it may.
--- It deletes an index or a pack where that may go, and a snapshot as a forget alone
+-- It deletes an index or a pack where that may go, and a snapshot as a forget alone. (By the order whoever deletes wants the lock alone, and is no backup.)
 abbrev pub Owes : Job → Trace → Ask → Type 0
 Owes job es (Ask.Put token Kind.Pack n x) = NothingDeleted es × ((items : List Item) × IsTruePack x items)
 Owes job es (Ask.Put token Kind.Index n x) = NothingDeleted es × IsIndexOf (IsPutOrKept es) x
