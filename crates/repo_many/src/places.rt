@@ -1,7 +1,10 @@
 //! The places of a server: at each a connection, or none.
 
-ghost use Rattle.std.specs.Prelude.{◌≡◌, ◌<◌, length};
+ghost use Rattle.std.specs.Prelude.{◌≡◌, ◌≢◌, ◌<◌, true, length, slice_get, Some};
+ghost use Rattle.repo_hall.specs.Guests.{IsNewGuest};
 ghost use Rattle.repo_hall.specs.Halls.{HallLeads, HallLeavesStore};
+ghost use Rattle.repo_hall.specs.declared.guests.Guest.{Guest};
+ghost use Rattle.repo_many.specs.declared.places.Place.{Place};
 ghost use Rattle.repo_many.specs.declared.times.Served.{Served};
 
 use crate::large_frames::Room;
@@ -76,7 +79,30 @@ fn turn_at<T: Read + Write + Drop, S: Shelf>(
     }
 }
 
-/// The connection at a place ends, and the place is free; or it is left out, with the text `limit`.
+/// What is left at a place whose connection ended: it is free where its guest was renewed.
+fn left_by<T: Drop>(is_renewed: bool) -> Place<T>
+    ensures free { result ≡ Place.Free → is_renewed ≡ true }
+    ensures closed { (socket : _) → result ≢ Place.Taken socket }
+{
+    if is_renewed {
+        Place::Free
+    } else {
+        Place::LeftOut
+    }
+}
+
+/// This is left at a place, if there is one.
+fn leave<T: Drop>(places: &mut Vec<Place<T>>, place: usize, left: Place<T>)
+    ensures { (p : Place _) → slice_get places.new.items place ≡ Some p → p ≡ left }
+{
+    if place >= places.len() {
+        return;
+    }
+    places[place] = left;
+}
+
+/// The connection at a place ends, and its guest leaves: the place is free, with a new guest, who is to be given nothing; or it is
+/// left out, with the text `limit`.
 fn close_at<T: Drop, F: Write>(
     hall: &mut Hall,
     places: &mut Vec<Place<T>>,
@@ -87,16 +113,13 @@ fn close_at<T: Drop, F: Write>(
     requires { place < length hall.old.guests.items }
     ensures leaves { HallLeavesStore hall.old hall.new }
     ensures places { length hall.new.guests.items ≡ length hall.old.guests.items }
+    ensures renewed { slice_get places.new.items place ≡ Some Place.Free
+        → (g : Guest) → slice_get hall.new.guests.items place ≡ Some g → IsNewGuest g hall.old.entered }
+    ensures closed { (socket : _) → slice_get places.new.items place ≢ Some (Place.Taken socket) }
     ensures silent { tally.new.served ≡ Served.Well → (tally.old.served ≡ Served.Well) × (faults.new ≡ faults.old) }
 {
     let renewed = hall.renew(place);
-    if let Some(closed) = places.get_mut(place) {
-        *closed = if renewed.is_ok() {
-            Place::Free
-        } else {
-            Place::LeftOut
-        };
-    }
+    leave(places, place, left_by(renewed.is_ok()));
     tally.moved = true;
     if renewed.is_err() {
         tally.tell(faults, ServeError::Limit);

@@ -1,11 +1,12 @@
 //! What a connection's turn is made of: one write, one answer, or one read.
 
-ghost use Rattle.std.specs.Prelude.{◌≡◌, ◌⊎◌, ◌<◌, ℕ, List, length, slice_get, take, Some, Ok, false};
-ghost use Rattle.std.specs.Io.KnownBytes.{Appends, Consumes};
+ghost use Rattle.std.specs.Prelude.{◌≡◌, ◌⊎◌, ◌<◌, [], ℕ, List, length, slice_get, take, Some, Ok, false};
+ghost use Rattle.std.specs.Io.KnownBytes.{Appends, Consumes, IsAtEnd};
 ghost use Rattle.repo_hall.specs.Guests.{AnswerCause, IsAwaited, out_of};
 ghost use Rattle.repo_hall.specs.Halls.{HallLeads, HallLeavesStore, HappensAt, NothingHappens};
-ghost use Rattle.repo_hall.specs.Happenings.{Brought};
+ghost use Rattle.repo_hall.specs.Happenings.{Brought, Given};
 ghost use Rattle.repo_hall.specs.declared.guests.Guest.{Guest};
+ghost use Rattle.repo_store.specs.declared.serving.ServeError.{ServeError};
 ghost use Rattle.repo_many.specs.declared.steps.Progress.{Progress};
 
 use repo_hall::Hall;
@@ -27,11 +28,13 @@ pub enum Progress {
     Failed(ServeError),
 }
 
-/// Gives the guest at a place some of what it is to be given, by one write at most, which is of nothing else.
+/// Gives the guest at a place some of what it is to be given, by one write at most, which is of nothing else. Just what was written
+/// counts as given.
 pub fn give<W: Write>(hall: &mut Hall, place: usize, writer: &mut W) -> Progress
     requires { place < length hall.old.guests.items }
     ensures written { (g : Guest) → slice_get hall.old.guests.items place ≡ Some g
-        → (n : ℕ) × Appends (W.contents writer.old) (W.contents writer.new) (take n (out_of g)) }
+        → (n : ℕ) × Appends (W.contents writer.old) (W.contents writer.new) (take n (out_of g))
+        × (((n ≡ 0) × NothingHappens hall.old hall.new) ⊎ HappensAt (λ k. Given k (take n (out_of g))) hall.old place hall.new) }
     ensures leaves { HallLeavesStore hall.old hall.new }
     ensures places { length hall.new.guests.items ≡ length hall.old.guests.items }
 {
@@ -51,12 +54,15 @@ pub fn give<W: Write>(hall: &mut Hall, place: usize, writer: &mut W) -> Progress
     }
 }
 
-/// Takes a piece of what the guest at a place brings, of which more is awaited, by one read: what is read is what it brings.
+/// Takes a piece of what the guest at a place brings, of which more is awaited, by one read: what is read is what it brings, and
+/// nothing of it is let go unless there is no memory for it, which is told. Its end is told only where nothing more can be read.
 pub fn take<R: Read>(hall: &mut Hall, place: usize, piece: &mut [u8], reader: &mut R) -> Progress
     requires place { place < length hall.old.guests.items }
     requires awaited { (g : Guest) → slice_get hall.old.guests.items place ≡ Some g → IsAwaited g }
     ensures read { (bytes : List ℕ) × Consumes (R.remaining reader.old) (R.remaining reader.new) bytes
-        × (NothingHappens hall.old hall.new ⊎ HappensAt (λ k. Brought k bytes) hall.old place hall.new) }
+        × ((NothingHappens hall.old hall.new × ((bytes ≡ []) ⊎ (result ≡ Progress.Failed ServeError.Memory)))
+        ⊎ HappensAt (λ k. Brought k bytes) hall.old place hall.new) }
+    ensures over { result ≡ Progress.AtEnd → 0 < length piece.old → IsAtEnd (R.remaining reader.new) }
     ensures leaves { HallLeavesStore hall.old hall.new }
     ensures places { length hall.new.guests.items ≡ length hall.old.guests.items }
 {
