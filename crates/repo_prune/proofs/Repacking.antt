@@ -1,15 +1,17 @@
 -- The moving of used blobs to new packs.
-use Rattle.std.proofs.Common.{arith, zero, suc, Vec, Global, ◌≡◌, ◌≤◌, ◌+◌, ◌++◌, ◌∷◌, [], ℕ, List, Option, Some, None, length, map, take, slice_get, sym, ap, subst, ◌∙◌, append_assoc}
+use Rattle.std.proofs.Common.{arith, refl, zero, suc, Vec, Global, inl, inr, ◌≡◌, ◌≢◌, ◌⊎◌, ◌≤◌, ◌+◌, ◌++◌, ◌∷◌, [], ℕ, List, Option, Some, None, length, map, take, slice_get, sym, ap, subst, ◌∙◌, append_assoc}
 use Rattle.std.proofs.lemmas.List.{length-append, length-map, length-take, map-append}
-use Rattle.std.proofs.lemmas.Option.{none-some, same_Some, slice_get_within}
+use Rattle.std.proofs.lemmas.Option.{none-some, same_Some, slice_get_cases, slice_get_within}
 use Rattle.repo_name.specs.Naming as naming
 use Rattle.repo_pack.specs.PackLayout.{Item, item_of}
-use Rattle.repo_pack.specs.PackWriting.{with_item}
+use Rattle.repo_pack.specs.PackWriting.{IsDue, with_item}
 use Rattle.repo_pack.specs.declared.writers.Sealed.{Sealed}
 use Rattle.repo_index.specs.declared.facts.Fact.{Fact}
+use Rattle.repo_index.specs.declared.facts.PackFacts.{PackFacts}
 use Rattle.repo_writing.specs.Sealing.{IsSealed}
 use Rattle.repo_writing.specs.Writing.{AreCounts}
-use Rattle.repo_prune.specs.Moving.{Pair, pair_of_item, pair_of_fact, items_so_far, IsMoving, AwaitsBlob}
+use Rattle.repo_writing.specs.declared.targets.Target.{Target}
+use Rattle.repo_prune.specs.Moving.{Pair, pair_of_item, pair_of_fact, items_so_far, IsMoving, AwaitsBlob, AwaitsStill, AreAdded, BlobWasAdded, IsFull, StaysMoving}
 use Rattle.repo_prune.specs.declared.moving.Moving.{Moving}
 
 -- where no pack is sealed, it has no blobs
@@ -29,6 +31,38 @@ sent_before m sent sealed h =
     let f = length-append sent sealed in
     let w = h.within in
     omega (arith, a, b, c, d, e, f, w)
+
+-- where nothing stands, the list is behind
+pub ends_before : {X : Type 0} (xs : List X) (i : ℕ) → slice_get xs i ≡ None → length xs ≤ i
+ends_before xs i none = elim (slice_get_cases xs i).1 [ inl some ↦ absurd (none-some some.0 (sym none ∙ some.2)) | inr past ↦ past.0 ]
+
+-- where a blob was added, and memory was wanting then, it is awaited as before
+pub awaits_again : (old mid new : Moving) (fact : Fact) (sent sealed : List Item) → AwaitsBlob old fact sent sealed → BlobWasAdded old mid sent sealed → StaysMoving mid new sent → AwaitsStill old new fact sent
+awaits_again old mid new fact sent sealed a was stays =
+    let asked : new.asked ≡ old.asked = stays.asked ∙ was.asked in
+    let moves : new.moves ≡ old.moves = stays.moves ∙ was.moves in
+    let before = a.before in
+    record {
+      sealed = stays.sealed;
+      awaits = record {
+        moving = stays.moving;
+        before = omega (arith, before, asked);
+        asked = ap (λ (v : Vec Fact Global). slice_get v.items new.asked) moves ∙ ap (λ (i : ℕ). slice_get old.moves.items i) asked ∙ a.asked;
+        next = inr (stays.added ∙ was.added ∙ ap (λ (i : ℕ). i + 1) (sym stays.asked));
+      };
+      listed = stays.listed ∙ ap (λ (v : Vec PackFacts Global). v.items) was.listed;
+      moves = moves;
+    }
+
+-- a blob that was added already
+pub added_before : (m : Moving) (fact : Fact) (sent sealed : List Item) → AwaitsBlob m fact sent sealed → m.added ≢ m.asked → BlobWasAdded m m sent sealed
+added_before m fact sent sealed a other = record {
+  moving = a.moving;
+  listed = refl;
+  moves = refl;
+  added = elim a.next [ inl first ↦ absurd (other first.0) | inr more ↦ more ];
+  asked = refl;
+}
 
 -- where all was sent, no blob is awaited
 pub none_awaited : (m n : Moving) (fact : Fact) (sent sealed : List Item) → AwaitsBlob m fact sent sealed → n.moves ≡ m.moves → IsMoving n sent [] → n.packer.writer.items ≡ [] → length n.moves.items ≤ n.added → ⊥
@@ -56,8 +90,8 @@ one_taken (y ∷ xs) (suc i) x h = let s : suc i + 1 ≡ suc (i + 1) = omega ari
 
 -- the next blob was added
 pub added_moving : (m n : Moving) (fact : Fact) (bytes : List ℕ) (sent sealed : List Item) → AwaitsBlob m fact sent sealed → m.added ≡ m.asked → fact.name ≡ naming.name bytes
-    → n.packer.writer ≡ with_item m.packer.writer (item_of fact.kind bytes) → n.packer.sealed ≡ m.packer.sealed → n.added ≡ m.added + 1 → n.moves ≡ m.moves → n.counts ≡ m.counts → IsMoving n sent sealed
-added_moving m n fact bytes sent sealed a first named writer sealed_same more moves counts =
+    → n.packer.writer ≡ with_item m.packer.writer (item_of fact.kind bytes) → n.packer.sealed ≡ m.packer.sealed → n.added ≡ m.added + 1 → n.moves ≡ m.moves → n.counts ≡ m.counts → n.packer.target ≡ m.packer.target → IsMoving n sent sealed
+added_moving m n fact bytes sent sealed a first named writer sealed_same more moves counts target =
     let item : Item = item_of fact.kind bytes in
     let before : List Item = sent ++ sealed in
     let asked : slice_get m.moves.items m.added ≡ Some fact = ap (λ (i : ℕ). slice_get m.moves.items i) first ∙ a.asked in
@@ -69,9 +103,15 @@ added_moving m n fact bytes sent sealed a first named writer sealed_same more mo
     ap (λ (v : Vec Fact Global). map pair_of_fact (take n.added v.items)) moves ∙ ap (λ (i : ℕ). map pair_of_fact (take i m.moves.items)) more ∙ ap (map pair_of_fact) (one_taken m.moves.items m.added fact asked) ∙ map-append pair_of_fact (take m.added m.moves.items) (fact ∷ []) in
     let few = slice_get_within m.moves.items m.added fact asked in
     let long : length n.moves.items ≡ length m.moves.items = ap (λ (v : Vec Fact Global). length v.items) moves in
+    let was_full : IsFull m sealed ⊎ AreAdded m → IsFull n sealed ⊎ AreAdded n = λ was. elim was [
+      | inl due ↦ inl (subst (λ (x : Target). IsDue (record { items = sealed; target = x.bytes })) (sym target) due)
+      | inr all ↦ inr (omega (arith, all, long, more))
+    ] in
     record {
       sealed_is = subst (λ (o : Option Sealed). IsSealed o sealed) (sym sealed_same) a.moving.sealed_is;
       moved = left ∙ ap (λ (ps : List Pair). ps ++ pair_of_fact fact ∷ []) a.moving.moved ∙ sym right;
       within = omega (arith, few, more, long);
       counted = subst (λ c. AreCounts c sent) (sym counts) a.moving.counted;
+      aim = ap (λ w. w.target) writer ∙ a.moving.aim ∙ ap (λ (x : Target). x.bytes) (sym target);
+      full = λ some. was_full (a.moving.full (λ none. some (sealed_same ∙ none)));
     }

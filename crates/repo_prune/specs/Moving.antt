@@ -1,9 +1,9 @@
 -- What is known while a prune moves blobs to new packs.
-use Rattle.std.specs.Prelude.{◌≡◌, ◌≤◌, ◌⊎◌, ◌+◌, ◌++◌, ◌∷◌, [], List, length, map, take, slice_get, Some, None, ℕ}
+use Rattle.std.specs.Prelude.{◌≡◌, ◌≢◌, ◌≤◌, ◌⊎◌, ◌+◌, ◌++◌, ◌∷◌, [], List, length, map, take, slice_get, Some, None, ℕ}
 use Rattle.repo_name.specs.declared.kinds.BlobKind.{BlobKind}
 use Rattle.repo_name.specs.declared.names.Name.{Name}
 use Rattle.repo_pack.specs.PackLayout.{Item, IsBlobLength}
-use Rattle.repo_pack.specs.PackWriting.{IsOpen}
+use Rattle.repo_pack.specs.PackWriting.{IsDue, IsOpen}
 use Rattle.repo_pack.specs.declared.writers.Sealed.{Sealed}
 use Rattle.repo_index.specs.declared.facts.Fact.{Fact}
 use Rattle.repo_index.specs.declared.facts.PackFacts.{PackFacts}
@@ -28,12 +28,27 @@ pair_of_fact fact = record { kind = fact.kind; name = fact.name }
 abbrev pub items_so_far : List Item → List Item → Moving → List Item
 items_so_far sent sealed m = (sent ++ sealed) ++ m.packer.writer.items
 
--- of the packs sent these were the blobs, of the sealed one these; all are those of the first facts, in order; and those sent are counted
+-- all blobs that move were added to packs
+abbrev pub AreAdded : Moving → Type 0
+AreAdded m = length m.moves.items ≤ m.added
+
+-- a pack of these blobs is full: their bytes reach what packs are to reach, or they are 4,096
+abbrev pub IsFull : Moving → List Item → Type 0
+IsFull m items = IsDue (record { items = items; target = m.packer.target.bytes })
+
+-- a pack may be sealed: one is, or the one that is being written is full, or has the last blobs
+abbrev pub MayBeSealed : Moving → Type 0
+MayBeSealed m = (m.packer.sealed ≢ None) ⊎ (IsFull m m.packer.writer.items ⊎ AreAdded m)
+
+-- of the packs sent these were the blobs, of the sealed one these; all are those of the first facts, in order; and those sent are counted; the one that
+-- is written is to reach what packs are, and the sealed one is full, or has the last blobs
 pub record IsMoving (m : Moving) (sent sealed : List Item) : Type 0 where
   pub sealed_is : IsSealed m.packer.sealed sealed
   pub moved : map pair_of_item (items_so_far sent sealed m) ≡ map pair_of_fact (take m.added m.moves.items)
   pub within : m.added ≤ length m.moves.items
   pub counted : AreCounts m.counts sent
+  pub aim : m.packer.writer.target ≡ m.packer.target.bytes
+  pub full : m.packer.sealed ≢ None → IsFull m sealed ⊎ AreAdded m
 
 -- the blob of this fact is to be asked for: it is the next one, or it was added, and nothing more was sent since; what was sent is of facts before it
 pub record AwaitsBlob (m : Moving) (fact : Fact) (sent sealed : List Item) : Type 0 where
@@ -42,7 +57,7 @@ pub record AwaitsBlob (m : Moving) (fact : Fact) (sent sealed : List Item) : Typ
   pub asked : slice_get m.moves.items m.asked ≡ Some fact
   pub next : ((m.added ≡ m.asked) × IsOpen m.packer.writer × (m.packer.sealed ≡ None)) ⊎ (m.added ≡ m.asked + 1)
 
--- a pack is sent: it has these blobs, and is listed with exactly them behind those listed before
+-- a pack is sent: it has these blobs, is full or has the last ones, and is listed with exactly them behind those listed before
 pub record SendsPack (sent : List Item) (old : List PackFacts) (sealed : Sealed) (new : Moving) : Type 0 where
   pub items : List Item
   pub listed : PackFacts
@@ -50,6 +65,7 @@ pub record SendsPack (sent : List Item) (old : List PackFacts) (sealed : Sealed)
   pub behind : new.listed.items ≡ old ++ listed ∷ []
   pub moving : IsMoving new (sent ++ items) []
   pub none : new.packer.sealed ≡ None
+  pub full : IsFull new items ⊎ AreAdded new
 
 -- what comes next: a pack; a blob; or nothing, once all were sent
 abbrev pub MovesOn : List Item → List PackFacts → Moved → Moving → Type 0

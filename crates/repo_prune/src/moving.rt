@@ -5,7 +5,7 @@ ghost use Rattle.repo_name.specs.Naming as naming;
 ghost use Rattle.repo_index.specs.declared.facts.Fact.{Fact};
 ghost use Rattle.repo_pack.specs.PackLayout.{Item, IsBlobLength};
 ghost use Rattle.repo_pack.specs.PackWriting.{IsOpen};
-ghost use Rattle.repo_prune.specs.Moving.{IsMoving, AwaitsBlob, MovesOn, StaysMoving, AwaitsStill, TakesMore, AddsBlob, MovesBlob};
+ghost use Rattle.repo_prune.specs.Moving.{IsMoving, MayBeSealed, AwaitsBlob, MovesOn, StaysMoving, AwaitsStill, TakesMore, AddsBlob, MovesBlob};
 
 use repo_index::{Fact, PackFacts};
 use repo_name::BLOB_LIMIT;
@@ -51,6 +51,7 @@ impl Moving {
         ensures moving { IsMoving result [] [] }
         ensures listed { result.listed ≡ listed }
         ensures moves { result.moves ≡ moves }
+        ensures target { result.packer.target ≡ target }
     {
         Moving {
             moves,
@@ -73,6 +74,7 @@ impl Moving {
     fn is_due(&self) -> bool
         ensures due { IsTrue result → (self.now.packer.sealed ≢ None) ⊎ (1 ≤ length self.now.packer.writer.items) }
         ensures open { IsFalse result → TakesMore self.now }
+        ensures full { self.now.packer.writer.target ≡ self.now.packer.target.bytes → IsTrue result → MayBeSealed self.now }
     {
         self.packer.sealed.is_some()
             || self.packer.writer.is_due()
@@ -82,7 +84,7 @@ impl Moving {
     /// Seals the pack that is being written, unless one is sealed. It fails for memory alone, and then nothing changed.
     fn seal(&mut self) -> Result<(), AllocError>
         requires { (self.old.packer.sealed ≢ None) ⊎ (1 ≤ length self.old.packer.writer.items) }
-        ensures moving { OnOk result ((sent sealed : List Item) → IsMoving self.old sent sealed → (more : List Item) × IsMoving self.new sent more) }
+        ensures moving { OnOk result ((sent sealed : List Item) → MayBeSealed self.old → IsMoving self.old sent sealed → (more : List Item) × IsMoving self.new sent more) }
         ensures sealed { OnOk result (self.new.packer.sealed ≢ None) }
         ensures err { OnErr result (self.new ≡ self.old) }
         ensures listed { self.new.listed ≡ self.old.listed }

@@ -2,6 +2,7 @@
 
 ghost use Rattle.std.specs.Prelude.{◌≡◌, [], IfOk, OnErr};
 ghost use Rattle.repo_session.specs.Jobs.{IsShortStep};
+ghost use Rattle.repo_tree.specs.ConfigText.{IsTarget};
 ghost use Rattle.repo_prune.specs.PruneStates.{IsFreshPrune, StepsFor, KnowsAsMuch, FitsPrune, pruner_of};
 
 use crate::deleting::Deleting;
@@ -50,6 +51,13 @@ pub struct PruneJob {
     pub stage: Stage,
     pub target: Target,
     pub alloc: Global,
+}
+
+/// How large the packs of a store of this config are to be.
+fn target_of(config: &Config) -> Target
+    ensures { IsTarget config.now.target → result.bytes ≡ config.now.target }
+{
+    Target::of(config.target.clamp(LEAST_TARGET, GREATEST_TARGET) as u32)
 }
 
 impl PruneJob {
@@ -118,7 +126,7 @@ impl Job for PruneJob {
     }
 
     fn opened(&mut self, _holder: &Holder, config: &Config) -> Step {
-        self.target = Target::of(config.target.clamp(LEAST_TARGET, GREATEST_TARGET) as u32);
+        self.target = target_of(config);
         Step::Ask(self.snapshots.page_ask())
     }
 

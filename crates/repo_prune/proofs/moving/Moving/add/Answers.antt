@@ -10,7 +10,7 @@ returns-clause-ok c = λ sent sealed a first.
     let small = c.args.self.now.moves.small in
     let next : c.saturating_add-self.result ≡ c.args.self.now.added + 1 = omega (arith, few, first, more, small) in
     record {
-      moving = added_moving c.args.self.now _ c.args.fact c.args.bytes.now sent sealed a first c.requires.named c.in_ok-add.ensures.ok c.in_ok-add.ensures.sealed next refl refl;
+      moving = added_moving c.args.self.now _ c.args.fact c.args.bytes.now sent sealed a first c.requires.named c.in_ok-add.ensures.ok c.in_ok-add.ensures.sealed next refl refl c.in_ok-add.ensures.target;
       listed = refl;
       moves = refl;
       added = next ∙ ap (λ (i : ℕ). i + 1) first;

@@ -1,15 +1,15 @@
 use Rattle.std.proofs.Common.{◌≡◌, ◌∷◌, ◌++◌, [], List, refl, sym, ap, subst}
-use Rattle.std.proofs.lemmas.Result.{IfOk-weaker}
+use Rattle.std.proofs.lemmas.Result.{IfOk-weaker, on_err_weaker}
 use Rattle.repo_name.specs.declared.kinds.Kind.{Kind}
 use Rattle.repo_wire.specs.declared.messages.Ask.{Ask}
 use Rattle.repo_wire.specs.declared.messages.Say.{Say}
 use Rattle.repo_session.specs.Traces.{Exchange, silent}
 use Rattle.repo_writing.specs.Writing.{Put, items_of}
-use Rattle.repo_prune.specs.PruneStates.{KnowsStage, known_in}
+use Rattle.repo_prune.specs.PruneStates.{KnowsPrune, KnowsStage, known_in}
 use Rattle.repo_prune.specs.declared.prunes.PruneJob.{PruneJob}
 use Rattle.repo_prune.specs.declared.prunes.Stage.{Stage}
 use Rattle.repo_prune.proofs.PruneListing.{may_step}
-use Rattle.repo_prune.proofs.PruneMoves.{repacks_put, all_moved, goes_on}
+use Rattle.repo_prune.proofs.PruneMoves.{repacks_as, repacks_put, all_moved, goes_on}
 use Rattle.repo_prune.proofs.prunes.PruneJob.pack_done.Goals as goal
 
 pub returns-in-Done-clause-steps : goal.returns-in-Done-clause-steps
@@ -26,6 +26,25 @@ returns-in-Done-clause-steps c = IfOk-weaker c.finish_moves.result _ _ (λ step 
     let done = rw c.in-Done.is at on in
     let gone = goes c.next.new.self refl who (e ∷ es) w (all_moved k m c.next.new.self puts (e ∷ es) repacking c.next.ensures.moves who c.args.token w done) in
     may_step c.finish_moves.new.self who e es step refl gone.0) c.finish_moves.ensures.steps
+
+-- where memory was wanting, the pack is being put as before
+pub returns-in-Done-clause-knows : goal.returns-in-Done-clause-knows
+returns-in-Done-clause-knows c = on_err_weaker c.finish_moves.result
+    (λ same own name x es asked.
+    let k = known_in c.args.self.now in
+    let known = subst (λ s. KnowsStage k s (Ask.Put own Kind.Pack name x) es) c.in-Moving.is asked in
+    let puts : List Put = known.puts ++ known.put ∷ [] in
+    let on = c.in_ok-moved.ensures.on (items_of puts) known.sealed known.moving in
+    let done = rw c.in-Done.is at on in
+    subst (λ (j : PruneJob). KnowsPrune j (Ask.Put own Kind.Pack name x) es) (sym same) (record {
+      puts = known.puts;
+      put = known.put;
+      sealed = [];
+      repacking = repacks_as k c.in-Moving.moving c.next.new.self known.puts (known.put ∷ []) es c.next.ensures.moves done.3 done.0.counted known.repacking;
+      pack_is = known.pack_is;
+      moving = done.0;
+    }))
+    c.finish_moves.ensures.err
 
 pub returns-in_default-2 : goal.returns-in_default-2
 returns-in_default-2 c = record {

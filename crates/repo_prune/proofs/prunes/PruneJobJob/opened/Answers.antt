@@ -25,7 +25,7 @@ returns-clause-begins c = λ text fresh reads known.
     let untouched : IsUntouched es = record { none_put = λ k. refl; none_deleted = none_deleted_at_first task holding.token text } in
     let next = c.page_ask.result in
     let listing : IsListingOf Kind.Snapshot next = subst (λ k. IsListingOf k next) due.knows.of_kind (roll_listing old.snapshots.roll next es due.knows.rolls) in
-    let new : PruneJob = record { snapshots = old.snapshots; catalog = old.catalog; packs = old.packs; stage = old.stage; target = c.of-self.result; alloc = old.alloc } in
+    let new : PruneJob = record { snapshots = old.snapshots; catalog = old.catalog; packs = old.packs; stage = old.stage; target = c.target_of-self.result; alloc = old.alloc } in
     record {
       work = due.work;
       may = due.may;

@@ -1,6 +1,7 @@
-use Rattle.std.proofs.Common.{arith, rules, Vec, Global, ◌≡◌, ◌+◌, ◌≤◌, List, length, take, drop, sym, ap, subst, ◌∙◌}
+use Rattle.std.proofs.Common.{arith, rules, Vec, Global, ◌≡◌, ◌+◌, ◌≤◌, List, length, take, drop, sym, ap, subst, inl, inr, ◌∙◌}
 use Rattle.std.proofs.lemmas.List.{length-drop}
-use Rattle.repo_index.specs.IndexText.{IsIndexText}
+use Rattle.repo_name.specs.Limits.{facts_limit}
+use Rattle.repo_index.specs.IndexText.{IsIndexText, facts_in}
 use Rattle.repo_index.specs.IndexWriting.{AreLawful, AreFew}
 use Rattle.repo_index.specs.declared.facts.PackFacts.{PackFacts}
 use Rattle.repo_prune.specs.Relisting.{AreListable}
@@ -37,6 +38,10 @@ returns-clause-on c = λ listable.
       some = some_taken (drop r.listed r.packs.items) count (λ none. c.cut-count.ensures.cut.some (λ empty. none (sym rest_is ∙ empty))) (omega (arith, left, below));
       short = put.2;
       behind = ap (take c.saturating_add-self.result) packs_same ∙ take_behind r.packs.items r.listed count c.saturating_add-self.result moved;
+      full = elim c.cut-count.ensures.cut.full [
+        | inl all ↦ inr (omega (arith, all, long, left, moved, below, ap length packs_same))
+        | inr many ↦ inl (subst (λ (ps : List PackFacts). facts_limit ≤ length (facts_in (take count ps))) rest_is many)
+      ];
       puts = put.3;
       named = noted;
       packs = packs_same;
