@@ -1,6 +1,6 @@
 //! The server: rounds over all connections, and waiting between them.
 
-ghost use Rattle.std.specs.Prelude.{◌≡◌, [], IfOk, ℕ};
+ghost use Rattle.std.specs.Prelude.{◌≡◌, [], IfOk, ℕ, length};
 ghost use Rattle.repo_store.specs.Stores.{Store};
 ghost use Rattle.repo_hall.specs.Halls.{Hosted, Stands, HallLeads};
 ghost use Rattle.repo_hall.specs.Happenings.{AreInTurn, Log};
@@ -46,9 +46,10 @@ struct Server<T: Drop> {
     watch: Watch,
 }
 
-/// A hall of so many places.
+/// A hall of just so many places.
 fn hall_of(alloc: Global, places: usize) -> Result<Hall, HallError>
-    ensures { IfOk result (λ hall. (from : Store) (failed : ℕ) → Stands from failed hall.guests.items hall.entered [] from failed) }
+    ensures stands { IfOk result (λ hall. (from : Store) (failed : ℕ) → Stands from failed hall.guests.items hall.entered [] from failed) }
+    ensures places { IfOk result (λ hall. length hall.guests.items ≡ places) }
 {
     let mut hall = Hall::new(alloc);
     for place in 0..places {

@@ -1,4 +1,4 @@
-use Rattle.std.proofs.Common.{rules, ◌≡◌, Bool, true, Result, Ok, Err, OnOk, is_ok, sym}
+use Rattle.std.proofs.Common.{rules, ◌≡◌, true, Result, Ok, Err, OnOk, is_ok, sym}
 use Rattle.repo_many.proofs.Leading.{nothing_leads}
 use Rattle.repo_many.proofs.places.close_at.Goals as goal
 

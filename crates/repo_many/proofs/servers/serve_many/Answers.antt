@@ -15,12 +15,12 @@ pub returns-in_err-serve_hall-clause-hosted : goal.returns-in_err-serve_hall-cla
 returns-in_err-serve_hall-clause-hosted g c honest =
     let store = g.S.Shelf.store c.args.shelf.now in
     let failed = g.S.Shelf.failed c.args.shelf.now in
-    let x = c.serve_hall.ensures.leads honest store failed [] (c.in-Ok.ensures store failed) tt in
+    let x = c.serve_hall.ensures.leads honest store failed [] (c.in-Ok.ensures.stands store failed) tt in
     (x.0 ++ [], x.1.hosted, x.2)
 
 pub returns-clause-hosted : goal.returns-clause-hosted
 returns-clause-hosted g c honest =
     let store = g.S.Shelf.store c.args.shelf.now in
     let failed = g.S.Shelf.failed c.args.shelf.now in
-    let x = c.serve_hall.ensures.leads honest store failed [] (c.in-Ok.ensures store failed) tt in
+    let x = c.serve_hall.ensures.leads honest store failed [] (c.in-Ok.ensures.stands store failed) tt in
     (x.0 ++ [], x.1.hosted, x.2)
