@@ -22,10 +22,8 @@ READING = {
     "the law, and the world that it is about": ["repo_world"],
     "the store, and its locks": ["repo_store", "repo_locks"],
     "clients, what they exchange, what is sound": ["repo_session"],
-    "the rule of a backup": ["repo_backup", "repo_writing"],
-    "of a restore and a list": ["repo_restore"],
-    "of a forget and a prune": ["repo_prune", "repo_reach"],
-    "of a check": ["repo_check"],
+    "what backups make, put and list": ["repo_backup", "repo_writing"],
+    "other jobs' words": ["repo_restore", "repo_prune", "repo_reach", "repo_check"],
     "trees, snapshots, the config": ["repo_tree"],
     "packs, indexes, chunks, names, JSON, frames": ["repo_pack", "repo_index", "repo_chunk", "repo_name", "repo_json", "repo_wire"],
 }
@@ -113,7 +111,8 @@ def print_reading(needed):
             if modules_of:
                 of_crates.append(f"`{crate}`: {', '.join(modules_of)}")
         whole = sum(lines for (crate, _), lines in needed.items() if crate in crates)
-        print(f"| {about} | {'; '.join(of_crates)} | {whole} |")
+        if whole:
+            print(f"| {about} | {'; '.join(of_crates)} | {whole} |")
 
 
 def main():
