@@ -1,10 +1,11 @@
 #!/usr/bin/env python3
 """Tries edits that the prover has to refuse, many at a time.
 
-Usage: scripts/more-edits.py [--gate] [--alone] [CRATE..]
+Usage: scripts/more-edits.py [--gate] [--alone] [CRATE | CRATE/EDIT ..]
 or: scripts/more-edits.py --stale
 
-Of each crate (all without a word) it tries the edits in more-edits/CRATE and, with --gate, those in crates/CRATE/must-fail too.
+Of each crate (all without a word) it tries the edits in more-edits/CRATE and, with --gate, those in crates/CRATE/must-fail too; with
+CRATE/EDIT those whose names begin with EDIT.
 Edits that turn functions of their own go into one check together. An open goal at a line of an edited function comes from that
 function's own edit, since what is proved of a function stands on the contracts of those that it calls, and no edit changes a
 contract. An edit that shows no such goal, since only a proof file reports an error, is tried alone, as the gate tries its edits;
@@ -16,6 +17,7 @@ The last line is 'N refused, M not'.
 Where each edit in more-edits/CRATE was refused, more-edits/TRIED has a line of it: the crate, how many they were, and the digest of
 these edits and of the crate's sources, contracts and proofs. --stale tells the crates without a line, or whose files are others now.
 """
+import argparse
 import difflib
 import hashlib
 import os
@@ -26,6 +28,7 @@ import sys
 import tempfile
 
 import kit
+from libraries import linked
 
 rt = kit.load()
 ROOT = os.path.dirname(os.path.dirname(os.path.abspath(__file__)))
@@ -218,34 +221,53 @@ def copied(top, crates):
     for name in filter(None, files.decode().split("\0")):
         os.makedirs(os.path.dirname(f"{top}/{name}"), exist_ok=True)
         shutil.copy2(f"{ROOT}/{name}", f"{top}/{name}")
-    kept = [f"{crate}/out/rlib" for crate in os.listdir(f"{ROOT}/crates")] + [f"{crate}/out/incremental" for crate in crates]
-    for folder in kept:
+    kept = [(f"{crate}/out/rlib", linked) for crate in os.listdir(f"{ROOT}/crates")]
+    kept += [(f"{crate}/out/incremental", shutil.copy2) for crate in crates]
+    for folder, copies in kept:
         if os.path.isdir(f"{ROOT}/crates/{folder}"):
-            shutil.copytree(f"{ROOT}/crates/{folder}", f"{top}/crates/{folder}")
+            shutil.copytree(f"{ROOT}/crates/{folder}", f"{top}/crates/{folder}", copy_function=copies)
     os.makedirs(f"{top}/.git/info", exist_ok=True)
 
 
-def tries_crate(top, crate, words):
-    """How many edits of a crate were refused, and how many weren't."""
+def tries_crate(top, crate, names, given):
+    """How many edits of a crate were refused, and how many weren't: of all, or of those whose names begin so."""
     refused = failed = 0
-    for edit, is_well, why in tried(Copy(top, crate), edits_of(crate, "--gate" in words), "--alone" in words):
+    edits = [edit for edit in edits_of(crate, given.gate) if not names or os.path.basename(edit).startswith(tuple(names))]
+    for edit, is_well, why in tried(Copy(top, crate), edits, given.alone):
         refused, failed = refused + is_well, failed + (not is_well)
         print(f"{'refused' if is_well else 'NOT REFUSED'} {label(edit)}: {why}", flush=True)
-    if not failed:
+    if not failed and not names:
         note_tried(crate)
     return refused, failed
 
 
-def main(words):
-    if "--stale" in words:
+def words():
+    parser = argparse.ArgumentParser(description=__doc__.split("\n")[0])
+    parser.add_argument("--gate", action="store_true", help="those in must-fail/, too")
+    parser.add_argument("--alone", action="store_true", help="one at a time, as the gate does")
+    parser.add_argument("--stale", action="store_true", help="tells which crates' edits weren't tried as they stand")
+    parser.add_argument("wanted", nargs="*", metavar="CRATE | CRATE/EDIT", help="a crate, or those of its edits that begin with EDIT; all without a word")
+    given = parser.parse_args()
+    wanted = {}
+    for word in given.wanted or crates_with_edits():
+        crate, _, name = word.partition("/")
+        wanted.setdefault(crate, []).extend([name] if name else [])
+    unknown = wanted.keys() - set(crates_with_edits())
+    if unknown:
+        parser.error(f"there are no edits of {', '.join(sorted(unknown))}")
+    return given, wanted
+
+
+def main():
+    given, wanted = words()
+    if given.stale:
         return tell_stale()
-    crates = [word for word in words if not word.startswith("--")] or crates_with_edits()
     with tempfile.TemporaryDirectory(prefix="edits-") as top:
-        copied(top, crates)
-        refused, failed = map(sum, zip(*(tries_crate(top, crate, words) for crate in crates)))
+        copied(top, wanted)
+        refused, failed = map(sum, zip(*(tries_crate(top, crate, names, given) for crate, names in wanted.items())))
     print(f"{refused} refused, {failed} not")
     return 1 if failed else 0
 
 
 if __name__ == "__main__":
-    sys.exit(main(sys.argv[1:]))
+    sys.exit(main())
