@@ -6,8 +6,9 @@ Usage: bench/growth.py VAULT [THING..]. SCALE=N has an N-th of the counts.
 THING is files (small ones, in folders of 100), snapshots (each of one folder), packs (of 1,024 bytes), blobs (chunks of some 128
 bytes in one file) or tokens (locks that were taken and given back, then a hundred that live); all of them without a word. A line has
 the job, and of each count the seconds of processors of client and server together, and the greatest memory of each in MiB; then the
-exponents from n to 2n and from 2n to 4n: 1.0 where twice as much takes twice as long. The store's folder is in memory where
-/dev/shm is there, so a disk's time isn't in it. Nothing is kept.
+exponents from n to 2n and from 2n to 4n: 1.0 where twice as much takes twice as long. A client's memory below some 20 MiB isn't seen,
+which is what this script has as it starts it. The store's folder is in memory where /dev/shm is there, so a disk's time isn't in it.
+Nothing is kept.
 """
 import math
 import os
