@@ -57,14 +57,16 @@ def a_package_has_no_error(yard):
 
 
 @contextmanager
-def a_system():
-    """A fresh Debian in a folder."""
+def a_system(*packages):
+    """A fresh Debian in a folder, with these packages."""
     needs("debootstrap", "dpkg-deb", "strip", "chroot")
     if os.geteuid() != 0:
         raise Skipped("it needs root")
     with tempfile.TemporaryDirectory(prefix="vault-system-", dir="/var/tmp") as folder:
         root = Path(folder) / "root"
-        if subprocess.run(["debootstrap", "--variant=minbase", "stable", root], capture_output=True, timeout=FETCH).returncode != 0:
+        included = [f"--include={','.join(packages)}"] if packages else []
+        fetch = ["debootstrap", "--variant=minbase", *included, "stable", root]
+        if subprocess.run(fetch, capture_output=True, timeout=FETCH).returncode != 0:
             raise Skipped("no Debian can be fetched")
         yield root
 
