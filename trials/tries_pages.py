@@ -12,9 +12,9 @@ from units import UNITS, commands_of
 COMPLETION = ROOT / "examples/completion/vault.bash"
 
 
-def says_nothing(*command):
+def says_nothing(*command, seconds=WAIT):
     """A command that ends well, and prints nothing."""
-    run = subprocess.run([str(word) for word in command], cwd=ROOT, capture_output=True, text=True, timeout=WAIT, stdin=subprocess.DEVNULL)
+    run = subprocess.run([str(word) for word in command], cwd=ROOT, capture_output=True, text=True, timeout=seconds, stdin=subprocess.DEVNULL)
     same((run.returncode, run.stdout + run.stderr), (0, ""), command[-1])
 
 
@@ -85,7 +85,8 @@ def completions_of_other_shells_are_read():
 
 @trial
 def cases_are_those_that_are_written():
-    says_nothing(sys.executable, "-B", "scripts/cases/write.py", "--check")
+    # All cases are played by the reference: a minute or two of a processor, and far more where the machine has much else to do.
+    says_nothing(sys.executable, "-B", "scripts/cases/write.py", "--check", seconds=12 * WAIT)
 
 
 @trial
