@@ -1,15 +1,14 @@
 #!/usr/bin/env python3
 """Tries edits that the prover has to refuse, many at a time.
 
-Usage: scripts/more-edits.py [--gate] [--alone] [CRATE | CRATE/EDIT ..]
+Usage: scripts/more-edits.py [--alone] [CRATE | CRATE/EDIT ..]
 or: scripts/more-edits.py --stale
 
-Of each crate (all without a word) it tries the edits in more-edits/CRATE and, with --gate, those in crates/CRATE/must-fail too; with
-CRATE/EDIT those whose names begin with EDIT.
+Of each crate (all without a word) it tries the edits in more-edits/CRATE; with CRATE/EDIT those whose names begin with EDIT. Those
+of the gate stand in must-fail/, and scripts/must-fail.py tries them.
 Edits that turn functions of their own go into one check together. An open goal at a line of an edited function comes from that
 function's own edit, since what is proved of a function stands on the contracts of those that it calls, and no edit changes a
-contract. An edit that shows no such goal, since only a proof file reports an error, is tried alone, as the gate tries its edits;
-with --alone all are.
+contract. An edit that shows no such goal, since only a proof file reports an error, is tried alone; with --alone all are.
 
 It works on a copy of the repository, with the libraries that were built here (rt lib in each crate below).
 The last line is 'N refused, M not'.
@@ -18,7 +17,6 @@ Where each edit in more-edits/CRATE was refused, more-edits/TRIED has a line of 
 these edits and of the crate's sources, contracts and proofs. --stale tells the crates without a line, or whose files are others now.
 """
 import argparse
-import difflib
 import hashlib
 import os
 import re
@@ -28,19 +26,14 @@ import sys
 import tempfile
 
 import kit
+from edits import function_at, turned_functions
 from libraries import linked
 
 rt = kit.load()
 ROOT = os.path.dirname(os.path.dirname(os.path.abspath(__file__)))
 TRIED = f"{ROOT}/more-edits/TRIED"
-FUNCTION = re.compile(r"^ *(?:pub(?:\(crate\))? )?fn (\w+)")
 PLACE = re.compile(r"^(?:note: )?(?:\./)?(\S+?):(\d+):\d+: (.*)$")
 NAMES_ALONE = re.compile(r"^(?:note: )?(\./)?proofs/.*(has no field|is not in scope|has no `|was not admitted)")
-
-
-def function_at(lines, index):
-    """The place of the function in which a line stands: the line of its name; None above the first."""
-    return next((at for at in range(min(index, len(lines) - 1), -1, -1) if FUNCTION.match(lines[at])), None)
 
 
 class Copy:
@@ -79,10 +72,8 @@ class Copy:
         """The functions that an edit turns: their files, and the lines of their names."""
         found = set()
         for file, text in self.texts(edit).items():
-            old, new = self.lines(file), text.split("\n")
-            for tag, start, end, _, _ in difflib.SequenceMatcher(None, old, new, False).get_opcodes():
-                if tag != "equal":
-                    found |= {(file, old[at] if (at := function_at(old, index)) is not None else None) for index in range(start, max(end, start + 1))}
+            old = self.lines(file)
+            found |= {(file, None if at is None else old[at]) for at in turned_functions(old, text.split("\n"))}
         return found
 
     def check(self):
@@ -172,9 +163,9 @@ def tried(copy, edits, alone):
             yield edit, *((True, goal) if goal else tried_alone(copy, edit))
 
 
-def edits_of(crate, with_gate):
-    folders = [f"{ROOT}/more-edits/{crate}"] + ([f"{ROOT}/crates/{crate}/must-fail"] if with_gate else [])
-    return [f"{folder}/{name}" for folder in folders if os.path.isdir(folder) for name in sorted(os.listdir(folder))]
+def edits_of(crate):
+    folder = f"{ROOT}/more-edits/{crate}"
+    return [f"{folder}/{name}" for name in sorted(os.listdir(folder))]
 
 
 def crates_with_edits():
@@ -188,7 +179,7 @@ def line_of(crate):
     for path in sorted(os.path.join(place, name) for folder in folders for place, _, names in os.walk(folder) for name in names):
         with open(path, "rb") as it:
             digest.update(f"{os.path.relpath(path, ROOT)} {hashlib.sha256(it.read()).hexdigest()}\n".encode())
-    return f"{crate} {len(edits_of(crate, False))} {digest.hexdigest()[:16]}"
+    return f"{crate} {len(edits_of(crate))} {digest.hexdigest()[:16]}"
 
 
 def lines_of_tried():
@@ -232,7 +223,7 @@ def copied(top, crates):
 def tries_crate(top, crate, names, given):
     """How many edits of a crate were refused, and how many weren't: of all, or of those whose names begin so."""
     refused = failed = 0
-    edits = [edit for edit in edits_of(crate, given.gate) if not names or os.path.basename(edit).startswith(tuple(names))]
+    edits = [edit for edit in edits_of(crate) if not names or os.path.basename(edit).startswith(tuple(names))]
     for edit, is_well, why in tried(Copy(top, crate), edits, given.alone):
         refused, failed = refused + is_well, failed + (not is_well)
         print(f"{'refused' if is_well else 'NOT REFUSED'} {label(edit)}: {why}", flush=True)
@@ -243,8 +234,7 @@ def tries_crate(top, crate, names, given):
 
 def words():
     parser = argparse.ArgumentParser(description=__doc__.split("\n")[0])
-    parser.add_argument("--gate", action="store_true", help="those in must-fail/, too")
-    parser.add_argument("--alone", action="store_true", help="one at a time, as the gate does")
+    parser.add_argument("--alone", action="store_true", help="one at a time")
     parser.add_argument("--stale", action="store_true", help="tells which crates' edits weren't tried as they stand")
     parser.add_argument("wanted", nargs="*", metavar="CRATE | CRATE/EDIT", help="a crate, or those of its edits that begin with EDIT; all without a word")
     given = parser.parse_args()

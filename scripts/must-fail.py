@@ -1,0 +1,147 @@
+#!/usr/bin/env python3
+"""Tries the gate's edits, each of which the prover has to refuse: those in must-fail/CRATE.
+
+Usage: scripts/must-fail.py [--jobs N] [CRATE..]
+
+Of each crate (all without a word) it checks a copy in which edits are made, over the libraries that were built (`rt ci`, or
+scripts/libraries.py), and of the functions those alone that they turn, with what these call. Edits of different functions are tried
+together: what is proved of a function rests on the contracts of those that it calls, and no edit changes a contract. An edit is
+refused where the function that it turns isn't proved any more; that it is proved without the edit says `rt ci`. So a crate's edits
+cost seconds, and not its whole proof once more. So many checks go side by side as --jobs says, else one for each processor, as
+memory allows. The last line is 'N passed, M failed'.
+"""
+import argparse
+import os
+import re
+import shutil
+import subprocess
+import sys
+import tempfile
+from concurrent.futures import ThreadPoolExecutor
+
+sys.dont_write_bytecode = True
+
+import edits  # noqa: E402
+import kit  # noqa: E402
+from libraries import jobs_here  # noqa: E402
+
+ROOT = os.path.dirname(os.path.dirname(os.path.abspath(__file__)))
+EDITS = f"{ROOT}/must-fail"
+TOLD = re.compile(r"^fn (\S+): (.*)$")
+PLACED = re.compile(r"^(?:note: )?(\S+):\d+:\d+: (.*)$")
+REFUSED = ("no proof", "not proved")
+
+
+class Edit:
+    """An edit of a crate: the file that it turns, the text that it makes of it, and the name of the one function that is turned."""
+
+    def __init__(self, rt, crate, name):
+        self.label = f"{crate.name}/{name}"
+        with open(f"{EDITS}/{self.label}", encoding="utf-8") as it:
+            self.text = it.read()
+        texts, why = rt.edited(self.text, crate.folder)
+        if why:
+            sys.exit(f"{self.label}: {why}")
+        turned = {(file, at) for file, text in texts.items() for at in self.places(crate, file, text)}
+        if len(turned) != 1 or any(at is None or not file.startswith("src/") for file, at in turned):
+            sys.exit(f"{self.label}: it turns something else than one function")
+        ((file, at),) = turned
+        self.function = f"{crate.name}::{edits.name_of(file, self.lines(crate, file), at)}"
+
+    def lines(self, crate, file):
+        with open(f"{crate.folder}/{file}", encoding="utf-8") as it:
+            return it.read().split("\n")
+
+    def places(self, crate, file, text):
+        return edits.turned_functions(self.lines(crate, file), text.split("\n"))
+
+
+def rounds_of(tried):
+    """The edits in rounds, in each of which a function is turned once at most."""
+    rounds = []
+    for edit in tried:
+        fitting = next((it for it in rounds if edit.function not in {other.function for other in it}), None)
+        if fitting is None:
+            rounds.append([edit])
+        else:
+            fitting.append(edit)
+    return rounds
+
+
+def checked(rt, crate, tried):
+    """The lines of a check of the functions that these edits turn, in a copy of the crate in which they are made."""
+    rtlib = rt.rtlib
+    with tempfile.TemporaryDirectory(prefix="edits-") as room:
+        for part in rtlib.PARTS:
+            if os.path.isdir(f"{crate.folder}/{part}"):
+                shutil.copytree(f"{crate.folder}/{part}", f"{room}/{part}")
+        for edit in tried:
+            for file, text in rt.edited(edit.text, room)[0].items():
+                with open(f"{room}/{file}", "w", encoding="utf-8") as it:
+                    it.write(text)
+        only = [word for edit in tried for word in ("--only", edit.function)]
+        words = [*rtlib.guarded(), rtlib.RATTLE, "check", *crate.words(["--jobs", "1"], keeps=False), *only]
+        how = {"stdin": subprocess.DEVNULL, "stdout": subprocess.PIPE, "stderr": subprocess.STDOUT}
+        return subprocess.run(words, cwd=room, text=True, errors="replace", **how).stdout.split("\n")
+
+
+def verdict(edit, lines):
+    """Whether the edit was refused, by these lines of a check; None where they say nothing of its function."""
+    said = [found[2] for found in map(TOLD.match, lines) if found and found[1] == edit.function]
+    return said[-1].startswith(REFUSED) if said else None
+
+
+def reason(edit, lines):
+    """What the check says first of the function: a goal in a file of its proof, or its own line, or else the check's first."""
+    folder = f"/{edit.function.split('::')[-1]}/"
+    goals = [found[2] for found in map(PLACED.match, lines) if found and folder in found[1] and ": note: " not in found[0]]
+    own = [found[2] for found in map(TOLD.match, lines) if found and found[1] == edit.function]
+    return (goals or own or lines)[0][:150]
+
+
+def tried_round(rt, crate, tried):
+    """What came of each edit of a round: whether it was refused, and why. Where a check says nothing of a function, as after an edit
+    that can't be read, the edits are tried one by one."""
+    lines = checked(rt, crate, tried)
+    if len(tried) > 1 and any(verdict(edit, lines) is None for edit in tried):
+        return [it for edit in tried for it in tried_round(rt, crate, [edit])]
+    return [(edit, bool(verdict(edit, lines)), reason(edit, lines)) for edit in tried]
+
+
+def is_there(crate):
+    """Whether a crate's library is there, as it stands: one with a stamp has to be of these sources, and `rt ci` writes none."""
+    return crate.is_built() or os.path.isdir(crate.rlib) and not os.path.exists(f"{crate.folder}/out/rlib/stamp")
+
+
+def tasks_of(rt, crates):
+    """The rounds of each crate, those of the largest crates first."""
+    for crate in sorted(crates, key=lambda it: -it.count(rb"\n")):
+        tried = [Edit(rt, crate, name) for name in sorted(os.listdir(f"{EDITS}/{crate.name}"))]
+        for each in rounds_of(tried):
+            yield crate, each
+
+
+def main():
+    parser = argparse.ArgumentParser(description=__doc__.split("\n")[0])
+    parser.add_argument("--jobs", type=int, metavar="N", help="so many checks at once")
+    parser.add_argument("crates", nargs="*", metavar="CRATE", help="the crates whose edits are tried; all without a word")
+    given = parser.parse_args()
+    rt = kit.load()
+    rt.rtlib.guarded()
+    wanted = given.crates or sorted(os.listdir(EDITS))
+    crates = [it for it in rt.rtlib.crates_below(ROOT) if it.name in wanted]
+    lacking = sorted({dep.name for it in crates for dep in it.below() if not is_there(dep)})
+    if lacking or len(crates) < len(wanted):
+        sys.exit(f"no library of {', '.join(lacking)} as it stands: scripts/libraries.py" if lacking else "there is no such crate")
+    passed = failed = 0
+    with ThreadPoolExecutor(given.jobs or jobs_here()) as pool:
+        for told in pool.map(lambda task: tried_round(rt, *task), tasks_of(rt, crates)):
+            for edit, is_refused, why in told:
+                passed, failed = passed + is_refused, failed + (not is_refused)
+                print(f"must-fail {edit.label}: {'refused' if is_refused else 'NOT REFUSED'}: {why}", flush=True)
+    print(f"{passed} passed, {failed} failed")
+    return 1 if failed else 0
+
+
+if __name__ == "__main__":
+    sys.exit(main())
