@@ -1,6 +1,6 @@
 -- A job that was brought to its end over one connection after another.
 use Rattle.std.specs.Prelude.{option_map}
-use Rattle.std.proofs.Common.{◌≡◌, ◌≤◌, ◌++◌, ◌∷◌, [], ℕ, true, List, Option, Some, None, Result, Ok, Err, length, refl, sym, ap, subst, arith, ◌∙◌}
+use Rattle.std.proofs.Common.{◌≡◌, ◌≤◌, ◌++◌, ◌∷◌, [], ℕ, zero, suc, true, false, List, Option, Some, None, Result, Ok, Err, length, refl, sym, ap, subst, arith, ◌∙◌}
 use Rattle.repo_name.specs.declared.names.Instance.{Instance}
 use Rattle.repo_name.specs.declared.tokens.Token.{Token}
 use Rattle.repo_wire.specs.declared.messages.Ask.{Ask}
@@ -208,6 +208,11 @@ module _ {C J : Type 0} (d : Driven C J) (reached : C → Option Outcome) (rule 
     pub obeyed_over : (retry : ℕ) (result : Result ℕ TryError) (new : C) (coming after : Connections) → DrivesAgain d retry old result new coming after → Obeyed rule who retry coming after
     obeyed_over retry result new coming after a = obeyed_by a.begun old obeys own_is fits retry result a.mid new a.known a.ended coming after a.cut a.last a.before a.gives a.dialed a.store a.few
 
+-- where nothing was tried there is no other store
+store_of_none : (retry : ℕ) → AreAtOneStore retry []
+store_of_none zero = (false, [], (λ p. absurd (let q = p in cc), λ less. absurd (omega (arith, less))), tt, tt)
+store_of_none (suc n) = (true, [], (λ p. omega arith, λ less. refl), tt, tt)
+
 -- no connection was asked for
 pub obeyed_none : (rule : Rule) (who : Asker) (retry : ℕ) (coming : Connections) → Obeyed rule who retry coming coming
-obeyed_none rule who retry coming = record { tries = []; few = omega arith; dialed = refl; begun_by = tt; store = (true, [], λ h. refl, tt, tt); kept = tt; begun = None; waiting = None; brought = refl }
+obeyed_none rule who retry coming = record { tries = []; few = omega arith; dialed = refl; begun_by = tt; store = store_of_none retry; kept = tt; begun = None; waiting = None; brought = refl }

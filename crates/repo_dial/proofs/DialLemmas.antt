@@ -1,5 +1,5 @@
 -- A client that is driven over one connection after another.
-use Rattle.std.proofs.Common.{◌≡◌, ◌≢◌, ◌<◌, ◌≤◌, ◌+◌, ◌⊎◌, ◌++◌, ◌∷◌, [], ℕ, zero, suc, take, Bool, true, List, Option, Some, None, IfSome, Result, Ok, Err, length, refl, sym, ap, subst, arith, inl, inr, append_assoc, length-append, ◌∙◌}
+use Rattle.std.proofs.Common.{◌≡◌, ◌≢◌, ◌<◌, ◌≤◌, ◌↔◌, ◌+◌, ◌⊎◌, ◌++◌, ◌∷◌, [], ℕ, zero, suc, take, Bool, true, List, Option, Some, None, IfSome, Result, Ok, Err, length, refl, sym, ap, subst, arith, inl, inr, append_assoc, length-append, ◌∙◌}
 use Rattle.std.proofs.lemmas.List.{append-nil, length-map, map-append}
 use Rattle.repo_name.specs.declared.names.Instance.{Instance}
 use Rattle.repo_wire.specs.declared.messages.Reply.{Reply}
@@ -249,13 +249,13 @@ module _ {C J : Type 0} (d : Driven C J) (asks : Bool) (old : C) where
     same = same_try d known mid try result new ended gives ∙ t.same;
   }
 
-  one_store : (retry : ℕ) (known : Option (List ℕ)) (tries : List Try) → ((config : List ℕ) → MayBe known config → Each (IsAtStore asks config) tries) → (0 < retry → asks ≡ true) → known ≡ first_told tries → AreAtOneStore retry tries
+  one_store : (retry : ℕ) (known : Option (List ℕ)) (tries : List Try) → ((config : List ℕ) → MayBe known config → Each (IsAtStore asks config) tries) → ((asks ≡ true) ↔ (0 < retry)) → known ≡ first_told tries → AreAtOneStore retry tries
   one_store retry None tries store on first = (asks, [], on, store [] (inl refl), subst (λ o. IfSome o (λ x. [] ≡ x)) first tt)
   one_store retry (Some config) tries store on first = (asks, config, on, store config (inr refl), subst (λ o. IfSome o (λ x. config ≡ x)) first refl)
 
   -- all that may be tried, or it came to an end before
   pub drives_again : (retry : ℕ) (result : Result ℕ TryError) (new : C) (ended : Acquaintance) (coming after : Connections) (n : ℕ) → Tried d asks old result new ended coming after n → n ≤ retry
-      → (0 < retry → asks ≡ true) → ((error : TryError) → result ≡ Err error → is_cut error ≡ true → n ≡ retry) → DrivesAgain d retry old result new coming after
+      → ((asks ≡ true) ↔ (0 < retry)) → ((error : TryError) → result ≡ Err error → is_cut error ≡ true → n ≡ retry) → DrivesAgain d retry old result new coming after
   drives_again retry result new ended coming after n t few on spent = record {
     begun = t.begun;
     known = t.known;
@@ -263,7 +263,7 @@ module _ {C J : Type 0} (d : Driven C J) (asks : Bool) (old : C) where
     cut = t.cut;
     mid = t.mid;
     last = t.last;
-    fresh = (t.fresh.0, λ more. t.fresh.1 ∙ on more);
+    fresh = (t.fresh.0, subst (λ b. (b ≡ true) ↔ (0 < retry)) (sym t.fresh.1) on);
     before = t.before;
     gives = t.gives;
     dialed = t.dialed;

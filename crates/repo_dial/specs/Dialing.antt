@@ -1,5 +1,5 @@
 -- What is said over connections that are made one after another.
-use Rattle.std.specs.Prelude.{◌≡◌, ◌≢◌, ◌<◌, ◌≤◌, ◌+◌, ◌++◌, ◌∷◌, [], ⊤, ℕ, Bool, true, false, List, length, map, Option, Some, None, IfSome, option_map, Result, Ok, Err}
+use Rattle.std.specs.Prelude.{◌≡◌, ◌≢◌, ◌<◌, ◌≤◌, ◌↔◌, ◌+◌, ◌++◌, ◌∷◌, [], ⊤, ℕ, Bool, true, false, List, length, map, Option, Some, None, IfSome, option_map, Result, Ok, Err}
 use Rattle.repo_name.specs.declared.names.Instance.{Instance}
 use Rattle.repo_name.specs.declared.tokens.Token.{Token}
 use Rattle.repo_wire.specs.declared.messages.Ask.{Ask}
@@ -210,10 +210,10 @@ abbrev pub first_told : List Try → Option (List ℕ)
 first_told [] = None
 first_told (try ∷ tries) = or_else (first_told tries) (config_told try)
 
--- All tries of a job are at one store: where more than one connection may be made, nothing is said over any before its store was asked for its config, and
--- the one store is the one whose config was told first.
+-- All tries of a job are at one store: just where more than one connection may be made stores are asked for their configs, and then nothing is said over any
+-- before its store was; and the one store is the one whose config was told first.
 abbrev pub AreAtOneStore : ℕ → List Try → Type 0
-AreAtOneStore retry tries = (asks : Bool) × (config : List ℕ) × (0 < retry → asks ≡ true) × Each (IsAtStore asks config) tries × IfSome (first_told tries) (λ first. config ≡ first)
+AreAtOneStore retry tries = (asks : Bool) × (config : List ℕ) × ((asks ≡ true) ↔ (0 < retry)) × Each (IsAtStore asks config) tries × IfSome (first_told tries) (λ first. config ≡ first)
 
 -- ---- the end of a lock that isn't gone on with
 
@@ -314,7 +314,7 @@ AreCut {C} d known old (try ∷ tries) new after =
     (mid : C) × (between : Acquaintance) × AreCut d known old tries mid between × ((error : TryError) × TryGives d between mid try (Err error) new after × (is_cut error ≡ true))
 
 -- what driving a client over connections gives, where the first may be followed by so many more: the last try gave the result, and all before it
--- were cut off; before the first one no config was known, and where more may be made stores are asked for it; the client went as over one connection,
+-- were cut off; before the first one no config was known, and just where more may be made stores are asked for it; the client went as over one connection,
 -- and all were to one store; and where the last one was cut off too, no more were left
 pub record DrivesAgain {C J : Type 0} (d : Driven C J) (retry : ℕ) (old : C) (result : Result ℕ TryError) (new : C) (coming after : Connections) : Type 0 where
   pub begun : Acquaintance
@@ -323,7 +323,7 @@ pub record DrivesAgain {C J : Type 0} (d : Driven C J) (retry : ℕ) (old : C) (
   pub cut : List Try
   pub mid : C
   pub last : Try
-  pub fresh : (begun.config ≡ None) × (0 < retry → begun.asks ≡ true)
+  pub fresh : (begun.config ≡ None) × ((begun.asks ≡ true) ↔ (0 < retry))
   pub before : AreCut d begun old cut mid known
   pub gives : TryGives d known mid last result new ended
   pub dialed : AreDialed coming (last ∷ cut) after

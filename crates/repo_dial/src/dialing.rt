@@ -48,7 +48,11 @@ fn connect<T: Net>(
 impl<'a, T: Net> Address<'a, T> {
     /// An address, to which nothing is connected yet. With a time for `idle` each read and each write of its connections
     /// fails that waits for longer.
-    pub fn new(rt: &'a T, address: &'a str, idle: Option<Duration>) -> Address<'a, T> {
+    pub fn new(rt: &'a T, address: &'a str, idle: Option<Duration>) -> Address<'a, T>
+        ensures address { result.address.now ≡ address.now }
+        ensures idle { result.idle ≡ idle }
+        ensures ready { ¬ IsSome result.ready }
+    {
         Address {
             rt,
             address,
@@ -62,6 +66,7 @@ impl<'a, T: Net> Address<'a, T> {
     pub fn reach(&mut self, retry: u64) -> Option<u64>
         ensures left { IfSome result (λ left. left ≤ retry) }
         ensures ready { IsSome result ↔ IsSome self.new.ready }
+        ensures same { (self.new.address.now ≡ self.old.address.now) × (self.new.idle ≡ self.old.idle) }
     {
         self.ready = connect(self.rt, self.address, self.idle);
         for tried in 0..retry {

@@ -1,6 +1,6 @@
 //! The store at the other end of a job's connections.
 
-ghost use Rattle.std.specs.Prelude.{◌≡◌, ◌<◌, true, None, Some, Option};
+ghost use Rattle.std.specs.Prelude.{◌≡◌, ◌↔◌, ◌<◌, true, None, Some, Option};
 ghost use Rattle.repo_wire.specs.Messages.{requests};
 ghost use Rattle.repo_wire.specs.Stream.{FitsFrame};
 ghost use Rattle.repo_dial.specs.Dialing.{Asking, HasMet, Meets, MeetsSay, Recognizes, config_request, ends_behind};
@@ -36,9 +36,9 @@ fn config_request(next: &Request) -> Request
 }
 
 impl Acquaintance {
-    /// Nothing is known yet. Stores are asked where more connections than one may be made, so many after the first.
+    /// Nothing is known yet. Stores are asked just where more connections than one may be made, so many after the first.
     pub fn new(retry: u64) -> Acquaintance
-        ensures asks { 0 < retry → result.asks ≡ true }
+        ensures asks { (result.asks ≡ true) ↔ (0 < retry) }
         ensures config { result.config ≡ None }
     {
         Acquaintance {

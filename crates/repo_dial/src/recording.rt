@@ -6,7 +6,8 @@ ghost use Rattle.repo_wire.specs.Stream.{FitsFrame};
 ghost use Rattle.repo_store.specs.Channels.{Passage, heard, said};
 ghost use Rattle.repo_session.specs.Turns.{IsAskedFirst};
 ghost use Rattle.repo_dial.specs.Ends.{Records};
-ghost use Rattle.repo_dial.specs.Recording.{passage_of};
+ghost use Rattle.repo_dial.specs.Recording.{passage_of, record_ends};
+ghost use Rattle.repo_dial.specs.Dialing.{AsksOnce};
 
 use crate::asking::ask_once;
 use crate::ends::KnownChannel;
@@ -124,7 +125,8 @@ impl<'a> Recorder<'a> {
     pub fn ask(&mut self, alloc: Global, request: &Request) -> Result<Reply, DriveError>
         requires fits { FitsFrame requests request.now }
         requires new { self.old.tape ≡ Some [] }
-        ensures { (passages : List Passage) → self.new.tape ≡ Some passages → IsAskedFirst [] [] request.now passages }
+        ensures first { (passages : List Passage) → self.new.tape ≡ Some passages → IsAskedFirst [] [] request.now passages }
+        ensures asks { AsksOnce request.now (record_ends self.old.left.now self.old.tape) result (record_ends self.new.left.now self.new.tape) }
     {
         ask_once(alloc, self, request)
     }

@@ -1,6 +1,6 @@
 //! The backup that feeds itself.
 
-ghost use Rattle.std.specs.Prelude.{◌≡◌, ◌⊎◌, ◌↔◌, [], ℕ, true, IsTrue, IsSome, IfSome, IfOk, IfErr, IsErrOf, OnOk, OnErr, is_some, Some};
+ghost use Rattle.std.specs.Prelude.{◌≡◌, ◌⊎◌, ◌↔◌, [], ℕ, true, IsTrue, IsSome, IfSome, IfOk, IfErr, IsErrOf, OnOk, OnErr, is_some, Some, option_map};
 ghost use Rattle.repo_name.specs.declared.names.Name.{Name};
 ghost use Rattle.repo_session.specs.Clients.{AnswersNext};
 ghost use Rattle.repo_session.specs.Sessions.{who_in, next_in, ended_in};
@@ -69,6 +69,7 @@ impl<S: Source + Drop> FedBackup<S> {
     /// items and bytes at least. Of a source of which it isn't known what it was made to give, neither is which item came
     /// next, nor how many came.
     pub fn given_up(&self) -> Option<&GivenUp<S::Error>>
+        ensures same { option_map (λ reason. reason.now) result ≡ self.now.given_up }
         ensures abandoned { (es : Trace) → FitsFed (feeder self.now.backup (S.told self.now.source) self.now.room (S.failed self.now.source) self.now.given_up) es → ended_in self.now.backup.session ≡ Some (Outcome.Ended End.Abandoned) → IsSome result }
         ensures stored { (es : Trace) (name : Name) (blobs bytes : ℕ) → FitsFed (feeder self.now.backup (S.told self.now.source) self.now.room (S.failed self.now.source) self.now.given_up) es → ended_in self.now.backup.session ≡ Some (Outcome.Stored name blobs bytes) → ¬ IsSome result }
         ensures cause { (es : Trace) (fits : FitsFed (feeder self.now.backup (S.told self.now.source) self.now.room (S.failed self.now.source) self.now.given_up) es) → IfSome result (λ reason. IsReason (S.failed self.now.source) (whole_of (S.told self.now.source)) (place_of (fed_in fits.fs)) reason.now) }

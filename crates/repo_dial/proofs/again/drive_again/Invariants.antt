@@ -1,8 +1,8 @@
-use Rattle.std.proofs.Common.{◌≡◌, ◌<◌, ◌≤◌, Bool, true}
+use Rattle.std.proofs.Common.{◌≡◌, ◌<◌, ◌≤◌, ◌↔◌, Bool, true}
 use Rattle.repo_dial.specs.Dialing.{driven_by}
 use Rattle.repo_dial.proofs.DialLemmas.{Tried}
 use Rattle.repo_dial.proofs.again.drive_again.Given as goal
 
 abbrev pub invariant-loop-turn : goal.invariant-loop-turn
-invariant-loop-turn g l = (asks : Bool) × (0 < l.retry → asks ≡ true) × (l.turn ≤ l.retry)
+invariant-loop-turn g l = (asks : Bool) × ((asks ≡ true) ↔ (0 < l.retry)) × (l.turn ≤ l.retry)
     × Tried (driven_by g.C.Client.task g.C.Client.job g.C.Client.fits g.C.Client.next g.C.Client.token_of) asks l.fn.client l.result l.client l.known (g.D.Dial.connections l.fn.dial) (g.D.Dial.connections l.dial) l.turn
