@@ -8,13 +8,14 @@ use Rattle.repo_tree.specs.declared.configs.Config.{Config}
 use Rattle.repo_tree.specs.declared.entries.Entry.{Entry}
 use Rattle.repo_writing.proofs.BlobLemmas.{has_either}
 use Rattle.repo_writing.proofs.PutLemmas.{each_contained}
+use Rattle.repo_writing.proofs.Writings.{one_packed}
 use Rattle.repo_writing.specs.Writing.{Put, items_of}
-use Rattle.repo_backup.specs.Filling.{IsFullPack}
+use Rattle.repo_writing.specs.Filling.{IsFullPack}
 use Rattle.repo_backup.specs.Folders.{Folder, IsFolderOf, blobs_of}
 use Rattle.repo_backup.specs.Items.{Feeding, place_of, spelled_by, AreTaken}
 use Rattle.repo_backup.specs.Packings.{IsCovered}
 use Rattle.repo_backup.specs.PieceRules.{IsStandingOf}
-use Rattle.repo_backup.specs.PieceStates.{waits, StandsAt}
+use Rattle.repo_backup.specs.PieceStates.{StandsAt}
 use Rattle.repo_backup.specs.Plans.{fed_on, LeadThrough}
 use Rattle.repo_backup.specs.Rules.{IsMade, AreLast, PackRule}
 use Rattle.repo_backup.specs.Standings.{Standing, LeadTo, made_at}
@@ -23,7 +24,7 @@ use Rattle.repo_backup.proofs.Closing.{some_here}
 use Rattle.repo_backup.proofs.Leading.{made_later, over_last}
 use Rattle.repo_backup.proofs.PieceRuling.{made_whole, sealed_made, sealed_once, sealed_unread, sealed_unput, over_is, whole_covered}
 use Rattle.repo_backup.proofs.StepFeeding.{fed_after}
-use Rattle.repo_backup.proofs.Written.{known_given, put_packed}
+use Rattle.repo_backup.proofs.Written.{known_given}
 
 -- by the same config it is made of the same entries
 pub made_so : {es : Trace} {folder : Folder} {spelled entries : List Entry} → spelled ≡ entries → (m : IsMade spelled es folder) → (k : IsMade entries es folder) × (k.config ≡ m.config)
@@ -63,7 +64,7 @@ module _ (entries : List Entry) (left : List Fed) (facts : List Fact) (b : Piece
         all = λ item among. elim (each_contained (λ i. IsCovered facts (items_of puts ++ sealed) i) (blobs_of V h.st.done) item covered (subst (λ (c : Config). Contains (blobs_of c.version h.st.done) item) (t.1 ∙ m.1) among)) [
           | inl fact ↦ inl (known_given facts es item.kind item.name h.written.gives fact)
           | inr has ↦ elim (has_either (items_of puts) sealed item.kind item.name has) [
-            | inl sent ↦ inr (inl (put_packed facts (waits b) b.counts puts es item.kind item.name h.written sent))
+            | inl sent ↦ inr (inl (one_packed b.counts puts es h.written.put item.kind item.name sent))
             | inr here ↦ inr (inr here)
           ]
         ];

@@ -36,7 +36,7 @@ use Rattle.repo_backup.specs.Standings.{Standing, made_at}
 use Rattle.repo_name.specs.declared.kinds.BlobKind.TheVariants.{Tree}
 use Rattle.repo_pack.specs.PackLayout.{item_of}
 use Rattle.repo_tree.specs.declared.configs.Config.{Config}
-use Rattle.repo_backup.specs.Filling.{IsFullIndex}
+use Rattle.repo_writing.specs.Filling.{IsFullIndex}
 use Rattle.repo_backup.specs.declared.items.FeedError.{FeedError}
 use Rattle.repo_backup.specs.declared.items.Item.{Item}
 use Rattle.repo_backup.specs.declared.jobs.BackupJob.{BackupJob}

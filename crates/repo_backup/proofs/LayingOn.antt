@@ -10,7 +10,7 @@ use Rattle.repo_pack.specs.PackWriting.{IsOpen}
 use Rattle.repo_session.specs.Traces.{Trace, fed_in}
 use Rattle.repo_tree.specs.declared.configs.Config.{Config}
 use Rattle.repo_writing.specs.Writing.{Put, items_of}
-use Rattle.repo_backup.specs.Filling.{IsFullPack}
+use Rattle.repo_writing.specs.Filling.{IsFullPack}
 use Rattle.repo_backup.specs.Folders.{Folder}
 use Rattle.repo_backup.specs.Items.{Feeding, Place, place_of}
 use Rattle.repo_backup.specs.Packings.{AimsOn, IsSealedBy}

@@ -16,7 +16,8 @@ use Rattle.repo_writing.specs.Writing.{Put, items_of}
 use Rattle.repo_backup.specs.Backing.{HasWritten}
 use Rattle.repo_backup.specs.Items.{Feeding, FileSoFar, Place, after, closed, place_of, MayTake, NobodyGaveUp, AreTaken, ItemFault, fed_part, fed_of}
 use Rattle.repo_backup.specs.Packings.{IsSealedBy, IsListed, IsLeftOpen, AimsOn}
-use Rattle.repo_backup.specs.PieceRules.{IsStandingOf, HasConfig, IsFullPack}
+use Rattle.repo_writing.specs.Filling.{HasConfig, IsFullPack}
+use Rattle.repo_backup.specs.PieceRules.{IsStandingOf}
 use Rattle.repo_backup.specs.PieceStates.{waits, listed_of, StandsAt, PieceAt, PieceWaits, IsPieceDue, IsPieceDone, IsPieceLarge}
 use Rattle.repo_backup.specs.Pieces.{HasRoom, PieceStands, WorkStands, IsReady, IsSealedAs, Goes, EndsTooLarge, Refuses, Stays, sealing_at}
 use Rattle.repo_backup.specs.Standings.{Standing, IsCutSoFar, place_at, made_at}

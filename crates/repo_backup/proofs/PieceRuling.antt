@@ -8,7 +8,7 @@ use Rattle.repo_session.specs.Askers.{Holding}
 use Rattle.repo_session.specs.Feeds.{Fed, fed_dir, fed_file, fed_bytes, fed_close, fed_end, fed_abandon}
 use Rattle.repo_name.specs.declared.tokens.Token.{Token}
 use Rattle.repo_session.specs.Order.{Task, opened, lock_row, IsWorking}
-use Rattle.repo_session.specs.Traces.{Each, Trace, Exchanged, IsGiven, fed_in, feeding, silent}
+use Rattle.repo_session.specs.Traces.{Each, Trace, Exchanged, IsGiven, fed_in, feeding}
 use Rattle.repo_session.specs.declared.jobs.Step.{Step}
 use Rattle.repo_tree.specs.Spelling.{Spells, greatest_depth}
 use Rattle.repo_tree.specs.Versions.{greatest_version, IsKnownTo}
@@ -18,8 +18,9 @@ use Rattle.repo_wire.specs.declared.messages.Ask.{Ask}
 use Rattle.repo_wire.specs.declared.messages.Say.{Say}
 use Rattle.repo_writing.proofs.BlobLemmas.{has_either, once_behind, once_left, each_left, each_right}
 use Rattle.repo_writing.proofs.PutLemmas.{each_contained}
-use Rattle.repo_writing.proofs.Writings.{listing_of, all_done}
+use Rattle.repo_writing.proofs.Writings.{listing_of, all_done, one_packed}
 use Rattle.repo_writing.specs.Blobs.{AreOnce, HasFact}
+use Rattle.repo_writing.specs.Filling.{HasConfig, IsFullPack}
 use Rattle.repo_writing.specs.Putting.{IsPacked}
 use Rattle.repo_writing.specs.Writing.{Put, items_of}
 use Rattle.repo_backup.specs.Backing.{HasWritten}
@@ -27,7 +28,7 @@ use Rattle.repo_backup.specs.Folders.{Folder, nothing, file_then, dir_then, entr
 use Rattle.repo_backup.specs.Handed.{FollowAll, AreHanded}
 use Rattle.repo_backup.specs.Items.{Feeding, FileSoFar, Place, after, closed, place_of, spelled_by, AreTaken}
 use Rattle.repo_backup.specs.Packings.{IsCovered, IsPacking, all_items}
-use Rattle.repo_backup.specs.PieceRules.{HasConfig, IsStandingOf, IsStandingAt, IsFullPack, PieceAreLast, PiecePackRule, AreOver}
+use Rattle.repo_backup.specs.PieceRules.{IsStandingOf, IsStandingAt, PieceAreLast, PiecePackRule, AreOver}
 use Rattle.repo_backup.specs.PieceStates.{piece_task, waits, StandsAt, PieceAt, PutsSnapshotOf}
 use Rattle.repo_backup.specs.Pieces.{IsRootAt, PieceStands, WorkStands}
 use Rattle.repo_backup.specs.Plans.{IsWithinDepth, AreTreeTextsBelow, AreTreeTexts}
@@ -42,16 +43,13 @@ use Rattle.repo_backup.proofs.NamePlaces.{some_open}
 use Rattle.repo_backup.proofs.Piecing.{plain, packing_in, made_in, covered_whole}
 use Rattle.repo_backup.proofs.Ruling.{spelled}
 use Rattle.repo_backup.proofs.Spelling.{spelled_are_handed}
-use Rattle.repo_backup.proofs.Written.{not_given, not_packed, covered_given, known_given, put_packed}
+use Rattle.repo_backup.proofs.Written.{not_given, not_packed, covered_given, known_given}
 
 -- ---- where the items lead
 
 -- the config was read
 pub config_on : (item : Fed) (es : Trace) (config : Config) → HasConfig es config → HasConfig (feeding item es) config
 config_on item es config h = record { text = h.text; read = fed_exchanged item es Ask.Config (Say.Bytes h.text) h.read; reads = h.reads; known = h.known }
-
-pub config_later : (ask : Ask) (say : Say) (es : Trace) (config : Config) → HasConfig es config → HasConfig (silent ask say ∷ es) config
-config_later ask say es config h = record { text = h.text; read = inr h.read; reads = h.reads; known = h.known }
 
 -- one item further, and where that is taken
 pub standing_after : (item : Fed) (items : Feeding) (es : Trace) (config : Config) (st now : Standing) → IsStandingOf items es config st → place_at now ≡ after (place_at st) item → IsCutSoFar config.params now → IsStandingOf (item ∷ items) es config now
@@ -206,7 +204,7 @@ piece_last facts b puts sealed es h unlaid over =
       all = λ item among. elim (each_contained (λ i. IsCovered facts (items_of puts ++ sealed) i) (made_at h.config.version h.st) item (whole_covered facts b puts sealed (fed_in es) es h unlaid some) among) [
         | inl fact ↦ inl (known_given facts es item.kind item.name h.written.gives fact)
         | inr has ↦ elim (has_either (items_of puts) sealed item.kind item.name has) [
-          | inl sent ↦ inr (inl (put_packed facts (waits b) b.counts puts es item.kind item.name h.written sent))
+          | inl sent ↦ inr (inl (one_packed b.counts puts es h.written.put item.kind item.name sent))
           | inr here ↦ inr (inr here)
         ]
       ];

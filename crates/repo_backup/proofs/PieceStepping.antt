@@ -20,6 +20,7 @@ use Rattle.repo_session.specs.declared.catalogs.Catalog.{Catalog}
 use Rattle.repo_session.specs.declared.jobs.Step.{Step}
 use Rattle.repo_wire.specs.declared.messages.Ask.{Ask}
 use Rattle.repo_wire.specs.declared.messages.Say.{Say}
+use Rattle.repo_writing.specs.Filling.{HasConfig, IsFullIndex}
 use Rattle.repo_writing.specs.Putting.{PutsIndexOf}
 use Rattle.repo_writing.specs.Sealing.{IsSealedOf, IsListedAs}
 use Rattle.repo_writing.specs.Writing.{Put, items_of, AreCounts, FewWait}
@@ -27,7 +28,7 @@ use Rattle.repo_writing.proofs.Writings.{listing_of, items_push, put_of, is_put,
 use Rattle.repo_backup.specs.Backing.{HasWritten}
 use Rattle.repo_backup.specs.Items.{Feeding}
 use Rattle.repo_backup.specs.Packings.{IsCovered, all_items}
-use Rattle.repo_backup.specs.PieceRules.{HasConfig, IsFullIndex, PieceAreLast, PiecePackRule, PieceAllows, PieceConcludes, PieceTooLarge, AreOver, WantsInput, piece_rule}
+use Rattle.repo_backup.specs.PieceRules.{PieceAreLast, PiecePackRule, PieceAllows, PieceConcludes, PieceTooLarge, AreOver, WantsInput, piece_rule}
 use Rattle.repo_backup.specs.PieceStates.{piece_task, listed_of, waits, GoesBy, StandsAt, HasBegun, NothingFed, KnowsPiecePut, PieceWaits, PutsPack, PutsIndex, KnowsPieces, WantsPieces, IsDueAt, IsIdleAt, IsPieceDone, IsPieceIdle, IsPieceLarge, PutsSnapshotOf, large_end}
 use Rattle.repo_backup.specs.Pieces.{HasRoom, IsCoveredSoFar, IsAt, AreTextsAround, WorkStands, at_beginning}
 use Rattle.repo_backup.specs.Folders.{nodes_of, tree_items}
@@ -35,18 +36,17 @@ use Rattle.repo_backup.specs.PartsMade.{parts_by, open_dir}
 use Rattle.repo_backup.specs.Plans.{AreTreeTextsBelow}
 use Rattle.repo_tree.specs.PartWriting.{part_texts}
 use Rattle.repo_tree.specs.declared.configs.Config.{Config}
-use Rattle.repo_session.specs.Versions.{upto}
-use Rattle.repo_session.specs.declared.versions.Versions.{Versions}
 use Rattle.repo_session.specs.declared.outcomes.End.{End}
 use Rattle.repo_session.specs.declared.outcomes.Outcome.{Outcome}
 use Rattle.repo_backup.specs.Rules.{IndexRule}
 use Rattle.repo_backup.specs.Standings.{Standing, IsCutSoFar, made_at}
 use Rattle.repo_backup.specs.declared.piece_backing.PieceBacking.{PieceBacking}
 use Rattle.repo_backup.specs.declared.piece_works.PieceWork.{PieceWork}
+use Rattle.repo_writing.proofs.Filling.{config_later}
 use Rattle.repo_writing.proofs.PutLemmas.{objects_put_other}
 use Rattle.repo_backup.proofs.PackingLemmas.{all_out, packing_out}
 use Rattle.repo_backup.proofs.Piecing.{packing_in, room_as}
-use Rattle.repo_backup.proofs.PieceRuling.{over_is, piece_last, piece_snapshot, config_later, sent_is}
+use Rattle.repo_backup.proofs.PieceRuling.{over_is, piece_last, piece_snapshot, sent_is}
 use Rattle.repo_backup.proofs.Replying.{reading_puts}
 use Rattle.repo_backup.proofs.Staging.{facts_push}
 use Rattle.repo_backup.proofs.Written.{begin_written, pack_next, pack_written, index_may, index_written}
@@ -142,7 +142,7 @@ pub at_later : (facts : List Fact) (b c : PieceBacking) (puts next puts' : List 
 at_later facts b c puts next puts' ask say items es work sent h written = record {
   config = h.config;
   st = h.st;
-  at = record { has = config_later ask say es h.config h.at.has; lead = h.at.lead };
+  at = record { has = config_later (silent ask say) es h.config h.at.has; lead = h.at.lead };
   taken = h.taken;
   kept = h.kept;
   goes_by = subst (λ w. GoesBy h.config w) (sym work) h.goes_by;
@@ -267,11 +267,6 @@ module _ (c : Catalog) (backing : Option PieceBacking) (b : PieceBacking) (is : 
         } in
         subst S (sym p.puts) may
 
--- who knows some versions knows none above both
-pub most_known : (version : ℕ) (versions : Versions) → version ≤ upto versions → version ≤ upto Versions.Both
-most_known version Versions.One h = omega (arith, h)
-most_known version Versions.Both h = h
-
 -- the version that was read is 1 or 2
 version_two : (version : ℕ) → 1 ≤ version → version ≤ 2 → (version ≡ 1) ⊎ (version ≡ 2)
 version_two zero h g = absurd (omega (arith, h))
@@ -315,7 +310,7 @@ may_read_pieces es Ask.Config r none = (r, none)
 pub begun_still : (c : Catalog) (b : PieceBacking) (ask : Ask) (say : Say) (es : Trace) → KnowsIndexes c ask es → HasBegun b es → HasBegun b (silent ask say ∷ es)
 begun_still c b ask say es known h = record {
   config = h.config;
-  has = config_later ask say es h.config h.has;
+  has = config_later (silent ask say) es h.config h.has;
   none_put = λ k. objects_put_other k (silent ask say) es (reading_puts c ask es known k) ∙ h.none_put k;
   goes_by = h.goes_by;
   stands = h.stands;

@@ -13,11 +13,13 @@ use Rattle.repo_pack.specs.PackLayout.{Item, item_of, blobs_of}
 use Rattle.repo_pack.specs.PackWriting.{IsDue, IsOpen}
 use Rattle.repo_pack.specs.PackWriting as writing
 use Rattle.repo_sha.specs.Pieces.{pieces}
-use Rattle.repo_backup.specs.Packings.{AllGain, PacksBlob, GrowsBy, IsJustDue, all_items}
+use Rattle.repo_writing.specs.Filling.{IsJustDue}
+use Rattle.repo_backup.specs.Packings.{AllGain, PacksBlob, GrowsBy, all_items}
 use Rattle.repo_backup.specs.Standings.{chunk_items}
 use Rattle.repo_backup.specs.Waiting.{name_in, TakesMore, TakesAllButOne, GainsOne, AllGainMore, PacksBlobs}
 use Rattle.repo_backup.specs.declared.packing.Packing.{Packing}
 use Rattle.repo_backup.specs.inner.Ends.{AreEnded}
+use Rattle.repo_writing.proofs.Filling.{open_undue}
 use Rattle.repo_backup.proofs.Ending.{pieces_count}
 use Rattle.repo_backup.proofs.PackingLemmas.{all_gain}
 
@@ -121,11 +123,6 @@ just_due_one target old new item room (inl same) due = absurd (shut (subst (λ (
     shut (inl long) = (let short = room.0 in omega (arith, long, short))
     shut (inr many) = (let few = room.1 in omega (arith, many, few))
 just_due_one target old new item room (inr more) due = (due, (old, item, more, room))
-
--- a pack that is open isn't due
-pub open_undue : (p : writing.Packing) → IsOpen p → IsDue p → ⊥
-open_undue p room (inl long) = (let short = room.0 in omega (arith, long, short))
-open_undue p room (inr many) = (let few = room.1 in omega (arith, many, few))
 
 -- ---- many blobs
 

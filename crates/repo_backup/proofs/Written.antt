@@ -13,14 +13,14 @@ use Rattle.repo_index.specs.declared.facts.Fact.{Fact}
 use Rattle.repo_index.specs.declared.facts.PackFacts.{PackFacts}
 use Rattle.repo_session.specs.Catalogs.{AreIndexed}
 use Rattle.repo_session.specs.Traces.{Each, Exchange, Trace, object_put, objects_put, ReadFact, IsGiven}
-use Rattle.repo_writing.specs.Blobs.{HasItem, AreOnce, HasFact}
+use Rattle.repo_writing.specs.Blobs.{AreOnce, HasFact}
 use Rattle.repo_writing.specs.Putting.{IsPacked, IsIndexed, IsListedPack}
 use Rattle.repo_writing.specs.Writing.{Put, IsPut, items_of, AreCounts, AreListed}
 use Rattle.repo_writing.specs.declared.counts.Counts.{Counts}
 use Rattle.repo_writing.proofs.BlobLemmas.{once_apart}
-use Rattle.repo_name.proofs.Containing.{contains_map, flat_contains}
+use Rattle.repo_name.proofs.Containing.{contains_map}
 use Rattle.repo_writing.proofs.PutLemmas.{each_contained, objects_put_other, put_done_now, gives_later, indexed_later}
-use Rattle.repo_writing.proofs.Writings.{each_alone, listing_of, none_put, none_listed, packs_stay, lists_stay, pack_sent, pack_done, packed_one, put_listed, waits_more, index_of, index_done, put_indexed, counted}
+use Rattle.repo_writing.proofs.Writings.{listing_of, none_put, none_listed, packs_stay, lists_stay, pack_sent, pack_done, packed_one, put_listed, waits_more, index_of, index_done, put_indexed, counted}
 use Rattle.repo_backup.specs.Backing.{HasWritten}
 use Rattle.repo_backup.specs.Packings.{IsCovered}
 use Rattle.repo_backup.specs.Rules.{IndexRule, IsStored}
@@ -113,14 +113,6 @@ module _ (known : List Fact) (waiting : List PackFacts) (counts : Counts) (puts 
     put = put_done_now e es token Kind.Snapshot n x q s;
     counted = counted counts puts (e ∷ es) (packs_stay counts puts [] e es (ap (λ a. object_put Kind.Pack a) q) b.put);
   }
-
--- each blob of the packs put is in one of them
-pub put_packed : (known : List Fact) (waiting : List PackFacts) (counts : Counts) (puts : List Put) (es : Trace) (k : BlobKind) (n : Name) → HasWritten known waiting counts puts [] es → HasItem (items_of puts) k n → IsPacked es k n
-put_packed known waiting counts puts es k n b has =
-    let found = flat_contains (λ (p : Put). p.items) puts has.0 has.1 in
-    let p : Put = found.0 in
-    let is : IsPut p = each_contained IsPut puts p (each_alone puts b.put.each) found.1 in
-    record { pack = p.pack; items = p.items; put = subst (λ os. Contains os p.pack) b.put.packs (contains_map (λ (q : Put). q.pack) puts p found.1); holds = is.holds; among = (has.0, found.2, has.2, has.3) }
 
 -- each blob that is known or in the packs put is given, where nothing waits
 pub covered_given : (known : List Fact) (counts : Counts) (puts : List Put) (es : Trace) (item : Item) → HasWritten known [] counts puts [] es → IsCovered known (items_of puts) item

@@ -1,5 +1,5 @@
 -- What is known while a backup is made.
-use Rattle.std.specs.Prelude.{◌≡◌, ◌⊎◌, ◌<◌, ◌≤◌, [], ⊤, ℕ, true, false, List, length, Option, Some, None}
+use Rattle.std.specs.Prelude.{◌≡◌, ◌⊎◌, ◌<◌, ◌≤◌, [], ⊤, true, false, List, length, Option, Some, None}
 use Rattle.repo_name.specs.Limits.{facts_limit}
 use Rattle.repo_name.specs.declared.kinds.Kind.{Kind}
 use Rattle.repo_index.specs.IndexText.{facts_in}
@@ -15,7 +15,7 @@ use Rattle.repo_session.specs.declared.versions.Versions.{Versions}
 use Rattle.repo_tree.specs.declared.entries.Entry.{Entry}
 use Rattle.repo_wire.specs.declared.messages.Ask.{Ask}
 use Rattle.repo_writing.specs.Writing.{Put, AreCounts, FewWait}
-use Rattle.repo_backup.specs.Filling.{IsFullPack}
+use Rattle.repo_writing.specs.Filling.{IsFullPack}
 use Rattle.repo_backup.specs.Items.{Feeding, place_of}
 use Rattle.repo_backup.specs.Packings.{IsListed}
 use Rattle.repo_backup.specs.PieceStates.{StandsAt, PutsPack, PutsIndex, PutsSnapshot, AtPieces}

@@ -2,7 +2,6 @@
 pub mod Folders
 pub mod Handed
 pub mod Plans
-pub mod Filling
 pub mod Rules
 pub mod Packings
 pub mod Backing

@@ -16,7 +16,7 @@ use Rattle.repo_tree.specs.declared.configs.Config.{Config}
 use Rattle.repo_wire.specs.declared.messages.Ask.{Ask}
 use Rattle.repo_writing.specs.Blobs.{AreOnce, HasItem}
 use Rattle.repo_writing.specs.Putting.{IsPacked}
-pub use Rattle.repo_backup.specs.Filling.{HasConfig, IsFullPack, IsFullIndex}
+use Rattle.repo_writing.specs.Filling.{HasConfig, IsFullPack, IsFullIndex}
 use Rattle.repo_backup.specs.Items.{Feeding, NobodyGaveUp, AreTaken, place_of, spelled_by}
 use Rattle.repo_backup.specs.Rules.{IndexRule, SnapshotRule, IsStored}
 use Rattle.repo_backup.specs.Standings.{Standing, LeadTo, made_at}

@@ -24,7 +24,7 @@ use Rattle.repo_writing.specs.Writing.{Put, items_of, AreCounts, FewWait}
 use Rattle.repo_backup.specs.Backing.{HasWritten}
 use Rattle.repo_backup.specs.Items.{Feeding, NobodyGaveUp, AreTaken, place_of}
 use Rattle.repo_backup.specs.Packings.{IsListed}
-use Rattle.repo_backup.specs.Filling.{HasConfig, IsFullPack}
+use Rattle.repo_writing.specs.Filling.{HasConfig, IsFullPack}
 use Rattle.repo_backup.specs.PieceRules.{IsStandingOf}
 use Rattle.repo_backup.specs.Pieces.{PieceStands, WorkStands, HasRoom, IsReady, reopened, at_beginning}
 use Rattle.repo_backup.specs.Standings.{Standing, made_at}

@@ -5,7 +5,8 @@ ghost use Rattle.repo_name.specs.Limits.{blob_limit};
 ghost use Rattle.repo_name.specs.Naming as naming;
 ghost use Rattle.repo_pack.specs.PackLayout.{Item};
 ghost use Rattle.repo_pack.specs.PackWriting.{IsDue};
-ghost use Rattle.repo_backup.specs.Packings.{GrowsBy, IsJustDue, IsPacking};
+ghost use Rattle.repo_writing.specs.Filling.{IsJustDue};
+ghost use Rattle.repo_backup.specs.Packings.{GrowsBy, IsPacking};
 ghost use Rattle.repo_backup.specs.Standings.{chunk_items};
 ghost use Rattle.repo_backup.specs.Waiting.{name_in, PacksBlobs, TakesAllButOne, TakesMore};
 

@@ -17,10 +17,10 @@
 //! backup ends well.
 //!
 //! The definitions stand in `specs/`: `Handed` (which entries may be handed in), `Folders` (a folder, its entries, nodes
-//! and blobs), `Filling` (when a pack is full, and an index), `Rules` (what a backup may put, and how it may end); and what
-//! is known on the way: `Plans` (a folder's steps, and the items that they feed), `Packings` (the packs), `Backing` (what
-//! is known of the trace), `BackupStates`, `Backups` and `BackupObedience` (where the job and the client stand). What any
-//! job knows that puts packs and indexes stands in repo_writing.
+//! and blobs), `Rules` (what a backup may put, and how it may end); and what is known on the way: `Plans` (a folder's
+//! steps, and the items that they feed), `Packings` (the packs), `Backing` (what is known of the trace), `BackupStates`,
+//! `Backups` and `BackupObedience` (where the job and the client stand). What any job knows that puts packs and indexes
+//! stands in repo_writing, with when these are full.
 //!
 //! A [`PieceBackup`] does the same for a folder that nobody holds whole: it is fed items, one after another, that spell
 //! the entries. It wants them once every index was read, while nothing is pending. An item is taken, of a piece maybe a

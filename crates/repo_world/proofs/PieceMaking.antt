@@ -7,9 +7,10 @@ use Rattle.repo_wire.specs.declared.messages.Say.{Say}
 use Rattle.repo_chunk.specs.Parameters.{Parameters}
 use Rattle.repo_session.specs.Feeds.{Fed}
 use Rattle.repo_session.specs.Traces.{Trace, fed_in, feeding}
+use Rattle.repo_writing.specs.Filling.{HasConfig}
 use Rattle.repo_backup.specs.Folders.{Folder, blobs_below, blobs_of, trees_of, IsFolderOf}
 use Rattle.repo_backup.specs.Items.{Feeding, AreTaken, place_of, spelled_by}
-use Rattle.repo_backup.specs.PieceRules.{HasConfig, IsMadeSoFar, AreOver}
+use Rattle.repo_backup.specs.PieceRules.{IsMadeSoFar, AreOver}
 use Rattle.repo_backup.specs.Rules.{IsMade}
 use Rattle.repo_backup.specs.Standings.{Standing, LeadTo, made_at}
 use Rattle.repo_backup.proofs.FedOn.{fed_exchanged}

@@ -1,6 +1,7 @@
 -- The lemmas that the crates above need, too.
 pub mod BlobLemmas
 pub mod PutLemmas
+pub mod Filling
 pub mod Listings
 pub mod Writings
 pub mod Keeping

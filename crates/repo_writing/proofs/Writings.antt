@@ -29,7 +29,7 @@ use Rattle.repo_writing.specs.Sealing.{IsSealedOf, IsListedAs}
 use Rattle.repo_writing.specs.Writing.{Put, IsPut, items_of, bytes_of, AreCounts, ArePut, Listing, packs_of, IsDone, AreListed, FewWait}
 use Rattle.repo_writing.specs.declared.counts.Counts.{Counts}
 use Rattle.repo_writing.proofs.Listings.{placed_sum}
-use Rattle.repo_name.proofs.Containing.{none_contained, first_contained, later_contained, map_contains, flat_contains, contains_flat, stands_at}
+use Rattle.repo_name.proofs.Containing.{none_contained, first_contained, later_contained, contains_map, map_contains, flat_contains, contains_flat, stands_at}
 use Rattle.repo_writing.proofs.PutLemmas.{each_contained, objects_put_other, objects_put_more, put_done_later, put_done_now}
 
 -- how it is listed
@@ -133,6 +133,14 @@ module _ (counts : Counts) (puts : List Put) (es : Trace) (h : ArePut counts put
       let same : packed.items ≡ p.items = packs_one packed.pack.bytes packed.items p.items packed.holds.pack (subst (λ x. IsPack x p.items) bytes_same is.holds.pack) in
       let among : HasItem p.items k n = subst (λ is. HasItem is k n) same packed.among in
       (among.0, contains_flat (λ (q : Put). q.items) puts p among.0 found.1 among.1, among.2, among.3)
+
+  -- and each blob of these is in a pack that was put
+  pub one_packed : (k : BlobKind) (n : Name) → HasItem (items_of puts) k n → IsPacked es k n
+  one_packed k n has =
+      let found = flat_contains (λ (p : Put). p.items) puts has.0 has.1 in
+      let p : Put = found.0 in
+      let is : IsPut p = each_contained IsPut puts p (each_alone puts h.each) found.1 in
+      record { pack = p.pack; items = p.items; put = subst (λ os. Contains os p.pack) h.packs (contains_map (λ (q : Put). q.pack) puts p found.1); holds = is.holds; among = (has.0, found.2, has.2, has.3) }
 
   -- a pack that was put may be listed with its blobs
   pub put_listed : (listed : PackFacts) → Contains (map listing_of puts) listed → IsListedPack es listed

@@ -2,5 +2,6 @@
 pub mod Blobs
 pub mod Putting
 pub mod Sealing
+pub mod Filling
 pub mod Writing
 pub mod Laws

@@ -9,8 +9,8 @@
 //! an index lists what waited. Not promised: which blobs a job adds, and when it puts what; that is the job's own rule.
 //!
 //! The definitions stand in `specs/`: `Blobs` (blobs by kind and name), `Putting` (what was put, and is done; what an
-//! index may list), `Sealing` (a sealed pack, and its listing), `Writing` (what is known of the trace), `Laws` (what may
-//! be added to a sound store).
+//! index may list), `Sealing` (a sealed pack, and its listing), `Filling` (when a pack is full, and an index), `Writing`
+//! (what is known of the trace), `Laws` (what may be added to a sound store).
 #![tactic(auto)]
 
 mod counts;

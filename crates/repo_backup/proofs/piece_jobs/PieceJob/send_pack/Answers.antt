@@ -1,4 +1,4 @@
-use Rattle.std.proofs.Common.{◌≡◌, ◌++◌, [], List, Some, refl, sym, ap, subst, inl, inr, ◌⊎◌, ◌∙◌}
+use Rattle.std.proofs.Common.{◌≡◌, ◌++◌, [], List, Some, refl, sym, ap, subst, ◌∙◌}
 use Rattle.std.proofs.lemmas.Option.{same_Some}
 use Rattle.repo_name.specs.declared.kinds.Kind.{Kind}
 use Rattle.repo_name.specs.declared.tokens.Token.{Token}
@@ -10,7 +10,7 @@ use Rattle.repo_session.specs.declared.jobs.Step.{Step}
 use Rattle.repo_wire.specs.declared.messages.Ask.{Ask}
 use Rattle.repo_writing.specs.Sealing.{IsSealedOf}
 use Rattle.repo_writing.specs.Writing.{AreCounts, items_of}
-use Rattle.repo_backup.specs.PieceRules.{IsFullPack, AreOver, piece_rule}
+use Rattle.repo_backup.specs.PieceRules.{piece_rule}
 use Rattle.repo_backup.specs.PieceStates.{KnowsPieces, WantsPieces, IsPieceDue}
 use Rattle.repo_backup.proofs.Piecing.{packing_in}
 use Rattle.repo_backup.proofs.PieceRuling.{piece_pack}

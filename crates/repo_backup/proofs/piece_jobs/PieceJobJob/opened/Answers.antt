@@ -2,9 +2,10 @@ use Rattle.std.proofs.Common.{rules, arith, ◌≡◌, [], refl, sym, ap, subst,
 use Rattle.repo_session.specs.Order.{opened, IsWorking}
 use Rattle.repo_session.specs.Traces.{Trace}
 use Rattle.repo_session.proofs.Cataloguing.{catalog_fresh}
+use Rattle.repo_writing.proofs.Filling.{most_known}
 use Rattle.repo_backup.specs.PieceStates.{piece_task, HasBegun}
 use Rattle.repo_backup.specs.Pieces.{PieceStands, IsReady, at_beginning}
-use Rattle.repo_backup.proofs.PieceStepping.{may_read_pieces, most_known}
+use Rattle.repo_backup.proofs.PieceStepping.{may_read_pieces}
 use Rattle.repo_backup.proofs.piece_jobs.PieceJobJob.opened.Goals as goal
 
 pub returns-clause-begins : goal.returns-clause-begins

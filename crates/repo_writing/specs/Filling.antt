@@ -1,24 +1,29 @@
 -- When a pack is full, and an index.
-use Rattle.std.specs.Prelude.{◌≤◌, ℕ, List, length}
+use Rattle.std.specs.Prelude.{◌≡◌, ◌≤◌, ◌++◌, ◌∷◌, [], ℕ, List, length}
+use Rattle.repo_name.specs.Limits.{facts_limit}
+use Rattle.repo_wire.specs.declared.messages.Ask.{Ask}
+use Rattle.repo_wire.specs.declared.messages.Say.{Say}
+use Rattle.repo_pack.specs.PackLayout.{Item}
+use Rattle.repo_pack.specs.PackWriting.{IsDue, IsOpen}
 use Rattle.repo_index.specs.IndexText.{IsIndexText, facts_in}
 use Rattle.repo_index.specs.declared.facts.PackFacts.{PackFacts}
-use Rattle.repo_name.specs.Limits.{facts_limit}
-use Rattle.repo_pack.specs.PackLayout.{Item}
+use Rattle.repo_tree.specs.ConfigText.{IsConfigText}
+use Rattle.repo_tree.specs.declared.configs.Config.{Config}
 use Rattle.repo_session.specs.Traces.{Trace, Exchanged}
 use Rattle.repo_session.specs.Versions.{upto}
 use Rattle.repo_session.specs.declared.versions.Versions.{Versions}
-use Rattle.repo_tree.specs.ConfigText.{IsConfigText}
-use Rattle.repo_tree.specs.declared.configs.Config.{Config}
-use Rattle.repo_wire.specs.declared.messages.Ask.{Ask}
-use Rattle.repo_wire.specs.declared.messages.Say.{Say}
-use Rattle.repo_backup.specs.Packings.{IsJustDue}
 
--- the config was read, and is of a version that a backup knows
+-- the config was read, and is of a version that jobs know which put packs
 pub record HasConfig (es : Trace) (config : Config) : Type 0 where
   pub text : List ℕ
   pub read : Exchanged es Ask.Config (Say.Bytes text)
   pub reads : IsConfigText text config
   pub known : config.version ≤ upto Versions.Both
+
+-- a pack that wants so many bytes is due with its last blob, and wasn't before
+abbrev pub IsJustDue : ℕ → List Item → Type 0
+IsJustDue target items = IsDue (record { items = items; target = target })
+    × ((before : List Item) × (last : Item) × (items ≡ before ++ last ∷ []) × IsOpen (record { items = before; target = target }))
 
 -- with their last one, and not before, the blobs reach what the config wants of a pack, or are as many as a pack may have
 abbrev pub IsFullPack : Trace → List Item → Type 0
