@@ -1,5 +1,5 @@
 -- What stays known over an exchange that lists and reads nothing.
-use Rattle.std.proofs.Common.{◌≡◌, ◌∷◌, [], false, refl, subst, inr, ◌∙◌}
+use Rattle.std.proofs.Common.{◌≡◌, ◌∷◌, [], ℕ, false, refl, subst, inr, ◌∙◌}
 use Rattle.std.specs.Prelude.{⊤}
 use Rattle.repo_name.specs.declared.kinds.Kind.{Kind}
 use Rattle.repo_store.specs.Pages.{Has}
@@ -11,9 +11,10 @@ use Rattle.repo_session.specs.Traces.{Exchange, Trace, object_put, page_names, i
 use Rattle.repo_session.proofs.Cataloguing.{fact_stays, fact_before}
 use Rattle.repo_session.proofs.Deleting.{DeletesNone, ListsNone, listed_stays, listing_stays, names_stay, none_deleted_on}
 use Rattle.repo_session.proofs.Rolling.{paged_on}
+use Rattle.repo_writing.proofs.Filling.{config_later}
 use Rattle.repo_writing.proofs.PutLemmas.{objects_put_other}
 use Rattle.repo_prune.specs.Pruning.{IsUntouched}
-use Rattle.repo_prune.specs.PruneStates.{Known, HaveRead}
+use Rattle.repo_prune.specs.PruneStates.{Known, HaveRead, HasTarget}
 
 -- a request for a part of a pack, a put, or a delete
 abbrev pub IsAside : Ask → Type 0
@@ -54,6 +55,10 @@ no_last k Ask.Config say h = absurd h
 pub aside_lists : (k : Kind) (e : Exchange) → IsAside e.ask → ListsNone k e
 aside_lists k e h = record { page = no_page k e.ask e.say h; last = no_last k e.ask e.say h; ask = λ after is. subst IsAside is h }
 
+-- what the config wants stays known
+pub target_later : (e : Exchange) (es : Trace) (bytes : ℕ) → HasTarget es bytes → HasTarget (e ∷ es) bytes
+target_later e es bytes (config, has, wants) = (config, config_later e es config has, wants)
+
 module _ (e : Exchange) (es : Trace) (aside : IsAside e.ask) where
   pub fact_same : (fact : Fact) → ReadFact (e ∷ es) fact → ReadFact es fact
   fact_same fact h = fact_before e es fact (λ n x is said. subst IsAside is aside) h
@@ -75,6 +80,7 @@ module _ (e : Exchange) (es : Trace) (aside : IsAside e.ask) where
         listed = names_stay Kind.Index e es (aside_lists Kind.Index e aside) ∙ h.listed;
         gives = λ fact. (λ has. fact_stays e es fact ((h.gives fact).0 has), λ read. (h.gives fact).1 (fact_same fact read));
         packs = paged_on Kind.Pack e k.packs _ es packs.page packs.last packs.ask h.packs;
+        target = target_later e es k.target h.target;
       }
 
 -- a request that neither puts nor deletes

@@ -1,12 +1,12 @@
 -- How often a pair of kind and name stands among facts.
-use Rattle.std.proofs.Common.{arith, zero, suc, ◌≡◌, ◌≤◌, ◌+◌, ◌⊎◌, ◌++◌, ◌∷◌, [], ℕ, Bool, true, false, cond, List, Some, length, map, slice_get, refl, sym, ap, subst, inl, inr, ◌∙◌, Contains}
+use Rattle.std.proofs.Common.{arith, zero, suc, ◌≡◌, ◌≤◌, ◌+◌, ◌⊎◌, ◌++◌, ◌∷◌, [], ℕ, Bool, true, false, cond, List, Some, length, map, take, drop, slice_get, refl, sym, ap, subst, inl, inr, ◌∙◌, Contains}
 use Rattle.std.specs.List.{sum_by}
 use Rattle.std.specs.List.Sorted.{IsPermutation}
 use Rattle.std.specs.Ordering.{is_eq}
 use Rattle.std.specs.Cmp.{eq_by_cmp_equiv}
 use Rattle.repo_name.proofs.Containing.{contained_or, first_contained, later_contained, none_contained}
 use Rattle.repo_name.proofs.NameMaps.{same_name}
-use Rattle.std.proofs.lemmas.List.{map-append}
+use Rattle.std.proofs.lemmas.List.{map-append, take-append-drop}
 use Rattle.std.proofs.lemmas.List.Concat.{flat_map-append}
 use Rattle.std.proofs.lemmas.List.Sums.{sum_by-cons}
 use Rattle.std.proofs.lemmas.List.Sorted.{sum_by-IsPermutation}
@@ -21,7 +21,7 @@ use Rattle.repo_index.specs.IndexText.{facts_in, fact_of}
 use Rattle.repo_index.specs.Order.{names_total}
 use Rattle.repo_index.specs.declared.facts.Fact.{Fact}
 use Rattle.repo_index.specs.declared.facts.PackFacts.{PackFacts}
-use Rattle.repo_writing.specs.Blobs.{HasFact}
+use Rattle.repo_writing.specs.Blobs.{HasItem, AreOnce, HasFact}
 use Rattle.repo_writing.specs.Writing.{Put, IsPut, items_of}
 use Rattle.repo_session.specs.Traces.{Each}
 use Rattle.repo_prune.specs.Moving.{Pair, pair_of_item, pair_of_fact}
@@ -149,10 +149,46 @@ counted_once (f ∷ facts) h = (
   counted_once facts (λ k n. let all = h k n in omega (arith, all)),
 )
 
-count_append : (k : BlobKind) (n : Name) (ps qs : List Pair) → count k n (ps ++ qs) ≡ count k n ps + count k n qs
+pub count_append : (k : BlobKind) (n : Name) (ps qs : List Pair) → count k n (ps ++ qs) ≡ count k n ps + count k n qs
 unfolding count
 count_append k n [] qs = omega arith
 count_append k n (p ∷ ps) qs = let rest = count_append k n ps qs in omega (arith, rest)
+
+-- ---- of items
+
+item_counted : (k : BlobKind) (n : Name) (items : List Item) → HasItem items k n → 1 ≤ count k n (map pair_of_item items)
+unfolding count
+item_counted k n [] h = absurd (none_contained h.0 h.1)
+item_counted k n (i ∷ items) h = elim (contained_or i items h.0 h.1) [
+  | inl same ↦
+      let named : pair_of_item h.0 ≡ record { kind = k; name = n } = λ j. record { kind = h.2 j; name = h.3 j } in
+      let is : pair_of_item i ≡ record { kind = k; name = n } = ap pair_of_item same ∙ named in
+      let one = weigh_is k n (pair_of_item i) is in
+      omega (arith, one)
+  | inr more ↦ let rest = item_counted k n items (h.0, more, h.2, h.3) in omega (arith, rest)
+]
+
+pub items_once : (items : List Item) → ((k : BlobKind) (n : Name) → count k n (map pair_of_item items) ≤ 1) → AreOnce items
+unfolding count
+items_once [] h = tt
+items_once (i ∷ items) h = (
+  (λ has.
+      let more = item_counted i.kind i.name items has in
+      let one = weigh_is i.kind i.name (pair_of_item i) refl in
+      let all = h i.kind i.name in
+      absurd (omega (arith, more, one, all))),
+  items_once items (λ k n. let all = h k n in omega (arith, all)),
+)
+
+-- where some facts are of one pair each, and these items are of the pairs of first ones of the last of them, each of these is there once
+pub moved_once : (kept moves : List Fact) (added : ℕ) (items : List Item) → AreFactsOnce (kept ++ moves) → map pair_of_item items ≡ map pair_of_fact (take added moves) → AreOnce items
+moved_once kept moves added items once same = items_once items (λ k n.
+    let all = once_counted (kept ++ moves) once k n in
+    let front : count k n (pairs_of (kept ++ moves)) ≡ count k n (pairs_of kept) + count k n (pairs_of moves) = ap (count k n) (map-append pair_of_fact kept moves) ∙ count_append k n (pairs_of kept) (pairs_of moves) in
+    let back : count k n (pairs_of moves) ≡ count k n (pairs_of (take added moves)) + count k n (pairs_of (drop added moves)) =
+    ap (λ fs. count k n (pairs_of fs)) (sym (take-append-drop added moves)) ∙ ap (count k n) (map-append pair_of_fact (take added moves) (drop added moves)) ∙ count_append k n (pairs_of (take added moves)) (pairs_of (drop added moves)) in
+    let here : count k n (map pair_of_item items) ≡ count k n (pairs_of (take added moves)) = ap (count k n) same in
+    omega (arith, all, front, back, here))
 
 -- ---- of packs
 

@@ -31,8 +31,9 @@ use Rattle.repo_writing.proofs.PutLemmas.{each_contained, asked_put, objects_put
 use Rattle.repo_writing.proofs.Writings.{lists_stay, all_done, counted, each_alone}
 use Rattle.repo_writing.specs.Putting.{AreCounted, AreDone}
 use Rattle.repo_writing.specs.Writing.{Put, IsPut, AreListed}
+use Rattle.repo_writing.specs.declared.counts.Counts.{Counts}
 use Rattle.repo_prune.specs.inner.Deleting.{BeginsDeleting, DeletesNext, IsGone}
-use Rattle.repo_prune.specs.PruneStates.{Known, HasListed, IsClearing, KnowsDeleting, KnowsStage, MayClear, IsNextStep}
+use Rattle.repo_prune.specs.PruneStates.{Known, ArePacked, HasListed, IsClearing, KnowsDeleting, KnowsStage, MayClear, IsNextStep}
 use Rattle.repo_prune.specs.Pruning.{prune_rule, prune_task, AreCovered, AreReplaced, IsPruned, IsSettled, ListsPack}
 use Rattle.repo_prune.specs.declared.deleting.Deleting.{Deleting}
 use Rattle.repo_prune.specs.declared.prunes.Stage.{Stage}
@@ -121,6 +122,14 @@ module _ (token : Token) (kind : Kind) (name : Name) (say : Say) (es : Trace) wh
 
 -- ---- at the begin
 
+-- each pack that was put is listed
+pub puts_listed : (k : Known) (packs : List PackFacts) (counts : Counts) (es : Trace) → ArePacked k packs counts es → (object : Object) → Contains (objects_put Kind.Pack es) object → ListsPack packs object.name
+puts_listed k packs counts es p object among =
+    let found = map_contains (λ (q : Put). q.pack) p.puts object (subst (λ os. Contains os object) (sym p.put.packs) among) in
+    let q : Put = found.0 in
+    let is : IsPut q = each_contained IsPut p.puts q (each_alone p.puts p.put.each) found.1 in
+    (q.listed, p.stand q found.1, is.same ∙ ap (λ (o : Object). o.name) found.2)
+
 -- a name stands among some, or doesn't
 among_step : (m : Name) (names : List Name) (n : Name) (b : Bool) → is_eq (name_cmp m n) ≡ b → Contains names n ⊎ (¬ Contains names n) → Contains (m ∷ names) n ⊎ (¬ Contains (m ∷ names) n)
 among_step m names n true q rest = inl (subst (λ z. Contains (m ∷ names) z) (same_name m n q) (first_contained m names))
@@ -177,19 +186,11 @@ module _ (k : Known) (r : Relisting) (d : Deleting) (es : Trace) (h : HasListed 
   pack_names : List Name
   pack_names = map (λ (listed : PackFacts). listed.pack) r.packs.items
 
-  stands : (object : Object) → Contains (objects_put Kind.Pack es) object → ListsPack r.packs.items object.name
-  stands object among =
-      let p = h.may.packed in
-      let found = map_contains (λ (q : Put). q.pack) p.puts object (subst (λ os. Contains os object) (sym p.put.packs) among) in
-      let q : Put = found.0 in
-      let is : IsPut q = each_contained IsPut p.puts q (each_alone p.puts p.put.each) found.1 in
-      (q.listed, p.stand q found.1, is.same ∙ ap (λ (o : Object). o.name) found.2)
-
   some_fact : (listed : PackFacts) → Contains r.packs.items listed → (fact : Fact) × Contains listed.facts fact
   some_fact listed among = first_of listed.facts (h.may.packed.listable listed among).some
 
   unput_pack : (n : Name) → ¬ ListsPack r.packs.items n → ¬ AskedToPut es Kind.Pack n
-  unput_pack n none asked = none (stands (record { name = n; bytes = asked.1 }) (asked_put es asked.0 Kind.Pack n asked.1 asked.2))
+  unput_pack n none asked = none (puts_listed k r.packs.items r.counts es h.may.packed (record { name = n; bytes = asked.1 }) (asked_put es asked.0 Kind.Pack n asked.1 asked.2))
 
   pub may_clear : MayClear r.packs.items d es
   unfolding whole pack_names
@@ -204,7 +205,7 @@ module _ (k : Known) (r : Relisting) (d : Deleting) (es : Trace) (h : HasListed 
           done = all_done_now;
           listed = whole;
           full = some_fact;
-          stand = stands;
+          stand = puts_listed k r.packs.items r.counts es p;
           covered = p.covered;
         };
         all = record { complete = p.read.packs.complete; rise = p.read.packs.rise };

@@ -20,11 +20,11 @@ use Rattle.repo_session.proofs.Rolling.{paged_on, same_self}
 use Rattle.repo_session.proofs.Deleting.{ListsNone, listing_stays}
 use Rattle.repo_session.specs.Deletions.{NoneDeleted}
 use Rattle.repo_prune.specs.Pruning.{IsUntouched, prune_rule, prune_task, PruneAllows}
-use Rattle.repo_prune.specs.PruneStates.{Known, HaveRead, AreUnlisted, ReadsSnapshots, ReadsIndexes, ListsPacks, IsListingOf, KnowsPrune, KnowsStage, IsNextStep, known_in}
+use Rattle.repo_prune.specs.PruneStates.{Known, HaveRead, HasTarget, AreUnlisted, ReadsSnapshots, ReadsIndexes, ListsPacks, IsListingOf, KnowsPrune, KnowsStage, IsNextStep, known_in}
 use Rattle.repo_prune.specs.declared.prunes.Onward.{Onward}
 use Rattle.repo_prune.specs.declared.prunes.PruneJob.{PruneJob}
 use Rattle.repo_prune.specs.declared.prunes.Stage.{Stage}
-use Rattle.repo_prune.proofs.Asides.{IsNoChange, untouched_same}
+use Rattle.repo_prune.proofs.Asides.{IsNoChange, untouched_same, target_later}
 
 -- ---- another kind
 
@@ -387,9 +387,9 @@ pack_next j who es ask of_packs due h =
 -- ---- all packs are listed
 
 pub packs_listed : (j : PruneJob) (packs : Roll) (e : Exchange) (es : Trace) → IsListingOf Kind.Pack e.ask → IsUntouched es → IsSnapshotListing es j.snapshots.rows.items → Catalogs j.catalog true es → IsAll j.catalog
-    → IsPaged Kind.Pack packs.names.items true (e ∷ es)
-    → HaveRead (record { rows = j.snapshots.rows.items; indexes = j.catalog.roll.names.items; facts = j.catalog.lookup; packs = packs.names.items }) (e ∷ es) × IsUntouched (e ∷ es)
-packs_listed j packs e es listing untouched rows catalog all paged =
+    → HasTarget es j.target.bytes → IsPaged Kind.Pack packs.names.items true (e ∷ es)
+    → HaveRead (record { rows = j.snapshots.rows.items; indexes = j.catalog.roll.names.items; facts = j.catalog.lookup; packs = packs.names.items; target = j.target.bytes }) (e ∷ es) × IsUntouched (e ∷ es)
+packs_listed j packs e es listing untouched rows catalog all target paged =
     let c = catalog_same Kind.Pack e es j.catalog true refl listing catalog in (
       record {
         snapshots = listing_stays e es j.snapshots.rows.items (other_lists Kind.Pack Kind.Snapshot e refl listing) rows;
@@ -397,6 +397,7 @@ packs_listed j packs e es listing untouched rows catalog all paged =
         listed = c.rolled.paged.listed;
         gives = c.gives;
         packs = paged;
+        target = target_later e es j.target.bytes target;
       },
       listing_untouched Kind.Pack e es listing untouched,
     )

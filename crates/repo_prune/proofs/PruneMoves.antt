@@ -1,7 +1,7 @@
 -- What is known while a prune moves blobs, and once it did.
-use Rattle.std.proofs.Common.{◌≡◌, ◌≢◌, ◌++◌, ◌∷◌, [], ℕ, List, Some, length, map, take, slice_get, refl, sym, ap, subst, inl, ◌∙◌, Contains, append-nil, append_assoc}
-use Rattle.std.proofs.lemmas.List.{map-append}
-use Rattle.std.proofs.lemmas.List.Elements.{Contains-append_left, Contains-append_right}
+use Rattle.std.proofs.Common.{◌≡◌, ◌≢◌, ◌≤◌, ◌⊎◌, ◌++◌, ◌∷◌, [], ℕ, List, Some, length, map, take, slice_get, refl, sym, ap, subst, inl, inr, ◌∙◌, Contains, append-nil, append_assoc}
+use Rattle.std.proofs.lemmas.List.{map-append, take_all}
+use Rattle.std.proofs.lemmas.List.Elements.{Contains-append_right}
 use Rattle.std.proofs.lemmas.Option.{same_Some}
 use Rattle.repo_name.proofs.Containing.{contains_got, contains_map, map_contains}
 use Rattle.repo_name.specs.declared.kinds.Kind.{Kind}
@@ -9,6 +9,7 @@ use Rattle.repo_name.specs.declared.names.Name.{Name}
 use Rattle.repo_name.specs.declared.tokens.Token.{Token}
 use Rattle.repo_pack.specs.PackLayout.{Item}
 use Rattle.repo_pack.specs.declared.writers.Sealed.{Sealed}
+use Rattle.repo_index.specs.IndexText.{facts_in}
 use Rattle.repo_index.specs.declared.facts.Fact.{Fact}
 use Rattle.repo_index.specs.declared.facts.PackFacts.{PackFacts}
 use Rattle.repo_wire.specs.declared.messages.Ask.{Ask}
@@ -21,13 +22,18 @@ use Rattle.repo_session.specs.Blobs.{range_of}
 use Rattle.repo_session.specs.Traces.{Exchange, Trace, object_put, ReadFact}
 use Rattle.repo_session.proofs.Cataloguing.{fact_stays}
 use Rattle.repo_session.proofs.Deleting.{DeletesNone, none_deleted_on}
+use Rattle.repo_writing.proofs.BlobLemmas.{has_either, once_apart, once_behind}
 use Rattle.repo_writing.proofs.PutLemmas.{objects_put_other}
-use Rattle.repo_writing.proofs.Writings.{none_put, packs_stay, pack_sent, pack_done, items_push, put_of, is_put}
+use Rattle.repo_writing.proofs.Writings.{none_put, packs_stay, pack_sent, pack_done, items_push, put_of, is_put, packed_one, one_packed}
+use Rattle.repo_writing.specs.Blobs.{HasItem, AreOnce}
+use Rattle.repo_writing.specs.Filling.{IsJustDue, IsFullPack}
+use Rattle.repo_writing.specs.Putting.{IsPacked}
 use Rattle.repo_writing.specs.Writing.{Put, IsPut, items_of, ArePut, AreCounts}
 use Rattle.repo_writing.specs.declared.counts.Counts.{Counts}
-use Rattle.repo_prune.specs.Moving.{IsMoving, AwaitsBlob, MovesOn, Pair, SendsPack, items_so_far, pair_of_fact, pair_of_item}
+use Rattle.repo_writing.specs.declared.targets.Target.{Target}
+use Rattle.repo_prune.specs.Moving.{IsMoving, AwaitsBlob, MovesOn, Pair, SendsPack, pair_of_fact, pair_of_item}
 use Rattle.repo_prune.specs.PruneStates.{Known, ArePlanned, HasPlanned, IsRepacking, KnowsMove, HasMoved, KnowsStage, IsNextStep, MovesTo}
-use Rattle.repo_prune.specs.Pruning.{prune_rule, prune_task, HasToMove, IsNeededBy}
+use Rattle.repo_prune.specs.Pruning.{prune_rule, prune_task, AreFactsOnce, HasToMove, IsNeededBy, AreLastMoved}
 use Rattle.repo_prune.specs.declared.moving.Moved.{Moved}
 use Rattle.repo_prune.specs.declared.moving.Moving.{Moving}
 use Rattle.repo_prune.specs.declared.prunes.Stage.{Stage}
@@ -35,6 +41,7 @@ use Rattle.repo_prune.proofs.Asides.{IsAside, read_same, fact_same}
 use Rattle.repo_pack.specs.PackLayout.{IsBlobLength}
 use Rattle.repo_session.specs.declared.outcomes.End.{End}
 use Rattle.repo_session.specs.Ends.{blob_thing, IsBad, IsBadBlob, IsCause}
+use Rattle.repo_prune.proofs.Pairs.{moved_once}
 use Rattle.repo_prune.proofs.PruneTrees.{read_within}
 use Rattle.repo_prune.proofs.Relistings.{in_first}
 use Rattle.repo_prune.proofs.Repacking.{none_awaited}
@@ -65,8 +72,8 @@ counts_as : (old new : Counts) (puts next : List Put) (es : Trace) → AreCounts
 counts_as old new puts next es counted h = record { packs = h.packs; done = h.done; each = h.each; counted = counted }
 
 -- the same packs, the moving being another one with the same blobs to move
-pub repacks_as : (k : Known) (m n : Moving) (puts next : List Put) (es : Trace) → n.moves ≡ m.moves → n.listed.items ≡ m.listed.items → AreCounts n.counts (items_of (puts ++ next)) → IsRepacking k m puts next es → IsRepacking k n puts next es
-repacks_as k m n puts next es moves listed counted h = record {
+pub repacks_as : (k : Known) (m n : Moving) (puts next : List Put) (es : Trace) → n.moves ≡ m.moves → n.packer.target ≡ m.packer.target → n.listed.items ≡ m.listed.items → AreCounts n.counts (items_of (puts ++ next)) → IsRepacking k m puts next es → IsRepacking k n puts next es
+repacks_as k m n puts next es moves target listed counted h = record {
   read = h.read;
   none = h.none;
   kept = h.kept;
@@ -75,12 +82,14 @@ repacks_as k m n puts next es moves listed counted h = record {
   unindexed = h.unindexed;
   unstored = h.unstored;
   listed = listed ∙ h.listed;
+  aim = ap (λ (t : Target). t.bytes) target ∙ h.aim;
 }
 
 pub counted_alone : (c : Counts) (puts : List Put) → AreCounts c (items_of puts) → AreCounts c (items_of (puts ++ []))
 counted_alone c puts h = subst (λ ps. AreCounts c (items_of ps)) (sym (append-nil puts)) h
 
-module _ (k : Known) (m n : Moving) (puts : List Put) (es : Trace) (r : IsRepacking k m puts [] es) (moves : n.moves ≡ m.moves) (who : Asker) (token : Token) (w : IsWorking (prune_task who) token es) where
+module _ (k : Known) (m n : Moving) (puts : List Put) (es : Trace) (r : IsRepacking k m puts [] es) (moves : n.moves ≡ m.moves) (target : n.packer.target ≡ m.packer.target) (who : Asker) (token : Token)
+    (w : IsWorking (prune_task who) token es) where
   same_moves : n.moves.items ≡ m.moves.items
   same_moves = ap (λ v. v.items) moves
 
@@ -92,19 +101,49 @@ module _ (k : Known) (m n : Moving) (puts : List Put) (es : Trace) (r : IsRepack
         work = tt;
         may = ((token, w), (fact, r.planned.moves_are fact among, refl, refl, refl));
         allowed = (tt, r.none);
-        knows = record { puts = puts; sealed = []; fact = fact; repacking = repacks_as k m n puts [] es moves listed (counted_alone n.counts puts a.moving.counted) r; awaits = a; asks = refl };
+        knows = record { puts = puts; sealed = []; fact = fact; repacking = repacks_as k m n puts [] es moves target listed (counted_alone n.counts puts a.moving.counted) r; awaits = a; asks = refl };
       }
 
-  -- each blob of a pack that is sent moves
-  sent_moves : (sealed : Sealed) (s : SendsPack (items_of puts) m.listed.items sealed n) (item : Item) → Contains s.items item → HasToMove (IsNeededBy k.rows r.planned.texts) k.facts item.kind item.name
-  sent_moves sealed s item among =
-      let sent : List Item = items_of puts ++ s.items in
-      let inside : Contains (items_so_far sent [] n) item =
-      Contains-append_left (sent ++ []) n.packer.writer.items item (Contains-append_left sent [] item (Contains-append_right (items_of puts) s.items item among)) in
-      let pair = subst (λ ps. Contains ps (pair_of_item item)) s.moving.moved (contains_map pair_of_item (items_so_far sent [] n) item inside) in
-      let found = map_contains pair_of_fact (take n.added n.moves.items) (pair_of_item item) pair in
-      let there : Contains m.moves.items found.0 = subst (λ fs. Contains fs found.0) same_moves (in_first n.moves.items n.added found.0 found.1) in
-      (found.0, r.planned.must found.0 there, ap (λ (p : Pair). p.kind) found.2, ap (λ (p : Pair). p.name) found.2)
+  module _ (sealed : Sealed) (s : SendsPack (items_of puts) m.listed.items sealed n) where
+    abbrev sent : List Item
+    sent = items_of puts ++ s.items
+
+    -- the blobs sent, with those of this pack, are those that were added
+    sent_pairs : map pair_of_item sent ≡ map pair_of_fact (take n.added n.moves.items)
+    sent_pairs = ap (map pair_of_item) (sym (ap (λ w. (sent ++ []) ++ w) s.written ∙ append-nil (sent ++ []) ∙ append-nil sent)) ∙ s.moving.moved
+
+    -- each blob of it moves
+    sent_moves : (item : Item) → Contains s.items item → HasToMove (IsNeededBy k.rows r.planned.texts) k.facts item.kind item.name
+    sent_moves item among =
+        let pair = subst (λ ps. Contains ps (pair_of_item item)) sent_pairs (contains_map pair_of_item sent item (Contains-append_right (items_of puts) s.items item among)) in
+        let found = map_contains pair_of_fact (take n.added n.moves.items) (pair_of_item item) pair in
+        let there : Contains m.moves.items found.0 = subst (λ fs. Contains fs found.0) same_moves (in_first n.moves.items n.added found.0 found.1) in
+        (found.0, (r.planned.must found.0).0 there, ap (λ (p : Pair). p.kind) found.2, ap (λ (p : Pair). p.name) found.2)
+
+    -- each of them is there once
+    sent_once : AreOnce (items_of puts ++ s.items)
+    sent_once = moved_once (facts_in r.kept) n.moves.items n.added sent (subst (λ fs. AreFactsOnce (facts_in r.kept ++ fs)) (sym same_moves) r.planned.once) sent_pairs
+
+    -- and none in a pack that was put before
+    sent_first : (item : Item) → Contains s.items item → ¬ IsPacked es item.kind item.name
+    sent_first item among packed = once_apart (items_of puts) s.items item.kind item.name sent_once (packed_one m.counts puts es r.put item.kind item.name packed) (item, among, refl, refl)
+
+    -- once all were added, each blob that moves was put, or is of this pack
+    sent_last : length n.moves.items ≤ n.added → AreLastMoved (IsNeededBy k.rows r.planned.texts) k.facts es s.items
+    sent_last all fact must =
+        let among : Contains n.moves.items fact = subst (λ fs. Contains fs fact) (sym same_moves) ((r.planned.must fact).1 must) in
+        let added : Contains (take n.added n.moves.items) fact = subst (λ fs. Contains fs fact) (sym (take_all n.added n.moves.items all)) among in
+        let pair = subst (λ ps. Contains ps (pair_of_fact fact)) (sym sent_pairs) (contains_map pair_of_fact (take n.added n.moves.items) fact added) in
+        let found = map_contains pair_of_item sent (pair_of_fact fact) pair in
+        let has : HasItem (items_of puts ++ s.items) fact.kind fact.name = (found.0, found.1, ap (λ (p : Pair). p.kind) found.2, ap (λ (p : Pair). p.name) found.2) in
+        elim (has_either (items_of puts) s.items fact.kind fact.name has) [ inl before ↦ inr (one_packed m.counts puts es r.put fact.kind fact.name before) | inr here ↦ inl here ]
+
+    -- it is full by the config that was read, or nothing more waits
+    sent_full : IsFullPack es s.items ⊎ AreLastMoved (IsNeededBy k.rows r.planned.texts) k.facts es s.items
+    sent_full =
+        let wants = r.read.target in
+        let same : n.packer.target.bytes ≡ wants.0.target = ap (λ (t : Target). t.bytes) target ∙ r.aim ∙ sym wants.2 in
+        elim s.full [ inl full ↦ inl (wants.0, wants.1, subst (λ b. IsJustDue b s.items) same full) | inr all ↦ inr (sent_last all) ]
 
   -- a pack may be put
   pub pack_asked : (sealed : Sealed) → SendsPack (items_of puts) m.listed.items sealed n → MayAsk prune_rule who (KnowsStage k (Stage.Moving n)) es (Ask.Put token Kind.Pack sealed.name sealed.bytes)
@@ -131,6 +170,9 @@ module _ (k : Known) (m n : Moving) (puts : List Put) (es : Trace) (r : IsRepack
           facts = k.facts;
           gives = r.read.gives;
           moved = sent_moves sealed s;
+          once = once_behind (items_of puts) s.items (sent_once sealed s);
+          unput = sent_first sealed s;
+          full = sent_full sealed s;
         };
         knows = record {
           puts = puts;
@@ -145,6 +187,7 @@ module _ (k : Known) (m n : Moving) (puts : List Put) (es : Trace) (r : IsRepack
             unindexed = r.unindexed;
             unstored = r.unstored;
             listed = s.behind ∙ ap (λ ls. ls ++ s.listed ∷ []) r.listed ∙ append_assoc r.kept listings (s.listed ∷ []) ∙ ap (λ ls. r.kept ++ ls) (sym more);
+            aim = ap (λ (t : Target). t.bytes) target ∙ r.aim;
           };
           pack_is = refl;
           moving = subst (λ is. IsMoving n is []) (sym (items_push puts p)) s.moving;
@@ -162,7 +205,7 @@ module _ (k : Known) (m n : Moving) (puts : List Put) (es : Trace) (r : IsRepack
   pub all_moved : MovesOn (items_of puts) m.listed.items Moved.Done n → HasMoved k n es
   all_moved on = record {
     puts = puts;
-    repacking = repacks_as k m n puts [] es moves on.3 (counted_alone n.counts puts on.0.counted) r;
+    repacking = repacks_as k m n puts [] es moves target on.3 (counted_alone n.counts puts on.0.counted) r;
     moving = on.0;
     written = on.1;
     all = on.2;
@@ -170,8 +213,8 @@ module _ (k : Known) (m n : Moving) (puts : List Put) (es : Trace) (r : IsRepack
 
 -- ---- at the begin
 
-pub begins_moving : (k : Known) (m : Moving) (kept : List PackFacts) (moves : List Fact) (es : Trace) → HasPlanned k kept moves es → IsMoving m [] [] → m.listed.items ≡ kept → m.moves.items ≡ moves → IsRepacking k m [] [] es
-begins_moving k m kept moves es h is listed same = record {
+pub begins_moving : (k : Known) (m : Moving) (kept : List PackFacts) (moves : List Fact) (es : Trace) → HasPlanned k kept moves es → IsMoving m [] [] → m.listed.items ≡ kept → m.moves.items ≡ moves → m.packer.target.bytes ≡ k.target → IsRepacking k m [] [] es
+begins_moving k m kept moves es h is listed same aim = record {
   read = h.read;
   none = h.untouched.none_deleted;
   kept = kept;
@@ -180,6 +223,7 @@ begins_moving k m kept moves es h is listed same = record {
   unindexed = h.untouched.none_put Kind.Index;
   unstored = h.untouched.none_put Kind.Snapshot;
   listed = listed ∙ sym (append-nil kept);
+  aim = aim;
 }
 
 -- ---- a blob came
@@ -241,6 +285,7 @@ repacks_range k m puts e es pack offset len is h =
       unindexed = objects_put_other Kind.Index e es (other Kind.Index) ∙ h.unindexed;
       unstored = objects_put_other Kind.Snapshot e es (other Kind.Snapshot) ∙ h.unstored;
       listed = h.listed;
+      aim = h.aim;
     }
 
 -- the put of a pack is done
@@ -259,4 +304,5 @@ repacks_put k m puts p token e es is said h =
       unindexed = objects_put_other Kind.Index e es (other Kind.Index refl) ∙ h.unindexed;
       unstored = objects_put_other Kind.Snapshot e es (other Kind.Snapshot refl) ∙ h.unstored;
       listed = h.listed ∙ ap (λ ps. h.kept ++ map (λ (q : Put). q.listed) ps) (sym (append-nil (puts ++ p ∷ [])));
+      aim = h.aim;
     }

@@ -1,5 +1,5 @@
 -- What is known once all blobs are moved, and while the packs that stay are listed.
-use Rattle.std.proofs.Common.{arith, ◌≡◌, ◌⊎◌, ◌++◌, ◌∷◌, [], ℕ, List, Some, None, length, map, take, refl, sym, ap, subst, inl, inr, ◌∙◌, Contains, append-nil}
+use Rattle.std.proofs.Common.{arith, ◌≡◌, ◌≤◌, ◌⊎◌, ◌++◌, ◌∷◌, [], ℕ, List, Some, None, length, map, take, refl, sym, ap, subst, inl, inr, ◌∙◌, Contains, append-nil}
 use Rattle.std.specs.List.Sorted.{IsPermutation}
 use Rattle.std.proofs.lemmas.List.{map-append, take_all}
 use Rattle.std.proofs.lemmas.List.Elements.{Contains-append_right, Contains-append_cases, All-contains}
@@ -25,11 +25,12 @@ use Rattle.repo_session.proofs.Cataloguing.{fact_stays}
 use Rattle.repo_session.proofs.Deleting.{DeletesNone, none_deleted_on}
 use Rattle.repo_writing.proofs.PutLemmas.{each_contained, objects_put_other, objects_put_more, put_done_later}
 use Rattle.repo_writing.proofs.Writings.{none_listed, packs_stay, index_done, put_listed, puts_lawful, each_alone, listing_of, IsLawfulListing}
+use Rattle.repo_writing.specs.Filling.{IsFullIndex}
 use Rattle.repo_writing.specs.Laws.{IsPutOrKept}
 use Rattle.repo_writing.specs.Writing.{Put, IsPut, items_of, AreListed, packs_of}
 use Rattle.repo_prune.specs.Moving.{pair_of_item, pair_of_fact, items_so_far}
 use Rattle.repo_prune.specs.PruneStates.{Known, HasMoved, ArePacked, MayList, PrunePutsIndex, HasListed, KnowsStage, IsNextStep}
-use Rattle.repo_prune.specs.Pruning.{prune_rule, prune_task, AreCovered}
+use Rattle.repo_prune.specs.Pruning.{prune_rule, prune_task, AreCovered, AreLastListed}
 use Rattle.repo_prune.specs.Relisting.{IsListable, AreListable, PutsNext, Relists}
 use Rattle.repo_prune.specs.declared.moving.Moving.{Moving}
 use Rattle.repo_prune.specs.declared.prunes.Stage.{Stage}
@@ -37,7 +38,7 @@ use Rattle.repo_prune.specs.declared.relisting.Relisting.{Relisting}
 use Rattle.repo_prune.proofs.Asides.{IsAside, read_same, fact_same}
 use Rattle.repo_prune.proofs.Pairs.{count, pairs_of, counted_has, has_counted, once_counted, counted_once, count_shuffled, repacked_pairs}
 use Rattle.repo_prune.proofs.Relistings.{in_first}
-use Rattle.repo_prune.proofs.PruneDeletes.{covered_later}
+use Rattle.repo_prune.proofs.PruneDeletes.{covered_later, puts_listed}
 
 -- ---- all blobs are moved
 
@@ -168,10 +169,19 @@ module _ (k : Known) (r s : Relisting) (es : Trace) (h : MayList k r es) where
       let all = waits (take r.listed r.packs.items) p.waiting (take s.listed s.packs.items) es p.behind h.lists in
       let among : (listed : PackFacts) → Contains p.waiting listed → Contains r.packs.items listed = λ listed has.
       subst (λ ps. Contains ps listed) p.packs (in_first s.packs.items s.listed listed (subst (λ ls. Contains ls listed) (sym p.behind) (Contains-append_right (take r.listed r.packs.items) p.waiting listed has))) in
+      let last : length s.packs.items ≤ s.listed → AreLastListed es p.waiting = λ whole. record {
+        packs = r.packs.items;
+        listed = subst (λ ls. AreListed ls p.waiting es) (take_all s.listed s.packs.items whole ∙ p.packs) all;
+        stand = puts_listed k r.packs.items r.counts es h.packed;
+        rows = k.rows;
+        snapshots = h.packed.read.snapshots;
+        covered = h.packed.covered;
+      } in
+      let full : IsFullIndex p.text ⊎ AreLastListed es p.waiting = elim p.full [ inl many ↦ inl (p.waiting, p.reads, many) | inr whole ↦ inr (last whole) ] in
       let may : MayAsk prune_rule who (KnowsStage k (Stage.Relisting s)) es (Ask.Put token Kind.Index (naming.name p.text) p.text) = record {
         work = tt;
         may = (w, refl, p.short);
-        allowed = record { none = h.packed.none; indexes = h.packed.read.indexes; lists = record { packs = p.waiting; reads = p.reads; some = p.some; each = λ listed has. h.packed.each listed (among listed has) } };
+        allowed = record { none = h.packed.none; indexes = h.packed.read.indexes; lists = record { packs = p.waiting; reads = p.reads; some = p.some; each = λ listed has. h.packed.each listed (among listed has) }; full = full };
         knows = record {
           packed = packed_as p.packs p.counts;
           waiting = p.waiting;

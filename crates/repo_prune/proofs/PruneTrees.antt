@@ -232,15 +232,14 @@ module _ (k : Known) (trees : Trees) (es : Trace) (h : HasWalked k trees es) whe
   needed_copy : {plan : Plan} (p : IsPlanned k.facts trees plan) (fact : Fact) → IsUsedCopyBy (UsedHasPair p.used) k.facts fact → IsUsedCopyBy (IsNeededBy k.rows h.texts) k.facts fact
   needed_copy p fact c = record { is_used = used_needed fact.kind fact.name ((p.pairs fact.kind fact.name).0 c.is_used); least = c.least }
 
+  used_copy : {plan : Plan} (p : IsPlanned k.facts trees plan) (fact : Fact) → IsUsedCopyBy (IsNeededBy k.rows h.texts) k.facts fact → IsUsedCopyBy (UsedHasPair p.used) k.facts fact
+  used_copy p fact c = record { is_used = (p.pairs fact.kind fact.name).1 (needed_used fact.kind fact.name c.is_used); least = c.least }
+
   stays_used : {plan : Plan} (p : IsPlanned k.facts trees plan) (listed : PackFacts) → MayStayBy (IsNeededBy k.rows h.texts) k.facts listed → MayStayBy (UsedHasPair p.used) k.facts listed
-  stays_used p listed stays = record {
-    all = stays.all;
-    some = stays.some;
-    few = stays.few;
-    copies = λ fact among.
-        let c = stays.copies fact among in
-        record { is_used = (p.pairs fact.kind fact.name).1 (needed_used fact.kind fact.name c.is_used); least = c.least };
-  }
+  stays_used p listed stays = record { all = stays.all; some = stays.some; few = stays.few; copies = λ fact among. used_copy p fact (stays.copies fact among) }
+
+  stays_needed : {plan : Plan} (p : IsPlanned k.facts trees plan) (listed : PackFacts) → MayStayBy (UsedHasPair p.used) k.facts listed → MayStayBy (IsNeededBy k.rows h.texts) k.facts listed
+  stays_needed p listed stays = record { all = stays.all; some = stays.some; few = stays.few; copies = λ fact among. needed_copy p fact (stays.copies fact among) }
 
   pub planned : (plan : Plan) → IsPlanned k.facts trees plan → ArePlanned k plan.kept.items plan.moves.items es
   planned plan p = record {
@@ -261,9 +260,12 @@ module _ (k : Known) (trees : Trees) (es : Trace) (h : HasWalked k trees es) whe
           within = λ fact has. let b = (stays.all.each fact).0 has in (b.1, read_within es fact ((h.over.read.gives fact).0 b.0));
         };
     moves_are = λ fact among. (h.over.read.gives fact).0 ((p.plan_of.moves fact).0 among).copy.least.among;
-    must = λ fact among.
-        let moves = (p.plan_of.moves fact).0 among in
-        record { copy = needed_copy p fact moves.copy; leaves = λ listed stays. moves.leaves listed (stays_used p listed stays) };
+    must = λ fact. (
+      λ among.
+          let moves = (p.plan_of.moves fact).0 among in
+          record { copy = needed_copy p fact moves.copy; leaves = λ listed stays. moves.leaves listed (stays_used p listed stays) },
+      λ must. (p.plan_of.moves fact).1 (record { copy = used_copy p fact must.copy; leaves = λ listed stays. must.leaves listed (stays_needed p listed stays) }),
+    );
   }
 
   -- some content that is used, and that no index gives

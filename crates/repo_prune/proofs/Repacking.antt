@@ -1,22 +1,77 @@
 -- The moving of used blobs to new packs.
-use Rattle.std.proofs.Common.{arith, refl, zero, suc, Vec, Global, inl, inr, ◌≡◌, ◌≢◌, ◌⊎◌, ◌≤◌, ◌+◌, ◌++◌, ◌∷◌, [], ℕ, List, Option, Some, None, length, map, take, slice_get, sym, ap, subst, ◌∙◌, append_assoc}
+use Rattle.std.proofs.Common.{arith, refl, zero, suc, Vec, Global, inl, inr, ◌≡◌, ◌≢◌, ◌⊎◌, ◌≤◌, ◌+◌, ◌++◌, ◌∷◌, [], ℕ, List, Option, Some, None, length, map, take, slice_get, sym, ap, subst, ◌∙◌, append_assoc, append-nil}
+use Rattle.std.proofs.lemmas.Bool.{cases_lt}
 use Rattle.std.proofs.lemmas.List.{length-append, length-map, length-take, map-append}
 use Rattle.std.proofs.lemmas.Option.{none-some, same_Some, slice_get_cases, slice_get_within}
+use Rattle.repo_name.specs.Limits.{blobs_limit}
 use Rattle.repo_name.specs.Naming as naming
-use Rattle.repo_pack.specs.PackLayout.{Item, item_of}
-use Rattle.repo_pack.specs.PackWriting.{IsDue, with_item}
+use Rattle.repo_pack.specs.PackLayout.{Item, item_of, blobs_of}
+use Rattle.repo_pack.specs.PackWriting.{Packing, IsDue, IsOpen, with_item}
 use Rattle.repo_pack.specs.declared.writers.Sealed.{Sealed}
 use Rattle.repo_index.specs.declared.facts.Fact.{Fact}
 use Rattle.repo_index.specs.declared.facts.PackFacts.{PackFacts}
+use Rattle.repo_writing.proofs.Filling.{open_undue}
+use Rattle.repo_writing.specs.Filling.{IsJustDue}
 use Rattle.repo_writing.specs.Sealing.{IsSealed}
 use Rattle.repo_writing.specs.Writing.{AreCounts}
 use Rattle.repo_writing.specs.declared.targets.Target.{Target}
-use Rattle.repo_prune.specs.Moving.{Pair, pair_of_item, pair_of_fact, items_so_far, IsMoving, AwaitsBlob, AwaitsStill, AreAdded, BlobWasAdded, IsFull, StaysMoving}
+use Rattle.repo_prune.specs.Moving.{Pair, pair_of_item, pair_of_fact, items_so_far, IsMoving, AwaitsBlob, AwaitsStill, AreAdded, BlobWasAdded, IsFull, MayBeSealed, StaysMoving}
 use Rattle.repo_prune.specs.declared.moving.Moving.{Moving}
 
 -- where no pack is sealed, it has no blobs
 pub unsealed : (m : Moving) (sent sealed : List Item) → m.packer.sealed ≡ None → IsMoving m sent sealed → IsMoving m sent []
 unsealed m sent sealed none h = let empty : sealed ≡ [] = subst (λ (o : Option Sealed). IsSealed o sealed) none h.sealed_is in subst (IsMoving m sent) empty h
+
+-- ---- open and due
+
+-- a pack is open, or due
+pub open_or_due : (p : Packing) → IsOpen p ⊎ IsDue p
+open_or_due p = elim (cases_lt (length (blobs_of p.items)) p.target) [
+  | inl short ↦ elim (cases_lt (length p.items) blobs_limit) [ inl few ↦ inl (short, few) | inr many ↦ inr (inr many) ]
+  | inr long ↦ inr (inl long)
+]
+
+-- one without blobs is open
+pub empty_open : (target : Target) → IsOpen (record { items = []; target = target.bytes })
+empty_open target =
+    let least = target.bounded.0 in
+    let none : length (blobs_of []) ≡ 0 = refl in
+    (omega (arith, least, none), omega arith)
+
+-- ---- a pack is sealed
+
+-- a pack that is full stays full, where packs are to be as large
+full_as : (m n : Moving) (items : List Item) → n.packer.target ≡ m.packer.target → IsFull m items → IsFull n items
+full_as m n items target full = subst (λ (t : Target). IsJustDue t.bytes items) (sym target) full
+
+-- the one that was being written is, and the next one has nothing
+pub sealed_moving : (m n : Moving) (sent sealed : List Item) → m.packer.sealed ≡ None → MayBeSealed m → IsMoving m sent sealed → IsSealed n.packer.sealed m.packer.writer.items → n.packer.writer.items ≡ [] → n.packer.writer.target ≡ m.packer.target.bytes
+    → n.packer.target ≡ m.packer.target → n.moves ≡ m.moves → n.added ≡ m.added → n.counts ≡ m.counts → IsMoving n sent m.packer.writer.items
+sealed_moving m n sent sealed none may h is empty size target moves added counts =
+    let written : List Item = m.packer.writer.items in
+    let before : IsMoving m sent [] = unsealed m sent sealed none h in
+    let items : items_so_far sent written n ≡ items_so_far sent [] m = ap (λ is. (sent ++ written) ++ is) empty ∙ append-nil (sent ++ written) ∙ ap (λ is. is ++ written) (sym (append-nil sent)) in
+    let facts : map pair_of_fact (take m.added m.moves.items) ≡ map pair_of_fact (take n.added n.moves.items) =
+    ap (λ i. map pair_of_fact (take i m.moves.items)) (sym added) ∙ ap (λ (v : Vec Fact Global). map pair_of_fact (take n.added v.items)) (sym moves) in
+    let long : length n.moves.items ≡ length m.moves.items = ap (λ (v : Vec Fact Global). length v.items) moves in
+    let aim : n.packer.writer.target ≡ n.packer.target.bytes = size ∙ ap (λ (t : Target). t.bytes) (sym target) in
+    let within = h.within in
+    record {
+      sealed_is = is;
+      moved = ap (map pair_of_item) items ∙ before.moved ∙ facts;
+      within = omega (arith, within, added, long);
+      counted = subst (λ c. AreCounts c sent) (sym counts) h.counted;
+      aim = aim;
+      due = inl (subst (λ is. IsOpen (record { items = is; target = n.packer.writer.target })) (sym empty) (subst (λ t. IsOpen (record { items = []; target = t })) (sym size) (empty_open m.packer.target)));
+      alone = λ some. empty;
+      full = λ some. elim may [
+        | inl there ↦ absurd (there none)
+        | inr (inl due) ↦ inl (full_as m n written target (elim h.due [ inl room ↦ absurd (open_undue m.packer.writer room due) | inr full ↦ full ]))
+        | inr (inr all) ↦ inr (omega (arith, all, added, long))
+      ];
+    }
+
+-- ---- how far it is
 
 -- what was sent is of facts that were added
 pub sent_before : (m : Moving) (sent sealed : List Item) → IsMoving m sent sealed → length sent ≤ m.added
@@ -104,14 +159,23 @@ added_moving m n fact bytes sent sealed a first named writer sealed_same more mo
     let few = slice_get_within m.moves.items m.added fact asked in
     let long : length n.moves.items ≡ length m.moves.items = ap (λ (v : Vec Fact Global). length v.items) moves in
     let was_full : IsFull m sealed ⊎ AreAdded m → IsFull n sealed ⊎ AreAdded n = λ was. elim was [
-      | inl due ↦ inl (subst (λ (x : Target). IsDue (record { items = sealed; target = x.bytes })) (sym target) due)
+      | inl full ↦ inl (full_as m n sealed target full)
       | inr all ↦ inr (omega (arith, all, long, more))
     ] in
+    let aim : n.packer.writer.target ≡ n.packer.target.bytes = ap (λ w. w.target) writer ∙ a.moving.aim ∙ ap (λ (x : Target). x.bytes) (sym target) in
+    let was_open : IsOpen m.packer.writer × (m.packer.sealed ≡ None) = elim a.next [ inl next ↦ (next.1, next.2) | inr behind ↦ absurd (omega (arith, first, behind)) ] in
+    let room : IsOpen (record { items = m.packer.writer.items; target = n.packer.target.bytes }) =
+    subst (λ t. IsOpen (record { items = m.packer.writer.items; target = t })) (a.moving.aim ∙ ap (λ (x : Target). x.bytes) (sym target)) was_open.0 in
     record {
       sealed_is = subst (λ (o : Option Sealed). IsSealed o sealed) (sym sealed_same) a.moving.sealed_is;
       moved = left ∙ ap (λ (ps : List Pair). ps ++ pair_of_fact fact ∷ []) a.moving.moved ∙ sym right;
       within = omega (arith, few, more, long);
       counted = subst (λ c. AreCounts c sent) (sym counts) a.moving.counted;
-      aim = ap (λ w. w.target) writer ∙ a.moving.aim ∙ ap (λ (x : Target). x.bytes) (sym target);
+      aim = aim;
+      due = elim (open_or_due n.packer.writer) [
+        | inl still ↦ inl still
+        | inr due ↦ inr (subst (λ t. IsDue (record { items = n.packer.writer.items; target = t })) aim due, (m.packer.writer.items, item, ap (λ w. w.items) writer, room))
+      ];
+      alone = λ some. absurd (some (sealed_same ∙ was_open.1));
       full = λ some. was_full (a.moving.full (λ none. some (sealed_same ∙ none)));
     }

@@ -11,6 +11,7 @@ use Rattle.repo_pack.specs.PackLayout.{Item}
 use Rattle.repo_index.specs.IndexText.{facts_in, IsIndexText}
 use Rattle.repo_index.specs.declared.facts.Fact.{Fact}
 use Rattle.repo_index.specs.declared.facts.PackFacts.{PackFacts}
+use Rattle.repo_tree.specs.declared.configs.Config.{Config}
 use Rattle.repo_session.specs.Versions.{upto}
 use Rattle.repo_session.specs.declared.versions.Versions.{Versions}
 use Rattle.repo_session.specs.declared.jobs.Step.{Step}
@@ -33,6 +34,7 @@ use Rattle.repo_reach.specs.Collected.{root_of}
 use Rattle.repo_reach.specs.Laws.{IsWholeWalk}
 use Rattle.repo_reach.specs.declared.trees.Trees.{Trees}
 use Rattle.repo_writing.specs.Blobs.{HasFact}
+use Rattle.repo_writing.specs.Filling.{HasConfig}
 use Rattle.repo_writing.specs.Laws.{IsPutOrKept}
 use Rattle.repo_writing.specs.Putting.{AreCounted, IsKeptPack}
 use Rattle.repo_writing.specs.Sealing.{IsSealedOf}
@@ -54,20 +56,26 @@ use Rattle.repo_prune.specs.declared.relisting.Relisting.{Relisting}
 
 -- ---- what was listed and read
 
--- the snapshots, the names of the indexes and the facts that they give, and the names of the packs
+-- the config was read, and wants packs of so many bytes
+abbrev pub HasTarget : Trace → ℕ → Type 0
+HasTarget es bytes = (config : Config) × HasConfig es config × (config.target ≡ bytes)
+
+-- the snapshots, the names of the indexes and the facts that they give, the names of the packs, and how many bytes new ones are to reach
 pub record Known : Type 0 where
   pub rows : List Row
   pub indexes : List Name
   pub facts : List Fact
   pub packs : List Name
+  pub target : ℕ
 
--- all three are listed to their end; each snapshot and each index was read, and reads; and just these facts the indexes give
+-- all three are listed to their end; each snapshot and each index was read, and reads; just these facts the indexes give; and so many bytes the config wants
 pub record HaveRead (k : Known) (es : Trace) : Type 0 where
   pub snapshots : IsSnapshotListing es k.rows
   pub indexes : AreIndexed es
   pub listed : names_in Kind.Index es ≡ k.indexes
   pub gives : (fact : Fact) → Contains k.facts fact ↔ ReadFact es fact
   pub packs : IsPaged Kind.Pack k.packs true es
+  pub target : HasTarget es k.target
 
 -- ---- trees
 
@@ -94,7 +102,7 @@ pub record HasWalked (k : Known) (trees : Trees) (es : Trace) : Type 0 where
 
 -- ---- the plan
 
--- These packs stay, and these blobs move, each as it has to: there are trees that were received, in which each tree that a snapshot reaches is there; and what snapshots reach in
+-- These packs stay, and just these blobs move, those that have to: there are trees that were received, in which each tree that a snapshot reaches is there; and what snapshots reach in
 -- them are just the pairs of these facts, no two of which are of one pair.
 pub record ArePlanned (k : Known) (kept : List PackFacts) (moves : List Fact) (es : Trace) : Type 0 where
   pub texts : List (List ℕ)
@@ -106,7 +114,7 @@ pub record ArePlanned (k : Known) (kept : List PackFacts) (moves : List Fact) (e
   pub kept_are : (listed : PackFacts) → Contains kept listed → IsKeptPack es listed
   pub listable : AreListable kept
   pub moves_are : (fact : Fact) → Contains moves fact → ReadFact es fact
-  pub must : (fact : Fact) → Contains moves fact → MustMoveBy (IsNeededBy k.rows texts) k.facts fact
+  pub must : (fact : Fact) → Contains moves fact ↔ MustMoveBy (IsNeededBy k.rows texts) k.facts fact
 
 -- it is planned, and nothing was put yet
 pub record HasPlanned (k : Known) (kept : List PackFacts) (moves : List Fact) (es : Trace) : Type 0 where
@@ -116,7 +124,8 @@ pub record HasPlanned (k : Known) (kept : List PackFacts) (moves : List Fact) (e
 
 -- ---- moving
 
--- these packs were put, and that is done, and then these are put next (one, or none); they are listed behind those that stay
+-- these packs were put, and that is done, and then these are put next (one, or none); they are listed behind those that stay; and all are to reach what the
+-- config wants
 pub record IsRepacking (k : Known) (m : Moving) (puts next : List Put) (es : Trace) : Type 0 where
   pub read : HaveRead k es
   pub none : NoneDeleted es
@@ -126,6 +135,7 @@ pub record IsRepacking (k : Known) (m : Moving) (puts next : List Put) (es : Tra
   pub unindexed : objects_put Kind.Index es ≡ []
   pub unstored : objects_put Kind.Snapshot es ≡ []
   pub listed : m.listed.items ≡ kept ++ map (λ (p : Put). p.listed) (puts ++ next)
+  pub aim : m.packer.target.bytes ≡ k.target
 
 -- a blob was asked for
 pub record KnowsMove (k : Known) (m : Moving) (ask : Ask) (es : Trace) : Type 0 where
@@ -236,6 +246,7 @@ pub record ReadsSnapshots (j : PruneJob) (ask : Ask) (es : Trace) : Type 0 where
   pub indexes : Catalogs j.catalog false es
   pub none_read : j.catalog.roll.read ≡ 0
   pub packs : AreUnlisted j.packs es
+  pub target : HasTarget es j.target.bytes
 
 -- snapshots were read, and indexes are being read
 pub record ReadsIndexes (j : PruneJob) (ask : Ask) (es : Trace) : Type 0 where
@@ -243,6 +254,7 @@ pub record ReadsIndexes (j : PruneJob) (ask : Ask) (es : Trace) : Type 0 where
   pub snapshots : IsSnapshotListing es j.snapshots.rows.items
   pub indexes : KnowsIndexes j.catalog ask es
   pub packs : AreUnlisted j.packs es
+  pub target : HasTarget es j.target.bytes
 
 -- indexes were read too, and packs are being listed
 pub record ListsPacks (j : PruneJob) (ask : Ask) (es : Trace) : Type 0 where
@@ -252,6 +264,7 @@ pub record ListsPacks (j : PruneJob) (ask : Ask) (es : Trace) : Type 0 where
   pub all : IsAll j.catalog
   pub of_packs : j.packs.kind ≡ Kind.Pack
   pub packs : KnowsRoll j.packs ask es
+  pub target : HasTarget es j.target.bytes
 
 -- ---- in each stage
 
@@ -290,7 +303,7 @@ KnowsStage k (Stage.Deleting d) ask es = KnowsDeleting d ask es
 
 -- what the job listed and read
 abbrev pub known_in : PruneJob → Known
-known_in j = record { rows = j.snapshots.rows.items; indexes = j.catalog.roll.names.items; facts = j.catalog.lookup; packs = j.packs.names.items }
+known_in j = record { rows = j.snapshots.rows.items; indexes = j.catalog.roll.names.items; facts = j.catalog.lookup; packs = j.packs.names.items; target = j.target.bytes }
 
 -- what is known where this is pending
 abbrev pub KnowsPrune : PruneJob → Ask → Trace → Type 0

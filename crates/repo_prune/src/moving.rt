@@ -74,7 +74,7 @@ impl Moving {
     fn is_due(&self) -> bool
         ensures due { IsTrue result → (self.now.packer.sealed ≢ None) ⊎ (1 ≤ length self.now.packer.writer.items) }
         ensures open { IsFalse result → TakesMore self.now }
-        ensures full { self.now.packer.writer.target ≡ self.now.packer.target.bytes → IsTrue result → MayBeSealed self.now }
+        ensures full { IsTrue result → MayBeSealed self.now }
     {
         self.packer.sealed.is_some()
             || self.packer.writer.is_due()
@@ -89,6 +89,7 @@ impl Moving {
         ensures err { OnErr result (self.new ≡ self.old) }
         ensures listed { self.new.listed ≡ self.old.listed }
         ensures kept { (self.new.moves ≡ self.old.moves) × (self.new.added ≡ self.old.added) × (self.new.asked ≡ self.old.asked) }
+        ensures target { self.new.packer.target ≡ self.old.packer.target }
     {
         if self.packer.sealed.is_some() {
             return Ok(());
@@ -102,6 +103,7 @@ impl Moving {
         ensures on { IfOk result (λ moved. (sent sealed : List Item) → IsMoving self.old sent sealed → MovesOn sent self.old.listed.items moved self.new) }
         ensures err { OnErr result ((sent sealed : List Item) → IsMoving self.old sent sealed → StaysMoving self.old self.new sent) }
         ensures moves { self.new.moves ≡ self.old.moves }
+        ensures target { self.new.packer.target ≡ self.old.packer.target }
     {
         let Some(listed) = self.packer.facts()? else {
             return Ok(Moved::Nothing);
@@ -122,6 +124,7 @@ impl Moving {
         ensures on { IfOk result (λ moved. (sent sealed : List Item) → IsMoving self.old sent sealed → MovesOn sent self.old.listed.items moved self.new) }
         ensures err { OnErr result ((sent sealed : List Item) → IsMoving self.old sent sealed → StaysMoving self.old self.new sent) }
         ensures moves { self.new.moves ≡ self.old.moves }
+        ensures target { self.new.packer.target ≡ self.old.packer.target }
     {
         if self.is_due() {
             self.seal()?;
@@ -148,6 +151,7 @@ impl Moving {
         ensures ok { OnOk result (AddsBlob fact self.old self.new) }
         ensures err { OnErr result ((sent sealed : List Item) → AwaitsBlob self.old fact sent sealed → AwaitsStill self.old self.new fact sent) }
         ensures moves { self.new.moves ≡ self.old.moves }
+        ensures target { self.new.packer.target ≡ self.old.packer.target }
     {
         self.packer.add(fact.kind, &fact.name, bytes)?;
         self.added = self.added.saturating_add(1);
@@ -161,6 +165,7 @@ impl Moving {
         ensures on { IfOk result (λ moved. MovesBlob fact bytes.now self.old moved self.new) }
         ensures err { OnErr result ((sent sealed : List Item) → AwaitsBlob self.old fact sent sealed → AwaitsStill self.old self.new fact sent) }
         ensures moves { self.new.moves ≡ self.old.moves }
+        ensures target { self.new.packer.target ≡ self.old.packer.target }
     {
         if self.added == self.asked {
             if !self.has_room(bytes) {

@@ -8,7 +8,7 @@ use Rattle.repo_prune.proofs.moving.Moving.next.Goals as goal
 pub returns-then-is_due-clause-on : goal.returns-then-is_due-clause-on
 returns-then-is_due-clause-on c = IfOk-weaker c.send.result _ _
     (λ moved on sent sealed moving.
-    let m = c.in_ok-seal.ensures.moving sent sealed (c.if-is_due.ensures.full moving.aim refl) moving in
+    let m = c.in_ok-seal.ensures.moving sent sealed (c.if-is_due.ensures.full refl) moving in
     subst (λ (ls : List PackFacts). MovesOn sent ls moved c.send.new.self) (ap (λ (v : Vec PackFacts Global). v.items) c.seal.ensures.listed) (on sent m.0 m.1))
     c.send.ensures.on
 
@@ -19,12 +19,12 @@ returns-in-None-clause-on c = λ sent sealed moving.
     let alone = unsealed c.args.self.now sent sealed room.0 moving in
     let there = rw c.as_slice.ensures.value at c.in-None.ensures in
     let all : length c.args.self.now.moves.items ≤ c.args.self.now.added = ends_before c.args.self.now.moves.items c.args.self.now.added (sym there) in
-    (record { sealed_is = alone.sealed_is; moved = alone.moved; within = alone.within; counted = alone.counted; aim = alone.aim; full = alone.full }, room.2 all, all, refl)
+    (record { sealed_is = alone.sealed_is; moved = alone.moved; within = alone.within; counted = alone.counted; aim = alone.aim; due = alone.due; alone = alone.alone; full = alone.full }, room.2 all, all, refl)
 
 pub returns-then-is_due-clause-err : goal.returns-then-is_due-clause-err
 returns-then-is_due-clause-err c = on_err_weaker c.send.result
     (λ stays sent sealed moving.
-    let m = c.in_ok-seal.ensures.moving sent sealed (c.if-is_due.ensures.full moving.aim refl) moving in
+    let m = c.in_ok-seal.ensures.moving sent sealed (c.if-is_due.ensures.full refl) moving in
     let s = stays sent m.0 m.1 in
     let kept = c.seal.ensures.kept in
     record { sealed = s.sealed; moving = s.moving; listed = s.listed ∙ ap (λ (v : Vec PackFacts Global). v.items) c.seal.ensures.listed; moves = s.moves ∙ kept.0; added = s.added ∙ kept.1; asked = s.asked ∙ kept.2 })
@@ -36,4 +36,4 @@ returns-in-Some-clause-on c = λ sent sealed moving.
     let room = c.if-is_due.ensures.open refl in
     let alone = unsealed m sent sealed room.0 moving in
     let there = rw c.as_slice.ensures.value at c.in-Some.ensures in
-    (record { moving = record { sealed_is = alone.sealed_is; moved = alone.moved; within = alone.within; counted = alone.counted; aim = alone.aim; full = alone.full }; before = sent_before m sent [] alone; asked = sym there; next = inl (refl, room.1, room.0) }, refl)
+    (record { moving = record { sealed_is = alone.sealed_is; moved = alone.moved; within = alone.within; counted = alone.counted; aim = alone.aim; due = alone.due; alone = alone.alone; full = alone.full }; before = sent_before m sent [] alone; asked = sym there; next = inl (refl, room.1, room.0) }, refl)

@@ -24,7 +24,7 @@ returns-in_err-take_blob-in-Blob-clause-knows c = on_any c.from_residual.result 
       puts = known.puts;
       sealed = still.sealed;
       fact = fact;
-      repacking = repacks_as k m c.take_blob.new.self known.puts [] es still.moves still.listed (counted_alone c.take_blob.new.self.counts known.puts still.awaits.moving.counted) known.repacking;
+      repacking = repacks_as k m c.take_blob.new.self known.puts [] es still.moves c.take_blob.ensures.target still.listed (counted_alone c.take_blob.new.self.counts known.puts still.awaits.moving.counted) known.repacking;
       awaits = still.awaits;
       asks = known.asks;
     })
@@ -45,7 +45,7 @@ returns-in_ok-take_blob-in-Blob-clause-steps c = λ moving pack offset len is wh
     let other = not_done m n fact (items_of known.puts) known.sealed m.listed.items moved known.awaits c.take_blob.ensures.moves on in
     let repacking = repacks_range k m known.puts e es pack offset len refl known.repacking in
     let new : PruneJob = record { snapshots = old.snapshots; catalog = old.catalog; packs = old.packs; stage = Stage.Moving n; target = old.target; alloc = old.alloc } in
-    may_step new who e es c.move_on.result refl (goes_on k m n known.puts (e ∷ es) repacking c.take_blob.ensures.moves who c.args.token w moved c.move_on.result other on c.move_on.ensures.on)
+    may_step new who e es c.move_on.result refl (goes_on k m n known.puts (e ∷ es) repacking c.take_blob.ensures.moves c.take_blob.ensures.target who c.args.token w moved c.move_on.result other on c.move_on.ensures.on)
 
 pub returns-in-Misnamed-clause-steps : goal.returns-in-Misnamed-clause-steps
 returns-in-Misnamed-clause-steps c = λ moving pack offset len is who es w obeys asked.

@@ -6,6 +6,7 @@ use Rattle.repo_prune.specs.Pruning.{prune_task}
 use Rattle.repo_prune.specs.PruneStates.{IsListingOf}
 use Rattle.repo_prune.specs.declared.prunes.PruneJob.{PruneJob}
 use Rattle.repo_prune.proofs.TreeReading.{on_any}
+use Rattle.repo_prune.proofs.Asides.{target_later}
 use Rattle.repo_prune.proofs.PruneListing.{indexes_known, indexes_back, index_listing, listing_reads, listing_untouched, unlisted_same, other_lists, pack_page}
 use Rattle.repo_prune.proofs.prunes.PruneJob.take_indexes.Goals as goal
 
@@ -14,7 +15,7 @@ returns-in_err-next-clause-knows c = on_any c.from_residual.result (λ is es kno
     let old = c.args.self.now in
     let h = indexes_known old c.args.ask.now es is known in
     let new : PruneJob = record { snapshots = old.snapshots; catalog = c.read_on.new.self; packs = old.packs; stage = old.stage; target = old.target; alloc = old.alloc } in
-    indexes_back new c.args.ask.now es is (record { untouched = h.untouched; snapshots = h.snapshots; indexes = c.in_err-next.ensures.err c.args.ask.now es h.indexes; packs = h.packs }))
+    indexes_back new c.args.ask.now es is (record { untouched = h.untouched; snapshots = h.snapshots; indexes = c.in_err-next.ensures.err c.args.ask.now es h.indexes; packs = h.packs; target = h.target }))
 
 pub returns-in-Ask-clause-steps : goal.returns-in-Ask-clause-steps
 returns-in-Ask-clause-steps c = λ token is who es w obeys asked.
@@ -37,6 +38,7 @@ returns-in-Ask-clause-steps c = λ token is who es w obeys asked.
           snapshots = listing_stays e es old.snapshots.rows.items (other_lists Kind.Index Kind.Snapshot e refl is) h.snapshots;
           indexes = due.knows;
           packs = unlisted_same Kind.Index e es old.packs refl is h.packs;
+          target = target_later e es old.target.bytes h.target;
         });
       },
     )
@@ -60,6 +62,7 @@ returns-in-All-clause-steps c = λ token is who es w obeys asked.
         all = all.1;
         of_packs = packs.of_packs;
         packs = due.knows;
+        target = target_later e es old.target.bytes h.target;
       }),
     )
 

@@ -15,7 +15,7 @@ returns-clause-steps c = λ name who es w obeys asked.
     let e : Exchange = silent (Ask.Get Kind.Pack name) c.args.say.now in
     let names = old.packs.names.items in
     let before : IsPaged Kind.Pack names true es = subst (λ k. IsPaged k names true es) h.of_packs h.packs.2.paged in
-    let read = packs_listed old old.packs e es refl h.untouched h.snapshots h.indexes h.all (got_paged Kind.Pack name c.args.say.now names es before) in
+    let read = packs_listed old old.packs e es refl h.untouched h.snapshots h.indexes h.all h.target (got_paged Kind.Pack name c.args.say.now names es before) in
     let comes = c.in_ok-onward.ensures.on who (e ∷ es) w read in
     let new = c.go.new.self in
     may_step new who e es c.go.result refl (gone_on (known_in old) who c.in_ok-onward.onward new c.go.result (e ∷ es) c.go.ensures.step c.go.ensures.stage c.go.ensures.known comes)

@@ -5,6 +5,7 @@ use Rattle.repo_session.specs.Traces.{Exchange, silent}
 use Rattle.repo_prune.specs.Pruning.{prune_task}
 use Rattle.repo_prune.specs.PruneStates.{known_in}
 use Rattle.repo_prune.specs.declared.prunes.PruneJob.{PruneJob}
+use Rattle.repo_prune.proofs.Asides.{target_later}
 use Rattle.repo_prune.proofs.PruneListing.{may_step}
 use Rattle.repo_session.specs.Rolls.{IsRolled}
 use Rattle.repo_session.proofs.Deleting.{listing_stays}
@@ -27,6 +28,7 @@ returns-in-Ask-clause-steps c = λ after who es w obeys asked.
         all = h.all;
         of_packs = c.add_page.ensures.kind ∙ h.of_packs;
         packs = due.knows;
+        target = target_later e es old.target.bytes h.target;
       }),
     )
 
@@ -39,7 +41,7 @@ returns-in-Ok-clause-steps c = λ after who es w obeys asked.
     let last = pages (prune_task who) c.args.token Kind.Pack after [] es w asked.may h.packs in
     let packs = c.add_page.new.self in
     let rolled : IsRolled Kind.Pack packs.names.items packs.read true (e ∷ es) = subst (λ k. IsRolled k packs.names.items packs.read true (e ∷ es)) (c.add_page.ensures.kind ∙ h.of_packs) last.1 in
-    let read = packs_listed old packs e es refl h.untouched h.snapshots h.indexes h.all rolled.paged in
+    let read = packs_listed old packs e es refl h.untouched h.snapshots h.indexes h.all h.target rolled.paged in
     let mid : PruneJob = record { snapshots = old.snapshots; catalog = old.catalog; packs = packs; stage = old.stage; target = old.target; alloc = old.alloc } in
     let comes = c.in-Ok.ensures.on who (e ∷ es) w read in
     let new = c.go.new.self in

@@ -6,6 +6,7 @@ use Rattle.repo_session.specs.Versions.{upto}
 use Rattle.repo_prune.specs.Pruning.{prune_task}
 use Rattle.repo_prune.specs.PruneStates.{IsListingOf}
 use Rattle.repo_prune.specs.declared.prunes.PruneJob.{PruneJob}
+use Rattle.repo_prune.proofs.Asides.{target_later}
 use Rattle.repo_prune.proofs.PruneListing.{snapshots_known, snapshots_back, indexes_back, index_listing, roll_listing, listing_reads, listing_untouched, unlisted_same, catalog_same}
 use Rattle.repo_prune.proofs.TreeReading.{on_any}
 use Rattle.repo_prune.proofs.prunes.PruneJob.take_snapshots.Goals as goal
@@ -21,6 +22,7 @@ returns-in_err-next-clause-knows c = on_any c.from_residual.result (λ is es kno
       indexes = h.indexes;
       none_read = h.none_read;
       packs = h.packs;
+      target = h.target;
     }))
 
 pub returns-in-Ask-clause-steps : goal.returns-in-Ask-clause-steps
@@ -45,6 +47,7 @@ returns-in-Ask-clause-steps c = λ token is who knows es w obeys asked.
           indexes = catalog_same Kind.Snapshot e es old.catalog _ refl is h.indexes;
           none_read = h.none_read;
           packs = unlisted_same Kind.Snapshot e es old.packs refl is h.packs;
+          target = target_later e es old.target.bytes h.target;
         });
       },
     )
@@ -72,6 +75,7 @@ returns-in-All-clause-steps c = λ token is who knows es w obeys asked.
           snapshots = listing;
           indexes = due.knows;
           packs = unlisted_same Kind.Snapshot e es old.packs refl is h.packs;
+          target = target_later e es old.target.bytes h.target;
         });
       },
     )

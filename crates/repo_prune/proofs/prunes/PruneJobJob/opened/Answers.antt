@@ -1,4 +1,4 @@
-use Rattle.std.proofs.Common.{[], false, refl, sym, subst}
+use Rattle.std.proofs.Common.{[], false, refl, sym, subst, inl}
 use Rattle.repo_name.specs.declared.kinds.Kind.{Kind}
 use Rattle.repo_session.specs.Jobs.{task_under}
 use Rattle.repo_session.specs.Order.{opened}
@@ -8,6 +8,7 @@ use Rattle.repo_session.proofs.Deleting.{none_deleted_at_first}
 use Rattle.repo_session.proofs.Holding.{opened_working}
 use Rattle.repo_session.proofs.Listing.{opened_snapshots}
 use Rattle.repo_session.proofs.Rolling.{opened_rolled}
+use Rattle.repo_writing.proofs.Filling.{most_known}
 use Rattle.repo_prune.specs.Pruning.{IsUntouched, prune_rule}
 use Rattle.repo_prune.specs.PruneStates.{IsListingOf}
 use Rattle.repo_prune.specs.declared.prunes.PruneJob.{PruneJob}
@@ -18,9 +19,10 @@ pub returns-clause-begins : goal.returns-clause-begins
 returns-clause-begins c = λ text fresh reads known.
     let old = c.args.self.now in
     let holding = c.args._holder.now in
+    let config = c.args.config.now in
     let task = task_under prune_rule holding.who in
     let es = opened task holding.token text in
-    let working = opened_working task holding.token text c.args.config.now reads known in
+    let working = opened_working task holding.token text config reads known in
     let due = c.page_ask.ensures.due task holding.token es working fresh.snapshots.none_read (opened_snapshots old.snapshots task holding.token text fresh.snapshots) in
     let untouched : IsUntouched es = record { none_put = λ k. refl; none_deleted = none_deleted_at_first task holding.token text } in
     let next = c.page_ask.result in
@@ -41,5 +43,10 @@ returns-clause-begins c = λ text fresh reads known.
           rolled = subst (λ ns. IsRolled old.packs.kind ns old.packs.read false es) (sym fresh.no_packs)
               (subst (λ i. IsRolled old.packs.kind [] i false es) (sym fresh.no_pack_read) (opened_rolled old.packs.kind task holding.token text));
         };
+        target = (
+          config,
+          record { text = text; read = inl (refl, refl); reads = reads; known = most_known config.version holding.who.versions known },
+          sym (c.target_of-self.ensures reads.allowed.1),
+        );
       });
     }
