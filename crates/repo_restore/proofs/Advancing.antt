@@ -35,14 +35,12 @@ use Rattle.repo_restore.specs.declared.restores.RestoreJob.{RestoreJob}
 use Rattle.repo_restore.specs.declared.restores.Stage.{Stage}
 use Rattle.repo_restore.specs.declared.walks.Turn.{Turn}
 use Rattle.repo_restore.specs.declared.walks.Walk.{Walk}
-use Rattle.repo_restore.specs.Flowing.{is_open, TurnFlows}
 use Rattle.repo_session.specs.Received.{Received}
 use Rattle.repo_session.specs.Trees.{HasRoot, Under}
-use Rattle.repo_restore.specs.Restoring.{HaveLength, IsUneven, IsBadTree, MayGive, ClosedAreWhole, counted, restore_rule, RestoreConcludes}
+use Rattle.repo_restore.specs.Restoring.{HaveLength, IsUneven, IsBadTree, MayGive, counted, restore_rule, RestoreConcludes}
 use Rattle.repo_restore.specs.RestoreStates.{IsRangeOf, IsBefore, IsNewRestore, IsWalking, KnowsAtStage, KnowsRestore, RestoreTurnIs}
 use Rattle.repo_restore.specs.Walking.{WalkEnds, WaitsForBlob, Turns, TurnGives, IsUnevenIn, IsUnfitIn}
 use Rattle.repo_restore.specs.Walks.{Sums, WalkGives}
-use Rattle.repo_restore.proofs.Flows.{follow_both}
 use Rattle.repo_restore.proofs.Growing.{walk_grows}
 
 lengths_of : (c : Catalog) (es : Trace) (content : List Name) (total : ℕ) → Catalogs c true es → Sums c.lookup content total → HaveLength es content total
@@ -108,30 +106,17 @@ first_ask j who token text config new reads known =
     record { work = tt; may = ((token, opened_working task token text config reads known), inr (refl, refl)); allowed = tt; knows = subst S (sym new.at_start) (refl, new.none_read, indexes, before) }
 
 -- what comes next of a walk, over the trace
-pub turn_is : (facts : List Fact) (walk : Walk) (version : ℕ) (root : Name) (es : Trace) (old out : List Emission) (turn : Turn) (begun : Bool) → emitted_in es ≡ old ++ out → Turns facts version (Received es) root walk old out turn
-    → Follow false old begun → TurnFlows begun out turn → RestoreTurnIs facts walk version root es turn
-turn_is facts walk version root es old out (Turn.Ask fact) begun e h f g = (subst (λ x. WaitsForBlob facts version (Received es) root walk fact x) (sym e) h.0, subst (λ x. Follow false x (is_open fact.kind)) (sym e) (follow_both false begun (is_open fact.kind) old out f g))
-turn_is facts walk version root es old out (Turn.Complete count) begun e h f g =
-    (subst (λ x. Spells version (Received es) root [] (rebuilt x)) (sym e) h.0, subst (λ x. count ≡ counted (length (rebuilt x))) (sym e) h.1, subst (λ x. Follow false x false) (sym e) (follow_both false begun false old out f g))
-turn_is facts walk version root es old out (Turn.Ended end) begun e h f g = h.0
-
--- what was given out stands in order
-pub turn_flowed : (old out : List Emission) (turn : Turn) (begun : Bool) → Follow false old begun → TurnFlows begun out turn → (after : Bool) × Follow false (old ++ out) after
-turn_flowed old out (Turn.Ask fact) begun f g = (is_open fact.kind, follow_both false begun (is_open fact.kind) old out f g)
-turn_flowed old out (Turn.Complete count) begun f g = (false, follow_both false begun false old out f g)
-turn_flowed old out (Turn.Ended end) begun f g = (g.0, follow_both false begun g.0 old out f g.1)
+pub turn_is : (facts : List Fact) (walk : Walk) (version : ℕ) (root : Name) (es : Trace) (old out : List Emission) (turn : Turn) → emitted_in es ≡ old ++ out → Turns facts version (Received es) root walk old out turn
+    → RestoreTurnIs facts walk version root es turn
+turn_is facts walk version root es old out (Turn.Ask fact) e h = subst (λ x. WaitsForBlob facts version (Received es) root walk fact x) (sym e) h.0
+turn_is facts walk version root es old out (Turn.Complete count) e h =
+    (subst (λ x. Spells version (Received es) root [] (rebuilt x)) (sym e) h.0, subst (λ x. count ≡ counted (length (rebuilt x))) (sym e) h.1, subst (λ x. Follow false x false) (sym e) h.2.order)
+turn_is facts walk version root es old out (Turn.Ended end) e h = h.0
 
 turn_gave : (facts : List Fact) (version : ℕ) (B : Blobs) (root : Name) (levels : List Level) (sent : ℕ) (onward : Bool) (entries : ℕ) (old out : List Emission) (turn : Turn) → TurnGives facts version B root levels sent onward entries old out turn → Each (WalkGives facts version B root) out
 turn_gave facts version B root levels sent onward entries old out (Turn.Ask fact) h = h.1
 turn_gave facts version B root levels sent onward entries old out (Turn.Complete count) h = h.2.each
 turn_gave facts version B root levels sent onward entries old out (Turn.Ended end) h = h.1.each
-
--- each file that was closed is whole
-pub turn_closed : (facts : List Fact) (version : ℕ) (B : Blobs) (root : Name) (levels : List Level) (sent : ℕ) (onward : Bool) (entries : ℕ) (old out : List Emission) (turn : Turn) → TurnGives facts version B root levels sent onward entries old out turn
-    → ClosedAreWhole version B root (old ++ out)
-turn_closed facts version B root levels sent onward entries old out (Turn.Ask fact) h = h.0.closed
-turn_closed facts version B root levels sent onward entries old out (Turn.Complete count) h = h.2.closed
-turn_closed facts version B root levels sent onward entries old out (Turn.Ended end) h = h.1.closed
 
 may_give : (c : Catalog) (es : Trace) (version : ℕ) (root : Name) (given : Emission) → Catalogs c true es → WalkGives c.lookup version (Received es) root given → MayGive es version root given
 may_give c es version root (Emission.Dir path) h g = g

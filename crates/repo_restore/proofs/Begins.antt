@@ -1,5 +1,6 @@
 -- What beginning a node makes of what was given out.
-use Rattle.std.proofs.Common.{◌≡◌, ◌≢◌, ◌≤◌, ◌+◌, ◌++◌, ◌∷◌, [], ℕ, suc, List, length, slice_get, Some, None, refl, sym, ap, subst, inl, inr, ◌⊎◌, append_assoc, ◌∙◌, Contains}
+use Rattle.std.proofs.Common.{◌≡◌, ◌≢◌, ◌≤◌, ◌+◌, ◌++◌, ◌∷◌, [], ℕ, suc, true, false, List, length, slice_get, Some, None, refl, sym, ap, subst, inl, inr, ◌⊎◌, append_assoc, ◌∙◌, Contains}
+use Rattle.std.proofs.lemmas.List.{append-nil}
 use Rattle.std.proofs.lemmas.Option.{same_Some}
 use Rattle.repo_name.specs.declared.kinds.BlobKind.{BlobKind}
 use Rattle.repo_name.specs.declared.kinds.Thing.{Thing}
@@ -17,12 +18,15 @@ use Rattle.repo_session.proofs.Descending.{under_more}
 use Rattle.repo_restore.specs.declared.nodes.Begun.{Begun}
 use Rattle.repo_restore.specs.declared.nodes.Level.{Level}
 use Rattle.repo_session.specs.Trees.{Under, IsNodeAt}
-use Rattle.repo_restore.specs.Walking.{NodeBegins, NextBegins, LevelStands, WaitsAs, WaitsIn, WalkEnds}
+use Rattle.repo_restore.specs.Walking.{NodeBegins, NextBegins, LevelStands, LevelEnds, WaitsAs, WaitsIn, WalkEnds}
 use Rattle.repo_session.specs.Catalogs.{IsBlobNowhere}
-use Rattle.repo_restore.specs.Walks.{IsWriting, PartIs, Sums, WalkGave, AtLevel, AtOpen}
+use Rattle.repo_restore.specs.Beginnings.{NodeSpellsFirst, SpellsFirst}
+use Rattle.repo_restore.specs.Walks.{IsWriting, PartIs, Sums, is_open, WalkGave, AtLevel, AtOpen}
 use Rattle.repo_restore.specs.Nodes.{PartFollows}
 use Rattle.repo_restore.proofs.Rebuilds.{rebuilt_both, writing_new}
-use Rattle.repo_restore.proofs.Closing.{whole_dir, whole_begun, whole_empty, gave_more}
+use Rattle.repo_restore.proofs.Beginnings.{first_none}
+use Rattle.repo_restore.proofs.Flows.{dir_follows, empty_follows, file_follows, gave_more}
+use Rattle.repo_restore.proofs.Standing.{level_first, next_first}
 use Rattle.repo_name.proofs.Containing.{contains_got}
 use Rattle.repo_restore.proofs.Trees.{part_lists, under_onward, node_at, open_more, open_all, close_level}
 
@@ -30,8 +34,8 @@ split : (old mid new last : List Emission) → new ≡ mid ++ last → old ++ ne
 split old mid new last p = ap (λ m. old ++ m) p ∙ sym (append_assoc old mid last)
 
 -- a node that was given out whole
-step_done : (facts : List Fact) (version : ℕ) (B : Blobs) (root tree : Name) (path : List (List ℕ)) (what : NodeKind) (old mid new : List Emission) → IsNodeAt version B root path what → NodeBegins facts tree path what mid new Begun.Done → WalkGave facts version B root old mid
-    → (more : List Entry) × NodeSpells B (Spells version B) path what more × (rebuilt (old ++ new) ≡ rebuilt (old ++ mid) ++ more) × WalkGave facts version B root old new
+step_done : (facts : List Fact) (version : ℕ) (B : Blobs) (root tree : Name) (path : List (List ℕ)) (what : NodeKind) (old mid new : List Emission) → IsNodeAt version B root path what → NodeBegins facts tree path what mid new Begun.Done → WalkGave facts version B root false old mid
+    → (more : List Entry) × NodeSpells B (Spells version B) path what more × (rebuilt (old ++ new) ≡ rebuilt (old ++ mid) ++ more) × WalkGave facts version B root false old new
 step_done facts version B root tree path (NodeKind.Dir subtree) old mid new at h given = absurd h
 step_done facts version B root tree path (NodeKind.File size content) old mid new at h given =
     let last : List Emission = Emission.File path ∷ Emission.Close ∷ [] in
@@ -40,32 +44,41 @@ step_done facts version B root tree path (NodeKind.File size content) old mid ne
       file_entry path [] ∷ [],
       ([], all h.0, sym h.1, refl),
       ap (λ (e : List Emission). rebuilt e) (split old mid new last h.2) ∙ rebuilt_both (old ++ mid) last refl,
-      gave_more facts version B root old mid new last h.2 given ((size, content, at, even h.0 h.1), (tt, tt)) (whole_empty version B root (old ++ mid) path (size, content, at, all h.0, sym h.1)),
+      gave_more facts version B root false false old mid new last h.2 given ((size, content, at, even h.0 h.1), (tt, tt)) (empty_follows path),
     )
 
 -- a node that waits
 step_waits : (facts : List Fact) (version : ℕ) (B : Blobs) (root tree : Name) (path : List (List ℕ)) (what : NodeKind) (old mid new : List Emission) (fact : Fact) (all : List Entry) → IsNodeAt version B root path what
-    → NodeBegins facts tree path what mid new (Begun.Waits fact) → WalkGave facts version B root old mid → rebuilt (old ++ mid) ≡ all → WaitsAs facts what path fact all (old ++ new) × WalkGave facts version B root old new
+    → NodeBegins facts tree path what mid new (Begun.Waits fact) → WalkGave facts version B root false old mid → rebuilt (old ++ mid) ≡ all → WaitsAs facts what path fact all (old ++ new) × WalkGave facts version B root (is_open fact.kind) old new
 step_waits facts version B root tree path (NodeKind.Dir subtree) old mid new fact all at h given whole =
     let last : List Emission = Emission.Dir path ∷ [] in (
       (h.0, ap (λ (e : List Emission). rebuilt e) (split old mid new last h.1) ∙ rebuilt_both (old ++ mid) last refl ∙ ap (λ es. es ++ dir_entry path ∷ []) whole),
-      gave_more facts version B root old mid new last h.1 given ((subtree, at), tt) (whole_dir version B root (old ++ mid) path),
+      subst (λ k. WalkGave facts version B root (is_open k) old new) (sym h.0.0) (gave_more facts version B root false false old mid new last h.1 given ((subtree, at), tt) (dir_follows path)),
     )
 step_waits facts version B root tree path (NodeKind.File size content) old mid new fact all at h given whole =
     let last : List Emission = Emission.File path ∷ [] in (
       (h.0, h.1, h.2, subst (λ e. IsWriting e all path []) (sym (split old mid new last h.3)) (writing_new (old ++ mid) all path whole)),
-      gave_more facts version B root old mid new last h.3 given ((size, content, at, h.2), tt) (whole_begun version B root (old ++ mid) path),
+      subst (λ k. WalkGave facts version B root (is_open k) old new) (sym h.1.0) (gave_more facts version B root false true old mid new last h.3 given ((size, content, at, h.2), tt) (file_follows path)),
     )
+
+-- nothing was given out of a node, or what it spells first
+abbrev MaySpellFirst : ℕ → Blobs → List (List ℕ) → NodeKind → List Entry → Type 0
+MaySpellFirst version B path what own = (own ≡ []) ⊎ NodeSpellsFirst B (SpellsFirst version B) path what false own
 
 -- a node that can't be given out
 step_ends : (facts : List Fact) (version : ℕ) (B : Blobs) (root tree : Name) (path : List (List ℕ)) (name : List ℕ) (what : NodeKind) (nodes : List Node) (old mid new : List Emission) (end : End) (above : List (List ℕ)) → Under version B root above tree → path ≡ above ++ name ∷ [] → IsNodeAt version B root path what → ListsBy version B tree nodes
-    → Contains nodes (record { name = name; what = what }) → NodeBegins facts tree path what mid new (Begun.Ended end) → WalkGave facts version B root old mid → WalkEnds facts version B root end × WalkGave facts version B root old new
+    → Contains nodes (record { name = name; what = what }) → NodeBegins facts tree path what mid new (Begun.Ended end) → WalkGave facts version B root false old mid
+    → WalkEnds facts version B root end × (own : List Entry) × MaySpellFirst version B path what own × (rebuilt (old ++ new) ≡ rebuilt (old ++ mid) ++ own) × WalkGave facts version B root false old new
 step_ends facts version B root tree path name (NodeKind.Dir subtree) nodes old mid new end above under is at read among h given =
     let last : List Emission = Emission.Dir path ∷ [] in (
       subst (λ x. WalkEnds facts version B root x) (sym h.0) (BlobKind.Tree, refl, h.1, (above ++ name ∷ [], under_more version B root above tree nodes name subtree under read among)),
-      gave_more facts version B root old mid new last h.2 given ((subtree, at), tt) (whole_dir version B root (old ++ mid) path),
+      dir_entry path ∷ [],
+      inr ([], first_none version B subtree path, refl),
+      ap (λ (e : List Emission). rebuilt e) (split old mid new last h.2) ∙ rebuilt_both (old ++ mid) last refl,
+      gave_more facts version B root false false old mid new last h.2 given ((subtree, at), tt) (dir_follows path),
     )
-step_ends facts version B root tree path name (NodeKind.File size content) nodes old mid new end above under is at read among h given = (why h.1, subst (λ e. WalkGave facts version B root old e) (sym h.0) given)
+step_ends facts version B root tree path name (NodeKind.File size content) nodes old mid new end above under is at read among h given =
+    (why h.1, [], inl refl, ap (λ e. rebuilt (old ++ e)) h.0 ∙ sym (append-nil (rebuilt (old ++ mid))), subst (λ e. WalkGave facts version B root false old e) (sym h.0) given)
   where
     why : ((n : Name) × (end ≡ End.Missing Thing.Content n) × Contains content n × IsBlobNowhere facts BlobKind.Content n) ⊎ ((end ≡ End.BadObject Thing.Tree tree) × ((total : ℕ) × Sums facts content total × (total ≢ size))) → WalkEnds facts version B root end
     why (inl m) = subst (λ x. WalkEnds facts version B root x) (sym m.1) (BlobKind.Content, refl, m.3, (path, size, content, at, m.2))
@@ -89,10 +102,18 @@ module _ (facts : List Fact) (version : ℕ) (B : Blobs) (root first : Name) (le
       record { at = at; counts = refl; node = node; node_is = p; inside = h.inside; opened = h.opened; waits = r.0; given = r.1 }
 
   pub begun_ends : (end : End) → LevelStands facts version B root first level at before old mid → slice_get level.nodes.items at ≡ Some node → NodeBegins facts level.tree (level.path ++ node.name ∷ []) node.what mid new (Begun.Ended end)
-      → WalkEnds facts version B root end × WalkGave facts version B root old new
+      → WalkEnds facts version B root end × LevelEnds facts version B root first level before old new
   begun_ends end h p b =
-      step_ends facts version B root level.tree (level.path ++ node.name ∷ []) node.name node.what level.nodes.items old mid new end level.path h.opened.under refl (node_at version B root first level.tree level.path level.nodes.items level.next at at h.inside node h.opened p)
-      (part_lists version B level.tree level.nodes.items level.next h.opened.read) (contains_got level.nodes.items at node p) b h.given
+      let r = step_ends facts version B root level.tree (level.path ++ node.name ∷ []) node.name node.what level.nodes.items old mid new end level.path h.opened.under refl (node_at version B root first level.tree level.path level.nodes.items level.next at at h.inside node h.opened p)
+      (part_lists version B level.tree level.nodes.items level.next h.opened.read) (contains_got level.nodes.items at node p) b h.given in (
+        r.0,
+        record { inside = h.inside ++ r.1; begins = begins r.1 r.2; whole = r.3 ∙ ap (λ es. es ++ r.1) h.whole ∙ append_assoc before h.inside r.1; given = r.4 },
+      )
+    where
+      begins : (own : List Entry) → MaySpellFirst version B (level.path ++ node.name ∷ []) node.what own → SpellsFirst version B first level.path false (h.inside ++ own)
+      begins own (inl none) =
+          subst (λ es. SpellsFirst version B first level.path false es) (sym (ap (λ es. h.inside ++ es) none ∙ append-nil h.inside)) (level_first version B root first level.tree level.path level.nodes.items level.next at h.inside h.opened)
+      begins own (inr some) = next_first version B root first level.tree level.path level.nodes.items level.next at h.inside node false own h.opened p some
 
 -- past the last node of a level
 pub stands_all : (facts : List Fact) (version : ℕ) (B : Blobs) (root first : Name) (level : Level) (at : ℕ) (before : List Entry) (old out : List Emission) → length level.nodes.items ≤ at → LevelStands facts version B root first level at before old out
@@ -110,12 +131,19 @@ part_follows facts version B root first level before old out now Begun.Done h p 
 part_follows facts version B root first level before old out now (Begun.Waits fact) h p = absurd p
 part_follows facts version B root first level before old out now (Begun.GoesOn fact) h p = record { stands = h; goes_on = p.0; waits = p.1 }
 part_follows facts version B root first level before old out now (Begun.Ended end) h p =
-    let part = subst (λ n. PartIs version B level.tree level.nodes.items n) p.1 h.opened.read in
-    (subst (λ x. WalkEnds facts version B root x) (sym p.2) (BlobKind.Tree, refl, p.3, (level.path, under_onward version B root level.path level.tree level.nodes.items p.0 h.opened.under part)), h.given)
+    let part = subst (λ n. PartIs version B level.tree level.nodes.items n) p.1 h.opened.read in (
+      subst (λ x. WalkEnds facts version B root x) (sym p.2) (BlobKind.Tree, refl, p.3, (level.path, under_onward version B root level.path level.tree level.nodes.items p.0 h.opened.under part)),
+      record {
+        inside = h.inside;
+        begins = level_first version B root first level.tree level.path level.nodes.items level.next (length level.nodes.items) h.inside h.opened;
+        whole = h.whole;
+        given = h.given;
+      },
+    )
 
 -- the level of which nodes are begun stands
 pub level_stands : (facts : List Fact) (version : ℕ) (B : Blobs) (root : Name) (levels : List Level) (depth begun : ℕ) (level : Level) (old out : List Emission) (h : AtLevel version B root levels depth begun level (rebuilt (old ++ out)))
-    → WalkGave facts version B root old out → LevelStands facts version B root h.first level begun h.before old out
+    → WalkGave facts version B root false old out → LevelStands facts version B root h.first level begun h.before old out
 level_stands facts version B root levels depth begun level old out h given = record { inside = h.inside; opened = h.opened; whole = h.whole; given = given }
 
 pub level_done : (facts : List Fact) (version : ℕ) (B : Blobs) (root : Name) (levels : List Level) (depth begun above : ℕ) (level : Level) (old out new : List Emission) (h : AtLevel version B root levels depth begun level (rebuilt (old ++ out)))

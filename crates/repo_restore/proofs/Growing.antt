@@ -11,7 +11,6 @@ use Rattle.repo_tree.proofs.SpellingLemmas.{nodes_grown, joined_move}
 use Rattle.repo_session.specs.declared.emissions.Emission.{Emission}
 use Rattle.repo_session.proofs.Descending.{under_grows}
 use Rattle.repo_restore.specs.declared.nodes.Level.{Level}
-use Rattle.repo_restore.proofs.Closing.{whole_grows}
 use Rattle.repo_restore.specs.Walking.{FileWaits, TreeWaitsBy, WaitsByKind, WalkWaits}
 use Rattle.repo_restore.specs.Walks.{PartIs, LeadsThrough, ComesBehind, nodes_in, IsOpenLevel, DirectoryIsBegun, LeadsOn}
 
@@ -106,4 +105,4 @@ kind_grows BlobKind.Tree facts version B C grows root levels sent onward fact em
 pub walk_grows : (facts : List Fact) (version : ℕ) (B C : Blobs) → Grows B C → (root : Name) (levels : List Level) (sent : ℕ) (onward : Bool) (entries : ℕ) (fact : Fact) (emitted : List Emission)
     → WalkWaits facts version B root levels sent onward entries fact emitted → WalkWaits facts version C root levels sent onward entries fact emitted
 walk_grows facts version B C grows root levels sent onward entries fact emitted h =
-    record { least = h.least; count = h.count; waits = kind_grows fact.kind facts version B C grows root levels sent onward fact emitted h.waits; closed = whole_grows version B C grows root emitted h.closed }
+    record { least = h.least; count = h.count; waits = kind_grows fact.kind facts version B C grows root levels sent onward fact emitted h.waits; order = h.order }

@@ -1,11 +1,14 @@
 pub mod Summing
 pub mod Rebuilds
-pub mod Closing
 pub mod Flows
+pub mod Beginnings
+pub mod Standing
+pub mod Closing
 pub mod Trees
 pub mod Begins
 pub mod Passing
 pub mod Growing
 pub mod Advancing
-pub mod RestoreRuns
+pub mod Firsts
 pub mod Replied
+pub mod RestoreRuns

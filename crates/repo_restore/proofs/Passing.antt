@@ -21,18 +21,19 @@ use Rattle.repo_tree.proofs.OnwardLemmas.{order_join}
 use Rattle.repo_tree.specs.Spelling.{Joined, NodeSpells, NodesSpell, Spells, file_entry, greatest_depth}
 use Rattle.repo_session.specs.declared.emissions.Emission.{Emission}
 use Rattle.repo_session.specs.declared.outcomes.End.{End}
-use Rattle.repo_session.specs.Rebuilding.{rebuilt}
+use Rattle.repo_session.specs.Rebuilding.{rebuilt, Follow}
 use Rattle.repo_session.specs.Traces.{Each}
 use Rattle.repo_restore.specs.declared.nodes.Begun.{Begun}
 use Rattle.repo_restore.specs.declared.nodes.Level.{Level}
 use Rattle.repo_restore.specs.Nodes.{WaitsFor, BlobFollows}
 use Rattle.repo_session.specs.Trees.{Under, IsNodeAt, IsNeeded, IsNoText, GoesWrong}
-use Rattle.repo_restore.specs.Restoring.{counted, IsFileAt, ClosedAreWhole}
+use Rattle.repo_restore.specs.Restoring.{counted}
 use Rattle.repo_restore.specs.Walking.{WaitsIn, WaitsBehind, WaitsAs, with_begun, IsNextPath, MayFollow, FileWaits, TreeWaits, PartWaits, TreeWaitsBy, WaitsByKind, WalkWaits, WalkEnds}
-use Rattle.repo_restore.specs.Walks.{PartIs, LeadsThrough, ComesBehind, HaveNodes, LaterHaveNodes, nodes_in, IsOpenLevel, DirectoryIsBegun, IsFile, IsWriting, LeadsOn, AtLevel, AtOpen, Sums, WalkGives, WalkGave}
+use Rattle.repo_restore.specs.Walks.{PartIs, LeadsThrough, ComesBehind, HaveNodes, LaterHaveNodes, nodes_in, IsOpenLevel, DirectoryIsBegun, IsFile, IsWriting, LeadsOn, AtLevel, AtOpen, Sums, WalkGives, is_open, WalkGave, WalkStopped}
 use Rattle.repo_session.proofs.Descending.{under_more}
 use Rattle.repo_restore.proofs.Rebuilds.{rebuilt_length, writing_more, writing_done}
-use Rattle.repo_restore.proofs.Closing.{whole_piece, whole_closed}
+use Rattle.repo_restore.proofs.Flows.{follow_both, piece_follows}
+use Rattle.repo_restore.proofs.Standing.{file_first}
 use Rattle.repo_restore.proofs.Summing.{one_more, sums_drop}
 use Rattle.repo_name.proofs.Containing.{contains_got}
 use Rattle.repo_restore.proofs.Trees.{LastOpen, part_lists, part_ordered, no_next, under_onward, leads_push, leads_pop, node_at, open_more}
@@ -94,7 +95,7 @@ module _ (facts : List Fact) (version : ℕ) (B : Blobs) (root first : Name) (le
       → WalkWaits facts version B root (levels ++ with_begun level begun ∷ []) 0 false entries fact (old ++ out)
   kept_open entries w leads count =
       let r = waits_by w.node.what w leads refl w.waits in
-      record { least = r.0; count = count; waits = r.1; closed = w.given.closed }
+      record { least = r.0; count = count; waits = r.1; order = w.given.order }
 
 -- so where the next part waits
 pub part_open : (facts : List Fact) (version : ℕ) (B : Blobs) (root first : Name) (levels : List Level) (level : Level) (begun : ℕ) (before : List Entry) (old out : List Emission) (fact : Fact) (entries : ℕ)
@@ -118,7 +119,7 @@ part_open facts version B root first levels level begun before old out fact entr
       least = least_of facts BlobKind.Tree fact.name fact w.waits;
       count = count;
       waits = subst (λ k. WaitsByKind k facts version B root (levels ++ now ∷ []) 0 true fact (old ++ out)) (sym w.waits.0) waits;
-      closed = w.stands.given.closed;
+      order = subst (λ k. Follow false (old ++ out) (is_open k)) (sym w.waits.0) w.stands.given.order;
     }
 
 -- some levels have a last one
@@ -366,46 +367,44 @@ closed facts version B root first levels above level before inside node size sen
     subst (λ n. AtOpen version B root levels n level.begun (rebuilt (emitted ++ Emission.Close ∷ []))) many
     (subst (λ ls. AtOpen version B root ls (suc (length above)) level.begun (rebuilt (emitted ++ Emission.Close ∷ []))) (sym are) (level, at))
 
--- it is the one that a tree lists there
-file_is : (facts : List Fact) (version : ℕ) (B : Blobs) (root : Name) (levels : List Level) (sent : ℕ) (fact : Fact) (emitted : List Emission) (all : ℕ) (bytes : List ℕ) (h : FileWaits facts version B root levels sent fact emitted)
-    → IsFile facts B h.size h.content all bytes → slice_get h.content all ≡ None → IsFileAt version B root (h.level.path ++ h.node.name ∷ []) bytes
-file_is facts version B root levels sent fact emitted all bytes h part none =
-    let at = node_at version B root h.first h.level.tree h.level.path h.level.nodes.items h.level.next h.begun.at h.begun.at h.inside h.node h.begun.opened h.begun.node_is in
-    let whole = part_all facts B h.size all h.content bytes part none in
-    (h.size, h.content, subst (λ what. IsNodeAt version B root (h.level.path ++ h.node.name ∷ []) what) h.file at, whole.0, whole.1)
-
 split : (old mid new last : List Emission) → new ≡ mid ++ last → old ++ new ≡ (old ++ mid) ++ last
 split old mid new last p = ap (λ m. old ++ m) p ∙ sym (append_assoc old mid last)
 
 module _ (facts : List Fact) (version : ℕ) (B : Blobs) (root : Name) (levels : List Level) (sent : ℕ) (onward : Bool) (entries : ℕ) (fact : Fact) (old out mid new : List Emission) (content : List Name) (next : ℕ) (bytes : List ℕ) where
   -- the file that waits for a blob
-  pub file_waits : WalkWaits facts version B root levels sent onward entries fact old → fact.kind ≡ BlobKind.Content → FileWaits facts version B root levels sent fact old × IsLeast facts BlobKind.Content fact.name fact.place
-  file_waits h k = (subst (λ kind. WaitsByKind kind facts version B root levels sent onward fact old) k h.waits, subst (λ kind. IsLeast facts kind fact.name fact.place) k h.least)
+  pub file_waits : WalkWaits facts version B root levels sent onward entries fact old → fact.kind ≡ BlobKind.Content
+      → FileWaits facts version B root levels sent fact old × IsLeast facts BlobKind.Content fact.name fact.place × Follow false old true
+  file_waits h k = (
+    subst (λ kind. WaitsByKind kind facts version B root levels sent onward fact old) k h.waits,
+    subst (λ kind. IsLeast facts kind fact.name fact.place) k h.least,
+    subst (λ kind. Follow false old (is_open kind)) k h.order,
+  )
 
   pieced : out ≡ [] → mid ≡ out ++ Emission.Piece bytes ∷ [] → mid ≡ Emission.Piece bytes ∷ []
   pieced none p = p ∙ ap (λ o. o ++ Emission.Piece bytes ∷ []) none
 
   -- its last blob came
   pub blob_last : (h : FileWaits facts version B root levels sent fact old) → IsLeast facts BlobKind.Content fact.name fact.place → content ≡ h.content → next ≡ sent + 1 → B BlobKind.Content bytes → naming.name bytes ≡ fact.name
-      → length bytes ≡ fact.place.length → out ≡ [] → mid ≡ out ++ Emission.Piece bytes ∷ [] → ClosedAreWhole version B root old → BlobFollows facts content next mid new Begun.Done
-      → AtOpen version B root levels (length levels) h.level.begun (rebuilt (old ++ new)) × WalkGave facts version B root old new
+      → length bytes ≡ fact.place.length → out ≡ [] → mid ≡ out ++ Emission.Piece bytes ∷ [] → Follow false old true → BlobFollows facts content next mid new Begun.Done
+      → AtOpen version B root levels (length levels) h.level.begun (rebuilt (old ++ new)) × WalkGave facts version B root false old new
   blob_last h least same count among named long none m so b =
       let part = part_more facts B h.size sent h.content h.bytes bytes fact h.part h.asked least among named long in
       let past : slice_get h.content (sent + 1) ≡ None = ap (λ ns. slice_get ns (sent + 1)) (sym same) ∙ ap (λ i. slice_get content i) (sym count) ∙ b.0 in
       let piece = pieced none m in
       let writing = writing_more old (h.before ++ h.inside) (h.level.path ++ h.node.name ∷ []) h.bytes bytes h.writing in
       let at = closed facts version B root h.first levels h.above h.level h.before h.inside h.node h.size (sent + 1) h.content (h.bytes ++ bytes) (old ++ Emission.Piece bytes ∷ []) h.levels_are h.leads h.begun h.file part past writing in
-      let file = file_is facts version B root levels sent fact old (sent + 1) (h.bytes ++ bytes) h part past in
-      let done = whole_closed version B root (old ++ Emission.Piece bytes ∷ []) (h.before ++ h.inside) (h.level.path ++ h.node.name ∷ []) (h.bytes ++ bytes) writing file (whole_piece version B root old bytes so) in
       let whole : old ++ new ≡ (old ++ Emission.Piece bytes ∷ []) ++ Emission.Close ∷ [] = split old mid new (Emission.Close ∷ []) b.1 ∙ ap (λ p. (old ++ p) ++ Emission.Close ∷ []) piece in
       let given : new ≡ Emission.Piece bytes ∷ Emission.Close ∷ [] = b.1 ∙ ap (λ p. p ++ Emission.Close ∷ []) piece in (
         subst (λ e. AtOpen version B root levels (length levels) h.level.begun (rebuilt e)) (sym whole) at,
-        record { each = subst (λ e. Each (WalkGives facts version B root) e) (sym given) (among, (tt, tt)); closed = subst (λ e. ClosedAreWhole version B root e) (sym whole) done },
+        record {
+          each = subst (λ e. Each (WalkGives facts version B root) e) (sym given) (among, (tt, tt));
+          order = subst (λ e. Follow false (old ++ e) false) (sym given) (follow_both false true false old (Emission.Piece bytes ∷ Emission.Close ∷ []) so (true, (refl, refl), (false, (refl, refl), refl)));
+        },
       )
 
   -- another one follows
   pub blob_more : (after : Fact) (h : FileWaits facts version B root levels sent fact old) → IsLeast facts BlobKind.Content fact.name fact.place → content ≡ h.content → next ≡ sent + 1 → B BlobKind.Content bytes
-      → naming.name bytes ≡ fact.name → length bytes ≡ fact.place.length → out ≡ [] → mid ≡ out ++ Emission.Piece bytes ∷ [] → entries ≡ counted (length (rebuilt old)) → ClosedAreWhole version B root old → BlobFollows facts content next mid new (Begun.Waits after)
+      → naming.name bytes ≡ fact.name → length bytes ≡ fact.place.length → out ≡ [] → mid ≡ out ++ Emission.Piece bytes ∷ [] → entries ≡ counted (length (rebuilt old)) → Follow false old true → BlobFollows facts content next mid new (Begun.Waits after)
       → WalkWaits facts version B root levels next onward entries after (old ++ new) × Each (WalkGives facts version B root) new
   blob_more after h least same count among named long none m entry so b =
       let part = part_more facts B h.size sent h.content h.bytes bytes fact h.part h.asked least among named long in
@@ -433,23 +432,25 @@ module _ (facts : List Fact) (version : ℕ) (B : Blobs) (root : Name) (levels :
         least = least_of facts BlobKind.Content after.name after b.1;
         count = omega (arith, entry, rebuilt_length old (Emission.Piece bytes ∷ []));
         waits = subst (λ kind. WaitsByKind kind facts version B root levels (sent + 1) onward after (old ++ Emission.Piece bytes ∷ [])) (sym b.1.0) waits;
-        closed = whole_piece version B root old bytes so;
+        order = subst (λ kind. Follow false (old ++ Emission.Piece bytes ∷ []) (is_open kind)) (sym b.1.0) (follow_both false true true old (Emission.Piece bytes ∷ []) so (piece_follows bytes));
       } in (
         subst (λ e. WalkWaits facts version B root levels next onward entries after (old ++ e)) (sym given) (subst (λ n. WalkWaits facts version B root levels n onward entries after (old ++ Emission.Piece bytes ∷ [])) (sym count) known),
         subst (λ e. Each (WalkGives facts version B root) e) (sym given) (among, tt),
       )
 
   -- it is in no index
-  pub blob_ends : (h : FileWaits facts version B root levels sent fact old) → content ≡ h.content → (end : End) → B BlobKind.Content bytes → out ≡ [] → mid ≡ out ++ Emission.Piece bytes ∷ [] → ClosedAreWhole version B root old → BlobFollows facts content next mid new (Begun.Ended end)
-      → WalkEnds facts version B root end × WalkGave facts version B root old new
-  blob_ends h same end among none m so b =
+  pub blob_ends : (h : FileWaits facts version B root levels sent fact old) → IsLeast facts BlobKind.Content fact.name fact.place → content ≡ h.content → (end : End) → B BlobKind.Content bytes → naming.name bytes ≡ fact.name
+      → length bytes ≡ fact.place.length → out ≡ [] → mid ≡ out ++ Emission.Piece bytes ∷ [] → Follow false old true → BlobFollows facts content next mid new (Begun.Ended end) → WalkEnds facts version B root end × WalkStopped facts version B root old new
+  blob_ends h least same end among named long none m so b =
+      let part = part_more facts B h.size sent h.content h.bytes bytes fact h.part h.asked least among named long in
       let given : new ≡ Emission.Piece bytes ∷ [] = b.4 ∙ pieced none m in
       let path : List (List ℕ) = h.level.path ++ h.node.name ∷ [] in
       let at = node_at version B root h.first h.level.tree h.level.path h.level.nodes.items h.level.next h.begun.at h.begun.at h.inside h.node h.begun.opened h.begun.node_is in
       let blob = subst (λ (ns : List Name). Contains ns b.0) same (contains_got content next b.0 b.2) in
-      let needed : IsNeeded version B root BlobKind.Content b.0 = (path, h.size, h.content, subst (λ what. IsNodeAt version B root path what) h.file at, blob) in (
+      let needed : IsNeeded version B root BlobKind.Content b.0 = (path, h.size, h.content, subst (λ what. IsNodeAt version B root path what) h.file at, blob) in
+      let begins = file_first facts version B root h.first h.above h.level h.before h.inside h.node h.size (sent + 1) h.content (h.bytes ++ bytes) (old ++ Emission.Piece bytes ∷ []) h.leads h.begun h.file part (writing_more old (h.before ++ h.inside) path h.bytes bytes h.writing) in (
         subst (λ x. WalkEnds facts version B root x) (sym b.1) (BlobKind.Content, refl, b.3, needed),
-        subst (λ e. WalkGave facts version B root old e) (sym given) (record { each = (among, tt); closed = whole_piece version B root old bytes so }),
+        subst (λ e. WalkStopped facts version B root old e) (sym given) (record { each = (among, tt); begins = (true, follow_both false true true old (Emission.Piece bytes ∷ []) so (piece_follows bytes), begins) }),
       )
 
 -- a tree that isn't one by its text, or no part

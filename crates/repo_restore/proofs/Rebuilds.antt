@@ -40,12 +40,12 @@ pieces_are (Emission.Dir path ∷ ps) after bytes h = absurd h
 pieces_are (Emission.File path ∷ ps) after bytes h = absurd h
 pieces_are (Emission.Close ∷ ps) after bytes h = absurd h
 
-pieces_alone : (ps : List Emission) (bytes : List ℕ) → ArePieces ps bytes → rebuilt (ps ++ Emission.Close ∷ []) ≡ []
-pieces_alone [] bytes h = refl
-pieces_alone (Emission.Piece first ∷ ps) bytes h = pieces_alone ps h.0 h.1
-pieces_alone (Emission.Dir path ∷ ps) bytes h = absurd h
-pieces_alone (Emission.File path ∷ ps) bytes h = absurd h
-pieces_alone (Emission.Close ∷ ps) bytes h = absurd h
+pub pieces_alone : (ps after : List Emission) (bytes : List ℕ) → ArePieces ps bytes → rebuilt (ps ++ Emission.Close ∷ after) ≡ rebuilt after
+pieces_alone [] after bytes h = refl
+pieces_alone (Emission.Piece first ∷ ps) after bytes h = pieces_alone ps after h.0 h.1
+pieces_alone (Emission.Dir path ∷ ps) after bytes h = absurd h
+pieces_alone (Emission.File path ∷ ps) after bytes h = absurd h
+pieces_alone (Emission.Close ∷ ps) after bytes h = absurd h
 
 pieces_more : (ps : List Emission) (bytes more : List ℕ) → ArePieces ps bytes → ArePieces (ps ++ Emission.Piece more ∷ []) (bytes ++ more)
 pieces_more [] bytes more h = ([], refl, ap (λ b. b ++ more) h ∙ sym (append-nil more))
@@ -77,7 +77,30 @@ writing_done emitted before path bytes h =
     ∙ rebuilt_both h.first (Emission.File path ∷ last) refl
     ∙ ap (λ es. es ++ file_entry path (pieces last) ∷ rebuilt last) h.entries
     ∙ ap (λ b. before ++ file_entry path b ∷ rebuilt last) (pieces_are h.last [] bytes h.written)
-    ∙ ap (λ es. before ++ file_entry path bytes ∷ es) (pieces_alone h.last bytes h.written)
+    ∙ ap (λ es. before ++ file_entry path bytes ∷ es) (pieces_alone h.last [] bytes h.written)
+
+-- while it is open
+pieces_open : (ps : List Emission) (bytes : List ℕ) → ArePieces ps bytes → pieces ps ≡ bytes
+pieces_open [] bytes h = sym h
+pieces_open (Emission.Piece first ∷ ps) bytes h = ap (λ r. first ++ r) (pieces_open ps h.0 h.1) ∙ sym h.2
+pieces_open (Emission.Dir path ∷ ps) bytes h = absurd h
+pieces_open (Emission.File path ∷ ps) bytes h = absurd h
+pieces_open (Emission.Close ∷ ps) bytes h = absurd h
+
+open_alone : (ps : List Emission) (bytes : List ℕ) → ArePieces ps bytes → rebuilt ps ≡ []
+open_alone [] bytes h = refl
+open_alone (Emission.Piece first ∷ ps) bytes h = open_alone ps h.0 h.1
+open_alone (Emission.Dir path ∷ ps) bytes h = absurd h
+open_alone (Emission.File path ∷ ps) bytes h = absurd h
+open_alone (Emission.Close ∷ ps) bytes h = absurd h
+
+pub writing_open : (emitted : List Emission) (before : List Entry) (path : List (List ℕ)) (bytes : List ℕ) → IsWriting emitted before path bytes → rebuilt emitted ≡ before ++ file_entry path bytes ∷ []
+writing_open emitted before path bytes h =
+    ap (λ (e : List Emission). rebuilt e) h.split
+    ∙ rebuilt_both h.first (Emission.File path ∷ h.last) refl
+    ∙ ap (λ es. es ++ file_entry path (pieces h.last) ∷ rebuilt h.last) h.entries
+    ∙ ap (λ b. before ++ file_entry path b ∷ rebuilt h.last) (pieces_open h.last bytes h.written)
+    ∙ ap (λ es. before ++ file_entry path bytes ∷ es) (open_alone h.last bytes h.written)
 
 -- one more emission is counted
 pub count_more : (emitted : List Emission) (i : ℕ) (x : Emission) → i < length emitted → x ≡ get_or emitted i x → length (rebuilt (take (i + 1) emitted)) ≡ length (rebuilt (take i emitted)) + length (rebuilt (x ∷ []))

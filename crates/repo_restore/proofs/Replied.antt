@@ -17,17 +17,18 @@ use Rattle.repo_session.specs.Received.{Received}
 use Rattle.repo_session.specs.Sessions.{next_in}
 use Rattle.repo_session.specs.Talks.{Talk, trace_of, given_in}
 use Rattle.repo_session.specs.Traces.{Each, Exchange, Trace, emitted_in}
-use Rattle.repo_session.specs.Trees.{HasRoot}
 use Rattle.repo_session.proofs.Cataloguing.{fact_stays}
 use Rattle.repo_session.proofs.Descending.{received_grows, root_grows, node_at_grows}
 use Rattle.repo_session.proofs.Taking.{came_in, given_is, stands_after}
-use Rattle.repo_restore.specs.Laws.{RestoredIsWhatCame, GivenIsWhatCame, MayBeGiven, FileHolds, ClosedIsWhole}
+use Rattle.repo_restore.specs.Laws.{RestoredIsWhatCame, GivenIsWhatCame, GivenIsABeginning, BeginsSnapshot, MayBeGiven, FileHolds, ClosedIsWhole}
 use Rattle.repo_restore.specs.RestoreObedience.{wish_of, restore_obeys}
 use Rattle.repo_restore.specs.RestoreStates.{FitsRestore}
-use Rattle.repo_restore.specs.Restoring.{Wish, restore_task, HaveLength, IsForBlob, IsRestored, MayGive, ClosedAreWhole, RestoreAllows, RestoreGives}
+use Rattle.repo_restore.specs.Restoring.{Wish, restore_task, HaveLength, IsForBlob, IsRestored, MayGive, RestoreAllows, RestoreGives}
 use Rattle.repo_restore.specs.Walks.{ArePieces}
 use Rattle.repo_restore.specs.declared.restores.Restore.{Restore}
-use Rattle.repo_restore.proofs.Closing.{whole_grows, file_closed}
+use Rattle.repo_restore.specs.Beginnings.{IsBeginning}
+use Rattle.repo_restore.proofs.Beginnings.{beginning_grows}
+use Rattle.repo_restore.proofs.Closing.{file_closed}
 
 -- the exchanges keep the order and the rule of a restore
 abbrev Keeps : Wish → Trace → Type 0
@@ -83,33 +84,31 @@ given_of w (turn ∷ talk) given o c =
       | inr now ↦ given_now w e (trace_of talk) given o.2 now
     ]
 
--- ---- each file that was closed
+-- ---- all of it
 
-abbrev AreWholeBy : Trace → Name → List Emission → Type 0
-AreWholeBy es snapshot given = (version : ℕ) × (root : Name) × HasRoot es snapshot version root × ClosedAreWhole version (Received es) root given
-
-whole_now : (w : Wish) (e : Exchange) (es : Trace) → (e.emitted ≡ []) ⊎ RestoreGives w.snapshot es e → (emitted_in es ≡ []) ⊎ AreWholeBy es w.snapshot (emitted_in es)
-    → (emitted_in (e ∷ es) ≡ []) ⊎ AreWholeBy (e ∷ es) w.snapshot (emitted_in (e ∷ es))
-whole_now w e es (inr gives) h = inr (gives.1, gives.2, root_grows e es w.snapshot gives.1 gives.2 gives.3, gives.6)
-whole_now w e es (inl none) (inl nothing) = inl (ap (λ x. emitted_in es ++ x) none ∙ append-nil (emitted_in es) ∙ nothing)
-whole_now w e es (inl none) (inr h) =
+begun_now : (w : Wish) (e : Exchange) (es : Trace) → (e.emitted ≡ []) ⊎ RestoreGives w.snapshot es e → BeginsSnapshot es w.snapshot (emitted_in es) → BeginsSnapshot (e ∷ es) w.snapshot (emitted_in (e ∷ es))
+begun_now w e es (inr gives) h = inr (gives.1, gives.2, root_grows e es w.snapshot gives.1 gives.2 gives.3, gives.5)
+begun_now w e es (inl none) (inl nothing) = inl (ap (λ x. emitted_in es ++ x) none ∙ append-nil (emitted_in es) ∙ nothing)
+begun_now w e es (inl none) (inr h) =
     let same : emitted_in (e ∷ es) ≡ emitted_in es = ap (λ x. emitted_in es ++ x) none ∙ append-nil (emitted_in es) in
-    let grown = whole_grows h.0 (Received es) (Received (e ∷ es)) (received_grows e es) h.1 (emitted_in es) h.3 in
-    inr (h.0, h.1, root_grows e es w.snapshot h.0 h.1 h.2, subst (λ given. ClosedAreWhole h.0 (Received (e ∷ es)) h.1 given) (sym same) grown)
+    let grown = beginning_grows h.0 (Received es) (Received (e ∷ es)) (received_grows e es) h.1 (emitted_in es) h.3 in
+    inr (h.0, h.1, root_grows e es w.snapshot h.0 h.1 h.2, subst (λ given. IsBeginning h.0 (Received (e ∷ es)) h.1 given) (sym same) grown)
 
-whole_of : (w : Wish) (es : Trace) → Keeps w es → (emitted_in es ≡ []) ⊎ AreWholeBy es w.snapshot (emitted_in es)
-whole_of w [] o = inl refl
-whole_of w (e ∷ es) o = whole_now w e es o.2 (whole_of w es o.3)
+pub begun_of : (w : Wish) (es : Trace) → Keeps w es → BeginsSnapshot es w.snapshot (emitted_in es)
+begun_of w [] o = inl refl
+begun_of w (e ∷ es) o = begun_now w e es o.2 (begun_of w es o.3)
+
+-- ---- each file that was closed
 
 none_begun : (before more : List Emission) (path : List (List ℕ)) → before ++ Emission.File path ∷ more ≡ [] → ⊥
 none_begun [] more path h = absurd (cc)
 none_begun (first ∷ before) more path h = absurd (cc)
 
 file_held : (es : Trace) (snapshot : Name) (given before inside after : List Emission) (path : List (List ℕ)) (bytes : List ℕ) → given ≡ before ++ Emission.File path ∷ (inside ++ Emission.Close ∷ after) → ArePieces inside bytes
-    → (given ≡ []) ⊎ AreWholeBy es snapshot given → FileHolds es snapshot path bytes
+    → BeginsSnapshot es snapshot given → FileHolds es snapshot path bytes
 file_held es snapshot given before inside after path bytes is are (inl none) = absurd (none_begun before (inside ++ Emission.Close ∷ after) path (sym is ∙ none))
 file_held es snapshot given before inside after path bytes is are (inr h) =
-    (h.0, h.1, h.2, file_closed h.0 (Received es) h.1 before inside after path bytes (subst (λ all. ClosedAreWhole h.0 (Received es) h.1 all) is h.3) are)
+    (h.0, h.1, h.2, file_closed h.0 (Received es) h.1 before inside after path bytes (subst (λ all. IsBeginning h.0 (Received es) h.1 all) is h.3) are)
 
 -- ---- the laws
 
@@ -130,11 +129,20 @@ given_is_what_came old new replies talk given r c =
       subst (λ (w : Wish). MayBeGiven (trace_of talk) w.snapshot given) r.wish (given_of (wish_of new) talk given o.obeys c),
     )
 
+pub given_is_a_beginning : GivenIsABeginning
+given_is_a_beginning old new replies talk r =
+    let instance = (restore_task (wish_of old)).who.instance in
+    let o = restore_obeys new (trace_of talk) (stands_after instance FitsRestore (λ (c : Restore). next_in c.session) old new replies talk r.begins r.took) in
+    let begun = begun_of (wish_of new) (trace_of talk) o.obeys in (
+      came_in instance FitsRestore (λ (c : Restore). next_in c.session) old new replies talk r.took,
+      subst (λ given. BeginsSnapshot (trace_of talk) (wish_of old).snapshot given) (sym (given_is talk)) (subst (λ (w : Wish). BeginsSnapshot (trace_of talk) w.snapshot (emitted_in (trace_of talk))) r.wish begun),
+    )
+
 pub closed_is_whole : ClosedIsWhole
 closed_is_whole old new replies talk before inside after path bytes r is are =
     let instance = (restore_task (wish_of old)).who.instance in
     let o = restore_obeys new (trace_of talk) (stands_after instance FitsRestore (λ (c : Restore). next_in c.session) old new replies talk r.begins r.took) in
-    let whole = whole_of (wish_of new) (trace_of talk) o.obeys in (
+    let begun = begun_of (wish_of new) (trace_of talk) o.obeys in (
       came_in instance FitsRestore (λ (c : Restore). next_in c.session) old new replies talk r.took,
-      subst (λ (w : Wish). FileHolds (trace_of talk) w.snapshot path bytes) r.wish (file_held (trace_of talk) (wish_of new).snapshot (emitted_in (trace_of talk)) before inside after path bytes (sym (given_is talk) ∙ is) are whole),
+      subst (λ (w : Wish). FileHolds (trace_of talk) w.snapshot path bytes) r.wish (file_held (trace_of talk) (wish_of new).snapshot (emitted_in (trace_of talk)) before inside after path bytes (sym (given_is talk) ∙ is) are begun),
     )

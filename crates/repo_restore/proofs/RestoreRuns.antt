@@ -1,5 +1,5 @@
 -- The laws of a restore and of a list that are alone with their store.
-use Rattle.std.proofs.Common.{arith, ◌≡◌, ◌⊎◌, ◌++◌, ◌∷◌, [], ℕ, List, length, Option, Some, None, refl, sym, ap, subst, inl, inr, ⊎_elim, length-append, ◌∙◌}
+use Rattle.std.proofs.Common.{arith, ◌≡◌, ◌⊎◌, ◌++◌, ◌∷◌, [], ℕ, Bool, false, List, length, Option, Some, None, refl, sym, ap, subst, inl, inr, ⊎_elim, length-append, ◌∙◌}
 use Rattle.std.proofs.lemmas.Option.{same_Some}
 use Rattle.repo_name.specs.Naming as naming
 use Rattle.repo_name.specs.declared.kinds.BlobKind.{BlobKind}
@@ -11,6 +11,7 @@ use Rattle.repo_index.specs.IndexText.{Says}
 use Rattle.repo_index.specs.declared.facts.Fact.{Fact}
 use Rattle.repo_tree.specs.Laws.{Agree}
 use Rattle.repo_tree.specs.Parts.{Blobs, ListsBy}
+use Rattle.repo_tree.specs.SnapshotText.{IsSnapshotText}
 use Rattle.repo_tree.specs.Spelling.{Joined, Spells, greatest_depth}
 use Rattle.repo_tree.specs.declared.entries.Entry.{Entry}
 use Rattle.repo_tree.specs.declared.nodes.Node.{Node}
@@ -18,6 +19,7 @@ use Rattle.repo_tree.specs.declared.snapshots.Snapshot.{Snapshot}
 use Rattle.repo_tree.proofs.SnapshotLemmas.{snapshot_texts_one}
 use Rattle.repo_tree.proofs.DirectoryLemmas.{lists_grow}
 use Rattle.repo_store.specs.Stores.{Store, Objects}
+use Rattle.repo_session.specs.declared.emissions.Emission.{Emission}
 use Rattle.repo_session.specs.declared.outcomes.End.{End}
 use Rattle.repo_session.specs.declared.outcomes.Outcome.{Outcome}
 use Rattle.repo_session.specs.Alone.{EndsWell}
@@ -25,7 +27,8 @@ use Rattle.repo_session.specs.Askers.{Asker}
 use Rattle.repo_session.specs.Ends.{before_unlock}
 use Rattle.repo_session.specs.Order.{Obeys}
 use Rattle.repo_session.specs.Soundness.{IsHeld, IsSound}
-use Rattle.repo_session.specs.Talks.{Talk, trace_of}
+use Rattle.repo_session.specs.Rebuilding.{rebuilt, Follow}
+use Rattle.repo_session.specs.Talks.{Talk, trace_of, given_in}
 use Rattle.repo_session.specs.Told.{AskedToPut}
 use Rattle.repo_session.specs.Traces.{Trace, Lists, ReadFact}
 use Rattle.repo_session.proofs.Causes.{range_length}
@@ -33,15 +36,18 @@ use Rattle.repo_session.proofs.Concluding.{calm_of, either, ends_well, puts_none
 use Rattle.repo_session.proofs.Descending.{under_grows, needed_grows, broken_grows, root_spells_at, file_spelled, needed_there, unbroken}
 use Rattle.repo_session.proofs.Enumerating.{listed_or_put}
 use Rattle.repo_session.proofs.Growing.{Led, Shares, led}
+use Rattle.repo_session.proofs.Taking.{given_is}
 use Rattle.repo_session.proofs.Telling.{seen_run}
 use Rattle.repo_session.proofs.Unchanging.{OnlyReads, same_run, same_after, puts_nothing, shares_run, sound_throughout}
 use Rattle.repo_session.proofs.Wholeness.{given_held}
 use Rattle.repo_session.proofs.Spoken.{held_agree}
-use Rattle.repo_restore.specs.Laws.{RestoreChangesNothing, ListChangesNothing, IsListedOrMemory, ListEndsWell, IsCompleteOrMemory, RestoreEndsWell}
+use Rattle.repo_restore.specs.Laws.{RestoreChangesNothing, ListChangesNothing, IsListedOrMemory, ListEndsWell, IsCompleteOrMemory, RestoreEndsWell, BeginsSnapshot, AreFirstOf, RestoreGivesFirst}
 use Rattle.repo_restore.specs.Listing.{list_task, ListAllows, ListGives, ListConcludes}
 use Rattle.repo_session.specs.Received.{Received}
 use Rattle.repo_session.specs.Trees.{HasRoot, Under, IsUnindexed}
 use Rattle.repo_restore.specs.Restoring.{Wish, restore_task, HaveLength, IsUneven, IsBadTree, RestoreAllows, RestoreGives, RestoreConcludes}
+use Rattle.repo_restore.proofs.Firsts.{first_is_of_all}
+use Rattle.repo_restore.proofs.Replied.{begun_of}
 
 -- ---- nothing changes
 
@@ -129,6 +135,25 @@ module _ (w : Wish) (from : Store) (sound : IsSound from.objects) (agree : Agree
       let one : s.snapshot ≡ found.1 = snapshot_texts_one found.0 s.snapshot found.1 s.reads found.3 in
       let spells : Spells found.1.version B found.1.tree [] s.entries = subst (λ (x : Snapshot). Spells x.version B x.tree [] s.entries) one s.spells in
       (s.entries, subst (λ v. Spells v B root [] s.entries) found.4 (subst (λ t. Spells found.1.version B t [] s.entries) found.5 spells))
+
+  -- what was given out is the first of what the snapshot spells here
+  spelled_here : (version : ℕ) (root : Name) (text : List ℕ) (snapshot : Snapshot) (entries : List Entry) → HasRoot (trace_of talk) w.snapshot version root → from.objects Kind.Snapshot w.snapshot ≡ Some text → IsSnapshotText text snapshot
+      → Spells snapshot.version B snapshot.tree [] entries → Spells version B root [] entries
+  spelled_here version root text snapshot entries found there reads spells =
+      let same_text : text ≡ found.0 = same_Some text found.0 (sym there ∙ first Kind.Snapshot w.snapshot found.0 (shares.got Kind.Snapshot w.snapshot found.0 found.2.0)) in
+      let one : snapshot ≡ found.1 = snapshot_texts_one found.0 snapshot found.1 (subst (λ (x : List ℕ). IsSnapshotText x snapshot) same_text reads) found.3 in
+      let own : Spells found.1.version B found.1.tree [] entries = subst (λ (s : Snapshot). Spells s.version B s.tree [] entries) one spells in
+      subst (λ v. Spells v B root [] entries) found.4 (subst (λ t. Spells found.1.version B t [] entries) found.5 own)
+
+  first_here : (given : List Emission) (text : List ℕ) (snapshot : Snapshot) (entries : List Entry) → from.objects Kind.Snapshot w.snapshot ≡ Some text → IsSnapshotText text snapshot → Spells snapshot.version B snapshot.tree [] entries
+      → BeginsSnapshot (trace_of talk) w.snapshot given → (within : Bool) × Follow false given within × AreFirstOf within (rebuilt given) entries
+  first_here given text snapshot entries there reads spells (inl none) =
+      subst (λ (g : List Emission). (within : Bool) × Follow false g within × AreFirstOf within (rebuilt g) entries) (sym none) (false, refl, (entries, refl))
+  first_here given text snapshot entries there reads spells (inr begun) =
+      let alike : Agree (Received (trace_of talk)) B = λ k x y r held same_name. agree k x y (received_held k x r) held same_name in
+      let here = spelled_here begun.0 begun.1 text snapshot entries begun.2 there reads spells in
+      let begins = begun.3 in
+      (begins.0, begins.1, first_is_of_all (Received (trace_of talk)) B begun.0 alike begun.1 [] begins.0 (rebuilt given) entries begins.2 here)
 
   fact_length : (fact : Fact) (x : List ℕ) → ReadFact (trace_of talk) fact → fact.kind ≡ BlobKind.Content → B BlobKind.Content x → naming.name x ≡ fact.name → fact.place.length ≡ length x
   fact_length fact x read kind held named =
@@ -218,3 +243,12 @@ restore_ends w from to failed talk outcome text fit versions there low ran few c
     restore_well w (trace_of talk) outcome (own_before w from fit.sound agree talk to is.obeys h)
     (ends_well (restore_task w) (RestoreAllows w.snapshot) (RestoreGives w.snapshot) (RestoreConcludes w.snapshot) (reads_first (restore_task w) (RestoreAllows w.snapshot) (RestoreGives w.snapshot) (λ es t k n x. x)) from fit (text, there) versions (puts_none (restore_task w) (RestoreAllows w.snapshot) (λ es t n x h. h)) (suits_either (RestoreAllows w.snapshot) from (λ es t k n x. x)) talk to outcome is h
     (sound_throughout (restore_task w) (RestoreAllows w.snapshot) (RestoreGives w.snapshot) (restore_never w.snapshot) from talk fit.sound is.obeys) (calm_of failed talk low ran.cause) few)
+
+-- ---- what it gives out on the way
+
+pub restore_gives_first : RestoreGivesFirst
+restore_gives_first w from to failed failing talk next outcome text snapshot entries sound there reads spells ran clash is =
+    let h = led from talk to ran.run in
+    let agree = held_agree from (λ ask. ⊥) (λ x. ⊥) clash from.objects (λ k n x p. inl (n, p)) sound.named in
+    let begun = begun_of w (trace_of talk) is.obeys in
+    first_here w from sound agree talk to is.obeys h (given_in talk) text snapshot entries there reads spells (subst (λ given. BeginsSnapshot (trace_of talk) w.snapshot given) (sym (given_is talk)) begun)

@@ -1,5 +1,5 @@
 -- What holds of a restore and of a list that are alone with their store, and of a restore whatever the replies, by the definitions alone.
-use Rattle.std.specs.Prelude.{◌≡◌, ◌<◌, ◌^◌, ◌-◌, ◌++◌, ◌∷◌, [], ⊤, ℕ, List, length, Option, Some, None, Contains}
+use Rattle.std.specs.Prelude.{◌≡◌, ◌⊎◌, ◌<◌, ◌^◌, ◌-◌, ◌++◌, ◌∷◌, [], ⊤, ℕ, Bool, true, false, List, length, Option, Some, None, Contains}
 use Rattle.repo_name.specs.declared.kinds.Kind.{Kind}
 use Rattle.repo_name.specs.declared.names.Name.{Name}
 use Rattle.repo_wire.specs.declared.messages.Code.{Code}
@@ -7,12 +7,20 @@ use Rattle.repo_wire.specs.declared.messages.Reply.{Reply}
 use Rattle.repo_wire.specs.declared.messages.Request.{Request}
 use Rattle.repo_store.specs.Laws.{greatest_count}
 use Rattle.repo_store.specs.Stores.{Store}
+use Rattle.repo_tree.specs.declared.entries.Entry.{Entry}
+use Rattle.repo_tree.specs.declared.snapshots.Snapshot.{Snapshot}
+use Rattle.repo_tree.specs.Laws.{Agree}
+use Rattle.repo_tree.specs.Parts.{Blobs}
+use Rattle.repo_tree.specs.SnapshotText.{IsSnapshotText}
+use Rattle.repo_tree.specs.Spelling.{Spells, file_entry}
 use Rattle.repo_session.specs.Versions.{upto}
 use Rattle.repo_session.specs.Alone.{IsFit, AreVersionsUpto, IsSent, IsSpoken, NoClash}
 use Rattle.repo_session.specs.Askers.{Asker}
 use Rattle.repo_session.specs.Clients.{IsObedient}
 use Rattle.repo_session.specs.Ends.{before_unlock}
+use Rattle.repo_session.specs.Rebuilding.{rebuilt, Follow}
 use Rattle.repo_session.specs.Sessions.{next_in, ended_in}
+use Rattle.repo_session.specs.Soundness.{IsHeld, IsSound}
 use Rattle.repo_session.specs.Received.{Received}
 use Rattle.repo_session.specs.Talks.{Talk, trace_of, given_in, TalkRan, MayBeAhead, TookEach, CameIn}
 use Rattle.repo_session.specs.Traces.{Trace, emitted_in}
@@ -21,6 +29,7 @@ use Rattle.repo_session.specs.declared.emissions.Emission.{Emission}
 use Rattle.repo_session.specs.declared.outcomes.End.{End}
 use Rattle.repo_session.specs.declared.outcomes.Outcome.{Outcome}
 use Rattle.repo_restore.specs.Listing.{list_task, ListAllows, ListGives, ListConcludes}
+use Rattle.repo_restore.specs.Beginnings.{SpellsFirst, IsBeginning}
 use Rattle.repo_restore.specs.Restoring.{Wish, restore_task, MayGive, IsFileAt, IsRestored, RestoreAllows, RestoreGives, RestoreConcludes}
 use Rattle.repo_restore.specs.RestoreObedience.{wish_of}
 use Rattle.repo_restore.specs.RestoreStates.{FitsRestore}
@@ -88,6 +97,14 @@ abbrev pub GivenIsWhatCame : Type 0
 GivenIsWhatCame = (old new : Restore) (replies : List Reply) (talk : Talk) (given : Emission) → RestoreTook old replies talk new → Contains (given_in talk) given
     → CameIn replies (trace_of talk) × MayBeGiven (trace_of talk) (wish_of old).snapshot given
 
+-- by what was received, nothing was given out, or a beginning of what the snapshot's tree spells
+abbrev pub BeginsSnapshot : Trace → Name → List Emission → Type 0
+BeginsSnapshot es snapshot given = (given ≡ []) ⊎ ((version : ℕ) × (root : Name) × HasRoot es snapshot version root × IsBeginning version (Received es) root given)
+
+-- And all that it gave out is that: no entry is left out before another, none comes twice, and the file that is open has its first bytes.
+abbrev pub GivenIsABeginning : Type 0
+GivenIsABeginning = (old new : Restore) (replies : List Reply) (talk : Talk) → RestoreTook old replies talk new → CameIn replies (trace_of talk) × BeginsSnapshot (trace_of talk) (wish_of old).snapshot (given_in talk)
+
 -- by what was received, the file at this path has these bytes where the snapshot is restored
 abbrev pub FileHolds : Trace → Name → List (List ℕ) → List ℕ → Type 0
 FileHolds es snapshot path bytes = (version : ℕ) × (root : Name) × HasRoot es snapshot version root × IsFileAt version (Received es) root path bytes
@@ -96,3 +113,22 @@ FileHolds es snapshot path bytes = (version : ℕ) × (root : Name) × HasRoot e
 abbrev pub ClosedIsWhole : Type 0
 ClosedIsWhole = (old new : Restore) (replies : List Reply) (talk : Talk) (before inside after : List Emission) (path : List (List ℕ)) (bytes : List ℕ) → RestoreTook old replies talk new
     → given_in talk ≡ before ++ Emission.File path ∷ (inside ++ Emission.Close ∷ after) → ArePieces inside bytes → CameIn replies (trace_of talk) × FileHolds (trace_of talk) (wish_of old).snapshot path bytes
+
+-- ---- what is first
+
+-- these entries are the first of others; where a file is open behind them, the last one has the first bytes of its own
+abbrev pub AreFirstOf : Bool → List Entry → List Entry → Type 0
+AreFirstOf false first all = (rest : List Entry) × (all ≡ first ++ rest)
+AreFirstOf true first all = (before : List Entry) × (path : List (List ℕ)) × (bytes : List ℕ) × (more : List ℕ) × (rest : List Entry) × (first ≡ before ++ file_entry path bytes ∷ []) × (all ≡ before ++ file_entry path (bytes ++ more) ∷ rest)
+
+-- Where B and C agree, what a tree spells first in B is the first of what it spells in C: so is what a restore gave out by the blobs that it received, for
+-- whoever has all of them.
+abbrev pub FirstIsOfAll : Blobs → Blobs → Type 0
+FirstIsOfAll B C = (version : ℕ) → Agree B C → (t : Name) (path : List (List ℕ)) (within : Bool) (first all : List Entry) → SpellsFirst version B t path within first → Spells version C t path all → AreFirstOf within first all
+
+-- So a restore alone with a sound store where nothing clashes, however far it came, gave out the first of the entries that its snapshot spells there; where a
+-- file is open, the first bytes of it.
+abbrev pub RestoreGivesFirst : Type 0
+RestoreGivesFirst = (w : Wish) (from to : Store) (failed failing : ℕ) (talk : Talk) (next : Option Request) (outcome : Option Outcome) (text : List ℕ) (snapshot : Snapshot) (entries : List Entry)
+    → IsSound from.objects → from.objects Kind.Snapshot w.snapshot ≡ Some text → IsSnapshotText text snapshot → Spells snapshot.version (IsHeld from.objects) snapshot.tree [] entries → TalkRan from failed talk to failing
+    → NoClash (IsSpoken (λ x. ⊥) from (IsSent [] None)) → IsRestore w next outcome (trace_of talk) → (within : Bool) × Follow false (given_in talk) within × AreFirstOf within (rebuilt (given_in talk)) entries

@@ -2,10 +2,10 @@
 pub mod Listing
 pub mod ListStates
 pub mod ListObedience
+pub mod Beginnings
 pub mod Restoring
 pub mod Walks
 pub mod Nodes
-pub mod Flowing
 pub mod Walking
 pub mod RestoreStates
 pub mod RestoreObedience

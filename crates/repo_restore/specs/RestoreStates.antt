@@ -13,7 +13,7 @@ use Rattle.repo_session.specs.Catalogs.{Catalogs, IsAll}
 use Rattle.repo_session.specs.Jobs.{StepsOn, MayStep, task_under, GivesBy}
 use Rattle.repo_session.specs.Listings.{IsOfKnownVersion}
 use Rattle.repo_session.specs.Readings.{KnowsIndexes}
-use Rattle.repo_session.specs.Rebuilding.{rebuilt, Follow, AreWhole}
+use Rattle.repo_session.specs.Rebuilding.{rebuilt, AreWhole}
 use Rattle.repo_session.specs.Sessions.{FitsSession}
 use Rattle.repo_session.specs.Traces.{Trace, emitted_in, giving, silent, Exchange}
 use Rattle.repo_session.specs.declared.versions.Versions.{Versions}
@@ -22,7 +22,6 @@ use Rattle.repo_restore.specs.declared.restores.RestoreJob.{RestoreJob}
 use Rattle.repo_restore.specs.declared.restores.Stage.{Stage}
 use Rattle.repo_restore.specs.declared.walks.Turn.{Turn}
 use Rattle.repo_restore.specs.declared.walks.Walk.{Walk}
-use Rattle.repo_restore.specs.Flowing.{is_open}
 use Rattle.repo_session.specs.Received.{Received}
 use Rattle.repo_session.specs.Trees.{HasRoot}
 use Rattle.repo_restore.specs.Restoring.{counted, restore_rule}
@@ -64,7 +63,6 @@ pub record IsWalking (j : RestoreJob) (version : ℕ) (fact : Fact) (es : Trace)
   pub indexes : Catalogs j.catalog true es
   pub all : IsAll j.catalog
   pub waits : WaitsForBlob j.catalog.lookup version (Received es) root j.walk fact (emitted_in es)
-  pub flows : Follow false (emitted_in es) (is_open fact.kind)
 
 -- what is known at each stage where this is pending
 abbrev pub KnowsAtStage : RestoreJob → Stage → Ask → Trace → Type 0
@@ -94,7 +92,7 @@ RestoreStays old new = (new.given ≡ old.given) × ((ask : Ask) (es : Trace) �
 
 -- what is known by what comes next of the walk
 abbrev pub RestoreTurnIs : List Fact → Walk → ℕ → Name → Trace → Turn → Type 0
-RestoreTurnIs facts walk version root es (Turn.Ask fact) = WaitsForBlob facts version (Received es) root walk fact (emitted_in es) × Follow false (emitted_in es) (is_open fact.kind)
+RestoreTurnIs facts walk version root es (Turn.Ask fact) = WaitsForBlob facts version (Received es) root walk fact (emitted_in es)
 RestoreTurnIs facts walk version root es (Turn.Complete count) = Spells version (Received es) root [] (rebuilt (emitted_in es)) × (count ≡ counted (length (rebuilt (emitted_in es)))) × AreWhole (emitted_in es)
 RestoreTurnIs facts walk version root es (Turn.Ended end) = WalkEnds facts version (Received es) root end
 

@@ -13,7 +13,7 @@ use Rattle.repo_tree.specs.Spelling.{Spells, dir_entry}
 use Rattle.repo_session.specs.declared.emissions.Emission.{Emission}
 use Rattle.repo_session.specs.declared.outcomes.End.{End}
 use Rattle.repo_session.specs.Ends.{blob_thing}
-use Rattle.repo_session.specs.Rebuilding.{rebuilt}
+use Rattle.repo_session.specs.Rebuilding.{rebuilt, Follow}
 use Rattle.repo_session.specs.Traces.{Each, Trace}
 use Rattle.repo_restore.specs.declared.nodes.Begun.{Begun}
 use Rattle.repo_restore.specs.declared.nodes.Level.{Level}
@@ -23,9 +23,10 @@ use Rattle.repo_restore.specs.declared.steps.Stop.{Stop}
 use Rattle.repo_index.specs.Lookups.{IsLeast}
 use Rattle.repo_restore.specs.Nodes.{WaitsFor, DirBegins, FileBegins}
 use Rattle.repo_session.specs.Trees.{Under, IsNeeded, IsBroken}
-use Rattle.repo_restore.specs.Restoring.{counted, ClosedAreWhole}
+use Rattle.repo_restore.specs.Beginnings.{SpellsFirst}
+use Rattle.repo_restore.specs.Restoring.{counted}
 use Rattle.repo_session.specs.Catalogs.{IsBlobNowhere}
-use Rattle.repo_restore.specs.Walks.{Sums, PartIs, WalkGives, WalkGave, IsOpenLevel, DirectoryIsBegun, IsFile, LeadsOn, IsWriting, AtOpen}
+use Rattle.repo_restore.specs.Walks.{Sums, PartIs, WalkGives, is_open, WalkGave, WalkStopped, IsOpenLevel, DirectoryIsBegun, IsFile, LeadsOn, IsWriting, AtOpen}
 use Rattle.repo_session.specs.Received.{Received}
 use Rattle.repo_name.specs.Naming as naming
 
@@ -39,7 +40,14 @@ pub record LevelStands (facts : List Fact) (version : ℕ) (B : Blobs) (root fir
   pub inside : List Entry
   pub opened : IsOpenLevel version B root first level.tree level.path level.nodes.items level.next begun inside
   pub whole : rebuilt (old ++ out) ≡ before ++ inside
-  pub given : WalkGave facts version B root old out
+  pub given : WalkGave facts version B root false old out
+
+-- a level at which a walk ends: behind what was given out before comes what its directory spells first
+pub record LevelEnds (facts : List Fact) (version : ℕ) (B : Blobs) (root first : Name) (level : Level) (before : List Entry) (old out : List Emission) : Type 0 where
+  pub inside : List Entry
+  pub begins : SpellsFirst version B first level.path false inside
+  pub whole : rebuilt (old ++ out) ≡ before ++ inside
+  pub given : WalkGave facts version B root false old out
 
 -- a blob that a node waits for, with what was given out up to it
 abbrev pub WaitsAs : List Fact → NodeKind → List (List ℕ) → Fact → List Entry → List Emission → Type 0
@@ -55,7 +63,7 @@ pub record WaitsIn (facts : List Fact) (version : ℕ) (B : Blobs) (root first :
   pub inside : List Entry
   pub opened : IsOpenLevel version B root first level.tree level.path level.nodes.items level.next at inside
   pub waits : WaitsAs facts node.what (level.path ++ node.name ∷ []) fact (before ++ inside) (old ++ out)
-  pub given : WalkGave facts version B root old out
+  pub given : WalkGave facts version B root (is_open fact.kind) old out
 
 -- a level all of whose nodes were given out, and that goes on in a part which waits
 pub record WaitsBehind (facts : List Fact) (version : ℕ) (B : Blobs) (root first : Name) (level : Level) (before : List Entry) (old out : List Emission) (fact : Fact) : Type 0 where
@@ -82,16 +90,16 @@ abbrev pub NextBegins : List Fact → ℕ → Blobs → Name → Name → Level 
 NextBegins facts version B root first level before old out now Begun.Done = LevelStands facts version B root first level (length level.nodes.items) before old out × (level.next ≡ None)
 NextBegins facts version B root first level before old out now (Begun.Waits fact) = WaitsIn facts version B root first level now before old out fact
 NextBegins facts version B root first level before old out now (Begun.GoesOn fact) = WaitsBehind facts version B root first level before old out fact
-NextBegins facts version B root first level before old out now (Begun.Ended end) = WalkEnds facts version B root end × WalkGave facts version B root old out
+NextBegins facts version B root first level before old out now (Begun.Ended end) = WalkEnds facts version B root end × LevelEnds facts version B root first level before old out
 
 -- where a walk stops
 abbrev pub StopsAt : List Fact → ℕ → Blobs → Name → List Level → List Emission → List Emission → ℕ → ℕ → Begun → Type 0
-StopsAt facts version B root levels old out depth begun Begun.Done = Spells version B root [] (rebuilt (old ++ out)) × WalkGave facts version B root old out
+StopsAt facts version B root levels old out depth begun Begun.Done = Spells version B root [] (rebuilt (old ++ out)) × WalkGave facts version B root false old out
 StopsAt facts version B root levels old out depth begun (Begun.Waits fact) = (level : Level) × (first : Name) × (before : List Entry) × (slice_get levels depth ≡ Some level)
     × LeadsOn version B root root [] [] (take depth levels) first level.path before × WaitsIn facts version B root first level begun before old out fact
 StopsAt facts version B root levels old out depth begun (Begun.GoesOn fact) = (level : Level) × (first : Name) × (before : List Entry) × (slice_get levels depth ≡ Some level)
     × LeadsOn version B root root [] [] (take depth levels) first level.path before × WaitsBehind facts version B root first level before old out fact
-StopsAt facts version B root levels old out depth begun (Begun.Ended end) = WalkEnds facts version B root end × WalkGave facts version B root old out
+StopsAt facts version B root levels old out depth begun (Begun.Ended end) = WalkEnds facts version B root end × WalkStopped facts version B root old out
 
 -- a level of which so many nodes are begun
 abbrev pub with_begun : Level → ℕ → Level
@@ -143,18 +151,18 @@ abbrev pub WaitsByKind : BlobKind → List Fact → ℕ → Blobs → Name → L
 WaitsByKind BlobKind.Content facts version B root levels sent onward fact emitted = FileWaits facts version B root levels sent fact emitted
 WaitsByKind BlobKind.Tree facts version B root levels sent onward fact emitted = TreeWaitsBy onward version B root levels fact emitted
 
--- a walk waits for a blob, after all that was given out, each file that was closed whole
+-- a walk waits for a blob, after all that was given out, which stands in order
 pub record WalkWaits (facts : List Fact) (version : ℕ) (B : Blobs) (root : Name) (levels : List Level) (sent : ℕ) (onward : Bool) (entries : ℕ) (fact : Fact) (emitted : List Emission) : Type 0 where
   pub least : IsLeast facts fact.kind fact.name fact.place
   pub count : entries ≡ counted (length (rebuilt emitted))
   pub waits : WaitsByKind fact.kind facts version B root levels sent onward fact emitted
-  pub closed : ClosedAreWhole version B root emitted
+  pub order : Follow false emitted (is_open fact.kind)
 
 -- what comes of a step of a walk
 abbrev pub TurnGives : List Fact → ℕ → Blobs → Name → List Level → ℕ → Bool → ℕ → List Emission → List Emission → Turn → Type 0
 TurnGives facts version B root levels sent onward entries old out (Turn.Ask fact) = WalkWaits facts version B root levels sent onward entries fact (old ++ out) × Each (WalkGives facts version B root) out
-TurnGives facts version B root levels sent onward entries old out (Turn.Complete count) = Spells version B root [] (rebuilt (old ++ out)) × (count ≡ counted (length (rebuilt (old ++ out)))) × WalkGave facts version B root old out
-TurnGives facts version B root levels sent onward entries old out (Turn.Ended end) = WalkEnds facts version B root end × WalkGave facts version B root old out
+TurnGives facts version B root levels sent onward entries old out (Turn.Complete count) = Spells version B root [] (rebuilt (old ++ out)) × (count ≡ counted (length (rebuilt (old ++ out)))) × WalkGave facts version B root false old out
+TurnGives facts version B root levels sent onward entries old out (Turn.Ended end) = WalkEnds facts version B root end × WalkStopped facts version B root old out
 
 -- ---- over the code's own type
 
@@ -192,7 +200,7 @@ BeginsNext facts level begun out more now what = (gs : Trace) (version : ℕ) (r
 -- wherever the levels are open, it goes on to the next stop
 abbrev pub GoesToStop : List Fact → List Level → ℕ → List Emission → List Emission → ℕ → ℕ → Begun → Type 0
 GoesToStop facts levels begun out more depth now what = (gs : Trace) (version : ℕ) (root : Name) (old : List Emission)
-    → AtOpen version (Received gs) root levels (length levels) begun (rebuilt (old ++ out)) → WalkGave facts version (Received gs) root old out
+    → AtOpen version (Received gs) root levels (length levels) begun (rebuilt (old ++ out)) → WalkGave facts version (Received gs) root false old out
     → StopsAt facts version (Received gs) root levels old more depth now what
 
 -- the content of the file that the last level has begun

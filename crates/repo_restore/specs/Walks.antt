@@ -1,5 +1,5 @@
 -- Where a walk over trees stands.
-use Rattle.std.specs.Prelude.{◌≡◌, ◌≢◌, ◌<◌, ◌⊎◌, ◌+◌, ◌++◌, ◌∷◌, [], ⊤, ℕ, zero, suc, List, length, flat_map, take, drop, slice_get, Option, Some, None, Contains}
+use Rattle.std.specs.Prelude.{◌≡◌, ◌≢◌, ◌<◌, ◌⊎◌, ◌+◌, ◌++◌, ◌∷◌, [], ⊤, ℕ, zero, suc, Bool, true, false, List, length, flat_map, take, drop, slice_get, Option, Some, None, Contains}
 use Rattle.repo_name.specs.declared.kinds.BlobKind.{BlobKind}
 use Rattle.repo_name.specs.declared.names.Name.{Name}
 use Rattle.repo_pack.specs.declared.places.Place.{Place}
@@ -13,12 +13,12 @@ use Rattle.repo_tree.specs.TreeText.{AreInOrder}
 use Rattle.repo_tree.specs.Spelling.{Joined, NodesSpell, Spells, greatest_depth, dir_entry}
 use Rattle.repo_session.specs.declared.emissions.Emission.{Emission}
 use Rattle.repo_session.specs.Catalogs.{IsBlobNowhere}
-use Rattle.repo_session.specs.Rebuilding.{rebuilt}
+use Rattle.repo_session.specs.Rebuilding.{rebuilt, Follow}
 use Rattle.repo_session.specs.Traces.{Each}
 use Rattle.repo_session.specs.Trees.{Under, IsNodeAt}
 use Rattle.repo_restore.specs.declared.nodes.Filed.{Filed}
 use Rattle.repo_restore.specs.declared.nodes.Level.{Level}
-use Rattle.repo_restore.specs.Restoring.{ClosedAreWhole}
+use Rattle.repo_restore.specs.Beginnings.{IsBeginning}
 
 -- the least places of content blobs of these names have so many bytes
 abbrev pub Sums : List Fact → List Name → ℕ → Type 0
@@ -33,10 +33,20 @@ WalkGives facts version B root (Emission.File path) = (size : ℕ) × (content :
 WalkGives facts version B root (Emission.Piece bytes) = B BlobKind.Content bytes
 WalkGives facts version B root Emission.Close = ⊤
 
--- what a walk gave out behind what was given before: each part is one that it may give out, and each file that was closed by then is whole
-pub record WalkGave (facts : List Fact) (version : ℕ) (B : Blobs) (root : Name) (old out : List Emission) : Type 0 where
+-- a file is open where a content blob is waited for
+abbrev pub is_open : BlobKind → Bool
+is_open BlobKind.Content = true
+is_open BlobKind.Tree = false
+
+-- what a walk gave out behind what was given before: each part is one that it may give out, and all of it stands in order, with a file open behind it or none
+pub record WalkGave (facts : List Fact) (version : ℕ) (B : Blobs) (root : Name) (within : Bool) (old out : List Emission) : Type 0 where
   pub each : Each (WalkGives facts version B root) out
-  pub closed : ClosedAreWhole version B root (old ++ out)
+  pub order : Follow false (old ++ out) within
+
+-- what it gave out where it ends: all of it is a beginning of what the root spells
+pub record WalkStopped (facts : List Fact) (version : ℕ) (B : Blobs) (root : Name) (old out : List Emission) : Type 0 where
+  pub each : Each (WalkGives facts version B root) out
+  pub begins : IsBeginning version B root (old ++ out)
 
 -- what is left of a size after so many bytes, if they aren't more
 abbrev pub LeftOf : Option ℕ → ℕ → ℕ → Type 0

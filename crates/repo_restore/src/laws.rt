@@ -1,7 +1,9 @@
 //! What holds of a restore and of a list that are alone with their store, and of a restore whatever the replies, by the
 //! definitions alone. Each function is empty, and its contract is the law.
 
-ghost use Rattle.repo_restore.specs.Laws.{RestoreChangesNothing, ListChangesNothing, ListEndsWell, RestoreEndsWell, RestoredIsWhatCame, GivenIsWhatCame, ClosedIsWhole};
+ghost use Rattle.repo_restore.specs.Laws.{RestoreChangesNothing, ListChangesNothing, ListEndsWell, RestoreEndsWell, RestoredIsWhatCame, GivenIsWhatCame, GivenIsABeginning, FirstIsOfAll, RestoreGivesFirst, ClosedIsWhole};
+
+use repo_tree::laws::BlobSet;
 
 /// A restore changes no object of its store, also where the store has gone one step further than it.
 pub fn restore_changes_nothing()
@@ -38,8 +40,28 @@ pub fn given_is_what_came()
     ensures { GivenIsWhatCame }
 {}
 
+/// And whatever its end, all that it gave out is a beginning of what its snapshot's tree spells in the blobs that were
+/// received: of the root and of each directory that is open the first nodes whole, in the tree's order, and then what the next
+/// one spells first; of a file that is open the first blobs. So nothing is left out before what was given out, nothing comes
+/// twice, and a directory comes before what is in it.
+pub fn given_is_a_beginning()
+    ensures { GivenIsABeginning }
+{}
+
 /// And whatever its end, each file that it closed is whole: the pieces between its beginning and its close have just the bytes
 /// that a tree which was received lists at its path, in the blobs that were received.
 pub fn closed_is_whole()
     ensures { ClosedIsWhole }
+{}
+
+/// What a tree spells first in some blobs is the first of all that it spells in others, where no two blobs of one kind and
+/// name differ, one in each set.
+pub fn first_is_of_all<B: BlobSet, C: BlobSet>()
+    ensures { FirstIsOfAll B.has C.has }
+{}
+
+/// So a restore that is alone with a sound store where nothing clashes, however far it came, gave out the first of the entries
+/// that its snapshot spells there; where a file is open, the first bytes of it.
+pub fn restore_gives_first()
+    ensures { RestoreGivesFirst }
 {}

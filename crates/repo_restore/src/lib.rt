@@ -9,12 +9,13 @@
 //! the bytes that were read under its name say. `Complete` comes only where what was given out is what the
 //! snapshot's tree spells in the blobs that were received, which have the names that indexes which were read give
 //! them; each part given out is a piece of such a blob, or a directory or a file that a tree which was received has
-//! at its path; each file that is closed, however the restore ends, has just the bytes that such a tree lists there; and all
-//! this holds over any replies ([`restored_is_what_came`], [`given_is_what_came`], [`closed_is_whole`]). Not promised: that
-//! a store answers, or that a list or a restore ends well.
+//! at its path; all that was given out so far, however the restore ends, is a beginning of what the snapshot's tree spells;
+//! each file that is closed has just the bytes that a tree lists there; and all this holds over any replies
+//! ([`restored_is_what_came`], [`given_is_what_came`], [`given_is_a_beginning`], [`closed_is_whole`]). Not promised: that a
+//! store answers, or that a list or a restore ends well.
 //!
-//! The definitions stand in `specs/`: `Listing` (when a list may be told), `Restoring` (what a restore may give out and
-//! tell, over the trees of repo_session's `Trees`); and what is known on the way: `ListStates`, `Walks`, `Nodes`
+//! The definitions stand in `specs/`: `Listing` (when a list may be told), `Beginnings` (what a tree spells first),
+//! `Restoring` (what a restore may give out and tell, over the trees of repo_session's `Trees`); and what is known on the way: `ListStates`, `Walks`, `Nodes`
 //! and `Walking` (where a walk over trees stands, and what its steps give), `RestoreStates`.
 #![tactic(auto)]
 
@@ -26,8 +27,9 @@ mod steps;
 mod walks;
 
 pub use laws::{
-    closed_is_whole, given_is_what_came, list_changes_nothing, list_ends_well,
-    restore_changes_nothing, restore_ends_well, restored_is_what_came,
+    closed_is_whole, first_is_of_all, given_is_a_beginning, given_is_what_came,
+    list_changes_nothing, list_ends_well, restore_changes_nothing, restore_ends_well,
+    restore_gives_first, restored_is_what_came,
 };
 pub use listings::SnapshotList;
 pub use restores::Restore;

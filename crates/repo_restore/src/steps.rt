@@ -1,10 +1,9 @@
 //! The steps of a walk over open directories.
 
-ghost use Rattle.std.specs.Prelude.{◌≡◌, ◌+◌, ◌++◌, ◌∷◌, [], ℕ, Bool, false, length, slice_get, Some, IfOk};
+ghost use Rattle.std.specs.Prelude.{◌≡◌, ◌+◌, ◌++◌, ◌∷◌, [], ℕ, length, slice_get, Some, IfOk};
 ghost use Rattle.repo_session.specs.declared.emissions.Emission.{Emission};
-ghost use Rattle.repo_session.specs.Rebuilding.{rebuilt, Follow};
+ghost use Rattle.repo_session.specs.Rebuilding.{rebuilt};
 ghost use Rattle.repo_restore.specs.declared.nodes.Level.{Level};
-ghost use Rattle.repo_restore.specs.Flowing.{FlowsTo};
 ghost use Rattle.repo_restore.specs.Restoring.{counted};
 ghost use Rattle.repo_restore.specs.Walking.{NodeBegins, BeginsNext, GoesToStop};
 
@@ -84,8 +83,7 @@ fn begin_next(
     begun: usize,
     out: &mut Vec<Emission>,
 ) -> Result<Next, AllocError>
-    ensures begins { IfOk result (λ next. BeginsNext lookup.now level.now begun out.old.items out.new.items next.begun next.what) }
-    ensures flows { IfOk result (λ next. (before : Bool) → Follow before out.old.items false → FlowsTo before out.new.items next.what) }
+    ensures { IfOk result (λ next. BeginsNext lookup.now level.now begun out.old.items out.new.items next.begun next.what) }
 {
     for at in begun..level.nodes.len() {
         match begin_node(alloc, lookup, level, &level.nodes[at], out)? {
@@ -137,8 +135,7 @@ pub fn go_on(
     begun: usize,
     out: &mut Vec<Emission>,
 ) -> Result<Stop, AllocError>
-    ensures stops { IfOk result (λ stop. GoesToStop lookup.now levels.now begun out.old.items out.new.items stop.depth stop.begun stop.what) }
-    ensures flows { IfOk result (λ stop. (before : Bool) → Follow before out.old.items false → FlowsTo before out.new.items stop.what) }
+    ensures { IfOk result (λ stop. GoesToStop lookup.now levels.now begun out.old.items out.new.items stop.depth stop.begun stop.what) }
 {
     let mut begun = begun;
     for up in 0..levels.len() {

@@ -1,6 +1,6 @@
 //! A walk over the trees of a snapshot, node by node.
 
-ghost use Rattle.std.specs.Prelude.{◌≡◌, ◌≢◌, ◌⊎◌, ◌≤◌, ◌<◌, ◌+◌, ◌++◌, ◌∷◌, [], ℕ, List, Bool, true, false, length, take, slice_get, Some, ◌↔◌, option_map, IfOk, IfErr, OnErr, IsTrue, IsFalse};
+ghost use Rattle.std.specs.Prelude.{◌≡◌, ◌≢◌, ◌⊎◌, ◌≤◌, ◌<◌, ◌+◌, ◌++◌, ◌∷◌, [], ℕ, List, true, false, length, take, slice_get, Some, ◌↔◌, option_map, IfOk, IfErr, OnErr, IsTrue, IsFalse};
 ghost use Rattle.repo_tree.specs.declared.faults.TreeError.{TreeError};
 ghost use Rattle.std.specs.Ordering.{nat_cmp};
 ghost use Rattle.std.specs.declared.cmp.Ordering.{Ordering};
@@ -16,7 +16,6 @@ ghost use Rattle.repo_tree.specs.Spelling.{greatest_depth};
 ghost use Rattle.repo_session.specs.declared.emissions.Emission.{Emission};
 ghost use Rattle.repo_session.specs.Traces.{Each, Trace};
 ghost use Rattle.repo_restore.specs.declared.nodes.Level.{Level};
-ghost use Rattle.repo_restore.specs.Flowing.{is_open, FlowsTo, TurnFlows};
 ghost use Rattle.repo_session.specs.Received.{Received};
 ghost use Rattle.repo_restore.specs.Walking.{with_begun, WaitsForBlob, Turns, NodeHasBegun, IsNextPath, IsLastPath, MayFollow, IsTextBy, IsOpenContent, TurnsAtStop, EntersTree, TakesContent, TakesBlob};
 
@@ -220,8 +219,7 @@ impl Walk {
 
     /// Looks up the tree of the root. It takes no memory.
     pub fn start(&self, lookup: &Lookup, root: Name) -> Turn
-        ensures turns { (gs : Trace) (version : ℕ) → self.now.levels.items ≡ [] → self.now.entries ≡ 0 → self.now.onward ≡ false → Turns lookup.now version (Received gs) root self.now [] [] result }
-        ensures flows { TurnFlows false [] result }
+        ensures { (gs : Trace) (version : ℕ) → self.now.levels.items ≡ [] → self.now.entries ≡ 0 → self.now.onward ≡ false → Turns lookup.now version (Received gs) root self.now [] [] result }
     {
         match lookup.find(BlobKind::Tree, &root) {
             Some(place) => Turn::Ask(Fact {
@@ -235,8 +233,7 @@ impl Walk {
 
     /// Stops where the steps did.
     fn stop_at(&mut self, stop: Stop, out: &[Emission]) -> Turn
-        ensures turns { TurnsAtStop stop out.now self.old result self.new }
-        ensures flows { (before : Bool) → FlowsTo before out.now stop.what → TurnFlows before out.now result }
+        ensures { TurnsAtStop stop out.now self.old result self.new }
     {
         let entries = self.entries.saturating_add(count_entries(out));
         match stop.what {
@@ -282,7 +279,6 @@ impl Walk {
         out: &mut Vec<Emission>,
     ) -> Result<Turn, AllocError>
         ensures ok { IfOk result (λ turn. EntersTree false lookup.now tree nodes.items next self.old out.old.items out.new.items turn self.new) }
-        ensures flows { IfOk result (λ turn. out.old.items ≡ [] → TurnFlows false out.new.items turn) }
         ensures levels { OnErr result (self.new.levels.items ≡ self.old.levels.items) }
         ensures sent { OnErr result (self.new.sent ≡ self.old.sent) }
         ensures onward { OnErr result (self.new.onward ≡ self.old.onward) }
@@ -329,7 +325,6 @@ impl Walk {
         out: &mut Vec<Emission>,
     ) -> Result<Turn, AllocError>
         ensures ok { IfOk result (λ turn. EntersTree true lookup.now tree nodes.items next self.old out.old.items out.new.items turn self.new) }
-        ensures flows { IfOk result (λ turn. out.old.items ≡ [] → TurnFlows false out.new.items turn) }
         ensures levels { OnErr result (self.new.levels.items ≡ self.old.levels.items) }
         ensures sent { OnErr result (self.new.sent ≡ self.old.sent) }
         ensures onward { OnErr result (self.new.onward ≡ self.old.onward) }
@@ -367,7 +362,6 @@ impl Walk {
         out: &mut Vec<Emission>,
     ) -> Result<Turn, AllocError>
         ensures ok { IfOk result (λ turn. TakesContent lookup.now bytes.now self.old out.old.items out.new.items turn self.new) }
-        ensures flows { IfOk result (λ turn. out.old.items ≡ [] → TurnFlows true out.new.items turn) }
         ensures levels { OnErr result (self.new.levels.items ≡ self.old.levels.items) }
         ensures sent { OnErr result (self.new.sent ≡ self.old.sent) }
         ensures onward { OnErr result (self.new.onward ≡ self.old.onward) }
@@ -402,7 +396,6 @@ impl Walk {
         out: &mut Vec<Emission>,
     ) -> Result<Turn, AllocError>
         ensures ok { IfOk result (λ turn. EntersTree self.old.onward lookup.now tree nodes.items next self.old out.old.items out.new.items turn self.new) }
-        ensures flows { IfOk result (λ turn. out.old.items ≡ [] → TurnFlows false out.new.items turn) }
         ensures levels { OnErr result (self.new.levels.items ≡ self.old.levels.items) }
         ensures sent { OnErr result (self.new.sent ≡ self.old.sent) }
         ensures onward { OnErr result (self.new.onward ≡ self.old.onward) }
@@ -425,7 +418,6 @@ impl Walk {
         out: &mut Vec<Emission>,
     ) -> Result<Turn, AllocError>
         ensures ok { IfOk result (λ turn. TakesBlob version lookup.now fact bytes.now self.old out.old.items out.new.items turn self.new) }
-        ensures flows { IfOk result (λ turn. out.old.items ≡ [] → TurnFlows (is_open fact.kind) out.new.items turn) }
         ensures levels { OnErr result (self.new.levels.items ≡ self.old.levels.items) }
         ensures sent { OnErr result (self.new.sent ≡ self.old.sent) }
         ensures onward { OnErr result (self.new.onward ≡ self.old.onward) }

@@ -1,4 +1,4 @@
-use Rattle.std.proofs.Common.{false, [], ◌∷◌, Vec, Global, refl, sym, ap, subst, inl, ◌∙◌}
+use Rattle.std.proofs.Common.{[], ◌∷◌, Vec, Global, refl, sym, ap, subst, inl, ◌∙◌}
 use Rattle.repo_session.specs.declared.emissions.Emission.{Emission}
 use Rattle.repo_session.specs.Jobs.{task_under}
 use Rattle.repo_session.specs.Traces.{Exchange, giving}
@@ -32,13 +32,13 @@ returns-in-All-clause-ok c = λ holding es w obeys asked.
     let known = subst S c.requires asked.knows in
     let reads = (rw c.in-All.is at c.in_ok-next.ensures.ok) (task_under (restore_rule j.snapshot) holding.who) holding.token e.emitted es w asked.may known.0 in
     let before = before_on j.walk j.given.items e es same known.2 in
-    let turns = c.start-turn.ensures.turns (e ∷ es) c.args.version before.no_levels before.no_entries before.not_onward in
+    let turns = c.start-turn.ensures (e ∷ es) c.args.version before.no_levels before.no_entries before.not_onward in
     c.go_on.ensures.steps holding.who holding.token e es w (inl (same ∙ known.2.none_given)) (record {
       root = tree;
       found = root_grows e es j.snapshot c.args.version tree known.1;
       indexes = reads.0;
       all = reads.1;
-      turns = turn_is c.read_on.new.self.lookup j.walk c.args.version tree (e ∷ es) [] [] c.start-turn.result false before.nothing turns refl c.start-turn.ensures.flows;
+      turns = turn_is c.read_on.new.self.lookup j.walk c.args.version tree (e ∷ es) [] [] c.start-turn.result before.nothing turns;
     })
 
 pub returns-in-Bad-clause-ok : goal.returns-in-Bad-clause-ok

@@ -8,10 +8,10 @@ use Rattle.repo_restore.specs.declared.nodes.Level.{Level}
 use Rattle.repo_session.specs.Received.{Received}
 use Rattle.repo_session.specs.Trees.{Under}
 use Rattle.repo_restore.specs.Walking.{WaitsByKind, TreeWaitsBy, StopsAt, Turns}
-use Rattle.repo_restore.specs.Walks.{PartIs, AtOpen}
-use Rattle.repo_restore.proofs.Closing.{gave_none}
+use Rattle.repo_restore.specs.Walks.{PartIs, AtOpen, is_open}
+use Rattle.repo_restore.proofs.Flows.{gave_none}
+use Rattle.repo_restore.proofs.Standing.{stopped_none}
 use Rattle.repo_session.specs.Rebuilding.{rebuilt, Follow}
-use Rattle.repo_restore.specs.Flowing.{FlowsTo, TurnFlows}
 use Rattle.repo_restore.proofs.Passing.{path_is, entered}
 use Rattle.repo_restore.proofs.Trees.{part_lists}
 use Rattle.repo_restore.proofs.walks.Walk.enter.Goals as goal
@@ -27,7 +27,7 @@ returns-then-is_too_deep-clause-ok c = λ gs version root fact old h first k n t
     let D : List (List ℕ) → Type 0 = λ p. greatest_depth ≤ length p in
     let N : List Node → Type 0 = λ ns. ns ≢ [] in
     let U : Name → Type 0 = λ m. Under version (Received gs) root tree.0 m in
-    ((refl, (tree.0, subst U n tree.2, inl (inr (inl (c.args.nodes.items, part_lists version (Received gs) c.args.tree c.args.nodes.items c.args.next t, subst N c.as_slice.ensures.value deep.1, subst D at deep.0))))), gave_none c.args.lookup.now version (Received gs) root old _ none h.closed)
+    ((refl, (tree.0, subst U n tree.2, inl (inr (inl (c.args.nodes.items, part_lists version (Received gs) c.args.tree c.args.nodes.items c.args.next t, subst N c.as_slice.ensures.value deep.1, subst D at deep.0))))), stopped_none c.args.lookup.now version (Received gs) root w.levels.items w.sent w.onward w.entries fact old _ none h)
 
 pub returns-in-Ok-clause-ok : goal.returns-in-Ok-clause-ok
 returns-in-Ok-clause-ok c = λ gs version root fact old h first k n t none.
@@ -44,22 +44,10 @@ returns-in-Ok-clause-ok c = λ gs version root fact old h first k n t none.
     let same : c.as_slice-2.result.now ≡ levels ++ level ∷ [] = c.as_slice-2.ensures.value ∙ c.in_ok-push.ensures.items in
     let A : List Level → Type 0 = λ ls. AtOpen version (Received gs) root ls (length ls) 0 (rebuilt (old ++ [])) in
     let O : List Emission → Type 0 = λ e. AtOpen version (Received gs) root c.as_slice-2.result.now (length c.as_slice-2.result.now) 0 (rebuilt (old ++ e)) in
-    let stops = c.in-Ok.ensures.stops gs version root old (subst O (sym none) (subst A (sym same) start)) (gave_none c.args.lookup.now version (Received gs) root old _ none h.closed) in
+    let stops = c.in-Ok.ensures gs version root old (subst O (sym none) (subst A (sym same) start)) (gave_none c.args.lookup.now version (Received gs) root false old _ none (subst (λ kind. Follow false old (is_open kind)) k h.order)) in
     let out = c.go_on.new.out.items in
     let stop = c.in-Ok.stop in
     let F : List Level → Type 0 = λ ls. StopsAt c.args.lookup.now version (Received gs) root ls old out stop.depth stop.begun stop.what in
     let G : List Emission → Type 0 = λ e. StopsAt c.args.lookup.now version (Received gs) root c.push.new.self.items old e stop.depth stop.begun stop.what in
     let R : List Emission → Type 0 = λ e. Turns c.args.lookup.now version (Received gs) root c.stop_at.new.self old e c.stop_at.result in
-    subst R c.as_slice-in-Ok.ensures.value (c.stop_at.ensures.turns c.args.lookup.now gs version root old (subst G (sym c.as_slice-in-Ok.ensures.value) (subst F c.as_slice-2.ensures.value stops)) h.count)
-
-pub returns-then-is_too_deep-clause-flows : goal.returns-then-is_too_deep-clause-flows
-returns-then-is_too_deep-clause-flows c = λ none. (false, let F : List Emission → Type 0 = λ e. Follow false e false in subst F (sym none) refl)
-
-pub returns-in-Ok-clause-flows : goal.returns-in-Ok-clause-flows
-returns-in-Ok-clause-flows c = λ none.
-    let F : List Emission → Type 0 = λ e. Follow false e false in
-    let next = c.in-Ok.ensures.flows false (subst F (sym none) refl) in
-    let stop = c.in-Ok.stop in
-    let G : List Emission → Type 0 = λ e. FlowsTo false e stop.what in
-    let R : List Emission → Type 0 = λ e. TurnFlows false e c.stop_at.result in
-    subst R c.as_slice-in-Ok.ensures.value (c.stop_at.ensures.flows false (subst G (sym c.as_slice-in-Ok.ensures.value) next))
+    subst R c.as_slice-in-Ok.ensures.value (c.stop_at.ensures c.args.lookup.now gs version root old (subst G (sym c.as_slice-in-Ok.ensures.value) (subst F c.as_slice-2.ensures.value stops)) h.count)

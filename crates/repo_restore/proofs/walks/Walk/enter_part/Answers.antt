@@ -1,4 +1,4 @@
-use Rattle.std.proofs.Common.{false, ◌≡◌, ◌≢◌, ◌<◌, ◌⊎◌, ◌++◌, ◌∷◌, [], List, length, refl, sym, subst, inl, inr, ◌∙◌}
+use Rattle.std.proofs.Common.{false, ◌≡◌, ◌≢◌, ◌<◌, ◌⊎◌, ◌++◌, ◌∷◌, [], List, length, sym, subst, inl, inr, ◌∙◌}
 use Rattle.repo_name.specs.declared.kinds.BlobKind.{BlobKind}
 use Rattle.repo_name.specs.declared.kinds.Thing.{Thing}
 use Rattle.repo_name.specs.declared.names.Name.{Name}
@@ -9,10 +9,10 @@ use Rattle.repo_session.specs.declared.emissions.Emission.{Emission}
 use Rattle.repo_restore.specs.declared.nodes.Level.{Level}
 use Rattle.repo_session.specs.Received.{Received}
 use Rattle.repo_restore.specs.Walking.{MayFollow, WalkEnds, WaitsByKind, TreeWaitsBy, StopsAt, Turns}
-use Rattle.repo_restore.specs.Walks.{PartIs, AtOpen}
-use Rattle.repo_restore.proofs.Closing.{gave_none}
+use Rattle.repo_restore.specs.Walks.{PartIs, AtOpen, is_open}
+use Rattle.repo_restore.proofs.Flows.{gave_none}
+use Rattle.repo_restore.proofs.Standing.{stopped_none}
 use Rattle.repo_session.specs.Rebuilding.{rebuilt, Follow}
-use Rattle.repo_restore.specs.Flowing.{FlowsTo, TurnFlows}
 use Rattle.repo_restore.proofs.Passing.{entered_part, part_refused, path_deep, put_twice}
 use Rattle.repo_restore.proofs.walks.Walk.enter_part.Goals as goal
 
@@ -27,7 +27,7 @@ returns-then-is_too_deep-clause-ok c = λ gs version root fact old h onward k n 
     let T : Name → Type 0 = λ m. PartIs version (Received gs) m c.args.nodes.items c.args.next in
     let D : Name → Type 0 = λ m. WalkEnds c.args.lookup.now version (Received gs) root (End.BadObject Thing.Tree m) in (
       subst D n (part_refused c.args.lookup.now version (Received gs) root w.levels.items fact old c.args.nodes.items c.args.next p (subst T (sym n) t) (inl (path_deep c.in_ok-path.path p.level.path c.args.nodes.items at (deep.0, subst N c.as_slice.ensures.value deep.1)))),
-      gave_none c.args.lookup.now version (Received gs) root old _ none h.closed,
+      stopped_none c.args.lookup.now version (Received gs) root w.levels.items w.sent w.onward w.entries fact old _ none h,
     )
 
 pub returns-then-not-come_behind-clause-ok : goal.returns-then-not-come_behind-clause-ok
@@ -42,7 +42,7 @@ returns-then-not-come_behind-clause-ok c = λ gs version root fact old h onward 
     let no = c.if-not-come_behind.true in
     absurd (cc)) in (
       subst D n (part_refused c.args.lookup.now version (Received gs) root w.levels.items fact old c.args.nodes.items c.args.next p (subst T (sym n) t) (inr wrong)),
-      gave_none c.args.lookup.now version (Received gs) root old _ none h.closed,
+      stopped_none c.args.lookup.now version (Received gs) root w.levels.items w.sent w.onward w.entries fact old _ none h,
     )
 
 pub returns-in-Ok-clause-ok : goal.returns-in-Ok-clause-ok
@@ -61,22 +61,13 @@ returns-in-Ok-clause-ok c = λ gs version root fact old h onward k n t none.
     let same : c.as_slice-4.result.now ≡ new = c.as_slice-4.ensures.value ∙ (c.replace_last-before.ensures.some p.above p.level p.levels_are).1 in
     let A : List Level → Type 0 = λ ls. AtOpen version (Received gs) root ls (length ls) 0 (rebuilt (old ++ [])) in
     let O : List Emission → Type 0 = λ e. AtOpen version (Received gs) root c.as_slice-4.result.now (length c.as_slice-4.result.now) 0 (rebuilt (old ++ e)) in
-    let stops = c.in-Ok.ensures.stops gs version root old (subst O (sym none) (subst A (sym same) start)) (gave_none c.args.lookup.now version (Received gs) root old _ none h.closed) in
+    let stops = c.in-Ok.ensures gs version root old (subst O (sym none) (subst A (sym same) start)) (gave_none c.args.lookup.now version (Received gs) root false old _ none (subst (λ kind. Follow false old (is_open kind)) k h.order)) in
     let out = c.go_on.new.out.items in
     let stop = c.in-Ok.stop in
     let F : List Level → Type 0 = λ ls. StopsAt c.args.lookup.now version (Received gs) root ls old out stop.depth stop.begun stop.what in
     let G : List Emission → Type 0 = λ e. StopsAt c.args.lookup.now version (Received gs) root c.replace_last-before.new.levels.items old e stop.depth stop.begun stop.what in
     let R : List Emission → Type 0 = λ e. Turns c.args.lookup.now version (Received gs) root c.stop_at.new.self old e c.stop_at.result in
-    subst R c.as_slice-in-Ok.ensures.value (c.stop_at.ensures.turns c.args.lookup.now gs version root old (subst G (sym c.as_slice-in-Ok.ensures.value) (subst F c.as_slice-4.ensures.value stops)) h.count)
-
-pub returns-in-Ok-clause-flows : goal.returns-in-Ok-clause-flows
-returns-in-Ok-clause-flows c = λ none.
-    let F : List Emission → Type 0 = λ e. Follow false e false in
-    let next = c.in-Ok.ensures.flows false (subst F (sym none) refl) in
-    let stop = c.in-Ok.stop in
-    let G : List Emission → Type 0 = λ e. FlowsTo false e stop.what in
-    let R : List Emission → Type 0 = λ e. TurnFlows false e c.stop_at.result in
-    subst R c.as_slice-in-Ok.ensures.value (c.stop_at.ensures.flows false (subst G (sym c.as_slice-in-Ok.ensures.value) next))
+    subst R c.as_slice-in-Ok.ensures.value (c.stop_at.ensures c.args.lookup.now gs version root old (subst G (sym c.as_slice-in-Ok.ensures.value) (subst F c.as_slice-4.ensures.value stops)) h.count)
 
 pub returns-in-Err-clause-levels : goal.returns-in-Err-clause-levels
 returns-in-Err-clause-levels c =

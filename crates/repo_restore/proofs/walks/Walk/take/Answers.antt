@@ -3,8 +3,8 @@ use Rattle.std.proofs.lemmas.Result.{IfOk-weaker}
 use Rattle.repo_name.specs.declared.kinds.BlobKind.{BlobKind}
 use Rattle.repo_session.specs.Received.{Received}
 use Rattle.repo_restore.specs.Walking.{WaitsByKind}
-use Rattle.repo_restore.proofs.Closing.{gave_none}
 use Rattle.repo_restore.proofs.Passing.{tree_refused}
+use Rattle.repo_restore.proofs.Standing.{stopped_none}
 use Rattle.repo_restore.proofs.Trees.{text_part}
 use Rattle.repo_restore.proofs.walks.Walk.take.Goals as goal
 
@@ -21,4 +21,4 @@ returns-in_ok-check_fault-in-Err-clause-ok c = λ gs root old h received named l
     let K : BlobKind → Type 0 = λ kind. WaitsByKind kind c.args.lookup.now version (Received gs) root w.levels.items w.sent w.onward c.args.fact old in
     let R : BlobKind → Type 0 = λ kind. Received gs kind c.args.bytes.now in
     let unread = c.in-Err.ensures.none c.in_ok-check_fault-in-Err.ensures.fault in
-    (tree_refused c.args.lookup.now version (Received gs) root w.levels.items w.onward c.args.fact old c.args.bytes.now (subst K c.in-Tree.is h.waits) (subst R c.in-Tree.is received) named unread, gave_none c.args.lookup.now version (Received gs) root old _ none h.closed)
+    (tree_refused c.args.lookup.now version (Received gs) root w.levels.items w.onward c.args.fact old c.args.bytes.now (subst K c.in-Tree.is h.waits) (subst R c.in-Tree.is received) named unread, stopped_none c.args.lookup.now version (Received gs) root w.levels.items w.sent w.onward w.entries c.args.fact old _ none h)

@@ -1,4 +1,4 @@
-use Rattle.std.proofs.Common.{true, ◌≡◌, ◌<◌, ◌++◌, ◌∷◌, [], ℕ, List, length, sym, ap, subst, ◌∙◌}
+use Rattle.std.proofs.Common.{◌≡◌, ◌<◌, ◌++◌, ◌∷◌, [], ℕ, List, length, sym, ap, subst, ◌∙◌}
 use Rattle.std.proofs.lemmas.Option.{slice_get_within}
 use Rattle.repo_name.specs.declared.names.Name.{Name}
 use Rattle.repo_session.specs.declared.emissions.Emission.{Emission}
@@ -7,9 +7,6 @@ use Rattle.repo_restore.specs.declared.nodes.Level.{Level}
 use Rattle.repo_session.specs.Received.{Received}
 use Rattle.repo_restore.specs.Walking.{StopsAt, Turns}
 use Rattle.repo_restore.specs.Walks.{AtOpen}
-use Rattle.repo_restore.specs.Flowing.{FlowsTo, TurnFlows}
-use Rattle.repo_restore.specs.declared.nodes.Begun.{Begun}
-use Rattle.repo_restore.proofs.Flows.{piece_flows}
 use Rattle.repo_restore.proofs.Passing.{file_waits, blob_last, blob_more, blob_ends}
 use Rattle.repo_restore.proofs.walks.Walk.take_blob.Goals as goal
 
@@ -31,18 +28,18 @@ returns-in_ok-stop-in-Done-clause-ok c = λ gs version root fact old h k among n
     let count = c.one_more-sent.ensures (let P : List Name → Type 0 = λ ns. w.sent < length ns in subst P (sym same) within) in
     let m : mid ≡ out ++ Emission.Piece bytes ∷ [] = c.in_ok-push.ensures.items ∙ ap (λ b. out ++ Emission.Piece b ∷ []) c.in_ok-piece.ensures in
     let b = rw c.in-Done.is at c.in_ok-next_blob.ensures in
-    let last = blob_last facts version (Received gs) root levels w.sent w.onward w.entries fact old out mid new content next bytes f both.1 same count among named long none m h.closed b in
+    let last = blob_last facts version (Received gs) root levels w.sent w.onward w.entries fact old out mid new content next bytes f both.1 same count among named long none m both.2 b in
     let begun : c.innermost_begun-begun.result ≡ f.level.begun = c.innermost_begun-begun.ensures f.above f.level (c.as_slice-in-Done.ensures.value ∙ f.levels_are) in
     let slice = c.as_slice-in-Done-2.result.now in
     let N : ℕ → Type 0 = λ n. AtOpen version (Received gs) root levels (length levels) n (rebuilt (old ++ new)) in
     let A : List Level → Type 0 = λ ls. AtOpen version (Received gs) root ls (length ls) c.innermost_begun-begun.result (rebuilt (old ++ new)) in
-    let stops = c.in_ok-stop-in-Done.ensures.stops gs version root old (subst A (sym c.as_slice-in-Done-2.ensures.value) (subst N (sym begun) last.0)) last.1 in
+    let stops = c.in_ok-stop-in-Done.ensures gs version root old (subst A (sym c.as_slice-in-Done-2.ensures.value) (subst N (sym begun) last.0)) last.1 in
     let out' = c.go_on.new.out.items in
     let stop = c.in_ok-stop-in-Done.stop in
     let F : List Level → Type 0 = λ ls. StopsAt facts version (Received gs) root ls old out' stop.depth stop.begun stop.what in
     let G : List Emission → Type 0 = λ e. StopsAt facts version (Received gs) root levels old e stop.depth stop.begun stop.what in
     let R : List Emission → Type 0 = λ e. Turns facts version (Received gs) root c.stop_at.new.self old e c.stop_at.result in
-    subst R c.as_slice-in-Done-3.ensures.value (c.stop_at.ensures.turns facts gs version root old (subst G (sym c.as_slice-in-Done-3.ensures.value) (subst F c.as_slice-in-Done-2.ensures.value stops)) h.count)
+    subst R c.as_slice-in-Done-3.ensures.value (c.stop_at.ensures facts gs version root old (subst G (sym c.as_slice-in-Done-3.ensures.value) (subst F c.as_slice-in-Done-2.ensures.value stops)) h.count)
 
 pub returns-in-Waits-clause-ok : goal.returns-in-Waits-clause-ok
 returns-in-Waits-clause-ok c = λ gs version root fact old h k among named long none.
@@ -62,7 +59,7 @@ returns-in-Waits-clause-ok c = λ gs version root fact old h k among named long 
     let count = c.one_more-sent.ensures (let P : List Name → Type 0 = λ ns. w.sent < length ns in subst P (sym same) within) in
     let m : mid ≡ out ++ Emission.Piece bytes ∷ [] = c.in_ok-push.ensures.items ∙ ap (λ b. out ++ Emission.Piece b ∷ []) c.in_ok-piece.ensures in
     let b = rw c.in-Waits.is at c.in_ok-next_blob.ensures in
-    blob_more facts version (Received gs) root levels w.sent w.onward w.entries fact old out mid new content next bytes c.in-Waits.fact f both.1 same count among named long none m h.count h.closed b
+    blob_more facts version (Received gs) root levels w.sent w.onward w.entries fact old out mid new content next bytes c.in-Waits.fact f both.1 same count among named long none m h.count both.2 b
 
 pub returns-in-Ended-clause-ok : goal.returns-in-Ended-clause-ok
 returns-in-Ended-clause-ok c = λ gs version root fact old h k among named long none.
@@ -80,28 +77,7 @@ returns-in-Ended-clause-ok c = λ gs version root fact old h k among named long 
     let same = c.open_content-content.ensures f.above f.level f.node f.size f.content (c.as_slice.ensures.value ∙ f.levels_are) (f.begun.at, f.begun.counts, f.begun.node_is) f.file in
     let m : mid ≡ out ++ Emission.Piece bytes ∷ [] = c.in_ok-push.ensures.items ∙ ap (λ b. out ++ Emission.Piece b ∷ []) c.in_ok-piece.ensures in
     let b = rw c.in-Ended.is at c.in_ok-next_blob.ensures in
-    blob_ends facts version (Received gs) root levels w.sent w.onward w.entries fact old out mid new content next bytes f same c.in-Ended.end among none m h.closed b
-
-pub returns-in_ok-stop-in-Done-clause-flows : goal.returns-in_ok-stop-in-Done-clause-flows
-returns-in_ok-stop-in-Done-clause-flows c = λ none.
-    let m = c.in_ok-push.ensures.items in
-    let piece = piece_flows c.args.lookup.now c.open_content-content.result.now c.one_more-sent.result c.in_ok-piece.piece c.args.out.now.items c.push.new.self.items c.next_blob.new.out.items Begun.Done none m (rw c.in-Done.is at c.in_ok-next_blob.ensures) in
-    let next = c.in_ok-stop-in-Done.ensures.flows true piece in
-    let stop = c.in_ok-stop-in-Done.stop in
-    let G : List Emission → Type 0 = λ e. FlowsTo true e stop.what in
-    let R : List Emission → Type 0 = λ e. TurnFlows true e c.stop_at.result in
-    subst R c.as_slice-in-Done-3.ensures.value (c.stop_at.ensures.flows true (subst G (sym c.as_slice-in-Done-3.ensures.value) next))
-
-pub returns-in-Waits-clause-flows : goal.returns-in-Waits-clause-flows
-returns-in-Waits-clause-flows c = λ none.
-    piece_flows c.args.lookup.now c.open_content-content.result.now c.one_more-sent.result c.in_ok-piece.piece c.args.out.now.items c.push.new.self.items c.next_blob.new.out.items (Begun.Waits c.in-Waits.fact) none c.in_ok-push.ensures.items (rw c.in-Waits.is at c.in_ok-next_blob.ensures)
-
-pub returns-in-Ended-clause-flows : goal.returns-in-Ended-clause-flows
-returns-in-Ended-clause-flows c = λ none.
-    piece_flows c.args.lookup.now c.open_content-content.result.now c.one_more-sent.result c.in_ok-piece.piece c.args.out.now.items c.push.new.self.items c.next_blob.new.out.items (Begun.Ended c.in-Ended.end) none c.in_ok-push.ensures.items (rw c.in-Ended.is at c.in_ok-next_blob.ensures)
+    blob_ends facts version (Received gs) root levels w.sent w.onward w.entries fact old out mid new content next bytes f both.1 same c.in-Ended.end among named long none m both.2 b
 
 pub returns-in-GoesOn-clause-ok : goal.returns-in-GoesOn-clause-ok
 returns-in-GoesOn-clause-ok c = λ gs version root fact old h k among named long none. absurd (rw c.in-GoesOn.is at c.in_ok-next_blob.ensures)
-
-pub returns-in-GoesOn-clause-flows : goal.returns-in-GoesOn-clause-flows
-returns-in-GoesOn-clause-flows c = λ none. absurd (rw c.in-GoesOn.is at c.in_ok-next_blob.ensures)
