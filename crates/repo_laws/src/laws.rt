@@ -1,6 +1,6 @@
 //! What holds of several jobs together, by the definitions alone. Each function is empty, and its contract is the law.
 
-ghost use Rattle.repo_laws.specs.Laws.{RestoredIsFed, RestoredIsHanded};
+ghost use Rattle.repo_laws.specs.Laws.{RestoredIsFed, RestoredIsFirst, RestoredIsHanded};
 
 /// A restore of the snapshot that a backup reported as stored, after it and alone with the same store, gives out
 /// the entries that were handed to the backup, where it reports that it gave out all.
@@ -8,8 +8,14 @@ pub fn restored_is_handed()
     ensures { RestoredIsHanded }
 {}
 
-/// So does one of a snapshot that a backup reported as stored which fed itself: what the items spell that it was fed, and that is what
-/// its source was made to give, where that is known.
+/// However far such a restore came, and however it ended, what it gave out is the first of the entries that were handed to the
+/// backup; where a file is open, the first bytes of it.
+pub fn restored_is_first()
+    ensures { RestoredIsFirst }
+{}
+
+/// One that reports that it gave out all, of a snapshot that a backup reported as stored which fed itself, gives out what the
+/// items spell that it was fed, and that is what its source was made to give, where that is known.
 pub fn restored_is_fed()
     ensures { RestoredIsFed }
 {}
