@@ -21,6 +21,7 @@ use Rattle.repo_play.specs.declared.grammars.Grammar.{Grammar}
 use Rattle.repo_prog.specs.declared.errands.Errand.{Errand}
 use Rattle.repo_prog.specs.declared.errands.LockErrand.{LockErrand}
 use Rattle.repo_prog.specs.declared.errors.FramesError.{FramesError}
+use Rattle.repo_prog.specs.declared.serve.Serving.{Serving}
 use Rattle.repo_prog.specs.declared.status.Status.{Status}
 use Rattle.repo_prog.specs.declared.words.Making.{Making}
 use Rattle.repo_prog.specs.declared.words.Order.{Order}
@@ -103,13 +104,17 @@ IsMaking making = IsTarget making.target × IsKnownTo greatest_version making.ve
 abbrev pub IsAtOnce : ℕ → Type 0
 IsAtOnce n = (1 ≤ n) × (n ≤ 256)
 
+-- a way of serving a store within its limits
+abbrev pub IsServing : Serving → Type 0
+IsServing serving = (1 ≤ serving.connections) × IsAtOnce serving.at_once × IsIdle serving.idle
+
 -- an order within its limits
 abbrev pub IsOrder : Order → Type 0
 IsOrder Order.Frames = ⊤
 IsOrder Order.Play = ⊤
 IsOrder Order.Loop = ⊤
 IsOrder (Order.Init folder making) = IsMaking making
-IsOrder (Order.Serve folder address serving) = IsAddress (string_bytes address) × (1 ≤ serving.connections) × IsAtOnce serving.at_once × IsIdle serving.idle
+IsOrder (Order.Serve folder address serving) = IsAddress (string_bytes address) × IsServing serving
 IsOrder (Order.Client address errand retry idle) = IsAddress (string_bytes address) × IsErrand errand × IsIdle idle
 
 -- an order that reads the input

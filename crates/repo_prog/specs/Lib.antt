@@ -3,6 +3,7 @@ pub mod Commands
 pub mod FramesRun
 pub mod HexLines
 pub mod Talks
+pub mod Words
 pub mod Asking
 pub mod Printing
 pub mod Tellings

@@ -1,7 +1,8 @@
 //! The addresses of servers, as words of the command line.
 
-ghost use Rattle.std.specs.Prelude.{◌↔◌, IfOk, IsTrue, string_bytes};
+ghost use Rattle.std.specs.Prelude.{◌↔◌, IfOk, IsTrue, codes, string_bytes};
 ghost use Rattle.repo_prog.specs.Addresses.{IsAddress};
+ghost use Rattle.repo_prog.specs.Words.{IsWord};
 
 use crate::words::{WordsError, word_of};
 use clap::ArgMatches;
@@ -20,7 +21,8 @@ pub fn is_address(text: &str) -> bool
 
 /// The address among the words of a command.
 pub fn address_of(alloc: Global, words: &ArgMatches) -> Result<String, WordsError>
-    ensures { IfOk result (λ address. IsAddress (string_bytes address)) }
+    ensures within { IfOk result (λ address. IsAddress (string_bytes address)) }
+    ensures word { IfOk result (λ address. IsWord words.now (codes "ADDR") (string_bytes address)) }
 {
     let address = word_of(alloc, words, "ADDR")?;
     if !is_address(address.as_str()) {

@@ -1,8 +1,11 @@
 //! What the words of `vault forget` choose.
 
-ghost use Rattle.std.specs.Prelude.{◌≡◌, ◌≢◌, ◌↔◌, [], IfOk, IfSome, IsErr, IsTrue};
+ghost use Rattle.std.specs.Prelude.{◌≡◌, ◌≢◌, ◌↔◌, [], map, codes, IfOk, IfSome, IsErr, IsTrue};
+ghost use Rattle.clap.specs.Matches.{found_of, first_value};
+ghost use Rattle.repo_name.specs.Naming.{hex_of};
 ghost use Rattle.repo_name.specs.Rows.{IsHost};
 ghost use Rattle.repo_prog.specs.Commands.{HasPolicy, IsChoice, choice_for};
+ghost use Rattle.repo_prog.specs.Words.{Chooses, IsNumber, IsPolicyOf, words_of};
 ghost use Rattle.repo_prune.specs.declared.choices.Choice.{Choice};
 
 use crate::meanings::{DRY_RUN, FORGOTTEN, KEEP_DAILY, KEEP_LAST, OF_HOST};
@@ -42,7 +45,9 @@ pub fn choice_words<'a>(alloc: Global, command: Command<'a>) -> Result<Command<'
 }
 
 /// A count that `clap` has read.
-fn count_of(words: &ArgMatches, name: &str) -> Result<u32, WordsError> {
+fn count_of(words: &ArgMatches, name: &str) -> Result<u32, WordsError>
+    ensures { IfOk result (IsNumber words.now name.now) }
+{
     match words.get_one::<u32>(name) {
         Some(count) => Ok(count),
         None => Err(WordsError::BadArgument),
@@ -50,7 +55,9 @@ fn count_of(words: &ArgMatches, name: &str) -> Result<u32, WordsError> {
 }
 
 /// The names that these words spell.
-fn named(alloc: Global, words: &[&str]) -> Result<Vec<Name>, WordsError> {
+fn named(alloc: Global, words: &[&str]) -> Result<Vec<Name>, WordsError>
+    ensures { IfOk result (λ names. map (λ word. word.now) words.now ≡ map hex_of names.items) }
+{
     let mut names = Vec::new(alloc);
     for word in words {
         let Ok(name) = Name::from_hex(word) else {
@@ -63,7 +70,8 @@ fn named(alloc: Global, words: &[&str]) -> Result<Vec<Name>, WordsError> {
 
 /// The host that a policy is for, where the words name one: 1 to 255 bytes.
 fn host_of(alloc: Global, words: &ArgMatches) -> Result<Option<Text>, WordsError>
-    ensures { IfOk result (λ host. IfSome host IsHost) }
+    ensures within { IfOk result (λ host. IfSome host IsHost) }
+    ensures host { IfOk result (λ host. host ≡ first_value (found_of words.now) (codes "host")) }
 {
     let Some(word) = words.get_str("host") else {
         return Ok(None);
@@ -108,15 +116,33 @@ fn choice_by(host: Option<Text>, policy: Policy, names: Vec<Name>) -> Result<Cho
     Ok(Choice::Names(Names::of(names)))
 }
 
-/// What the words choose.
-pub fn choice_of(alloc: Global, words: &ArgMatches) -> Result<Choice, WordsError>
-    ensures { IfOk result IsChoice }
+/// The policy of the words.
+fn policy_of(words: &ArgMatches) -> Result<Policy, WordsError>
+    ensures { IfOk result (IsPolicyOf words.now) }
 {
-    let policy = Policy {
+    Ok(Policy {
         last: count_of(words, "keep-last")?,
         daily: count_of(words, "keep-daily")?,
-    };
+    })
+}
+
+/// The names that the words spell.
+fn names_of(alloc: Global, words: &ArgMatches) -> Result<Vec<Name>, WordsError>
+    ensures { IfOk result (λ names. words_of words.now (codes "NAME") ≡ map hex_of names.items) }
+{
+    match words.get_strs("NAME") {
+        Some(words) => named(alloc, words),
+        None => Ok(Vec::new(alloc)),
+    }
+}
+
+/// What the words choose.
+pub fn choice_of(alloc: Global, words: &ArgMatches) -> Result<Choice, WordsError>
+    ensures within { IfOk result IsChoice }
+    ensures chooses { IfOk result (Chooses words.now) }
+{
+    let policy = policy_of(words)?;
     let host = host_of(alloc, words)?;
-    let names = named(alloc, words.get_strs("NAME").unwrap_or(&[]))?;
+    let names = names_of(alloc, words)?;
     choice_by(host, policy, names)
 }

@@ -2,13 +2,16 @@
 
 ghost use Rattle.std.specs.Prelude.{◌≡◌, IfOk, IsTrue, IsFalse, codes};
 ghost use Rattle.repo_prog.specs.Commands.{IsErrand, errand_word};
+ghost use Rattle.repo_prog.specs.Words.{AskFor};
 
 use crate::choosing::{choice_of, choice_words};
 use crate::help::{
     BACKUP, CHECK, FORGET, LOCKS, PRUNE, REFRESH, RESTORE, SNAPSHOTS, UNLOCK, UPGRADE,
 };
 use crate::meanings::{HOST, REMOVE_ALL, RESTORED, RETRY, SERVER, SNAPSHOT, SOURCE, TOKEN};
-use crate::words::{WordsError, flag, idle, needed, number, number_of, with_word, word_of};
+use crate::words::{
+    WordsError, flag, idle, is_given, needed, number, number_of, with_word, word_of,
+};
 use clap::{ArgMatches, Command};
 use repo_name::{Name, Text, Token, is_host};
 use repo_prune::Choice;
@@ -164,6 +167,7 @@ pub fn with_errands<'a>(alloc: Global, program: Command<'a>) -> Result<Command<'
 fn backup_errand(alloc: Global, words: &ArgMatches) -> Result<Errand, WordsError>
     ensures within { IfOk result IsErrand }
     ensures word { IfOk result (λ errand. errand_word errand ≡ codes "backup") }
+    ensures asked { IfOk result (AskFor words.now) }
 {
     let host = word_of(alloc, words, "HOST")?;
     if !is_host(host.as_str()) {
@@ -179,6 +183,7 @@ fn backup_errand(alloc: Global, words: &ArgMatches) -> Result<Errand, WordsError
 fn restore_errand(alloc: Global, words: &ArgMatches) -> Result<Errand, WordsError>
     ensures within { IfOk result IsErrand }
     ensures word { IfOk result (λ errand. errand_word errand ≡ codes "restore") }
+    ensures asked { IfOk result (AskFor words.now) }
 {
     let word = word_of(alloc, words, "NAME")?;
     let Ok(name) = Name::from_hex(word.as_str()) else {
@@ -203,9 +208,10 @@ fn forget_by(choice: Choice, is_dry_run: bool) -> Errand
 fn forget_errand(alloc: Global, words: &ArgMatches) -> Result<Errand, WordsError>
     ensures within { IfOk result IsErrand }
     ensures word { IfOk result (λ errand. errand_word errand ≡ codes "forget") }
+    ensures asked { IfOk result (AskFor words.now) }
 {
     let choice = choice_of(alloc, words)?;
-    Ok(forget_by(choice, words.get_flag("dry-run")))
+    Ok(forget_by(choice, is_given(words, "dry-run")))
 }
 
 /// How often it is connected again, by the words of one of these commands: 0 where it has no word for that.
@@ -217,6 +223,7 @@ pub fn retry_of(words: &ArgMatches) -> u64 {
 pub fn errand_of(alloc: Global, command: &str, words: &ArgMatches) -> Result<Errand, WordsError>
     ensures within { IfOk result IsErrand }
     ensures word { IfOk result (λ errand. errand_word errand ≡ command.now) }
+    ensures asked { IfOk result (AskFor words.now) }
 {
     match command {
         "backup" => backup_errand(alloc, words),
@@ -232,7 +239,7 @@ pub fn errand_of(alloc: Global, command: &str, words: &ArgMatches) -> Result<Err
             Ok(Errand::Locks(LockErrand::Refresh(Token(number))))
         }
         "unlock" => {
-            let all = words.get_flag("remove-all");
+            let all = is_given(words, "remove-all");
             Ok(Errand::Locks(LockErrand::Remove { all }))
         }
         _ => Err(WordsError::BadArgument),

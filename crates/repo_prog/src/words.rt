@@ -1,10 +1,11 @@
 //! The words of the command line.
 
-ghost use Rattle.std.specs.Prelude.{◌≡◌, ◌↔◌, ◌*◌, IfOk, IfSome, IsNone, IsSome};
+ghost use Rattle.std.specs.Prelude.{◌≡◌, ◌↔◌, ◌*◌, IfOk, IfSome, IsNone, IsSome, string_bytes};
 ghost use Rattle.std.specs.Duration.{as_nanos};
 ghost use Rattle.repo_tree.specs.ConfigText.{IsTarget};
 ghost use Rattle.repo_tree.specs.Versions.{greatest_version, IsKnownTo};
-ghost use Rattle.repo_prog.specs.Commands.{IsAtOnce, IsMaking, IsOrder};
+ghost use Rattle.repo_prog.specs.Commands.{IsAtOnce, IsIdle, IsMaking, IsOrder, IsServing};
+ghost use Rattle.repo_prog.specs.Words.{AreOrdering, IsFlag, IsIdleOf, IsMakingOf, IsNumber, IsServingOf, IsWord};
 
 use crate::addresses::address_of;
 use crate::errands::{Errand, errand_of, retry_of, with_command, with_errands};
@@ -213,8 +214,17 @@ fn commands<'a>(alloc: Global) -> Result<Command<'a>, AllocError> {
     with_command(program, Ok(loop_words(alloc)))
 }
 
+/// Whether a flag is given.
+pub fn is_given(matches: &ArgMatches, name: &str) -> bool
+    ensures { IsFlag matches.now name.now result }
+{
+    matches.get_flag(name)
+}
+
 /// A number that `clap` has read.
-pub fn number_of(matches: &ArgMatches, name: &str) -> Result<u64, WordsError> {
+pub fn number_of(matches: &ArgMatches, name: &str) -> Result<u64, WordsError>
+    ensures { IfOk result (IsNumber matches.now name.now) }
+{
     match matches.get_one::<u64>(name) {
         Some(number) => Ok(number),
         None => Err(WordsError::BadArgument),
@@ -222,7 +232,9 @@ pub fn number_of(matches: &ArgMatches, name: &str) -> Result<u64, WordsError> {
 }
 
 /// A word that `clap` has read.
-pub fn word_of(alloc: Global, matches: &ArgMatches, name: &str) -> Result<String, WordsError> {
+pub fn word_of(alloc: Global, matches: &ArgMatches, name: &str) -> Result<String, WordsError>
+    ensures { IfOk result (λ word. IsWord matches.now name.now (string_bytes word)) }
+{
     match matches.get_str(name) {
         Some(word) => Ok(String::from_str(alloc, word)?),
         None => Err(WordsError::BadArgument),
@@ -250,7 +262,8 @@ fn making_by(params: Params, target: u64, version: u64) -> Option<Making>
 
 /// How the words say that a store is made.
 fn making_of(matches: &ArgMatches) -> Result<Making, WordsError>
-    ensures { IfOk result IsMaking }
+    ensures within { IfOk result IsMaking }
+    ensures making { IfOk result (IsMakingOf matches.now) }
 {
     let (min, max) = (number_of(matches, "min")?, number_of(matches, "max")?);
     let (bits, target) = (number_of(matches, "bits")?, number_of(matches, "target")?);
@@ -265,7 +278,8 @@ fn making_of(matches: &ArgMatches) -> Result<Making, WordsError>
 }
 
 fn init_order(alloc: Global, matches: &ArgMatches) -> Result<Order, WordsError>
-    ensures { IfOk result IsOrder }
+    ensures within { IfOk result IsOrder }
+    ensures asked { IfOk result (AreOrdering matches.now) }
 {
     let folder = word_of(alloc, matches, "DIR")?;
     let making = making_of(matches)?;
@@ -297,11 +311,20 @@ fn at_once_of(number: u64) -> Option<usize>
     Some(number as usize)
 }
 
-fn serve_order(alloc: Global, matches: &ArgMatches) -> Result<Order, WordsError>
-    ensures { IfOk result IsOrder }
+/// The time after which an idle connection ends, by the words of a command.
+fn idle_in(matches: &ArgMatches) -> Result<Option<Duration>, WordsError>
+    ensures within { IfOk result IsIdle }
+    ensures idle { IfOk result (IsIdleOf matches.now) }
 {
-    let folder = word_of(alloc, matches, "DIR")?;
-    let address = address_of(alloc, matches)?;
+    let seconds = number_of(matches, "idle")?;
+    Ok(idle_of(seconds))
+}
+
+/// How the words say that a store is served.
+fn serving_of(matches: &ArgMatches) -> Result<Serving, WordsError>
+    ensures within { IfOk result IsServing }
+    ensures serving { IfOk result (IsServingOf matches.now) }
+{
     let connections = number_of(matches, "connections")?;
     if connections == 0 {
         return Err(WordsError::BadArgument);
@@ -309,14 +332,22 @@ fn serve_order(alloc: Global, matches: &ArgMatches) -> Result<Order, WordsError>
     let Some(at_once) = at_once_of(number_of(matches, "at-once")?) else {
         return Err(WordsError::BadArgument);
     };
-    let idle = idle_of(number_of(matches, "idle")?);
-    let append_only = matches.get_flag("append-only");
-    let serving = Serving {
+    let idle = idle_in(matches)?;
+    Ok(Serving {
         connections,
         at_once,
         idle,
-        append_only,
-    };
+        append_only: is_given(matches, "append-only"),
+    })
+}
+
+fn serve_order(alloc: Global, matches: &ArgMatches) -> Result<Order, WordsError>
+    ensures within { IfOk result IsOrder }
+    ensures asked { IfOk result (AreOrdering matches.now) }
+{
+    let folder = word_of(alloc, matches, "DIR")?;
+    let address = address_of(alloc, matches)?;
+    let serving = serving_of(matches)?;
     Ok(Order::Serve {
         folder,
         address,
@@ -326,12 +357,13 @@ fn serve_order(alloc: Global, matches: &ArgMatches) -> Result<Order, WordsError>
 
 /// The order of the words of a command that goes to a server.
 fn client_order(alloc: Global, command: &str, words: &ArgMatches) -> Result<Order, WordsError>
-    ensures { IfOk result IsOrder }
+    ensures within { IfOk result IsOrder }
+    ensures asked { IfOk result (AreOrdering words.now) }
 {
     let errand = errand_of(alloc, command, words)?;
     let address = address_of(alloc, words)?;
     let retry = retry_of(words);
-    let idle = idle_of(number_of(words, "idle")?);
+    let idle = idle_in(words)?;
     Ok(Order::Client {
         address,
         errand,
