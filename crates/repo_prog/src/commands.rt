@@ -147,7 +147,7 @@ where
 }
 
 /// Does what the words ask for, the program's name first. Where they make no command nothing is read; and where it ends with 2
-/// nothing is written but the fault. What words mean is only tested.
+/// nothing is written but the fault. That a command's words go to what reads them is only tested.
 pub fn run<
     T: Files + Net + AllocGlobal + RandomSource + Clock + Clone + Drop,
     R: Read,
