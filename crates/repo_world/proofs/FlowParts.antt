@@ -1,5 +1,5 @@
 -- A flow, as an event changes one of its seats.
-use Rattle.std.proofs.Common.{Bool, Bor, ◌≡◌, ◌∙◌, inl, inr, ◌<◌, ◌-◌, ◌++◌, ◌∷◌, [], ℕ, true, false, List, length, map, slice_get, slice_set, slice_index_or, Option, Some, None, is_some, option_map, refl, sym, ap, subst, arith, append-nil, length-append, ◌^◌, lit≤}
+use Rattle.std.proofs.Common.{Bool, Bor, ◌≡◌, ◌∙◌, inl, inr, ◌<◌, ◌-◌, ◌++◌, ◌∷◌, [], ℕ, zero, suc, true, false, List, length, map, slice_get, slice_set, slice_index_or, Option, Some, None, is_some, option_map, refl, sym, ap, subst, arith, append-nil, length-append, ◌^◌, lit≤}
 use Rattle.std.proofs.lemmas.List.{get_or-set_same, length-map, map-append, map-set}
 use Rattle.std.proofs.lemmas.Option.{slice_get-map, slice_get_read}
 use Rattle.std.specs.Option.{IfSome, MatchOption, option_copied}
@@ -12,17 +12,18 @@ use Rattle.repo_store.specs.declared.faults.Armed.{Armed}
 use Rattle.repo_name.specs.Rows.{IsHost}
 use Rattle.repo_session.specs.Askers.{asker}
 use Rattle.repo_session.specs.Clients.{AnswersNext, exchange}
-use Rattle.repo_world.specs.AnyClients.{FitsAny, any_next, client_of, given_to}
+use Rattle.repo_world.specs.AnyClients.{FitsAny, any_next, any_obeys, client_of, given_to}
 use Rattle.repo_session.specs.Feeds.{Fed}
-use Rattle.repo_session.specs.Traces.{fed_in, feeding}
+use Rattle.repo_session.specs.Traces.{Each, fed_in, feeding}
 use Rattle.repo_backup.specs.Items.{AreTaken, IsCountOf, fed_part, size_of}
 use Rattle.repo_backup.specs.declared.items.FeedError.{FeedError}
 use Rattle.repo_backup.specs.declared.items.Item.{Item}
 use Rattle.repo_world.specs.Clients.{Accepts, Client, IsWaiting, MayBeFed}
 use Rattle.repo_world.specs.Events.{Arrives, Crashes, Feeds, Gives, RefusesItem, Serves, Starts, Takes, Unfeeds}
-use Rattle.repo_world.specs.Flows.{EachIsThere, Flow, IsThere, messages_in, seat_at, spoken, world_of}
+use Rattle.repo_world.specs.Flows.{EachIsThere, Flow, FlowStands, IsThere, messages_in, seat_at, spoken, world_of}
 use Rattle.repo_world.specs.inner.Flowing.{TellsTaken}
 use Rattle.repo_world.specs.inner.Seating.{Answered, Crashed, StepsAsArmed, TookItem, TookReply}
+use Rattle.repo_world.specs.Rules.{IsRuled}
 use Rattle.repo_world.specs.Seats.{Seated, empty_seat, listed, nothing, silence}
 use Rattle.repo_world.specs.World as world
 use Rattle.repo_world.specs.World.{versions_of, World, client_at, crashed_one, first_of, instance_of, sends, started}
@@ -31,6 +32,8 @@ use Rattle.repo_world.specs.declared.events.Applied.{Applied}
 use Rattle.repo_world.specs.declared.jobs.Job.{Job}
 use Rattle.repo_world.specs.declared.messages.Message.{Message}
 use Rattle.repo_world.proofs.Flowing.{GoesOn, Grows, all_there, client_there, goes_same, grows_end, grows_set, messages_more, messages_same, there_more}
+use Rattle.repo_world.proofs.Owing.{ruled_dutiful}
+use Rattle.repo_world.proofs.Seating.{each_end}
 use Rattle.repo_world.proofs.Starting.{no_outcome_yet, ticket_pending}
 
 -- ---- what may be pending
@@ -62,9 +65,31 @@ told_taken : (w : World) (k : ℕ) (item : Item) (n : ℕ) (v : World) (applied 
 told_taken w k item n v applied count f busy (inl (done, all)) = inl (done, subst (λ m. Feeds w k (fed_part m item) v) all f)
 told_taken w k item n v applied count f busy (inr (took, less)) = inr (inl (n, took, record { some = count.1 (let l = less in omega (arith, l)); less = less; part = f; busy = busy less }))
 
+-- ---- each client goes by its rule
+
+abbrev AreRuled : List Seated → Type 0
+AreRuled seats = Each (λ (seat : Seated). IsRuled seat.client) seats
+
+pub clients_ruled : (seats : List Seated) → AreRuled seats → Each IsRuled (map (λ (seat : Seated). seat.client) seats)
+clients_ruled [] h = tt
+clients_ruled (s ∷ seats) h = (h.0, clients_ruled seats h.1)
+
+ruled_at : (seats : List Seated) (k : ℕ) → k < length seats → AreRuled seats → IsRuled (seat_at seats k).client
+ruled_at [] k less h = absurd (let l = less in omega (arith, l))
+ruled_at (s ∷ seats) zero less h = h.0
+ruled_at (s ∷ seats) (suc k) less h = ruled_at seats k (let l = less in omega (arith, l)) h.1
+
+ruled_set : (seats : List Seated) (k : ℕ) (s : Seated) → AreRuled seats → IsRuled s.client → AreRuled (slice_set seats k s)
+ruled_set [] k s h r = tt
+ruled_set (x ∷ seats) zero s h r = (r, h.1)
+ruled_set (x ∷ seats) (suc k) s h r = (h.0, ruled_set seats k s h.1 r)
+
 -- ---- a seat of a flow becomes another one
 
-module _ (seats : List Seated) (messages : List Message) (k : ℕ) (there : EachIsThere seats messages) (less : k < length seats) where
+module _ (seats : List Seated) (messages : List Message) (k : ℕ) (stands : FlowStands seats messages) (less : k < length seats) where
+  abbrev there : EachIsThere seats messages
+  there = stands.there
+
   -- the seat of k is another one now
   abbrev with_seat : Seated → List Seated
   with_seat s = slice_set seats k s
@@ -72,9 +97,16 @@ module _ (seats : List Seated) (messages : List Message) (k : ℕ) (there : Each
   here : (s : Seated) → seat_at (with_seat s) k ≡ s
   here s = get_or-set_same seats k s empty_seat less
 
+  -- the client of the seat is the same
+  stay_ruled : (s : Seated) → s.client ≡ (seat_at seats k).client → AreRuled (with_seat s)
+  stay_ruled s e = ruled_set seats k s stands.ruled (subst IsRuled (sym e) (ruled_at seats k less stands.ruled))
+
   -- the seat shows what it showed
-  pub kept_there : (s : Seated) → s ≡ seat_at seats k → EachIsThere (with_seat s) messages
-  kept_there s e = all_there seats (with_seat s) (grows_set seats k s less (goes_same _ _ (ap (λ (x : Seated). x.requests) e)) (goes_same _ _ (ap (λ (x : Seated). x.replies) e))) messages there
+  pub kept_stands : (s : Seated) → s ≡ seat_at seats k → FlowStands (with_seat s) messages
+  kept_stands s e = record {
+    there = all_there seats (with_seat s) (grows_set seats k s less (goes_same _ _ (ap (λ (x : Seated). x.requests) e)) (goes_same _ _ (ap (λ (x : Seated). x.replies) e))) messages there;
+    ruled = stay_ruled s (ap (λ (x : Seated). x.client) e);
+  }
 
   pub same_world : (s : Seated) → s ≡ seat_at seats k → (store : Store) → world_of store (record { seats = with_seat s; messages = messages }) ≡ world_of store (record { seats = seats; messages = messages })
   same_world s e store = λ i. record {
@@ -113,8 +145,11 @@ module _ (seats : List Seated) (messages : List Message) (k : ℕ) (there : Each
     said_there : IsThere (with_seat s) (Message.Said k reply_place)
     said_there = subst (λ (x : Seated). reply_place < length x.replies) (sym (here s ∙ is)) (omega (arith, length-append (seat_at seats k).replies (reply ∷ [])))
 
-    pub served_there : EachIsThere (with_seat s) (messages ++ Message.Said k (length (seat_at seats k).replies) ∷ [])
-    served_there = there_more seats (with_seat s) (grows_set seats k s less requests_on replies_on) messages there (Message.Said k reply_place) said_there
+    pub served_stands : FlowStands (with_seat s) (messages ++ Message.Said k (length (seat_at seats k).replies) ∷ [])
+    served_stands = record {
+      there = there_more seats (with_seat s) (grows_set seats k s less requests_on replies_on) messages there (Message.Said k reply_place) said_there;
+      ruled = stay_ruled s (ap (λ (x : Seated). x.client) is);
+    }
 
     said : spoken (with_seat s) (Message.Said k reply_place) ≡ world.Said k reply
     said = ap (world.Said k) (ap (λ (x : Seated). slice_index_or x.replies reply_place silence) (here s ∙ is) ∙ get_or-append_seam (seat_at seats k).replies reply [] silence)
@@ -152,8 +187,8 @@ module _ (seats : List Seated) (messages : List Message) (k : ℕ) (there : Each
     gone_on store = record { store = store; clients = slice_set (map (λ (x : Seated). x.client) seats) k s.client; messages = map (spoken seats) messages ++ sends k s.client.next }
 
     -- nothing more is asked
-    pub last_there : EachIsThere (with_seat s) messages
-    last_there = all_there seats (with_seat s) grown messages there
+    pub last_stands : IsRuled s.client → FlowStands (with_seat s) messages
+    last_stands ruled = record { there = all_there seats (with_seat s) grown messages there; ruled = ruled_set seats k s stands.ruled ruled }
 
     pub last_is : s.client.next ≡ None → (store : Store) → world_of store (record { seats = with_seat s; messages = messages }) ≡ gone_on store
     last_is none store = λ i. record {
@@ -182,8 +217,8 @@ module _ (seats : List Seated) (messages : List Message) (k : ℕ) (there : Each
       asked_there = subst (λ (x : Seated). last < length x.requests) (sym (here s))
           (let e = ap length asked_now in omega (arith, e, last_place, length-append (seat_at seats k).requests (request ∷ [])))
 
-      pub more_there : EachIsThere (with_seat s) (messages ++ Message.Asked k (length s.requests - 1) ∷ [])
-      more_there = there_more seats (with_seat s) grown messages there (Message.Asked k last) asked_there
+      pub more_stands : IsRuled s.client → FlowStands (with_seat s) (messages ++ Message.Asked k (length s.requests - 1) ∷ [])
+      more_stands ruled = record { there = there_more seats (with_seat s) grown messages there (Message.Asked k last) asked_there; ruled = ruled_set seats k s stands.ruled ruled }
 
       pub more_is : (store : Store) → world_of store (record { seats = with_seat s; messages = messages ++ Message.Asked k (length s.requests - 1) ∷ [] }) ≡ gone_on store
       more_is store = λ i. record {
@@ -209,7 +244,7 @@ module _ (seats : List Seated) (messages : List Message) (k : ℕ) (there : Each
       who = t.who ∙ ap (λ (c : Client). c.who) (sym at_k);
       trace = t.trace ∙ ap (λ (c : Client). exchange t.request reply t.emitted ∷ c.trace) (sym at_k);
       up = t.up;
-      dutiful = t.dutiful;
+      dutiful = ruled_dutiful s.client t.ruled;
       stays = λ o e. t.stays o (ap (λ (c : Client). c.outcome) (sym at_k) ∙ e);
       is = is;
     }
@@ -229,7 +264,7 @@ module _ (seats : List Seated) (messages : List Message) (k : ℕ) (there : Each
       who = t.who ∙ ap (λ (c : Client). c.who) fed_at;
       trace = t.trace ∙ ap (λ (c : Client). feeding item c.trace) fed_at;
       up = t.up;
-      dutiful = t.dutiful;
+      dutiful = ruled_dutiful s.client t.ruled;
       is = is;
     }
 
@@ -254,8 +289,11 @@ module _ (seats : List Seated) (messages : List Message) (k : ℕ) (there : Each
     crash_grown : Grows seats (with_seat s)
     crash_grown = grows_set seats k s less (goes_same _ _ (ap (λ (x : Seated). x.requests) stopped)) (goes_same _ _ (ap (λ (x : Seated). x.replies) stopped))
 
-    pub crashed_there : EachIsThere (with_seat s) messages
-    crashed_there = all_there seats (with_seat s) crash_grown messages there
+    pub crashed_stands : FlowStands (with_seat s) messages
+    crashed_stands = record {
+      there = all_there seats (with_seat s) crash_grown messages there;
+      ruled = ruled_set seats k s stands.ruled (subst IsRuled (sym (ap (λ (x : Seated). x.client) stopped)) (ruled_at seats k less stands.ruled));
+    }
 
     pub crashes : (seat_at seats k).client.crashed ≡ false → (store : Store)
         → Crashes (world_of store (record { seats = seats; messages = messages })) k (world_of store (record { seats = with_seat s; messages = messages }))
@@ -271,7 +309,7 @@ module _ (seats : List Seated) (messages : List Message) (k : ℕ) (there : Each
 
 -- ---- a client starts
 
-module _ (seats : List Seated) (messages : List Message) (there : EachIsThere seats messages) (c : AnyClient) (f : FitsAny c []) (job : Job) (host : List ℕ) (time : ℕ) (old : Bool)
+module _ (seats : List Seated) (messages : List Message) (stands : FlowStands seats messages) (c : AnyClient) (f : FitsAny c []) (job : Job) (host : List ℕ) (time : ℕ) (old : Bool)
     (given : given_to c ≡ record { who = asker (instance_of (length seats)) host time (versions_of old); handed = job }) where
   abbrev number : ℕ
   number = length seats
@@ -295,8 +333,11 @@ module _ (seats : List Seated) (messages : List Message) (there : EachIsThere se
   requests_are : (seat_at now number).requests ≡ first_of number ∷ []
   requests_are = ap (λ (x : Seated). x.requests) seat_is ∙ ap listed pending
 
-  pub started_there : EachIsThere (seats ++ first_seat ∷ []) (messages ++ Message.Asked (length seats) 0 ∷ [])
-  started_there = there_more seats now (grows_end seats first_seat) messages there (Message.Asked number 0) (subst (λ (l : List Request). 0 < length l) (sym requests_are) (lit≤ tt))
+  pub started_stands : FlowStands (seats ++ first_seat ∷ []) (messages ++ Message.Asked (length seats) 0 ∷ [])
+  started_stands = record {
+    there = there_more seats now (grows_end seats first_seat) messages stands.there (Message.Asked number 0) (subst (λ (l : List Request). 0 < length l) (sym requests_are) (lit≤ tt));
+    ruled = each_end (λ (x : Seated). IsRuled x.client) seats first_seat stands.ruled (any_obeys c [] f);
+  }
 
   module _ (store : Store) (accepted : Accepts job) (small : time < 2 ^ 64) (named : IsHost host) where
     abbrev before : World
@@ -313,7 +354,7 @@ module _ (seats : List Seated) (messages : List Message) (there : EachIsThere se
       is = λ i. record {
         store = store;
         clients = (map-append (λ (x : Seated). x.client) seats (first_seat ∷ []) ∙ (λ j. before.clients ++ client_is j ∷ []) ∙ ap (λ n. before.clients ++ started n job host time old ∷ []) (sym count)) i;
-        messages = (messages_more seats now (grows_end seats first_seat) messages there (Message.Asked number 0) (world.Asked number (first_of number))
+        messages = (messages_more seats now (grows_end seats first_seat) messages stands.there (Message.Asked number 0) (world.Asked number (first_of number))
             (ap (λ (l : List Request). world.Asked number (slice_index_or l 0 nothing)) requests_are)
             ∙ ap (λ n. before.messages ++ world.Asked n (first_of n) ∷ []) (sym count)) i;
       };

@@ -90,6 +90,10 @@ module _ (entries : List Entry) (es : Trace) (token : Token) (x : List ℕ) (job
     snapshot = r.snapshot;
     reads = r.reads;
     token_is = r.token_is;
+    row = r.row;
+    locked = r.locked;
+    host_is = r.host_is;
+    time_is = r.time_is;
     version_is = record { text = r.cut.text; config = r.cut.config; read = r.cut.read; reads = r.cut.reads; of_version = sym r.version_is };
     entries = entries;
     handed = handed;
@@ -174,7 +178,7 @@ prune_owes es _ r = tt
 
 forget_owes : (choice : Choice) (es : Trace) (ask : Ask) → JobAllows (Job.Forget choice) es ask → Owes (Job.Forget choice) es ask
 forget_owes choice es (Ask.Put token k n x) r = absurd r.0
-forget_owes choice es (Ask.Delete token Kind.Snapshot n) r = (choice, refl)
+forget_owes choice es (Ask.Delete token Kind.Snapshot n) r = (choice, refl, r.1)
 forget_owes choice es (Ask.Delete token Kind.Pack n) r = let same : Kind.Pack ≡ Kind.Snapshot = r.0 in absurd (cc)
 forget_owes choice es (Ask.Delete token Kind.Index n) r = let same : Kind.Index ≡ Kind.Snapshot = r.0 in absurd (cc)
 forget_owes choice es _ r = tt

@@ -20,17 +20,16 @@ use Rattle.repo_session.specs.Rebuilding.{rebuilt, AreWhole}
 use Rattle.repo_session.specs.Received.{Received}
 use Rattle.repo_session.specs.Soundness.{IsHeld}
 use Rattle.repo_session.specs.Traces.{emitted_in}
-use Rattle.repo_prune.specs.declared.choices.Choice.{Choice}
 use Rattle.repo_writing.specs.Laws.{blobs_in}
 use Rattle.repo_writing.specs.Putting.{PutDone}
 use Rattle.repo_world.specs.Bag.{AskedAt, HasBag}
-use Rattle.repo_world.specs.Clients.{handed_by, MadeOf}
-use Rattle.repo_world.specs.Duties.{HasGivenBack, MayPutSnapshot, Tells}
-use Rattle.repo_world.specs.Safe.{IsPutBy, IsAsked, IsThereOrAsked, IsThereOrForgotten, Took, Handed, IsKnown, known_made, HasNoClash, IsSafe, HandedIsOne, known_spoken, by_put}
+use Rattle.repo_world.specs.Clients.{handed_by, MadeOf, task_of}
+use Rattle.repo_world.specs.Duties.{GivesAny, HasGivenBack, MayPutSnapshot, Owes, Tells}
+use Rattle.repo_world.specs.Safe.{IsPutBy, IsAsked, IsForgotten, IsThereOrAsked, IsThereOrForgotten, Took, Handed, IsKnown, known_made, HasNoClash, IsSafe, HandedIsOne, known_spoken, by_put}
 use Rattle.repo_world.specs.World.{World, client}
 use Rattle.repo_world.proofs.Knowing.{sent_now, put_named, put_took, held_known, received_known, owner_of}
 use Rattle.repo_world.proofs.Later.{handed_still, made_still}
-use Rattle.repo_world.proofs.Sending.{dutiful, sent_as_asked}
+use Rattle.repo_world.proofs.Sending.{before, dutiful, own_lock, sent_as_asked}
 use Rattle.repo_world.specs.declared.jobs.Job.{Job}
 
 -- where a snapshot's text comes from: client k, a backup that was handed these entries, made it, and its blobs
@@ -39,6 +38,8 @@ pub record Source (w : World) (k : ℕ) (x : List ℕ) (entries : List Entry) : 
   pub snapshot : Snapshot
   pub reads : IsSnapshotText x snapshot
   pub took : Took w k snapshot.token
+  pub host_is : snapshot.host ≡ (client w k).who.host
+  pub time_is : snapshot.time ≡ (client w k).who.time
   pub items : List Item
   pub made : (b : BlobKind) (y : List ℕ) → blobs_in items b y → MadeOf (client w k).job (client w k).trace y
   pub spells : Spells snapshot.version (blobs_in items) snapshot.tree [] entries
@@ -49,13 +50,16 @@ module _ (w : World) (bag : HasBag w) (clash : HasNoClash w) where
   made_by : (x : List ℕ) (n : Name) (k q : ℕ) (t : Token) → AskedAt (client w k) q (Ask.Put t Kind.Snapshot n x) → (entries : List Entry) × Source w k x entries
   made_by x n k q t h =
       let s = sent_now w bag k q (Ask.Put t Kind.Snapshot n x) h in
-      let r : MayPutSnapshot (client w k).job s.older t x = s.permitted tt in (
+      let r : MayPutSnapshot (client w k).job s.older t x = s.permitted tt in
+      let lock = own_lock (task_of (client w k).job (client w k).who) (Owes (client w k).job) GivesAny s.older r.row Say.Done s.obeys r.locked in (
         r.entries,
         record {
           handed = handed_still (client w k).job s.older (client w k).trace s.since (bag.taken k) r.all ∙ r.handed;
           snapshot = r.snapshot;
           reads = r.reads;
           took = subst (Took w k) (sym r.token_is) (put_took w bag k q t Kind.Snapshot n x h);
+          host_is = r.host_is ∙ lock.0;
+          time_is = r.time_is ∙ lock.1;
           items = r.items;
           made = λ b y among. made_still (client w k).job s.older (client w k).trace s.within s.since (bag.taken k) r.all y (r.made b y among);
           spells = r.spells;
@@ -66,7 +70,7 @@ module _ (w : World) (bag : HasBag w) (clash : HasNoClash w) where
   source_of n x p = made_by x n p.by p.request.sequence p.token (subst (λ a. AskedAt (client w p.by) p.request.sequence a) p.asks (bag.asked p.by p.request p.message))
 
   handed_of : (n : Name) (k : ℕ) (x : List ℕ) (entries : List Entry) → IsPutBy w Kind.Snapshot n x → Source w k x entries → Handed w n entries
-  handed_of n k x entries p s = record { text = x; put = p; snapshot = s.snapshot; reads = s.reads; by = k; took = s.took; handed = s.handed }
+  handed_of n k x entries p s = record { text = x; put = p; snapshot = s.snapshot; reads = s.reads; by = k; took = s.took; handed = s.handed; host_is = s.host_is; time_is = s.time_is }
 
   source_known : (k : ℕ) (x : List ℕ) (own : List Entry) (s : Source w k x own) (b : BlobKind) (y : List ℕ) → blobs_in s.items b y → IsKnown w y
   source_known k x own s b y h = known_made k (s.made b y h)
@@ -134,14 +138,17 @@ module _ (w : World) (bag : HasBag w) (clash : HasNoClash w) where
 
   -- ---- who asked for a deletion
 
-  asked_by : (s : Name) (a : IsAsked w s) → (choice : Choice) × ((client w a.by).job ≡ Job.Forget choice)
+  asked_by : (s : Name) → IsAsked w s → IsForgotten w s
   asked_by s a =
-      let asked = subst (λ (x : Ask). AskedAt (client w a.by) a.request.sequence x) a.asks (bag.asked a.by a.request a.message) in
-      (sent_now w bag a.by a.request.sequence (Ask.Delete a.token Kind.Snapshot s) asked).permitted tt
+      let c = client w a.by in
+      let asked = subst (λ (x : Ask). AskedAt c a.request.sequence x) a.asks (bag.asked a.by a.request a.message) in
+      let b = before c a.request.sequence (Ask.Delete a.token Kind.Snapshot s) (dutiful c (bag.behave a.by)) asked in
+      let owed : Owes c.job b.older (Ask.Delete a.token Kind.Snapshot s) = b.permitted tt in
+      record { asked = a; choice = owed.0; forgets = owed.1; later = b.later; before = b.older; trace = b.trace; at = b.at; chosen = owed.2 }
 
   there_or_forgotten : (s : Name) → IsThereOrAsked w s → IsThereOrForgotten w s
   there_or_forgotten s (inl there) = inl there
-  there_or_forgotten s (inr a) = let f = asked_by s a in inr (record { asked = a; choice = f.0; forgets = f.1 })
+  there_or_forgotten s (inr a) = inr (asked_by s a)
 
   pub bag_safe : IsSafe w
   bag_safe = record {

@@ -7,7 +7,7 @@ use Rattle.repo_session.specs.Clients.{IsReplyTo, exchange}
 use Rattle.repo_session.specs.Feeds.{Fed}
 use Rattle.repo_session.specs.Traces.{Trace, fed_in, feeding, giving}
 use Rattle.repo_session.specs.declared.outcomes.Outcome.{Outcome}
-use Rattle.repo_world.specs.AnyClients.{FitsAny, any_ended, any_given, any_next, client_of, given_to}
+use Rattle.repo_world.specs.AnyClients.{FitsAny, any_ended, any_given, any_next, any_obeys, client_of, given_to}
 use Rattle.repo_backup.specs.Items.{AreTaken}
 use Rattle.repo_world.specs.inner.Seating.{TookItem, TookReply}
 use Rattle.repo_world.specs.Seats.{IsSeated, exchanges_of, kept_item, kept_items, listed, requests_of, say_of, seated, trace_of}
@@ -15,7 +15,6 @@ use Rattle.repo_world.specs.declared.any_clients.AnyClient.{AnyClient}
 use Rattle.repo_world.specs.declared.fed_items.FedItem.{FedItem}
 use Rattle.repo_world.specs.declared.jobs.Job.{Job}
 use Rattle.repo_world.specs.declared.pasts.Past.{Past}
-use Rattle.repo_world.proofs.Owing.{any_dutiful}
 use Rattle.repo_world.proofs.Seating.{each_end, kept_more, there_grows, trace_fed, trace_grows, trace_more}
 
 -- ---- one reply more stands there
@@ -64,7 +63,7 @@ module _ (old new : AnyClient) (pasts : List Past) (fed : List FedItem) (p : Pas
     who = ap (λ g. g.who) job;
     trace = one_more;
     up = refl;
-    dutiful = any_dutiful new (exchanges_of new (pasts ++ p ∷ []) [] replies) false fits_new;
+    ruled = any_obeys new (exchanges_of new (pasts ++ p ∷ []) [] replies) fits_new;
     stays = λ o e. stays (exchanges_of old pasts fed replies) o s.fits e;
     requests = requests_more;
     replies = refl;
@@ -94,7 +93,7 @@ module _ (old new : AnyClient) (pasts : List Past) (fed : List FedItem) (x : Fed
     who = ap (λ g. g.who) job;
     trace = one_fed;
     up = refl;
-    dutiful = any_dutiful new (exchanges_of new pasts (fed ++ x ∷ []) replies) false fits_fed;
+    ruled = any_obeys new (exchanges_of new pasts (fed ++ x ∷ []) replies) fits_fed;
     requests = ap (λ l. l ++ listed (any_next new)) (sym (append-nil (map (λ (q : Past). q.letter) pasts))) ∙ ap (λ n. (map (λ (q : Past). q.letter) pasts ++ listed n) ++ listed (any_next new)) (sym none);
     replies = refl;
   }

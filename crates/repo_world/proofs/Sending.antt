@@ -3,6 +3,7 @@ use Rattle.std.proofs.Common.{◌≡◌, true, inl, inr, ⊎_elim, ℕ, ◌+◌,
 use Rattle.std.proofs.lemmas.Option.{none-some}
 use Rattle.repo_name.specs.declared.kinds.Kind.{Kind}
 use Rattle.repo_name.specs.declared.names.Name.{Name}
+use Rattle.repo_name.specs.declared.rows.LockRow.{LockRow}
 use Rattle.repo_name.specs.declared.tokens.Token.{Token}
 use Rattle.repo_wire.specs.declared.messages.Ask.{Ask}
 use Rattle.repo_wire.specs.declared.messages.Request.{Request}
@@ -82,6 +83,16 @@ one_token task Allows Gives (e ∷ es) t u o (inl x) (inr y) = let m : es ≡ []
 one_token task Allows Gives (e ∷ es) t u o (inr x) (inl y) = let m : es ≡ [] = subst (λ a. May task es a) y.0 o.0 in absurd (subst (λ fs. Exchanged fs Ask.Ticket (Say.Token t)) m x)
 one_token task Allows Gives (e ∷ es) t u o (inr x) (inr y) = one_token task Allows Gives es t u o.3 x y
 
+-- and asks for the lock of its own host and time alone
+pub own_lock : (task : Task) (Allows : Trace → Ask → Type 0) (Gives : Trace → Exchange → Type 0) (es : Trace) (row : LockRow) (say : Say) → Obeys task Allows Gives es → Exchanged es (Ask.Lock row) say
+    → (row.host ≡ task.who.host) × (row.time ≡ task.who.time)
+own_lock task Allows Gives [] row say o h = absurd h
+own_lock task Allows Gives (e ∷ es) row say o (inl h) =
+    let m : May task es (Ask.Lock row) = subst (λ a. May task es a) h.0 o.0 in
+    let is : row ≡ lock_row task m.0 = m.2 in
+    (ap (λ (r : LockRow). r.host) is, ap (λ (r : LockRow). r.time) is)
+own_lock task Allows Gives (e ∷ es) row say o (inr h) = own_lock task Allows Gives es row say o.3 h
+
 -- ---- what a client owes
 
 nobody_dutiful : IsDutiful nobody
@@ -139,6 +150,31 @@ module _ (b : Job) (who : Asker) where
 
 pub sending : (c : Client) (q : ℕ) (a : Ask) → IsDutiful c → AskedAt c q a → Sending c.job c.who c.trace a
 sending c q a is h = sending_next c.job c.who c.next c.trace q a is.obeys is.pending h
+
+-- ---- where it stood when it asked
+
+-- the exchanges before its request of a number, by which it might ask for that
+pub record Before (b : Job) (es : Trace) (q : ℕ) (a : Ask) : Type 0 where
+  pub later : Trace
+  pub older : Trace
+  pub trace : es ≡ later ++ older
+  pub at : q ≡ length older + 1
+  pub permitted : IsPermitted (Owes b) older a
+
+before_in : (b : Job) (who : Asker) (es : Trace) (q : ℕ) (a : Ask) → Keeps b who es → AskedIn es q a → Before b es q a
+before_in b who [] q a o h = absurd h
+before_in b who (e ∷ es) q a o (inl h) = record { later = e ∷ []; older = es; trace = refl; at = h.1; permitted = subst (λ c. IsPermitted (Owes b) es c) h.0 o.1 }
+before_in b who (e ∷ es) q a o (inr h) =
+    let g = before_in b who es q a o.3 h in
+    record { later = e ∷ g.later; older = g.older; trace = ap (λ l. e ∷ l) g.trace; at = g.at; permitted = g.permitted }
+
+before_next : (b : Job) (who : Asker) (next : Option Request) (es : Trace) (q : ℕ) (a : Ask) → Keeps b who es → ((r : Request) → next ≡ Some r → IsNextRequest (task_of b who) (Owes b) es r) → AskedIn (with_next next es) q a → Before b es q a
+before_next b who None es q a o m h = before_in b who es q a o h
+before_next b who (Some r) es q a o m (inl h) = record { later = []; older = es; trace = refl; at = h.1; permitted = subst (λ c. IsPermitted (Owes b) es c) h.0 (m r refl).permitted }
+before_next b who (Some r) es q a o m (inr h) = before_in b who es q a o h
+
+pub before : (c : Client) (q : ℕ) (a : Ask) → IsDutiful c → AskedAt c q a → Before c.job c.trace q a
+before c q a is h = before_next c.job c.who c.next c.trace q a is.obeys is.pending h
 
 -- ---- who deletes
 

@@ -4,6 +4,7 @@ use Rattle.repo_name.specs.declared.kinds.BlobKind.{BlobKind}
 use Rattle.repo_name.specs.declared.kinds.BlobKind.TheVariants.{Tree}
 use Rattle.repo_name.specs.declared.kinds.Kind.{Kind}
 use Rattle.repo_name.specs.declared.names.Name.{Name}
+use Rattle.repo_name.specs.declared.rows.LockRow.{LockRow}
 use Rattle.repo_name.specs.declared.tokens.Token.{Token}
 use Rattle.repo_wire.specs.declared.messages.Ask.{Ask}
 use Rattle.repo_wire.specs.declared.messages.Request.{Request}
@@ -28,6 +29,7 @@ use Rattle.repo_session.specs.declared.outcomes.Outcome.{Outcome}
 use Rattle.repo_writing.specs.Laws.{AreGiven, IsPutOrKept, blobs_in}
 use Rattle.repo_writing.specs.Putting.{IsIndexOf, IsIndexed, PutDone}
 use Rattle.repo_backup.specs.PieceRules.{AreOver}
+use Rattle.repo_prune.specs.Forgetting.{MayForget}
 use Rattle.repo_prune.specs.Upgrading.{HasReadVersion}
 use Rattle.repo_prune.specs.declared.choices.Choice.{Choice}
 use Rattle.repo_world.specs.Clients.{Client, MadeOf, handed_by, task_of}
@@ -44,12 +46,16 @@ abbrev pub IsAllHanded : Job → Trace → Type 0
 IsAllHanded Job.Pieces es = AreOver es
 IsAllHanded _ es = ⊤
 
--- a snapshot may be put: it has the token that puts it, and the version of the config that was read; all was handed to the job; and its tree spells that in
--- blobs that were made of it, each of which an index gives that was read, or was put and is done
+-- a snapshot may be put: it has the token that puts it, the host and the time of the lock that was granted, and the version of the config that was read;
+-- all was handed to the job; and its tree spells that in blobs that were made of it, each of which an index gives that was read, or was put and is done
 pub record MayPutSnapshot (job : Job) (es : Trace) (token : Token) (x : List ℕ) : Type 0 where
   pub snapshot : Snapshot
   pub reads : IsSnapshotText x snapshot
   pub token_is : snapshot.token ≡ token
+  pub row : LockRow
+  pub locked : Exchanged es (Ask.Lock row) Say.Done
+  pub host_is : snapshot.host ≡ row.host
+  pub time_is : snapshot.time ≡ row.time
   pub version_is : HasReadVersion es snapshot.version
   pub entries : List Entry
   pub handed : handed_by job es ≡ Some entries
@@ -90,14 +96,15 @@ pub record PackMayGo (es : Trace) (n : Name) : Type 0 where
 -- ---- what it owes
 
 -- what it owes where it asks for this. It puts true packs, and indexes of packs that it put or keeps, before it deletes anything; a snapshot where it may.
--- It deletes an index or a pack where that may go, and a snapshot as a forget alone. (By the order whoever deletes wants the lock alone, and is no backup.)
+-- It deletes an index or a pack where that may go, and a snapshot as a forget alone, which chose it by what it had read. (By the order whoever deletes
+-- wants the lock alone, and is no backup.)
 abbrev pub Owes : Job → Trace → Ask → Type 0
 Owes job es (Ask.Put token Kind.Pack n x) = NothingDeleted es × ((items : List Item) × IsTruePack x items)
 Owes job es (Ask.Put token Kind.Index n x) = NothingDeleted es × IsIndexOf (IsPutOrKept es) x
 Owes job es (Ask.Put token Kind.Snapshot n x) = MayPutSnapshot job es token x
 Owes job es (Ask.Delete token Kind.Index n) = IndexMayGo es n
 Owes job es (Ask.Delete token Kind.Pack n) = PackMayGo es n
-Owes job es (Ask.Delete token Kind.Snapshot n) = (choice : Choice) × (job ≡ Job.Forget choice)
+Owes job es (Ask.Delete token Kind.Snapshot n) = (choice : Choice) × (job ≡ Job.Forget choice) × MayForget choice es n
 Owes job es _ = ⊤
 
 -- it may give out anything

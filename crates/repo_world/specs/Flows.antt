@@ -3,6 +3,7 @@ use Rattle.std.specs.Prelude.{◌<◌, ℕ, List, length, map, slice_index_or}
 use Rattle.repo_store.specs.Stores.{Store}
 use Rattle.repo_session.specs.Traces.{Each}
 use Rattle.repo_world.specs.Clients.{Client}
+use Rattle.repo_world.specs.Rules.{IsRuled}
 use Rattle.repo_world.specs.Seats.{Seated, empty_seat, nothing, silence}
 use Rattle.repo_world.specs.World as world
 use Rattle.repo_world.specs.World.{World}
@@ -30,6 +31,11 @@ IsThere seats (Message.Said k reply) = reply < length (seat_at seats k).replies
 -- each does
 abbrev pub EachIsThere : List Seated → List Message → Type 0
 EachIsThere seats messages = Each (IsThere seats) messages
+
+-- so it is, and each client goes by its job's whole rule
+pub record FlowStands (seats : List Seated) (messages : List Message) : Type 0 where
+  pub there : EachIsThere seats messages
+  pub ruled : Each (λ seat. IsRuled seat.client) seats
 
 -- the clients
 abbrev pub clients_in : Flow → List Client

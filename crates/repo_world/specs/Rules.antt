@@ -1,10 +1,11 @@
--- The whole rule by which each job of this repository goes: more than a client owes.
+-- The whole rule by which each job of this repository goes, and its clients: more than a client owes.
 use Rattle.repo_wire.specs.declared.messages.Ask.{Ask}
 use Rattle.repo_session.specs.declared.outcomes.Outcome.{Outcome}
 use Rattle.repo_session.specs.Askers.{Asker}
+use Rattle.repo_session.specs.Clients.{IsObedientWith}
 use Rattle.repo_session.specs.Jobs.{Rule, task_under}
 use Rattle.repo_session.specs.Order.{Task}
-use Rattle.repo_session.specs.Traces.{Exchange, Trace}
+use Rattle.repo_session.specs.Traces.{Each, Exchange, Trace}
 use Rattle.repo_backup.specs.BackupStates.{backup_rule}
 use Rattle.repo_backup.specs.PieceRules.{piece_rule}
 use Rattle.repo_restore.specs.Listing.{list_rule}
@@ -13,6 +14,8 @@ use Rattle.repo_prune.specs.Forgetting.{forget_rule}
 use Rattle.repo_prune.specs.Pruning.{prune_rule}
 use Rattle.repo_prune.specs.Upgrading.{upgrade_rule}
 use Rattle.repo_check.specs.Checking.{check_rule}
+use Rattle.repo_world.specs.Clients.{Client}
+use Rattle.repo_world.specs.World.{World}
 use Rattle.repo_world.specs.declared.jobs.Job.{Job}
 
 -- a job's rule
@@ -45,3 +48,13 @@ JobConcludes job = (rule_of job).concludes
 -- after which exchanges its rule lets it want input
 abbrev pub JobWants : Job → Trace → Type 0
 JobWants job = (rule_of job).wanting
+
+-- ---- who goes by it
+
+-- a client goes by its job's whole rule: each of its requests, what is pending, what it gave out, and how it ended
+abbrev pub IsRuled : Client → Type 0
+IsRuled c = IsObedientWith (ruled_task c.job c.who) (JobAllows c.job) (JobGives c.job) (JobConcludes c.job) (JobWants c.job) c.next c.outcome c.trace
+
+-- each client of the world does
+abbrev pub AllAreRuled : World → Type 0
+AllAreRuled w = Each IsRuled w.clients

@@ -66,7 +66,7 @@ pub record WorldStands {S : Type 0} (Honest : S → Type 0) (store : S → Store
 abbrev pub IsSafely : World → Type 0
 IsSafely w = HasNoClash w → IsSafe w × HandedIsOne w
 
--- a device of this sort failed: its count of failures is above this one's, or stands at its greatest
+-- some device of this sort failed: its count of failures is above this one's, or stands at its greatest. (That it is this device later isn't said.)
 abbrev pub HasFailedSince : {S : Type 0} → (S → ℕ) → S → Type 0
 HasFailedSince {S} failed old = (device : S) × ((failed old < failed device) ⊎ (failed device ≡ greatest_count))
 

@@ -9,10 +9,11 @@
 //! Promised: from a store without objects, over every list of events (clients start and stop for good, a backup that is fed is
 //! given an item, messages are delivered late, again, in any order or never, calls of the store's device fail, anybody asks the store for anything that is no
 //! put, no deletion and no upgrade, such as a lock or a lock's end, the store is closed and opened), every world is safe ([`every_run_is_safe`]): each snapshot in the store has all its blobs there and
-//! spells just the names and the bytes that were handed to its backup, at its start or as the items spell them that it was fed, each restore that is complete gave out just these,
-//! and a snapshot that was reported as stored is there until its deletion is asked for.
+//! spells just the names and the bytes that were handed to its backup, at its start or as the items spell them that it was fed,
+//! and has its host and time, each restore that is complete gave out just these, and a snapshot that was reported as stored is there
+//! until a forget that chose it asks for its deletion.
 //!
-//! A [`World`] makes just such runs, and is safe at every moment.
+//! A [`World`] makes just such runs, and is safe at every moment; and each of its clients goes by its job's whole rule (`Rules`).
 //!
 //! Premises: no two of the byte lists that were sent, that stand as blobs in these, or that a backup made, have one name. Of the laws
 //! alone: the store makes steps of the store machine; each client is dutiful (`Duties`): it asks in order, what it owes holds where it

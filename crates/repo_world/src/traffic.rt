@@ -7,11 +7,13 @@ ghost use Rattle.repo_wire.specs.Stream.{FitsFrame};
 ghost use Rattle.repo_store.specs.Stores.{Store};
 ghost use Rattle.repo_store.specs.declared.faults.Armed.{Armed};
 ghost use Rattle.repo_session.specs.Askers.{asker};
+ghost use Rattle.repo_session.specs.Traces.{Each};
 ghost use Rattle.repo_backup.specs.Items.{IsCountOf};
 ghost use Rattle.repo_world.specs.Clients.{MayBeFed};
 ghost use Rattle.repo_world.specs.Events.{BeginsJob, Gives, Stops};
 ghost use Rattle.repo_world.specs.Flows.{clients_in, messages_in, seat_at, world_of};
 ghost use Rattle.repo_world.specs.Reports.{client_lines};
+ghost use Rattle.repo_world.specs.Rules.{IsRuled};
 ghost use Rattle.repo_world.specs.inner.Seating.{StepsAsArmed};
 ghost use Rattle.repo_world.specs.World.{instance_of, client, versions_of};
 ghost use Rattle.repo_world.specs.Calmness.{IsIgnored};
@@ -40,13 +42,13 @@ pub struct Traffic {
 }
 
 impl Model for Traffic {
-    ghost use Rattle.repo_world.specs.Flows.{EachIsThere, Flow};
+    ghost use Rattle.repo_world.specs.Flows.{Flow, FlowStands};
 
     ghost Value = { Flow };
 
     ghost view = { λ t. record { seats = t.seats.items; messages = t.messages.items } };
 
-    ghost invariant = { λ t. EachIsThere t.seats.items t.messages.items };
+    ghost invariant = { λ t. FlowStands t.seats.items t.messages.items };
 }
 
 /// Who the client of a number is, an old one or not. It fails for memory alone.
@@ -108,9 +110,10 @@ impl Traffic {
         self.seats.as_slice().get(client)
     }
 
-    /// How many clients started.
+    /// How many clients started. Each goes by its job's whole rule.
     pub fn clients(&self) -> usize
-        ensures { result ≡ length self.now.seats }
+        ensures count { result ≡ length self.now.seats }
+        ensures ruled { Each IsRuled (clients_in self.now) }
     {
         self.seats.len()
     }

@@ -13,6 +13,7 @@ ghost use Rattle.repo_store.specs.Memory.{store_of};
 ghost use Rattle.repo_store.specs.Stores.{empty};
 ghost use Rattle.repo_world.specs.Laws.{IsEmpty};
 ghost use Rattle.repo_world.specs.Reports.{IsReport};
+ghost use Rattle.repo_world.specs.Rules.{AllAreRuled};
 ghost use Rattle.repo_world.specs.Stages.{BeginsWithConfig, HasFailedSince, IsSafely, Leads, LeadsOn, StopsAfter, Tells, seen};
 ghost use Rattle.repo_world.specs.Flows.{seat_at};
 ghost use Rattle.repo_world.specs.World as world;
@@ -104,7 +105,7 @@ impl<S: Shelf + Drop> World<S> {
     /// A world over a device that is honest, has no object, and gave no ticket, with this config. The config's version has
     /// to be one that there is, and its target within its limits.
     ///
-    /// `Exists` comes first, where the device has a config. `Fault` comes only where the device failed.
+    /// `Exists` comes first, where the device has a config. `Fault` comes only where some device of this sort failed.
     pub fn new(alloc: Global, shelf: S, config: &Config) -> Result<World<S>, InitError>
         requires honest { S.honest shelf }
         requires empty { IsEmpty (S.store shelf) }
@@ -114,6 +115,7 @@ impl<S: Shelf + Drop> World<S> {
         ensures exists { IsErrOf result InitError.Exists → (S.store shelf).config ≢ None }
         ensures cause { IsErrOf result InitError.Fault → HasFailedSince S.failed shelf }
         ensures safe { IfOk result (λ w. IsSafely (seen S.store w)) }
+        ensures ruled { IfOk result (λ w. AllAreRuled (seen S.store w)) }
     {
         let mut device = shelf;
         init(alloc, &mut device, config)?;
@@ -216,10 +218,11 @@ impl<S: Shelf + Drop> World<S> {
     }
 
     /// An event happens. It fails for memory alone, and then nothing changed; no memory is asked for where it is ignored, nor
-    /// for a crash and a restart.
+    /// for a crash and a restart. Each client goes by its job's whole rule.
     pub fn apply(&mut self, event: Event) -> Result<Applied, AllocError>
         ensures happens { IfOk result (λ applied. Leads S.store S.failed self.old event.entry applied self.new) }
         ensures safe { IsSafely (seen S.store self.new) }
+        ensures ruled { AllAreRuled (seen S.store self.new) }
         ensures err { OnErr result (seen S.store self.new ≡ seen S.store self.old) }
         ensures calm { IsCalm (seen S.store self.old) event.entry → IsOk result }
     {
@@ -237,8 +240,9 @@ impl<S: Shelf + Drop> World<S> {
             Event::Crash(client) => Ok(self.crash(client)),
             Event::Restart => Ok(self.restart()),
         };
-        // A look at a field tells the prover the invariant.
+        // A look at a field tells the prover the invariant, and one at the clients that each goes by its rule.
         let _ = &self.shelf;
+        let _ = self.flow.clients();
         applied
     }
 
@@ -246,31 +250,35 @@ impl<S: Shelf + Drop> World<S> {
     fn apply_lent(&mut self, event: &Event) -> Result<Applied, AllocError>
         ensures happens { IfOk result (λ applied. Leads S.store S.failed self.old event.now applied self.new) }
         ensures safe { IsSafely (seen S.store self.new) }
+        ensures ruled { AllAreRuled (seen S.store self.new) }
         ensures err { OnErr result (seen S.store self.new ≡ seen S.store self.old) }
     {
-        // A look at a field tells the prover the invariant.
+        // A look at a field tells the prover the invariant, and one at the clients that each goes by its rule.
         let _ = &self.shelf;
+        let _ = self.flow.clients();
         let copy = copy_of_event(self.alloc, event)?;
         self.apply(copy)
     }
 
     /// Somebody who is no client sends a request, as in [`Event::Ask`], and is told the reply; none is where nobody may send
     /// such a request, and then nothing changed. It fails for memory alone, and then nothing changed; no memory is asked for
-    /// where there is no reply.
+    /// where there is no reply. Each client goes by its job's whole rule.
     pub fn ask(&mut self, request: &Request) -> Result<Option<Reply>, AllocError>
         ensures told { IfOk result (λ found. Tells S.store S.failed self.old request.now found self.new) }
         ensures safe { IsSafely (seen S.store self.new) }
+        ensures ruled { AllAreRuled (seen S.store self.new) }
         ensures err { OnErr result (seen S.store self.new ≡ seen S.store self.old) }
         ensures calm { ¬ MayAnybodySend request.now → IsOk result }
     {
         let found = self.answered(request);
-        // A look at a field tells the prover the invariant.
+        // A look at a field tells the prover the invariant, and one at the clients that each goes by its rule.
         let _ = &self.shelf;
+        let _ = self.flow.clients();
         found
     }
 
     /// The events happen, one after another, as [`World::apply`] has each of them happen, until there is no memory. The
-    /// world is safe after those that happened.
+    /// world is safe after those that happened, and each client goes by its job's whole rule.
     pub fn run(&mut self, events: &[Event]) -> Result<(), RunError>
         ensures leads { OnOk result (LeadsOn S.store S.failed self.old events.now self.new) }
         ensures ran { OnOk result (Run (seen S.store self.old) events.now (seen S.store self.new)) }
@@ -278,9 +286,11 @@ impl<S: Shelf + Drop> World<S> {
             × Run (seen S.store self.old) (take e.applied events.now) (seen S.store self.new)
             × StopsAfter S.store S.failed self.old (take e.applied events.now) self.new) }
         ensures safe { IsSafely (seen S.store self.new) }
+        ensures ruled { AllAreRuled (seen S.store self.new) }
     {
-        // A look at a field tells the prover the invariant.
+        // A look at a field tells the prover the invariant, and one at the clients that each goes by its rule.
         let _ = &self.shelf;
+        let _ = self.flow.clients();
         for (applied, event) in events.iter().enumerate() {
             if self.apply_lent(event).is_err() {
                 return Err(RunError { applied });
@@ -359,9 +369,10 @@ impl<S: Shelf + Drop> World<S> {
         self.shelf.get(kind, name)
     }
 
-    /// How many clients started.
+    /// How many clients started. Each goes by its job's whole rule: all that it asked, gave out and told, that rule allows.
     pub fn clients(&self) -> usize
-        ensures { result ≡ length (seen S.store self.now).clients }
+        ensures count { result ≡ length (seen S.store self.now).clients }
+        ensures ruled { AllAreRuled (seen S.store self.now) }
     {
         self.flow.clients()
     }

@@ -16,8 +16,8 @@ use Rattle.repo_session.specs.Traces.{fed_in, feeding}
 use Rattle.repo_backup.specs.Items.{AreTaken, IsCountOf, fed_part, size_of}
 use Rattle.repo_backup.specs.declared.items.Item.{Item}
 use Rattle.repo_world.specs.Clients.{IsWaiting, MayBeFed}
-use Rattle.repo_world.specs.Duties.{IsDutiful}
 use Rattle.repo_world.specs.Events.{RefusesItem}
+use Rattle.repo_world.specs.Rules.{IsRuled}
 use Rattle.repo_world.specs.Seats.{Seated, listed, nothing, silence}
 use Rattle.repo_world.specs.World.{crashed_one}
 use Rattle.repo_world.specs.declared.seats.Arrival.{Arrival}
@@ -53,7 +53,7 @@ pub record TookReply (old : Seated) (reply : Reply) (new : Seated) : Type 0 wher
   pub who : new.client.who ≡ old.client.who
   pub trace : new.client.trace ≡ exchange request reply emitted ∷ old.client.trace
   pub up : new.client.crashed ≡ false
-  pub dutiful : IsDutiful new.client
+  pub ruled : IsRuled new.client
   pub stays : (o : Outcome) → old.client.outcome ≡ Some o → new.client.outcome ≡ Some o
   pub requests : new.requests ≡ old.requests ++ listed new.client.next
   pub replies : new.replies ≡ old.replies
@@ -67,7 +67,7 @@ pub record TookItem (old : Seated) (item : Fed) (new : Seated) : Type 0 where
   pub who : new.client.who ≡ old.client.who
   pub trace : new.client.trace ≡ feeding item old.client.trace
   pub up : new.client.crashed ≡ false
-  pub dutiful : IsDutiful new.client
+  pub ruled : IsRuled new.client
   pub requests : new.requests ≡ old.requests ++ listed new.client.next
   pub replies : new.replies ≡ old.replies
 

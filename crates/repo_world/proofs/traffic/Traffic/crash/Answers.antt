@@ -6,9 +6,19 @@ use Rattle.repo_world.specs.inner.Seating.{Crashed}
 use Rattle.repo_world.specs.Seats.{Seated, empty_seat}
 use Rattle.repo_world.specs.Clients.{Client}
 use Rattle.repo_world.specs.declared.events.Applied.{Applied}
-use Rattle.repo_world.proofs.FlowParts.{crashed_there, crashes, same_world}
+use Rattle.repo_world.proofs.FlowParts.{crashed_stands, crashes, kept_stands, same_world}
 use Rattle.repo_world.proofs.Flowing.{client_there}
 use Rattle.repo_world.proofs.traffic.Traffic.crash.Goals as goal
+
+pub invariant_of-self : goal.invariant_of-self
+invariant_of-self c =
+    let seats = c.self.inside.seats.items in
+    let messages = c.self.inside.messages.items in
+    let k = c.args.client in
+    let s = c.index_mut-seat.result.now in
+    let less : k < length seats = search rules in
+    let found : seat_at seats k ≡ s = get_or_default seats k empty_seat s less ∙ sym c.index_mut-seat.ensures.value in
+    kept_stands seats messages k c.self.invariant less s (sym found)
 
 pub returns-then-is_crashed : goal.returns-then-is_crashed
 returns-then-is_crashed c = λ store.
@@ -30,7 +40,7 @@ invariant_of-self-2 c =
     let less : k < length seats = search rules in
     let found : seat_at seats k ≡ c.index_mut-seat.result.now = get_or_default seats k empty_seat c.index_mut-seat.result.now less ∙ sym c.index_mut-seat.ensures.value in
     let crashed : Crashed (seat_at seats k) c.crash.new.self = subst (λ (x : Seated). Crashed x c.crash.new.self) (sym found) c.crash.ensures in
-    crashed_there seats messages k c.self.invariant less c.crash.new.self crashed
+    crashed_stands seats messages k c.self.invariant less c.crash.new.self crashed
 
 pub returns : goal.returns
 returns c = λ store.

@@ -3,13 +3,13 @@ use Rattle.std.proofs.lemmas.List.{get_or_default}
 use Rattle.repo_backup.specs.Items.{fed_part}
 use Rattle.repo_world.specs.Clients.{Client, MayBeFed}
 use Rattle.repo_world.specs.Events.{Gives}
-use Rattle.repo_world.specs.Flows.{EachIsThere, Flow, seat_at, world_of}
+use Rattle.repo_world.specs.Flows.{Flow, FlowStands, seat_at, world_of}
 use Rattle.repo_world.specs.inner.Seating.{SeatFed, TookItem}
 use Rattle.repo_world.specs.Seats.{Seated, empty_seat}
 use Rattle.repo_world.specs.declared.events.Applied.{Applied}
 use Rattle.repo_world.specs.declared.messages.Message.{Message}
 use Rattle.repo_world.specs.declared.seats.Intake.{Intake}
-use Rattle.repo_world.proofs.FlowParts.{asked_from, fed_told, kept_there, last_is, last_there, more_is, more_there, none_from, same_world, unfeeds}
+use Rattle.repo_world.proofs.FlowParts.{asked_from, fed_told, kept_stands, last_is, last_stands, more_is, more_stands, none_from, same_world, unfeeds}
 use Rattle.repo_world.proofs.Flowing.{client_there}
 use Rattle.repo_world.proofs.traffic.Traffic.feed.Goals as goal
 
@@ -23,7 +23,7 @@ invariant_of-self c =
     let s = c.index_mut-seat.result.now in
     let less : k < length seats = search rules in
     let found : seat_at seats k ≡ s = get_or_default seats k empty_seat s less ∙ sym c.index_mut-seat.ensures.value in
-    kept_there seats messages k c.self.invariant less s (sym found)
+    kept_stands seats messages k c.self.invariant less s (sym found)
 
 pub returns-then-not-may_be_fed-clause-gives : goal.returns-then-not-may_be_fed-clause-gives
 returns-then-not-may_be_fed-clause-gives c = λ store.
@@ -46,7 +46,7 @@ invariant_of-self-in_err-reserve c =
     let less : k < length seats = search rules in
     let found : seat_at seats k ≡ s = get_or_default seats k empty_seat s less ∙ sym c.index_mut-seat.ensures.value in
     let rest : c.reserve.new.self.items ≡ messages = search rules in
-    subst (EachIsThere (slice_set seats k s)) (sym rest) (kept_there seats messages k c.self.invariant less s (sym found))
+    subst (FlowStands (slice_set seats k s)) (sym rest) (kept_stands seats messages k c.self.invariant less s (sym found))
 
 -- ---- it failed, or was refused
 
@@ -59,7 +59,7 @@ invariant_of-self-in_err-error c =
     let less : k < length seats = search rules in
     let found : seat_at seats k ≡ s = get_or_default seats k empty_seat s less ∙ sym c.index_mut-seat.ensures.value in
     let rest : c.reserve.new.self.items ≡ messages = search rules in
-    subst (EachIsThere (slice_set seats k c.feed.new.self)) (sym rest) (kept_there seats messages k c.self.invariant less c.feed.new.self (c.in_err-error.ensures.err ∙ sym found))
+    subst (FlowStands (slice_set seats k c.feed.new.self)) (sym rest) (kept_stands seats messages k c.self.invariant less c.feed.new.self (c.in_err-error.ensures.err ∙ sym found))
 
 pub invariant_of-self-in-Unfed : goal.invariant_of-self-in-Unfed
 invariant_of-self-in-Unfed c =
@@ -72,7 +72,7 @@ invariant_of-self-in-Unfed c =
     let found : seat_at seats k ≡ s = get_or_default seats k empty_seat s less ∙ sym c.index_mut-seat.ensures.value in
     let rest : c.reserve.new.self.items ≡ messages = search rules in
     let fed : SeatFed s c.args.item new (Intake.Unfed c.in-Unfed.error) = subst (SeatFed s c.args.item new) c.in-Unfed.is c.in_ok-error.ensures.fed in
-    subst (EachIsThere (slice_set seats k new)) (sym rest) (kept_there seats messages k c.self.invariant less new (fed.1 ∙ sym found))
+    subst (FlowStands (slice_set seats k new)) (sym rest) (kept_stands seats messages k c.self.invariant less new (fed.1 ∙ sym found))
 
 pub returns-in-Unfed-clause-gives : goal.returns-in-Unfed-clause-gives
 returns-in-Unfed-clause-gives c = λ store.
@@ -110,7 +110,7 @@ invariant_of-self-in-Continue-branch-4 c =
     let next = asked_from _ c.pending.result new.client.next c.pending.ensures (sym c.is_some-asks.ensures ∙ c.if-asks.true) in
     let pushed : c.push.new.self.items ≡ messages ++ Message.Asked k (c.requests-request.result - 1) ∷ [] = search rules in
     let last : c.push.new.self.items ≡ messages ++ Message.Asked k (length new.requests - 1) ∷ [] = pushed ∙ ap (λ m. messages ++ Message.Asked k (m - 1) ∷ []) c.requests-request.ensures in
-    subst (EachIsThere (slice_set seats k new)) (sym last) (more_there seats messages k c.self.invariant less new t.requests t.replies next.0 next.1)
+    subst (FlowStands (slice_set seats k new)) (sym last) (more_stands seats messages k c.self.invariant less new t.requests t.replies next.0 next.1 t.ruled)
 
 pub invariant_of-self-else-asks : goal.invariant_of-self-else-asks
 invariant_of-self-else-asks c =
@@ -125,7 +125,7 @@ invariant_of-self-else-asks c =
     let fed : SeatFed s c.args.item new (Intake.Taken n) = subst (SeatFed s c.args.item new) c.in-Taken.is c.in_ok-error.ensures.fed in
     let t : TookItem (seat_at seats k) (fed_part n c.args.item) new = subst (λ (x : Seated). TookItem x (fed_part n c.args.item) new) (sym found) fed.1 in
     let rest : c.reserve.new.self.items ≡ messages = search rules in
-    subst (EachIsThere (slice_set seats k new)) (sym rest) (last_there seats messages k c.self.invariant less new t.requests t.replies)
+    subst (FlowStands (slice_set seats k new)) (sym rest) (last_stands seats messages k c.self.invariant less new t.requests t.replies t.ruled)
 
 pub returns-in_ok-push-in-Taken-clause-gives : goal.returns-in_ok-push-in-Taken-clause-gives
 returns-in_ok-push-in-Taken-clause-gives c = λ store.

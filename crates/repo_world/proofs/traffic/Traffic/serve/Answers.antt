@@ -1,11 +1,11 @@
 use Rattle.std.proofs.Common.{rules, ◌≡◌, ◌∙◌, ◌<◌, ◌++◌, ◌∷◌, [], List, length, slice_set, slice_index_or, sym, ap, subst}
 use Rattle.std.proofs.lemmas.List.{get_or_default}
 use Rattle.repo_world.specs.Events.{Serves}
-use Rattle.repo_world.specs.Flows.{EachIsThere, Flow, seat_at, world_of}
+use Rattle.repo_world.specs.Flows.{Flow, FlowStands, seat_at, world_of}
 use Rattle.repo_world.specs.inner.Seating.{Answered, Replied, StepsAsArmed}
 use Rattle.repo_world.specs.Seats.{Seated, empty_seat, nothing}
 use Rattle.repo_world.specs.declared.messages.Message.{Message}
-use Rattle.repo_world.proofs.FlowParts.{kept_there, served, served_there}
+use Rattle.repo_world.proofs.FlowParts.{kept_stands, served, served_stands}
 use Rattle.repo_world.proofs.Flowing.{within_requests}
 use Rattle.repo_world.proofs.traffic.Traffic.serve.Goals as goal
 
@@ -17,7 +17,7 @@ invariant_of-self-in_err-serve g c =
     let less : k < length seats = within_requests seats k c.args.request (subst (λ (f : Flow). c.args.request < length (seat_at f.seats k).requests) (sym c.self.view_is) c.requires) in
     let found : seat_at seats k ≡ c.index_mut-seat.result.now = get_or_default seats k empty_seat c.index_mut-seat.result.now less ∙ sym c.index_mut-seat.ensures.value in
     let rest : c.reserve.new.self.items ≡ messages = search rules in
-    subst (EachIsThere (slice_set seats k c.serve.new.self)) (sym rest) (kept_there seats messages k c.self.invariant less c.serve.new.self (c.in_err-serve.ensures.err ∙ sym found))
+    subst (FlowStands (slice_set seats k c.serve.new.self)) (sym rest) (kept_stands seats messages k c.self.invariant less c.serve.new.self (c.in_err-serve.ensures.err ∙ sym found))
 
 pub invariant_of-self-2 : goal.invariant_of-self-2
 invariant_of-self-2 g c =
@@ -29,8 +29,8 @@ invariant_of-self-2 g c =
     let place : c.replies-reply.result ≡ length (seat_at seats k).replies = c.replies-reply.ensures ∙ ap (λ (x : Seated). length x.replies) (sym found) in
     let pushed : c.push.new.self.items ≡ messages ++ Message.Said k c.replies-reply.result ∷ [] = search rules in
     let replied : Replied (seat_at seats k) c.serve.new.self = subst (λ (o : Seated). Replied o c.serve.new.self) (sym found) c.in_ok-serve.ensures.replied in
-    subst (EachIsThere (slice_set seats k c.serve.new.self)) (sym (pushed ∙ ap (λ n. messages ++ Message.Said k n ∷ []) place))
-    (served_there seats messages k c.self.invariant less c.serve.new.self replied.0 replied.1)
+    subst (FlowStands (slice_set seats k c.serve.new.self)) (sym (pushed ∙ ap (λ n. messages ++ Message.Said k n ∷ []) place))
+    (served_stands seats messages k c.self.invariant less c.serve.new.self replied.0 replied.1)
 
 pub returns-clause-serves : goal.returns-clause-serves
 returns-clause-serves g c h =

@@ -2,13 +2,13 @@ use Rattle.std.proofs.Common.{rules, ◌≡◌, ◌∙◌, ◌<◌, ◌^◌, ◌
 use Rattle.repo_session.specs.Askers.{Asker, asker}
 use Rattle.repo_world.specs.AnyClients.{any_next, client_of}
 use Rattle.repo_world.specs.Events.{BeginsJob}
-use Rattle.repo_world.specs.Flows.{EachIsThere, Flow, world_of}
+use Rattle.repo_world.specs.Flows.{Flow, FlowStands, world_of}
 use Rattle.repo_world.specs.Seats.{Seated, listed}
 use Rattle.repo_world.specs.Starting.{IsNotBegun}
 use Rattle.repo_world.specs.World.{versions_of, instance_of}
 use Rattle.repo_world.specs.declared.events.Applied.{Applied}
 use Rattle.repo_world.specs.declared.messages.Message.{Message}
-use Rattle.repo_world.proofs.FlowParts.{started_there, starts}
+use Rattle.repo_world.proofs.FlowParts.{started_stands, starts}
 use Rattle.repo_world.proofs.traffic.Traffic.start.Goals as goal
 
 pub invariant_of-self-in-Ok : goal.invariant_of-self-in-Ok
@@ -23,19 +23,19 @@ invariant_of-self-in-Ok c =
     let now : record { seats = c.push.new.self.items; messages = c.push-in-Ok.new.self.items }
     ≡ record { seats = seats ++ record { client = client_of client [] false; requests = listed (any_next client); replies = [] } ∷ []; messages = messages ++ Message.Asked (length seats) 0 ∷ [] } =
     λ i. record { seats = (pushed ∙ ap (λ (x : Seated). seats ++ x ∷ []) c.new-in-Ok.ensures) i; messages = (said ∙ ap (λ n. messages ++ Message.Asked n 0 ∷ []) number) i } in
-    subst (λ (f : Flow). EachIsThere f.seats f.messages) (sym now) (started_there seats messages c.self.invariant client c.in-Ok.ensures.fits c.args.job c.args.host.now c.args.time c.args.old given)
+    subst (λ (f : Flow). FlowStands f.seats f.messages) (sym now) (started_stands seats messages c.self.invariant client c.in-Ok.ensures.fits c.args.job c.args.host.now c.args.time c.args.old given)
 
 pub invariant_of-self-in-Err-Refused : goal.invariant_of-self-in-Err-Refused
 invariant_of-self-in-Err-Refused c =
     let seats : c.reserve.new.self.items ≡ c.self.inside.seats.items = search rules in
     let messages : c.reserve-2.new.self.items ≡ c.self.inside.messages.items = search rules in
-    subst (λ (f : Flow). EachIsThere f.seats f.messages) (λ i. record { seats = sym seats i; messages = sym messages i }) c.self.invariant
+    subst (λ (f : Flow). FlowStands f.seats f.messages) (λ i. record { seats = sym seats i; messages = sym messages i }) c.self.invariant
 
 pub invariant_of-self-in-Err-Memory : goal.invariant_of-self-in-Err-Memory
 invariant_of-self-in-Err-Memory c =
     let seats : c.reserve.new.self.items ≡ c.self.inside.seats.items = search rules in
     let messages : c.reserve-2.new.self.items ≡ c.self.inside.messages.items = search rules in
-    subst (λ (f : Flow). EachIsThere f.seats f.messages) (λ i. record { seats = sym seats i; messages = sym messages i }) c.self.invariant
+    subst (λ (f : Flow). FlowStands f.seats f.messages) (λ i. record { seats = sym seats i; messages = sym messages i }) c.self.invariant
 
 pub returns-in_ok-push-in-Ok-2-clause-begins : goal.returns-in_ok-push-in-Ok-2-clause-begins
 returns-in_ok-push-in-Ok-2-clause-begins c = λ store.

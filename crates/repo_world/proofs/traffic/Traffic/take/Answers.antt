@@ -2,13 +2,13 @@ use Rattle.std.proofs.Common.{rules, ◌≡◌, ◌∙◌, ◌<◌, ◌-◌, ◌
 use Rattle.std.proofs.lemmas.List.{get_or_default}
 use Rattle.repo_session.specs.Clients.{AnswersNext}
 use Rattle.repo_world.specs.Events.{Arrives}
-use Rattle.repo_world.specs.Flows.{EachIsThere, Flow, seat_at, world_of}
+use Rattle.repo_world.specs.Flows.{Flow, FlowStands, seat_at, world_of}
 use Rattle.repo_world.specs.inner.Seating.{SeatTook, TookReply}
 use Rattle.repo_world.specs.Seats.{Seated, empty_seat, silence}
 use Rattle.repo_world.specs.declared.events.Applied.{Applied}
 use Rattle.repo_world.specs.declared.messages.Message.{Message}
 use Rattle.repo_world.specs.declared.seats.Arrival.{Arrival}
-use Rattle.repo_world.proofs.FlowParts.{asked_from, kept_there, none_from, last_is, last_there, more_is, more_there, stopped, takes, unawaited}
+use Rattle.repo_world.proofs.FlowParts.{asked_from, kept_stands, none_from, last_is, last_stands, more_is, more_stands, stopped, takes, unawaited}
 use Rattle.repo_world.proofs.Flowing.{within_replies}
 use Rattle.repo_world.proofs.traffic.Traffic.take.Goals as goal
 
@@ -20,7 +20,7 @@ invariant_of-self c =
     let s = c.index_mut-seat.result.now in
     let less : k < length seats = within_replies seats k c.args.reply (subst (λ (f : Flow). c.args.reply < length (seat_at f.seats k).replies) (sym c.self.view_is) c.requires) in
     let found : seat_at seats k ≡ s = get_or_default seats k empty_seat s less ∙ sym c.index_mut-seat.ensures.value in
-    kept_there seats messages k c.self.invariant less s (sym found)
+    kept_stands seats messages k c.self.invariant less s (sym found)
 
 pub returns-then-is_crashed-clause-arrives : goal.returns-then-is_crashed-clause-arrives
 returns-then-is_crashed-clause-arrives c = λ store.
@@ -43,7 +43,7 @@ invariant_of-self-in_err-reserve c =
     let less : k < length seats = within_replies seats k c.args.reply (subst (λ (f : Flow). c.args.reply < length (seat_at f.seats k).replies) (sym c.self.view_is) c.requires) in
     let found : seat_at seats k ≡ s = get_or_default seats k empty_seat s less ∙ sym c.index_mut-seat.ensures.value in
     let rest : c.reserve.new.self.items ≡ messages = search rules in
-    subst (EachIsThere (slice_set seats k s)) (sym rest) (kept_there seats messages k c.self.invariant less s (sym found))
+    subst (FlowStands (slice_set seats k s)) (sym rest) (kept_stands seats messages k c.self.invariant less s (sym found))
 
 pub invariant_of-self-in_err-take : goal.invariant_of-self-in_err-take
 invariant_of-self-in_err-take c =
@@ -54,7 +54,7 @@ invariant_of-self-in_err-take c =
     let less : k < length seats = within_replies seats k c.args.reply (subst (λ (f : Flow). c.args.reply < length (seat_at f.seats k).replies) (sym c.self.view_is) c.requires) in
     let found : seat_at seats k ≡ s = get_or_default seats k empty_seat s less ∙ sym c.index_mut-seat.ensures.value in
     let rest : c.reserve.new.self.items ≡ messages = search rules in
-    subst (EachIsThere (slice_set seats k c.take.new.self)) (sym rest) (kept_there seats messages k c.self.invariant less c.take.new.self (c.in_err-take.ensures.err ∙ sym found))
+    subst (FlowStands (slice_set seats k c.take.new.self)) (sym rest) (kept_stands seats messages k c.self.invariant less c.take.new.self (c.in_err-take.ensures.err ∙ sym found))
 
 pub invariant_of-self-in-Unawaited : goal.invariant_of-self-in-Unawaited
 invariant_of-self-in-Unawaited c =
@@ -68,7 +68,7 @@ invariant_of-self-in-Unawaited c =
     let found : seat_at seats k ≡ s = get_or_default seats k empty_seat s less ∙ sym c.index_mut-seat.ensures.value in
     let rest : c.reserve.new.self.items ≡ messages = search rules in
     let took : SeatTook s place new Arrival.Unawaited = subst (SeatTook s place new) c.in-Unawaited.is c.in_ok-take.ensures.took in
-    subst (EachIsThere (slice_set seats k new)) (sym rest) (kept_there seats messages k c.self.invariant less new (took.2 ∙ sym found))
+    subst (FlowStands (slice_set seats k new)) (sym rest) (kept_stands seats messages k c.self.invariant less new (took.2 ∙ sym found))
 
 pub invariant_of-self-in-Continue-branch-4 : goal.invariant_of-self-in-Continue-branch-4
 invariant_of-self-in-Continue-branch-4 c =
@@ -86,7 +86,7 @@ invariant_of-self-in-Continue-branch-4 c =
     let next = asked_from _ c.pending.result new.client.next c.pending.ensures (sym c.is_some.ensures ∙ c.if-is_some.true) in
     let pushed : c.push.new.self.items ≡ messages ++ Message.Asked k (c.requests-request.result - 1) ∷ [] = search rules in
     let last : c.push.new.self.items ≡ messages ++ Message.Asked k (length new.requests - 1) ∷ [] = pushed ∙ ap (λ n. messages ++ Message.Asked k (n - 1) ∷ []) c.requests-request.ensures in
-    subst (EachIsThere (slice_set seats k new)) (sym last) (more_there seats messages k c.self.invariant less new t.requests t.replies next.0 next.1)
+    subst (FlowStands (slice_set seats k new)) (sym last) (more_stands seats messages k c.self.invariant less new t.requests t.replies next.0 next.1 t.ruled)
 
 pub invariant_of-self-else-is_some : goal.invariant_of-self-else-is_some
 invariant_of-self-else-is_some c =
@@ -102,7 +102,7 @@ invariant_of-self-else-is_some c =
     let took : SeatTook s place new Arrival.Taken = subst (SeatTook s place new) c.in-Taken.is c.in_ok-take.ensures.took in
     let t : TookReply (seat_at seats k) reply new = subst (λ (x : Seated). TookReply x (slice_index_or x.replies place silence) new) (sym found) took in
     let rest : c.reserve.new.self.items ≡ messages = search rules in
-    subst (EachIsThere (slice_set seats k new)) (sym rest) (last_there seats messages k c.self.invariant less new t.requests t.replies)
+    subst (FlowStands (slice_set seats k new)) (sym rest) (last_stands seats messages k c.self.invariant less new t.requests t.replies t.ruled)
 
 pub returns-in-Unawaited-clause-arrives : goal.returns-in-Unawaited-clause-arrives
 returns-in-Unawaited-clause-arrives c = λ store.

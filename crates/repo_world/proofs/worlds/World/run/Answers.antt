@@ -4,6 +4,7 @@ use Rattle.std.specs.Result.{is_err}
 use Rattle.repo_store.specs.Failing.{HasFailed}
 use Rattle.repo_world.specs.Events.{Happens, Run}
 use Rattle.repo_world.specs.Flows.{world_of}
+use Rattle.repo_world.specs.Rules.{AllAreRuled}
 use Rattle.repo_world.specs.Stages.{IsSafely, Leads, Stage, seen}
 use Rattle.repo_world.specs.World.{World}
 use Rattle.repo_world.specs.declared.events.Event.{Event}
@@ -17,6 +18,7 @@ loop-applied-init g c =
       ran = refl;
       led = refl;
       safe = subst (λ (stage : Stage g.row.S.Denot). IsSafely (seen store stage)) c.self.view_is (safely (world_of (store c.self.inside.shelf.inner.inner) c.self.inside.flow) c.self.invariant.reached);
+      ruled = subst (λ (stage : Stage g.row.S.Denot). AllAreRuled (seen store stage)) c.self.view_is c.clients.ensures.ruled;
     }
 
 pub loop-applied-preserved : goal.loop-applied-preserved
@@ -38,6 +40,7 @@ loop-applied-preserved g c =
           (subst (λ (e : Event). Leads store failed old e leads.0 new) c.index-events-applied.is leads.1);
       ran = ran_more (seen store c.args.self.now) events n event (seen store old) leads.0 (seen store new) less c.loop-applied.invariant.ran here;
       safe = c.apply_lent.ensures.safe;
+      ruled = c.apply_lent.ensures.ruled;
     }
 
 pub returns-then-is_err-clause-stopped : goal.returns-then-is_err-clause-stopped
