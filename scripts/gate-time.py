@@ -1,22 +1,24 @@
 #!/usr/bin/env python3
-"""Runs the gate, and prints the processor seconds of each crate's proof, tests and edits.
+"""Runs the gate's proofs, tests, programs and edits, and prints the processor seconds of each crate's proof and tests, and of all edits.
 
 Usage: scripts/gate-time.py [--anew] [CRATE..]
 
 It runs `rt ci` with these words, and adds up what the processes of each of its parts took, by the crate and the part for which they
-were begun; what an earlier run on this machine passed takes no time, unless with --anew. The table is for docs/TESTING.md; the
-exit status is the gate's.
+were begun; what an earlier run on this machine passed takes no time with a kit that keeps it, unless with --anew. Each part tells at
+its end what it took. Then it runs scripts/must-fail.py. The table is for docs/TESTING.md; the exit status is that of both.
 """
 import os
 import subprocess
 import sys
 import threading
+import time
 from collections import Counter
 from concurrent.futures import ThreadPoolExecutor
 
 import kit
 
-PARTS = ("proof", "tests", "edits")
+PARTS = ("proof", "tests")
+EDITS = ("all edits", "")
 # What runs outside the parts: building and running the programs and the tests.
 REST = ("", "")
 
@@ -25,9 +27,8 @@ begun_for = threading.local()
 
 
 def part_of(key):
-    """The crate and the part that a task of `rt ci` is for: what is neither a proof nor of tests is of edits."""
-    crate, kind = key[:2]
-    return crate, kind if kind in PARTS else "edits"
+    """The crate and the part that a task of `rt ci` is for."""
+    return key[:2] if key[1] in PARTS else REST
 
 
 def counted(process, flags):
@@ -42,9 +43,14 @@ def counted(process, flags):
 
 
 def noting(part, call):
+    """The call, which tells at its end what it took."""
     def run(given, jobs):
-        begun_for.part = part
-        return call(given, jobs)
+        begun_for.part, begun = part, time.monotonic()
+        try:
+            return call(given, jobs)
+        finally:
+            if part != REST and seconds[part]:
+                print(f"{' '.join(part)}: {seconds[part]:.0f} s of processors, {time.monotonic() - begun:.0f} by the clock, {jobs} jobs", flush=True)
 
     return run
 
@@ -64,12 +70,18 @@ def inheriting(submit):
 
 
 def shown():
-    print("| Crate | Proof | Tests | Edits | Together |\n|---|---|---|---|---|")
-    for crate in dict.fromkeys(crate for crate, _ in seconds if crate):
-        row = [seconds[crate, part] for part in PARTS]
-        print(f"| `{crate}` | {' | '.join(f'{it:.0f}' if it else '' for it in row)} | {sum(row):.0f} |")
-    sums = [sum(it for (crate, part), it in seconds.items() if part == wanted) for wanted in PARTS]
-    print(f"| All, minutes | {' | '.join(f'{it / 60:.0f}' for it in sums)} | {sum(seconds.values()) / 60:.0f} |")
+    print("| Crate | Proof | Tests |\n|---|---|---|")
+    for crate in dict.fromkeys(crate for crate, part in seconds if part):
+        print(f"| `{crate}` | {' | '.join(f'{seconds[crate, part]:.0f}' if seconds[crate, part] else '' for part in PARTS)} |")
+    sums = [sum(it for (_, part), it in seconds.items() if part == wanted) for wanted in PARTS]
+    print(f"| All, minutes | {' | '.join(f'{it / 60:.0f}' for it in sums)} |")
+    print(f"edits: {seconds[EDITS] / 60:.0f} minutes; all together: {sum(seconds.values()) / 60:.0f} minutes of processors")
+
+
+def edits():
+    """Tries the gate's edits, and counts what that took."""
+    begun_for.part = EDITS
+    return subprocess.call(["scripts/must-fail.py"])
 
 
 def main():
@@ -80,6 +92,7 @@ def main():
     subprocess.Popen._try_wait = counted
     ThreadPoolExecutor.submit = inheriting(ThreadPoolExecutor.submit)
     status = rt.main(["ci", *sys.argv[1:]])
+    status |= edits()
     shown()
     return status
 
