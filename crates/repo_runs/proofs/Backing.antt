@@ -188,6 +188,10 @@ module _ (host : List ℕ) (time : ℕ) (config pack index snapshot : List ℕ) 
     snapshot = snapshot_of host time;
     reads = texts.reads;
     token_is = refl;
+    row = lock_row task token;
+    locked = inr (inr (inr (inr (inl (refl, refl)))));
+    host_is = refl;
+    time_is = refl;
     version_is = record { text = config; config = texts.read; read = inr (inr (inr (inl (refl, refl)))); reads = texts.configured; of_version = texts.first };
     entries = [];
     handed = refl;

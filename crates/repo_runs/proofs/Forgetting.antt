@@ -40,6 +40,7 @@ use Rattle.repo_name.specs.declared.tokens.Token.{Token}
 use Rattle.repo_store.specs.Stores.{Removed}
 use Rattle.repo_session.specs.Deletions.{DeleteDone}
 use Rattle.repo_session.specs.Told.{AskedToPut}
+use Rattle.repo_prune.specs.Forgetting.{MayForget}
 use Rattle.repo_prune.specs.declared.choices.Choice.{Choice}
 use Rattle.repo_runs.specs.Backed.{IsForgottenInRun, ForgetIsARun}
 use Rattle.repo_runs.proofs.Backing.{is_here, at_here, here_is}
@@ -138,6 +139,17 @@ module _ (host : List ℕ) (time : ℕ) (config pack index snapshot : List ℕ) 
     no_more_names : (more : List Name) (x : Name) → Say.Names false (x ∷ more) ≡ Say.Names true [] → ⊥
     no_more_names more x h = absurd (cc)
 
+    no_next : (after : Option Name) → Exchanged f1 (Ask.List Kind.Snapshot after) (Say.Names true []) → ⊥
+    no_next after (inl h) = no_more_names [] ns h.1
+    no_next after (inr (inl h)) = let q = h.0 in absurd (cc)
+    no_next after (inr (inr (inl h))) = let q = h.0 in absurd (cc)
+    no_next after (inr (inr (inr (inl h)))) = let q = h.0 in absurd (cc)
+    no_next after (inr (inr (inr (inr h)))) = h
+
+    -- it is listed, and chosen by its name
+    chooses : MayForget choice f1 ns
+    chooses = record { rows = []; decided = record { complete = refl; rise = record { ascend = (tt, tt); moves = no_next } }; among = inl refl; chosen = chosen }
+
     obeys : Obeys task (Owes (Job.Forget choice)) GivesAny forgetting
     obeys = (
       holds_of task token f2 works_2,
@@ -145,7 +157,7 @@ module _ (host : List ℕ) (time : ℕ) (config pack index snapshot : List ℕ) 
       inl refl,
       (
         (works_1, refl),
-        (λ x. (choice, refl)),
+        (λ x. (choice, refl, chooses)),
         inl refl,
         (
           ((token, works_0), first_page task token config Kind.Snapshot),
