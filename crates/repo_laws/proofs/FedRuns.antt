@@ -1,5 +1,6 @@
 -- What a restore gives out of a snapshot that a backup reported as stored which fed itself.
-use Rattle.std.proofs.Common.{◌≡◌, ◌++◌, ◌∷◌, [], ℕ, List, Option, Some, None, refl, sym, ap, subst, inl, inr, ⊎_elim, ◌∙◌, Contains}
+use Rattle.std.proofs.Common.{◌≡◌, ◌++◌, ◌∷◌, [], ℕ, Bool, false, List, Option, Some, None, refl, sym, ap, subst, inl, inr, ⊎_elim, ◌∙◌, Contains}
+use Rattle.repo_name.specs.Naming as naming
 use Rattle.repo_name.specs.declared.kinds.BlobKind.{BlobKind}
 use Rattle.repo_name.specs.declared.kinds.Kind.{Kind}
 use Rattle.repo_name.specs.declared.names.Name.{Name}
@@ -14,8 +15,9 @@ use Rattle.repo_session.specs.Alone.{RanBy, WasThere, IsSent}
 use Rattle.repo_session.specs.Askers.{Asker}
 use Rattle.repo_session.specs.Feeds.{Fed}
 use Rattle.repo_session.specs.Order.{IsPermitted, Obeys}
-use Rattle.repo_session.specs.Rebuilding.{rebuilt}
-use Rattle.repo_session.specs.Talks.{trace_of}
+use Rattle.repo_session.specs.Rebuilding.{rebuilt, Follow}
+use Rattle.repo_session.specs.Soundness.{IsSound}
+use Rattle.repo_session.specs.Talks.{Talk, trace_of, given_in, TalkRan}
 use Rattle.repo_session.specs.Traces.{Exchange, Trace, WasAsked, emitted_in, fed_in}
 use Rattle.repo_session.specs.declared.outcomes.Outcome.{Outcome}
 use Rattle.repo_session.proofs.Concluding.{DeletesNothing, exchanged_before, was_put}
@@ -23,18 +25,19 @@ use Rattle.repo_session.proofs.Growing.{led, ran_by}
 use Rattle.repo_session.proofs.Spoken.{was_asked}
 use Rattle.repo_backup.specs.Folders.{blobs_of}
 use Rattle.repo_backup.specs.Items.{place_of, spelled_by}
-use Rattle.repo_backup.specs.Laws.{IsMadeOfItems}
+use Rattle.repo_backup.specs.Laws.{AreItemsApart, IsMadeOfItems}
 use Rattle.repo_backup.specs.PieceRules.{AreOver, PieceAllows}
 use Rattle.repo_backup.specs.PieceStates.{piece_task}
 use Rattle.repo_backup.specs.Rules.{SnapshotRule}
 use Rattle.repo_backup.proofs.Lone.{PutsRightly}
 use Rattle.repo_backup.proofs.LoneRuns.{ArePutRightly, lone_by}
 use Rattle.repo_feeding.proofs.Places.{over_more}
-use Rattle.repo_feeding.specs.FedLaws.{AreOfSource}
+use Rattle.repo_feeding.specs.FedLaws.{AreOfSource, StandsAsFed}
 use Rattle.repo_feeding.specs.FedRules.{AreWelcome, AreWelcomeOn, IsAsTold}
 use Rattle.repo_feeding.specs.Unfed.{unfed}
-use Rattle.repo_laws.proofs.StoredRuns.{handed_all}
-use Rattle.repo_laws.specs.Laws.{RestoredIsFed}
+use Rattle.repo_laws.proofs.StoredRuns.{IsMadeFrom, first_handed, handed_all}
+use Rattle.repo_restore.specs.Laws.{AreFirstOf}
+use Rattle.repo_laws.specs.Laws.{RestoredIsFed, RestoredIsFirstOfFed}
 
 -- ---- what was sent, and what was made
 
@@ -98,8 +101,18 @@ of_source : (whole : Option (List Fed)) (fs : Trace) (entries : List Entry) → 
 of_source None fs entries told over is = tt
 of_source (Some whole) fs entries told over is = is ∙ told over
 
-pub restored_fed : RestoredIsFed
-restored_fed who whole from mid to failed failing late last talk talk' next next' name blobs bytes count asker sound ran s apart ran' is' =
+-- what a backup that fed itself and reported a snapshot as stored leaves in the store
+record IsLeftFed (from mid : Store) (fs : Trace) (next : Option Request) (name : Name) : Type 0 where
+  older : Trace
+  over : AreOver older
+  same : fed_in fs ≡ fed_in older
+  there : (k : Kind) (n : Name) (x : List ℕ) → mid.objects k n ≡ Some x → WasThere from (IsSent fs next) k x
+  names : (k : Kind) (n : Name) (x : List ℕ) → mid.objects k n ≡ Some x → naming.name x ≡ n
+  source : IsMadeFrom (spelled_by (fed_in older)) (IsMadeOfItems fs) mid.objects name
+
+left_fed : (who : Asker) (whole : Option (List Fed)) (from mid : Store) (failed failing : ℕ) (talk : Talk) (next : Option Request) (name : Name) (blobs bytes : ℕ) → IsSound from.objects → TalkRan from failed talk mid failing
+    → (s : StandsAsFed who whole next (Some (Outcome.Stored name blobs bytes)) (trace_of talk)) → AreItemsApart from s.fs next → IsLeftFed from mid s.fs next name
+left_fed who whole from mid failed failing talk next name blobs bytes sound ran s apart =
     let fs = s.fs in
     let is = s.fed in
     let run = steps_so from fs mid (subst (λ t. RanBy from t mid) (sym s.same) (ran_by from talk mid (led from talk mid ran.run))) in
@@ -114,8 +127,28 @@ restored_fed who whole from mid to failed failing late last talk talk' next next
     let one : found.0 ≡ stored.text = apart found.0 stored.text (inl (Kind.Snapshot, there Kind.Snapshot name found.0 found.1)) (inl (Kind.Snapshot, inr (put.0, name, sent_of fs next (Ask.Put put.0 Kind.Snapshot name stored.text) asked)))
     (knows.sound.named Kind.Snapshot name found.0 found.1 ∙ sym named) in
     let then = put_then who fs put.0 name stored.text s.welcome is.obeys asked in
-    let given : rebuilt (emitted_in (trace_of talk')) ≡ spelled_by (fed_in then.older) = handed_all (record { who = asker; snapshot = name }) (spelled_by (fed_in then.older)) from mid (IsMadeOfItems fs) (IsSent fs next) apart there knows.sound.named
-    (record { text = stored.text; token = put.0; there = found.1 ∙ ap Some one; older = then.older; rule = then.rule; made = then.made })
+    record {
+      older = then.older;
+      over = then.over;
+      same = then.same;
+      there = there;
+      names = knows.sound.named;
+      source = record { text = stored.text; token = put.0; there = found.1 ∙ ap Some one; older = then.older; rule = then.rule; made = then.made };
+    }
+
+pub restored_fed : RestoredIsFed
+restored_fed who whole from mid to failed failing late last talk talk' next next' name blobs bytes count asker sound ran s apart ran' is' =
+    let fs = s.fs in
+    let l = left_fed who whole from mid failed failing talk next name blobs bytes sound ran s apart in
+    let given : rebuilt (emitted_in (trace_of talk')) ≡ spelled_by (fed_in l.older) = handed_all (record { who = asker; snapshot = name }) (spelled_by (fed_in l.older)) from mid (IsMadeOfItems fs) (IsSent fs next) apart l.there l.names l.source
     talk' to count is'.obeys (led mid talk' to ran'.run) (is'.concluded (Outcome.Complete count) refl) in
-    let spelled : rebuilt (emitted_in (trace_of talk')) ≡ spelled_by (fed_in fs) = given ∙ ap spelled_by (sym then.same) in
-    (spelled, of_source whole fs (rebuilt (emitted_in (trace_of talk'))) s.told (over_on fs then.older then.same then.over) spelled)
+    let spelled : rebuilt (emitted_in (trace_of talk')) ≡ spelled_by (fed_in fs) = given ∙ ap spelled_by (sym l.same) in
+    (spelled, of_source whole fs (rebuilt (emitted_in (trace_of talk'))) s.told (over_on fs l.older l.same l.over) spelled)
+
+pub restored_first_fed : RestoredIsFirstOfFed
+restored_first_fed who whole from mid to failed failing late last talk talk' next next' name blobs bytes asker outcome sound ran s apart ran' is' =
+    let fs = s.fs in
+    let l = left_fed who whole from mid failed failing talk next name blobs bytes sound ran s apart in
+    let first = first_handed (record { who = asker; snapshot = name }) (spelled_by (fed_in l.older)) from mid (IsMadeOfItems fs) (IsSent fs next) apart l.there l.names l.source talk' to is'.obeys (led mid talk' to ran'.run) in
+    let F : List Entry → Type 0 = λ es. (within : Bool) × Follow false (given_in talk') within × AreFirstOf within (rebuilt (given_in talk')) es in
+    (subst F (ap spelled_by (sym l.same)) first, of_source whole fs (spelled_by (fed_in fs)) s.told (over_on fs l.older l.same l.over) refl)

@@ -38,3 +38,10 @@ RestoredIsFed = (who : Asker) (whole : Option (List Fed)) (from mid to : Store) 
     → IsSound from.objects → TalkRan from failed talk mid failing → (s : StandsAsFed who whole next (Some (Outcome.Stored name blobs bytes)) (trace_of talk)) → AreItemsApart from s.fs next
     → TalkRan mid late talk' to last → IsRestore (record { who = asker; snapshot = name }) next' (Some (Outcome.Complete count)) (trace_of talk')
     → (rebuilt (emitted_in (trace_of talk')) ≡ spelled_by (fed_in s.fs)) × AreOfSource whole (rebuilt (emitted_in (trace_of talk')))
+
+-- However far such a restore came, and however it ended, what it gave out is the first of that; where a file is open, the first bytes of it.
+abbrev pub RestoredIsFirstOfFed : Type 0
+RestoredIsFirstOfFed = (who : Asker) (whole : Option (List Fed)) (from mid to : Store) (failed failing late last : ℕ) (talk talk' : Talk) (next next' : Option Request) (name : Name) (blobs bytes : ℕ) (asker : Asker) (outcome : Option Outcome)
+    → IsSound from.objects → TalkRan from failed talk mid failing → (s : StandsAsFed who whole next (Some (Outcome.Stored name blobs bytes)) (trace_of talk)) → AreItemsApart from s.fs next
+    → TalkRan mid late talk' to last → IsRestore (record { who = asker; snapshot = name }) next' outcome (trace_of talk')
+    → ((within : Bool) × Follow false (given_in talk') within × AreFirstOf within (rebuilt (given_in talk')) (spelled_by (fed_in s.fs))) × AreOfSource whole (spelled_by (fed_in s.fs))
