@@ -78,7 +78,7 @@ says_as_whole before bytes s text t (inr (inr h)) = absurd h.0.1.1
 
 all_as_whole : (before : ℕ) (lines : List (List ℕ)) (s : State) (text : List ℕ) (t : State) → SayAll Grammar.Carried before lines s text t → SayAll Grammar.Whole before lines s text t
 all_as_whole before [] s text t h = h
-all_as_whole before (bytes ∷ lines) s text t h = (h.0, h.1, h.2, says_as_whole before bytes s h.1 h.0 h.3, all_as_whole (before + 1) lines h.0 h.2 t h.4, h.5)
+all_as_whole before (bytes ∷ lines) s text t h = (h.0, h.1, h.2, says_as_whole before bytes s h.1 h.0 h.3, all_as_whole (before + 1) lines h.0 h.2 t h.4, h.5, h.6)
 
 pub carried_as_whole : CarriedIsPlayed
 carried_as_whole input start contents (lines, s, some) =

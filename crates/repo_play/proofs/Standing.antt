@@ -9,6 +9,7 @@ use Rattle.repo_store.specs.Output.{AppendsPart}
 use Rattle.repo_store.specs.Stores.{Store}
 use Rattle.repo_tree.specs.ConfigText.{config_text}
 use Rattle.repo_world.specs.World.{beginning}
+use Rattle.repo_world.specs.Rules.{AllAreRuled}
 use Rattle.repo_script.specs.Cuts.{cut, line_feed}
 use Rattle.repo_script.proofs.CutLemmas.{goes_on}
 use Rattle.repo_play.specs.Lines.{IsFreshScript, State, script_config}
@@ -19,7 +20,7 @@ use Rattle.repo_play.specs.declared.faults.LoopError.{LoopError}
 use Rattle.repo_play.specs.declared.faults.PlayError.{PlayError}
 use Rattle.repo_play.specs.declared.grammars.Grammar.{Grammar}
 use Rattle.repo_play.specs.declared.scripts.Script.{Script}
-use Rattle.repo_play.proofs.Saying.{say_more}
+use Rattle.repo_play.proofs.Saying.{fresh_ruled, said_ruled, say_more}
 
 module _ {C : Type 0} (input : List ℕ) (start : Option (List ℕ)) (script : Script C) (lines left : List (List ℕ)) (text : List ℕ) (contents : Option (List ℕ))
     (cuts : cut line_feed input ≡ lines ++ left) (ran : RanLines start script lines text contents) where
@@ -49,28 +50,28 @@ stopped input start script lines left bytes text contents (LoopError.Play PlayEr
 
 module _ {C : Type 0} (start : Option (List ℕ)) (old new : Script C) (lines : List (List ℕ)) (bytes text more : List ℕ) (same : new.grammar ≡ old.grammar) where
   said : (contents : Option (List ℕ)) (ran : RanLines start old lines text contents) → LineSays old.grammar old.number bytes (state_on old.stage) more (state_on new.stage)
-      → SayAll old.grammar 0 (lines ++ bytes ∷ []) ran.begun (text ++ more) (state_on new.stage)
-  said contents ran says =
+      → AllAreRuled (state_on new.stage).world → SayAll old.grammar 0 (lines ++ bytes ∷ []) ran.begun (text ++ more) (state_on new.stage)
+  said contents ran says ruled =
       say_more old.grammar 0 lines bytes ran.begun (state_on old.stage) (state_on new.stage) text more ran.say
-      (subst (λ n. LineSays old.grammar n bytes (state_on old.stage) more (state_on new.stage)) (omega (arith, ran.number)) says)
+      (subst (λ n. LineSays old.grammar n bytes (state_on old.stage) more (state_on new.stage)) (omega (arith, ran.number)) says) ruled
 
   -- a line is run, and what it prints is written
   pub ran_line : (before after : Option (List ℕ)) → RanLines start old lines text before → LineSays old.grammar old.number bytes (state_on old.stage) more (state_on new.stage)
-      → new.number ≡ old.number + 1 → Appends before after more → RanLines start new (lines ++ bytes ∷ []) (text ++ more) after
-  ran_line before after ran says number wrote = record {
+      → AllAreRuled (state_on new.stage).world → new.number ≡ old.number + 1 → Appends before after more → RanLines start new (lines ++ bytes ∷ []) (text ++ more) after
+  ran_line before after ran says ruled number wrote = record {
     begun = ran.begun;
     fresh = ran.fresh;
-    say = subst (λ grammar. SayAll grammar 0 (lines ++ bytes ∷ []) ran.begun (text ++ more) (state_on new.stage)) (sym same) (said before ran says);
+    say = subst (λ grammar. SayAll grammar 0 (lines ++ bytes ∷ []) ran.begun (text ++ more) (state_on new.stage)) (sym same) (said before ran says ruled);
     number = omega (arith, number, ran.number, length-append lines (bytes ∷ []));
     wrote = Appends-trans start before after text more ran.wrote wrote;
   }
 
   -- a first part of it alone is written
   pub unwritten : (input : List ℕ) (left : List (List ℕ)) (before after : Option (List ℕ)) → cut line_feed input ≡ lines ++ bytes ∷ left → RanLines start old lines text before
-      → LineSays old.grammar old.number bytes (state_on old.stage) more (state_on new.stage) → AppendsPart before after more → Plays new.grammar input start (Err (LoopError.Play PlayError.Write)) after
-  unwritten input left before after cuts ran says part =
+      → LineSays old.grammar old.number bytes (state_on old.stage) more (state_on new.stage) → AllAreRuled (state_on new.stage).world → AppendsPart before after more → Plays new.grammar input start (Err (LoopError.Play PlayError.Write)) after
+  unwritten input left before after cuts ran says ruled part =
       let all : Played old.grammar input (lines ++ bytes ∷ []) left (text ++ more) (state_on new.stage) =
-      record { lines = cuts ∙ sym (append_assoc lines (bytes ∷ []) left); begun = ran.begun; fresh = ran.fresh; say = said before ran says } in (
+      record { lines = cuts ∙ sym (append_assoc lines (bytes ∷ []) left); begun = ran.begun; fresh = ran.fresh; say = said before ran says ruled } in (
         lines ++ bytes ∷ [],
         left,
         text ++ more,
@@ -147,7 +148,8 @@ module _ {C : Type 0} (input : List ℕ) (start : Option (List ℕ)) (script : S
       let lines = h.0.lines ++ [] ∷ [] in
       let text = h.0.text ++ [] in
       let all : cut line_feed input ≡ lines ++ [] = last_cut ∙ ap (λ b. h.0.lines ++ b ∷ []) empty ∙ sym (append-nil lines) in
-      let say = say_more script.grammar 0 h.0.lines [] ran.begun s s h.0.text [] ran.say (inl (refl, refl, refl)) in
+      let ruled = said_ruled script.grammar 0 h.0.lines ran.begun h.0.text s (fresh_ruled false ran.begun ran.fresh) ran.say in
+      let say = say_more script.grammar 0 h.0.lines [] ran.begun s s h.0.text [] ran.say (inl (refl, refl, refl)) ruled in
       let wrote = subst (λ t. Appends start contents t) (sym (append-nil h.0.text)) ran.wrote in
       (lines, s, record { text = text; played = record { lines = all; begun = ran.begun; fresh = ran.fresh; say = say }; wrote = wrote })
 

@@ -5,6 +5,7 @@ use Rattle.repo_store.specs.Output.{AppendsPart}
 use Rattle.repo_script.specs.Cuts.{cut, line_feed}
 use Rattle.repo_script.specs.Lines.{IsLine}
 use Rattle.repo_script.specs.declared.lines.Line.{Line}
+use Rattle.repo_world.specs.Rules.{AllAreRuled}
 use Rattle.repo_play.specs.Lines.{State, IsFreshScript, MayStand, Does, IsNonsense, GoesFar}
 use Rattle.repo_play.specs.declared.faults.LoopError.{LoopError}
 use Rattle.repo_play.specs.declared.faults.PlayError.{PlayError}
@@ -36,11 +37,11 @@ pub record IsNotUnderstood (grammar : Grammar) (before : ℕ) (bytes : List ℕ)
 
 -- ---- all lines
 
--- from s these lines, behind so many, lead to t, and this is printed
+-- from s these lines, behind so many, lead to t, and this is printed; after each line each client goes by its job's whole rule
 abbrev pub SayAll : Grammar → ℕ → List (List ℕ) → State → List ℕ → State → Type 0
 SayAll grammar before [] s text t = (text ≡ []) × (t ≡ s)
 SayAll grammar before (bytes ∷ lines) s text t =
-    (u : State) × (first rest : List ℕ) × LineSays grammar before bytes s first u × SayAll grammar (before + 1) lines u rest t × (text ≡ first ++ rest)
+    (u : State) × (first rest : List ℕ) × LineSays grammar before bytes s first u × SayAll grammar (before + 1) lines u rest t × (text ≡ first ++ rest) × AllAreRuled u.world
 
 -- the first lines of a script lead to s, from the beginning, and this is printed; these lines are left
 pub record Played (grammar : Grammar) (input : List ℕ) (done left : List (List ℕ)) (text : List ℕ) (s : State) : Type 0 where

@@ -1,6 +1,7 @@
 //! A script that comes in pieces.
 
 ghost use Rattle.std.specs.Prelude.{◌≡◌, ◌<◌, ◌^◌, [], false, IfOk, IfErr, string_bytes};
+ghost use Rattle.repo_world.specs.Rules.{AllAreRuled};
 ghost use Rattle.repo_play.specs.Lines.{IsFreshScript};
 ghost use Rattle.repo_play.specs.inner.Players.{state_on};
 ghost use Rattle.repo_play.specs.Plays.{LineSays, EndsBy};
@@ -52,6 +53,7 @@ impl<C: Carrier + Drop> Script<C> {
     fn run(&mut self, bytes: &[u8]) -> Result<String, LoopError>
         ensures says { IfOk result (λ text. LineSays self.old.grammar self.old.number bytes.now (state_on self.old.stage) (string_bytes text)
             (state_on self.new.stage)) }
+        ensures ruled { IfOk result (λ text. AllAreRuled (state_on self.new.stage).world) }
         ensures few { IfOk result (λ text. self.old.number < 2 ^ 32) }
         ensures stops { IfErr result (ScriptStops self.old bytes.now) }
         ensures carried { IfErr result (EndsBy C.fails) }
@@ -67,7 +69,11 @@ impl<C: Carrier + Drop> Script<C> {
             .stage
             .say(self.alloc, &mut self.carrier, grammar, number, bytes)
         {
-            Ok(text) => Ok(text),
+            Ok(text) => {
+                // A look at the clients tells the prover that each goes by its rule.
+                let _ = self.stage.clients();
+                Ok(text)
+            }
             Err(Halt::Nonsense) => Err(LoopError::Play(PlayError::Line(number + 1))),
             Err(Halt::Limit) => Err(LoopError::Play(PlayError::Limit)),
             Err(Halt::Carry(error)) => Err(LoopError::Carry(error)),

@@ -1,6 +1,7 @@
 //! The stage of a script: a player over a store that only appends, or over one that doesn't.
 
-ghost use Rattle.std.specs.Prelude.{◌≡◌, true, false, IfOk, IfErr, IsErrOf, OnOk, string_bytes};
+ghost use Rattle.std.specs.Prelude.{◌≡◌, true, false, length, IfOk, IfErr, IsErrOf, OnOk, string_bytes};
+ghost use Rattle.repo_world.specs.Rules.{AllAreRuled};
 ghost use Rattle.repo_play.specs.Lines.{Does, GoesFar, IsFreshScript, IsNonsense};
 ghost use Rattle.repo_play.specs.inner.Players.{state_on};
 ghost use Rattle.repo_play.specs.Plays.{LineSays, IsNotUnderstood};
@@ -47,6 +48,17 @@ impl Stage {
     {
         *self = Stage::appending(alloc)?;
         Ok(())
+    }
+
+    /// How many clients started. Each goes by its job's whole rule.
+    pub fn clients(&self) -> usize
+        ensures count { result ≡ length (state_on self.now).world.clients }
+        ensures ruled { AllAreRuled (state_on self.now).world }
+    {
+        match self {
+            Stage::Keeping(player) => player.world.clients(),
+            Stage::Appending(player) => player.world.clients(),
+        }
     }
 
     /// A line is run. What it prints is given.

@@ -11,7 +11,7 @@ returns-in-Ok-clause-gives g c = λ input start lines left text cuts ran.
     let after = g.W.Write.contents c.write_whole.new.writer in
     let more = string_bytes c.in_ok-text.text in
     let same = c.as_bytes.ensures.value ∙ c.as_str.ensures.value in
-    (text ++ more, ran_line start c.args.self.now _ lines c.args.bytes.now text more c.run.ensures.grammar before after ran c.in_ok-text.ensures.says (ap (λ n. n + 1) c.run.ensures.number) (subst (λ b. Appends before after b) same c.in-Ok.ensures.ok))
+    (text ++ more, ran_line start c.args.self.now _ lines c.args.bytes.now text more c.run.ensures.grammar before after ran c.in_ok-text.ensures.says c.in_ok-text.ensures.ruled (ap (λ n. n + 1) c.run.ensures.number) (subst (λ b. Appends before after b) same c.in-Ok.ensures.ok))
 
 pub returns-clause-gives : goal.returns-clause-gives
 returns-clause-gives g c = λ input start lines left text cuts ran.
@@ -19,4 +19,4 @@ returns-clause-gives g c = λ input start lines left text cuts ran.
     let after = g.W.Write.contents c.write_whole.new.writer in
     let more = string_bytes c.in_ok-text.text in
     let same = c.as_bytes.ensures.value ∙ c.as_str.ensures.value in
-    unwritten start c.args.self.now c.run.new.self lines c.args.bytes.now text more c.run.ensures.grammar input left before after cuts ran c.in_ok-text.ensures.says (subst (λ b. AppendsPart before after b) same c.in-Err.ensures.err)
+    unwritten start c.args.self.now c.run.new.self lines c.args.bytes.now text more c.run.ensures.grammar input left before after cuts ran c.in_ok-text.ensures.says c.in_ok-text.ensures.ruled (subst (λ b. AppendsPart before after b) same c.in-Err.ensures.err)
