@@ -16,7 +16,7 @@ use Rattle.repo_prog.specs.declared.words.Order.{Order}
 
 -- a flag is given, or isn't
 abbrev pub IsFlag : ArgMatches → List ℕ → Bool → Type 0
-IsFlag words name true = one_text (found_of words) name ≢ Some (codes "false")
+IsFlag words name true = (text : List ℕ) × (one_text (found_of words) name ≡ Some text) × (text ≢ codes "false")
 IsFlag words name false = one_text (found_of words) name ≢ Some (codes "true")
 
 -- the word of this name is this text
@@ -25,7 +25,7 @@ IsWord words name text = first_value (found_of words) name ≡ Some text
 
 -- the digits of the word of this name are this number's
 abbrev pub IsNumber : ArgMatches → List ℕ → ℕ → Type 0
-IsNumber words name number = (digits : List ℕ) → one_text (found_of words) name ≡ Some digits → number ≡ digits_value 10 (without_leading_plus digits)
+IsNumber words name number = (digits : List ℕ) × (one_text (found_of words) name ≡ Some digits) × (number ≡ digits_value 10 (without_leading_plus digits))
 
 -- the words of this name
 abbrev pub words_of : ArgMatches → List ℕ → List (List ℕ)
@@ -35,9 +35,11 @@ words_of words name = unwrap_or (option_map raw_values (matched_of (found_of wor
 abbrev pub IsPolicyOf : ArgMatches → Policy → Type 0
 IsPolicyOf words policy = IsNumber words (codes "keep-last") policy.last × IsNumber words (codes "keep-daily") policy.daily
 
--- the words choose these snapshots: those of the names that they spell; or by a policy, of one host or of all
+-- the words choose these snapshots: those of the names that they spell, where there are any, and no host and no count beside them; or by a policy, of one
+-- host or of all
 abbrev pub Chooses : ArgMatches → Choice → Type 0
-Chooses words (Choice.Names names) = words_of words (codes "NAME") ≡ map hex_of names
+Chooses words (Choice.Names names) = (words_of words (codes "NAME") ≡ map hex_of names) × (names ≢ []) × (first_value (found_of words) (codes "host") ≡ None)
+    × IsNumber words (codes "keep-last") 0 × IsNumber words (codes "keep-daily") 0
 Chooses words (Choice.Keep policy) = (words_of words (codes "NAME") ≡ []) × IsPolicyOf words policy × (first_value (found_of words) (codes "host") ≡ None)
 Chooses words (Choice.KeepOf host policy) = (words_of words (codes "NAME") ≡ []) × IsPolicyOf words policy × IsWord words (codes "host") host
 
