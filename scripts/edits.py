@@ -30,18 +30,32 @@ def plain(words):
     return words if shorter == words else plain(shorter)
 
 
-def owner_of(header):
-    """The name under which the prover tells the functions of an impl block: the type's, with the trait's behind it."""
-    words = plain(IMPL.match(header)[1]).replace("{", " ").split()
-    if "for" in words:
-        return words[words.index("for") + 1] + words[words.index("for") - 1]
-    return words[0]
+def module_of(file):
+    """The module that a file of src/ is, as parts of a path."""
+    return [it for it in os.path.splitext(os.path.relpath(file, "src"))[0].split(os.sep) if it not in ("lib", "main")]
 
 
-def name_of(file, lines, at):
-    """The name under which the prover tells a function, without the crate's: its module, its type, its own."""
+def home_of(folder, owner, file):
+    """The module in which a type of a crate is declared; that of this file, where none declares it."""
+    declared = re.compile(rf"^(?:pub(?:\([^)]*\))? )?(?:struct|enum) {owner}\b", re.M)
+    for place, _, names in os.walk(f"{folder}/src"):
+        for path in (os.path.join(place, name) for name in sorted(names)):
+            with open(path, encoding="utf-8") as it:
+                if declared.search(it.read()):
+                    return module_of(os.path.relpath(path, folder))
+    return module_of(file)
+
+
+def name_of(folder, file, at):
+    """The name under which the prover tells the function in this line of a file of a crate, without the crate's: the methods of a type
+    stand in the module that declares it, those of an `impl` of a trait in that of the `impl`, under the type's name with the trait's."""
+    with open(f"{folder}/{file}", encoding="utf-8") as it:
+        lines = it.read().split("\n")
     inset, own = FUNCTION.match(lines[at]).groups()
-    header = next((lines[line] for line in range(at, -1, -1) if IMPL.match(lines[line])), None) if inset else None
-    module = os.path.splitext(os.path.relpath(file, "src"))[0].split(os.sep)
-    parts = [it for it in module if it not in ("lib", "main")] + ([owner_of(header)] if header else []) + [own]
-    return "::".join(parts)
+    if not inset:
+        return "::".join([*module_of(file), own])
+    words = plain(IMPL.match(next(lines[line] for line in range(at, -1, -1) if IMPL.match(lines[line])))[1]).replace("{", " ").split()
+    if "for" in words:
+        place = words.index("for")
+        return "::".join([*module_of(file), words[place + 1] + words[place - 1], own])
+    return "::".join([*home_of(folder, words[0], file), words[0], own])

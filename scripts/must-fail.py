@@ -6,9 +6,10 @@ Usage: scripts/must-fail.py [--jobs N] [CRATE..]
 Of each crate (all without a word) it checks a copy in which edits are made, over the libraries that were built (`rt ci`, or
 scripts/libraries.py), and of the functions those alone that they turn, with what these call. Edits of different functions are tried
 together: what is proved of a function rests on the contracts of those that it calls, and no edit changes a contract. An edit is
-refused where the function that it turns isn't proved any more; that it is proved without the edit says `rt ci`. So a crate's edits
-cost seconds, and not its whole proof once more. So many checks go side by side as --jobs says, else one for each processor, as
-memory allows. The last line is 'N passed, M failed'.
+refused where the function that it turns isn't proved any more, by what the function itself owes: not for one that it calls, which
+another edit turned. It is tried only where the crate's own library is there as the crate stands, which says that the function is
+proved without it. So many checks go side by side as --jobs says, else one for each processor, as memory allows. The last line is
+'N passed, M failed'.
 """
 import argparse
 import os
@@ -30,6 +31,10 @@ EDITS = f"{ROOT}/must-fail"
 TOLD = re.compile(r"^fn (\S+): (.*)$")
 PLACED = re.compile(r"^(?:note: )?(\S+):\d+:\d+: (.*)$")
 REFUSED = ("no proof", "not proved")
+# The function isn't proved as one that it calls isn't.
+BY_ANOTHER = re.compile(r"it calls .* not proved")
+# A proof file names what the edit took away.
+NAMES_ALONE = re.compile(r"has no field|is not in scope|has no `|was not admitted")
 
 
 class Edit:
@@ -42,18 +47,17 @@ class Edit:
         texts, why = rt.edited(self.text, crate.folder)
         if why:
             sys.exit(f"{self.label}: {why}")
-        turned = {(file, at) for file, text in texts.items() for at in self.places(crate, file, text)}
+        turned = {(file, at) for file, text in texts.items() for at in places(crate, file, text)}
         if len(turned) != 1 or any(at is None or not file.startswith("src/") for file, at in turned):
             sys.exit(f"{self.label}: it turns something else than one function")
         ((file, at),) = turned
-        self.function = f"{crate.name}::{edits.name_of(file, self.lines(crate, file), at)}"
+        self.function = f"{crate.name}::{edits.name_of(crate.folder, file, at)}"
 
-    def lines(self, crate, file):
-        with open(f"{crate.folder}/{file}", encoding="utf-8") as it:
-            return it.read().split("\n")
 
-    def places(self, crate, file, text):
-        return edits.turned_functions(self.lines(crate, file), text.split("\n"))
+def places(crate, file, text):
+    """The places of the functions of a file that this text of it turns."""
+    with open(f"{crate.folder}/{file}", encoding="utf-8") as it:
+        return edits.turned_functions(it.read().split("\n"), text.split("\n"))
 
 
 def rounds_of(tried):
@@ -82,35 +86,46 @@ def checked(rt, crate, tried):
         only = [word for edit in tried for word in ("--only", edit.function)]
         words = [*rtlib.guarded(), rtlib.RATTLE, "check", *crate.words(["--jobs", "1"], keeps=False), *only]
         how = {"stdin": subprocess.DEVNULL, "stdout": subprocess.PIPE, "stderr": subprocess.STDOUT}
-        return subprocess.run(words, cwd=room, text=True, errors="replace", **how).stdout.split("\n")
+        told = subprocess.run(words, cwd=room, text=True, errors="replace", **how).stdout
+        return [] if rtlib.STALE.search(told) else told.split("\n")
+
+
+def own_line(edit, lines):
+    """What a check says of the function that an edit turns; None where it says nothing of it."""
+    return next((found[2] for found in map(TOLD.match, reversed(lines)) if found and found[1] == edit.function), None)
 
 
 def verdict(edit, lines):
-    """Whether the edit was refused, by these lines of a check; None where they say nothing of its function."""
-    said = [found[2] for found in map(TOLD.match, lines) if found and found[1] == edit.function]
-    return said[-1].startswith(REFUSED) if said else None
+    """Whether the edit was refused, by these lines of a check; None where they don't say so of its function by itself."""
+    said = own_line(edit, lines)
+    return None if said is None or BY_ANOTHER.search(said) else said.startswith(REFUSED)
 
 
 def reason(edit, lines):
-    """What the check says first of the function: a goal in a file of its proof, or its own line, or else the check's first."""
+    """What the check says first of the function: a goal in a file of its proof, or its own line, or else the check's first. Names that
+    a proof file can't find any more come last, as they say little of the contract."""
     folder = f"/{edit.function.split('::')[-1]}/"
     goals = [found[2] for found in map(PLACED.match, lines) if found and folder in found[1] and ": note: " not in found[0]]
-    own = [found[2] for found in map(TOLD.match, lines) if found and found[1] == edit.function]
-    return (goals or own or lines)[0][:150]
+    said = sorted(goals or [own_line(edit, lines) or "nothing is said of it"], key=lambda it: bool(NAMES_ALONE.search(it)))[0][:150]
+    return f"{said} (only names that a proof file can't find)" if NAMES_ALONE.search(said) else said
 
 
 def tried_round(rt, crate, tried):
-    """What came of each edit of a round: whether it was refused, and why. Where a check says nothing of a function, as after an edit
-    that can't be read, the edits are tried one by one."""
+    """What came of each edit of a round: whether it was refused, and why. Where a check doesn't say so of a function by itself, as after
+    an edit that can't be read, or beside one that turns a function which it calls, the edits are tried one by one."""
     lines = checked(rt, crate, tried)
     if len(tried) > 1 and any(verdict(edit, lines) is None for edit in tried):
         return [it for edit in tried for it in tried_round(rt, crate, [edit])]
     return [(edit, bool(verdict(edit, lines)), reason(edit, lines)) for edit in tried]
 
 
-def is_there(crate):
-    """Whether a crate's library is there, as it stands: one with a stamp has to be of these sources, and `rt ci` writes none."""
-    return crate.is_built() or os.path.isdir(crate.rlib) and not os.path.exists(f"{crate.folder}/out/rlib/stamp")
+def is_there(crate, rtlib):
+    """Whether a crate's library is there, as the crate and those below it stand: `rt lib` stamps it with the digest of their sources,
+    and one of `rt ci`, which has no stamp, has to be newer than all of these."""
+    if os.path.exists(f"{crate.folder}/out/rlib/stamp"):
+        return crate.is_built()
+    sources = (file for it in (crate, *crate.below()) for file in rtlib.files_of(it.folder))
+    return os.path.isdir(crate.rlib) and all(os.path.getmtime(file) <= os.path.getmtime(crate.rlib) for file in sources)
 
 
 def tasks_of(rt, crates):
@@ -130,7 +145,7 @@ def main():
     rt.rtlib.guarded()
     wanted = given.crates or sorted(os.listdir(EDITS))
     crates = [it for it in rt.rtlib.crates_below(ROOT) if it.name in wanted]
-    lacking = sorted({dep.name for it in crates for dep in it.below() if not is_there(dep)})
+    lacking = sorted({it.name for it in {it for crate in crates for it in (crate, *crate.below())} if not is_there(it, rt.rtlib)})
     if lacking or len(crates) < len(wanted):
         sys.exit(f"no library of {', '.join(lacking)} as it stands: scripts/libraries.py" if lacking else "there is no such crate")
     passed = failed = 0

@@ -221,7 +221,7 @@ def a_directory_whose_text_is_too_large_is_refused():
     """So many names of 255 bytes that its tree has more than 8,388,608 bytes; the lock is given back."""
     with Yard(is_store=True) as yard:
         root = filled(yard.top / "from", {"./": b""})
-        for number in range(23_400):
+        for number in range(23_600):
             os.mkdir(root / f"{number:0255}")
         with Server(yard.root, connections=2) as server:
             same(told("backup", server.address, "h", root), "1||directory too large\n")

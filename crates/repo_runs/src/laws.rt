@@ -18,8 +18,8 @@ pub fn each_event_keeps_reports()
     ensures { EachEventKeepsReports }
 {}
 
-/// A snapshot that a client once reported as stored is there, or a forget asked for its deletion, at every later time; and what
-/// this client was handed is what is known as handed to the snapshot's backup.
+/// A snapshot that a client once reported as stored is there, or a forget that chose it asked for its deletion, at every later
+/// time; and what this client was handed is what is known as handed to the snapshot's backup.
 pub fn each_report_holds()
     ensures { EachReportHolds }
 {}

@@ -1,7 +1,7 @@
 //! Laws of all runs of the world, by the definitions alone; that these can be met; and what wrong rules break.
 //!
-//! Promised, of a world that began with a store without objects: a snapshot that a client once reported as stored is there, or a forget asked for its
-//! deletion, at every later time ([`each_report_holds`]); a store at rest is one in which a client alone finds all that it
+//! Promised, of a world that began with a store without objects: a snapshot that a client once reported as stored is there, or a forget that chose
+//! it asked for its deletion, at every later time ([`each_report_holds`]); a store at rest is one in which a client alone finds all that it
 //! wants, and each snapshot there can be restored ([`every_snapshot_is_restored`]); each snapshot is of a version that the
 //! config has, or of a lower one, and an upgrade that was reported holds ([`each_upgrade_holds`]). Of any world: which requests and events
 //! keep the bag of messages in order, and what each of them leaves as it was.

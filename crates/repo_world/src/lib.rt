@@ -10,7 +10,7 @@
 //! given an item, messages are delivered late, again, in any order or never, calls of the store's device fail, anybody asks the store for anything that is no
 //! put, no deletion and no upgrade, such as a lock or a lock's end, the store is closed and opened), every world is safe ([`every_run_is_safe`]): each snapshot in the store has all its blobs there and
 //! spells just the names and the bytes that were handed to its backup, at its start or as the items spell them that it was fed,
-//! and has its host and time, each restore that is complete gave out just these, and a snapshot that was reported as stored is there
+//! whose host and time its text was put with, each restore that is complete gave out just these, and a snapshot that was reported as stored is there
 //! until a forget that chose it asks for its deletion.
 //!
 //! A [`World`] makes just such runs, and is safe at every moment; and each of its clients goes by its job's whole rule (`Rules`).
