@@ -111,12 +111,14 @@ def reason(edit, lines):
 
 
 def tried_round(rt, crate, tried):
-    """What came of each edit of a round: whether it was refused, and why. Where a check doesn't say so of a function by itself, as after
-    an edit that can't be read, or beside one that turns a function which it calls, the edits are tried one by one."""
+    """What came of each edit of a round: whether it was refused, and why. Of whose function a check doesn't say so by itself, as of one
+    that calls a function which another edit turns, or where an edit can't be read, that is tried once more, alone."""
     lines = checked(rt, crate, tried)
-    if len(tried) > 1 and any(verdict(edit, lines) is None for edit in tried):
-        return [it for edit in tried for it in tried_round(rt, crate, [edit])]
-    return [(edit, bool(verdict(edit, lines)), reason(edit, lines)) for edit in tried]
+    for edit in tried:
+        if len(tried) > 1 and verdict(edit, lines) is None:
+            yield from tried_round(rt, crate, [edit])
+        else:
+            yield edit, bool(verdict(edit, lines)), reason(edit, lines)
 
 
 def is_there(crate, rtlib):
@@ -150,7 +152,7 @@ def main():
         sys.exit(f"no library of {', '.join(lacking)} as it stands: scripts/libraries.py" if lacking else "there is no such crate")
     passed = failed = 0
     with ThreadPoolExecutor(given.jobs or jobs_here()) as pool:
-        for told in pool.map(lambda task: tried_round(rt, *task), tasks_of(rt, crates)):
+        for told in pool.map(lambda task: list(tried_round(rt, *task)), tasks_of(rt, crates)):
             for edit, is_refused, why in told:
                 passed, failed = passed + is_refused, failed + (not is_refused)
                 print(f"must-fail {edit.label}: {'refused' if is_refused else 'NOT REFUSED'}: {why}", flush=True)
