@@ -83,17 +83,18 @@ def parts_whose_bytes_are_turned_are_told_and_give_nothing_wrong():
         wanted = {"a": b"abc", "b": b"de", "c": b"fgh"}
         pack, name = laid_out(own, [[(file, data)] for file, data in wanted.items()])
         data, whole = pack.read_bytes(), 0
+        places = list(chosen(range(len(data)), 60))
         with Server(own.root, connections=10**6) as server:
             restores(server.address, name, own.top / "to", wanted)
             is_clean(server.address)
-            for place in chosen(range(len(data)), 60):
+            for place in places:
                 pack.write_bytes(data[:place] + bytes([data[place] ^ 1]) + data[place + 1:])
                 holds(told("check", server.address).startswith("3|fault "), f"byte {place}")
                 shutil.rmtree(own.top / "to", ignore_errors=True)
                 whole += told("restore", server.address, name, own.top / "to").startswith("0|complete 3\n")
                 there = {file: data for file, data in entries(own.top / "to").items() if not file.startswith("!restoring-")}
                 holds(there.items() <= wanted.items(), f"byte {place}: {there}")
-        holds(0 < whole < 60, f"{whole} were whole: those in which the pack's own entries are turned")
+        holds(0 < whole < len(places), f"{whole} were whole: those in which the pack's own entries are turned")
 
 
 @in_store
