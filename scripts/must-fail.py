@@ -8,7 +8,7 @@ scripts/libraries.py), and of the functions those alone that they turn, with wha
 together: what is proved of a function rests on the contracts of those that it calls, and no edit changes a contract. An edit is
 refused where the function that it turns isn't proved any more, by what the function itself owes: not for one that it calls, which
 another edit turned. It is tried only where the crate's own library is there as the crate stands, which says that the function is
-proved without it. So many checks go side by side as --jobs says, else one for each processor, as memory allows. The last line is
+proved without it. What the checks of a crate prove of the others is kept from one to the next. So many crates go side by side as --jobs says, else one for each processor, as memory allows. The last line is
 'N passed, M failed'.
 """
 import argparse
@@ -72,8 +72,9 @@ def rounds_of(tried):
     return rounds
 
 
-def checked(rt, crate, tried):
-    """The lines of a check of the functions that these edits turn, in a copy of the crate in which they are made."""
+def checked(rt, crate, tried, kept):
+    """The lines of a check of the functions that these edits turn, in a copy of the crate in which they are made, over what the checks
+    of the crate before it in this run have kept there."""
     rtlib = rt.rtlib
     with tempfile.TemporaryDirectory(prefix="edits-") as room:
         for part in rtlib.PARTS:
@@ -84,7 +85,7 @@ def checked(rt, crate, tried):
                 with open(f"{room}/{file}", "w", encoding="utf-8") as it:
                     it.write(text)
         only = [word for edit in tried for word in ("--only", edit.function)]
-        words = [*rtlib.guarded(), rtlib.RATTLE, "check", *crate.words(["--jobs", "1"], keeps=False), *only]
+        words = [*rtlib.guarded(), rtlib.RATTLE, "check", *crate.words(["--jobs", "1"], keeps=False), "--incremental", kept, *only]
         how = {"stdin": subprocess.DEVNULL, "stdout": subprocess.PIPE, "stderr": subprocess.STDOUT}
         told = subprocess.run(words, cwd=room, text=True, errors="replace", **how).stdout
         return [] if rtlib.STALE.search(told) else told.split("\n")
@@ -110,15 +111,17 @@ def reason(edit, lines):
     return f"{said} (only names that a proof file can't find)" if NAMES_ALONE.search(said) else said
 
 
-def tried_round(rt, crate, tried):
-    """What came of each edit of a round: whether it was refused, and why. Of whose function a check doesn't say so by itself, as of one
-    that calls a function which another edit turns, or where an edit can't be read, that is tried once more, alone."""
-    lines = checked(rt, crate, tried)
-    for edit in tried:
-        if len(tried) > 1 and verdict(edit, lines) is None:
-            yield from tried_round(rt, crate, [edit])
-        else:
-            yield edit, bool(verdict(edit, lines)), reason(edit, lines)
+def tried_round(rt, crate, tried, kept):
+    """What came of each edit of a round: whether it was refused, and why. Those of whose functions a check doesn't say so by themselves,
+    as they call one that another edit turns, are tried once more without the others; one by one, where it says so of none, as where
+    an edit can't be read."""
+    lines = checked(rt, crate, tried, kept)
+    told = [edit for edit in tried if len(tried) == 1 or verdict(edit, lines) is not None]
+    for edit in told:
+        yield edit, bool(verdict(edit, lines)), reason(edit, lines)
+    left = [edit for edit in tried if edit not in told]
+    for again in [left] if told and left else [[edit] for edit in left]:
+        yield from tried_round(rt, crate, again, kept)
 
 
 def is_there(crate, rtlib):
@@ -130,17 +133,16 @@ def is_there(crate, rtlib):
     return os.path.isdir(crate.rlib) and all(os.path.getmtime(file) <= os.path.getmtime(crate.rlib) for file in sources)
 
 
-def tasks_of(rt, crates):
-    """The rounds of each crate, those of the largest crates first."""
-    for crate in sorted(crates, key=lambda it: -it.count(rb"\n")):
-        tried = [Edit(rt, crate, name) for name in sorted(os.listdir(f"{EDITS}/{crate.name}"))]
-        for each in rounds_of(tried):
-            yield crate, each
+def tried_crate(rt, crate):
+    """What came of each edit of a crate."""
+    tried = [Edit(rt, crate, name) for name in sorted(os.listdir(f"{EDITS}/{crate.name}"))]
+    with tempfile.TemporaryDirectory(prefix="kept-") as kept:
+        return [it for each in rounds_of(tried) for it in tried_round(rt, crate, each, kept)]
 
 
 def main():
     parser = argparse.ArgumentParser(description=__doc__.split("\n")[0])
-    parser.add_argument("--jobs", type=int, metavar="N", help="so many checks at once")
+    parser.add_argument("--jobs", type=int, metavar="N", help="so many crates at once")
     parser.add_argument("crates", nargs="*", metavar="CRATE", help="the crates whose edits are tried; all without a word")
     given = parser.parse_args()
     rt = kit.load()
@@ -152,7 +154,7 @@ def main():
         sys.exit(f"no library of {', '.join(lacking)} as it stands: scripts/libraries.py" if lacking else "there is no such crate")
     passed = failed = 0
     with ThreadPoolExecutor(given.jobs or jobs_here()) as pool:
-        for told in pool.map(lambda task: list(tried_round(rt, *task)), tasks_of(rt, crates)):
+        for told in pool.map(lambda crate: tried_crate(rt, crate), sorted(crates, key=lambda it: -it.count(rb"\n"))):
             for edit, is_refused, why in told:
                 passed, failed = passed + is_refused, failed + (not is_refused)
                 print(f"must-fail {edit.label}: {'refused' if is_refused else 'NOT REFUSED'}: {why}", flush=True)
