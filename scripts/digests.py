@@ -31,8 +31,6 @@ FEW = [70000, 1, 64, 0, 5000, 63, 119, 56, 55]
 
 for text in (b"", b"abc", TWO_BLOCKS, FOUR_WORDS, b"a" * 1000000):
     print(sha256(text).hexdigest(), len(text))
-print(folded(pattern(n) for n in range(601)), "fronts of 0 to 600 bytes")
 print(folded(cut(pattern(180300), [i * 7 % 601 for i in range(601)])), "pieces of 0 to 600 bytes")
-for count in (0, 1, 2, 3, 8, 9):
-    print(folded(cut(pattern(75400), FEW[:count])), f"{count} of the few pieces")
+print(folded(cut(pattern(180300), FEW)), "the few pieces")
 print(folded(cut(b"abcdef", [2, 10, 3])), "pieces of a text that ends early")

@@ -1,26 +1,52 @@
 //! Where streams are cut, against values that other programs computed.
 
-ghost use Rattle.std.specs.Prelude.{◌<◌};
-
 use crate::trials::Trial;
-use repo_chunk::{Chunker, ParamError, Params, Scan, remainder, report_cuts};
+use repo_chunk::{Params, remainder, report_cuts};
 use std::alloc::{AllocError, Global};
 
-/// The numbers that fix where chunks end: their least and greatest length, and how many bits are zero.
-#[derive(Clone, Copy)]
-pub struct ChunkRule {
-    min: u64,
-    max: u64,
-    bits: u64,
-}
+// These lines of Python gave the lengths, as cuts(64, 256, 6, stream(5000)):
+//
+//     def remainder(window):
+//         r = 0
+//         for byte in window:
+//             for place in range(7, -1, -1):
+//                 r = 2 * r + (byte >> place & 1)
+//                 if r >> 53 & 1: r ^= 0x3DA3358B4DC173
+//         return r
+//     def cuts(least, greatest, bits, data):
+//         lengths = []
+//         while data:
+//             fits = (n for n in range(least, min(greatest, len(data)) + 1)
+//                     if n == greatest or remainder(data[n - 64:n]) % 2 ** bits == 0)
+//             lengths.append(next(fits, len(data)))
+//             data = data[lengths[-1]:]
+//         return lengths
+//     def stream(count, state=1):
+//         data = []
+//         for _ in range(count):
+//             state = (state * 1664525 + 1013904223) % 2 ** 32
+//             data.append(state >> 24)
+//         return data
+//
+// So does restic's chunker library, with its average of 6 bits.
+const LENGTHS: [u64; 41] = [
+    109, 148, 93, 107, 83, 108, 109, 146, 66, 67, 65, 79, 203, 77, 70, 101, 116, 78, 90, 66, 182,
+    96, 215, 98, 227, 95, 256, 173, 64, 244, 101, 201, 80, 107, 106, 244, 106, 74, 239, 93, 18,
+];
 
-/// A rule of these numbers.
-pub fn rule(min: u64, max: u64, bits: u64) -> ChunkRule {
-    ChunkRule { min, max, bits }
+/// The highest bytes of the numbers of a linear congruential generator.
+fn stream(alloc: Global, count: usize) -> Result<Vec<u8>, AllocError> {
+    let mut bytes = Vec::with_capacity(alloc, count)?;
+    let mut state = 1u32;
+    for _ in 0..count {
+        state = state.wrapping_mul(1_664_525).wrapping_add(1_013_904_223);
+        bytes.push(state.to_be_bytes()[0])?;
+    }
+    Ok(bytes)
 }
 
 /// The lengths of the chunks of the stream that these pieces make.
-pub fn lengths_of(alloc: Global, params: Params, pieces: &[&[u8]]) -> Vec<u64> {
+fn lengths_of(alloc: Global, params: Params, pieces: &[&[u8]]) -> Vec<u64> {
     let mut lengths = Vec::new(alloc);
     report_cuts(params, pieces, |n| {
         let _ = lengths.push(n);
@@ -28,149 +54,53 @@ pub fn lengths_of(alloc: Global, params: Params, pieces: &[&[u8]]) -> Vec<u64> {
     lengths
 }
 
-/// The lengths of the chunks of these bytes, which come in pieces of this size.
-fn lengths_by(
-    alloc: Global,
-    params: Params,
-    bytes: &[u8],
-    size: usize,
-) -> Result<Vec<u64>, AllocError>
-    requires { 0 < size }
-{
-    let pieces: Vec<&[u8]> = bytes.chunks(size).collect(alloc)?;
-    Ok(lengths_of(alloc, params, pieces.as_slice()))
-}
-
-/// 63 zeros, and then these bytes.
-fn after_zeros(alloc: Global, tail: &[u8]) -> Result<Vec<u8>, AllocError> {
-    let mut bytes = vec![in alloc; 0u8; 63]?;
-    bytes.extend_from_slice(tail)?;
-    Ok(bytes)
-}
-
-/// A chunk goes on from piece to piece.
-fn go_on(trial: &mut Trial, params: Params) {
-    let mut chunker = Chunker::new(params);
-    trial.feeds_chunker(&mut chunker, &[0; 63], Scan::More);
-    trial.feeds_chunker(&mut chunker, &[], Scan::More);
-    trial.feeds_chunker(&mut chunker, &[0x01, 0x40, 0x40], Scan::Cut(2));
-    trial.finishes(&mut chunker, 0);
-    trial.feeds_chunker(&mut chunker, &[0; 200], Scan::Cut(64));
-    trial.feeds_chunker(&mut chunker, &[0; 8], Scan::More);
-    trial.finishes(&mut chunker, 8);
-    trial.finishes(&mut chunker, 0);
-}
-
 impl Trial {
+    /// By a rule of these numbers, so many bytes of the generator, in two pieces of which the first ends here, are cut into
+    /// chunks of these lengths.
+    fn cuts(&mut self, rule: (u64, u64, u64), count: usize, end: usize, wanted: &[u64]) {
+        match (
+            Params::new(rule.0, rule.1, rule.2),
+            stream(self.alloc, count),
+        ) {
+            (Ok(params), Ok(bytes)) => {
+                let (front, rest) = bytes.split_at(bytes.len().min(end));
+                let lengths = lengths_of(self.alloc, params, &[front, rest]);
+                self.count(lengths.as_slice() == wanted);
+            }
+            _ => self.count(false),
+        }
+    }
+
     /// The remainder of 64 bytes, zeros but for this one at a place.
-    fn leaves(&mut self, place: usize, byte: u8, wanted: u64)
-        requires { place < 64 }
-    {
+    fn leaves(&mut self, place: usize, byte: u8, wanted: u64) {
         let mut bytes = [0u8; 64];
-        bytes[place] = byte;
+        if let Some(at) = bytes.get_mut(place) {
+            *at = byte;
+        }
         self.count(remainder(&bytes) == wanted);
-    }
-
-    /// A rule's numbers are no parameters, for this reason.
-    fn refuses_params(&mut self, rule: ChunkRule, wanted: ParamError) {
-        let is_so = match Params::new(rule.min, rule.max, rule.bits) {
-            Ok(_) => false,
-            Err(error) => error == wanted,
-        };
-        self.count(is_so);
-    }
-
-    /// The parameters of a rule, which keep its numbers. Where they are refused that counts.
-    pub fn params(&mut self, rule: ChunkRule) -> Option<Params> {
-        let params = Params::new(rule.min, rule.max, rule.bits).ok();
-        let is_so = match &params {
-            Some(params) => {
-                params.min() == rule.min && params.max() == rule.max && params.bits() == rule.bits
-            }
-            None => false,
-        };
-        self.count(is_so);
-        params
-    }
-
-    /// In pieces of this size, bytes are cut into chunks of these lengths.
-    pub fn cuts(&mut self, rule: ChunkRule, bytes: &[u8], size: usize, wanted: &[u64])
-        requires { 0 < size }
-    {
-        let Some(params) = self.params(rule) else {
-            return;
-        };
-        match lengths_by(self.alloc, params, bytes, size) {
-            Ok(lengths) => self.count(lengths.as_slice() == wanted),
-            Err(_) => self.count(false),
-        }
-    }
-
-    /// 63 zeros and these bytes are cut into chunks of these lengths, in pieces of any size.
-    fn cuts_after_zeros(&mut self, greatest: u64, tail: &[u8], wanted: &[u64]) {
-        let rule = rule(64, greatest, 6);
-        match after_zeros(self.alloc, tail) {
-            Ok(bytes) => {
-                self.cuts(rule, bytes.as_slice(), 1, wanted);
-                self.cuts(rule, bytes.as_slice(), 64, wanted);
-                self.cuts(rule, bytes.as_slice(), 200, wanted);
-            }
-            Err(_) => self.count(false),
-        }
-    }
-
-    /// A piece has this answer.
-    fn feeds_chunker(&mut self, chunker: &mut Chunker, piece: &[u8], wanted: Scan) {
-        self.count(chunker.feed(piece) == wanted);
-    }
-
-    /// The unfinished chunk has so many bytes.
-    fn finishes(&mut self, chunker: &mut Chunker, wanted: u64) {
-        self.count(chunker.finish() == wanted);
     }
 }
 
 #[test]
-fn remainders_are_those_of_the_polynomial(rt: HostRuntime) {
+fn streams_are_cut_as_by_other_programs(rt: HostRuntime) {
     let mut trial = Trial::new(rt.alloc());
-    // The bit 53 alone leaves the polynomial without its bit 53, and the bit 54 twice that, reduced again; the lines
-    // of Python in `streams` give the same.
+    // The bit 53 alone leaves the polynomial without its bit 53, and the bit 54 twice that, reduced again; the lines of
+    // Python above give the same.
     trial.leaves(57, 0x20, 0x1D_A335_8B4D_C173);
     trial.leaves(57, 0x40, 0x06_E55E_9DD6_4395);
     trial.leaves(63, 0x01, 0x01);
-    trial.end(&rt);
-}
-
-#[test]
-fn parameters_are_refused_in_their_order(rt: HostRuntime) {
-    let mut trial = Trial::new(rt.alloc());
-    trial.refuses_params(rule(63, 62, 0), ParamError::Least);
-    trial.refuses_params(rule(64, 63, 0), ParamError::Greatest);
-    trial.refuses_params(rule(64, 8_388_609, 0), ParamError::Greatest);
-    trial.refuses_params(rule(64, 64, 0), ParamError::Bits);
-    trial.refuses_params(rule(64, 64, 33), ParamError::Bits);
-    trial.params(rule(524_288, 8_388_608, 20));
-    trial.end(&rt);
-}
-
-#[test]
-fn a_chunk_goes_on_from_piece_to_piece(rt: HostRuntime) {
-    let mut trial = Trial::new(rt.alloc());
-    match Params::new(64, 128, 6) {
-        Ok(params) => go_on(&mut trial, params),
-        Err(_) => trial.count(false),
+    // The other lengths are those of restic's chunker library with this polynomial.
+    trial.cuts(
+        (524_288, 8_388_608, 20),
+        4_000_000,
+        65_536,
+        &[1_257_677, 895_311, 699_655, 1_147_357],
+    );
+    // Where bytes begin to count, at the least length, at the cut and at the greatest length, and a byte to each side.
+    for end in [63, 64, 65, 127, 128, 129, 256, 257, 258, 299, 300, 301] {
+        trial.cuts((64, 256, 6), 5_000, end, &LENGTHS);
+        trial.cuts((128, 300, 6), 1_000, end, &[257, 200, 191, 139, 182, 31]);
+        trial.cuts((128, 300, 20), 1_000, end, &[300, 300, 300, 100]);
     }
-    trial.end(&rt);
-}
-
-#[test]
-fn small_streams_are_cut_by_the_rule(rt: HostRuntime) {
-    let mut trial = Trial::new(rt.alloc());
-    // From the rule by hand, and by the lines of Python in `streams`.
-    trial.cuts_after_zeros(128, &[0; 137], &[64, 64, 64, 8]);
-    trial.cuts_after_zeros(128, &[0x01, 0x40], &[65]);
-    trial.cuts_after_zeros(66, &[0x01; 4], &[66, 1]);
-    trial.cuts_after_zeros(128, &[], &[63]);
-    trial.cuts(rule(64, 128, 6), &[], 1, &[]);
     trial.end(&rt);
 }

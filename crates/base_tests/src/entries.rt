@@ -5,120 +5,63 @@ use repo_name::{Bytes, Text};
 use repo_tree::{Entry, EntryKind, Path, is_below, is_path};
 use std::alloc::{AllocError, Global};
 
-/// The path of these components.
-fn path(alloc: Global, parts: &[&str]) -> Result<Path, AllocError> {
+/// The path of these components, a line each.
+fn path(alloc: Global, text: &str) -> Result<Path, AllocError> {
     let mut path = Vec::new(alloc);
-    for part in parts {
-        path.push(Text::of(String::from_str(alloc, *part)?))?;
+    for part in text.lines() {
+        path.push(Text::of(String::from_str(alloc, part)?))?;
     }
     Ok(Path::of(path))
 }
 
-/// Whether components are these.
-fn are_parts(parts: &[Text], wanted: &[&str]) -> bool {
-    if parts.len() != wanted.len() {
-        return false;
-    }
-    for (part, text) in parts.iter().zip(wanted) {
-        if part.as_str() != *text {
-            return false;
+/// Whether an empty file has a copy at the same path, of two components.
+fn is_copied(alloc: Global) -> Result<bool, AllocError> {
+    let entry = Entry {
+        path: path(alloc, "d\nx")?,
+        what: EntryKind::File(Bytes::of(Vec::new(alloc))),
+    };
+    let copy: Result<Entry, AllocError> = entry.clone();
+    let parts = copy?.path.into_components();
+    Ok(match parts.as_slice() {
+        [first, second] => {
+            is_path(parts.as_slice()) && first.as_str() == "d" && second.as_str() == "x"
         }
-    }
-    true
+        _ => false,
+    })
+}
+
+/// Whether one path is below another.
+fn stands_below(alloc: Global, first: &str, second: &str) -> Result<bool, AllocError> {
+    let (first, second) = (path(alloc, first)?, path(alloc, second)?);
+    Ok(is_below(first.as_slice(), second.as_slice()))
 }
 
 impl Trial {
-    /// A file's path, copied again where there was no memory, has these components, and gives them back.
-    fn copies_entry(&mut self, parts: &[&str]) {
-        let mut made = path(self.alloc, parts);
-        if made.is_err() {
+    /// An entry is copied, again where there was no memory.
+    pub fn entries(&mut self) {
+        let mut copied = is_copied(self.alloc);
+        if copied.is_err() {
             self.lack();
-            made = path(self.alloc, parts);
+            copied = is_copied(self.alloc);
         }
-        match made {
-            Ok(path) => self.copies_file(path, parts),
-            Err(_) => self.count(false),
-        }
-    }
-
-    /// An empty file at a path of these components has an equal copy.
-    fn copies_file(&mut self, path: Path, parts: &[&str]) {
-        let entry = Entry {
-            path,
-            what: EntryKind::File(Bytes::of(Vec::new(self.alloc))),
-        };
-        let mut copy: Result<Entry, AllocError> = entry.clone();
-        if copy.is_err() {
-            self.lack();
-            copy = entry.clone();
-        }
-        match copy {
-            Ok(copy) => {
-                self.count(are_parts(copy.path.as_slice(), parts));
-                self.count(matches!(copy.what, EntryKind::File(_)));
-            }
-            Err(_) => self.count(false),
-        }
-        let components = entry.path.into_components();
-        self.count(are_parts(components.as_slice(), parts));
-    }
-}
-
-impl Trial {
-    /// A path of these components is one, or isn't.
-    fn is_one(&mut self, parts: &[&str], wanted: bool) {
-        match path(self.alloc, parts) {
-            Ok(path) => self.count(is_path(path.as_slice()) == wanted),
-            Err(_) => self.count(false),
-        }
+        self.count(copied == Ok(true));
     }
 
     /// The first path is below the second, or isn't.
-    fn stands_below(&mut self, first: &[&str], second: &[&str], wanted: bool) {
-        let Ok(first) = path(self.alloc, first) else {
-            return self.count(false);
-        };
-        match path(self.alloc, second) {
-            Ok(second) => self.count(is_below(first.as_slice(), second.as_slice()) == wanted),
-            Err(_) => self.count(false),
-        }
+    fn goes_below(&mut self, first: &str, second: &str, wanted: bool) {
+        self.count(stands_below(self.alloc, first, second) == Ok(wanted));
     }
-}
-
-#[test]
-fn entries_have_paths(rt: HostRuntime) {
-    let mut trial = Trial::new(rt.alloc());
-    trial.copies_entry(&["d", "x"]);
-    trial.end(&rt);
-}
-
-// It holds where any one growth is refused, and is asked for again.
-#[test]
-fn refused_growth_of_a_copy(rt: HostRuntime) {
-    let mut trial = Trial::of_refusals(rt.alloc());
-    trial.copies_entry(&["x"]);
-    trial.end(&rt);
-}
-
-#[test]
-fn paths_have_components(rt: HostRuntime) {
-    let mut trial = Trial::new(rt.alloc());
-    trial.is_one(&["d", "x"], true);
-    trial.is_one(&[], false);
-    trial.is_one(&["d", ".."], false);
-    trial.is_one(&["d/x"], false);
-    trial.end(&rt);
 }
 
 // A directory is below what is in it, and that below whatever comes after the directory: `a/b` below `a!`, though not as texts.
 #[test]
 fn paths_go_by_their_components(rt: HostRuntime) {
     let mut trial = Trial::new(rt.alloc());
-    trial.stands_below(&["a"], &["a", "b"], true);
-    trial.stands_below(&["a", "b"], &["a!"], true);
-    trial.stands_below(&["a!"], &["a", "b"], false);
-    trial.stands_below(&["a", "b"], &["a"], false);
-    trial.stands_below(&["a"], &["a"], false);
-    trial.stands_below(&["B"], &["a"], true);
+    trial.goes_below("a", "a\nb", true);
+    trial.goes_below("a\nb", "a!", true);
+    trial.goes_below("a!", "a\nb", false);
+    trial.goes_below("a\nb", "a", false);
+    trial.goes_below("a", "a", false);
+    trial.goes_below("B", "a", true);
     trial.end(&rt);
 }

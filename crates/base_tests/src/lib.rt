@@ -2,23 +2,26 @@
 //! ledgers, and of walks over trees, against values from outside.
 //!
 //! They stand in a crate of their own since the proof of a crate with tests is made twice, with them and without. A test is a
-//! list of steps with no branch between them: each counts in a [`trials::Trial`] what is not as wanted.
+//! list of steps with no branch between them: each counts in a [`trials::Trial`] what is not as wanted. What bytes are read as
+//! stands in the lines of `texts` and `bytes`, along which `formats` goes.
 #![tactic(auto)]
 
 #[cfg(test)]
-mod chunks;
+mod bytes;
 #[cfg(test)]
-mod configs;
+mod chunks;
 #[cfg(test)]
 mod entries;
 #[cfg(test)]
+mod formats;
+#[cfg(test)]
 mod frames;
 #[cfg(test)]
-mod indexes;
-#[cfg(test)]
-mod ledger_bytes;
+mod growth;
 #[cfg(test)]
 mod ledgers;
+#[cfg(test)]
+mod limits;
 #[cfg(test)]
 mod lookups;
 #[cfg(test)]
@@ -26,28 +29,14 @@ mod names;
 #[cfg(test)]
 mod packs;
 #[cfg(test)]
-mod parts;
-#[cfg(test)]
-mod readers;
-#[cfg(test)]
-mod replies;
-#[cfg(test)]
-mod requests;
-#[cfg(test)]
-mod rows;
-#[cfg(test)]
 mod sha;
-#[cfg(test)]
-mod snapshots;
 #[cfg(test)]
 mod spelling;
 #[cfg(test)]
-mod streams;
-#[cfg(test)]
-mod trees;
+mod texts;
 #[cfg(test)]
 mod trials;
 #[cfg(test)]
-mod walks;
+mod turns;
 #[cfg(test)]
-mod written_trees;
+mod walks;

@@ -2,7 +2,6 @@
 
 use crate::trials::Trial;
 use repo_name::{Instance, Name, NameError, insert_named, name_of, remove_named};
-use std::alloc::AllocError;
 use std::collections::BTreeMap;
 
 // The examples of FIPS 180-4 for SHA-256: `abc`, and the empty text.
@@ -11,41 +10,18 @@ const ABC: &str = "ba7816bf8f01cfea414140de5dae2223b00361a396177a9cb410ff61f2001
 const EMPTY: &str = "e3b0c44298fc1c149afbf4c8996fb92427ae41e4649b934ca495991b7852b855";
 
 impl Trial {
-    /// A name's text, asked for again where there was no memory.
-    fn digits_of(&mut self, name: &Name) -> Result<String, AllocError> {
-        let digits = name.to_hex(self.alloc);
+    /// A name has this text, asked for again where there was no memory, and is read from it.
+    fn has_digits(&mut self, name: Name, wanted: &str) {
+        let mut digits = name.to_hex(self.alloc);
         if digits.is_err() {
             self.lack();
-            return name.to_hex(self.alloc);
+            digits = name.to_hex(self.alloc);
         }
-        digits
-    }
-
-    /// A name has this text.
-    fn has_digits(&mut self, name: &Name, wanted: &str) {
-        let is_so = match self.digits_of(name) {
-            Ok(digits) => digits.as_str() == wanted,
-            Err(_) => false,
-        };
-        self.count(is_so);
-    }
-
-    /// The text is that of this name.
-    fn reads_digits(&mut self, digits: &str, name: Name) {
-        let is_so = match Name::from_hex(digits) {
-            Ok(read) => read == name,
-            Err(_) => false,
-        };
-        self.count(is_so);
-    }
-
-    /// The text is no name's, for this reason.
-    fn refuses_digits(&mut self, digits: &str, wanted: NameError) {
-        let is_so = match Name::from_hex(digits) {
-            Ok(_) => false,
-            Err(error) => error == wanted,
-        };
-        self.count(is_so);
+        match digits {
+            Ok(digits) => self.count(digits.as_str() == wanted),
+            Err(_) => self.count(false),
+        }
+        self.count(Name::from_hex(wanted) == Ok(name));
     }
 
     /// A value is put under a name. Where there is no memory at first nothing changes, and it is put at the second time.
@@ -53,77 +29,29 @@ impl Trial {
         let (before, held) = (map.len(), map.get(&name).copied());
         if insert_named(map, name, value).is_err() {
             self.lack();
-            self.has_named(map, &name, held);
-            self.count(map.len() == before);
+            self.count(map.len() == before && map.get(&name).copied() == held);
             self.count(insert_named(map, name, value).is_ok());
         }
-        self.has_named(map, &name, Some(value));
+        self.count(map.get(&name).copied() == Some(value));
     }
 
-    /// This stands under a name.
-    fn has_named(&mut self, map: &BTreeMap<Name, u64>, name: &Name, wanted: Option<u64>) {
-        self.count(map.get(name).copied() == wanted);
+    /// Names, their texts, and a map.
+    pub fn names(&mut self) {
+        let (abc, empty) = (name_of(b"abc"), name_of(b""));
+        self.has_digits(abc, ABC);
+        self.has_digits(empty, EMPTY);
+        self.count(Name::from_hex(&ABC[1..]) == Err(NameError::Length));
+        self.count(
+            Name::from_hex("Ba7816bf8f01cfea414140de5dae2223b00361a396177a9cb410ff61f20015ad")
+                == Err(NameError::Digit),
+        );
+        self.count(Name(abc.to_bytes()) == abc);
+        self.count(Instance(Instance([1; 16]).to_bytes()) == Instance([1; 16]));
+        let mut map = BTreeMap::new(self.alloc);
+        self.puts_named(&mut map, abc, 1);
+        self.puts_named(&mut map, empty, 2);
+        self.puts_named(&mut map, abc, 3);
+        remove_named(&mut map, &abc);
+        self.count(map.get(&abc).is_none() && map.len() == 1);
     }
-}
-
-#[test]
-fn names_are_sha256_in_hexadecimal(rt: HostRuntime) {
-    let mut trial = Trial::new(rt.alloc());
-    for (bytes, digits) in [(b"abc".as_slice(), ABC), (b"".as_slice(), EMPTY)] {
-        trial.has_digits(&name_of(bytes), digits);
-        trial.reads_digits(digits, name_of(bytes));
-    }
-    trial.end(&rt);
-}
-
-#[test]
-fn texts_that_are_no_names(rt: HostRuntime) {
-    let mut trial = Trial::new(rt.alloc());
-    trial.refuses_digits(&ABC[1..], NameError::Length);
-    trial.refuses_digits("", NameError::Length);
-    trial.refuses_digits(
-        "Ba7816bf8f01cfea414140de5dae2223b00361a396177a9cb410ff61f20015ad",
-        NameError::Digit,
-    );
-    trial.refuses_digits(
-        "ga7816bf8f01cfea414140de5dae2223b00361a396177a9cb410ff61f20015ad",
-        NameError::Digit,
-    );
-    trial.end(&rt);
-}
-
-#[test]
-fn a_map_by_name(rt: HostRuntime) {
-    let mut trial = Trial::new(rt.alloc());
-    let (abc, empty) = (name_of(b"abc"), name_of(b""));
-    let mut map = BTreeMap::new(rt.alloc());
-    trial.puts_named(&mut map, abc, 1);
-    trial.puts_named(&mut map, empty, 2);
-    trial.puts_named(&mut map, abc, 3);
-    remove_named(&mut map, &abc);
-    trial.has_named(&map, &abc, None);
-    trial.has_named(&map, &empty, Some(2));
-    trial.end(&rt);
-}
-
-// It holds where any one growth is refused, and is asked for again.
-#[test]
-fn refused_growth_of_a_text(rt: HostRuntime) {
-    let mut trial = Trial::of_refusals(rt.alloc());
-    let name = name_of(b"abc");
-    trial.has_digits(&name, ABC);
-    trial.count(Name(name.to_bytes()) == name);
-    let instance = Instance([1; 16]);
-    trial.count(Instance(instance.to_bytes()) == instance);
-    trial.end(&rt);
-}
-
-// It holds where any one growth is refused, and is asked for again.
-#[test]
-fn refused_growth_of_a_map(rt: HostRuntime) {
-    let mut trial = Trial::of_refusals(rt.alloc());
-    let mut map = BTreeMap::new(rt.alloc());
-    trial.puts_named(&mut map, name_of(b"abc"), 1);
-    trial.puts_named(&mut map, name_of(b""), 2);
-    trial.end(&rt);
 }

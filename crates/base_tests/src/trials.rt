@@ -1,6 +1,5 @@
 //! The count of what was not as wanted, which the steps of a test share.
 
-use repo_name::Name;
 use std::alloc::{AllocError, Global};
 use std::process::Abort;
 
@@ -17,27 +16,9 @@ pub struct Trial {
     may_lack: bool,
 }
 
-/// So many letters `a`.
-fn letters(alloc: Global, count: usize) -> Result<String, AllocError> {
-    let mut text = String::new(alloc);
-    for _ in 0..count {
-        text.push('a')?;
-    }
-    Ok(text)
-}
-
-/// So many bytes: the text, and spaces behind it.
-fn padded(alloc: Global, text: &str, length: usize) -> Result<Vec<u8>, AllocError> {
-    let mut bytes = Vec::from_slice(alloc, text.as_bytes())?;
-    for _ in text.len()..length {
-        bytes.push(b' ')?;
-    }
-    Ok(bytes)
-}
-
 /// The bytes of a text in hexadecimal, which may have spaces.
-pub fn decoded(alloc: Global, digits: &str) -> Result<Vec<u8>, AllocError> {
-    let mut bytes = Vec::new(alloc);
+fn decoded(alloc: Global, digits: &str) -> Result<Vec<u8>, AllocError> {
+    let mut bytes = Vec::with_capacity(alloc, digits.len())?;
     let mut high = None;
     for digit in digits.chars() {
         let Some(digit) = digit.to_digit(16) else {
@@ -85,16 +66,11 @@ impl Trial {
     pub fn count(&mut self, is_so: bool) {
         self.steps = self.steps.saturating_add(1);
         if !is_so {
-            self.note();
+            if self.differ == 0 {
+                self.first = self.steps;
+            }
+            self.differ = self.differ.saturating_add(1);
         }
-    }
-
-    /// Counts the last step as one that is not as wanted.
-    fn note(&mut self) {
-        if self.differ == 0 {
-            self.first = self.steps;
-        }
-        self.differ = self.differ.saturating_add(1);
     }
 
     /// The bytes of a text in hexadecimal, which may have spaces, made again where there was no memory.
@@ -109,55 +85,6 @@ impl Trial {
             Err(_) => {
                 self.count(false);
                 Vec::new(self.alloc)
-            }
-        }
-    }
-
-    /// So many times this byte. Where there is no memory for them that counts, and there are none.
-    pub fn filled(&mut self, byte: u8, count: usize) -> Vec<u8> {
-        match vec![in self.alloc; byte; count] {
-            Ok(bytes) => bytes,
-            Err(_) => {
-                self.count(false);
-                Vec::new(self.alloc)
-            }
-        }
-    }
-
-    /// A text that was made. Where there was no memory for it that counts, and it is empty.
-    pub fn made(&mut self, text: Result<String, AllocError>) -> String {
-        match text {
-            Ok(text) => text,
-            Err(_) => {
-                self.count(false);
-                String::new(self.alloc)
-            }
-        }
-    }
-
-    /// So many letters `a`. Where there is no memory for them that counts, and there are none.
-    pub fn letters(&mut self, count: usize) -> String {
-        self.made(letters(self.alloc, count))
-    }
-
-    /// So many bytes: the text, and spaces behind it. Where there is no memory for them that counts, and there are none.
-    pub fn padded(&mut self, text: &str, length: usize) -> Vec<u8> {
-        match padded(self.alloc, text, length) {
-            Ok(bytes) => bytes,
-            Err(_) => {
-                self.count(false);
-                Vec::new(self.alloc)
-            }
-        }
-    }
-
-    /// The name of these digits. Where they are no name's that counts.
-    pub fn name(&mut self, digits: &str) -> Name {
-        match Name::from_hex(digits) {
-            Ok(name) => name,
-            Err(_) => {
-                self.count(false);
-                Name([0; 32])
             }
         }
     }
