@@ -19,11 +19,6 @@ impl<'a> Cut<'a> {
     pub(crate) fn new(inner: HostRuntime, fuse: &'a Fuse) -> Cut<'a> {
         Cut { inner, fuse }
     }
-
-    /// Keeps what has a name before it changes.
-    fn keep(&self, path: &str) -> io::Result<()> {
-        self.fuse.keep(path, fs::read(&self.inner, path).ok())
-    }
 }
 
 /// A file of a [`Cut`]. Its syncs are noted, and not made.
@@ -32,26 +27,6 @@ pub struct CutFile<'a> {
     inner: File,
     path: String,
     fuse: &'a Fuse,
-}
-
-/// A listing of a [`Cut`].
-#[derive(Drop)]
-pub struct CutDir {
-    inner: <HostRuntime as Files>::Dir,
-    /// The name that isn't UTF-8 is still to come.
-    is_odd: bool,
-}
-
-impl Read for CutDir {
-    fn read(&mut self, buffer: &mut [u8]) -> io::Result<usize> {
-        let odd = b"\xff\0";
-        if !self.is_odd || buffer.len() < odd.len() {
-            return self.inner.read(buffer);
-        }
-        self.is_odd = false;
-        buffer[..2].copy_from_slice(odd);
-        Ok(2)
-    }
 }
 
 impl Read for CutFile<'_> {
@@ -116,10 +91,10 @@ impl Alloc for Cut<'_> {
 impl<'a> Files for Cut<'a> {
     type File = CutFile<'a>;
 
-    type Dir = CutDir;
+    type Dir = <HostRuntime as Files>::Dir;
 
     fn open_file(&self, how: &OpenOptions, path: &str) -> io::Result<CutFile<'a>> {
-        self.fuse.burn(What::Open, path)?;
+        self.fuse.burn(What::Look, path)?;
         let mut path = String::from_str(self.fuse.alloc, path)?;
         if matches!(self.fuse.trick, Trick::OtherFile) {
             path.push_str("-other")?;
@@ -132,13 +107,9 @@ impl<'a> Files for Cut<'a> {
         })
     }
 
-    fn open_dir(&self, path: &str) -> io::Result<CutDir> {
+    fn open_dir(&self, path: &str) -> io::Result<<HostRuntime as Files>::Dir> {
         self.fuse.burn(What::Look, path)?;
-        let inner = self.inner.open_dir(path)?;
-        Ok(CutDir {
-            inner,
-            is_odd: matches!(self.fuse.trick, Trick::OddName),
-        })
+        self.inner.open_dir(path)
     }
 
     fn metadata(&self, path: &str) -> io::Result<Metadata> {
@@ -156,33 +127,33 @@ impl<'a> Files for Cut<'a> {
     }
 
     fn rename(&self, from: &str, to: &str) -> io::Result<()> {
-        self.fuse.burn(What::Come, to)?;
-        self.fuse.note(What::Leave, from)?;
-        self.keep(to)?;
+        self.fuse.burn(What::Leave, from)?;
+        let before = fs::read(&self.inner, to).ok();
+        self.fuse.note(What::Come, to, before)?;
         self.inner.rename(from, to)
     }
 
     fn remove_file(&self, path: &str) -> io::Result<()> {
-        self.fuse.burn(What::Remove, path)?;
-        self.keep(path)?;
-        self.inner.remove_file(path)
+        self.fuse.burn(What::Look, path)?;
+        let before = fs::read(&self.inner, path).ok();
+        self.inner.remove_file(path)?;
+        self.fuse.note(What::Remove, path, before)
     }
 
     fn create_dir(&self, path: &str) -> io::Result<()> {
         self.fuse.burn(What::Look, path)?;
         self.inner.create_dir(path)?;
-        self.fuse.note(What::Make, path)
+        self.fuse.note(What::Make, path, None)
     }
 
     fn create_dir_with_mode(&self, path: &str, mode: u32) -> io::Result<()> {
         self.fuse.burn(What::Look, path)?;
         self.inner.create_dir_with_mode(path, mode)?;
-        self.fuse.note(What::Make, path)
+        self.fuse.note(What::Make, path, None)
     }
 
-    fn remove_dir(&self, path: &str) -> io::Result<()> {
-        self.fuse.burn(What::Remove, path)?;
-        self.inner.remove_dir(path)
+    fn remove_dir(&self, _: &str) -> io::Result<()> {
+        Err(io::Error::from(ErrorKind::Unsupported))
     }
 
     fn remove_dir_all<B: Allocator>(&self, _: B, _: &str) -> io::Result<()> {

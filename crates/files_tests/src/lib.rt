@@ -1,47 +1,24 @@
-//! Tests of what has to fail in the middle: shelves in folders whose machine stops, is killed, or fails in a call, walks and
-//! restores that meet the same, jobs whose connections end or lead to another store, and commands whose growth is refused;
-//! and of the turns that commands take. What the program does over real folders and sockets otherwise is tried on the
-//! program itself (`trials/`).
+//! Tests of what has to fail in the middle: stores, restorers and walks over a file system that stops or fails in a call, and
+//! power cuts behind it; commands whose growth is refused. What the program does over real folders and sockets otherwise is
+//! tried on the program itself (`trials/`), and what its commands print over replies by cases (`crates/cases`).
 //!
 //! They stand in a crate of their own since the proof of a crate with tests is made twice, with them and without.
 #![tactic(auto)]
 
 #[cfg(test)]
-mod cuts;
+mod commands;
 #[cfg(test)]
 mod cutting;
 #[cfg(test)]
-mod folder_restores;
-#[cfg(test)]
 mod fuses;
-#[cfg(test)]
-mod growth;
 #[cfg(test)]
 mod lasting;
 #[cfg(test)]
-mod meddling;
-#[cfg(test)]
-mod new_stores;
-#[cfg(test)]
-mod replies;
-#[cfg(test)]
 mod restorers;
 #[cfg(test)]
-mod restoring;
-#[cfg(test)]
-mod retrying;
-#[cfg(test)]
-mod runs;
-#[cfg(test)]
-mod serving;
-#[cfg(test)]
-mod shelves;
+mod stores;
 #[cfg(test)]
 mod texts;
-#[cfg(test)]
-mod turns;
-#[cfg(test)]
-mod undoing;
 #[cfg(test)]
 mod walking;
 #[cfg(test)]

@@ -1,283 +1,185 @@
-//! Steps of a restorer into a real folder.
+//! Restorers that are given parts, also in the wrong place, and over a file system that stops after any call.
 
 use crate::cutting::Cut;
-use crate::folder_restores::file_restored;
-use crate::fuses::{Fuse, Step, What};
-use crate::lasting::{is_synced, parent_of};
-use crate::runs::Run;
-use crate::yards::Yard;
-use repo_files::{Restorer, RestorerError};
+use crate::fuses::Trick;
+use crate::yards::{Yard, text_or_none};
+use repo_files::Restorer;
 use repo_name::{Bytes, Text};
-use repo_prog::Status;
 use repo_session::Emission;
 use repo_tree::Path;
-use std::alloc::{AllocError, AllocGlobal, Global};
-use std::fs::Files;
+use std::alloc::{AllocError, Global};
+use std::os::unix::fs::symlink;
+use std::panic::Expect;
+
+/// The parts that restorers are given, line by line: `dir PATH`, `file PATH`, `piece TEXT`, `close`, and a directory of an empty
+/// path, `nowhere`. The names of a path are joined by `>`. Before them stand how many were taken before one wasn't, whether the
+/// end is told (where the last word is `gone` it isn't asked for), and how many entries are in the target behind it.
+const GIVEN: &str = "0 true 0:
+4 true 1: dir a;file a>b;piece abc;close
+6 true 1: dir a;dir a>b;file a>b>c;piece abc;piece def;close
+2 false 0: file a;piece abc
+3 false 1: dir a;file a>b;piece abc
+2 false 0: file a;piece abc;gone
+4 false 1: dir a;file a>b;piece abc;close;gone
+0 false 0: piece abc;dir a
+0 false 0: close;dir a
+1 false 0: file a;file b;close
+1 false 0: file a;dir b;close
+1 false 0: file a;nowhere;close
+3 false 1: file a;close;file a;close;dir b
+1 false 1: dir a;close
+1 false 1: dir a;dir a;dir b
+2 false 1: dir a;file a;close;file b
+0 false 0: dir a>b;dir a
+0 false 0: nowhere;dir a
+0 false 0: dir a/b;dir a
+0 false 0: dir ../a;dir a
+0 false 0: dir /;dir a
+0 false 0: dir .;dir a
+0 false 0: dir ..;dir a
+0 false 0: dir >a;dir a
+1 false 1: dir a;dir ..;dir good
+1 false 1: dir a;dir a>..>b;dir good
+1 false 1: dir a;dir a>>b;dir good
+1 false 1: dir a;dir a>;dir good
+1 false 1: dir a;dir a>.;dir good
+1 false 1: dir a;file ..;file good
+1 false 1: dir a;file a>..>b;file good
+1 false 1: dir a;file a>>b;file good
+1 false 1: dir a;file .;file good
+1 false 1: dir a;file >a;file good
+1 false 1: dir a;file a>;file good
+1 false 1: dir a;file a/b;file good";
 
 /// A directory with a file in it, and a file beside it.
-const PARTS: &str = "dir deep\nfile deep/a\npiece abc\npiece def\nclose\nfile b\npiece x\nclose";
+const WHOLE: &str = "dir deep;file deep>a;piece abc;piece def;close;file b;piece x;close";
 
-/// The path of these components, which stand between `/`.
+/// The path of these components, which stand between `>`.
 fn path(alloc: Global, components: &str) -> Result<Path, AllocError> {
     let mut path = Vec::new(alloc);
-    for component in components.split('/') {
+    for component in components.split('>') {
         path.push(Text::of(String::from_str(alloc, component)?))?;
     }
     Ok(Path::of(path))
 }
 
-/// The part that a line tells: `dir PATH`, `file PATH`, `piece TEXT`, `close`.
-fn part(alloc: Global, line: &str) -> Result<Emission, AllocError> {
-    match line.split_once(' ') {
+/// The part that a few words tell.
+fn part(alloc: Global, words: &str) -> Result<Emission, AllocError> {
+    match words.split_once(' ') {
         Some(("dir", components)) => Ok(Emission::Dir(path(alloc, components)?)),
         Some(("file", components)) => Ok(Emission::File(path(alloc, components)?)),
         Some((_, text)) => Ok(Emission::Piece(Bytes::of(text.as_bytes().to_vec(alloc)?))),
+        None if words == "nowhere" => Ok(Emission::Dir(Path::of(Vec::new(alloc)))),
         None => Ok(Emission::Close),
     }
 }
 
-/// Writes the parts that some lines tell, and tells how many were taken before one wasn't.
-fn written<R: Files + AllocGlobal + Clone + Drop>(
-    restorer: &mut Restorer<R>,
-    alloc: Global,
-    lines: &str,
-) -> Result<u64, AllocError> {
-    let mut count = 0u64;
-    for line in lines.lines() {
-        if !restorer.write(&part(alloc, line)?) {
-            return Ok(count);
+/// Whether a restorer takes a part.
+fn takes(restorer: &mut Restorer<Cut<'_>>, alloc: Global, words: &str) -> bool {
+    match part(alloc, words) {
+        Ok(part) => restorer.write(&part),
+        Err(_) => false,
+    }
+}
+
+/// How many of these parts a restorer takes before one that it doesn't, and whether it tells its end.
+fn taken(restorer: &mut Restorer<Cut<'_>>, alloc: Global, parts: &str) -> (usize, bool) {
+    let mut count = 0usize;
+    for words in parts.split(';') {
+        if words == "gone" {
+            return (count, false);
+        }
+        if words.is_empty() || !takes(restorer, alloc, words) {
+            break;
         }
         count = count.saturating_add(1);
     }
-    Ok(count)
+    (count, restorer.finish())
 }
 
-/// The directory at a path of one component.
-fn directory(alloc: Global, component: &str) -> Result<Emission, AllocError> {
-    let name = Text::of(String::from_str(alloc, component)?);
-    Ok(Emission::Dir(Path::of(vec![in alloc; name]?)))
-}
-
-/// Why a folder can't be restored into.
-fn refusal(rt: HostRuntime, root: &str) -> Option<RestorerError> {
-    Restorer::new(rt, root).err()
-}
-
-/// How many of the parts of a file a restorer over a file system takes.
-fn written_by(files: Cut<'_>, root: &str) -> u64 {
+/// The same of a new one into a folder.
+fn restored(files: Cut<'_>, root: &str, parts: &str) -> (usize, bool) {
     let alloc = files.alloc();
     match Restorer::new(files, root) {
-        Ok(mut restorer) => {
-            written(&mut restorer, alloc, "file a\npiece abc\npiece def\nclose").unwrap_or(9)
-        }
-        Err(_) => 0,
-    }
-}
-
-/// What restores.
-#[derive(Clone, Copy)]
-pub enum Way {
-    /// A restorer, which is given the parts.
-    Parts,
-    /// The command, of a tree with one file.
-    Command,
-}
-
-/// Whether a restore over a file system tells that it is complete.
-fn is_ended_by(way: Way, files: Cut<'_>, root: &str) -> bool {
-    match way {
-        Way::Parts => are_ended_by(files, root),
-        Way::Command => is_complete(file_restored(&files, root)),
-    }
-}
-
-/// Whether a command told that its restore is complete.
-fn is_complete(run: Result<Run, AllocError>) -> bool {
-    match run {
-        Ok(run) => run.status == Status::Done,
-        Err(_) => false,
-    }
-}
-
-/// Whether a restorer over a file system takes the parts and tells its end.
-fn are_ended_by(files: Cut<'_>, root: &str) -> bool {
-    let alloc = files.alloc();
-    match Restorer::new(files, root) {
-        Ok(mut restorer) => written(&mut restorer, alloc, PARTS) == Ok(8) && restorer.finish(),
-        Err(_) => false,
+        Ok(mut restorer) => taken(&mut restorer, alloc, parts),
+        Err(_) => (0, false),
     }
 }
 
 impl Yard {
-    /// A restorer into this folder takes so many of the parts before one that it doesn't.
-    pub(crate) fn restores(&mut self, target: &str, lines: &str, wanted: u64) {
-        match self.restorer(target) {
-            Some(mut restorer) => self.goes_on(&mut restorer, lines, wanted),
-            None => self.count(false),
-        }
+    /// A restorer into a folder of its own is given the parts of a line, and it and the folder are as the line says.
+    fn restores(&mut self, target: &str, line: &str) {
+        let (wanted, parts) = line.split_once(':').unwrap_or((line, ""));
+        let fuse = self.fuse(u64::MAX, Trick::None);
+        let (count, is_ended) = restored(
+            self.cut(&fuse),
+            self.place(target).as_str(),
+            parts.trim_start(),
+        );
+        let entries = self.entries(target);
+        let alloc = self.rt.alloc();
+        let told = text_or_none(alloc, format!(in alloc; "{count} {is_ended} {entries}"));
+        self.count(told.as_str() == wanted);
+        self.clears(target);
     }
 
-    /// A restorer into a folder below this one.
-    fn restorer(&self, target: &str) -> Option<Restorer<HostRuntime>> {
-        Restorer::new(self.rt, self.place(target).as_str()).ok()
-    }
-
-    /// The same, into a folder that is removed afterwards.
-    pub(crate) fn takes(&mut self, lines: &str, wanted: u64) {
-        self.restores("target", lines, wanted);
-        self.clears("target");
-    }
-
-    /// The same of lines with this text for each `$`.
-    pub(crate) fn takes_with(&mut self, lines: &str, text: &str, wanted: u64) {
-        let lines = self.with(lines, text);
-        self.takes(lines.as_str(), wanted);
-    }
-
-    /// A restorer doesn't take a directory of this name.
-    pub(crate) fn takes_no_directory(&mut self, component: &str) {
-        match directory(self.rt.alloc(), component) {
-            Ok(part) => self.takes_none(&part),
-            Err(_) => self.count(false),
-        }
-    }
-
-    /// A restorer doesn't take a part.
-    fn takes_none(&mut self, part: &Emission) {
-        let is_refused = match self.restorer("") {
-            Some(mut restorer) => !restorer.write(part),
-            None => false,
-        };
-        self.count(is_refused);
-        self.holds("", 0);
-    }
-
-    /// A restorer doesn't take a directory of an empty path.
-    pub(crate) fn takes_no_path(&mut self) {
-        let part = Emission::Dir(Path::of(Vec::new(self.rt.alloc())));
-        self.takes_none(&part);
-    }
-
-    /// A restorer writes these parts, and so many are taken.
-    fn goes_on(&mut self, restorer: &mut Restorer<HostRuntime>, lines: &str, wanted: u64) {
-        let count = written(restorer, self.rt.alloc(), lines);
-        self.count(count == Ok(wanted));
-    }
-
-    /// A folder can't be restored into, for this reason; or it can.
-    pub(crate) fn refuses(&mut self, target: &str, wanted: Option<RestorerError>) {
-        let is_so = refusal(self.rt, self.place(target).as_str()) == wanted;
-        self.count(is_so);
-    }
-
-    /// On a machine that stops after so many calls a file that is written is there whole, or isn't there.
-    pub(crate) fn stops_writing(&mut self, calls: u64) {
-        let fuse = Fuse::new(self.rt.alloc(), calls);
-        let count = written_by(Cut::new(self.rt, &fuse), self.root.as_str());
-        let is_so = match self.text("a") {
-            Ok(text) => text.as_str() == "abcdef",
-            Err(_) => calls < 30 && count < 4,
-        };
-        self.count(is_so);
-        self.count(count <= 4);
-        self.clears("");
-        self.makes("");
-    }
-
-    /// On a machine that stops after so many calls a restore tells its end only where all that it made is on the
-    /// disk: whether it does.
-    fn ends_after(&mut self, way: Way, calls: u64) -> bool {
-        let fuse = Fuse::new(self.rt.alloc(), calls);
+    /// A restore on a machine that stops after so many calls: how many parts it takes, whether it tells its end, and whether all
+    /// that it made is on the disk.
+    fn restores_until(&self, calls: u64) -> (usize, bool, bool) {
+        let fuse = self.fuse(calls, Trick::None);
         let target = self.place("above/target");
-        let is_ended = is_ended_by(way, Cut::new(self.rt, &fuse), target.as_str());
-        self.count(!is_ended || is_on_disk(fuse.steps().as_slice()));
+        let (count, is_ended) = restored(self.cut(&fuse), target.as_str(), WHOLE);
+        let lasts = fuse.lasts(false);
+        (count, is_ended, lasts)
+    }
+
+    /// A file is there whole where a restore told its end, and else whole or not at all.
+    fn is_whole(&mut self, name: &str, text: &str, is_ended: bool) {
+        let is_so = self.has(name, text) || !is_ended && self.lacks(name);
+        self.count(is_so);
+    }
+
+    /// On a machine that stops after so many calls a restore tells its end only where all that it made is on the disk: whether
+    /// it does. Each of its files is there whole, or isn't there.
+    fn stops_restoring(&mut self, calls: u64) -> bool {
+        self.clears("above");
+        let (count, is_ended, lasts) = self.restores_until(calls);
+        self.is_whole("above/target/deep/a", "abcdef", is_ended);
+        self.is_whole("above/target/b", "x", is_ended);
+        let entries = self.entries("above/target");
+        self.count(!is_ended || lasts && count == 8 && entries == 2);
         is_ended
-    }
-
-    /// It stops after each number of calls, until the end is told: of some calls for each entry, and for the two
-    /// folders that are made above them.
-    pub(crate) fn stops_restoring(&mut self, way: Way) {
-        let (mut is_ended, mut last) = (false, 0u64);
-        for calls in 0..200u64 {
-            if !is_ended {
-                self.clears("");
-                self.makes("");
-                is_ended = self.ends_after(way, calls);
-                last = calls;
-            }
-        }
-        self.count(is_ended && last > 10);
-    }
-
-    /// A restorer that took these parts tells its end, or doesn't, and takes nothing more.
-    pub(crate) fn ends(&mut self, lines: &str, wanted: bool) {
-        match self.restorer("target") {
-            Some(mut restorer) => self.ends_once(&mut restorer, lines, wanted),
-            None => self.count(false),
-        }
-    }
-
-    /// The same of this restorer.
-    fn ends_once(&mut self, restorer: &mut Restorer<HostRuntime>, lines: &str, wanted: bool) {
-        let _ = written(restorer, self.rt.alloc(), lines);
-        let is_ended = restorer.finish();
-        self.count(is_ended == wanted);
-        self.goes_on(restorer, "dir more", 0);
-        let is_ended = restorer.finish();
-        self.count(!is_ended);
-    }
-
-    /// A restorer is in the midst of a file, and ends.
-    pub(crate) fn ends_inside(&mut self) {
-        let Some(mut restorer) = self.restorer("") else {
-            return self.count(false);
-        };
-        self.goes_on(&mut restorer, "file a\npiece abc", 2);
-        self.holds("", 1);
-        self.lacks("a");
-        drop(restorer);
-        self.holds("", 0);
-    }
-
-    /// A link comes while a restorer works.
-    pub(crate) fn meets_a_link(&mut self) {
-        let Some(mut restorer) = self.restorer("") else {
-            return self.count(false);
-        };
-        self.links("link", "outside");
-        self.goes_on(&mut restorer, "file link\npiece abc\nclose", 2);
-    }
-
-    /// A restorer writes files of these names, each of which holds its own.
-    pub(crate) fn writes_names(&mut self, names: &[&str]) {
-        let Some(mut restorer) = self.restorer("") else {
-            return self.count(false);
-        };
-        for name in names {
-            self.writes_name(&mut restorer, name);
-        }
-    }
-
-    /// One of these.
-    fn writes_name(&mut self, restorer: &mut Restorer<HostRuntime>, name: &str) {
-        let lines = self.with("file $\npiece $\nclose", name);
-        self.goes_on(restorer, lines.as_str(), 3);
     }
 }
 
-/// Whether all that these steps of a restore made is on the disk at their end: each file was synced after it got its
-/// name, and each folder after a name came into it.
-fn is_on_disk(steps: &[Step]) -> bool {
-    for (i, step) in steps.iter().enumerate() {
-        let (path, after) = (step.path.as_str(), &steps[i..]);
-        let lasts = match step.what {
-            What::Make => is_synced(after, path) && is_synced(after, parent_of(path)),
-            What::Come => is_synced(after, path) && is_synced(after, parent_of(path)),
-            _ => true,
-        };
-        if !lasts {
-            return false;
+#[test]
+fn parts_are_taken_in_their_place(rt: HostRuntime) {
+    let mut yard = Yard::new(rt, "given").expect(&rt, "no folder");
+    for line in GIVEN.lines() {
+        yard.restores("target", line);
+    }
+    let is_linked = symlink(&rt, "away", yard.place("link").as_str()).is_ok();
+    yard.writes("file", "mine");
+    for target in ["link", "file/below", "file"] {
+        yard.restores(target, "0 false 99: dir a");
+    }
+    let is_free = yard.lacks("away");
+    yard.count(is_linked && is_free);
+    yard.end(&rt);
+}
+
+// Some calls for each entry, and for the two folders that are made.
+#[test]
+fn what_a_restore_tells_is_on_the_disk(rt: HostRuntime) {
+    let mut yard = Yard::new(rt, "ended").expect(&rt, "no folder");
+    yard.makes("");
+    let (mut is_ended, mut last) = (false, 0u64);
+    for calls in 0..200u64 {
+        if !is_ended {
+            is_ended = yard.stops_restoring(calls);
+            last = calls;
         }
     }
-    true
+    yard.count(is_ended && last > 30);
+    yard.end(&rt);
 }

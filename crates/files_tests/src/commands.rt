@@ -1,0 +1,175 @@
+//! Commands over a connection that records what goes over it, also where there is no memory for them at some moment. The tests
+//! hold whichever one growth is refused: a command is then done all the same, or it has failed and told why.
+
+use repo_dial::{Once, Recorder, Tape, Went};
+use repo_name::{Instance, Token};
+use repo_prog::{
+    Arrivals, Caller, FramesError, Listen, Status, frames, locks_command, refresh_command,
+    snapshots_command,
+};
+use std::alloc::{AllocError, Global};
+use std::io;
+use std::net::{OpenListener, SocketAddr, TcpStream};
+
+const CALLER: Caller = Caller {
+    instance: Instance([1; 16]),
+    time: 5,
+};
+
+/// The reply to `locks` that has one live lock: token 1, exclusive, time 5, host `a`.
+const ONE_LOCK: &str =
+    "0000002e85010101010101010101010101010101010000000000000001000100000000000000010100000000000000050161";
+
+/// The reply to `refresh` where it is done.
+const DONE: &str = "0000001982010101010101010101010101010101010000000000000001";
+
+/// The replies to a list of the snapshots of an empty store: a token, its lock, the config, no names, and the end of the lock.
+const NO_SNAPSHOTS: &str =
+    "0000002181010101010101010101010101010101010000000000000001000000000000000100000019820101010101010101010101010101010100000000000000020000008f840101010101010101010101010101010100000000000000037b226368756e6b5f62697473223a362c226368756e6b5f6d6178223a3132382c226368756e6b5f6d696e223a36342c226964223a223030303030303030303030303030303030303030303030303030303030303030222c227061636b5f746172676574223a313032342c2276657273696f6e223a317d0000001c830101010101010101010101010101010100000000000000040000000000001982010101010101010101010101010101010000000000000005";
+
+/// A ticket, and its shared lock.
+const TWO_REQUESTS: &str =
+    "00000019010101010101010101010101010101010100000000000000010000002c0201010101010101010101010101010101000000000000000200000000000000010100000000000000050161";
+
+/// The turns that were taken: `s` where something was said, and `h` where something was heard; `lost` where not all is known.
+fn turns(alloc: Global, tape: &Tape) -> Result<String, AllocError> {
+    if !tape.is_whole {
+        return String::from_str(alloc, "lost");
+    }
+    let mut told = String::new(alloc);
+    for went in &tape.went {
+        let turn = match went {
+            Went::Said(_) => "s",
+            Went::Heard(_) => "h",
+        };
+        if !told.as_str().ends_with(turn) {
+            told.push_str(turn)?;
+        }
+    }
+    Ok(told)
+}
+
+/// What is told of a command: its status, its output, its faults and its turns.
+fn told(
+    alloc: Global,
+    status: Status,
+    output: &[u8],
+    faults: &[u8],
+    tape: &Tape,
+) -> Result<String, AllocError> {
+    let turns = turns(alloc, tape)?;
+    let code = status.code();
+    let output = str::from_utf8(output).unwrap_or("no text");
+    let faults = str::from_utf8(faults).unwrap_or("no text");
+    format!(in alloc; "{code}|{output}|{faults}|{turns}")
+}
+
+/// The same of a command of locks over what a server says: `locks`, or `refresh` of a token.
+fn asked(alloc: Global, token: Option<Token>, replies: &[u8]) -> Result<String, AllocError> {
+    let mut recorder = Recorder::new(alloc, replies);
+    let (mut output, mut faults) = (Vec::new(alloc), Vec::new(alloc));
+    let (o, f) = (&mut output, &mut faults);
+    let status = match token {
+        Some(token) => refresh_command(alloc, &CALLER, token, &mut recorder, o, f),
+        None => locks_command(alloc, &CALLER, &mut recorder, o, f),
+    };
+    told(
+        alloc,
+        status,
+        output.as_slice(),
+        faults.as_slice(),
+        &recorder.tape,
+    )
+}
+
+/// The same of a list of the snapshots.
+fn listed(alloc: Global, replies: &[u8]) -> Result<String, AllocError> {
+    let mut dial = Once::new(Recorder::new(alloc, replies));
+    let (mut output, mut faults) = (Vec::new(alloc), Vec::new(alloc));
+    let (o, f) = (&mut output, &mut faults);
+    let status = snapshots_command(alloc, &CALLER, &mut dial, 0, o, f);
+    match dial.given_back() {
+        Some(recorder) => told(
+            alloc,
+            status,
+            output.as_slice(),
+            faults.as_slice(),
+            &recorder.tape,
+        ),
+        None => Err(AllocError),
+    }
+}
+
+/// What a command told, or nothing where there was no memory for the test's own texts.
+fn told_over(alloc: Global, token: Option<Token>, replies: &str) -> Option<String> {
+    let replies = hex::decode(alloc, replies).ok()?;
+    asked(alloc, token, replies.as_slice()).ok()
+}
+
+/// Whether a command told this, though not all that went may be known; or it failed and told why. Where the test's own texts
+/// get no memory, nothing is run.
+fn is_told(told: Option<String>, wanted: &str) -> bool {
+    let Some(told) = told else {
+        return true;
+    };
+    let told = told.as_str();
+    let is_failed = told.starts_with("1||") && !told.starts_with("1|||");
+    let is_lost = told.strip_suffix("lost") == wanted.strip_suffix("sh");
+    told == wanted || is_failed || is_lost
+}
+
+#[test]
+fn refused_growth_of_commands(rt: HostRuntime) {
+    let listed = told_over(rt.alloc(), None, ONE_LOCK);
+    let is_listed = is_told(listed, "0|1 exclusive 5 a\n||sh");
+    let refreshed = told_over(rt.alloc(), Some(Token(7)), DONE);
+    let is_refreshed = is_told(refreshed, "0|refreshed\n||sh");
+    assert!(rt; is_listed && is_refreshed);
+}
+
+// Where a growth is refused the answer is the one for memory, and no other.
+#[test]
+fn refused_growth_of_frames(rt: HostRuntime) {
+    let mut input = TWO_REQUESTS.as_bytes();
+    let ended = frames(rt.alloc(), &mut input, &mut io::sink());
+    assert!(rt; ended == Ok(2) || ended == Err(FramesError::Memory));
+}
+
+/// What a list of an empty store told.
+fn none_listed(alloc: Global) -> Option<String> {
+    let replies = hex::decode(alloc, NO_SNAPSHOTS).ok()?;
+    listed(alloc, replies.as_slice()).ok()
+}
+
+// A ticket, its lock, the config, the names and the unlock, each answered before the next one; and a connection that ends
+// before the reply.
+#[test]
+fn a_job_asks_in_turn(rt: HostRuntime) {
+    let is_listed = match none_listed(rt.alloc()) {
+        Some(told) => told.as_str() == "0|||shshshshsh",
+        None => false,
+    };
+    let is_cut_off = match asked(rt.alloc(), None, b"abc") {
+        Ok(told) => told.as_str() == "1||read failed\n|sh",
+        Err(_) => false,
+    };
+    assert_eq!(rt; (is_listed, is_cut_off), (true, true));
+}
+
+/// A listener that gives no connection.
+#[derive(Drop)]
+struct Deaf;
+
+impl OpenListener for Deaf {
+    type Stream = TcpStream;
+
+    fn accept(&self) -> io::Result<(TcpStream, SocketAddr)> {
+        Err(io::Error::from(io::ErrorKind::ConnectionAborted))
+    }
+}
+
+#[test]
+fn a_connection_that_cannot_be_taken_is_none(rt: HostRuntime) {
+    let mut arrivals = Arrivals::at(&Deaf, None);
+    assert!(rt; arrivals.accept().is_none());
+}
