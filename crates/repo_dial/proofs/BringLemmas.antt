@@ -10,15 +10,16 @@ use Rattle.repo_session.specs.declared.driving.DriveError.{DriveError}
 use Rattle.repo_session.specs.declared.outcomes.Outcome.{Outcome}
 use Rattle.repo_session.specs.Askers.{Asker}
 use Rattle.repo_session.specs.Jobs.{Rule}
-use Rattle.repo_session.specs.Talks.{Talk, Said, AreNumbered, WritesPart, WritesBy, frames_of, sent_in, trace_of}
+use Rattle.repo_session.specs.Talks.{Talk, Said, AreNumbered, WritesPart, WritesBy, frames_of, given_in, sent_in, trace_of}
 use Rattle.repo_session.specs.Traces.{Each, Trace}
 use Rattle.repo_session.proofs.Joining.{driven_said}
 use Rattle.repo_session.proofs.Talking.{whole_part}
-use Rattle.repo_dial.specs.Bringing.{IsObedientBy, EndsLockOf, SendsBy, BroughtOn, IsBroughtOn, IsBegunBy, Ended, Obeyed}
+use Rattle.repo_dial.specs.Bringing.{IsObedientBy, EndsLockOf, SendsBy, BroughtOn, IsBroughtOn, IsBegunBy, IsLeftBehind, Ended, Obeyed, given_over}
 use Rattle.repo_dial.specs.Dialing.{Asking, Call, Connections, Driven, Try, Missed, Turned, Carried, config_request, talk_in, talk_over, AreAtOneStore, AreDialed, AreKept, farewell_in, is_cut, DrivenOver, EndsOwnLock, TakesLeave, TryGives, AreCut, DrivesAgain}
 use Rattle.repo_dial.specs.declared.again.TryError.{TryError}
 use Rattle.repo_dial.specs.declared.peers.Acquaintance.{Acquaintance}
 use Rattle.repo_dial.proofs.DialLemmas.{trace_of_both, went_driven, first_driven, went_try, same_try}
+use Rattle.repo_dial.proofs.MeetLemmas.{left_behind}
 use Rattle.repo_dial.proofs.TryLemmas.{behind_leave, kept_cut}
 
 -- the unlock is of the ticket of the trace at which the client stands
@@ -96,6 +97,20 @@ module _ {C J : Type 0} (d : Driven C J) (reached : C → Option Outcome) (rule 
   kept_all begun old [] new known h = tt
   kept_all begun old (try ∷ tries) new known h = (kept_try h.1 h.0 try h.3.0 new known h.3.1 h.3.2, kept_all begun old tries h.0 h.1 h.2)
 
+  -- nor was another one tried where a store answered
+  left_try : (known : Acquaintance) (old : C) (try : Try) (error : TryError) (new : C) (after : Acquaintance) → TryGives d known old try (Err error) new after → is_cut error ≡ true → IsLeftBehind try
+  left_try known old Missed error new after g cut = tt
+  left_try known old (Turned asking) error new after g cut =
+      let same = g.1 in
+      let is : error ≡ g.0 = cc in
+      let m = g.3 in
+      left_behind known.config asking.answer g.0 after.config m.4 (subst (λ e. is_cut e ≡ true) is cut)
+  left_try known old (Carried asking call) error new after g cut = tt
+
+  left_all : (begun : Acquaintance) (old : C) (tries : List Try) (new : C) (known : Acquaintance) → AreCut d begun old tries new known → Each IsLeftBehind tries
+  left_all begun old [] new known h = tt
+  left_all begun old (try ∷ tries) new known h = (left_try h.1 h.0 try h.3.0 new known h.3.1 h.3.2, left_all begun old tries h.0 h.1 h.2)
+
   module _ (begun : Acquaintance) (old : C) (obeys : (c : C) → d.job c ≡ d.job old → (es : Trace) → d.fits c es → IsObedientBy rule who (d.next c) (reached c) es) (own_is : d.own (d.job old) ≡ who.instance) (fits : d.fits old []) where
     -- the ask for the config has the asker's instance
     asks_own : (c : C) (es : Trace) (next : Option Request) (asking : Asking) → d.job c ≡ d.job old → d.fits c es → d.next c ≡ next → option_map config_request next ≡ Some asking.request
@@ -151,11 +166,22 @@ module _ {C J : Type 0} (d : Driven C J) (reached : C → Option Outcome) (rule 
           begun_by = (begun_try known mid (trace_of (talk_over cut)) (Carried asking call) (Ok n) new ended (same_cut begun old cut mid known before) here (Ok m, driven, told, met, left), begun_cut cut mid known before);
           store = store;
           kept = (driven.leaves, kept_all begun old cut mid known before);
+          left = left_all begun old cut mid known before;
           begun = d.next old;
           waiting = d.next mid;
           before = brought_cut cut mid known before;
           ended = subst (λ x. P x (Some outcome)) driven.drives.2 (subst (λ y. P (d.next new) y) is b);
         }
+
+    -- what was given out is what the tries gave out
+    given_by : (retry n : ℕ) (mid new : C) (known ended : Acquaintance) (coming after : Connections) (outcome : Outcome) (cut : List Try) (last : Try) (before : AreCut d begun old cut mid known)
+        (gives : TryGives d known mid last (Ok n) new ended) (dialed : AreDialed coming (last ∷ cut) after) (store : AreAtOneStore retry (last ∷ cut)) (few : length cut ≤ retry) (is : reached new ≡ Some outcome)
+        → given_over (ended_by retry n mid new known ended coming after outcome cut last before gives dialed store few is) ≡ given_in (talk_over (last ∷ cut))
+    unfolding ended_by
+    given_by retry n mid new known ended coming after outcome cut Missed before gives dialed store few is = let e = gives.0 in absurd (cc)
+    given_by retry n mid new known ended coming after outcome cut (Turned asking) before gives dialed store few is = let e = gives.1 in absurd (cc)
+    given_by retry n mid new known ended coming after outcome cut (Carried asking call) before (Err error, driven, told, met, left) dialed store few is = absurd (cc)
+    given_by retry n mid new known ended coming after outcome cut (Carried asking call) before (Ok m, driven, told, met, left) dialed store few is = refl
 
     -- however it ended, it was brought on by its rules
     obeyed_by : (retry : ℕ) (result : Result ℕ TryError) (mid new : C) (known ended : Acquaintance) (coming after : Connections) (cut : List Try) (last : Try) → AreCut d begun old cut mid known
@@ -167,6 +193,7 @@ module _ {C J : Type 0} (d : Driven C J) (reached : C → Option Outcome) (rule 
       begun_by = (tt, begun_cut cut mid known before);
       store = store;
       kept = kept_all begun old cut mid known before;
+      left = left_all begun old cut mid known before;
       begun = d.next old;
       waiting = d.next mid;
       brought = brought_cut cut mid known before;
@@ -178,6 +205,7 @@ module _ {C J : Type 0} (d : Driven C J) (reached : C → Option Outcome) (rule 
       begun_by = (begun_try known mid (trace_of (talk_over cut)) (Turned asking) result new ended (same_cut begun old cut mid known before) (fits_cut begun old cut mid known before fits) gives, begun_cut cut mid known before);
       store = store;
       kept = kept_all begun old cut mid known before;
+      left = left_all begun old cut mid known before;
       begun = d.next old;
       waiting = d.next mid;
       brought = brought_cut cut mid known before;
@@ -191,6 +219,7 @@ module _ {C J : Type 0} (d : Driven C J) (reached : C → Option Outcome) (rule 
           begun_by = (begun_try known mid (trace_of (talk_over cut)) (Carried asking call) result new ended (same_cut begun old cut mid known before) here gives, begun_cut cut mid known before);
           store = store;
           kept = kept_all begun old cut mid known before;
+          left = left_all begun old cut mid known before;
           begun = d.next old;
           waiting = d.next new;
           brought = (
@@ -205,6 +234,11 @@ module _ {C J : Type 0} (d : Driven C J) (reached : C → Option Outcome) (rule 
         → Ended rule who outcome retry coming after
     ended_over retry n new coming after outcome a is = ended_by a.begun old obeys own_is fits retry n a.mid new a.known a.ended coming after outcome a.cut a.last a.before a.gives a.dialed a.store a.few is
 
+    pub given_ended : (retry n : ℕ) (new : C) (coming after : Connections) (outcome : Outcome) (a : DrivesAgain d retry old (Ok n) new coming after) (is : reached new ≡ Some outcome)
+        → given_over (ended_over retry n new coming after outcome a is) ≡ given_in (talk_over (a.last ∷ a.cut))
+    unfolding ended_over
+    given_ended retry n new coming after outcome a is = given_by a.begun old obeys own_is fits retry n a.mid new a.known a.ended coming after outcome a.cut a.last a.before a.gives a.dialed a.store a.few is
+
     pub obeyed_over : (retry : ℕ) (result : Result ℕ TryError) (new : C) (coming after : Connections) → DrivesAgain d retry old result new coming after → Obeyed rule who retry coming after
     obeyed_over retry result new coming after a = obeyed_by a.begun old obeys own_is fits retry result a.mid new a.known a.ended coming after a.cut a.last a.before a.gives a.dialed a.store a.few
 
@@ -215,4 +249,4 @@ store_of_none (suc n) = (true, [], (λ p. omega arith, λ less. refl), tt, tt)
 
 -- no connection was asked for
 pub obeyed_none : (rule : Rule) (who : Asker) (retry : ℕ) (coming : Connections) → Obeyed rule who retry coming coming
-obeyed_none rule who retry coming = record { tries = []; few = omega arith; dialed = refl; begun_by = tt; store = store_of_none retry; kept = tt; begun = None; waiting = None; brought = refl }
+obeyed_none rule who retry coming = record { tries = []; few = omega arith; dialed = refl; begun_by = tt; store = store_of_none retry; kept = tt; left = tt; begun = None; waiting = None; brought = refl }

@@ -208,67 +208,78 @@ pub record Tried {C J : Type 0} (d : Driven C J) (asks : Bool) (old : C) (result
 module _ {C J : Type 0} (d : Driven C J) (asks : Bool) (old : C) where
   -- the first
   pub tried_first : (begun : Acquaintance) (result : Result ℕ TryError) (new : C) (ended : Acquaintance) (coming after : Connections) (try : Try) → begun.config ≡ None → begun.asks ≡ asks → IsDialed coming try after
-      → TryGives d begun old try result new ended → Tried d asks old result new ended coming after 0
-  tried_first begun result new ended coming after try none is dials gives = record {
-    begun = begun;
-    known = begun;
-    cut = [];
-    mid = old;
-    last = try;
-    fresh = (none, is);
-    before = (refl, refl);
-    gives = gives;
-    dialed = (coming, refl, dials);
-    went = subst (λ t. Went (d.own (d.job old)) d.fits old t new) (sym (append-nil (talk_in try))) (went_try d begun old try result new ended gives);
-    store = λ config may. (at_store d asks begun old try result new ended config is gives may, tt);
-    first = known_try d begun old try result new ended gives ∙ ap (λ o. or_else o (config_told try)) none;
-    asked = asks_same d begun old try result new ended gives ∙ is;
-    count = refl;
-    same = same_try d begun old try result new ended gives;
-  }
+      → TryGives d begun old try result new ended → (Also : List Try → Type 0) → Also (try ∷ []) → (tried : Tried d asks old result new ended coming after 0) × Also (tried.last ∷ tried.cut)
+  tried_first begun result new ended coming after try none is dials gives Also also = (
+    record {
+      begun = begun;
+      known = begun;
+      cut = [];
+      mid = old;
+      last = try;
+      fresh = (none, is);
+      before = (refl, refl);
+      gives = gives;
+      dialed = (coming, refl, dials);
+      went = subst (λ t. Went (d.own (d.job old)) d.fits old t new) (sym (append-nil (talk_in try))) (went_try d begun old try result new ended gives);
+      store = λ config may. (at_store d asks begun old try result new ended config is gives may, tt);
+      first = known_try d begun old try result new ended gives ∙ ap (λ o. or_else o (config_told try)) none;
+      asked = asks_same d begun old try result new ended gives ∙ is;
+      count = refl;
+      same = same_try d begun old try result new ended gives;
+    },
+    also,
+  )
 
   -- one more
-  pub tried_again : (error : TryError) (result : Result ℕ TryError) (mid new : C) (known ended : Acquaintance) (coming between after : Connections) (n : ℕ) (try : Try) → Tried d asks old (Err error) mid known coming between n
-      → is_cut error ≡ true → IsDialed between try after → TryGives d known mid try result new ended → Tried d asks old result new ended coming after (n + 1)
-  tried_again error result mid new known ended coming between after n try t is dials gives = record {
-    begun = t.begun;
-    known = known;
-    cut = t.last ∷ t.cut;
-    mid = mid;
-    last = try;
-    fresh = t.fresh;
-    before = (t.mid, t.known, t.before, (error, t.gives, is));
-    gives = gives;
-    dialed = (between, t.dialed, dials);
-    went = went_both (d.own (d.job old)) d.fits old mid new (talk_over (t.last ∷ t.cut)) (talk_in try) t.went
-        (subst (λ j. Went (d.own j) d.fits mid (talk_in try) new) t.same (went_try d known mid try result new ended gives));
-    store = λ config may. (at_store d asks known mid try result new ended config t.asked gives may, t.store config (may_before d known mid try result new ended config known.config refl gives may));
-    first = known_try d known mid try result new ended gives ∙ ap (λ o. or_else o (config_told try)) t.first;
-    asked = asks_same d known mid try result new ended gives ∙ t.asked;
-    count = omega (arith, t.count);
-    same = same_try d known mid try result new ended gives ∙ t.same;
-  }
+  pub tried_again : (error : TryError) (result : Result ℕ TryError) (mid new : C) (known ended : Acquaintance) (coming between after : Connections) (n : ℕ) (try : Try) (t : Tried d asks old (Err error) mid known coming between n)
+      → is_cut error ≡ true → IsDialed between try after → TryGives d known mid try result new ended → (Also : List Try → Type 0) → Also (try ∷ t.last ∷ t.cut)
+      → (tried : Tried d asks old result new ended coming after (n + 1)) × Also (tried.last ∷ tried.cut)
+  tried_again error result mid new known ended coming between after n try t is dials gives Also also = (
+    record {
+      begun = t.begun;
+      known = known;
+      cut = t.last ∷ t.cut;
+      mid = mid;
+      last = try;
+      fresh = t.fresh;
+      before = (t.mid, t.known, t.before, (error, t.gives, is));
+      gives = gives;
+      dialed = (between, t.dialed, dials);
+      went = went_both (d.own (d.job old)) d.fits old mid new (talk_over (t.last ∷ t.cut)) (talk_in try) t.went
+          (subst (λ j. Went (d.own j) d.fits mid (talk_in try) new) t.same (went_try d known mid try result new ended gives));
+      store = λ config may. (at_store d asks known mid try result new ended config t.asked gives may, t.store config (may_before d known mid try result new ended config known.config refl gives may));
+      first = known_try d known mid try result new ended gives ∙ ap (λ o. or_else o (config_told try)) t.first;
+      asked = asks_same d known mid try result new ended gives ∙ t.asked;
+      count = omega (arith, t.count);
+      same = same_try d known mid try result new ended gives ∙ t.same;
+    },
+    also,
+  )
 
   one_store : (retry : ℕ) (known : Option (List ℕ)) (tries : List Try) → ((config : List ℕ) → MayBe known config → Each (IsAtStore asks config) tries) → ((asks ≡ true) ↔ (0 < retry)) → known ≡ first_told tries → AreAtOneStore retry tries
   one_store retry None tries store on first = (asks, [], on, store [] (inl refl), subst (λ o. IfSome o (λ x. [] ≡ x)) first tt)
   one_store retry (Some config) tries store on first = (asks, config, on, store config (inr refl), subst (λ o. IfSome o (λ x. config ≡ x)) first refl)
 
   -- all that may be tried, or it came to an end before
-  pub drives_again : (retry : ℕ) (result : Result ℕ TryError) (new : C) (ended : Acquaintance) (coming after : Connections) (n : ℕ) → Tried d asks old result new ended coming after n → n ≤ retry
-      → ((asks ≡ true) ↔ (0 < retry)) → ((error : TryError) → result ≡ Err error → is_cut error ≡ true → n ≡ retry) → DrivesAgain d retry old result new coming after
-  drives_again retry result new ended coming after n t few on spent = record {
-    begun = t.begun;
-    known = t.known;
-    ended = ended;
-    cut = t.cut;
-    mid = t.mid;
-    last = t.last;
-    fresh = (t.fresh.0, subst (λ b. (b ≡ true) ↔ (0 < retry)) (sym t.fresh.1) on);
-    before = t.before;
-    gives = t.gives;
-    dialed = t.dialed;
-    went = t.went;
-    store = one_store retry ended.config (t.last ∷ t.cut) t.store on t.first;
-    few = omega (arith, t.count, few);
-    spent = λ error is cut. t.count ∙ spent error is cut;
-  }
+  pub drives_again : (retry : ℕ) (result : Result ℕ TryError) (new : C) (ended : Acquaintance) (coming after : Connections) (n : ℕ) (t : Tried d asks old result new ended coming after n) → n ≤ retry
+      → ((asks ≡ true) ↔ (0 < retry)) → ((error : TryError) → result ≡ Err error → is_cut error ≡ true → n ≡ retry) → (Also : List Try → Type 0) → Also (t.last ∷ t.cut)
+      → (again : DrivesAgain d retry old result new coming after) × Also (again.last ∷ again.cut)
+  drives_again retry result new ended coming after n t few on spent Also also = (
+    record {
+      begun = t.begun;
+      known = t.known;
+      ended = ended;
+      cut = t.cut;
+      mid = t.mid;
+      last = t.last;
+      fresh = (t.fresh.0, subst (λ b. (b ≡ true) ↔ (0 < retry)) (sym t.fresh.1) on);
+      before = t.before;
+      gives = t.gives;
+      dialed = t.dialed;
+      went = t.went;
+      store = one_store retry ended.config (t.last ∷ t.cut) t.store on t.first;
+      few = omega (arith, t.count, few);
+      spent = λ error is cut. t.count ∙ spent error is cut;
+    },
+    also,
+  )

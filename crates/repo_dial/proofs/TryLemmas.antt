@@ -11,7 +11,7 @@ use Rattle.repo_session.specs.declared.outcomes.Outcome.{Outcome}
 use Rattle.repo_session.specs.Clients.{IsNextRequest, IsObedientWith, TellsToken}
 use Rattle.repo_session.specs.Order.{Task, locked, May}
 use Rattle.repo_session.specs.Traces.{Exchange, Exchanged, Trace}
-use Rattle.repo_dial.specs.Dialing.{Asking, AsksOnce, Call, Connections, Driven, DrivenOver, Try, Turned, Carried, Dials, EndsOwnLock, HangsUp, HasMet, IsBehind, IsDialed, IsFarewell, IsGivenBack, TakesLeave, TryGives, as_try, dialed_in, is_cut, ends_behind, farewell_of, left_in, token_to_end, unlock_in_place}
+use Rattle.repo_dial.specs.Dialing.{Asking, AsksOnce, Call, Connections, Driven, DrivenOver, Try, Turned, Carried, Dials, EndsOwnLock, HangsUp, HasMet, IsBehind, IsDialed, IsFarewell, IsGivenBack, TakesLeave, TryGives, as_try, dialed_in, talk_in, is_cut, ends_behind, farewell_of, left_in, token_to_end, unlock_in_place}
 use Rattle.repo_dial.specs.Ends.{ConnectionEnds}
 use Rattle.repo_dial.specs.declared.again.TryError.{TryError}
 use Rattle.repo_dial.specs.declared.peers.Acquaintance.{Acquaintance}
@@ -121,19 +121,19 @@ module _ {C : Type 0} (Fits : C → Trace → Type 0) (client : C) (task : Task)
 -- the store wasn't the job's
 pub turned : {C J : Type 0} (d : Driven C J) (known : Acquaintance) (old : C) (error : TryError) (after : Acquaintance) (came left : ConnectionEnds) (asking : Option Asking)
     → HasMet (d.next old) known asking (Err error) after → left ≡ ends_behind came asking → ((a : Asking) → asking ≡ Some a → a.came ≡ came)
-    → (try : Try) × (dialed_in try ≡ Some came) × (left_in try ≡ Some left) × TryGives d known old try (Err error) old after
+    → (try : Try) × (dialed_in try ≡ Some came) × (left_in try ≡ Some left) × TryGives d known old try (Err error) old after × (talk_in try ≡ [])
 turned d known old error after came left None met at from = let m = met.0 in absurd (cc)
-turned d known old error after came left (Some asking) met at from = (Turned asking, ap Some (from asking refl), ap Some (sym at), (error, refl, refl, met))
+turned d known old error after came left (Some asking) met at from = (Turned asking, ap Some (from asking refl), ap Some (sym at), (error, refl, refl, met), refl)
 
 -- it was, and the client was driven
 pub carried : {C J : Type 0} (d : Driven C J) (known : Acquaintance) (old : C) (driven : Result ℕ DriveError) (result : Result ℕ TryError) (new : C) (after : Acquaintance) (came begun left : ConnectionEnds)
     (asking : Option Asking) (call : Call) → HasMet (d.next old) known asking (Ok tt) after → begun ≡ ends_behind came asking → ((a : Asking) → asking ≡ Some a → a.came ≡ came)
     → call.came ≡ begun → ends_behind call.left call.farewell ≡ left → DrivenOver d old call driven new → result ≡ as_try driven
-    → (try : Try) × (dialed_in try ≡ Some came) × (left_in try ≡ Some left) × TryGives d known old try result new after
+    → (try : Try) × (dialed_in try ≡ Some came) × (left_in try ≡ Some left) × TryGives d known old try result new after × (talk_in try ≡ call.said.talk)
 carried d known old driven result new after came begun left None call met at from is behind over gives =
-    (Carried None call, ap Some (is ∙ at), ap Some behind, (driven, over, gives, met, λ a p. absurd (cc)))
+    (Carried None call, ap Some (is ∙ at), ap Some behind, (driven, over, gives, met, λ a p. absurd (cc)), refl)
 carried d known old driven result new after came begun left (Some asking) call met at from is behind over gives =
-    (Carried (Some asking) call, ap Some (from asking refl), ap Some behind, (driven, over, gives, met, λ a p. let q : asking ≡ a = cc in ap (λ (x : Asking). x.left) (sym q) ∙ sym (is ∙ at)))
+    (Carried (Some asking) call, ap Some (from asking refl), ap Some behind, (driven, over, gives, met, λ a p. let q : asking ≡ a = cc in ap (λ (x : Asking). x.left) (sym q) ∙ sym (is ∙ at)), refl)
 
 -- its connection was the next one, and was given back
 pub dialed : (old mid new : Connections) (try : Try) (came left : ConnectionEnds) → dialed_in try ≡ Some came → left_in try ≡ Some left → Dials old (Some came) mid → HangsUp mid left new → IsDialed old try new

@@ -1,18 +1,21 @@
 -- A job that is brought to its end, by its own rule, over connections that are made one after another.
-use Rattle.std.specs.Prelude.{◌≡◌, ◌≤◌, ◌+◌, ◌++◌, ◌∷◌, [], ⊤, ℕ, List, length, drop, Option, Some, None}
+use Rattle.std.specs.Prelude.{◌≡◌, ◌≤◌, ◌+◌, ◌++◌, ◌∷◌, [], ⊤, ℕ, true, List, length, drop, Option, Some, None, Err}
 use Rattle.repo_name.specs.declared.names.Instance.{Instance}
 use Rattle.repo_name.specs.declared.tokens.Token.{Token}
 use Rattle.repo_wire.specs.declared.messages.Ask.{Ask}
 use Rattle.repo_wire.specs.declared.messages.Request.{Request}
 use Rattle.repo_wire.specs.declared.messages.Say.{Say}
 use Rattle.repo_store.specs.Channels.{said_in}
+use Rattle.repo_session.specs.declared.driving.DriveError.{DriveError}
+use Rattle.repo_session.specs.declared.emissions.Emission.{Emission}
 use Rattle.repo_session.specs.declared.outcomes.Outcome.{Outcome}
 use Rattle.repo_session.specs.Askers.{Asker}
 use Rattle.repo_session.specs.Clients.{IsObedientWith}
 use Rattle.repo_session.specs.Jobs.{Rule, task_under}
-use Rattle.repo_session.specs.Talks.{Talk, IsTurn, AreNumbered, IsHeard, WritesPart, first_carried, frames_of, sent_in, trace_of}
+use Rattle.repo_session.specs.Talks.{Talk, IsTurn, AreNumbered, IsHeard, WritesPart, first_carried, frames_of, given_in, sent_in, trace_of}
 use Rattle.repo_session.specs.Traces.{Each, Exchanged, Trace}
-use Rattle.repo_dial.specs.Dialing.{Asking, Call, Connections, Try, Missed, Turned, Carried, GoesInTurn, IsAsking, IsBehind, talk_over, AreAtOneStore, AreDialed, AreKept}
+use Rattle.repo_dial.specs.Dialing.{Asking, Call, Connections, Try, Missed, Turned, Carried, GoesInTurn, IsAsking, IsBehind, talk_over, AreAtOneStore, AreDialed, AreKept, is_cut}
+use Rattle.repo_dial.specs.declared.again.TryError.{TryError}
 
 -- a client stands at a trace by its job's rule
 abbrev pub IsObedientBy : Rule → Asker → Option Request → Option Outcome → Trace → Type 0
@@ -63,9 +66,14 @@ IsBegunBy instance (Turned asking) = AsksConfig instance asking
 IsBegunBy instance (Carried None call) = ⊤
 IsBegunBy instance (Carried (Some asking) call) = AsksConfig instance asking × (asking.left ≡ call.came)
 
+-- where the ask for its store's config was the last of a connection that isn't the last one, the store said nothing to it, or no reply
+abbrev pub IsLeftBehind : Try → Type 0
+IsLeftBehind (Turned asking) = (error : DriveError) × (asking.answer ≡ Err error) × (is_cut (TryError.Drive error) ≡ true)
+IsLeftBehind _ = ⊤
+
 -- a job was brought to its end over connections that were made one after another, so many at most after the first: over each it was brought on, and over
 -- the last to its end, with this outcome by its own rules. They hold of all that was said as over one connection, and all were to one store. Behind
--- none of them the end of its lock was asked for.
+-- none of them the end of its lock was asked for; and where a store that was asked for its config answered, and isn't the job's, no other one was tried.
 pub record Ended (rule : Rule) (who : Asker) (outcome : Outcome) (retry : ℕ) (coming after : Connections) : Type 0 where
   pub cut : List Try
   pub asking : Option Asking
@@ -75,10 +83,15 @@ pub record Ended (rule : Rule) (who : Asker) (outcome : Outcome) (retry : ℕ) (
   pub begun_by : Each (IsBegunBy who.instance) (Carried asking last ∷ cut)
   pub store : AreAtOneStore retry (Carried asking last ∷ cut)
   pub kept : AreKept (Carried asking last ∷ cut)
+  pub left : Each IsLeftBehind cut
   pub begun : Option Request
   pub waiting : Option Request
   pub before : IsBroughtOn rule who begun cut waiting
   pub ended : BroughtOn rule who (talk_over cut) waiting last None (Some outcome)
+
+-- all that was given out over the connections, in order
+abbrev pub given_over : {rule : Rule} → {who : Asker} → {outcome : Outcome} → {retry : ℕ} → {coming after : Connections} → Ended rule who outcome retry coming after → List Emission
+given_over ended = given_in (talk_over (Carried ended.asking ended.last ∷ ended.cut))
 
 -- however far a job was brought over connections that were made one after another, so many at most after the first: over each it was brought on by its own
 -- rules, and all were to one store; the end of its lock was asked for behind the last one at most
@@ -89,6 +102,7 @@ pub record Obeyed (rule : Rule) (who : Asker) (retry : ℕ) (coming after : Conn
   pub begun_by : Each (IsBegunBy who.instance) tries
   pub store : AreAtOneStore retry tries
   pub kept : AreKept (drop 1 tries)
+  pub left : Each IsLeftBehind (drop 1 tries)
   pub begun : Option Request
   pub waiting : Option Request
   pub brought : IsBroughtOn rule who begun tries waiting

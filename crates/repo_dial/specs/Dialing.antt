@@ -286,6 +286,11 @@ abbrev pub as_try : Result ℕ DriveError → Result ℕ TryError
 as_try (Ok n) = Ok n
 as_try (Err error) = Err (TryError.Drive error)
 
+-- whether what was given out was all taken, where a try ends so
+abbrev pub all_taken : Result ℕ TryError → Bool
+all_taken (Err (TryError.Drive DriveError.Sink)) = false
+all_taken _ = true
+
 -- what a try gives: there was no connection, and all is as before; its store isn't the job's, and the client is as before; or the client was driven
 abbrev pub TryGives : {C J : Type 0} → Driven C J → Acquaintance → C → Try → Result ℕ TryError → C → Acquaintance → Type 0
 TryGives d known old Missed result new after = (result ≡ Err TryError.NotReached) × (new ≡ old) × (after ≡ known)

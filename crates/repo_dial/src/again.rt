@@ -1,7 +1,10 @@
 //! The driver of a client over connections that are made one after another.
 
-ghost use Rattle.std.specs.Prelude.{◌≡◌, Some};
-ghost use Rattle.repo_dial.specs.Dialing.{Call, Try, driven_by, dialed_in, left_in, ends_behind, IsDialed, DrivenOver, TryGives, is_cut, DrivesAgain};
+ghost use Rattle.std.specs.Fn.{CalledAt};
+ghost use Rattle.std.specs.Prelude.{◌≡◌, ◌∷◌, Some};
+ghost use Rattle.repo_session.specs.Sinks.{AreHandedOn, takes_all};
+ghost use Rattle.repo_session.specs.Talks.{given_in};
+ghost use Rattle.repo_dial.specs.Dialing.{Call, Try, driven_by, dialed_in, left_in, talk_in, talk_over, ends_behind, IsDialed, DrivenOver, TryGives, all_taken, is_cut, DrivesAgain};
 
 use crate::dialing::Dial;
 use crate::ends::KnownChannel;
@@ -65,7 +68,8 @@ fn carry<C: Client, E: KnownChannel, F: FnMut(&Emission) -> bool>(
 ) -> Result<u64, DriveError>
     requires callable { (state : F) (x : _) → F.pre state x }
     ensures { (call : Call) × (call.came ≡ E.ends channel.old) × (ends_behind call.left call.farewell ≡ E.ends channel.new)
-        × DrivenOver (driven_by C.task C.job C.fits C.next C.token_of) client.old call result client.new }
+        × DrivenOver (driven_by C.task C.job C.fits C.next C.token_of) client.old call result client.new
+        × AreHandedOn (CalledAt F.FnMut) (takes_all result) sink.old (given_in call.said.talk) sink.new }
 {
     let mut connection = Connection::new(alloc)?;
     let driven = drive_over(client, &mut connection, channel, sink);
@@ -86,7 +90,8 @@ fn try_over<C: Client, E: KnownChannel, F: FnMut(&Emission) -> bool>(
 ) -> Result<u64, TryError>
     requires callable { (state : F) (x : _) → F.pre state x }
     ensures { (try : Try) × (dialed_in try ≡ Some (E.ends channel.old)) × (left_in try ≡ Some (E.ends channel.new))
-        × TryGives (driven_by C.task C.job C.fits C.next C.token_of) known.old client.old try result client.new known.new }
+        × TryGives (driven_by C.task C.job C.fits C.next C.token_of) known.old client.old try result client.new known.new
+        × AreHandedOn (CalledAt F.FnMut) (all_taken result) sink.old (given_in (talk_in try)) sink.new }
 {
     if let Err(error) = known.meet(alloc, client, channel) {
         return Err(error);
@@ -107,7 +112,8 @@ fn try_once<C: Client, D: Dial, F: FnMut(&Emission) -> bool>(
 ) -> Result<u64, TryError>
     requires callable { (state : F) (x : _) → F.pre state x }
     ensures { (try : Try) × IsDialed (D.connections dial.old) try (D.connections dial.new)
-        × TryGives (driven_by C.task C.job C.fits C.next C.token_of) known.old client.old try result client.new known.new }
+        × TryGives (driven_by C.task C.job C.fits C.next C.token_of) known.old client.old try result client.new known.new
+        × AreHandedOn (CalledAt F.FnMut) (all_taken result) sink.old (given_in (talk_in try)) sink.new }
 {
     let Some(mut channel) = dial.dial() else {
         return Err(TryError::NotReached);
@@ -124,7 +130,7 @@ fn try_once<C: Client, D: Dial, F: FnMut(&Emission) -> bool>(
 /// Where more than one may be tried, the store at the other end of each is asked for its config before the client says
 /// anything, and the job goes on only at the store of the first one: `OtherStore` where the config has other bytes.
 ///
-/// What the client gave out is handed to the sink once, whatever connections it takes. Where the sink takes no more, the
+/// What the client gave out is handed to the sink, each part once and in order, whatever connections it takes. Where the sink takes no more, the
 /// client's lock is given back over the same connection, by an unlock whose number was not used before.
 pub fn drive_again<C: Client, D: Dial, F: FnMut(&Emission) -> bool>(
     alloc: Global,
@@ -134,8 +140,9 @@ pub fn drive_again<C: Client, D: Dial, F: FnMut(&Emission) -> bool>(
     mut sink: F,
 ) -> Result<u64, TryError>
     requires callable { (state : F) (x : _) → F.pre state x }
-    ensures again { DrivesAgain (driven_by C.task C.job C.fits C.next C.token_of) retry client.old result client.new
-        (D.connections dial.old) (D.connections dial.new) }
+    ensures again { (again : DrivesAgain (driven_by C.task C.job C.fits C.next C.token_of) retry client.old result client.new
+        (D.connections dial.old) (D.connections dial.new))
+        × ((last : F) × AreHandedOn (CalledAt F.FnMut) (all_taken result) sink (given_in (talk_over (again.last ∷ again.cut))) last) }
     ensures job { C.job client.new ≡ C.job client.old }
 {
     let mut known = Acquaintance::new(retry);

@@ -3,7 +3,8 @@
 //! A connection is a channel that tells what goes over it ([`KnownChannel`]): a reader and a writer ([`Pair`]), or one in
 //! memory that records all ([`Recorder`]). A [`Dial`] is a way to connect: an [`Address`], or a connection that is there
 //! already ([`Once`]). [`drive_again`] carries a client's requests over one connection, as `drive_over` of `repo_session`
-//! does, and where that ends, over the next one; [`ask_once`] asks one request.
+//! does, and where that ends, over the next one; [`bring`] does so with a job, and gives how it ended; [`ask_once`] asks one
+//! request.
 //!
 //! Promised: over all its connections a client goes as over one, and the request that was pending goes first. Over each it
 //! goes in turn: it hears only while the reply to a request is awaited that was said whole, and nothing else goes over
@@ -20,6 +21,7 @@
 
 mod again;
 mod asking;
+mod bringing;
 mod dialing;
 mod ends;
 mod farewells;
@@ -28,6 +30,7 @@ mod recording;
 
 pub use again::{TryError, drive_again};
 pub use asking::ask_once;
+pub use bringing::bring;
 pub use dialing::{Address, Dial, Once};
 pub use ends::{KnownChannel, Pair, pair_of, reader_of};
 pub use recording::{Recorder, Tape, Went};

@@ -235,18 +235,22 @@ pub record Gone {L C : Type 0} (Hearing Saying : L → List ℕ → L → Type 0
   pub first : first_carried (sent_in talk) (next new) ≡ next old
 
 module _ {L C : Type 0} (Hearing Saying : L → List ℕ → L → Type 0) (before : List ℕ) (told : List Reply) (instance : Instance) (Fits : C → Trace → Type 0) (next : C → Option Request) (old : C) (from : L) where
-  pub gone_nowhere : (connection : Connection) → Heard before told connection → Gone Hearing Saying before told instance Fits next old from old connection from 0
-  gone_nowhere connection h = record {
-    passages = [];
-    passes = refl;
-    talk = [];
-    in_turn = tt;
-    reads = told_none before told connection h;
-    went = went_nowhere instance Fits old;
-    counted = refl;
-    whole = refl;
-    first = refl;
-  }
+  pub gone_nowhere : (connection : Connection) → Heard before told connection → (Also : Talk → Type 0) → Also []
+      → (gone : Gone Hearing Saying before told instance Fits next old from old connection from 0) × Also gone.talk
+  gone_nowhere connection h Also also = (
+    record {
+      passages = [];
+      passes = refl;
+      talk = [];
+      in_turn = tt;
+      reads = told_none before told connection h;
+      went = went_nowhere instance Fits old;
+      counted = refl;
+      whole = refl;
+      first = refl;
+    },
+    also,
+  )
 
   module _ (new : C) (connection : Connection) (to : L) (count : ℕ) (i : Gone Hearing Saying before told instance Fits next old from new connection to count) where
     abbrev here : Said
@@ -259,33 +263,41 @@ module _ {L C : Type 0} (Hearing Saying : L → List ℕ → L → Type 0) (befo
     unsaid = turn_rests before told i.talk (next new) i.passages i.in_turn
 
     -- nothing is pending
-    pub gone_done : (n : ℕ) → count ≡ n → next new ≡ None → DrivesOver Hearing Saying before told instance Fits next old from (Ok n) new connection to
-    gone_done n same none = record {
-      passages = i.passages;
-      passes = i.passes;
-      said = here;
-      bytes = refl;
-      in_turn = unsaid;
-      drives = (i.went, sym same ∙ i.counted, none, heard_all before (heard_in i.passages) told i.talk begun, refl, i.whole, i.first);
-      rests = i.reads;
-    }
+    pub gone_done : (n : ℕ) → count ≡ n → next new ≡ None → (Also : Talk → Type 0) → Also i.talk
+        → (driven : DrivesOver Hearing Saying before told instance Fits next old from (Ok n) new connection to) × Also driven.said.talk
+    gone_done n same none Also also = (
+      record {
+        passages = i.passages;
+        passes = i.passes;
+        said = here;
+        bytes = refl;
+        in_turn = unsaid;
+        drives = (i.went, sym same ∙ i.counted, none, heard_all before (heard_in i.passages) told i.talk begun, refl, i.whole, i.first);
+        rests = i.reads;
+      },
+      also,
+    )
 
     -- too many requests were sent
-    pub gone_far : 2 ^ 32 ≤ count → DrivesOver Hearing Saying before told instance Fits next old from (Err DriveError.Limit) new connection to
-    gone_far many = record {
-      passages = i.passages;
-      passes = i.passes;
-      said = here;
-      bytes = refl;
-      in_turn = unsaid;
-      drives = (
-        i.went,
-        (heard_all before (heard_in i.passages) told i.talk begun, passed_none (next new), inl (omega (arith, i.counted, many))),
-        whole_part (Some []) (Some (said_in i.passages)) (sent_in i.talk) (next new) i.whole,
-        i.first,
-      );
-      rests = tt;
-    }
+    pub gone_far : 2 ^ 32 ≤ count → (Also : Talk → Type 0) → Also i.talk
+        → (driven : DrivesOver Hearing Saying before told instance Fits next old from (Err DriveError.Limit) new connection to) × Also driven.said.talk
+    gone_far many Also also = (
+      record {
+        passages = i.passages;
+        passes = i.passes;
+        said = here;
+        bytes = refl;
+        in_turn = unsaid;
+        drives = (
+          i.went,
+          (heard_all before (heard_in i.passages) told i.talk begun, passed_none (next new), inl (omega (arith, i.counted, many))),
+          whole_part (Some []) (Some (said_in i.passages)) (sent_in i.talk) (next new) i.whole,
+          i.first,
+        );
+        rests = tt;
+      },
+      also,
+    )
 
     module _ (request : Request) (pending : next new ≡ Some request) (result : Result Reply DriveError) (connection2 : Connection) (end : L)
         (n : AsksOver Hearing Saying (before ++ heard_in i.passages) (told ++ read_in i.talk) request to result connection2 end) where
@@ -302,19 +314,22 @@ module _ {L C : Type 0} (Hearing Saying : L → List ℕ → L → Type 0) (befo
       turn_all = turn_next before told i.talk request n.passages i.passages n.in_turn i.whole i.went.turns i.in_turn
 
       -- no reply came
-      pub gone_unanswered : (error : DriveError) → result ≡ Err error → DrivesOver Hearing Saying before told instance Fits next old from (Err error) new connection2 end
-      gone_unanswered error is =
+      pub gone_unanswered : (error : DriveError) → result ≡ Err error → (Also : Talk → Type 0) → (error ≢ DriveError.Sink → Also i.talk)
+          → (driven : DrivesOver Hearing Saying before told instance Fits next old from (Err error) new connection2 end) × Also driven.said.talk
+      gone_unanswered error is Also also =
           let asks = subst (λ r. Asks request r (before ++ heard_in all) (told ++ read_in i.talk) n.passed connection2 (Some (said_in i.passages)) (Some (said_in all))) is asks_all in
-          let r = unanswered error request before (heard_in all) told i.talk n.passed connection2 (next new) (Some []) (Some (said_in i.passages)) (Some (said_in all)) pending n.past asks i.whole in
-          record {
-            passages = all;
-            passes = passed_all;
-            said = record { bytes = heard_in all; talk = i.talk; more = n.passed };
-            bytes = refl;
-            in_turn = subst (λ o. AreAskedInTurn before told (asked_in i.talk o) all) (sym pending) turn_all;
-            drives = (i.went, r.0, r.1, i.first);
-            rests = tt;
-          }
+          let r = unanswered error request before (heard_in all) told i.talk n.passed connection2 (next new) (Some []) (Some (said_in i.passages)) (Some (said_in all)) pending n.past asks i.whole in (
+            record {
+              passages = all;
+              passes = passed_all;
+              said = record { bytes = heard_in all; talk = i.talk; more = n.passed };
+              bytes = refl;
+              in_turn = subst (λ o. AreAskedInTurn before told (asked_in i.talk o) all) (sym pending) turn_all;
+              drives = (i.went, r.0, r.1, i.first);
+              rests = tt;
+            },
+            also (λ sink. subst (λ e. Asks request (Err e) (before ++ heard_in all) (told ++ read_in i.talk) n.passed connection2 (Some (said_in i.passages)) (Some (said_in all))) sink asks),
+          )
 
       module _ (reply : Reply) (is : result ≡ Ok reply) where
         asks_ok : Asks request (Ok reply) (before ++ heard_in all) (told ++ read_in i.talk) n.passed connection2 (Some (said_in i.passages)) (Some (said_in all))
@@ -327,57 +342,66 @@ module _ {L C : Type 0} (Hearing Saying : L → List ℕ → L → Type 0) (befo
         said_all = written_on (Some []) (Some (said_in i.passages)) (Some (said_in all)) (sent_in i.talk) request i.whole asks_ok.1
 
         -- the client had no memory for the reply
-        pub gone_untaken : (later : C) → next later ≡ next new → ((es : Trace) → Fits new es → Fits later es)
-            → DrivesOver Hearing Saying before told instance Fits next old from (Err DriveError.Memory) later connection2 end
-        gone_untaken later same fits =
+        pub gone_untaken : (later : C) → next later ≡ next new → ((es : Trace) → Fits new es → Fits later es) → (Also : Talk → Type 0) → Also i.talk
+            → (driven : DrivesOver Hearing Saying before told instance Fits next old from (Err DriveError.Memory) later connection2 end) × Also driven.said.talk
+        gone_untaken later same fits Also also =
             let more = n.passed ++ reply ∷ [] in
-            let still = same ∙ pending in
-            record {
-              passages = all;
-              passes = passed_all;
-              said = record { bytes = heard_in all; talk = i.talk; more = more };
-              bytes = refl;
-              in_turn = subst (λ o. AreAskedInTurn before told (asked_in i.talk o) all) (sym still) turn_all;
-              drives = (
-                went_same instance Fits old new later i.talk i.went fits,
-                begins (before ++ heard_in all) (told ++ (read_in i.talk ++ more)) connection2 reads_all,
-                part_next (Some []) (Some (said_in all)) (sent_in i.talk) request (next later) still (whole_next (Some []) (Some (said_in all)) (sent_in i.talk) request said_all),
-                ap (first_carried (sent_in i.talk)) same ∙ i.first,
-              );
-              rests = tt;
-            }
+            let still = same ∙ pending in (
+              record {
+                passages = all;
+                passes = passed_all;
+                said = record { bytes = heard_in all; talk = i.talk; more = more };
+                bytes = refl;
+                in_turn = subst (λ o. AreAskedInTurn before told (asked_in i.talk o) all) (sym still) turn_all;
+                drives = (
+                  went_same instance Fits old new later i.talk i.went fits,
+                  begins (before ++ heard_in all) (told ++ (read_in i.talk ++ more)) connection2 reads_all,
+                  part_next (Some []) (Some (said_in all)) (sent_in i.talk) request (next later) still (whole_next (Some []) (Some (said_in all)) (sent_in i.talk) request said_all),
+                  ap (first_carried (sent_in i.talk)) same ∙ i.first,
+                );
+                rests = tt;
+              },
+              also,
+            )
 
         -- the client took the reply
         pub gone_on : (later : C) (emitted : List Emission) → Went instance Fits old (record { request = request; passed = n.passed; reply = reply; emitted = emitted } ∷ i.talk) later
-            → Gone Hearing Saying before told instance Fits next old from later connection2 end (count + 1)
-        gone_on later emitted went = record {
-          passages = all;
-          passes = passed_all;
-          talk = record { request = request; passed = n.passed; reply = reply; emitted = emitted } ∷ i.talk;
-          in_turn = turn_all;
-          reads = reads_all;
-          went = went;
-          counted = omega (arith, i.counted);
-          whole = said_all;
-          first = first_of_more (sent_in i.talk) request (next old) (next new) (next later) pending i.first;
-        }
+            → (Also : Talk → Type 0) → Also (record { request = request; passed = n.passed; reply = reply; emitted = emitted } ∷ i.talk)
+            → (gone : Gone Hearing Saying before told instance Fits next old from later connection2 end (count + 1)) × Also gone.talk
+        gone_on later emitted went Also also = (
+          record {
+            passages = all;
+            passes = passed_all;
+            talk = record { request = request; passed = n.passed; reply = reply; emitted = emitted } ∷ i.talk;
+            in_turn = turn_all;
+            reads = reads_all;
+            went = went;
+            counted = omega (arith, i.counted);
+            whole = said_all;
+            first = first_of_more (sent_in i.talk) request (next old) (next new) (next later) pending i.first;
+          },
+          also,
+        )
 
         -- the sink took no more of what was given out
         pub gone_stopped : (later : C) (emitted : List Emission) → Went instance Fits old (record { request = request; passed = n.passed; reply = reply; emitted = emitted } ∷ i.talk) later → emitted ≢ []
-            → DrivesOver Hearing Saying before told instance Fits next old from (Err DriveError.Sink) later connection2 end
-        gone_stopped later emitted went gave =
-            let talk : Talk = record { request = request; passed = n.passed; reply = reply; emitted = emitted } ∷ i.talk in
-            record {
-              passages = all;
-              passes = passed_all;
-              said = record { bytes = heard_in all; talk = talk; more = [] };
-              bytes = refl;
-              in_turn = turn_rests before told talk (next later) all turn_all;
-              drives = (
-                went,
-                (heard_all before (heard_in all) told talk (begins (before ++ heard_in all) (told ++ read_in talk) connection2 reads_all), refl, gave),
-                said_all,
-                first_of_more (sent_in i.talk) request (next old) (next new) (next later) pending i.first,
-              );
-              rests = tt;
-            }
+            → (Also : Talk → Type 0) → Also (record { request = request; passed = n.passed; reply = reply; emitted = emitted } ∷ i.talk)
+            → (driven : DrivesOver Hearing Saying before told instance Fits next old from (Err DriveError.Sink) later connection2 end) × Also driven.said.talk
+        gone_stopped later emitted went gave Also also =
+            let talk : Talk = record { request = request; passed = n.passed; reply = reply; emitted = emitted } ∷ i.talk in (
+              record {
+                passages = all;
+                passes = passed_all;
+                said = record { bytes = heard_in all; talk = talk; more = [] };
+                bytes = refl;
+                in_turn = turn_rests before told talk (next later) all turn_all;
+                drives = (
+                  went,
+                  (heard_all before (heard_in all) told talk (begins (before ++ heard_in all) (told ++ read_in talk) connection2 reads_all), refl, gave),
+                  said_all,
+                  first_of_more (sent_in i.talk) request (next old) (next new) (next later) pending i.first,
+                );
+                rests = tt;
+              },
+              also,
+            )

@@ -11,6 +11,7 @@ pub mod Trees
 pub mod Versions
 pub mod Soundness
 pub mod Talks
+pub mod Sinks
 pub mod Turns
 pub mod Joined
 pub mod Alone

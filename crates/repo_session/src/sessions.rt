@@ -13,7 +13,7 @@ ghost use Rattle.repo_session.specs.Askers.{row_of};
 ghost use Rattle.repo_session.specs.Clients.{AnswersNext, IsSteady};
 ghost use Rattle.repo_session.specs.Jobs.{IsShortStep};
 ghost use Rattle.repo_session.specs.Lines.{IsSentOnLine, IsClosed};
-ghost use Rattle.repo_session.specs.Sessions.{FitsWanting, KeepsLock, Leaves, FollowsStep, given_by, took, who_in, TakesConfig, TakesWork, TakesReply, StaysFitting, StaysAtWork, StaysEnded};
+ghost use Rattle.repo_session.specs.Sessions.{FitsWanting, ended_in, KeepsLock, Leaves, FollowsStep, given_by, took, who_in, TakesConfig, TakesWork, TakesReply, StaysFitting, StaysAtWork, StaysEnded};
 
 use crate::clients::Client;
 use crate::connections::answers;
@@ -130,6 +130,14 @@ pub struct Session<J> {
 }
 
 impl<J: Job + Drop> Session<J> {
+    /// How the job ended, given back, once it has.
+    pub fn into_outcome(self) -> Option<Outcome>
+        ensures { result ≡ ended_in self }
+    {
+        let mut session = self;
+        session.head.line.outcome.take()
+    }
+
     /// A session whose ticket is pending. It takes no memory.
     pub fn new(alloc: Global, who: Who, job: J) -> Session<J>
         requires { J.fresh job }

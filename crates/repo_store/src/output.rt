@@ -12,7 +12,7 @@ use thiserror::Error;
 #[error("write failed")]
 pub struct Unwritten;
 
-/// Writes all bytes. On an error some first ones of them were written, or none.
+/// Writes all bytes. On an error some first ones of them were written, or none, but not all.
 pub fn write_whole<W: Write>(writer: &mut W, bytes: &[u8]) -> Result<(), Unwritten>
     ensures ok { OnOk result (Appends (W.contents writer.old) (W.contents writer.new) bytes.now) }
     ensures err { OnErr result (AppendsPart (W.contents writer.old) (W.contents writer.new) bytes.now) }

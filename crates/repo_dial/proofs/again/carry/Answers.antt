@@ -10,11 +10,12 @@ pub returns-in_err-connection : goal.returns-in_err-connection
 returns-in_err-connection g c =
     let p = err_from_is_err_and c.from_residual.result c.from_residual.ensures.1 in
     let came = g.E.KnownChannel.ends c.args.channel.now in
-    rw (p.1, p.2) (no_call came, refl, refl, not_driven (driven_by g.C.Client.task g.C.Client.job g.C.Client.fits g.C.Client.next g.C.Client.token_of) c.args.client.now came)
+    rw (p.1, p.2) (no_call came, refl, refl, not_driven (driven_by g.C.Client.task g.C.Client.job g.C.Client.fits g.C.Client.next g.C.Client.token_of) c.args.client.now came, refl)
 
 pub returns : goal.returns
 returns g c =
-    let n = c.drive_over-driven.ensures.carries [] [] c.in_ok-connection.ensures in
+    let handed = c.drive_over-driven.ensures.carries [] [] c.in_ok-connection.ensures in
+    let n = handed.0 in
     let f = c.give_back.ensures in
     let client = c.drive_over-driven.new.client in
     let left = g.E.KnownChannel.ends c.drive_over-driven.new.channel in
@@ -31,11 +32,13 @@ returns g c =
         ends = ends_own g.C.Client.fits client (g.C.Client.task (g.C.Client.job client)) (g.C.Client.allows (g.C.Client.job client)) (g.C.Client.gives (g.C.Client.job client)) (g.C.Client.concludes (g.C.Client.job client))
             (g.C.Client.wanting (g.C.Client.job client)) (g.C.Client.next client) (g.C.Client.ended client) (g.C.Client.token_of client) (λ es h. g.met.C.Client.obedient client es h) (λ es h. g.met.C.Client.ticketed client es h) left f.0 f.1;
       },
+      handed.1,
     )
 
 pub returns-then-ne : goal.returns-then-ne
 returns-then-ne g c =
-    let n = c.drive_over-driven.ensures.carries [] [] c.in_ok-connection.ensures in
+    let handed = c.drive_over-driven.ensures.carries [] [] c.in_ok-connection.ensures in
+    let n = handed.0 in
     let client = c.drive_over-driven.new.client in
     let call : Call = record { came = g.E.KnownChannel.ends c.args.channel.now; passages = n.passages; said = n.said; left = g.E.KnownChannel.ends c.drive_over-driven.new.channel; farewell = None } in
     let isnt : c.drive_over-driven.result ≢ Err DriveError.Sink = search rules in (
@@ -49,4 +52,5 @@ returns-then-ne g c =
         leaves = no_leave c.drive_over-driven.result (g.C.Client.next client) (g.C.Client.token_of client) call isnt refl;
         ends = tt;
       },
+      handed.1,
     )

@@ -8,4 +8,5 @@ returns g c =
       t.0,
       dialed (g.D.Dial.connections c.args.dial.now) (g.D.Dial.connections c.dial.new.self) (g.D.Dial.connections c.hang_up.new.self) t.0 (known c.in-Some.channel) (known c.try_over-result.new.channel) t.1 t.2 c.in-Some.ensures c.hang_up.ensures,
       t.3,
+      t.4,
     )

@@ -7,7 +7,8 @@ use Rattle.repo_session.proofs.driving.drive_on.Goals as goal
 
 pub returns-clause-carries : goal.returns-clause-carries
 returns-clause-carries g c bytes told h =
-    let n = c.drive_over-driven.ensures.carries bytes told h in
+    let handed = c.drive_over-driven.ensures.carries bytes told h in
+    let n = handed.0 in
     let left = g.R.Read.remaining in
     let held = g.W.Write.contents in
     let ends = c.drive_over-driven.new.channel in
@@ -22,6 +23,7 @@ returns-clause-carries g c bytes told h =
       (search (rules)),
       drives_written bytes told _ _ _ _ _ _ n.said (held c.args.writer.now) _ (said_in n.passages) (search (rules)) n.drives,
       n.rests,
+      handed.1,
     )
 
 pub returns-clause-stopped : goal.returns-clause-stopped

@@ -68,7 +68,7 @@ returns-in_err-say-clause-next g c honest =
     rw (p.1, p.2) (says_some g.C.Channel.hears g.C.Channel.says _ c.args.channel.now store to failures count c.say.new.self _ part.2 (λ w before past has.
     let answered = answered_next g.F.Form.shown before c.args.self.now c.next_request.new.self past (seen store failures (Some w)) (seen to count (Some w)) c.in-Some.request c.answer-reply.result has given
     (c.answer-reply.ensures.replies honest) (c.answer-reply.ensures.cause honest) c.answer-reply.ensures.fits in
-    frame_cut g.F.Form.shown before c.next_request.new.self past to count (Some w) (Some _) c.in-Some.request c.answer-reply.result c.as_slice.result.now answered has.written bytes (part.0, part.1, refl)))
+    frame_cut g.F.Form.shown before c.next_request.new.self past to count (Some w) (Some _) c.in-Some.request c.answer-reply.result c.as_slice.result.now answered has.written bytes (part.0, refl)))
 
 pub returns-clause-next : goal.returns-clause-next
 returns-clause-next g c honest =
