@@ -10,7 +10,7 @@ use Rattle.repo_writing.proofs.BlobLemmas.{has_either}
 use Rattle.repo_writing.proofs.PutLemmas.{each_contained}
 use Rattle.repo_writing.proofs.Writings.{one_packed}
 use Rattle.repo_writing.specs.Writing.{Put, items_of}
-use Rattle.repo_writing.specs.Filling.{IsFullPack}
+use Rattle.repo_writing.specs.Filling.{IsPromptPack, IsFullPack}
 use Rattle.repo_backup.specs.Folders.{Folder, IsFolderOf, blobs_of}
 use Rattle.repo_backup.specs.Items.{Feeding, place_of, spelled_by, AreTaken}
 use Rattle.repo_backup.specs.Packings.{IsCovered}
@@ -71,8 +71,8 @@ module _ (entries : List Entry) (left : List Fed) (facts : List Fact) (b : Piece
       }
 
   -- the sealed pack may be put
-  pub backup_pack : (x : List ℕ) → IsTruePack x sealed → IsFullPack es sealed ⊎ (((place_of items).over ≡ true) × (b.work.parts ≡ None)) → PackRule entries es x
-  backup_pack x pack full =
+  pub backup_pack : (x : List ℕ) → IsTruePack x sealed → IsPromptPack es sealed → IsFullPack es sealed ⊎ (((place_of items).over ≡ true) × (b.work.parts ≡ None)) → PackRule entries es x
+  backup_pack x pack prompt full =
       let t = made_through entries left items es h.config h.st leads h.at in
       record {
         indexes = h.written.indexed;
@@ -85,5 +85,6 @@ module _ (entries : List Entry) (left : List Fed) (facts : List Fact) (b : Piece
         once = sealed_once facts b puts sealed items es h;
         unread = sealed_unread facts b puts sealed items es h;
         unput = sealed_unput facts b puts sealed items es h;
+        prompt = prompt;
         full = elim full [ inl due ↦ inl due | inr over ↦ inr (are_last over.1 over.0) ];
       }

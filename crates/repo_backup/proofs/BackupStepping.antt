@@ -49,7 +49,7 @@ use Rattle.repo_backup.specs.declared.walks.Went.{Went}
 use Rattle.repo_backup.proofs.BackupRuling.{made_through, ended_spell, are_last}
 use Rattle.repo_backup.proofs.Closing.{none_there}
 use Rattle.repo_backup.proofs.Forbidding.{faults_forbid}
-use Rattle.repo_backup.proofs.PieceFeeding.{large_at, stands_plain, stands_further, stands_unsealed, sealed_full, stands_still}
+use Rattle.repo_backup.proofs.PieceFeeding.{large_at, stands_plain, stands_further, stands_unsealed, sealed_full, sealed_prompt, stands_still}
 use Rattle.repo_backup.proofs.Piecing.{plain}
 use Rattle.repo_backup.proofs.PieceRuling.{over_is, fed_snapshot}
 use Rattle.repo_backup.proofs.PieceStepping.{none_being_put, index_out, none_waits, large_ends}
@@ -96,6 +96,7 @@ module _ (facts : List Fact) (steps : List WalkStep) (p : Position) (item : Item
           sealed = (goes h.at.st (items_of (puts ++ next)) (stands_plain facts b c puts next h.items es h.at able)).2;
           at = stands_further facts b c puts next h.items es h.at able refl refl refl n item no_abandon goes by of_version to (Some listed) left.1 room;
           lists = left.0;
+          prompt = sealed_prompt facts b c puts next h.items es h.at able refl refl refl n item no_abandon goes by of_version to (Some listed) left.1 room listed left.0;
           full = sealed_full facts b c puts next h.items es h.at able refl refl refl n item no_abandon goes by of_version to (Some listed) left.1 room listed left.0;
         }
 
@@ -141,7 +142,7 @@ goes_laid facts old new left Went.On lays entries b puts next es work h =
     record { items = h.items; leads = h.leads; at = k.0; unsealed = k.1 }
 goes_laid facts old new left (Went.Pack listed) lays entries b puts next es work h =
     let k = lays b puts next h.items es work h.at (ap (λ w. w.packing.packer.sealed) (sym work) ∙ h.unsealed) in
-    record { items = h.items; leads = h.leads; sealed = k.0; at = k.1; lists = k.2; full = k.3 }
+    record { items = h.items; leads = h.leads; sealed = k.0; at = k.1; lists = k.2; prompt = k.3; full = k.4 }
 goes_laid facts old new left Went.TooLarge lays entries b puts next es work h =
     let k = lays b puts next h.items es work h.at (ap (λ w. w.packing.packer.sealed) (sym work) ∙ h.unsealed) in
     subst (λ (v : ℕ). IsTooLarge v entries es) (sym k.version_is) (large_so entries left h.items es k.config k.st h.leads k.at k.text k.made k.large)

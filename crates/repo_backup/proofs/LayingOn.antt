@@ -10,7 +10,7 @@ use Rattle.repo_pack.specs.PackWriting.{IsOpen}
 use Rattle.repo_session.specs.Traces.{Trace, fed_in}
 use Rattle.repo_tree.specs.declared.configs.Config.{Config}
 use Rattle.repo_writing.specs.Writing.{Put, items_of}
-use Rattle.repo_writing.specs.Filling.{IsFullPack}
+use Rattle.repo_writing.specs.Filling.{IsPromptPack, IsFullPack}
 use Rattle.repo_backup.specs.Folders.{Folder}
 use Rattle.repo_backup.specs.Items.{Feeding, Place, place_of}
 use Rattle.repo_backup.specs.Packings.{AimsOn, IsSealedBy}
@@ -39,7 +39,7 @@ use Rattle.repo_backup.specs.declared.piece_works.Took.{Took}
 use Rattle.repo_backup.specs.declared.pieces.Outer.{Outer}
 use Rattle.repo_backup.specs.declared.walks.Went.{Went}
 use Rattle.repo_backup.proofs.Closing.{none_there}
-use Rattle.repo_backup.proofs.PieceFeeding.{full_by, left_open, left_empty, open_root}
+use Rattle.repo_backup.proofs.PieceFeeding.{full_by, prompt_by, left_open, left_empty, open_root}
 use Rattle.repo_backup.proofs.Piecing.{none_sealed, packing_in, room_none, room_open, shut_in}
 
 -- where parts are left, it makes them
@@ -77,7 +77,7 @@ module _ (facts : List Fact) (old new : PieceWork) (params : new.walk.params ≡
       pub lay : PieceLays old facts h.st (items_of (puts ++ next)) []
       lay = laying old facts h.st (items_of (puts ++ next)) [] some (subst (λ w. WorkStands w facts h.st (items_of (puts ++ next)) []) work h.stands)
 
-      abbrev pub laid_step : (sealed : List Item) × WorkStands new facts h.st (items_of (puts ++ next)) sealed × (IsSealedBy Sealing.Due old.packing.packer.writer.target sealed ⊎ ((h.st.over ≡ true) × (new.parts ≡ None)))
+      abbrev pub laid_step : (sealed : List Item) × WorkStands new facts h.st (items_of (puts ++ next)) sealed × (IsSealedBy Sealing.Due old.packing.packer.writer.target sealed ⊎ ((h.st.over ≡ true) × (new.parts ≡ None) × IsSealedBy Sealing.Last old.packing.packer.writer.target sealed))
       laid_step = lays.1 h.st (items_of (puts ++ next)) lay
 
       empty_at_end : new.walk.root ≢ None → new.packing.packer.writer.items ≡ []
@@ -115,11 +115,15 @@ module _ (facts : List Fact) (old new : PieceWork) (params : new.walk.params ≡
       let k = laid_step n (Some listed) lays left b puts next items es work h in
       let many = (left.0 k.0 (packing_in new facts h.st (items_of (puts ++ next)) k.0 k.1).sealed_is).1.holds.holds.pack.count.0 in
       let aim : old.packing.packer.writer.target ≡ h.config.target = ap (λ w. w.packing.packer.writer.target) (sym work) ∙ h.goes_by.aims in
+      let prompt : IsPromptPack es k.0 = elim k.2 [
+        | inl due ↦ prompt_by Sealing.Due h.config es k.0 h.at.has (subst (λ (t : ℕ). IsSealedBy Sealing.Due t k.0) aim due) many
+        | inr over ↦ prompt_by Sealing.Last h.config es k.0 h.at.has (subst (λ (t : ℕ). IsSealedBy Sealing.Last t k.0) aim over.2) many
+      ] in
       let full : IsFullPack es k.0 ⊎ (((place_of items).over ≡ true) × (new.parts ≡ None)) = elim k.2 [
         | inl due ↦ inl (full_by h.config es k.0 h.at.has (subst (λ (t : ℕ). IsSealedBy Sealing.Due t k.0) aim due) many)
         | inr over ↦ inr (ap (λ (p : Place). p.over) (sym h.at.lead.place) ∙ over.0, over.1)
       ] in
-      (k.0, stands_now n (Some listed) lays left b puts next items es work h, left.0, full)
+      (k.0, stands_now n (Some listed) lays left b puts next items es work h, left.0, prompt, full)
 
   pub lays_large : LaysOn facts old Took.TooLarge new → LaysSo facts old Went.TooLarge new
   lays_large lays b puts next items es work h unsealed =
@@ -167,7 +171,7 @@ laid_so went old new a c there now same lays b is =
 pub went_at : (facts : List Fact) (went : Went) (b : PieceBacking) (work : PieceWork) (es : Trace) (h : IsPieceIdle facts b es) → LaidAt facts went (record b { work = work }) h.puts [] (fed_in es) es → (went ≡ Went.On → work.parts ≡ None)
     → length (facts_in b.waiting) < facts_limit → PieceWent facts went (record b { work = work }) es
 went_at facts Went.On b work es h k laid room = record { idle = record { puts = h.puts; at = k.0; unsealed = k.1; listed = h.listed; few = h.few }; unlaid = laid refl }
-went_at facts (Went.Pack listed) b work es h k laid room = record { puts = h.puts; sealed = k.0; at = k.1; none = h.listed; lists = k.2; full = k.3; room = room }
+went_at facts (Went.Pack listed) b work es h k laid room = record { puts = h.puts; sealed = k.0; at = k.1; none = h.listed; lists = k.2; prompt = k.3; full = k.4; room = room }
 went_at facts Went.TooLarge b work es h k laid room = k
 went_at facts Went.Nothing b work es h k laid room = k
 

@@ -281,7 +281,7 @@ module _ (w : PieceWork) (known : List Fact) (st : Standing) (sent : List Item) 
 
     -- the root's
     pub laid_root : (v : PieceWork) → w.walk.above.items ≡ [] → v.walk ≡ record w.walk { root = Some name } → PacksOn known Sealing.Last (item_of Tree (part_text nodes p.next)) w.packing v.packing
-        → (sealed : List Item) × PieceStands v known st sent sealed
+        → (sealed : List Item) × PieceStands v known st sent sealed × IsSealedBy Sealing.Last w.packing.packer.writer.target sealed
     laid_root v top walk packs =
         let m = packs_more w known st sent h p is [] size only Sealing.Last v.packing (subst (λ ns. PacksOn known Sealing.Last (item_of Tree (part_text ns p.next)) w.packing v.packing) part_first packs) in
         let none : h.above ≡ [] = no_above N h.above (subst (λ os. AreOuterAt N os h.above) top h.at.outers) in
@@ -298,6 +298,7 @@ module _ (w : PieceWork) (known : List Fact) (st : Standing) (sent : List Item) 
             texts = subst (λ (n : ℕ). AreTreeTextsBelow n st.done × AreTextsAround n st.above) (sym version) (subst (λ (s : Standing). AreTreeTextsBelow N s.done × AreTextsAround N s.above) (sym there) (h.texts.0, tt));
             covered = covered_so_far known (all_items sent m.sealed v.packing) v.walk.file (made_at v.walk.version st) (subst (λ n. Each (λ item. IsCovered known (all_items sent m.sealed v.packing) item) (made_at n st)) (sym version) covered);
           },
+          m.by,
         )
 
     -- another one's
@@ -361,7 +362,7 @@ aims_then a b c h k = (k.0 ∙ h.0, λ e. k.1 (h.1 e))
 pub later_still : (known : List Fact) (a b : PieceWork) (n : ℕ) → 2 ≤ left_count a.parts → LaysOn known a (Took.All n None) b → LeavesLater known a (Took.All n None) b → LaysStill known a b
 later_still known a b n many lays left st sent h = by (lays.1 st sent h)
   where
-    by : (sealed : List Item) × WorkStands b known st sent sealed × (IsSealedBy Sealing.Due a.packing.packer.writer.target sealed ⊎ ((st.over ≡ true) × (b.parts ≡ None))) → PieceLays b known st sent []
+    by : (sealed : List Item) × WorkStands b known st sent sealed × (IsSealedBy Sealing.Due a.packing.packer.writer.target sealed ⊎ ((st.over ≡ true) × (b.parts ≡ None) × IsSealedBy Sealing.Last a.packing.packer.writer.target sealed)) → PieceLays b known st sent []
     by (sealed, inl plain, s) = absurd (omega (arith, many, left.0, ap left_count plain.0))
     by (sealed, inr lay, s) = subst (λ l. PieceLays b known st sent l) (none_sealed b.packing.packer.sealed sealed left.1.unsealed lay.packing.sealed_is) lay
 
@@ -371,7 +372,7 @@ lays_then known a b c (Took.All n listed) still target walk lays = (
   lays.0,
   λ st sent h.
       let k = lays.1 st sent (still st sent h) in
-      (k.0, k.1, elim k.2 [ inl due ↦ inl (subst (λ t. IsSealedBy Sealing.Due t k.0) target due) | inr over ↦ inr over ]),
+      (k.0, k.1, elim k.2 [ inl due ↦ inl (subst (λ t. IsSealedBy Sealing.Due t k.0) target due) | inr over ↦ inr (over.0, over.1, subst (λ t. IsSealedBy Sealing.Last t k.0) target over.2) ]),
 )
 lays_then known a b c Took.TooLarge still target walk lays = λ st sent h.
     let k = lays st sent (still st sent h) in
@@ -452,7 +453,7 @@ module _ (w : PieceWork) (known : List Fact) (p : PartsLeft) (ready : IsReady w)
     λ st sent h.
         let b = begins st sent h in
         let k = lays.1 (closed_dir st.done st.above) sent b.lays in
-        (b.may, closed_dir st.done st.above, k.0, b.place, k.1, elim k.2 [ inl due ↦ inl due | inr over ↦ inr (last_there w.walk.version w.walk.above.items st.done st.above h.at.outers over.0, over.1) ]),
+        (b.may, closed_dir st.done st.above, k.0, b.place, k.1, elim k.2 [ inl due ↦ inl due | inr over ↦ inr (last_there w.walk.version w.walk.above.items st.done st.above h.at.outers over.0, over.1, over.2) ]),
   )
   closes Took.TooLarge new lays = λ st sent h.
       let b = begins st sent h in

@@ -16,7 +16,7 @@ use Rattle.repo_writing.specs.Writing.{Put, items_of}
 use Rattle.repo_backup.specs.Backing.{HasWritten}
 use Rattle.repo_backup.specs.Items.{Feeding, FileSoFar, Place, after, closed, place_of, MayTake, NobodyGaveUp, AreTaken, ItemFault, fed_part, fed_of}
 use Rattle.repo_backup.specs.Packings.{IsSealedBy, IsListed, IsLeftOpen, AimsOn}
-use Rattle.repo_writing.specs.Filling.{HasConfig, IsFullPack}
+use Rattle.repo_writing.specs.Filling.{HasConfig, IsPromptPack, IsFullPack}
 use Rattle.repo_backup.specs.PieceRules.{IsStandingOf}
 use Rattle.repo_backup.specs.PieceStates.{waits, listed_of, StandsAt, PieceAt, PieceWaits, IsPieceDue, IsPieceDone, IsPieceLarge}
 use Rattle.repo_backup.specs.Pieces.{HasRoom, PieceStands, WorkStands, IsReady, IsSealedAs, Goes, EndsTooLarge, Refuses, Stays, sealing_at}
@@ -105,7 +105,14 @@ ends_by n Item.Abandon p e = absurd (cc)
 -- a pack that was sealed where it was just due is full
 pub full_by : (config : Config) (es : Trace) (sealed : List layout.Item) → HasConfig es config → IsSealedBy Sealing.Due config.target sealed → 1 ≤ length sealed → IsFullPack es sealed
 full_by config es sealed has (inl none) many = absurd (omega (arith, ap length none, many))
-full_by config es sealed has (inr full) many = (config, has, full)
+full_by config es sealed has (inr full) many = (config, has, full.0)
+
+-- one that was sealed so was open before its last blob
+pub prompt_by : (sealing : Sealing) (config : Config) (es : Trace) (sealed : List layout.Item) → HasConfig es config → IsSealedBy sealing config.target sealed → 1 ≤ length sealed → IsPromptPack es sealed
+prompt_by Sealing.Due config es sealed has (inl none) many = absurd (omega (arith, ap length none, many))
+prompt_by Sealing.Due config es sealed has (inr full) many = (config, has, full.1)
+prompt_by Sealing.Last config es sealed has (inl none) many = absurd (omega (arith, ap length none, many))
+prompt_by Sealing.Last config es sealed has (inr before) many = (config, has, before)
 
 -- where the items haven't ended, the root is open
 pub open_root : (w : PieceWork) (facts : List Fact) (st : Standing) (sent sealed : List layout.Item) → WorkStands w facts st sent sealed → st.over ≡ false → w.walk.root ≡ None
@@ -191,7 +198,17 @@ module _ (facts : List Fact) (b c : PieceBacking) (puts next : List Put) (items 
     unfolding stands_further
     stands_unsealed unsealed = subst (λ l. StandsAt facts c puts next l (part ∷ items) es) (none_sealed c.work.packing.packer.sealed step.2 unsealed (packing_in c.work facts step.1 (items_of (puts ++ next)) step.2 step.4).sealed_is) stands_further
 
-    -- a pack that is sealed is full, or the items ended, and no part is left
+    -- a pack that is sealed was open before its last blob
+    pub sealed_prompt : (so : PackFacts) → IsListed (Some so) c.work.packing → IsPromptPack es step.2
+    sealed_prompt so lists =
+        let k = step in
+        let many = (lists k.2 (packing_in c.work facts k.1 (items_of (puts ++ next)) k.2 k.4).sealed_is).1.holds.holds.pack.count.0 in
+        elim k.5 [
+          | inl due ↦ prompt_by Sealing.Due h.config es k.2 h.at.has (subst (λ (t : ℕ). IsSealedBy Sealing.Due t k.2) h.goes_by.aims due) many
+          | inr last ↦ prompt_by Sealing.Last h.config es k.2 h.at.has (subst (λ (t : ℕ). IsSealedBy Sealing.Last t k.2) h.goes_by.aims last.2) many
+        ]
+
+    -- and is full, or the items ended, and no part is left
     pub sealed_full : (so : PackFacts) → IsListed (Some so) c.work.packing → IsFullPack es step.2 ⊎ (((place_of (part ∷ items)).over ≡ true) × (c.work.parts ≡ None))
     sealed_full so lists =
         let k = step in
@@ -271,12 +288,14 @@ module _ (facts : List Fact) (b c : PieceBacking) (es : Trace) (h : PieceWaits f
         let k = goes h.at.st (items_of (h.puts ++ [])) (stands_plain facts b c h.puts [] (fed_in es) es h.at h.ready) in
         let on = stands_further facts b c h.puts [] (fed_in es) es h.at h.ready waiting listed_is counts n item other goes params version aims listed left room in
         let full = sealed_full facts b c h.puts [] (fed_in es) es h.at h.ready waiting listed_is counts n item other goes params version aims listed left room so lists in
+        let prompt = sealed_prompt facts b c h.puts [] (fed_in es) es h.at h.ready waiting listed_is counts n item other goes params version aims listed left room so lists in
         record {
           puts = h.puts;
           sealed = k.2;
           at = fed_there facts c h.puts [] k.2 fed es some on;
           none = listed_is ∙ h.listed;
           lists = lists;
+          prompt = (prompt.0, config_on fed es prompt.0 prompt.1, prompt.2);
           full = elim full [ inl due ↦ inl (due.0, config_on fed es due.0 due.1, due.2) | inr over ↦ inr (ap (λ l. (place_of l).over) (fed_items fed es some) ∙ over.0, over.1) ];
           room = subst (λ (ws : List PackFacts). length (facts_in ws) < facts_limit) (sym waiting) h.room;
         }

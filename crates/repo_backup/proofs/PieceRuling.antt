@@ -20,7 +20,7 @@ use Rattle.repo_writing.proofs.BlobLemmas.{has_either, once_behind, once_left, e
 use Rattle.repo_writing.proofs.PutLemmas.{each_contained}
 use Rattle.repo_writing.proofs.Writings.{listing_of, all_done, one_packed}
 use Rattle.repo_writing.specs.Blobs.{AreOnce, HasFact}
-use Rattle.repo_writing.specs.Filling.{HasConfig, IsFullPack}
+use Rattle.repo_writing.specs.Filling.{HasConfig, IsPromptPack, IsFullPack}
 use Rattle.repo_writing.specs.Putting.{IsPacked}
 use Rattle.repo_writing.specs.Writing.{Put, items_of}
 use Rattle.repo_backup.specs.Backing.{HasWritten}
@@ -211,8 +211,8 @@ piece_last facts b puts sealed es h unlaid over =
     }
 
 -- the sealed pack may be put
-pub piece_pack : (facts : List Fact) (b : PieceBacking) (puts : List Put) (sealed : List Item) (es : Trace) (h : PieceAt facts b puts [] sealed es) (x : List ℕ) → IsTruePack x sealed → IsFullPack es sealed ⊎ (AreOver es × (b.work.parts ≡ None)) → PiecePackRule es x
-piece_pack facts b puts sealed es h x pack full = record {
+pub piece_pack : (facts : List Fact) (b : PieceBacking) (puts : List Put) (sealed : List Item) (es : Trace) (h : PieceAt facts b puts [] sealed es) (x : List ℕ) → IsTruePack x sealed → IsPromptPack es sealed → IsFullPack es sealed ⊎ (AreOver es × (b.work.parts ≡ None)) → PiecePackRule es x
+piece_pack facts b puts sealed es h x pack prompt full = record {
   indexes = h.written.indexed;
   first = h.written.none;
   taken = h.taken;
@@ -223,6 +223,7 @@ piece_pack facts b puts sealed es h x pack full = record {
   once = sealed_once facts b puts sealed (fed_in es) es h;
   unread = sealed_unread facts b puts sealed (fed_in es) es h;
   unput = sealed_unput facts b puts sealed (fed_in es) es h;
+  prompt = prompt;
   full = elim full [ inl due ↦ inl due | inr over ↦ inr (piece_last facts b puts sealed es h over.1 over.0) ];
 }
 

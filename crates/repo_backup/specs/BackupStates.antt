@@ -15,7 +15,7 @@ use Rattle.repo_session.specs.declared.versions.Versions.{Versions}
 use Rattle.repo_tree.specs.declared.entries.Entry.{Entry}
 use Rattle.repo_wire.specs.declared.messages.Ask.{Ask}
 use Rattle.repo_writing.specs.Writing.{Put, AreCounts, FewWait}
-use Rattle.repo_writing.specs.Filling.{IsFullPack}
+use Rattle.repo_writing.specs.Filling.{IsPromptPack, IsFullPack}
 use Rattle.repo_backup.specs.Items.{Feeding, place_of}
 use Rattle.repo_backup.specs.Packings.{IsListed}
 use Rattle.repo_backup.specs.PieceStates.{StandsAt, PutsPack, PutsIndex, PutsSnapshot, AtPieces}
@@ -43,13 +43,15 @@ pub record IsUnderWay (entries : List Entry) (facts : List Fact) (b : PieceBacki
   pub at : StandsAt facts b puts next [] items es
   pub unsealed : b.work.packing.packer.sealed ≡ None
 
--- some were, and a pack is sealed and listed so, which is full, or the last one, and then no part of a directory is left to be made
+-- some were, and a pack is sealed and listed so, which wasn't full before its last blob, and is, or is the last one, and then no part of a directory is left to be
+-- made
 pub record IsPackSealed (entries : List Entry) (facts : List Fact) (b : PieceBacking) (left : List Fed) (listed : PackFacts) (puts next : List Put) (es : Trace) : Type 0 where
   pub items : Feeding
   pub leads : LeadThrough entries left items
   pub sealed : List Item
   pub at : StandsAt facts b puts next sealed items es
   pub lists : IsListed (Some listed) b.work.packing
+  pub prompt : IsPromptPack es sealed
   pub full : IsFullPack es sealed ⊎ (((place_of items).over ≡ true) × (b.work.parts ≡ None))
 
 -- by how far it went

@@ -16,7 +16,7 @@ use Rattle.repo_tree.specs.declared.configs.Config.{Config}
 use Rattle.repo_wire.specs.declared.messages.Ask.{Ask}
 use Rattle.repo_writing.specs.Blobs.{AreOnce, HasItem}
 use Rattle.repo_writing.specs.Putting.{IsPacked}
-use Rattle.repo_writing.specs.Filling.{HasConfig, IsFullPack, IsFullIndex}
+use Rattle.repo_writing.specs.Filling.{HasConfig, IsPromptPack, IsFullPack, IsFullIndex}
 use Rattle.repo_backup.specs.Items.{Feeding, NobodyGaveUp, AreTaken, place_of, spelled_by}
 use Rattle.repo_backup.specs.Rules.{IndexRule, SnapshotRule, IsStored}
 use Rattle.repo_backup.specs.Standings.{Standing, LeadTo, made_at}
@@ -47,7 +47,7 @@ pub record PieceAreLast (es : Trace) (items : List Item) : Type 0 where
   pub all : (item : Item) → Contains (made_at config.version st) item → IsGiven es item.kind item.name ⊎ (IsPacked es item.kind item.name ⊎ HasItem items item.kind item.name)
 
 -- a pack may be put: every index was read, and no snapshot put; nobody gave up; it is a true pack, of blobs made of the items so far, each once, which no index read gives, and no pack put before
--- has; and it is full, or nothing more waits
+-- has; and by the config that was read it wasn't full before its last blob, and is with it, or nothing more waits
 pub record PiecePackRule (es : Trace) (x : List ℕ) : Type 0 where
   pub indexes : AreIndexed es
   pub first : objects_put Kind.Snapshot es ≡ []
@@ -59,6 +59,7 @@ pub record PiecePackRule (es : Trace) (x : List ℕ) : Type 0 where
   pub once : AreOnce items
   pub unread : (item : Item) → Contains items item → ¬ IsGiven es item.kind item.name
   pub unput : (item : Item) → Contains items item → ¬ IsPacked es item.kind item.name
+  pub prompt : IsPromptPack es items
   pub full : IsFullPack es items ⊎ PieceAreLast es items
 
 -- what it may ask for: before it was fed it reads; it puts packs, and while nobody gave up indexes that are full or as the items ended; and a snapshot of the entries that the items spell, once they ended

@@ -24,7 +24,7 @@ use Rattle.repo_writing.specs.Writing.{Put, items_of, AreCounts, FewWait}
 use Rattle.repo_backup.specs.Backing.{HasWritten}
 use Rattle.repo_backup.specs.Items.{Feeding, NobodyGaveUp, AreTaken, place_of}
 use Rattle.repo_backup.specs.Packings.{IsListed}
-use Rattle.repo_writing.specs.Filling.{HasConfig, IsFullPack}
+use Rattle.repo_writing.specs.Filling.{HasConfig, IsPromptPack, IsFullPack}
 use Rattle.repo_backup.specs.PieceRules.{IsStandingOf}
 use Rattle.repo_backup.specs.Pieces.{PieceStands, WorkStands, HasRoom, IsReady, reopened, at_beginning}
 use Rattle.repo_backup.specs.Standings.{Standing, made_at}
@@ -144,13 +144,15 @@ WantsPieces c backing es = AtPieces backing (λ b. PieceWaits c.lookup b es)
 
 -- ---- what is sent next
 
--- after these items a pack is sealed and listed so, which is full, or the last one, and then no part of a directory is left to be made
+-- after these items a pack is sealed and listed so, which wasn't full before its last blob, and is, or is the last one, and then no part of a directory is left
+-- to be made
 pub record IsDueAt (facts : List Fact) (b : PieceBacking) (listed : PackFacts) (items : Feeding) (es : Trace) : Type 0 where
   pub puts : List Put
   pub sealed : List Item
   pub at : StandsAt facts b puts [] sealed items es
   pub none : b.listed ≡ None
   pub lists : IsListed (Some listed) b.work.packing
+  pub prompt : IsPromptPack es sealed
   pub full : IsFullPack es sealed ⊎ (((place_of items).over ≡ true) × (b.work.parts ≡ None))
   pub room : length (facts_in b.waiting) < facts_limit
 
@@ -188,7 +190,7 @@ WentAt facts Went.Nothing b items es = ⊥
 -- by how far the parts that were left were made
 abbrev pub LaidAt : List Fact → Went → PieceBacking → List Put → List Put → Feeding → Trace → Type 0
 LaidAt facts Went.On b puts next items es = StandsAt facts b puts next [] items es × (b.work.packing.packer.sealed ≡ None)
-LaidAt facts (Went.Pack listed) b puts next items es = (sealed : List Item) × StandsAt facts b puts next sealed items es × IsListed (Some listed) b.work.packing × (IsFullPack es sealed ⊎ (((place_of items).over ≡ true) × (b.work.parts ≡ None)))
+LaidAt facts (Went.Pack listed) b puts next items es = (sealed : List Item) × StandsAt facts b puts next sealed items es × IsListed (Some listed) b.work.packing × IsPromptPack es sealed × (IsFullPack es sealed ⊎ (((place_of items).over ≡ true) × (b.work.parts ≡ None)))
 LaidAt facts Went.TooLarge b puts next items es = IsLargeAt b items es
 LaidAt facts Went.Nothing b puts next items es = ⊥
 

@@ -160,9 +160,9 @@ pub record IsReady (w : PieceWork) : Type 0 where
   pub opened : HasRoom w.walk.file w.packing
   pub unended : w.walk.root ≡ None
 
--- no pack was sealed, or it was just due; or no more blob comes, and no part of a directory is left to be made
+-- no pack was sealed, or it was just due; or no more blob comes, no part of a directory is left to be made, and it was open before its last blob
 abbrev pub IsSealedAs : Sealing → ℕ → List layout.Item → PieceWork → Type 0
-IsSealedAs sealing target sealed new = IsSealedBy Sealing.Due target sealed ⊎ ((sealing ≡ Sealing.Last) × (new.parts ≡ None))
+IsSealedAs sealing target sealed new = IsSealedBy Sealing.Due target sealed ⊎ ((sealing ≡ Sealing.Last) × (new.parts ≡ None) × IsSealedBy Sealing.Last target sealed)
 
 -- wherever it stood, the item may be taken, and it stands one item further; a pack may be sealed, and then some parts of a directory may be left to be made
 abbrev pub Goes : List Fact → Sealing → Fed → PieceWork → PieceWork → Type 0
@@ -263,10 +263,10 @@ abbrev pub LeavesPart : Sealing → Packing → Option Packed → Packing → Ty
 LeavesPart sealing old None new = ⊤
 LeavesPart sealing old (Some packed) new = IsListed packed.listed new × IsLeftOpen sealing packed.listed new × (packed.listed ≡ None → GrowsBy old new) × (packed.listed ≢ None → new.packer.writer.items ≡ [])
 
--- where the work makes parts, it makes some more; a pack may be sealed, which is just due, or as all ended and no part is left
+-- where the work makes parts, it makes some more; a pack may be sealed, which is just due, or was open before its last blob, as all ended and no part is left
 abbrev pub LaysOn : List Fact → PieceWork → Took → PieceWork → Type 0
 LaysOn known old (Took.All n listed) new = (n ≡ 0) × ((st : Standing) (sent : List layout.Item) → PieceLays old known st sent []
-    → (sealed : List layout.Item) × WorkStands new known st sent sealed × (IsSealedBy Sealing.Due old.packing.packer.writer.target sealed ⊎ ((st.over ≡ true) × (new.parts ≡ None))))
+    → (sealed : List layout.Item) × WorkStands new known st sent sealed × (IsSealedBy Sealing.Due old.packing.packer.writer.target sealed ⊎ ((st.over ≡ true) × (new.parts ≡ None) × IsSealedBy Sealing.Last old.packing.packer.writer.target sealed)))
 LaysOn known old Took.TooLarge new = (st : Standing) (sent : List layout.Item) → PieceLays old known st sent []
     → (text : List ℕ) × Contains (made_at old.walk.version st) (item_of Tree text) × (blob_limit < length text)
 

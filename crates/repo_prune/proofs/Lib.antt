@@ -22,6 +22,7 @@ pub mod PruneStages
 pub mod PruneTrees
 pub mod PruneDeletes
 pub mod Pairs
+pub mod Firsts
 pub mod PruneMoves
 pub mod PrunePacks
 pub mod UpgradeRuns

@@ -55,7 +55,7 @@ covered_later e es rows packs h = record {
 }
 
 -- a list with elements has one
-first_of : {A : Type 0} (xs : List A) → 1 ≤ length xs → (x : A) × Contains xs x
+pub first_of : {A : Type 0} (xs : List A) → 1 ≤ length xs → (x : A) × Contains xs x
 first_of [] some = absurd (omega arith)
 first_of (x ∷ xs) some = (x, first_contained x xs)
 

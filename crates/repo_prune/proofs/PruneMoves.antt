@@ -8,6 +8,7 @@ use Rattle.repo_name.specs.declared.kinds.Kind.{Kind}
 use Rattle.repo_name.specs.declared.names.Name.{Name}
 use Rattle.repo_name.specs.declared.tokens.Token.{Token}
 use Rattle.repo_pack.specs.PackLayout.{Item}
+use Rattle.repo_pack.specs.PackWriting.{IsDue}
 use Rattle.repo_pack.specs.declared.writers.Sealed.{Sealed}
 use Rattle.repo_index.specs.IndexText.{facts_in}
 use Rattle.repo_index.specs.declared.facts.Fact.{Fact}
@@ -26,7 +27,7 @@ use Rattle.repo_writing.proofs.BlobLemmas.{has_either, once_apart, once_behind}
 use Rattle.repo_writing.proofs.PutLemmas.{objects_put_other}
 use Rattle.repo_writing.proofs.Writings.{none_put, packs_stay, pack_sent, pack_done, items_push, put_of, is_put, packed_one, one_packed}
 use Rattle.repo_writing.specs.Blobs.{HasItem, AreOnce}
-use Rattle.repo_writing.specs.Filling.{IsJustDue, IsFullPack}
+use Rattle.repo_writing.specs.Filling.{WasOpen, IsPromptPack, IsFullPack}
 use Rattle.repo_writing.specs.Putting.{IsPacked}
 use Rattle.repo_writing.specs.Writing.{Put, IsPut, items_of, ArePut, AreCounts}
 use Rattle.repo_writing.specs.declared.counts.Counts.{Counts}
@@ -138,12 +139,21 @@ module _ (k : Known) (m n : Moving) (puts : List Put) (es : Trace) (r : IsRepack
         let has : HasItem (items_of puts ++ s.items) fact.kind fact.name = (found.0, found.1, ap (λ (p : Pair). p.kind) found.2, ap (λ (p : Pair). p.name) found.2) in
         elim (has_either (items_of puts) s.items fact.kind fact.name has) [ inl before ↦ inr (one_packed m.counts puts es r.put fact.kind fact.name before) | inr here ↦ inl here ]
 
-    -- it is full by the config that was read, or nothing more waits
+    -- it is as large as the config that was read wants packs
+    sent_aim : n.packer.target.bytes ≡ r.read.target.0.target
+    sent_aim = ap (λ (t : Target). t.bytes) target ∙ r.aim ∙ sym r.read.target.2
+
+    -- by it it wasn't full before its last blob
+    sent_prompt : IsPromptPack es s.items
+    sent_prompt =
+        let wants = r.read.target in
+        (wants.0, wants.1, subst (λ b. WasOpen b s.items) sent_aim s.prompt)
+
+    -- and is full, or nothing more waits
     sent_full : IsFullPack es s.items ⊎ AreLastMoved (IsNeededBy k.rows r.planned.texts) k.facts es s.items
     sent_full =
         let wants = r.read.target in
-        let same : n.packer.target.bytes ≡ wants.0.target = ap (λ (t : Target). t.bytes) target ∙ r.aim ∙ sym wants.2 in
-        elim s.full [ inl full ↦ inl (wants.0, wants.1, subst (λ b. IsJustDue b s.items) same full) | inr all ↦ inr (sent_last all) ]
+        elim s.full [ inl full ↦ inl (wants.0, wants.1, subst (λ b. IsDue (record { items = s.items; target = b })) sent_aim full) | inr all ↦ inr (sent_last all) ]
 
   -- a pack may be put
   pub pack_asked : (sealed : Sealed) → SendsPack (items_of puts) m.listed.items sealed n → MayAsk prune_rule who (KnowsStage k (Stage.Moving n)) es (Ask.Put token Kind.Pack sealed.name sealed.bytes)
@@ -172,6 +182,7 @@ module _ (k : Known) (m n : Moving) (puts : List Put) (es : Trace) (r : IsRepack
           moved = sent_moves sealed s;
           once = once_behind (items_of puts) s.items (sent_once sealed s);
           unput = sent_first sealed s;
+          prompt = sent_prompt sealed s;
           full = sent_full sealed s;
         };
         knows = record {

@@ -1,8 +1,9 @@
 -- What is known once all blobs are moved, and while the packs that stay are listed.
-use Rattle.std.proofs.Common.{arith, ◌≡◌, ◌≤◌, ◌⊎◌, ◌++◌, ◌∷◌, [], ℕ, List, Some, None, length, map, take, refl, sym, ap, subst, inl, inr, ◌∙◌, Contains, append-nil}
+use Rattle.std.proofs.Common.{arith, ◌≡◌, ◌≤◌, ◌⊎◌, ◌++◌, ◌∷◌, [], ℕ, List, Some, None, length, map, take, drop, refl, sym, ap, subst, inl, inr, ◌∙◌, Contains, append-nil}
 use Rattle.std.specs.List.Sorted.{IsPermutation}
-use Rattle.std.proofs.lemmas.List.{map-append, take_all}
-use Rattle.std.proofs.lemmas.List.Elements.{Contains-append_right, Contains-append_cases, All-contains}
+use Rattle.std.proofs.lemmas.List.{map-append, take_all, take-append-drop}
+use Rattle.std.proofs.lemmas.List.Concat.{flat_map-append}
+use Rattle.std.proofs.lemmas.List.Elements.{Contains-append_left, Contains-append_right, Contains-append_cases, All-contains}
 use Rattle.std.proofs.lemmas.List.Sorted.{Contains-permutation, IsPermutation-sym}
 use Rattle.repo_name.proofs.Containing.{contains_map, map_contains}
 use Rattle.repo_name.specs.Naming as naming
@@ -25,20 +26,23 @@ use Rattle.repo_session.proofs.Cataloguing.{fact_stays}
 use Rattle.repo_session.proofs.Deleting.{DeletesNone, none_deleted_on}
 use Rattle.repo_writing.proofs.PutLemmas.{each_contained, objects_put_other, objects_put_more, put_done_later}
 use Rattle.repo_writing.proofs.Writings.{none_listed, packs_stay, index_done, put_listed, puts_lawful, each_alone, listing_of, IsLawfulListing}
+use Rattle.repo_writing.specs.Blobs.{HasFact}
 use Rattle.repo_writing.specs.Filling.{IsFullIndex}
 use Rattle.repo_writing.specs.Laws.{IsPutOrKept}
+use Rattle.repo_writing.specs.Putting.{IsIndexed}
 use Rattle.repo_writing.specs.Writing.{Put, IsPut, items_of, AreListed, packs_of}
 use Rattle.repo_prune.specs.Moving.{pair_of_item, pair_of_fact, items_so_far}
 use Rattle.repo_prune.specs.PruneStates.{Known, HasMoved, ArePacked, MayList, PrunePutsIndex, HasListed, KnowsStage, IsNextStep}
-use Rattle.repo_prune.specs.Pruning.{prune_rule, prune_task, AreCovered, AreLastListed}
+use Rattle.repo_prune.specs.Pruning.{prune_rule, prune_task, AreCovered, AreFactsOnce, AreLastListed, IsNeededBy}
 use Rattle.repo_prune.specs.Relisting.{IsListable, AreListable, PutsNext, Relists}
 use Rattle.repo_prune.specs.declared.moving.Moving.{Moving}
 use Rattle.repo_prune.specs.declared.prunes.Stage.{Stage}
 use Rattle.repo_prune.specs.declared.relisting.Relisting.{Relisting}
 use Rattle.repo_prune.proofs.Asides.{IsAside, read_same, fact_same}
+use Rattle.repo_prune.proofs.Firsts.{indexed_before, some_first, some_once}
 use Rattle.repo_prune.proofs.Pairs.{count, pairs_of, counted_has, has_counted, once_counted, counted_once, count_shuffled, repacked_pairs}
 use Rattle.repo_prune.proofs.Relistings.{in_first}
-use Rattle.repo_prune.proofs.PruneDeletes.{covered_later, puts_listed}
+use Rattle.repo_prune.proofs.PruneDeletes.{covered_later, first_of, puts_listed}
 
 -- ---- all blobs are moved
 
@@ -150,6 +154,39 @@ may_list k m r es h same counts none names = record {
 
 -- ---- an index
 
+-- the next ones behind those that are listed
+module _ (k : Known) (r : Relisting) (es : Trace) (h : MayList k r es) (next : ℕ) (waiting : List PackFacts) (behind : take next r.packs.items ≡ take r.listed r.packs.items ++ waiting) where
+  abbrev before : List PackFacts
+  before = take r.listed r.packs.items
+
+  abbrev rest : List PackFacts
+  rest = drop next r.packs.items
+
+  all_facts : facts_in r.packs.items ≡ (facts_in before ++ facts_in waiting) ++ facts_in rest
+  all_facts =
+      let facts : PackFacts → List Fact = λ p. p.facts in
+      ap facts_in (sym (take-append-drop next r.packs.items) ∙ ap (λ ps. ps ++ rest) behind) ∙ flat_map-append facts (before ++ waiting) rest
+      ∙ ap (λ fs. fs ++ facts_in rest) (flat_map-append facts before waiting)
+
+  all_once : AreFactsOnce ((facts_in before ++ facts_in waiting) ++ facts_in rest)
+  all_once = subst AreFactsOnce all_facts h.packed.covered.once
+
+  -- each of their blobs is needed
+  pub waits_needed : (fact : Fact) → Contains (facts_in waiting) fact → IsNeededBy k.rows h.packed.covered.texts fact.kind fact.name
+  waits_needed fact among = h.packed.covered.just fact (subst (λ fs. Contains fs fact) (sym all_facts)
+      (Contains-append_left (facts_in before ++ facts_in waiting) (facts_in rest) fact (Contains-append_right (facts_in before) (facts_in waiting) fact among)))
+
+  -- is there once
+  pub waits_once : AreFactsOnce (facts_in waiting)
+  waits_once = some_once (facts_in before) (facts_in waiting) (facts_in rest) all_once
+
+  -- and no index put before gives it
+  pub waits_first : (fact : Fact) → Contains (facts_in waiting) fact → ¬ IsIndexed es fact.kind fact.name
+  waits_first fact among is =
+      let was = indexed_before before [] es h.lists fact.kind fact.name is in
+      let listed : packs_of h.lists.listings ≡ before = sym (h.lists.lists ∙ append-nil (packs_of h.lists.listings)) in
+      some_first (facts_in before) (facts_in waiting) (facts_in rest) all_once fact.kind fact.name (fact.place, among) (subst (λ ps. HasFact (facts_in ps) fact.kind fact.name) listed was)
+
 waits : (listed waiting all : List PackFacts) (es : Trace) → all ≡ listed ++ waiting → AreListed listed [] es → AreListed all waiting es
 waits listed waiting all es is h = record {
   listings = h.listings;
@@ -178,10 +215,25 @@ module _ (k : Known) (r s : Relisting) (es : Trace) (h : MayList k r es) where
         covered = h.packed.covered;
       } in
       let full : IsFullIndex p.text ⊎ AreLastListed es p.waiting = elim p.full [ inl many ↦ inl (p.waiting, p.reads, many) | inr whole ↦ inr (last whole) ] in
+      let next : take s.listed r.packs.items ≡ take r.listed r.packs.items ++ p.waiting = ap (take s.listed) (sym p.packs) ∙ p.behind in
       let may : MayAsk prune_rule who (KnowsStage k (Stage.Relisting s)) es (Ask.Put token Kind.Index (naming.name p.text) p.text) = record {
         work = tt;
         may = (w, refl, p.short);
-        allowed = record { none = h.packed.none; indexes = h.packed.read.indexes; lists = record { packs = p.waiting; reads = p.reads; some = p.some; each = λ listed has. h.packed.each listed (among listed has) }; full = full };
+        allowed = record {
+          none = h.packed.none;
+          indexes = h.packed.read.indexes;
+          lists = record { packs = p.waiting; reads = p.reads; some = p.some; each = λ listed has. h.packed.each listed (among listed has) };
+          blobs = λ listed has. first_of listed.facts (h.packed.listable listed (among listed has)).some;
+          rows = k.rows;
+          snapshots = h.packed.read.snapshots;
+          texts = h.packed.covered.texts;
+          trees = h.packed.covered.trees;
+          walked = h.packed.covered.walked;
+          needed = waits_needed k r es h s.listed p.waiting next;
+          once = waits_once k r es h s.listed p.waiting next;
+          first = waits_first k r es h s.listed p.waiting next;
+          full = full;
+        };
         knows = record {
           packed = packed_as p.packs p.counts;
           waiting = p.waiting;

@@ -10,12 +10,12 @@ use Rattle.repo_pack.specs.PackWriting.{Packing, IsDue, IsOpen, with_item}
 use Rattle.repo_pack.specs.declared.writers.Sealed.{Sealed}
 use Rattle.repo_index.specs.declared.facts.Fact.{Fact}
 use Rattle.repo_index.specs.declared.facts.PackFacts.{PackFacts}
-use Rattle.repo_writing.proofs.Filling.{open_undue}
-use Rattle.repo_writing.specs.Filling.{IsJustDue}
+use Rattle.repo_writing.proofs.Filling.{open_before}
+use Rattle.repo_writing.specs.Filling.{WasOpen}
 use Rattle.repo_writing.specs.Sealing.{IsSealed}
 use Rattle.repo_writing.specs.Writing.{AreCounts}
 use Rattle.repo_writing.specs.declared.targets.Target.{Target}
-use Rattle.repo_prune.specs.Moving.{Pair, pair_of_item, pair_of_fact, items_so_far, IsMoving, AwaitsBlob, AwaitsStill, AreAdded, BlobWasAdded, IsFull, MayBeSealed, StaysMoving}
+use Rattle.repo_prune.specs.Moving.{Pair, pair_of_item, pair_of_fact, items_so_far, IsMoving, AwaitsBlob, AwaitsStill, AreAdded, BlobWasAdded, IsFull, IsPrompt, MayBeSealed, StaysMoving}
 use Rattle.repo_prune.specs.declared.moving.Moving.{Moving}
 
 -- where no pack is sealed, it has no blobs
@@ -42,12 +42,23 @@ empty_open target =
 
 -- a pack that is full stays full, where packs are to be as large
 full_as : (m n : Moving) (items : List Item) → n.packer.target ≡ m.packer.target → IsFull m items → IsFull n items
-full_as m n items target full = subst (λ (t : Target). IsJustDue t.bytes items) (sym target) full
+full_as m n items target full = subst (λ (t : Target). IsDue (record { items = items; target = t.bytes })) (sym target) full
+
+prompt_as : (m n : Moving) (items : List Item) → n.packer.target ≡ m.packer.target → IsPrompt m items → IsPrompt n items
+prompt_as m n items target prompt = subst (λ (t : Target). WasOpen t.bytes items) (sym target) prompt
+
+-- the one that is being written wasn't full before its last blob
+written_prompt : (m : Moving) (sent sealed : List Item) → m.packer.sealed ≡ None → IsMoving m sent sealed → (m.packer.sealed ≢ None) ⊎ (1 ≤ length m.packer.writer.items) → IsPrompt m m.packer.writer.items
+written_prompt m sent sealed none h (inl there) = absurd (there none)
+written_prompt m sent sealed none h (inr some) = elim h.due [
+  | inl room ↦ open_before m.packer.target.bytes m.packer.writer.items (subst (λ t. IsOpen (record { items = m.packer.writer.items; target = t })) h.aim room) some
+  | inr just ↦ just.1
+]
 
 -- the one that was being written is, and the next one has nothing
-pub sealed_moving : (m n : Moving) (sent sealed : List Item) → m.packer.sealed ≡ None → MayBeSealed m → IsMoving m sent sealed → IsSealed n.packer.sealed m.packer.writer.items → n.packer.writer.items ≡ [] → n.packer.writer.target ≡ m.packer.target.bytes
+pub sealed_moving : (m n : Moving) (sent sealed : List Item) → m.packer.sealed ≡ None → (m.packer.sealed ≢ None) ⊎ (1 ≤ length m.packer.writer.items) → MayBeSealed m → IsMoving m sent sealed → IsSealed n.packer.sealed m.packer.writer.items → n.packer.writer.items ≡ [] → n.packer.writer.target ≡ m.packer.target.bytes
     → n.packer.target ≡ m.packer.target → n.moves ≡ m.moves → n.added ≡ m.added → n.counts ≡ m.counts → IsMoving n sent m.packer.writer.items
-sealed_moving m n sent sealed none may h is empty size target moves added counts =
+sealed_moving m n sent sealed none some may h is empty size target moves added counts =
     let written : List Item = m.packer.writer.items in
     let before : IsMoving m sent [] = unsealed m sent sealed none h in
     let items : items_so_far sent written n ≡ items_so_far sent [] m = ap (λ is. (sent ++ written) ++ is) empty ∙ append-nil (sent ++ written) ∙ ap (λ is. is ++ written) (sym (append-nil sent)) in
@@ -63,10 +74,11 @@ sealed_moving m n sent sealed none may h is empty size target moves added counts
       counted = subst (λ c. AreCounts c sent) (sym counts) h.counted;
       aim = aim;
       due = inl (subst (λ is. IsOpen (record { items = is; target = n.packer.writer.target })) (sym empty) (subst (λ t. IsOpen (record { items = []; target = t })) (sym size) (empty_open m.packer.target)));
-      alone = λ some. empty;
-      full = λ some. elim may [
+      alone = λ there. empty;
+      prompt = λ there. prompt_as m n written target (written_prompt m sent sealed none h some);
+      full = λ there. elim may [
         | inl there ↦ absurd (there none)
-        | inr (inl due) ↦ inl (full_as m n written target (elim h.due [ inl room ↦ absurd (open_undue m.packer.writer room due) | inr full ↦ full ]))
+        | inr (inl due) ↦ inl (full_as m n written target (subst (λ t. IsDue (record { items = written; target = t })) h.aim due))
         | inr (inr all) ↦ inr (omega (arith, all, added, long))
       ];
     }
@@ -177,5 +189,6 @@ added_moving m n fact bytes sent sealed a first named writer sealed_same more mo
         | inr due ↦ inr (subst (λ t. IsDue (record { items = n.packer.writer.items; target = t })) aim due, (m.packer.writer.items, item, ap (λ w. w.items) writer, room))
       ];
       alone = λ some. absurd (some (sealed_same ∙ was_open.1));
+      prompt = λ some. prompt_as m n sealed target (a.moving.prompt (λ none. some (sealed_same ∙ none)));
       full = λ some. was_full (a.moving.full (λ none. some (sealed_same ∙ none)));
     }

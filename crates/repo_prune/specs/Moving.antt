@@ -7,7 +7,7 @@ use Rattle.repo_pack.specs.PackWriting.{IsDue, IsOpen}
 use Rattle.repo_pack.specs.declared.writers.Sealed.{Sealed}
 use Rattle.repo_index.specs.declared.facts.Fact.{Fact}
 use Rattle.repo_index.specs.declared.facts.PackFacts.{PackFacts}
-use Rattle.repo_writing.specs.Filling.{IsJustDue}
+use Rattle.repo_writing.specs.Filling.{WasOpen, IsJustDue}
 use Rattle.repo_writing.specs.Sealing.{IsSealed, IsListedAs}
 use Rattle.repo_writing.specs.Writing.{AreCounts}
 use Rattle.repo_prune.specs.declared.moving.Moved.{Moved}
@@ -33,24 +33,30 @@ items_so_far sent sealed m = (sent ++ sealed) ++ m.packer.writer.items
 abbrev pub AreAdded : Moving → Type 0
 AreAdded m = length m.moves.items ≤ m.added
 
--- a pack of these blobs is full: with their last one, and not before, their bytes reach what packs are to reach, or they are 4,096
+-- a pack of these blobs is full: their bytes reach what packs are to reach, or they are 4,096
 abbrev pub IsFull : Moving → List Item → Type 0
-IsFull m items = IsJustDue m.packer.target.bytes items
+IsFull m items = IsDue (record { items = items; target = m.packer.target.bytes })
+
+-- before its last blob it wasn't
+abbrev pub IsPrompt : Moving → List Item → Type 0
+IsPrompt m items = WasOpen m.packer.target.bytes items
 
 -- a pack may be sealed: one is, or the one that is being written is due, or has the last blobs
 abbrev pub MayBeSealed : Moving → Type 0
 MayBeSealed m = (m.packer.sealed ≢ None) ⊎ (IsDue m.packer.writer ⊎ AreAdded m)
 
 -- of the packs sent these were the blobs, of the sealed one these; all are those of the first facts, in order; and those sent are counted; the one that
--- is written is to reach what packs are, is open or full, and has nothing while one is sealed; and the sealed one is full, or has the last blobs
+-- is written is to reach what packs are, is open or just due, and has nothing while one is sealed; and the sealed one wasn't full before its last blob, and is,
+-- or has the last blobs
 pub record IsMoving (m : Moving) (sent sealed : List Item) : Type 0 where
   pub sealed_is : IsSealed m.packer.sealed sealed
   pub moved : map pair_of_item (items_so_far sent sealed m) ≡ map pair_of_fact (take m.added m.moves.items)
   pub within : m.added ≤ length m.moves.items
   pub counted : AreCounts m.counts sent
   pub aim : m.packer.writer.target ≡ m.packer.target.bytes
-  pub due : IsOpen m.packer.writer ⊎ IsFull m m.packer.writer.items
+  pub due : IsOpen m.packer.writer ⊎ IsJustDue m.packer.target.bytes m.packer.writer.items
   pub alone : m.packer.sealed ≢ None → m.packer.writer.items ≡ []
+  pub prompt : m.packer.sealed ≢ None → IsPrompt m sealed
   pub full : m.packer.sealed ≢ None → IsFull m sealed ⊎ AreAdded m
 
 -- the blob of this fact is to be asked for: it is the next one, or it was added, and nothing more was sent since; what was sent is of facts before it
@@ -60,7 +66,7 @@ pub record AwaitsBlob (m : Moving) (fact : Fact) (sent sealed : List Item) : Typ
   pub asked : slice_get m.moves.items m.asked ≡ Some fact
   pub next : ((m.added ≡ m.asked) × IsOpen m.packer.writer × (m.packer.sealed ≡ None)) ⊎ (m.added ≡ m.asked + 1)
 
--- a pack is sent: it has these blobs, is full or has the last ones, and is listed with exactly them behind those listed before; no blob is behind them
+-- a pack is sent: it has these blobs, wasn't full before the last of them, and is or has the last of all, and is listed with exactly them behind those listed before; no blob is behind them
 pub record SendsPack (sent : List Item) (old : List PackFacts) (sealed : Sealed) (new : Moving) : Type 0 where
   pub items : List Item
   pub listed : PackFacts
@@ -69,6 +75,7 @@ pub record SendsPack (sent : List Item) (old : List PackFacts) (sealed : Sealed)
   pub moving : IsMoving new (sent ++ items) []
   pub none : new.packer.sealed ≡ None
   pub written : new.packer.writer.items ≡ []
+  pub prompt : IsPrompt new items
   pub full : IsFull new items ⊎ AreAdded new
 
 -- what comes next: a pack; a blob; or nothing, once all were sent

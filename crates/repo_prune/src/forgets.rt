@@ -7,12 +7,14 @@ ghost use Rattle.repo_wire.specs.declared.messages.Ask.{Ask};
 ghost use Rattle.repo_session.specs.Jobs.{IsShortStep, StepsOn};
 ghost use Rattle.repo_session.specs.Listings.{KnowsAsMuch};
 ghost use Rattle.repo_session.specs.Traces.{silent};
+ghost use Rattle.repo_dial.specs.Bringing.{Ended, Obeyed};
 ghost use Rattle.repo_prune.specs.declared.choices.Choice.{Choice};
 ghost use Rattle.repo_prune.specs.Forgetting.{AreChosenOf, IsNoPolicy, WouldForget, forget_rule};
 ghost use Rattle.repo_prune.specs.ForgetStates.{FitsForget, IsFreshForget, KnowsDelete, KnowsForget, ForgetBegins, ForgetGoesOn, ForgetReadsOn, who_of, choice_of, TakesPage};
 
 use crate::choices::{Choice, ForgetError};
 use crate::picking::{chosen, would_forget};
+use repo_dial::{Dial, TryError, bring};
 use repo_name::{Kind, Name, Names, Thing, Token};
 use repo_session::{
     Client, Emission, End, Holder, Job, Outcome, Paging, Session, SnapshotReading, SnapshotRoll,
@@ -244,6 +246,21 @@ impl Forget {
         Ok(Forget {
             session: Session::new(alloc, who, ForgetJob::new(alloc, choice)),
         })
+    }
+
+    /// Brings a forget that hasn't begun to its end, as [`bring`] does, and gives how it ended.
+    pub fn bring<D: Dial>(
+        self,
+        alloc: Global,
+        dial: &mut D,
+        retry: u64,
+    ) -> Result<Outcome, TryError>
+        requires { FitsForget self [] }
+        ensures obeyed { Obeyed (forget_rule (choice_of self)) (who_of self) retry (D.connections dial.old) (D.connections dial.new) }
+        ensures ended { IfOk result (λ outcome. Ended (forget_rule (choice_of self)) (who_of self) outcome retry (D.connections dial.old) (D.connections dial.new)) }
+    {
+        let Forget { session } = self;
+        bring(alloc, session, |_| true, dial, retry)
     }
 }
 

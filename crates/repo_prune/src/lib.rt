@@ -16,11 +16,12 @@
 //! (`laws`). A plan keeps just the packs of 1 to 4,096 blobs that are all used copies, and moves just the used copies
 //! of the others; of each used blob that an index gives, the used copy is the one at the least place. A prune deletes
 //! nothing before all that it puts is done and gives each blob that a listed snapshot needs, and no pack before the old
-//! indexes; each pack that it puts is full by the config, or nothing more waits to be moved, and each index has 20,000
-//! blobs or more, or nothing more waits to be listed; it reads nothing after its first delete, and ends `Pruned` once
-//! each old index and each pack that no new index lists is deleted; alone with a store that only appends it prunes no
-//! pack. An upgrade asks for one thing, once, where the config is of version 1, and is `Upgraded` only where the config
-//! is of version 2. Not promised: that a store answers.
+//! indexes; no pack that it puts was full before its last blob, by the config, and each is with it, or nothing more waits
+//! to be moved; each index lists only blobs that are needed and that none before it lists, 20,000 or more, or nothing
+//! more waits to be listed; it reads nothing after its first delete, and ends `Pruned` once each old index and each pack
+//! that no new index lists is deleted; alone with a store that only appends it prunes no pack. An upgrade asks for one
+//! thing, once, where the config is of version 1, and is `Upgraded` only where the config is of version 2. Not promised:
+//! that a store answers.
 //!
 //! The definitions stand in `specs/`: `Keeping` (what a policy keeps), `Forgetting` (which snapshots a forget may
 //! delete, and how it may end); and what is known on the way: `Walks` (how the rows of a host are gone down), `Picking`,

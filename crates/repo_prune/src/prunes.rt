@@ -2,12 +2,15 @@
 
 ghost use Rattle.std.specs.Prelude.{◌≡◌, [], IfOk, OnErr};
 ghost use Rattle.repo_session.specs.Jobs.{IsShortStep};
+ghost use Rattle.repo_dial.specs.Bringing.{Ended, Obeyed};
 ghost use Rattle.repo_tree.specs.ConfigText.{IsTarget};
+ghost use Rattle.repo_prune.specs.Pruning.{prune_rule};
 ghost use Rattle.repo_prune.specs.PruneStates.{IsFreshPrune, StepsFor, KnowsAsMuch, FitsPrune, pruner_of};
 
 use crate::deleting::Deleting;
 use crate::moving::Moving;
 use crate::relisting::Relisting;
+use repo_dial::{Dial, TryError, bring};
 use repo_index::Fact;
 use repo_name::{GREATEST_TARGET, Kind, LEAST_TARGET, Token};
 use repo_reach::Trees;
@@ -163,6 +166,21 @@ impl Prune {
         Prune {
             session: Session::new(alloc, who, PruneJob::new(alloc)),
         }
+    }
+
+    /// Brings a prune that hasn't begun to its end, as [`bring`] does, and gives how it ended.
+    pub fn bring<D: Dial>(
+        self,
+        alloc: Global,
+        dial: &mut D,
+        retry: u64,
+    ) -> Result<Outcome, TryError>
+        requires { FitsPrune self [] }
+        ensures obeyed { Obeyed prune_rule (pruner_of self) retry (D.connections dial.old) (D.connections dial.new) }
+        ensures ended { IfOk result (λ outcome. Ended prune_rule (pruner_of self) outcome retry (D.connections dial.old) (D.connections dial.new)) }
+    {
+        let Prune { session } = self;
+        bring(alloc, session, |_| true, dial, retry)
     }
 }
 

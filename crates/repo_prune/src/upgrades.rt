@@ -1,8 +1,11 @@
 //! The upgrade of a store to version 2.
 
-ghost use Rattle.std.specs.Prelude.{◌≡◌, []};
+ghost use Rattle.std.specs.Prelude.{◌≡◌, [], IfOk};
+ghost use Rattle.repo_dial.specs.Bringing.{Ended, Obeyed};
+ghost use Rattle.repo_prune.specs.Upgrading.{upgrade_rule};
 ghost use Rattle.repo_prune.specs.UpgradeStates.{FitsUpgrade, who_of_upgrade};
 
+use repo_dial::{Dial, TryError, bring};
 use repo_name::Token;
 use repo_session::{Client, Emission, Holder, Job, Outcome, Session, Step, Versions, Who};
 use repo_tree::{Config, GREATEST_VERSION};
@@ -77,6 +80,21 @@ impl Upgrade {
         Upgrade {
             session: Session::new(alloc, who, UpgradeJob {}),
         }
+    }
+
+    /// Brings an upgrade that hasn't begun to its end, as [`bring`] does, and gives how it ended.
+    pub fn bring<D: Dial>(
+        self,
+        alloc: Global,
+        dial: &mut D,
+        retry: u64,
+    ) -> Result<Outcome, TryError>
+        requires { FitsUpgrade self [] }
+        ensures obeyed { Obeyed upgrade_rule (who_of_upgrade self) retry (D.connections dial.old) (D.connections dial.new) }
+        ensures ended { IfOk result (λ outcome. Ended upgrade_rule (who_of_upgrade self) outcome retry (D.connections dial.old) (D.connections dial.new)) }
+    {
+        let Upgrade { session } = self;
+        bring(alloc, session, |_| true, dial, retry)
     }
 }
 

@@ -20,14 +20,21 @@ pub record HasConfig (es : Trace) (config : Config) : Type 0 where
   pub reads : IsConfigText text config
   pub known : config.version ≤ upto Versions.Both
 
--- a pack that wants so many bytes is due with its last blob, and wasn't before
-abbrev pub IsJustDue : ℕ → List Item → Type 0
-IsJustDue target items = IsDue (record { items = items; target = target })
-    × ((before : List Item) × (last : Item) × (items ≡ before ++ last ∷ []) × IsOpen (record { items = before; target = target }))
+-- a pack that wants so many bytes was open before the last of these blobs
+abbrev pub WasOpen : ℕ → List Item → Type 0
+WasOpen target items = (before : List Item) × (last : Item) × (items ≡ before ++ last ∷ []) × IsOpen (record { items = before; target = target })
 
--- with their last one, and not before, the blobs reach what the config wants of a pack, or are as many as a pack may have
+-- it is due with its last blob, and wasn't before
+abbrev pub IsJustDue : ℕ → List Item → Type 0
+IsJustDue target items = IsDue (record { items = items; target = target }) × WasOpen target items
+
+-- by the config that was read a pack was open before the last of its blobs: it is sealed as soon as it is due
+abbrev pub IsPromptPack : Trace → List Item → Type 0
+IsPromptPack es items = (config : Config) × HasConfig es config × WasOpen config.target items
+
+-- by that config it is due: its blobs reach what the config wants of a pack, or are as many as a pack may have
 abbrev pub IsFullPack : Trace → List Item → Type 0
-IsFullPack es items = (config : Config) × HasConfig es config × IsJustDue config.target items
+IsFullPack es items = (config : Config) × HasConfig es config × IsDue (record { items = items; target = config.target })
 
 -- an index lists 20,000 blobs or more
 abbrev pub IsFullIndex : List ℕ → Type 0

@@ -4,7 +4,7 @@ use Rattle.repo_pack.specs.PackLayout.{Item, item_of}
 use Rattle.repo_pack.specs.PackWriting.{IsDue}
 use Rattle.repo_backup.specs.Packings.{IsPacking, AllGain, IsSealedBy, all_items}
 use Rattle.repo_backup.specs.declared.packing.Packing.{Packing}
-use Rattle.repo_backup.proofs.PackingLemmas.{all_gain, just_due, left_empty, none_by}
+use Rattle.repo_backup.proofs.PackingLemmas.{all_gain, just_due, just_open, left_empty, none_by}
 use Rattle.repo_backup.proofs.packing.Packing.pack.Goals.{in-Due, in-Last}
 use Rattle.repo_backup.proofs.packing.Packing.pack.Goals as goal
 
@@ -19,15 +19,18 @@ returns-in-Ok-clause-ok c = λ sent h.
     let sealed : List Item = mid.packer.writer.items in
     let all : all_items sent sealed new ≡ all_items sent [] mid = ap (λ l. (sent ++ sealed) ++ l) c.in-Ok.ensures.begun ∙ append-nil (sent ++ sealed) ∙ ap (λ l. l ++ sealed) (sym (append-nil sent)) in
     let gain : AllGain known (all_items sent [] old) (all_items sent [] mid) item = all_gain known sent [] old mid item added.1 in
+    let packing : IsPacking new known sent sealed = c.in-Ok.ensures.ok known sent added.0 in
     let by : IsSealedBy c.args.sealing old.packer.writer.target sealed = elim c.match-sealing.branch [
       | in-Due w ↦
           let yes : w.is_due-is_wanted.result ≡ true = search rules in
           let due : IsDue (record { items = sealed; target = mid.packer.writer.target }) = w.is_due-is_wanted.ensures.due.0 yes in
           let due_so = subst (λ (t : ℕ). IsDue (record { items = sealed; target = t })) c.in_ok-add.ensures.grows.1 due in
           subst (λ s. IsSealedBy s old.packer.writer.target sealed) (sym w.in-Due.is) (inr (just_due known (all_items sent [] old) old.packer.writer.target old.packer.writer.items sealed item c.requires.room added.1 due_so))
-      | in-Last w ↦ subst (λ s. IsSealedBy s old.packer.writer.target sealed) (sym w.in-Last.is) tt
+      | in-Last w ↦
+          let some = (c.in-Ok.ensures.listed sealed packing.sealed_is).1.holds.holds.pack.count.0 in
+          subst (λ s. IsSealedBy s old.packer.writer.target sealed) (sym w.in-Last.is) (inr (just_open known (all_items sent [] old) old.packer.writer.target old.packer.writer.items sealed item c.requires.room added.1 some))
     ] in
-    (sealed, c.in-Ok.ensures.ok known sent added.0, subst (λ l. AllGain known (all_items sent [] old) l item) (sym all) gain, by)
+    (sealed, packing, subst (λ l. AllGain known (all_items sent [] old) l item) (sym all) gain, by)
 
 pub returns-in-Err-clause-err : goal.returns-in-Err-clause-err
 returns-in-Err-clause-err c =

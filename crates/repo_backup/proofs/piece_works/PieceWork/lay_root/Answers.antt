@@ -26,7 +26,7 @@ returns-clause-ok c = (
       let range = subst (λ n. 0 ≤ n → n ≤ length all → nodes ≡ drop 0 (take n all)) left.0 (subst (λ ns. 0 ≤ count → count ≤ length ns → nodes ≡ drop 0 (take count ns)) c.as_slice.ensures.value c.between-nodes.ensures) in
       let packed = subst (λ n. PacksPart known Sealing.Last nodes n w.packing (Some k) q) left.1 (subst (λ o. PacksPart known Sealing.Last nodes c.what_is_left-count.result.1 w.packing o q) c.in-Some.is c.in_ok-packed.ensures.ok) in
       let laid = laid_root w known st sent h p h.parts_are one.0 one.1 nodes range k.name packed.0 packed.1 v c.requires.top refl packed.2 in
-      (laid.0, inl (refl, laid.1), inr (root_over w known st sent h c.requires.top, refl)),
+      (laid.0, inl (refl, laid.1), inr (root_over w known st sent h c.requires.top, refl, laid.2)),
 )
 
 pub returns-in_default-clause-ok : goal.returns-in_default-clause-ok
