@@ -18,8 +18,8 @@ use Rattle.repo_wire.specs.declared.messages.Say.{Say}
 use Rattle.repo_pack.specs.PackLayout.{Item, IsPack, IsItem, blobs_of, header_of}
 use Rattle.repo_pack.proofs.Entries.{length-header_of}
 use Rattle.repo_session.specs.declared.outcomes.FaultKind.{FaultKind}
-use Rattle.repo_check.specs.Answers.{Answer}
-use Rattle.repo_check.specs.Arrivals.{IsAnswer, IsFaulty, LooksAtSnapshot, MisreadAs}
+use Rattle.repo_check.specs.Answers.{Answer, IsAnswer}
+use Rattle.repo_check.specs.Arrivals.{IsFaulty, LooksAtSnapshot, MisreadAs}
 use Rattle.repo_check.specs.declared.objects.SnapshotLook.{SnapshotLook}
 use Rattle.repo_check.specs.Findings.{IsIllegible}
 

@@ -260,7 +260,7 @@ module _ (answers : Gathered) where
 
 -- ---- one answer of a name
 
-not_before : (n : Name) → Before n n → ⊥
+pub not_before : (n : Name) → Before n n → ⊥
 not_before n h = let self = tied_itself names_total n in cc (self, h)
 
 pub beyond : (n : Name) (names : List Name) → NamesAscend (Some n) names → (m : Name) → Has names m → Before n m
@@ -268,7 +268,7 @@ beyond n [] h m has = absurd has
 beyond n (first ∷ names) h m (inl is) = subst (λ o. Before n o) (sym is) h.0
 beyond n (first ∷ names) h m (inr more) = names_total.trans n first m h.0 (beyond first names h.1 m more)
 
-has_name : (answers : List Answer) (a : Answer) → Contains answers a → Has (map (λ (b : Answer). b.name) answers) a.name
+pub has_name : (answers : List Answer) (a : Answer) → Contains answers a → Has (map (λ (b : Answer). b.name) answers) a.name
 has_name [] a h = absurd (none_contained a h)
 has_name (b ∷ answers) a h = elim (contained_or b answers a h) [ inl is ↦ inl (ap (λ (c : Answer). c.name) (sym is)) | inr more ↦ inr (has_name answers a more) ]
 

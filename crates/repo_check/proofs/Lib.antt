@@ -29,6 +29,7 @@ pub mod TreeFaults
 pub mod BlobFaults
 pub mod Faults
 pub mod Concluding
+pub mod Again
 pub mod CheckSteps
 pub mod SoundFinds
 pub mod LoneChecks

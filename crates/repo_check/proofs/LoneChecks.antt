@@ -48,7 +48,7 @@ use Rattle.repo_check.proofs.SoundFinds.{no_fault}
 use Rattle.repo_check.proofs.Sounding.{well_is_sound}
 
 check_never : OnlyReads CheckAllows
-check_never es ask h = h
+check_never es ask h = h.0
 
 pub check_changes_nothing : CheckChangesNothing
 check_changes_nothing who from mid to failed failing talk next outcome ran may is =
@@ -276,5 +276,5 @@ check_ends who from to failed talk outcome fit versions apart low ran few is =
     let h = led from talk to ran.run in
     let agree = held_agree from (IsSent [] None) (λ x. ⊥) apart from.objects (λ k n x p. inl (n, p)) fit.sound.named in
     check_well (trace_of talk) outcome (own_before who from fit.sound agree talk to is.obeys h)
-    (ends_well (check_task who) CheckAllows CheckGives CheckConcludes (reads_first (check_task who) CheckAllows CheckGives (λ es t k n x. x)) from fit tt versions (puts_none (check_task who) CheckAllows (λ es t n x h. h)) (suits_either CheckAllows from (λ es t k n x. x)) talk to outcome is h
+    (ends_well (check_task who) CheckAllows CheckGives CheckConcludes (reads_first (check_task who) CheckAllows CheckGives (λ es t k n x. x.0)) from fit tt versions (puts_none (check_task who) CheckAllows (λ es t n x h. h.0)) (suits_either CheckAllows from (λ es t k n x. x.0)) talk to outcome is h
     (sound_throughout (check_task who) CheckAllows CheckGives check_never from talk fit.sound is.obeys) (calm_of failed talk low ran.cause) few)

@@ -287,6 +287,7 @@ module _ (rounds : RoundsView) (walk : WalkView) (es : Trace) (s : IsSurveyed ro
         (subst (λ m. IsReachedBlob A Tree m) r.2 (tree_reached r.0 r.1), (seen.place, lies_of rounds walk es s Tree a.name seen.place seen.least, seen.ranged)));
     all = λ n place reached lies. asked n place lies (settled n (found_of Tree n reached));
     once = s.reads.seen.once;
+    only = λ place say heard. (let there = s.reads.seen.only place say heard in (there.0, there.1, lies_of rounds walk es s Tree there.0.name place there.2, there.3));
   }
 
   got : (k : Kind) → AreGot es k (objects_in s.notes k)

@@ -16,7 +16,7 @@ use Rattle.repo_session.specs.Blobs.{range_of}
 use Rattle.repo_session.specs.Traces.{Exchange, Trace, silent}
 use Rattle.repo_session.specs.declared.outcomes.FaultKind.{FaultKind}
 use Rattle.repo_name.proofs.Containing.{contained_or, first_contained, none_contained}
-use Rattle.repo_check.specs.Answers.{Answer}
+use Rattle.repo_check.specs.Answers.{Answer, IsTreeAnswer}
 use Rattle.repo_check.specs.Checking.{IsRanged}
 use Rattle.repo_check.specs.Keeping.{links_of, next_of}
 use Rattle.repo_check.specs.Visiting.{GoesThrough, IsLedTo, IsOneOf, IsPartIn, LeadsOn, visit_at}
@@ -38,6 +38,16 @@ here old new n None none a = ap (λ f. f n) a ∙ none
 
 some_none : {X : Type 0} (o : Option X) (x : X) → o ≡ Some x → o ≡ None → ⊥
 some_none o x some none = absurd (cc (some, none))
+
+-- ---- what came is settled
+
+told_settled : (known : Knowledge) (facts : List Fact) (place : Place) (a : Answer) (links : Option Kept) (fault : Option FaultKind) → IsTold facts place a links fault → known.kept a.name ≡ links → known.faults a.name ≡ fault → IsSettled known a.name
+told_settled known facts place a (Some links) fault told l f = inl (links, l)
+told_settled known facts place a None (Some what) told l f = inr (inl (what, f))
+told_settled known facts place a None None told l f = absurd told
+
+pub seen_settled : (known : Knowledge) (es : Trace) (a : Answer) → IsKnownTree known es a → IsSettled known a.name
+seen_settled known es a s = told_settled known known.facts s.place a (known.kept a.name) (known.faults a.name) s.told refl refl
 
 -- ---- after a note
 
@@ -111,14 +121,6 @@ module _ (old new : Knowledge) (fact : Fact) (note : TreeNote) (due : IsTreeDue 
 
   -- ---- what came
 
-  told_settled : (facts : List Fact) (place : Place) (a : Answer) (links : Option Kept) (fault : Option FaultKind) → IsTold facts place a links fault → old.kept a.name ≡ links → old.faults a.name ≡ fault → IsSettled old a.name
-  told_settled facts place a (Some links) fault told l f = inl (links, l)
-  told_settled facts place a None (Some what) told l f = inr (inl (what, f))
-  told_settled facts place a None None told l f = absurd told
-
-  seen_settled : (es : Trace) (a : Answer) → IsKnownTree old es a → IsSettled old a.name
-  seen_settled es a s = told_settled old.facts s.place a (old.kept a.name) (old.faults a.name) s.told refl refl
-
   ranged_grows : (e : Exchange) (es : Trace) (place : Place) (bytes : Option (List ℕ)) → IsRanged es place bytes → IsRanged (e ∷ es) place bytes
   ranged_grows e es place (Some x) h = inr h
   ranged_grows e es place None (inl h) = inl (inr h)
@@ -126,7 +128,7 @@ module _ (old new : Knowledge) (fact : Fact) (note : TreeNote) (due : IsTreeDue 
 
   seen_stays : (e : Exchange) (es : Trace) (a : Answer) → IsKnownTree old es a → IsKnownTree new (e ∷ es) a
   seen_stays e es a s =
-      let is = other a.name (seen_settled es a s) in
+      let is = other a.name (seen_settled old es a s) in
       record {
         place = s.place;
         least = subst (λ fs. IsLeast fs Tree a.name s.place) (sym adds.facts) s.least;
@@ -136,11 +138,14 @@ module _ (old new : Knowledge) (fact : Fact) (note : TreeNote) (due : IsTreeDue 
       }
 
   apart_from : (es : Trace) (a : Answer) → IsKnownTree old es a → a.name ≡ n → ⊥
-  apart_from es a s same = due_not_settled old n fact due (subst (λ m. IsSettled old m) same (seen_settled es a s))
+  apart_from es a s same = due_not_settled old n fact due (subst (λ m. IsSettled old m) same (seen_settled old es a s))
 
-  module _ (es : Trace) (say : Say) (a : Answer) (named : a.name ≡ n) (ranged : IsRanged (silent (range_of fact) say ∷ es) fact.place a.bytes) (told : IsTold old.facts fact.place a note.kept note.fault) where
+  module _ (es : Trace) (say : Say) (a : Answer) (answer : IsTreeAnswer n say a) (named : a.name ≡ n) (ranged : IsRanged (silent (range_of fact) say ∷ es) fact.place a.bytes) (told : IsTold old.facts fact.place a note.kept note.fault) where
     abbrev e : Exchange
     e = silent (range_of fact) say
+
+    now_least : IsLeast new.facts Tree a.name fact.place
+    now_least = subst (λ m. IsLeast new.facts Tree m fact.place) (sym named) (subst (λ fs. IsLeast fs Tree n fact.place) (sym adds.facts) due.least)
 
     now_seen : IsKnownTree new (e ∷ es) a
     now_seen =
@@ -148,7 +153,7 @@ module _ (old new : Knowledge) (fact : Fact) (note : TreeNote) (due : IsTreeDue 
         let f : new.faults a.name ≡ note.fault = ap new.faults named ∙ here old.faults new.faults n note.fault due.faultless adds.faults in
         record {
           place = fact.place;
-          least = subst (λ m. IsLeast new.facts Tree m fact.place) (sym named) (subst (λ fs. IsLeast fs Tree n fact.place) (sym adds.facts) due.least);
+          least = now_least;
           ranged = ranged;
           told = subst (λ fs. IsTold fs fact.place a (new.kept a.name) (new.faults a.name)) (sym adds.facts)
               (subst (λ x. IsTold old.facts fact.place a x (new.faults a.name)) (sym l) (subst (λ x. IsTold old.facts fact.place a note.kept x) (sym f) told));
@@ -172,6 +177,20 @@ module _ (old new : Knowledge) (fact : Fact) (note : TreeNote) (due : IsTreeDue 
           | inl there ↦ absurd (apart_from es d (h.each d there) (sym same ∙ ap (λ (x : Answer). x.name) (sym (only b now)) ∙ named))
           | inr also ↦ sym (only b now) ∙ only d also
         ]
+      ];
+      only = λ place said heard. elim heard [
+        | inl this ↦ (
+            let p = this.0 in
+            let pack : fact.place.pack ≡ place.pack = cc p in
+            let offset : fact.place.offset ≡ place.offset = cc p in
+            let len : fact.place.length ≡ place.length = cc p in
+            let same : fact.place ≡ place = λ i. record { pack = pack i; offset = offset i; length = len i } in
+            (a, among answers, subst (λ q. IsLeast new.facts Tree a.name q) same now_least, subst (λ s. IsTreeAnswer a.name s a) this.1 (subst (λ m. IsTreeAnswer m say a) (sym named) answer))
+            )
+        | inr before ↦ (
+            let there = h.only place said before in
+            (there.0, Contains-append_left answers (a ∷ []) there.0 there.1, subst (λ fs. IsLeast fs Tree there.0.name place) (sym adds.facts) there.2, there.3)
+            )
       ];
       kept = λ m links is. elim (others old.kept new.kept n note.kept adds.kept m) [
         | inl same ↦ (a, among answers, named ∙ sym same)

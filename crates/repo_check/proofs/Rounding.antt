@@ -1,9 +1,11 @@
 -- A round over the objects of one kind.
-use Rattle.std.proofs.Common.{arith, ◌≡◌, ◌≤◌, ◌+◌, ◌++◌, ◌∷◌, [], ℕ, Bool, true, false, List, length, map, take, slice_get, suc, cond, Option, Some, None, refl, sym, ap, subst, inl, inr, ◌∙◌, length-append}
+use Rattle.std.proofs.Common.{arith, ◌≡◌, ◌≤◌, ◌+◌, ◌++◌, ◌∷◌, [], ℕ, Bool, true, false, List, length, map, take, slice_get, suc, cond, Option, Some, None, refl, sym, ap, subst, inl, inr, ◌∙◌, length-append, Contains}
 use Rattle.std.proofs.lemmas.List.{append-nil, take_all}
+use Rattle.std.proofs.lemmas.List.Elements.{Contains-append_left, Contains-append_right}
 use Rattle.std.proofs.lemmas.Option.{slice_get_within, get_or_from_slice_get}
 use Rattle.std.proofs.Math.Seq.{take-suc}
 use Rattle.std.specs.Prelude.{Result, Ok, Err, IfOk, OnErr, OnOk}
+use Rattle.repo_name.proofs.Containing.{first_contained, none_contained}
 use Rattle.repo_name.specs.declared.kinds.Kind.{Kind}
 use Rattle.repo_name.specs.declared.names.Name.{Name}
 use Rattle.repo_name.specs.declared.tokens.Token.{Token}
@@ -15,13 +17,13 @@ use Rattle.repo_session.specs.Ends.{IsOfOtherVersion}
 use Rattle.repo_session.specs.Order.{Task, IsWorking, May}
 use Rattle.repo_session.specs.Readings.{KnowsRoll}
 use Rattle.repo_session.specs.Rolls.{IsNamedObject, IsPaged, IsRolled}
-use Rattle.repo_session.specs.Traces.{Each, Exchange, Trace, Object, same_kind, page_names, is_last_page, object_got, objects_in, silent}
+use Rattle.repo_session.specs.Traces.{Each, Exchange, Exchanged, Trace, Object, same_kind, page_names, is_last_page, object_got, objects_in, silent}
 use Rattle.repo_session.proofs.Rolling.{has_got, paged_on}
 use Rattle.repo_session.specs.Versions.{upto}
 use Rattle.repo_session.specs.declared.versions.Versions.{Versions}
 use Rattle.repo_reach.specs.declared.roots.Root.{Root}
-use Rattle.repo_check.specs.Answers.{Answer}
-use Rattle.repo_check.specs.Arrivals.{IsAnswer, IsRootOf}
+use Rattle.repo_check.specs.Answers.{Answer, IsAnswer}
+use Rattle.repo_check.specs.Arrivals.{IsRootOf, TellsNothing}
 use Rattle.repo_check.specs.Checking.{CameFor, AreGot}
 use Rattle.repo_check.specs.Rounds.{IsUntouched, RoundIsListing, IsWholeRound, AsksNext, KnowsRound, TurnsOn, TakesObject, TakesSnapshot, Match, IsNoteOf, AreNoted, RoundView, round_of}
 use Rattle.repo_check.specs.declared.rounds.Note.{Note}
@@ -185,6 +187,19 @@ module _ (k : Kind) where
 
 -- ---- notes
 
+-- a request for another thing adds nothing to what was said to this
+pub heard_before : (e : Exchange) (es : Trace) (ask : Ask) (say : Say) → (e.ask ≡ ask → ⊥) → Exchanged (e ∷ es) ask say → Exchanged es ask say
+heard_before e es ask say other (inl h) = absurd (other h.0)
+heard_before e es ask say other (inr h) = h
+
+-- no object of the kind was asked for
+abbrev pub IsUngot : Kind → Trace → Type 0
+IsUngot k es = (n : Name) (say : Say) → Exchanged es (Ask.Get k n) say → ⊥
+
+-- a request for none of the kind's objects
+abbrev pub IsNoGet : Kind → Ask → Type 0
+IsNoGet k ask = (n : Name) → ask ≡ Ask.Get k n → ⊥
+
 got_grows : (e : Exchange) (es : Trace) (k : Kind) (n : Name) (bytes : Option (List ℕ)) → CameFor es k n bytes → CameFor (e ∷ es) k n bytes
 got_grows e es k n (Some x) h = inr h
 got_grows e es k n None h = inr h
@@ -194,7 +209,7 @@ all_grow e es k [] h = tt
 all_grow e es k (a ∷ answers) h = (got_grows e es k a.name a.bytes h.0, all_grow e es k answers h.1)
 
 -- what came just now
-got_now : (k : Kind) (n : Name) (say : Say) (a : Answer) (es : Trace) → IsAnswer n say a → (a.name ≡ n) × CameFor (silent (Ask.Get k n) say ∷ es) k a.name a.bytes
+pub got_now : (k : Kind) (n : Name) (say : Say) (a : Answer) (es : Trace) → IsAnswer n say a → (a.name ≡ n) × CameFor (silent (Ask.Get k n) say ∷ es) k a.name a.bytes
 got_now k n (Say.Bytes x) a es h =
     let fs : Trace = silent (Ask.Get k n) (Say.Bytes x) ∷ es in
     (h.0, subst (λ m. CameFor fs k m a.bytes) (sym h.0) (subst (λ (b : Option (List ℕ)). CameFor fs k n b) (sym h.1) (inl (refl, refl))))
@@ -240,11 +255,26 @@ match_end R (x ∷ xs) [] a b h r = absurd h
 
 module _ {T : Type 0} (k : Kind) (Gives : Answer → T → Type 0) where
   -- nothing is noted yet
-  pub none_noted : (names : List Name) (notes : List (Note T)) (es : Trace) → notes ≡ [] → AreNoted k Gives names notes es
-  none_noted names notes es none = subst (λ ns. AreNoted k Gives names ns es) (sym none) (record { answers = []; named = refl; got = tt; noted = tt })
+  pub none_noted : (names : List Name) (notes : List (Note T)) (es : Trace) → notes ≡ [] → IsUngot k es → AreNoted k Gives names notes es
+  none_noted names notes es none ungot =
+      subst (λ ns. AreNoted k Gives names ns es) (sym none) (record { answers = []; named = refl; got = tt; only = λ n say h. absurd (ungot n say h); noted = tt })
 
-  pub noted_grow : (names : List Name) (notes : List (Note T)) (e : Exchange) (es : Trace) → AreNoted k Gives names notes es → AreNoted k Gives names notes (e ∷ es)
-  noted_grow names notes e es h = record { answers = h.answers; named = h.named; got = all_grow e es k h.answers h.got; noted = h.noted }
+  pub noted_grow : (names : List Name) (notes : List (Note T)) (e : Exchange) (es : Trace) → IsNoGet k e.ask → AreNoted k Gives names notes es → AreNoted k Gives names notes (e ∷ es)
+  noted_grow names notes e es other h =
+      record { answers = h.answers; named = h.named; got = all_grow e es k h.answers h.got; only = λ n say heard. h.only n say (heard_before e es (Ask.Get k n) say (other n) heard); noted = h.noted }
+
+  none_matched : (answers : List Answer) (a : Answer) → Match (IsNoteOf k Gives) answers [] → Contains answers a → ⊥
+  none_matched [] a m c = none_contained a c
+  none_matched (b ∷ answers) a m c = absurd m
+
+  -- where nothing is noted nothing was asked for
+  pub ungot : (names : List Name) (notes : List (Note T)) (es : Trace) → notes ≡ [] → AreNoted k Gives names notes es → IsUngot k es
+  ungot names notes es none h n say heard = let a = h.only n say heard in none_matched h.answers a.0 (subst (λ ns. Match (IsNoteOf k Gives) h.answers ns) none h.noted) a.1
+
+  -- so it is after a page
+  pub noted_page : (old new : RoundView T) (e : Exchange) (es : Trace) → old.notes ≡ [] → new.notes ≡ old.notes → IsNoGet k e.ask → AreNoted k Gives old.names old.notes es → AreNoted k Gives new.names new.notes (e ∷ es)
+  noted_page old new e es none same other h =
+      none_noted new.names new.notes (e ∷ es) (same ∙ none) (λ n say heard. ungot old.names old.notes es none h n say (heard_before e es (Ask.Get k n) say (other n) heard))
 
   -- one more note
   pub noted_more : (names : List Name) (notes more : List (Note T)) (note : Note T) (n : Name) (say : Say) (a : Answer) (es : Trace) → AreNoted k Gives names notes es → slice_get names (length notes) ≡ Some n → IsAnswer n say a
@@ -258,6 +288,13 @@ module _ {T : Type 0} (k : Kind) (Gives : Answer → T → Type 0) where
         answers = h.answers ++ a ∷ [];
         named = map_end f h.answers a ∙ ap (λ l. l ++ a.name ∷ []) h.named ∙ ap (λ m. take (length notes) names ++ m ∷ []) now.0 ∙ sym (one_more names (length notes) n next) ∙ ap (λ i. take i names) (sym long);
         got = each_end (λ (b : Answer). CameFor (e ∷ es) k b.name b.bytes) h.answers a (all_grow e es k h.answers h.got) now.1;
+        only = λ m said heard. elim heard [
+          | inl this ↦ (
+              let same : n ≡ m = let p = this.0 in cc in
+              (a, Contains-append_right h.answers (a ∷ []) a (first_contained a []), subst (λ i. IsAnswer i said a) same (subst (λ s. IsAnswer n s a) this.1 answer))
+              )
+          | inr before ↦ (let there = h.only m said before in (there.0, Contains-append_left h.answers (a ∷ []) there.0 there.1, there.2))
+        ];
         noted = match_end (IsNoteOf k Gives) h.answers notes a note h.noted noted;
       })
 
@@ -267,11 +304,11 @@ module _ {T : Type 0} (k : Kind) (Gives : Answer → T → Type 0) where
       let e = silent (Ask.Get k n) say in
       let paged = paged_on k e old.names true es refl refl (λ after same. absurd (cc same)) getting.paged in
       let more = noted_more old.names old.notes new.notes note n say look.0 es noted getting.next look.1 look.2 notes in
-      (next_on task token k new turn e es w (kind ∙ getting.of_kind) (subst (λ ns. IsPaged k ns true (e ∷ es)) (sym names) paged) asks, subst (λ ns. AreNoted k Gives ns new.notes (e ∷ es)) (sym names) more)
+      (next_on task token k new turn e es w (kind ∙ getting.of_kind) (subst (λ ns. IsPaged k ns true (e ∷ es)) (sym names) paged) asks, λ goes. subst (λ ns. AreNoted k Gives ns new.notes (e ∷ es)) (sym names) more)
 
-  -- a reply that ends the round notes nothing
-  pub ended : (round : RoundView T) (n : Name) (say : Say) (turn : Turn) → ((task : Task) (es : Trace) → TurnsOn task k round turn (silent (Ask.Get k n) say) es) → TakesObject k Gives round n say turn round
-  ended round n say turn turns = λ task token es w getting noted. (turns task es, noted_grow round.names round.notes (silent (Ask.Get k n) say) es noted)
+  -- a reply that tells nothing ends the round
+  pub ended : (round : RoundView T) (n : Name) (say : Say) → TellsNothing (Ask.Get k n) say → TakesObject k Gives round n say Turn.Away round
+  ended round n say nothing = λ task token es w getting noted. (nothing, λ goes. absurd goes)
 
   -- once all are noted they were received
   pub all_got : (round : RoundView T) (es : Trace) → IsWholeRound k round es → (h : AreNoted k Gives round.names round.notes es) → AreGot es k h.answers
@@ -279,6 +316,7 @@ module _ {T : Type 0} (k : Kind) (Gives : Answer → T → Type 0) where
     listed = record { complete = whole.paged.complete; rise = whole.paged.rise };
     names = h.named ∙ take_all (length round.notes) round.names whole.all ∙ sym whole.paged.listed;
     each = h.got;
+    only = h.only;
   }
 
 -- what two clauses say of a result
@@ -308,5 +346,5 @@ by_versions versions old new n say turn h = λ task token es is w getting noted.
 pub other_version : (versions : Versions) (round : RoundView Root) (n : Name) (say : Say) → IsOfOtherVersion (upto versions) (Ask.Get Kind.Snapshot n) say → TakesSnapshot versions round n say Turn.Version round
 other_version versions round n say h = λ task token es is w getting noted. (
   subst (λ v. IsOfOtherVersion (upto v) (Ask.Get Kind.Snapshot n) say) (sym is) h,
-  noted_grow Kind.Snapshot IsRootOf round.names round.notes (silent (Ask.Get Kind.Snapshot n) say) es noted,
+  λ goes. absurd goes,
 )

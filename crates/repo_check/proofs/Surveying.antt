@@ -9,7 +9,7 @@ use Rattle.repo_index.specs.declared.facts.Fact.{Fact}
 use Rattle.repo_index.specs.declared.facts.PackFacts.{PackFacts}
 use Rattle.repo_session.specs.Order.{Task, IsReading, IsWorking, May, last_of, opened}
 use Rattle.repo_session.specs.Rolls.{IsRolled}
-use Rattle.repo_session.specs.Traces.{Exchange, Trace, silent}
+use Rattle.repo_session.specs.Traces.{Exchange, Exchanged, Trace, silent}
 use Rattle.repo_session.proofs.Holding.{opened_working}
 use Rattle.repo_session.specs.Versions.{upto}
 use Rattle.repo_session.specs.declared.versions.Versions.{Versions}
@@ -18,14 +18,14 @@ use Rattle.repo_session.proofs.Rolling.{may_page, opened_rolled}
 use Rattle.repo_tree.specs.ConfigText.{IsConfigText}
 use Rattle.repo_tree.specs.declared.configs.Config.{Config}
 use Rattle.repo_check.specs.Arrivals.{IsIndexOf, IsPackOf, IsRootOf}
-use Rattle.repo_check.specs.Rounds.{AreNoted, IsFreshRound, RoundIsListing, IsUntouched, IsWholeRound, KnowsRound, PagesRound, RoundView, TakesObject, TakesSnapshot, TurnsOn}
-use Rattle.repo_check.specs.Surveys.{AtIndexes, AtPacks, AtSnapshots, AtTrees, GoesAfter, HasTaken, IsFirst, IsFreshSurvey, KnowsNotes, RoundsView, Surveys, SurveysOn, first_page}
+use Rattle.repo_check.specs.Rounds.{AreNoted, GoesOn, IsFreshRound, RoundIsListing, IsUntouched, IsWholeRound, KnowsRound, PagesRound, RoundView, TakesObject, TakesSnapshot, TurnsOn}
+use Rattle.repo_check.specs.Surveys.{AtIndexes, AtPacks, AtSnapshots, AtTrees, GoesAfter, HasTaken, IsFirst, IsFreshSurvey, IsUnranged, KnowsNotes, RoundsView, Surveys, SurveysOn, first_page}
 use Rattle.repo_check.specs.Walks.{Awaits, TreeIsNoted, WalkView}
 use Rattle.repo_check.specs.declared.knowing.TreeNote.{TreeNote}
 use Rattle.repo_check.specs.declared.rounds.Note.{Note}
 use Rattle.repo_check.specs.declared.rounds.Turn.{Turn}
 use Rattle.repo_check.specs.declared.surveys.Next.{Next}
-use Rattle.repo_check.proofs.Rounding.{IsAside, none_noted, noted_grow, paged_aside, untouched_aside}
+use Rattle.repo_check.proofs.Rounding.{IsAside, heard_before, none_noted, noted_grow, noted_page, paged_aside, untouched_aside}
 
 -- ---- a round that begins
 
@@ -43,36 +43,40 @@ module _ {T : Type 0} (k : Kind) (round : RoundView T) where
   pub whole_aside : (e : Exchange) (es : Trace) → IsAside k e.ask → IsWholeRound k round es → IsWholeRound k round (e ∷ es)
   whole_aside e es aside h = record { of_kind = h.of_kind; paged = paged_aside k round.names true e es aside h.paged; all = h.all }
 
+-- a request for another thing than a place asks for none
+pub unranged_on : (e : Exchange) (es : Trace) → ((pack : Name) (offset len : ℕ) → e.ask ≡ Ask.Range pack offset len → ⊥) → IsUnranged es → IsUnranged (e ∷ es)
+unranged_on e es other none pack offset len say heard = none pack offset len say (heard_before e es (Ask.Range pack offset len) say (other pack offset len) heard)
+
 -- ---- what comes next
 
-module _ (task : Task) (token : Token) (rounds : RoundsView) (walk : WalkView) (e : Exchange) (es : Trace) (w : IsWorking task token (e ∷ es)) (notes : KnowsNotes rounds (e ∷ es)) where
+module _ (task : Task) (token : Token) (rounds : RoundsView) (walk : WalkView) (e : Exchange) (es : Trace) (w : IsWorking task token (e ∷ es)) where
   abbrev now : Trace
   now = e ∷ es
 
   known : Ask → Type 0
   known ask = Surveys rounds walk ask now × May task now ask
 
-  pub snapshots_go : (turn : Turn) (next : Next) → TurnsOn task Kind.Snapshot rounds.snapshots turn e es → IsFreshRound Kind.Index rounds.indexes → IsUntouched Kind.Index now → IsFreshRound Kind.Pack rounds.packs → IsUntouched Kind.Pack now
-      → GoesAfter turn (first_page rounds.indexes) next → SurveysOn task rounds walk next e es
-  snapshots_go (Turn.Ask ask) next on fi ui fp up is =
-      subst (λ n. SurveysOn task rounds walk n e es) (sym is) ((notes, inl (record { snapshots = on.0; indexes = fi; no_indexes = ui; packs = fp; no_packs = up })), on.1)
-  snapshots_go Turn.All next on fi ui fp up is =
+  pub snapshots_go : (turn : Turn) (next : Next) → (GoesOn turn → KnowsNotes rounds now) → IsUnranged now → TurnsOn task Kind.Snapshot rounds.snapshots turn e es → IsFreshRound Kind.Index rounds.indexes → IsUntouched Kind.Index now
+      → IsFreshRound Kind.Pack rounds.packs → IsUntouched Kind.Pack now → GoesAfter turn (first_page rounds.indexes) next → SurveysOn task rounds walk next e es
+  snapshots_go (Turn.Ask ask) next notes none on fi ui fp up is =
+      subst (λ n. SurveysOn task rounds walk n e es) (sym is) ((notes tt, inl (record { snapshots = on.0; indexes = fi; no_indexes = ui; packs = fp; no_packs = up; no_trees = none })), on.1)
+  snapshots_go Turn.All next notes none on fi ui fp up is =
       let first = begins Kind.Index rounds.indexes task token now w fi ui in
-      subst (λ n. SurveysOn task rounds walk n e es) (sym is) ((notes, inr (inl (record { snapshots = on; indexes = first.0; packs = fp; no_packs = up }))), first.1)
-  snapshots_go Turn.Senseless next on fi ui fp up is = subst (λ n. SurveysOn task rounds walk n e es) (sym is) on
-  snapshots_go Turn.Version next on fi ui fp up is = subst (λ n. SurveysOn task rounds walk n e es) (sym is) on
-  snapshots_go Turn.Away next on fi ui fp up is = subst (λ n. SurveysOn task rounds walk n e es) (sym is) on
+      subst (λ n. SurveysOn task rounds walk n e es) (sym is) ((notes tt, inr (inl (record { snapshots = on; indexes = first.0; packs = fp; no_packs = up; no_trees = none }))), first.1)
+  snapshots_go Turn.Senseless next notes none on fi ui fp up is = subst (λ n. SurveysOn task rounds walk n e es) (sym is) on
+  snapshots_go Turn.Version next notes none on fi ui fp up is = subst (λ n. SurveysOn task rounds walk n e es) (sym is) on
+  snapshots_go Turn.Away next notes none on fi ui fp up is = subst (λ n. SurveysOn task rounds walk n e es) (sym is) on
 
-  pub indexes_go : (turn : Turn) (next : Next) → IsWholeRound Kind.Snapshot rounds.snapshots now → TurnsOn task Kind.Index rounds.indexes turn e es → IsFreshRound Kind.Pack rounds.packs → IsUntouched Kind.Pack now
+  pub indexes_go : (turn : Turn) (next : Next) → (GoesOn turn → KnowsNotes rounds now) → IsUnranged now → IsWholeRound Kind.Snapshot rounds.snapshots now → TurnsOn task Kind.Index rounds.indexes turn e es → IsFreshRound Kind.Pack rounds.packs → IsUntouched Kind.Pack now
       → GoesAfter turn (first_page rounds.packs) next → SurveysOn task rounds walk next e es
-  indexes_go (Turn.Ask ask) next ws on fp up is =
-      subst (λ n. SurveysOn task rounds walk n e es) (sym is) ((notes, inr (inl (record { snapshots = ws; indexes = on.0; packs = fp; no_packs = up }))), on.1)
-  indexes_go Turn.All next ws on fp up is =
+  indexes_go (Turn.Ask ask) next notes none ws on fp up is =
+      subst (λ n. SurveysOn task rounds walk n e es) (sym is) ((notes tt, inr (inl (record { snapshots = ws; indexes = on.0; packs = fp; no_packs = up; no_trees = none }))), on.1)
+  indexes_go Turn.All next notes none ws on fp up is =
       let first = begins Kind.Pack rounds.packs task token now w fp up in
-      subst (λ n. SurveysOn task rounds walk n e es) (sym is) ((notes, inr (inr (inl (record { snapshots = ws; indexes = on; packs = first.0 })))), first.1)
-  indexes_go Turn.Senseless next ws on fp up is = subst (λ n. SurveysOn task rounds walk n e es) (sym is) on
-  indexes_go Turn.Version next ws on fp up is = subst (λ n. SurveysOn task rounds walk n e es) (sym is) on
-  indexes_go Turn.Away next ws on fp up is = subst (λ n. SurveysOn task rounds walk n e es) (sym is) on
+      subst (λ n. SurveysOn task rounds walk n e es) (sym is) ((notes tt, inr (inr (inl (record { snapshots = ws; indexes = on; packs = first.0; no_trees = none })))), first.1)
+  indexes_go Turn.Senseless next notes none ws on fp up is = subst (λ n. SurveysOn task rounds walk n e es) (sym is) on
+  indexes_go Turn.Version next notes none ws on fp up is = subst (λ n. SurveysOn task rounds walk n e es) (sym is) on
+  indexes_go Turn.Away next notes none ws on fp up is = subst (λ n. SurveysOn task rounds walk n e es) (sym is) on
 
 -- ---- which round a request is of
 
@@ -134,11 +138,11 @@ module _ (old new : RoundsView) (walk : WalkView) (say : Say) (turn : Turn) (nex
       let at = listing_snapshots old walk es after h in
       let listing = at.snapshots.1 in
       let known : KnowsNotes new (e ∷ es) = record {
-        snapshots = none_noted Kind.Snapshot IsRootOf new.snapshots.names new.snapshots.notes (e ∷ es) (notes ∙ listing.none);
-        indexes = subst (λ (r : RoundView (List PackFacts)). AreNoted Kind.Index IsIndexOf r.names r.notes (e ∷ es)) (sym indexes) (noted_grow Kind.Index IsIndexOf old.indexes.names old.indexes.notes e es h.0.indexes);
-        packs = subst (λ (r : RoundView (List Fact)). AreNoted Kind.Pack IsPackOf r.names r.notes (e ∷ es)) (sym packs) (noted_grow Kind.Pack IsPackOf old.packs.names old.packs.notes e es h.0.packs);
+        snapshots = noted_page Kind.Snapshot IsRootOf old.snapshots new.snapshots e es listing.none notes (λ n is. absurd (cc is)) h.0.snapshots;
+        indexes = subst (λ (r : RoundView (List PackFacts)). AreNoted Kind.Index IsIndexOf r.names r.notes (e ∷ es)) (sym indexes) (noted_grow Kind.Index IsIndexOf old.indexes.names old.indexes.notes e es (λ n is. absurd (cc is)) h.0.indexes);
+        packs = subst (λ (r : RoundView (List Fact)). AreNoted Kind.Pack IsPackOf r.names r.notes (e ∷ es)) (sym packs) (noted_grow Kind.Pack IsPackOf old.packs.names old.packs.notes e es (λ n is. absurd (cc is)) h.0.packs);
       } in
-      snapshots_go task token new walk e es w known turn next (pages task token Kind.Snapshot after es w may listing) (subst (λ r. IsFreshRound Kind.Index r) (sym indexes) at.indexes) (untouched_aside Kind.Index e es refl at.no_indexes)
+      snapshots_go task token new walk e es w turn next (λ goes_on. known) (unranged_on e es (λ pack offset len is. absurd (cc is)) at.no_trees) (pages task token Kind.Snapshot after es w may listing) (subst (λ r. IsFreshRound Kind.Index r) (sym indexes) at.indexes) (untouched_aside Kind.Index e es refl at.no_indexes)
       (subst (λ r. IsFreshRound Kind.Pack r) (sym packs) at.packs) (untouched_aside Kind.Pack e es refl at.no_packs) goes
 
   pub snapshots_got : (versions : Versions) (n : Name) (takes : TakesSnapshot versions old.snapshots n say turn new.snapshots) → new.indexes ≡ old.indexes → new.packs ≡ old.packs → GoesAfter turn (first_page new.indexes) next
@@ -147,12 +151,12 @@ module _ (old new : RoundsView) (walk : WalkView) (say : Say) (turn : Turn) (nex
       let e = silent (Ask.Get Kind.Snapshot n) say in
       let at = getting_snapshots old walk es n h in
       let took = takes task token es known_to w at.snapshots.1 h.0.snapshots in
-      let known : KnowsNotes new (e ∷ es) = record {
-        snapshots = took.1;
-        indexes = subst (λ (r : RoundView (List PackFacts)). AreNoted Kind.Index IsIndexOf r.names r.notes (e ∷ es)) (sym indexes) (noted_grow Kind.Index IsIndexOf old.indexes.names old.indexes.notes e es h.0.indexes);
-        packs = subst (λ (r : RoundView (List Fact)). AreNoted Kind.Pack IsPackOf r.names r.notes (e ∷ es)) (sym packs) (noted_grow Kind.Pack IsPackOf old.packs.names old.packs.notes e es h.0.packs);
+      let known : GoesOn turn → KnowsNotes new (e ∷ es) = λ goes_on. record {
+        snapshots = took.1 goes_on;
+        indexes = subst (λ (r : RoundView (List PackFacts)). AreNoted Kind.Index IsIndexOf r.names r.notes (e ∷ es)) (sym indexes) (noted_grow Kind.Index IsIndexOf old.indexes.names old.indexes.notes e es (λ n is. absurd (cc is)) h.0.indexes);
+        packs = subst (λ (r : RoundView (List Fact)). AreNoted Kind.Pack IsPackOf r.names r.notes (e ∷ es)) (sym packs) (noted_grow Kind.Pack IsPackOf old.packs.names old.packs.notes e es (λ n is. absurd (cc is)) h.0.packs);
       } in
-      snapshots_go task token new walk e es w known turn next took.0 (subst (λ r. IsFreshRound Kind.Index r) (sym indexes) at.indexes) (untouched_aside Kind.Index e es refl at.no_indexes)
+      snapshots_go task token new walk e es w turn next known (unranged_on e es (λ pack offset len is. absurd (cc is)) at.no_trees) took.0 (subst (λ r. IsFreshRound Kind.Index r) (sym indexes) at.indexes) (untouched_aside Kind.Index e es refl at.no_indexes)
       (subst (λ r. IsFreshRound Kind.Pack r) (sym packs) at.packs) (untouched_aside Kind.Pack e es refl at.no_packs) goes
 
   pub indexes_page : (pages : PagesRound old.indexes say turn new.indexes) → new.indexes.notes ≡ old.indexes.notes → new.snapshots ≡ old.snapshots → new.packs ≡ old.packs → GoesAfter turn (first_page new.packs) next
@@ -163,11 +167,12 @@ module _ (old new : RoundsView) (walk : WalkView) (say : Say) (turn : Turn) (nex
       let at = listing_indexes old walk es after h in
       let listing = at.indexes.1 in
       let known : KnowsNotes new (e ∷ es) = record {
-        snapshots = subst (λ (r : RoundView Root). AreNoted Kind.Snapshot IsRootOf r.names r.notes (e ∷ es)) (sym snapshots) (noted_grow Kind.Snapshot IsRootOf old.snapshots.names old.snapshots.notes e es h.0.snapshots);
-        indexes = none_noted Kind.Index IsIndexOf new.indexes.names new.indexes.notes (e ∷ es) (notes ∙ listing.none);
-        packs = subst (λ (r : RoundView (List Fact)). AreNoted Kind.Pack IsPackOf r.names r.notes (e ∷ es)) (sym packs) (noted_grow Kind.Pack IsPackOf old.packs.names old.packs.notes e es h.0.packs);
+        snapshots = subst (λ (r : RoundView Root). AreNoted Kind.Snapshot IsRootOf r.names r.notes (e ∷ es)) (sym snapshots) (noted_grow Kind.Snapshot IsRootOf old.snapshots.names old.snapshots.notes e es (λ n is. absurd (cc is)) h.0.snapshots);
+        indexes = noted_page Kind.Index IsIndexOf old.indexes new.indexes e es listing.none notes (λ n is. absurd (cc is)) h.0.indexes;
+        packs = subst (λ (r : RoundView (List Fact)). AreNoted Kind.Pack IsPackOf r.names r.notes (e ∷ es)) (sym packs) (noted_grow Kind.Pack IsPackOf old.packs.names old.packs.notes e es (λ n is. absurd (cc is)) h.0.packs);
       } in
-      indexes_go task token new walk e es w known turn next (subst (λ r. IsWholeRound Kind.Snapshot r (e ∷ es)) (sym snapshots) (whole_aside Kind.Snapshot old.snapshots e es refl at.snapshots)) (pages task token Kind.Index after es w may listing)
+      indexes_go task token new walk e es w turn next (λ goes_on. known) (unranged_on e es (λ pack offset len is. absurd (cc is)) at.no_trees)
+      (subst (λ r. IsWholeRound Kind.Snapshot r (e ∷ es)) (sym snapshots) (whole_aside Kind.Snapshot old.snapshots e es refl at.snapshots)) (pages task token Kind.Index after es w may listing)
       (subst (λ r. IsFreshRound Kind.Pack r) (sym packs) at.packs) (untouched_aside Kind.Pack e es refl at.no_packs) goes
 
   pub indexes_got : (n : Name) (takes : TakesObject Kind.Index IsIndexOf old.indexes n say turn new.indexes) → new.snapshots ≡ old.snapshots → new.packs ≡ old.packs → GoesAfter turn (first_page new.packs) next
@@ -176,12 +181,13 @@ module _ (old new : RoundsView) (walk : WalkView) (say : Say) (turn : Turn) (nex
       let e = silent (Ask.Get Kind.Index n) say in
       let at = getting_indexes old walk es n h in
       let took = takes task token es w at.indexes.1 h.0.indexes in
-      let known : KnowsNotes new (e ∷ es) = record {
-        snapshots = subst (λ (r : RoundView Root). AreNoted Kind.Snapshot IsRootOf r.names r.notes (e ∷ es)) (sym snapshots) (noted_grow Kind.Snapshot IsRootOf old.snapshots.names old.snapshots.notes e es h.0.snapshots);
-        indexes = took.1;
-        packs = subst (λ (r : RoundView (List Fact)). AreNoted Kind.Pack IsPackOf r.names r.notes (e ∷ es)) (sym packs) (noted_grow Kind.Pack IsPackOf old.packs.names old.packs.notes e es h.0.packs);
+      let known : GoesOn turn → KnowsNotes new (e ∷ es) = λ goes_on. record {
+        snapshots = subst (λ (r : RoundView Root). AreNoted Kind.Snapshot IsRootOf r.names r.notes (e ∷ es)) (sym snapshots) (noted_grow Kind.Snapshot IsRootOf old.snapshots.names old.snapshots.notes e es (λ n is. absurd (cc is)) h.0.snapshots);
+        indexes = took.1 goes_on;
+        packs = subst (λ (r : RoundView (List Fact)). AreNoted Kind.Pack IsPackOf r.names r.notes (e ∷ es)) (sym packs) (noted_grow Kind.Pack IsPackOf old.packs.names old.packs.notes e es (λ n is. absurd (cc is)) h.0.packs);
       } in
-      indexes_go task token new walk e es w known turn next (subst (λ r. IsWholeRound Kind.Snapshot r (e ∷ es)) (sym snapshots) (whole_aside Kind.Snapshot old.snapshots e es refl at.snapshots)) took.0
+      indexes_go task token new walk e es w turn next known (unranged_on e es (λ pack offset len is. absurd (cc is)) at.no_trees)
+      (subst (λ r. IsWholeRound Kind.Snapshot r (e ∷ es)) (sym snapshots) (whole_aside Kind.Snapshot old.snapshots e es refl at.snapshots)) took.0
       (subst (λ r. IsFreshRound Kind.Pack r) (sym packs) at.packs) (untouched_aside Kind.Pack e es refl at.no_packs) goes
 
 -- ---- requests of a survey
@@ -220,6 +226,13 @@ survey_reads rounds walk ask es (notes, inr (inl at)) = known_reads Kind.Index r
 survey_reads rounds walk ask es (notes, inr (inr (inl at))) = known_reads Kind.Pack rounds.packs ask es at.packs
 survey_reads rounds walk ask es (notes, inr (inr (inr at))) = subst IsReading (sym at.asked) tt
 
+-- a lock and its config read nothing else
+opened_never : (task : Task) (token : Token) (text : List ℕ) (ask : Ask) (say : Say) → IsReading ask → Exchanged (opened task token text) ask say → ⊥
+opened_never task token text ask say reads (inl h) = subst IsReading (sym h.0) reads
+opened_never task token text ask say reads (inr (inl h)) = subst IsReading (sym h.0) reads
+opened_never task token text ask say reads (inr (inr (inl h))) = subst IsReading (sym h.0) reads
+opened_never task token text ask say reads (inr (inr (inr h))) = h
+
 -- where nothing of the kinds was listed, the first page may be asked for
 pub first_known : (task : Task) (token : Token) (text : List ℕ) (config : Config) (rounds : RoundsView) (walk : WalkView) (ask : Ask) → IsConfigText text config → config.version ≤ upto task.versions → IsFreshSurvey rounds
     → ask ≡ Ask.List rounds.snapshots.kind (last_of rounds.snapshots.names) → IsFirst task rounds walk (opened task token text) ask
@@ -230,9 +243,9 @@ first_known task token text config rounds walk ask reads known fresh is =
       first.1,
       (
         record {
-          snapshots = none_noted Kind.Snapshot IsRootOf rounds.snapshots.names rounds.snapshots.notes es fresh.snapshots.no_notes;
-          indexes = none_noted Kind.Index IsIndexOf rounds.indexes.names rounds.indexes.notes es fresh.indexes.no_notes;
-          packs = none_noted Kind.Pack IsPackOf rounds.packs.names rounds.packs.notes es fresh.packs.no_notes;
+          snapshots = none_noted Kind.Snapshot IsRootOf rounds.snapshots.names rounds.snapshots.notes es fresh.snapshots.no_notes (λ n say h. opened_never task token text (Ask.Get Kind.Snapshot n) say tt h);
+          indexes = none_noted Kind.Index IsIndexOf rounds.indexes.names rounds.indexes.notes es fresh.indexes.no_notes (λ n say h. opened_never task token text (Ask.Get Kind.Index n) say tt h);
+          packs = none_noted Kind.Pack IsPackOf rounds.packs.names rounds.packs.notes es fresh.packs.no_notes (λ n say h. opened_never task token text (Ask.Get Kind.Pack n) say tt h);
         },
         inl (record {
           snapshots = first.0;
@@ -240,6 +253,7 @@ first_known task token text config rounds walk ask reads known fresh is =
           no_indexes = opened_rolled Kind.Index task token text;
           packs = fresh.packs;
           no_packs = opened_rolled Kind.Pack task token text;
+          no_trees = λ pack offset len say h. opened_never task token text (Ask.Range pack offset len) say tt h;
         }),
       ),
     )

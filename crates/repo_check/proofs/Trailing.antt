@@ -20,13 +20,12 @@ use Rattle.repo_session.specs.Traces.{Each, Exchange, Trace, ReadFact, silent}
 use Rattle.repo_name.proofs.Containing.{contains_got}
 use Rattle.repo_reach.specs.declared.roots.Root.{Root}
 use Rattle.repo_name.proofs.Containing.{contained_or, none_contained}
-use Rattle.repo_check.specs.Answers.{Answer}
+use Rattle.repo_check.specs.Answers.{Answer, IsTreeAnswer}
 use Rattle.repo_check.specs.Arrivals.{IsIndexOf, IsPackOf, IsRootOf}
 use Rattle.repo_check.specs.Checking.{CameFor, IsRanged}
 use Rattle.repo_check.specs.Gathering.{facts_noted}
-use Rattle.repo_check.specs.Measures.{IsTreeAnswer}
-use Rattle.repo_check.specs.Rounds.{AreNoted, IsNoteOf, IsWholeRound, Match, PagesRound, RoundView, TakesObject, TurnsOn}
-use Rattle.repo_check.specs.Surveys.{AtTrees, GoesToTrees, HasObjects, KnowsNotes, RoundsView, Surveys, SurveysOn, next_of}
+use Rattle.repo_check.specs.Rounds.{AreNoted, GoesOn, IsNoteOf, IsWholeRound, Match, PagesRound, RoundView, TakesObject, TurnsOn}
+use Rattle.repo_check.specs.Surveys.{AtTrees, GoesToTrees, HasObjects, IsUnranged, KnowsNotes, RoundsView, Surveys, SurveysOn, next_of}
 use Rattle.repo_check.specs.Walks.{Awaits, IsTreeDue, IsSomething, IsTold, Knowledge, WalkReads, TakesNote, WalkView, WalksOn, AreKnownTrees}
 use Rattle.repo_check.specs.declared.knowing.TreeNote.{TreeNote}
 use Rattle.repo_check.specs.declared.rounds.Note.{Note}
@@ -34,8 +33,8 @@ use Rattle.repo_check.specs.declared.rounds.Turn.{Turn}
 use Rattle.repo_check.specs.declared.surveys.Next.{Next}
 use Rattle.repo_check.specs.declared.visiting.Visit.{Visit}
 use Rattle.repo_check.proofs.Reading.{noted_walks, seen_more}
-use Rattle.repo_check.proofs.Rounding.{IsAside, none_noted, noted_grow}
-use Rattle.repo_check.proofs.Surveying.{getting_packs, listing_packs, ranging, whole_aside}
+use Rattle.repo_check.proofs.Rounding.{IsAside, IsNoGet, noted_grow, noted_page}
+use Rattle.repo_check.proofs.Surveying.{getting_packs, listing_packs, ranging, unranged_on, whole_aside}
 
 -- ---- what was read of an index
 
@@ -58,44 +57,50 @@ one_read es (a ∷ answers) (Note.Fault what ∷ notes) m g fact c = one_read es
 one_read es [] (note ∷ notes) m g fact c = absurd m
 one_read es (a ∷ answers) [] m g fact c = absurd m
 
+-- what is known of places was read of an index
+pub was_read : (rounds : RoundsView) (facts : List Fact) (fact : Fact) (es : Trace) → KnowsNotes rounds es → Joins [] (flat_map facts_noted rounds.indexes.notes) facts → Contains facts fact → ReadFact es fact
+was_read rounds facts fact es notes joins among =
+    let given : Contains (flat_map facts_noted rounds.indexes.notes) fact = elim ((joins fact).0 among) [ inl none ↦ absurd (none_contained _ none) | inr c ↦ c ] in
+    one_read es notes.indexes.answers rounds.indexes.notes notes.indexes.noted notes.indexes.got fact given
+
 -- the place of a tree that is due may be asked for
 may_range : (task : Task) (token : Token) (rounds : RoundsView) (known : Knowledge) (n : Name) (fact : Fact) (es : Trace) → IsWorking task token es → KnowsNotes rounds es → Joins [] (flat_map facts_noted rounds.indexes.notes) known.facts
     → IsTreeDue known n fact → May task es (range_of fact)
-may_range task token rounds known n fact es w notes joins due =
-    let given : Contains (flat_map facts_noted rounds.indexes.notes) (fact_of Tree n fact.place) = elim ((joins (fact_of Tree n fact.place)).0 due.least.among) [ inl none ↦ absurd (none_contained _ none) | inr c ↦ c ] in
-    ((token, w), (fact_of Tree n fact.place, one_read es notes.indexes.answers rounds.indexes.notes notes.indexes.noted notes.indexes.got (fact_of Tree n fact.place) given, refl, refl, refl))
+may_range task token rounds known n fact es w notes joins due = ((token, w), (fact_of Tree n fact.place, was_read rounds known.facts (fact_of Tree n fact.place) es notes joins due.least.among, refl, refl, refl))
 
 -- ---- what comes next
 
-module _ (task : Task) (token : Token) (rounds : RoundsView) (walk : WalkView) (e : Exchange) (es : Trace) (w : IsWorking task token (e ∷ es)) (notes : KnowsNotes rounds (e ∷ es)) where
-  pub walk_goes : (roots : List Root) (objects : HasObjects rounds walk roots (e ∷ es)) (answers : List Answer) → WalkReads walk answers (e ∷ es) → (fact : Option Fact) → WalksOn roots walk fact → (next : Next) → next ≡ next_of fact
+module _ (task : Task) (token : Token) (rounds : RoundsView) (walk : WalkView) (e : Exchange) (es : Trace) (w : IsWorking task token (e ∷ es)) where
+  pub walk_goes : KnowsNotes rounds (e ∷ es) → (roots : List Root) (objects : HasObjects rounds walk roots (e ∷ es)) (answers : List Answer) → WalkReads walk answers (e ∷ es) → (fact : Option Fact) → WalksOn roots walk fact → (next : Next) → next ≡ next_of fact
       → SurveysOn task rounds walk next e es
-  walk_goes roots objects answers reads (Some fact) on next is =
+  walk_goes notes roots objects answers reads (Some fact) on next is =
       subst (λ n. SurveysOn task rounds walk n e es) (sym is) (
         (notes, inr (inr (inr (record { roots = roots; objects = objects; fact = fact; asked = refl; awaits = on; answers = answers; reads = reads })))),
         may_range task token rounds walk.known fact.name fact (e ∷ es) w notes objects.facts on.due,
       )
-  walk_goes roots objects answers reads None on next is =
+  walk_goes notes roots objects answers reads None on next is =
       subst (λ n. SurveysOn task rounds walk n e es) (sym is) (record { notes = notes; roots = roots; objects = objects; over = on; answers = answers; reads = reads })
 
   -- nothing came of trees yet
-  none_seen : (known : Knowledge) → ((n : Name) → known.kept n ≡ None) → ((n : Name) → known.faults n ≡ None) → AreKnownTrees known [] (e ∷ es)
-  none_seen known kept faults = record {
+  none_seen : (known : Knowledge) → IsUnranged (e ∷ es) → ((n : Name) → known.kept n ≡ None) → ((n : Name) → known.faults n ≡ None) → AreKnownTrees known [] (e ∷ es)
+  none_seen known none kept faults = record {
     each = λ a c. absurd (none_contained a c);
     once = λ a b c d same. absurd (none_contained a c);
-    kept = λ n x is. absurd (let none = kept n in cc (none, is));
-    faults = λ n x is. absurd (let none = faults n in cc (none, is));
+    only = λ place say heard. absurd (none place.pack place.offset place.length say heard);
+    kept = λ n x is. absurd (let unread = kept n in cc (unread, is));
+    faults = λ n x is. absurd (let faultless = faults n in cc (faultless, is));
   }
 
-  pub packs_go : (turn : Turn) (next : Next) → IsWholeRound Kind.Snapshot rounds.snapshots (e ∷ es) → IsWholeRound Kind.Index rounds.indexes (e ∷ es) → TurnsOn task Kind.Pack rounds.packs turn e es → GoesToTrees rounds walk turn next
+  pub packs_go : (turn : Turn) (next : Next) → (GoesOn turn → KnowsNotes rounds (e ∷ es)) → IsUnranged (e ∷ es) → IsWholeRound Kind.Snapshot rounds.snapshots (e ∷ es) → IsWholeRound Kind.Index rounds.indexes (e ∷ es) → TurnsOn task Kind.Pack rounds.packs turn e es → GoesToTrees rounds walk turn next
       → SurveysOn task rounds walk next e es
-  packs_go (Turn.Ask ask) next ws wi on is = subst (λ n. SurveysOn task rounds walk n e es) (sym is) ((notes, inr (inr (inl (record { snapshots = ws; indexes = wi; packs = on.0 })))), on.1)
-  packs_go Turn.All next ws wi on b =
-      walk_goes b.roots (record { snapshots = ws; indexes = wi; packs = on; facts = b.facts; roots_are = b.roots_are }) []
-      (record { seen = none_seen walk.known b.fresh.1 b.fresh.2; reached = λ a c. absurd (none_contained a c) }) b.fact b.on next b.is
-  packs_go Turn.Senseless next ws wi on is = subst (λ n. SurveysOn task rounds walk n e es) (sym is) on
-  packs_go Turn.Version next ws wi on is = subst (λ n. SurveysOn task rounds walk n e es) (sym is) on
-  packs_go Turn.Away next ws wi on is = subst (λ n. SurveysOn task rounds walk n e es) (sym is) on
+  packs_go (Turn.Ask ask) next notes none ws wi on is =
+      subst (λ n. SurveysOn task rounds walk n e es) (sym is) ((notes tt, inr (inr (inl (record { snapshots = ws; indexes = wi; packs = on.0; no_trees = none })))), on.1)
+  packs_go Turn.All next notes none ws wi on b =
+      walk_goes (notes tt) b.roots (record { snapshots = ws; indexes = wi; packs = on; facts = b.facts; roots_are = b.roots_are }) []
+      (record { seen = none_seen walk.known none b.fresh.1 b.fresh.2; reached = λ a c. absurd (none_contained a c) }) b.fact b.on next b.is
+  packs_go Turn.Senseless next notes none ws wi on is = subst (λ n. SurveysOn task rounds walk n e es) (sym is) on
+  packs_go Turn.Version next notes none ws wi on is = subst (λ n. SurveysOn task rounds walk n e es) (sym is) on
+  packs_go Turn.Away next notes none ws wi on is = subst (λ n. SurveysOn task rounds walk n e es) (sym is) on
 
 -- ---- a tree
 
@@ -133,7 +138,7 @@ tree_noted task token rounds old new note fact say next then es w notes at is ob
     let a = told.0 in
     let now = ranged_now fact say a es told.1 in
     let walks = noted_walks old.known new.known fact note awaits.due adds at.roots old refl awaits.walks in
-    let seen = seen_more old.known new.known fact note awaits.due adds es say a now.0 now.1 told.2 at.answers at.reads.seen in
+    let seen = seen_more old.known new.known fact note awaits.due adds es say a told.1 now.0 now.1 told.2 at.answers at.reads.seen in
     let in_new : (v : Visit) → Contains old.visits v → Contains new.visits v = λ v c. subst (λ vs. Contains vs v) (sym takes.noted.visits) (Contains-append_left old.visits takes.noted.more v c) in
     let moved : HasObjects rounds new at.roots (e ∷ es) = record {
       snapshots = objects.snapshots;
@@ -156,11 +161,11 @@ tree_noted task token rounds old new note fact say next then es w notes at is ob
 
 -- ---- other rounds
 
-pub notes_grow : (rounds : RoundsView) (e : Exchange) (es : Trace) → KnowsNotes rounds es → KnowsNotes rounds (e ∷ es)
-notes_grow rounds e es h = record {
-  snapshots = noted_grow Kind.Snapshot IsRootOf rounds.snapshots.names rounds.snapshots.notes e es h.snapshots;
-  indexes = noted_grow Kind.Index IsIndexOf rounds.indexes.names rounds.indexes.notes e es h.indexes;
-  packs = noted_grow Kind.Pack IsPackOf rounds.packs.names rounds.packs.notes e es h.packs;
+pub notes_grow : (rounds : RoundsView) (e : Exchange) (es : Trace) → ((k : Kind) → IsNoGet k e.ask) → KnowsNotes rounds es → KnowsNotes rounds (e ∷ es)
+notes_grow rounds e es other h = record {
+  snapshots = noted_grow Kind.Snapshot IsRootOf rounds.snapshots.names rounds.snapshots.notes e es (other Kind.Snapshot) h.snapshots;
+  indexes = noted_grow Kind.Index IsIndexOf rounds.indexes.names rounds.indexes.notes e es (other Kind.Index) h.indexes;
+  packs = noted_grow Kind.Pack IsPackOf rounds.packs.names rounds.packs.notes e es (other Kind.Pack) h.packs;
 }
 
 -- a tree that was asked for came
@@ -186,7 +191,7 @@ tree_taken rounds old new note fact say next then only told some takes goes pack
           facts = objects.facts;
           roots_are = objects.roots_are;
         } in
-        tree_noted task token rounds old new note fact say next then es w (notes_grow rounds e es h.0) at (sym (same_Some fact at.fact (only at.roots at.fact at.awaits))) moved told some takes goes
+        tree_noted task token rounds old new note fact say next then es w (notes_grow rounds e es (λ k n is. absurd (cc is)) h.0) at (sym (same_Some fact at.fact (only at.roots at.fact at.awaits))) moved told some takes goes
 
 -- a page of packs came
 module _ (old new : RoundsView) (walk walk' : WalkView) (say : Say) (turn : Turn) (next : Next) (snapshots : new.snapshots ≡ old.snapshots) (indexes : new.indexes ≡ old.indexes) (goes : GoesToTrees new walk' turn next) where
@@ -197,10 +202,10 @@ module _ (old new : RoundsView) (walk walk' : WalkView) (say : Say) (turn : Turn
     subst (λ r. IsWholeRound Kind.Index r (e ∷ es)) (sym indexes) (whole_aside Kind.Index old.indexes e es beside wi),
   )
 
-  others : (e : Exchange) (es : Trace) → KnowsNotes old es → AreNoted Kind.Pack IsPackOf new.packs.names new.packs.notes (e ∷ es) → KnowsNotes new (e ∷ es)
-  others e es h packs = record {
-    snapshots = subst (λ (r : RoundView Root). AreNoted Kind.Snapshot IsRootOf r.names r.notes (e ∷ es)) (sym snapshots) (notes_grow old e es h).snapshots;
-    indexes = subst (λ (r : RoundView (List PackFacts)). AreNoted Kind.Index IsIndexOf r.names r.notes (e ∷ es)) (sym indexes) (notes_grow old e es h).indexes;
+  others : (e : Exchange) (es : Trace) → IsNoGet Kind.Snapshot e.ask → IsNoGet Kind.Index e.ask → KnowsNotes old es → AreNoted Kind.Pack IsPackOf new.packs.names new.packs.notes (e ∷ es) → KnowsNotes new (e ∷ es)
+  others e es no_snapshot no_index h packs = record {
+    snapshots = subst (λ (r : RoundView Root). AreNoted Kind.Snapshot IsRootOf r.names r.notes (e ∷ es)) (sym snapshots) (noted_grow Kind.Snapshot IsRootOf old.snapshots.names old.snapshots.notes e es no_snapshot h.snapshots);
+    indexes = subst (λ (r : RoundView (List PackFacts)). AreNoted Kind.Index IsIndexOf r.names r.notes (e ∷ es)) (sym indexes) (noted_grow Kind.Index IsIndexOf old.indexes.names old.indexes.notes e es no_index h.indexes);
     packs = packs;
   }
 
@@ -211,7 +216,8 @@ module _ (old new : RoundsView) (walk walk' : WalkView) (say : Say) (turn : Turn
       let at = listing_packs old walk es after h in
       let listing = at.packs.1 in
       let both = wholes e es refl refl at.snapshots at.indexes in
-      packs_go task token new walk' e es w (others e es h.0 (none_noted Kind.Pack IsPackOf new.packs.names new.packs.notes (e ∷ es) (notes ∙ listing.none))) turn next both.0 both.1 (pages task token Kind.Pack after es w may listing) goes
+      let noted = noted_page Kind.Pack IsPackOf old.packs new.packs e es listing.none notes (λ n is. absurd (cc is)) h.0.packs in
+      packs_go task token new walk' e es w turn next (λ goes_on. others e es (λ n is. absurd (cc is)) (λ n is. absurd (cc is)) h.0 noted) (unranged_on e es (λ pack offset len is. absurd (cc is)) at.no_trees) both.0 both.1 (pages task token Kind.Pack after es w may listing) goes
 
   pub packs_got : (n : Name) (takes : TakesObject Kind.Pack IsPackOf old.packs n say turn new.packs) → (task : Task) (token : Token) (es : Trace) → IsWorking task token (silent (Ask.Get Kind.Pack n) say ∷ es) → Surveys old walk (Ask.Get Kind.Pack n) es
       → SurveysOn task new walk' next (silent (Ask.Get Kind.Pack n) say) es
@@ -220,4 +226,4 @@ module _ (old new : RoundsView) (walk walk' : WalkView) (say : Say) (turn : Turn
       let at = getting_packs old walk es n h in
       let took = takes task token es w at.packs.1 h.0.packs in
       let both = wholes e es refl refl at.snapshots at.indexes in
-      packs_go task token new walk' e es w (others e es h.0 took.1) turn next both.0 both.1 took.0 goes
+      packs_go task token new walk' e es w turn next (λ goes_on. others e es (λ m is. absurd (cc is)) (λ m is. absurd (cc is)) h.0 (took.1 goes_on)) (unranged_on e es (λ pack offset len is. absurd (cc is)) at.no_trees) both.0 both.1 took.0 goes

@@ -9,9 +9,9 @@ use Rattle.repo_tree.specs.declared.nodes.Node.{Node}
 use Rattle.repo_session.specs.Blobs.{range_of}
 use Rattle.repo_session.specs.Ends.{IsUnwelcome}
 use Rattle.repo_session.specs.declared.outcomes.FaultKind.{FaultKind}
-use Rattle.repo_check.specs.Answers.{Answer}
+use Rattle.repo_check.specs.Answers.{Answer, IsTreeAnswer}
 use Rattle.repo_check.specs.Findings.{IsTreeAt}
-use Rattle.repo_check.specs.Measures.{IsFaultyTree, IsTreeAnswer, LooksAtTree, LooksAtNone}
+use Rattle.repo_check.specs.Measures.{IsFaultyTree, LooksAtTree, LooksAtNone}
 use Rattle.repo_check.specs.declared.trees.TreeLook.{TreeLook}
 use Rattle.repo_check.proofs.Arriving.{part_untold, with_bytes}
 

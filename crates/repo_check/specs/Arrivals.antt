@@ -1,5 +1,5 @@
 -- What a reply brings of a thing that was asked for.
-use Rattle.std.specs.Prelude.{◌≡◌, ◌≢◌, ◌⊎◌, ◌<◌, [], ℕ, List, length, Some, None}
+use Rattle.std.specs.Prelude.{◌≡◌, ◌≢◌, ◌⊎◌, ◌<◌, [], ℕ, List, length, Some}
 use Rattle.repo_name.specs.Limits.{contents_limit}
 use Rattle.repo_name.specs.Naming as naming
 use Rattle.repo_name.specs.declared.kinds.Kind.{Kind}
@@ -21,18 +21,12 @@ use Rattle.repo_session.specs.Versions.{upto}
 use Rattle.repo_session.specs.declared.versions.Versions.{Versions}
 use Rattle.repo_session.specs.Ends.{IsOfOtherVersion, IsUnwelcome, TellsFault}
 use Rattle.repo_session.specs.declared.outcomes.FaultKind.{FaultKind}
-use Rattle.repo_check.specs.Answers.{Answer, Gathered}
+use Rattle.repo_check.specs.Answers.{Answer, Gathered, IsAnswer}
 use Rattle.repo_check.specs.Findings.{ObjectIs}
 use Rattle.repo_check.specs.declared.arrivals.Arrival.{Arrival}
 use Rattle.repo_check.specs.declared.objects.IndexLook.{IndexLook}
 use Rattle.repo_check.specs.declared.objects.PackLook.{PackLook}
 use Rattle.repo_check.specs.declared.objects.SnapshotLook.{SnapshotLook}
-
--- a reply to the request for an object, and the answer that it is
-abbrev pub IsAnswer : Name → Say → Answer → Type 0
-IsAnswer n (Say.Bytes x) a = (a.name ≡ n) × (a.bytes ≡ Some x)
-IsAnswer n (Say.Refused Code.Missing) a = (a.name ≡ n) × (a.bytes ≡ None)
-IsAnswer n _ a = ⊥
 
 -- a refusal, or a reply of another sort, that tells nothing of what was asked for
 abbrev pub TellsNothing : Ask → Say → Type 0

@@ -7,7 +7,9 @@ use Rattle.repo_name.specs.declared.kinds.Thing.{Thing}
 use Rattle.repo_name.specs.declared.names.Name.{Name}
 use Rattle.repo_index.specs.declared.facts.Fact.{Fact}
 use Rattle.repo_store.specs.Stores.{Objects}
+use Rattle.repo_wire.specs.declared.messages.Ask.{Ask}
 use Rattle.repo_wire.specs.declared.messages.Reply.{Reply}
+use Rattle.repo_wire.specs.declared.messages.Say.{Say}
 use Rattle.repo_session.specs.declared.outcomes.CheckFault.{CheckFault}
 use Rattle.repo_session.specs.declared.outcomes.FaultKind.{FaultKind}
 use Rattle.repo_session.specs.declared.outcomes.Outcome.{Outcome}
@@ -15,7 +17,7 @@ use Rattle.repo_session.specs.Ends.{before_unlock}
 use Rattle.repo_session.specs.Sessions.{next_in, ended_in}
 use Rattle.repo_session.specs.Soundness.{IsSound}
 use Rattle.repo_session.specs.Talks.{Talk, trace_of, TookEach, CameIn}
-use Rattle.repo_session.specs.Traces.{Trace}
+use Rattle.repo_session.specs.Traces.{Exchanged, Trace}
 use Rattle.repo_check.specs.Findings.{IsFitting, IsMisplaced}
 use Rattle.repo_check.specs.Fitting.{FactsOfPacks, AreKnown, Fits, Misfits}
 use Rattle.repo_index.specs.IndexText.{IsIndexText}
@@ -53,6 +55,10 @@ CleanIsSound = (es : Trace) (snapshots indexes packs blobs : ℕ) (objects : Obj
 abbrev pub FoundOnce : Type 0
 FoundOnce = (es : Trace) (answers : Gathered) → AreAnswers es answers → (thing : Thing) (n : Name) (one other : Option FaultKind)
     → IsFound answers thing n one → IsFound answers thing n other → one ≡ other
+
+-- one thing was said of each object, however often it was asked for
+abbrev pub HeardOnce : Type 0
+HeardOnce = (es : Trace) (answers : Gathered) → AreAnswers es answers → (k : Kind) (n : Name) (one other : Say) → Exchanged es (Ask.Get k n) one → Exchanged es (Ask.Get k n) other → one ≡ other
 
 -- an index that reads is found well, or misplaced, by what is known of the packs
 abbrev pub FitsAsFound : Type 0

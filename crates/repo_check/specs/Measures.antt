@@ -15,7 +15,7 @@ use Rattle.repo_tree.specs.declared.nodes.Node.{Node}
 use Rattle.repo_tree.specs.declared.nodes.NodeKind.{NodeKind}
 use Rattle.repo_session.specs.Blobs.{range_of}
 use Rattle.repo_session.specs.declared.outcomes.FaultKind.{FaultKind}
-use Rattle.repo_check.specs.Answers.{Answer, Gathered, GivesFact}
+use Rattle.repo_check.specs.Answers.{Answer, Gathered, GivesFact, IsTreeAnswer}
 use Rattle.repo_check.specs.Arrivals.{AnswersBytes, TellsNothing}
 use Rattle.repo_check.specs.Findings.{IsMeasured, IsMismeasured, IsTreeAt}
 use Rattle.repo_check.specs.declared.keeping.Kept.{Kept}
@@ -52,13 +52,6 @@ AreGivenFacts answers facts = (fact : Fact) → Contains facts fact ↔ GivesFac
 pub record Judges (answers : Gathered) (nodes : List Node) (right : Bool) : Type 0 where
   pub well : IsTrue right → (node : Node) → Contains nodes node → IsMeasured answers node.what
   pub ill : IsFalse right → (node : Node) × Contains nodes node × IsMismeasured answers node.what
-
--- a reply to the request for a tree, and the answer that it is
-abbrev pub IsTreeAnswer : Name → Say → Answer → Type 0
-IsTreeAnswer n (Say.Bytes x) a = (a.name ≡ n) × (a.bytes ≡ Some x)
-IsTreeAnswer n (Say.Refused Code.Missing) a = (a.name ≡ n) × (a.bytes ≡ None)
-IsTreeAnswer n (Say.Refused Code.Range) a = (a.name ≡ n) × (a.bytes ≡ None)
-IsTreeAnswer n _ a = ⊥
 
 -- it is a tree of which this is kept, with sizes that are right or aren't
 pub record IsReadAs (facts : List Fact) (place : Place) (a : Answer) (kept : Kept) (right : Bool) : Type 0 where

@@ -1,5 +1,5 @@
 -- What a round over the objects of one kind knows of the trace.
-use Rattle.std.specs.Prelude.{◌≡◌, ◌≤◌, ◌++◌, ◌∷◌, [], ⊤, ℕ, true, false, List, length, map, take, slice_get, Option, Some}
+use Rattle.std.specs.Prelude.{◌≡◌, ◌≤◌, ◌++◌, ◌∷◌, [], ⊤, ℕ, true, false, List, length, map, take, slice_get, Option, Some, Contains}
 use Rattle.repo_name.specs.declared.kinds.Kind.{Kind}
 use Rattle.repo_name.specs.declared.names.Name.{Name}
 use Rattle.repo_name.specs.declared.tokens.Token.{Token}
@@ -11,9 +11,9 @@ use Rattle.repo_session.specs.Jobs.{IsShort}
 use Rattle.repo_session.specs.Order.{Task, IsWorking, May}
 use Rattle.repo_session.specs.Rolls.{IsPaged, IsRolled}
 use Rattle.repo_session.specs.declared.versions.Versions.{Versions}
-use Rattle.repo_session.specs.Traces.{Each, Exchange, Trace, silent}
+use Rattle.repo_session.specs.Traces.{Each, Exchange, Exchanged, Trace, silent}
 use Rattle.repo_reach.specs.declared.roots.Root.{Root}
-use Rattle.repo_check.specs.Answers.{Answer}
+use Rattle.repo_check.specs.Answers.{Answer, IsAnswer}
 use Rattle.repo_check.specs.Arrivals.{IsFaulty, IsRootOf, TellsNothing}
 use Rattle.repo_check.specs.Checking.{CameFor}
 use Rattle.repo_check.specs.declared.rounds.Note.{Note}
@@ -85,6 +85,12 @@ TurnsOn task k round Turn.Senseless e es = IsSenseless e.ask e.say
 TurnsOn task k round Turn.Version e es = IsOfOtherVersion (upto task.versions) e.ask e.say
 TurnsOn task k round Turn.Away e es = TellsNothing e.ask e.say
 
+-- the round goes on, or is over
+abbrev pub GoesOn : Turn → Type 0
+GoesOn (Turn.Ask ask) = ⊤
+GoesOn Turn.All = ⊤
+GoesOn _ = ⊥
+
 -- what a page comes to, after each trace at whose end it was asked for
 abbrev pub PagesRound : {T : Type 0} → RoundView T → Say → Turn → RoundView T → Type 0
 PagesRound old say turn new = (task : Task) (token : Token) (k : Kind) (after : Option Name) (es : Trace) → IsWorking task token (silent (Ask.List k after) say ∷ es) → May task es (Ask.List k after) → RoundIsListing k old es
@@ -108,22 +114,23 @@ abbrev pub IsNoteOf : {T : Type 0} → Kind → (Answer → T → Type 0) → An
 IsNoteOf k Gives a (Note.Well x) = Gives a x
 IsNoteOf k Gives a (Note.Fault what) = IsFaulty k a what
 
--- the objects of the first names came so, and these are the notes of them
+-- the objects of the first names came so, nothing else was said of any, and these are the notes of them
 pub record AreNoted {T : Type 0} (k : Kind) (Gives : Answer → T → Type 0) (names : List Name) (notes : List (Note T)) (es : Trace) : Type 0 where
   pub answers : List Answer
   pub named : map (λ (a : Answer). a.name) answers ≡ take (length notes) names
   pub got : Each (λ (a : Answer). CameFor es k a.name a.bytes) answers
+  pub only : (n : Name) (say : Say) → Exchanged es (Ask.Get k n) say → (a : Answer) × Contains answers a × IsAnswer n say a
   pub noted : Match (IsNoteOf k Gives) answers notes
 
 -- what a reply to the request for the next object comes to, after each trace at whose end it was pending
 abbrev pub TakesObject : {T : Type 0} → Kind → (Answer → T → Type 0) → RoundView T → Name → Say → Turn → RoundView T → Type 0
 TakesObject k Gives old n say turn new = (task : Task) (token : Token) (es : Trace) → IsWorking task token (silent (Ask.Get k n) say ∷ es) → IsGetting k old n es → AreNoted k Gives old.names old.notes es
-    → TurnsOn task k new turn (silent (Ask.Get k n) say) es × AreNoted k Gives new.names new.notes (silent (Ask.Get k n) say ∷ es)
+    → TurnsOn task k new turn (silent (Ask.Get k n) say) es × (GoesOn turn → AreNoted k Gives new.names new.notes (silent (Ask.Get k n) say ∷ es))
 
 -- so what one to the request for the next snapshot does, after those of who knows these versions
 abbrev pub TakesSnapshot : Versions → RoundView Root → Name → Say → Turn → RoundView Root → Type 0
 TakesSnapshot versions old n say turn new = (task : Task) (token : Token) (es : Trace) → task.versions ≡ versions → IsWorking task token (silent (Ask.Get Kind.Snapshot n) say ∷ es) → IsGetting Kind.Snapshot old n es → AreNoted Kind.Snapshot IsRootOf old.names old.notes es
-    → TurnsOn task Kind.Snapshot new turn (silent (Ask.Get Kind.Snapshot n) say) es × AreNoted Kind.Snapshot IsRootOf new.names new.notes (silent (Ask.Get Kind.Snapshot n) say ∷ es)
+    → TurnsOn task Kind.Snapshot new turn (silent (Ask.Get Kind.Snapshot n) say) es × (GoesOn turn → AreNoted Kind.Snapshot IsRootOf new.names new.notes (silent (Ask.Get Kind.Snapshot n) say ∷ es))
 
 -- there is one note more
 pub record HasOneMore {T : Type 0} (old new : RoundView T) : Type 0 where

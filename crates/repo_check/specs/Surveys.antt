@@ -18,7 +18,7 @@ use Rattle.repo_session.specs.Blobs.{range_of}
 use Rattle.repo_session.specs.Ends.{IsOfOtherVersion, IsSenseless}
 use Rattle.repo_session.specs.Jobs.{IsShort}
 use Rattle.repo_session.specs.Order.{Task, IsWorking, May, last_of, opened}
-use Rattle.repo_session.specs.Traces.{Exchange, Trace, silent}
+use Rattle.repo_session.specs.Traces.{Exchange, Exchanged, Trace, silent}
 use Rattle.repo_reach.specs.declared.roots.Root.{Root}
 use Rattle.repo_tree.specs.Spelling.{greatest_depth}
 use Rattle.repo_check.specs.Answers.{Answer, Gathered, IsDeepest, IsFollowed, IsReachedBlob}
@@ -56,6 +56,10 @@ pub record KnowsNotes (rounds : RoundsView) (es : Trace) : Type 0 where
   pub indexes : AreNoted Kind.Index IsIndexOf rounds.indexes.names rounds.indexes.notes es
   pub packs : AreNoted Kind.Pack IsPackOf rounds.packs.names rounds.packs.notes es
 
+-- no place was asked for
+abbrev pub IsUnranged : Trace → Type 0
+IsUnranged es = (pack : Name) (offset len : ℕ) (say : Say) → ¬ Exchanged es (Ask.Range pack offset len) say
+
 -- ---- what is known where this is pending
 
 -- a page of snapshots, or a snapshot
@@ -65,6 +69,7 @@ pub record AtSnapshots (rounds : RoundsView) (ask : Ask) (es : Trace) : Type 0 w
   pub no_indexes : IsUntouched Kind.Index es
   pub packs : IsFreshRound Kind.Pack rounds.packs
   pub no_packs : IsUntouched Kind.Pack es
+  pub no_trees : IsUnranged es
 
 -- a page of indexes, or an index
 pub record AtIndexes (rounds : RoundsView) (ask : Ask) (es : Trace) : Type 0 where
@@ -72,12 +77,14 @@ pub record AtIndexes (rounds : RoundsView) (ask : Ask) (es : Trace) : Type 0 whe
   pub indexes : KnowsRound Kind.Index rounds.indexes ask es
   pub packs : IsFreshRound Kind.Pack rounds.packs
   pub no_packs : IsUntouched Kind.Pack es
+  pub no_trees : IsUnranged es
 
 -- a page of packs, or a pack
 pub record AtPacks (rounds : RoundsView) (ask : Ask) (es : Trace) : Type 0 where
   pub snapshots : IsWholeRound Kind.Snapshot rounds.snapshots es
   pub indexes : IsWholeRound Kind.Index rounds.indexes es
   pub packs : KnowsRound Kind.Pack rounds.packs ask es
+  pub no_trees : IsUnranged es
 
 -- all objects came; the walk goes by the facts of the indexes that read, from the roots of the snapshots that read
 pub record HasObjects (rounds : RoundsView) (walk : WalkView) (roots : List Root) (es : Trace) : Type 0 where

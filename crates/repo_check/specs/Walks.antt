@@ -3,6 +3,7 @@ use Rattle.std.specs.Prelude.{◌≡◌, ◌≤◌, ◌<◌, ◌⊎◌, ◌++◌
 use Rattle.repo_name.specs.NameMaps.{found, Inserted}
 use Rattle.repo_name.specs.declared.kinds.BlobKind.TheVariants.{Content, Tree}
 use Rattle.repo_name.specs.declared.names.Name.{Name}
+use Rattle.repo_wire.specs.declared.messages.Ask.{Ask}
 use Rattle.repo_wire.specs.declared.messages.Say.{Say}
 use Rattle.repo_pack.specs.declared.places.Place.{Place}
 use Rattle.repo_index.specs.IndexText.{fact_of}
@@ -12,13 +13,13 @@ use Rattle.repo_reach.specs.declared.roots.Root.{Root}
 use Rattle.repo_session.specs.Blobs.{range_of}
 use Rattle.repo_tree.specs.Spelling.{greatest_depth}
 use Rattle.repo_session.specs.Catalogs.{IsBlobNowhere}
-use Rattle.repo_session.specs.Traces.{Trace}
+use Rattle.repo_session.specs.Traces.{Exchanged, Trace}
 use Rattle.repo_session.specs.declared.outcomes.FaultKind.{FaultKind}
-use Rattle.repo_check.specs.Answers.{Answer}
+use Rattle.repo_check.specs.Answers.{Answer, IsTreeAnswer}
 use Rattle.repo_check.specs.Arrivals.{TellsNothing}
 use Rattle.repo_check.specs.Checking.{IsRanged}
 use Rattle.repo_check.specs.Keeping.{KeptTrees}
-use Rattle.repo_check.specs.Measures.{IsFaultyTree, IsReadAs, IsTreeAnswer}
+use Rattle.repo_check.specs.Measures.{IsFaultyTree, IsReadAs}
 use Rattle.repo_check.specs.Visiting.{HasLedOn, IsLedTo, visit_of}
 use Rattle.repo_check.specs.declared.keeping.Kept.{Kept}
 use Rattle.repo_check.specs.declared.knowing.Known.{Known}
@@ -97,10 +98,11 @@ pub record IsKnownTree (known : Knowledge) (es : Trace) (a : Answer) : Type 0 wh
   pub ranged : IsRanged es place a.bytes
   pub told : IsTold known.facts place a (known.kept a.name) (known.faults a.name)
 
--- these are the answers that came for trees, one of each tree, and nothing is known but by them
+-- these are the answers that came for trees, one of each tree; nothing else was said of any place, and nothing is known but by them
 pub record AreKnownTrees (known : Knowledge) (answers : List Answer) (es : Trace) : Type 0 where
   pub each : (a : Answer) → Contains answers a → IsKnownTree known es a
   pub once : (a b : Answer) → Contains answers a → Contains answers b → a.name ≡ b.name → a ≡ b
+  pub only : (place : Place) (say : Say) → Exchanged es (Ask.Range place.pack place.offset place.length) say → (a : Answer) × Contains answers a × IsLeast known.facts Tree a.name place × IsTreeAnswer a.name say a
   pub kept : (n : Name) (kept : Kept) → known.kept n ≡ Some kept → (a : Answer) × Contains answers a × (a.name ≡ n)
   pub faults : (n : Name) (what : FaultKind) → known.faults n ≡ Some what → (a : Answer) × Contains answers a × (a.name ≡ n)
 

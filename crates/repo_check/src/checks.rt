@@ -3,11 +3,14 @@
 ghost use Rattle.std.specs.Prelude.{◌≡◌, [], IfOk, OnErr};
 ghost use Rattle.repo_session.specs.Jobs.{IsShortStep};
 ghost use Rattle.repo_session.specs.Traces.{Trace};
+ghost use Rattle.repo_dial.specs.Bringing.{Ended, Obeyed};
+ghost use Rattle.repo_check.specs.Checking.{check_rule};
 ghost use Rattle.repo_check.specs.CheckStates.{Concluded, FitsCheck, IsFreshCheck, KnowsCheck, TakesBack, checker_of};
 ghost use Rattle.repo_check.specs.Surveys.{IsShortNext};
 
 use crate::surveys::{Next, Survey, SurveyMark};
 use crate::verdicts::outcome_of;
+use repo_dial::{Dial, TryError, bring};
 use repo_name::Token;
 use repo_session::{Client, Emission, End, Holder, Job, Outcome, Session, Step, Versions, Who};
 use repo_tree::Config;
@@ -116,6 +119,21 @@ impl Check {
         Check {
             session: Session::new(alloc, who, CheckJob::new(alloc)),
         }
+    }
+
+    /// Brings a check that hasn't begun to its end, as [`bring`] does, and gives how it ended.
+    pub fn bring<D: Dial>(
+        self,
+        alloc: Global,
+        dial: &mut D,
+        retry: u64,
+    ) -> Result<Outcome, TryError>
+        requires { FitsCheck self [] }
+        ensures obeyed { Obeyed check_rule (checker_of self) retry (D.connections dial.old) (D.connections dial.new) }
+        ensures ended { IfOk result (λ outcome. Ended check_rule (checker_of self) outcome retry (D.connections dial.old) (D.connections dial.new)) }
+    {
+        let Check { session } = self;
+        bring(alloc, session, |_| true, dial, retry)
     }
 }
 

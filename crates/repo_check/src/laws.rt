@@ -3,7 +3,7 @@
 ghost use Rattle.repo_check.specs.LoneLaws.{CheckChangesNothing, CheckEndsWell, CleanIsOfSound};
 ghost use Rattle.repo_check.specs.Surveys.{SurveyedIsReceived, VisitsAreReached, ContentIsReached, SnapshotsAreTold, PacksAreTold, TreesAreTold, ContentIsTold};
 ghost use Rattle.repo_check.specs.Verdicts.{IndexesAreTold, PlacesAreTold};
-ghost use Rattle.repo_check.specs.Laws.{WellIsSound, CleanIsSound, FoundOnce, FitsAsFound, WellHasNoFault, CleanIsWhatCame, FaultsAreWhatCame};
+ghost use Rattle.repo_check.specs.Laws.{WellIsSound, CleanIsSound, FoundOnce, HeardOnce, FitsAsFound, WellHasNoFault, CleanIsWhatCame, FaultsAreWhatCame};
 
 /// Where all things are well in what was received, the objects received are a sound store. Premise: no two of the objects
 /// and trees received, and of the blobs in the packs, have one name.
@@ -19,6 +19,11 @@ pub fn clean_is_sound()
 /// Of each thing one thing is found: that it is well, or one fault.
 pub fn found_once()
     ensures { FoundOnce }
+{}
+
+/// Of each object one thing was said: two replies to its request that differ, and a check can be neither clean nor tell faults.
+pub fn heard_once()
+    ensures { HeardOnce }
 {}
 
 /// An index that reads is found well where it fits the packs that came, and misplaced where it doesn't, by the facts that

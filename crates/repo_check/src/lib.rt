@@ -1,9 +1,10 @@
 //! The check of a store: whether every snapshot can be restored, and else what is wrong.
 //!
-//! What a check may ask, and how it may end, are definitions: it reads alone; `Clean` comes only where all was received
-//! and each thing is found well, `Faults` only with just the things that are at fault, each once and in order. What is
-//! found of a thing goes by what was received, and one thing is found of each ([`found_once`]). A snapshot of a version
-//! that isn't known is no fault: it ends the check.
+//! What a check may ask, and how it may end, are definitions: it reads alone, and asks for no object again, nor for a place
+//! that is one tree's; `Clean` comes only where all was received and each thing is found well, `Faults` only with just the
+//! things that are at fault, each once and in order. What is found of a thing goes by what was received, and one thing is
+//! found of each ([`found_once`]); whatever was said to a request counts as received ([`heard_once`]). A snapshot of a
+//! version that isn't known is no fault: it ends the check.
 //!
 //! [`Check`] is the client. Its survey receives all that a check needs: the objects, kind by kind, each noted as well or at
 //! fault, and then the trees, each asked for once, at its least place. Each tree is visited at each depth at which a snapshot
@@ -56,7 +57,7 @@ pub use checks::Check;
 pub use laws::{
     check_changes_nothing, check_ends_well, clean_is_of_sound, clean_is_sound, clean_is_what_came,
     content_is_reached, content_is_told, faults_are_what_came, fits_as_found, found_once,
-    indexes_are_told, packs_are_told, places_are_told, snapshots_are_told, surveyed_is_received,
-    trees_are_told, visits_are_reached, well_has_no_fault, well_is_sound,
+    heard_once, indexes_are_told, packs_are_told, places_are_told, snapshots_are_told,
+    surveyed_is_received, trees_are_told, visits_are_reached, well_has_no_fault, well_is_sound,
 };
 pub use telling::{ranks_ascend, told_are_found, told_ascend};

@@ -4,7 +4,6 @@ use Rattle.repo_check.specs.Rounds.{round_of}
 use Rattle.repo_name.specs.declared.kinds.Kind.{Kind}
 use Rattle.repo_check.specs.Arrivals.{IsPackOf}
 use Rattle.repo_check.specs.declared.rounds.Note.{Note}
-use Rattle.repo_check.specs.declared.rounds.Turn.{Turn}
 use Rattle.repo_check.proofs.Rounding.{ended, ok_with, taken}
 use Rattle.repo_check.proofs.visits.take_pack.Goals as goal
 
@@ -22,4 +21,4 @@ returns-in-Fault-clause-takes c =
 pub returns-in-Unwelcome-clause-takes : goal.returns-in-Unwelcome-clause-takes
 returns-in-Unwelcome-clause-takes c =
     let look = rw c.in-Unwelcome.is at c.in_ok-facts.ensures in
-    ended Kind.Pack IsPackOf (round_of c.args.round.now) c.args.name c.args.say.now Turn.Away (λ task es. look)
+    ended Kind.Pack IsPackOf (round_of c.args.round.now) c.args.name c.args.say.now look

@@ -29,4 +29,4 @@ returns-in-Version-clause-takes c =
 pub returns-in-Unwelcome-clause-takes : goal.returns-in-Unwelcome-clause-takes
 returns-in-Unwelcome-clause-takes c =
     let look = rw c.in-Unwelcome.is at c.in_ok-root.ensures in
-    by_versions c.args.versions (round_of c.args.round.now) (round_of c.args.round.now) c.args.name c.args.say.now Turn.Away (ended Kind.Snapshot IsRootOf (round_of c.args.round.now) c.args.name c.args.say.now Turn.Away (λ task es. look))
+    by_versions c.args.versions (round_of c.args.round.now) (round_of c.args.round.now) c.args.name c.args.say.now Turn.Away (ended Kind.Snapshot IsRootOf (round_of c.args.round.now) c.args.name c.args.say.now look)

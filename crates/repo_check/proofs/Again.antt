@@ -1,0 +1,116 @@
+-- A survey asks for nothing again.
+use Rattle.std.proofs.Common.{◌≡◌, ◌∷◌, [], ℕ, zero, suc, List, length, map, take, slice_get, Option, Some, None, refl, sym, ap, subst, inl, inr, ◌∙◌}
+use Rattle.repo_name.specs.Naming.{Before}
+use Rattle.repo_name.specs.declared.kinds.Kind.{Kind}
+use Rattle.repo_name.specs.declared.names.Name.{Name}
+use Rattle.repo_wire.specs.declared.messages.Ask.{Ask}
+use Rattle.repo_wire.specs.declared.messages.Code.{Code}
+use Rattle.repo_wire.specs.declared.messages.Say.{Say}
+use Rattle.repo_store.specs.Pages.{Has, NamesAscend}
+use Rattle.repo_session.specs.Blobs.{range_of}
+use Rattle.repo_session.specs.Traces.{Exchanged, Trace, WasAsked}
+use Rattle.repo_session.proofs.Rolling.{has_got}
+use Rattle.repo_check.specs.Answers.{Answer, IsAnswer}
+use Rattle.repo_check.specs.Arrivals.{IsIndexOf, IsPackOf, IsRootOf}
+use Rattle.repo_check.specs.Checking.{IsNew}
+use Rattle.repo_check.specs.Laws.{HeardOnce}
+use Rattle.repo_check.specs.Rounds.{AreNoted, IsGetting, KnowsRound, RoundView}
+use Rattle.repo_check.specs.Surveys.{AtTrees, KnowsNotes, RoundsView, Surveys}
+use Rattle.repo_check.specs.Walks.{IsSettled, WalkView}
+use Rattle.repo_check.proofs.Finding.{beyond, got_once, has_name, not_before}
+use Rattle.repo_check.proofs.Reading.{seen_settled}
+use Rattle.repo_check.proofs.Rounding.{got_now}
+use Rattle.repo_check.proofs.Trailing.{was_read}
+use Rattle.repo_check.proofs.Walking.{due_not_settled}
+
+-- to what was asked something was said
+heard_of : (es : Trace) (ask : Ask) → WasAsked es ask → (say : Say) × Exchanged es ask say
+heard_of [] ask h = absurd h
+heard_of (e ∷ es) ask (inl here) = (e.say, inl (here, refl))
+heard_of (e ∷ es) ask (inr before) = let more = heard_of es ask before in (more.0, inr more.1)
+
+-- what was said is what came
+say_of : Option (List ℕ) → Say
+say_of (Some x) = Say.Bytes x
+say_of None = Say.Refused Code.Missing
+
+said_is : (n : Name) (say : Say) (a : Answer) → IsAnswer n say a → say ≡ say_of a.bytes
+unfolding say_of
+said_is n (Say.Bytes x) a h = sym (ap say_of h.1)
+said_is n (Say.Refused Code.Missing) a h = sym (ap say_of h.1)
+said_is n (Say.Refused Code.Malformed) a h = absurd h
+said_is n (Say.Refused Code.Dead) a h = absurd h
+said_is n (Say.Refused Code.Busy) a h = absurd h
+said_is n (Say.Refused Code.NotExclusive) a h = absurd h
+said_is n (Say.Refused Code.NameMismatch) a h = absurd h
+said_is n (Say.Refused Code.TooLarge) a h = absurd h
+said_is n (Say.Refused Code.Range) a h = absurd h
+said_is n (Say.Refused Code.OtherKind) a h = absurd h
+said_is n (Say.Refused Code.Fault) a h = absurd h
+said_is n (Say.Refused Code.NoMemory) a h = absurd h
+said_is n (Say.Refused Code.Full) a h = absurd h
+said_is n (Say.Refused Code.Exhausted) a h = absurd h
+said_is n (Say.Refused Code.AppendOnly) a h = absurd h
+said_is n (Say.Token token) a h = absurd h
+said_is n Say.Done a h = absurd h
+said_is n (Say.Names more names) a h = absurd h
+said_is n (Say.LockList rows) a h = absurd h
+
+pub heard_once : HeardOnce
+heard_once es answers are k n one other heard again =
+    let got = are.objects k in
+    let a = got.only n one heard in
+    let b = got.only n other again in
+    let same : a.0 ≡ b.0 = got_once es k (answers.objects k) got a.0 b.0 a.1 b.1 ((got_now k n one a.0 es a.2).0 ∙ sym (got_now k n other b.0 es b.2).0) in
+    said_is n one a.0 a.2 ∙ ap (λ (c : Answer). say_of c.bytes) same ∙ sym (said_is n other b.0 b.2)
+
+-- in names that ascend none stands among those before it
+not_among : (after : Option Name) (names : List Name) (i : ℕ) (n : Name) → NamesAscend after names → slice_get names i ≡ Some n → Has (take i names) n → ⊥
+not_among after [] i n h next has = absurd (cc)
+not_among after (m ∷ names) zero n h next has = has
+not_among after (m ∷ names) (suc i) n h next (inl is) = not_before m (subst (λ o. Before m o) is (beyond m names h.1 n (has_got names i n next)))
+not_among after (m ∷ names) (suc i) n h next (inr more) = not_among (Some m) names i n h.1 next more
+
+module _ {T : Type 0} (k : Kind) (Gives : Answer → T → Type 0) (round : RoundView T) (es : Trace) (noted : AreNoted k Gives round.names round.notes es) where
+  -- the next object wasn't asked for
+  never_got : (n : Name) → IsGetting k round n es → WasAsked es (Ask.Get k n) → ⊥
+  never_got n getting was =
+      let heard = heard_of es (Ask.Get k n) was in
+      let a = noted.only n heard.0 heard.1 in
+      let named : a.0.name ≡ n = (got_now k n heard.0 a.0 es a.2).0 in
+      let has : Has (map (λ (b : Answer). b.name) noted.answers) n = subst (λ m. Has (map (λ (b : Answer). b.name) noted.answers) m) named (has_name noted.answers a.0 a.1) in
+      not_among None round.names (length round.notes) n (subst (λ ns. NamesAscend None ns) getting.paged.listed getting.paged.rise.ascend) getting.next (subst (λ ns. Has ns n) noted.named has)
+
+  round_new : (ask : Ask) → KnowsRound k round ask es → IsNew es ask
+  round_new (Ask.List j after) h = tt
+  round_new (Ask.Get j n) h = λ was. never_got n h.1 (subst (λ i. WasAsked es (Ask.Get i n)) h.0 was)
+  round_new Ask.Ticket h = absurd h
+  round_new (Ask.Lock row) h = absurd h
+  round_new (Ask.Refresh token time) h = absurd h
+  round_new (Ask.Unlock token) h = absurd h
+  round_new Ask.Locks h = absurd h
+  round_new (Ask.Range pack offset len) h = absurd h
+  round_new (Ask.Put token j n x) h = absurd h
+  round_new (Ask.Delete token j n) h = absurd h
+  round_new (Ask.Upgrade token) h = absurd h
+  round_new Ask.Config h = absurd h
+
+-- where a tree's place was asked for, it was for another tree
+range_new : (rounds : RoundsView) (walk : WalkView) (ask : Ask) (es : Trace) → KnowsNotes rounds es → AtTrees rounds walk ask es → IsNew es ask
+range_new rounds walk ask es notes at = subst (λ a. IsNew es a) (sym at.asked) (λ was.
+    let fact = at.fact in
+    let heard = heard_of es (range_of fact) was in
+    let a = at.reads.seen.only fact.place heard.0 heard.1 in
+    record {
+      one = a.0.name;
+      other = fact.name;
+      apart = λ same. due_not_settled walk.known fact.name fact at.awaits.due (subst (λ m. IsSettled walk.known m) same (seen_settled walk.known es a.0 (at.reads.seen.each a.0 a.1)));
+      gives_one = was_read rounds walk.known.facts _ es notes at.objects.facts a.2.among;
+      gives_other = was_read rounds walk.known.facts _ es notes at.objects.facts at.awaits.due.least.among;
+    })
+
+pub survey_new : (rounds : RoundsView) (walk : WalkView) (ask : Ask) (es : Trace) → Surveys rounds walk ask es → IsNew es ask
+survey_new rounds walk ask es (notes, inl at) = round_new Kind.Snapshot IsRootOf rounds.snapshots es notes.snapshots ask at.snapshots
+survey_new rounds walk ask es (notes, inr (inl at)) = round_new Kind.Index IsIndexOf rounds.indexes es notes.indexes ask at.indexes
+survey_new rounds walk ask es (notes, inr (inr (inl at))) = round_new Kind.Pack IsPackOf rounds.packs es notes.packs ask at.packs
+survey_new rounds walk ask es (notes, inr (inr (inr at))) = range_new rounds walk ask es notes at
