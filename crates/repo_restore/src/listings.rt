@@ -1,8 +1,11 @@
 //! The list of a store's snapshots.
 
-ghost use Rattle.std.specs.Prelude.{◌≡◌, []};
+ghost use Rattle.std.specs.Prelude.{◌≡◌, [], IfOk};
+ghost use Rattle.repo_dial.specs.Bringing.{Ended, Obeyed};
+ghost use Rattle.repo_restore.specs.Listing.{list_rule};
 ghost use Rattle.repo_restore.specs.ListStates.{FitsList, IsFreshList, who_of};
 
+use repo_dial::{Dial, TryError, bring};
 use repo_name::{Thing, Token};
 use repo_session::{
     Client, Emission, End, Holder, Job, Outcome, Session, SnapshotReading, SnapshotRoll, Step,
@@ -97,6 +100,21 @@ impl SnapshotList {
         SnapshotList {
             session: Session::new(alloc, who, ListJob::new(alloc)),
         }
+    }
+
+    /// Brings a list that hasn't begun to its end, as [`bring`] does, and gives how it ended.
+    pub fn bring<D: Dial>(
+        self,
+        alloc: Global,
+        dial: &mut D,
+        retry: u64,
+    ) -> Result<Outcome, TryError>
+        requires { FitsList self [] }
+        ensures obeyed { Obeyed list_rule (who_of self) retry (D.connections dial.old) (D.connections dial.new) }
+        ensures ended { IfOk result (λ outcome. Ended list_rule (who_of self) outcome retry (D.connections dial.old) (D.connections dial.new)) }
+    {
+        let SnapshotList { session } = self;
+        bring(alloc, session, |_| true, dial, retry)
     }
 }
 

@@ -1,5 +1,6 @@
 //! The restore of a snapshot.
 
+ghost use Rattle.std.specs.Fn.{CalledAt};
 ghost use Rattle.std.specs.Prelude.{◌≡◌, [], ℕ, List, ◌↔◌, IfOk, OnErr, IsOk, IsTrue};
 ghost use Rattle.repo_name.specs.Naming as naming;
 ghost use Rattle.repo_name.specs.declared.names.Name.{Name};
@@ -9,11 +10,14 @@ ghost use Rattle.repo_wire.specs.declared.messages.Say.{Say};
 ghost use Rattle.repo_session.specs.declared.emissions.Emission.{Emission};
 ghost use Rattle.repo_session.specs.Ends.{IsBadBlob};
 ghost use Rattle.repo_session.specs.Jobs.{IsShort, IsShortStep};
+ghost use Rattle.repo_session.specs.Sinks.{IsTakenBy};
+ghost use Rattle.repo_dial.specs.Bringing.{Ended, Obeyed, given_over};
 ghost use Rattle.repo_restore.specs.Restoring.{restore_rule};
 ghost use Rattle.repo_restore.specs.RestoreObedience.{wish_of};
 ghost use Rattle.repo_restore.specs.RestoreStates.{FitsRestore, GoesOnKnown, IsNewRestore, KnowsRestore, RestoreReplied, RestoreRepliedTo, RestoreStays, RestoreGoesOn, RestoreTakesBlob};
 
 use crate::walks::{Turn, Walk};
+use repo_dial::{Dial, TryError, bring};
 use repo_index::Fact;
 use repo_name::{Kind, Name, Thing, Token, name_of};
 use repo_session::{
@@ -260,6 +264,25 @@ impl Restore {
         Restore {
             session: Session::new(alloc, who, RestoreJob::new(alloc, snapshot)),
         }
+    }
+
+    /// Brings a restore that hasn't begun to its end, as [`bring`] does, and gives how it ended; what it gives out is handed to the sink,
+    /// each part once and in order.
+    pub fn bring<D: Dial, F: FnMut(&Emission) -> bool>(
+        self,
+        alloc: Global,
+        sink: F,
+        dial: &mut D,
+        retry: u64,
+    ) -> Result<Outcome, TryError>
+        requires fits { FitsRestore self [] }
+        requires callable { (state : F) (x : _) → F.pre state x }
+        ensures obeyed { Obeyed (restore_rule (wish_of self).snapshot) (wish_of self).who retry (D.connections dial.old) (D.connections dial.new) }
+        ensures taken { IfOk result (λ outcome. (ended : Ended (restore_rule (wish_of self).snapshot) (wish_of self).who outcome retry (D.connections dial.old) (D.connections dial.new))
+            × IsTakenBy (CalledAt F.FnMut) sink (given_over ended)) }
+    {
+        let Restore { session } = self;
+        bring(alloc, session, sink, dial, retry)
     }
 }
 

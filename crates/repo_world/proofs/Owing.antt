@@ -204,7 +204,7 @@ rule_owes (Job.Restore s) who es o ask r = reading_owes (Job.Restore s) es ask r
 rule_owes Job.List who es o ask r = reading_owes Job.List es ask r
 rule_owes (Job.Forget choice) who es o ask r = forget_owes choice es ask r
 rule_owes Job.Prune who es o ask r = prune_owes es ask r
-rule_owes Job.Check who es o ask r = reading_owes Job.Check es ask r
+rule_owes Job.Check who es o ask r = reading_owes Job.Check es ask r.0
 rule_owes Job.Upgrade who es o ask r = upgrade_owes es ask r
 
 module _ (job : Job) (who : Asker) where

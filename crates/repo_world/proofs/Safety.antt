@@ -109,14 +109,17 @@ module _ (w : World) (bag : HasBag w) (clash : HasNoClash w) where
   stored_is : (k : ℕ) (s : Name) (blobs bytes : ℕ) → (client w k).outcome ≡ Some (Outcome.Stored s blobs bytes) → (x : List ℕ) × PutDone (client w k).trace Kind.Snapshot s x
   stored_is k s blobs bytes outcome = (dutiful (client w k) (bag.behave k)).concluded (Outcome.Stored s blobs bytes) outcome
 
-  spelled_in : (s : Name) (x : List ℕ) (snapshot : Snapshot) → w.store.objects Kind.Snapshot s ≡ Some x → IsSnapshotText x snapshot → (entries : List Entry) × Handed w s entries × Spells snapshot.version (IsHeld w.store.objects) snapshot.tree [] entries
+  spelled_in : (s : Name) (x : List ℕ) (snapshot : Snapshot) → w.store.objects Kind.Snapshot s ≡ Some x → IsSnapshotText x snapshot
+      → (entries : List Entry) × (handed : Handed w s entries) × (handed.text ≡ x) × Spells snapshot.version (IsHeld w.store.objects) snapshot.tree [] entries
+  unfolding handed_of
   spelled_in s x snapshot here reads =
       let put = bag.origin Kind.Snapshot s x here in
       let source = source_of s x put in
       let h = bag.sound.snapshots s x here in
       let same : source.0 ≡ h.entries = same_entries put.by x source.0 source.1 (IsHeld w.store.objects) (held_known w bag) h.snapshot h.entries h.reads h.spells in
       let one : h.snapshot ≡ snapshot = snapshot_texts_one x h.snapshot snapshot h.reads reads in
-      (h.entries, subst (λ (es : List Entry). Handed w s es) same (handed_of s put.by x source.0 put source.1), subst (λ (z : Snapshot). Spells z.version (IsHeld w.store.objects) z.tree [] h.entries) one h.spells)
+      let handed = subst (λ (es : List Entry). (handed : Handed w s es) × (handed.text ≡ x)) same (handed_of s put.by x source.0 put source.1, refl) in
+      (h.entries, handed.0, handed.1, subst (λ (z : Snapshot). Spells z.version (IsHeld w.store.objects) z.tree [] h.entries) one h.spells)
 
   -- ---- what was handed is one list
 

@@ -1,6 +1,6 @@
 -- A world in code, over an event.
 use Rattle.std.proofs.Common.{◌≡◌, ◌≢◌, ◌⊎◌, inl, inr, ⊎_elim, ◌∙◌, ◌<◌, ◌+◌, ◌++◌, ◌∷◌, [], ℕ, zero, suc, true, false, List, length, map, take, get_or, Option, Some, None, refl, sym, ap, subst, slice_get}
-use Rattle.std.specs.Prelude.{⊤, Result, Ok, Err, IfOk, OnErr}
+use Rattle.std.specs.Prelude.{⊤, Result, Ok, Err, IfOk, IsOk, OnErr}
 use Rattle.std.specs.Result.{is_err}
 use Rattle.std.proofs.lemmas.List.{take_more}
 use Rattle.std.proofs.lemmas.Option.{get_or_from_slice_get}
@@ -193,6 +193,10 @@ pub told_ignored : {S : Type 0} (store : S → Store) (failed : S → ℕ) (old 
 told_ignored store failed old request new t = inr (refl, t.0, ap (seen store) t.1)
 
 -- ---- a call that failed, or didn't
+
+pub not_failed : {A E : Type 0} (r : Result A E) → IsOk r → is_err r ≡ true → ⊥
+not_failed (Ok a) ok bad = absurd (cc)
+not_failed (Err e) ok bad = absurd (cc)
 
 pub if_failed : {T E : Type 0} (r : Result T E) (P : Type 0) → is_err r ≡ true → OnErr r P → P
 if_failed (Ok x) P e h = absurd (cc)

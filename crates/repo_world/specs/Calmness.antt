@@ -20,3 +20,9 @@ IsCalm w Event.Restart = ⊤
 IsCalm w (Event.Start job host time old) = ⊥
 IsCalm w (Event.Ask request) = ¬ MayAnybodySend request
 IsCalm w (Event.Feed k item) = ¬ MayBeFed (client w k)
+
+-- nor does a copy of it: of each event but a start and a request
+abbrev pub IsLight : Event → Type 0
+IsLight (Event.Start job host time old) = ⊥
+IsLight (Event.Ask request) = ⊥
+IsLight _ = ⊤

@@ -1,6 +1,7 @@
 //! Copies of events.
 
-ghost use Rattle.std.specs.Prelude.{◌≡◌, IfOk};
+ghost use Rattle.std.specs.Prelude.{◌≡◌, IfOk, IsOk};
+ghost use Rattle.repo_world.specs.Calmness.{IsLight};
 
 use crate::events::Event;
 use crate::jobs::{Entries, Job};
@@ -71,7 +72,8 @@ fn copy_of_job(alloc: Global, job: &Job) -> Result<Job, AllocError>
 
 /// An equal event. It fails for memory alone, and takes some for a start, or for what is asked, alone.
 pub fn copy_of_event<'a>(alloc: Global, event: &Event<'a>) -> Result<Event<'a>, AllocError>
-    ensures { IfOk result (λ copy. copy ≡ event.now) }
+    ensures copy { IfOk result (λ copy. copy ≡ event.now) }
+    ensures light { IsLight event.now → IsOk result }
 {
     match event {
         Event::Start {

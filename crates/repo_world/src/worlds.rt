@@ -6,7 +6,7 @@ ghost use Rattle.repo_tree.specs.Versions.{greatest_version, IsKnownTo};
 ghost use Rattle.repo_wire.specs.declared.messages.Code.{Code};
 ghost use Rattle.repo_wire.specs.declared.messages.Say.{Say};
 ghost use Rattle.repo_store.specs.declared.making.InitError.{InitError};
-ghost use Rattle.repo_world.specs.Calmness.{IsCalm};
+ghost use Rattle.repo_world.specs.Calmness.{IsCalm, IsLight};
 ghost use Rattle.repo_world.specs.Events.{Happens, MayAnybodySend, Run};
 ghost use Rattle.repo_store.specs.Laws.{HasCause};
 ghost use Rattle.repo_store.specs.Memory.{store_of};
@@ -246,12 +246,14 @@ impl<S: Shelf + Drop> World<S> {
         applied
     }
 
-    /// An event that is lent happens. It fails for memory alone, and then nothing changed.
+    /// An event that is lent happens. It fails for memory alone, and then nothing changed; no memory is asked for where `apply` asks
+    /// for none, but for a copy of a start, or of what is asked.
     fn apply_lent(&mut self, event: &Event) -> Result<Applied, AllocError>
         ensures happens { IfOk result (λ applied. Leads S.store S.failed self.old event.now applied self.new) }
         ensures safe { IsSafely (seen S.store self.new) }
         ensures ruled { AllAreRuled (seen S.store self.new) }
         ensures err { OnErr result (seen S.store self.new ≡ seen S.store self.old) }
+        ensures calm { IsLight event.now → IsCalm (seen S.store self.old) event.now → IsOk result }
     {
         // A look at a field tells the prover the invariant, and one at the clients that each goes by its rule.
         let _ = &self.shelf;
@@ -277,7 +279,7 @@ impl<S: Shelf + Drop> World<S> {
         found
     }
 
-    /// The events happen, one after another, as [`World::apply`] has each of them happen, until there is no memory. The
+    /// The events happen, one after another, as [`World::apply`] has each of them happen, until there is no memory for one. The
     /// world is safe after those that happened, and each client goes by its job's whole rule.
     pub fn run(&mut self, events: &[Event]) -> Result<(), RunError>
         ensures leads { OnOk result (LeadsOn S.store S.failed self.old events.now self.new) }
@@ -285,6 +287,8 @@ impl<S: Shelf + Drop> World<S> {
         ensures stopped { IfErr result (λ e. (e.applied < length events.now)
             × Run (seen S.store self.old) (take e.applied events.now) (seen S.store self.new)
             × StopsAfter S.store S.failed self.old (take e.applied events.now) self.new) }
+        ensures wanted { IfErr result (λ e. (event : Event) → slice_get events.now e.applied ≡ Some event
+            → IsLight event → ¬ IsCalm (seen S.store self.new) event) }
         ensures safe { IsSafely (seen S.store self.new) }
         ensures ruled { AllAreRuled (seen S.store self.new) }
     {

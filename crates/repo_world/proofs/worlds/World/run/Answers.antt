@@ -1,14 +1,16 @@
-use Rattle.std.proofs.Common.{rules, ◌≡◌, ◌<◌, true, false, length, take, refl, sym, subst}
+use Rattle.std.proofs.Common.{rules, ◌≡◌, ◌<◌, true, false, length, take, refl, sym, subst, ◌∙◌}
+use Rattle.std.proofs.lemmas.Option.{get_or_from_slice_get}
 use Rattle.std.specs.Prelude.{⊤}
 use Rattle.std.specs.Result.{is_err}
 use Rattle.repo_store.specs.Failing.{HasFailed}
+use Rattle.repo_world.specs.Calmness.{IsCalm, IsLight}
 use Rattle.repo_world.specs.Events.{Happens, Run}
 use Rattle.repo_world.specs.Flows.{world_of}
 use Rattle.repo_world.specs.Rules.{AllAreRuled}
 use Rattle.repo_world.specs.Stages.{IsSafely, Leads, Stage, seen}
 use Rattle.repo_world.specs.World.{World}
 use Rattle.repo_world.specs.declared.events.Event.{Event}
-use Rattle.repo_world.proofs.Standing.{happens_any, if_failed, if_well_with, led_more, ran_more, safely}
+use Rattle.repo_world.proofs.Standing.{happens_any, if_failed, if_well_with, led_more, not_failed, ran_more, safely}
 use Rattle.repo_world.proofs.worlds.World.run.Goals as goal
 
 pub loop-applied-init : goal.loop-applied-init
@@ -55,3 +57,12 @@ returns-then-is_err-clause-stopped g c =
       subst (λ (w : World). Run (seen store c.args.self.now) (take n events) w) (sym same) c.loop-applied.invariant.ran,
       (c.loop-applied.self, c.loop-applied.invariant.led, same),
     )
+
+pub returns-then-is_err-clause-wanted : goal.returns-then-is_err-clause-wanted
+returns-then-is_err-clause-wanted g c = λ event at light calm. (
+    let store = g.S.Shelf.store in
+    let item = c.index-events-applied.result in
+    let bad : is_err c.apply_lent.result ≡ true = search rules in
+    let same = if_failed c.apply_lent.result (seen store c.apply_lent.new.self ≡ seen store c.loop-applied.self) bad c.apply_lent.ensures.err in
+    let is : event ≡ item = sym (c.index-events-applied.is ∙ get_or_from_slice_get c.args.events.now c.loop-applied.applied event item at) in
+    not_failed c.apply_lent.result (c.apply_lent.ensures.calm (subst IsLight is light) (subst (λ e. IsCalm (seen store c.loop-applied.self) e) is (subst (λ w. IsCalm w event) same calm))) bad)
