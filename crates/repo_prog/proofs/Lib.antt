@@ -6,3 +6,4 @@ pub mod AskLemmas
 pub mod JobLemmas
 pub mod TellLemmas
 pub mod ServedLemmas
+pub mod SpelledLemmas

@@ -8,7 +8,7 @@ module _ {A : Type 0} (Came : A → Type 0) (lines : A → List ℕ) (before aft
   -- the lines of what it came to were to be written
   pub shown : (status : Status) (a : A) → Came a → Shows (lines a) status before after → Tells Came lines status before after
   shown Status.Done a came h = (a, came, h)
-  shown Status.Failed a came h = inr (a, came, h)
+  shown Status.Failed a came h = ⊎_elim inl (λ part. inr (a, came, part)) h
   shown Status.Flawed a came h = absurd h
   shown Status.Usage a came h = absurd h
 
@@ -49,14 +49,14 @@ module _ {A B : Type 0} (Well : A → Type 0) (lines : A → List ℕ) (Ill : B 
   -- the lines of the first were to be written
   pub shown_well : (status : Status) (a : A) → Well a → Shows (lines a) status before after → TellsEither Well lines Ill flaws status before after
   shown_well Status.Done a well h = (a, well, h)
-  shown_well Status.Failed a well h = inr (inl (a, well, h))
+  shown_well Status.Failed a well h = ⊎_elim inl (λ part. inr (inl (a, well, part))) h
   shown_well Status.Flawed a well h = absurd h
   shown_well Status.Usage a well h = absurd h
 
   -- those of the second were, and where they are the status is flawed
   pub shown_ill : (status marked : Status) → (status ≡ Status.Done → marked ≡ Status.Flawed) → (status ≢ Status.Done → marked ≡ status) → (b : B) → Ill b → Shows (flaws b) status before after → TellsEither Well lines Ill flaws marked before after
   shown_ill Status.Done marked done other b ill h = subst (λ s. TellsEither Well lines Ill flaws s before after) (sym (done refl)) (b, ill, h)
-  shown_ill Status.Failed marked done other b ill h = subst (λ s. TellsEither Well lines Ill flaws s before after) (sym (other (λ e. absurd (cc)))) (inr (inr (b, ill, h)))
+  shown_ill Status.Failed marked done other b ill h = subst (λ s. TellsEither Well lines Ill flaws s before after) (sym (other (λ e. absurd (cc)))) (⊎_elim inl (λ part. inr (inr (b, ill, part))) h)
   shown_ill Status.Flawed marked done other b ill h = absurd h
   shown_ill Status.Usage marked done other b ill h = absurd h
 

@@ -159,11 +159,7 @@ created_line id = codes "created " ++ encode_lower id.0 ++ line_feed ∷ []
 abbrev pub listening_line : List ℕ
 listening_line = codes "listening" ++ line_feed ∷ []
 
--- nothing was written, or some first part of these bytes
-abbrev pub IsCutShort : Option (List ℕ) → Option (List ℕ) → List ℕ → Type 0
-IsCutShort start contents bytes = (contents ≡ start) ⊎ AppendsPart start contents bytes
-
--- what making a store gives: it was made, and its line was written, or some first part of the line; or an error left what it leaves, and nothing was written
+-- what making a store gives: it was made, and its line was written, or some first part of the line, and not all of it; or an error left what it leaves, and nothing was written
 abbrev pub InitGives : Config → Store → Option (List ℕ) → Status → Store → Option (List ℕ) → Type 0
 InitGives config old start Status.Done new contents = Makes (config_text config) old (Ok tt) new × Appends start contents (created_line config.id)
 InitGives config old start Status.Failed new contents =

@@ -2,10 +2,11 @@
 use Rattle.std.specs.Prelude.{ℕ, List, Option, codes}
 use Rattle.repo_name.specs.declared.names.Name.{Name}
 use Rattle.repo_tree.specs.declared.snapshots.Snapshot.{Snapshot}
+use Rattle.repo_session.specs.declared.emissions.Emission.{Emission}
 use Rattle.repo_session.specs.declared.outcomes.Outcome.{Outcome}
 use Rattle.repo_session.specs.Askers.{Asker, asker}
 use Rattle.repo_session.specs.declared.versions.Versions.{Versions}
-use Rattle.repo_dial.specs.Bringing.{Ended, Obeyed}
+use Rattle.repo_dial.specs.Bringing.{Ended, Obeyed, given_over}
 use Rattle.repo_dial.specs.Dialing.{Connections}
 use Rattle.repo_session.specs.Feeds.{Fed}
 use Rattle.repo_feeding.specs.FedRules.{fed_rule}
@@ -37,6 +38,10 @@ ListsSnapshots caller rows retry coming after = Ended list_rule (vault_asker cal
 -- the snapshot was restored
 abbrev pub RestoresSnapshot : Caller → Name → ℕ → ℕ → Connections → Connections → Type 0
 RestoresSnapshot caller name entries retry coming after = Ended (restore_rule name) (vault_asker caller) (Outcome.Complete entries) retry coming after
+
+-- so it was, and of all that was given out, in order, this is so
+abbrev pub RestoresInto : (List Emission → Type 0) → Caller → Name → ℕ → ℕ → Connections → Connections → Type 0
+RestoresInto Taken caller name entries retry coming after = (restored : RestoresSnapshot caller name entries retry coming after) × Taken (given_over restored)
 
 -- the chosen snapshots were forgotten: those of these names
 abbrev pub Forgets : Caller → Choice → List Name → ℕ → Connections → Connections → Type 0

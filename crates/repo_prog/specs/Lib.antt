@@ -4,6 +4,7 @@ pub mod FramesRun
 pub mod HexLines
 pub mod Talks
 pub mod Words
+pub mod Spelled
 pub mod Asking
 pub mod Printing
 pub mod Tellings

@@ -4,7 +4,7 @@ use Rattle.repo_prog.specs.Tellings.{snapshot_lines, complete_line, stored_line,
 use Rattle.repo_dial.specs.Dialing.{Connections}
 use Rattle.repo_prog.specs.declared.callers.Caller.{Caller}
 use Rattle.repo_prog.specs.declared.status.Status.{Status}
-use Rattle.repo_prog.specs.Jobs.{RestoresSnapshot, Prunes, Checks, Stores, Foresees, Forgets, ListsSnapshots, Upgrades}
+use Rattle.repo_prog.specs.Jobs.{RestoresSnapshot, RestoresInto, Prunes, Checks, Stores, Foresees, Forgets, ListsSnapshots, Upgrades}
 use Rattle.repo_session.specs.Feeds.{Fed}
 use Rattle.repo_session.specs.Sessions.{ended_in}
 use Rattle.repo_session.specs.Traces.{Trace}
@@ -15,6 +15,7 @@ use Rattle.repo_feeding.specs.declared.reasons.GivenUp.{GivenUp}
 use Rattle.std.specs.Io.KnownBytes.{Appends}
 use Rattle.repo_prune.specs.declared.choices.Choice.{Choice}
 use Rattle.repo_prune.specs.Forgetting.{WouldForget}
+use Rattle.repo_session.specs.declared.emissions.Emission.{Emission}
 use Rattle.repo_session.specs.declared.outcomes.CheckFault.{CheckFault}
 use Rattle.repo_name.specs.declared.names.Name.{Name}
 use Rattle.repo_store.specs.Output.{AppendsPart}
@@ -81,28 +82,28 @@ abbrev pub HasStoredFrom : {E : Type 0} → Option Told → (E → Type 0) → T
 HasStoredFrom {E} told failed =
     (b : PieceBackup) × ((rest : List ℕ) × ((given_up : Option (GivenUp E)) × ((es : Trace) × FitsFed (feeder b told rest failed given_up) es × ((s : Stored) × (ended_in b.session ≡ Some (Outcome.Stored s.0 s.1 s.2))))))
 
-abbrev pub ShowsListed : Option Outcome → Status → Option (List ℕ) → Option (List ℕ) → Type 0
-ShowsListed outcome status before after = Tells (λ (rows : List (Name × Snapshot)). outcome ≡ Some (Outcome.Listed rows)) snapshot_lines status before after
+abbrev pub ShowsListed : Outcome → Status → Option (List ℕ) → Option (List ℕ) → Type 0
+ShowsListed outcome status before after = Tells (λ (rows : List (Name × Snapshot)). outcome ≡ Outcome.Listed rows) snapshot_lines status before after
 
-abbrev pub ShowsRestored : Option Outcome → Status → Option (List ℕ) → Option (List ℕ) → Type 0
-ShowsRestored outcome status before after = Tells (λ (entries : ℕ). outcome ≡ Some (Outcome.Complete entries)) complete_line status before after
+abbrev pub ShowsRestored : Outcome → Status → Option (List ℕ) → Option (List ℕ) → Type 0
+ShowsRestored outcome status before after = Tells (λ (entries : ℕ). outcome ≡ Outcome.Complete entries) complete_line status before after
 
-abbrev pub ShowsForgotten : Option Outcome → Status → Option (List ℕ) → Option (List ℕ) → Type 0
-ShowsForgotten outcome status before after = Tells (λ (names : List Name). outcome ≡ Some (Outcome.Forgotten names)) forgotten_lines status before after
+abbrev pub ShowsForgotten : Outcome → Status → Option (List ℕ) → Option (List ℕ) → Type 0
+ShowsForgotten outcome status before after = Tells (λ (names : List Name). outcome ≡ Outcome.Forgotten names) forgotten_lines status before after
 
-abbrev pub ShowsForeseen : Choice → Option Outcome → Status → Option (List ℕ) → Option (List ℕ) → Type 0
+abbrev pub ShowsForeseen : Choice → Outcome → Status → Option (List ℕ) → Option (List ℕ) → Type 0
 ShowsForeseen choice outcome status before after =
-    Tells (λ (names : List Name). (rows : List (Name × Snapshot)) × (outcome ≡ Some (Outcome.Listed rows)) × WouldForget choice rows names) foreseen_lines status before after
+    Tells (λ (names : List Name). (rows : List (Name × Snapshot)) × (outcome ≡ Outcome.Listed rows) × WouldForget choice rows names) foreseen_lines status before after
 
-abbrev pub ShowsPruned : Option Outcome → Status → Option (List ℕ) → Option (List ℕ) → Type 0
-ShowsPruned outcome status before after = Tells (λ (p : Pruned). outcome ≡ Some (Outcome.Pruned p.0 p.1)) pruned_lines status before after
+abbrev pub ShowsPruned : Outcome → Status → Option (List ℕ) → Option (List ℕ) → Type 0
+ShowsPruned outcome status before after = Tells (λ (p : Pruned). outcome ≡ Outcome.Pruned p.0 p.1) pruned_lines status before after
 
-abbrev pub ShowsUpgraded : Option Outcome → Status → Option (List ℕ) → Option (List ℕ) → Type 0
-ShowsUpgraded outcome status before after = Tells (λ (done : ⊤). outcome ≡ Some Outcome.Upgraded) upgraded_lines status before after
+abbrev pub ShowsUpgraded : Outcome → Status → Option (List ℕ) → Option (List ℕ) → Type 0
+ShowsUpgraded outcome status before after = Tells (λ (done : ⊤). outcome ≡ Outcome.Upgraded) upgraded_lines status before after
 
-abbrev pub ShowsChecked : Option Outcome → Status → Option (List ℕ) → Option (List ℕ) → Type 0
+abbrev pub ShowsChecked : Outcome → Status → Option (List ℕ) → Option (List ℕ) → Type 0
 ShowsChecked outcome status before after =
-    TellsEither (λ (c : Clean). outcome ≡ Some (Outcome.Clean c.0 c.1 c.2 c.3)) clean_lines (λ (found : List CheckFault). outcome ≡ Some (Outcome.Faults found)) fault_lines status before after
+    TellsEither (λ (c : Clean). outcome ≡ Outcome.Clean c.0 c.1 c.2 c.3) clean_lines (λ (found : List CheckFault). outcome ≡ Outcome.Faults found) fault_lines status before after
 
 -- ---- a command tells what its job came to, over the connections that were made
 
@@ -115,6 +116,9 @@ TellsListed caller retry coming left status before after = Tells (λ rows. Lists
 
 abbrev pub TellsRestored : Caller → Name → ℕ → Connections → Connections → Status → Option (List ℕ) → Option (List ℕ) → Type 0
 TellsRestored caller name retry coming left status before after = Tells (λ entries. RestoresSnapshot caller name entries retry coming left) complete_line status before after
+
+abbrev pub TellsRestoredInto : (List Emission → Type 0) → Caller → Name → ℕ → Connections → Connections → Status → Option (List ℕ) → Option (List ℕ) → Type 0
+TellsRestoredInto Taken caller name retry coming left status before after = Tells (λ entries. RestoresInto Taken caller name entries retry coming left) complete_line status before after
 
 abbrev pub TellsForgotten : Caller → Choice → ℕ → Connections → Connections → Status → Option (List ℕ) → Option (List ℕ) → Type 0
 TellsForgotten caller choice retry coming left status before after = Tells (λ names. Forgets caller choice names retry coming left) forgotten_lines status before after

@@ -1,5 +1,5 @@
 -- The lines that the commands of clients write.
-use Rattle.std.specs.Prelude.{◌≡◌, ◌++◌, ℕ, Bool, true, false, List, codes, decimal, Option, Some, None}
+use Rattle.std.specs.Prelude.{◌⊎◌, ◌≡◌, ◌++◌, ℕ, Bool, true, false, List, codes, decimal, Option, Some, None}
 use Rattle.std.specs.Io.KnownBytes.{Appends}
 use Rattle.std.specs.List.{flat_map}
 use Rattle.repo_name.specs.Naming.{hex_of}
@@ -97,10 +97,14 @@ refreshed_line = codes "refreshed\n"
 abbrev pub removed_line : Token → List ℕ
 removed_line token = codes "removed " ++ (decimal token.0 ++ codes "\n")
 
--- what a status says of the output: done, the text was written; failed, some first part of it
+-- nothing was written, or some first part of these bytes, and not all of them
+abbrev pub IsCutShort : Option (List ℕ) → Option (List ℕ) → List ℕ → Type 0
+IsCutShort start contents bytes = (contents ≡ start) ⊎ AppendsPart start contents bytes
+
+-- what a status says of the output: done, the text was written; failed, nothing, or some first part of it
 abbrev pub Shows : List ℕ → Status → Option (List ℕ) → Option (List ℕ) → Type 0
 Shows text Status.Done start contents = Appends start contents text
-Shows text Status.Failed start contents = AppendsPart start contents text
+Shows text Status.Failed start contents = IsCutShort start contents text
 Shows text Status.Flawed start contents = ⊥
 Shows text Status.Usage start contents = ⊥
 

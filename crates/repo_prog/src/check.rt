@@ -1,6 +1,6 @@
 //! `vault check`.
 
-ghost use Rattle.std.specs.Prelude.{◌≡◌, option_map};
+ghost use Rattle.std.specs.Prelude.{◌≡◌};
 ghost use Rattle.repo_prog.specs.Commands.{IsStoredStatus};
 ghost use Rattle.repo_prog.specs.declared.status.Status.{Status};
 ghost use Rattle.repo_prog.specs.Shown.{ShowsChecked, TellsChecked};
@@ -10,37 +10,35 @@ use crate::callers::{Caller, HOST};
 use crate::status::{Status, failed, flawed};
 use crate::telling::{clean_line, fault_lines, show_made, unfinished};
 use repo_check::Check;
-use repo_dial::{Dial, drive_again};
-use repo_session::{Client, DriveError, Outcome};
+use repo_dial::Dial;
+use repo_session::{DriveError, Outcome};
 use std::alloc::Global;
 use std::io::Write;
 
 /// Writes what a check found, and where things are at fault the status is `Flawed`; or tells how else the job ended.
 fn show_checked<O: Write, F: Write>(
     alloc: Global,
-    outcome: Option<&Outcome>,
+    outcome: &Outcome,
     output: &mut O,
     faults: &mut F,
 ) -> Status
-    ensures shows { ShowsChecked (option_map (λ o. o.now) outcome.entry) result (O.contents output.old) (O.contents output.new) }
+    ensures shows { ShowsChecked outcome.now result (O.contents output.old) (O.contents output.new) }
     ensures silent { IsStoredStatus result → faults.new ≡ faults.old }
 {
     match outcome {
-        Some(
-            Outcome::Clean {
-                snapshots,
-                indexes,
-                packs,
-                blobs,
-            },
-        ) => {
+        Outcome::Clean {
+            snapshots,
+            indexes,
+            packs,
+            blobs,
+        } => {
             let line = clean_line(alloc, *snapshots, *indexes, *packs, *blobs);
             show_made(line, output, faults)
         }
-        Some(Outcome::Faults(found)) => {
+        Outcome::Faults(found) => {
             flawed(show_made(fault_lines(alloc, found.as_slice()), output, faults))
         }
-        _ => unfinished(alloc, outcome, faults),
+        _ => unfinished(alloc, Some(outcome), faults),
     }
 }
 
@@ -62,9 +60,9 @@ pub fn check_command<D: Dial, O: Write, F: Write>(
     let Ok(who) = caller.who(alloc, HOST) else {
         return failed(faults, &DriveError::Memory);
     };
-    let mut check = Check::new(alloc, who);
-    match drive_again(alloc, &mut check, dial, retry, |_| true) {
-        Ok(_) => show_checked(alloc, check.outcome(), output, faults),
+    let check = Check::new(alloc, who);
+    match check.bring(alloc, dial, retry) {
+        Ok(outcome) => show_checked(alloc, &outcome, output, faults),
         Err(error) => failed(faults, &error),
     }
 }

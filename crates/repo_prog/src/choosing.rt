@@ -5,6 +5,7 @@ ghost use Rattle.clap.specs.Matches.{found_of, first_value};
 ghost use Rattle.repo_name.specs.Naming.{hex_of};
 ghost use Rattle.repo_name.specs.Rows.{IsHost};
 ghost use Rattle.repo_prog.specs.Commands.{HasPolicy, IsChoice, choice_for};
+ghost use Rattle.repo_prog.specs.Spelled.{AddsWords, IsOfKind, choice_rules, count_rule, option_rule};
 ghost use Rattle.repo_prog.specs.Words.{Chooses, IsNumber, IsPolicyOf, words_of};
 ghost use Rattle.repo_prune.specs.declared.choices.Choice.{Choice};
 
@@ -16,7 +17,9 @@ use repo_prune::{Choice, Policy};
 use std::alloc::{AllocError, Global};
 
 /// An option whose word is a count, and what it means.
-fn count<'a>(alloc: Global, name: &'a str, meaning: &'a str) -> Result<Arg<'a>, AllocError> {
+fn count<'a>(alloc: Global, name: &'a str, meaning: &'a str) -> Result<Arg<'a>, AllocError>
+    ensures { IfOk result (IsOfKind (count_rule name.entry.now)) }
+{
     match number(alloc, name, "0", meaning) {
         Ok(word) => Ok(word.value_parser(clap::value_parser!(u32))),
         Err(error) => Err(error),
@@ -24,7 +27,9 @@ fn count<'a>(alloc: Global, name: &'a str, meaning: &'a str) -> Result<Arg<'a>, 
 }
 
 /// The option whose word is the host that a policy is for.
-fn of_host<'a>(alloc: Global) -> Result<Arg<'a>, AllocError> {
+fn of_host<'a>(alloc: Global) -> Result<Arg<'a>, AllocError>
+    ensures { IfOk result (IsOfKind (option_rule (codes "host"))) }
+{
     Ok(
         Arg::new(alloc, "host")
             .long("host")
@@ -35,7 +40,9 @@ fn of_host<'a>(alloc: Global) -> Result<Arg<'a>, AllocError> {
 }
 
 /// The words of a choice, added to those of a command.
-pub fn choice_words<'a>(alloc: Global, command: Command<'a>) -> Result<Command<'a>, AllocError> {
+pub fn choice_words<'a>(alloc: Global, command: Command<'a>) -> Result<Command<'a>, AllocError>
+    ensures { IfOk result (AddsWords command.entry choice_rules) }
+{
     let command = with_word(command, count(alloc, "keep-last", KEEP_LAST))?;
     let command = with_word(command, count(alloc, "keep-daily", KEEP_DAILY))?;
     let command = with_word(command, of_host(alloc))?;

@@ -1,7 +1,9 @@
 //! The words of what a client asks of a server.
 
-ghost use Rattle.std.specs.Prelude.{◌≡◌, IfOk, IsTrue, IsFalse, codes};
+ghost use Rattle.std.specs.Prelude.{◌≡◌, ◌++◌, ◌∷◌, [], List, IfOk, IsTrue, IsFalse, codes};
+ghost use Rattle.clap.specs.Walk.{Rule, Text};
 ghost use Rattle.repo_prog.specs.Commands.{IsErrand, errand_word};
+ghost use Rattle.repo_prog.specs.Spelled.{AddsCommands, AddsWords, IsCommand, again_rules, backup_rules, command_shape, copies, forget_rules, number_rule, of_locks, refresh_rules, repairs, restore_rules, server_rules, unlock_rules};
 ghost use Rattle.repo_prog.specs.Words.{AskFor};
 
 use crate::choosing::{choice_of, choice_words};
@@ -57,65 +59,87 @@ fn errand_words<'a>(
     name: &'a str,
     about: &'a str,
     help: &'a str,
-) -> Result<Command<'a>, AllocError> {
+) -> Result<Command<'a>, AllocError>
+    ensures { IfOk result (IsCommand name.entry.now server_rules) }
+{
     let command = Command::new(alloc, name).about(about).after_help(help);
     let command = with_word(command, Ok(needed(alloc, "ADDR", SERVER)))?;
     with_word(command, idle(alloc, "0"))
 }
 
 /// The word that says how often it is connected again, added to those of a command.
-fn retry_words<'a>(alloc: Global, command: Command<'a>) -> Result<Command<'a>, AllocError> {
+fn retry_words<'a>(alloc: Global, command: Command<'a>) -> Result<Command<'a>, AllocError>
+    ensures { IfOk result (AddsWords command.entry (number_rule (codes "retry") (codes "0") ∷ [])) }
+{
     with_word(command, number(alloc, "retry", "0", RETRY))
 }
 
-fn backup_words<'a>(alloc: Global) -> Result<Command<'a>, AllocError> {
+fn backup_words<'a>(alloc: Global) -> Result<Command<'a>, AllocError>
+    ensures { IfOk result (IsCommand (codes "backup") backup_rules) }
+{
     let about = "Stores what a folder holds as a snapshot";
     let command = retry_words(alloc, errand_words(alloc, "backup", about, BACKUP)?)?;
     let command = with_word(command, Ok(needed(alloc, "HOST", HOST)))?;
     with_word(command, Ok(needed(alloc, "PATH", SOURCE)))
 }
 
-fn snapshots_words<'a>(alloc: Global) -> Result<Command<'a>, AllocError> {
+fn snapshots_words<'a>(alloc: Global) -> Result<Command<'a>, AllocError>
+    ensures { IfOk result (IsCommand (codes "snapshots") again_rules) }
+{
     let about = "Lists the snapshots";
     retry_words(alloc, errand_words(alloc, "snapshots", about, SNAPSHOTS)?)
 }
 
-fn restore_words<'a>(alloc: Global) -> Result<Command<'a>, AllocError> {
+fn restore_words<'a>(alloc: Global) -> Result<Command<'a>, AllocError>
+    ensures { IfOk result (IsCommand (codes "restore") restore_rules) }
+{
     let about = "Restores a snapshot into an empty folder";
     let command = retry_words(alloc, errand_words(alloc, "restore", about, RESTORE)?)?;
     let command = with_word(command, Ok(needed(alloc, "NAME", SNAPSHOT)))?;
     with_word(command, Ok(needed(alloc, "DIR", RESTORED)))
 }
 
-fn forget_words<'a>(alloc: Global) -> Result<Command<'a>, AllocError> {
+fn forget_words<'a>(alloc: Global) -> Result<Command<'a>, AllocError>
+    ensures { IfOk result (IsCommand (codes "forget") forget_rules) }
+{
     let about = "Forgets snapshots by their names, or those that a policy doesn't keep";
     let command = retry_words(alloc, errand_words(alloc, "forget", about, FORGET)?)?;
     choice_words(alloc, command)
 }
 
-fn prune_words<'a>(alloc: Global) -> Result<Command<'a>, AllocError> {
+fn prune_words<'a>(alloc: Global) -> Result<Command<'a>, AllocError>
+    ensures { IfOk result (IsCommand (codes "prune") again_rules) }
+{
     let about = "Removes what no snapshot needs";
     retry_words(alloc, errand_words(alloc, "prune", about, PRUNE)?)
 }
 
-fn upgrade_words<'a>(alloc: Global) -> Result<Command<'a>, AllocError> {
+fn upgrade_words<'a>(alloc: Global) -> Result<Command<'a>, AllocError>
+    ensures { IfOk result (IsCommand (codes "upgrade") again_rules) }
+{
     let about = "Makes the store one of version 2";
     retry_words(alloc, errand_words(alloc, "upgrade", about, UPGRADE)?)
 }
 
-fn check_words<'a>(alloc: Global) -> Result<Command<'a>, AllocError> {
+fn check_words<'a>(alloc: Global) -> Result<Command<'a>, AllocError>
+    ensures { IfOk result (IsCommand (codes "check") again_rules) }
+{
     let about = "Tells whether all is well";
     retry_words(alloc, errand_words(alloc, "check", about, CHECK)?)
 }
 
-fn refresh_words<'a>(alloc: Global) -> Result<Command<'a>, AllocError> {
+fn refresh_words<'a>(alloc: Global) -> Result<Command<'a>, AllocError>
+    ensures { IfOk result (IsCommand (codes "refresh") refresh_rules) }
+{
     let about = "Gives a live lock this moment as its time";
     let token = needed(alloc, "TOKEN", TOKEN).value_parser(clap::value_parser!(u64));
     let command = errand_words(alloc, "refresh", about, REFRESH)?;
     with_word(command, Ok(token))
 }
 
-fn unlock_words<'a>(alloc: Global) -> Result<Command<'a>, AllocError> {
+fn unlock_words<'a>(alloc: Global) -> Result<Command<'a>, AllocError>
+    ensures { IfOk result (IsCommand (codes "unlock") unlock_rules) }
+{
     let about = "Removes stale locks, or all";
     let command = errand_words(alloc, "unlock", about, UNLOCK)?;
     with_word(command, Ok(flag(alloc, "remove-all", REMOVE_ALL)))
@@ -125,7 +149,9 @@ fn unlock_words<'a>(alloc: Global) -> Result<Command<'a>, AllocError> {
 pub fn with_command<'a>(
     program: Command<'a>,
     words: Result<Command<'a>, AllocError>,
-) -> Result<Command<'a>, AllocError> {
+) -> Result<Command<'a>, AllocError>
+    ensures { (name : Text) → (rules : List Rule) → IfOk words.entry (IsCommand name rules) → IfOk result (AddsCommands program.entry (command_shape name rules ∷ [])) }
+{
     match words {
         Ok(words) => program.subcommand(words),
         Err(error) => Err(error),
@@ -133,14 +159,18 @@ pub fn with_command<'a>(
 }
 
 /// The commands that store and give back, added to those of the program.
-fn with_copies<'a>(alloc: Global, program: Command<'a>) -> Result<Command<'a>, AllocError> {
+fn with_copies<'a>(alloc: Global, program: Command<'a>) -> Result<Command<'a>, AllocError>
+    ensures { IfOk result (AddsCommands program.entry copies) }
+{
     let program = with_command(program, backup_words(alloc))?;
     let program = with_command(program, snapshots_words(alloc))?;
     with_command(program, restore_words(alloc))
 }
 
 /// The commands that want the store for themselves, added to those of the program.
-fn with_repairs<'a>(alloc: Global, program: Command<'a>) -> Result<Command<'a>, AllocError> {
+fn with_repairs<'a>(alloc: Global, program: Command<'a>) -> Result<Command<'a>, AllocError>
+    ensures { IfOk result (AddsCommands program.entry repairs) }
+{
     let program = with_command(program, forget_words(alloc))?;
     let program = with_command(program, prune_words(alloc))?;
     let program = with_command(program, check_words(alloc))?;
@@ -148,7 +178,9 @@ fn with_repairs<'a>(alloc: Global, program: Command<'a>) -> Result<Command<'a>, 
 }
 
 /// The commands of locks, added to those of the program.
-fn with_locks<'a>(alloc: Global, program: Command<'a>) -> Result<Command<'a>, AllocError> {
+fn with_locks<'a>(alloc: Global, program: Command<'a>) -> Result<Command<'a>, AllocError>
+    ensures { IfOk result (AddsCommands program.entry of_locks) }
+{
     let program = with_command(
         program,
         errand_words(alloc, "locks", "Lists the live locks", LOCKS),
@@ -158,7 +190,9 @@ fn with_locks<'a>(alloc: Global, program: Command<'a>) -> Result<Command<'a>, Al
 }
 
 /// The commands that go to a server, added to those of the program.
-pub fn with_errands<'a>(alloc: Global, program: Command<'a>) -> Result<Command<'a>, AllocError> {
+pub fn with_errands<'a>(alloc: Global, program: Command<'a>) -> Result<Command<'a>, AllocError>
+    ensures { IfOk result (AddsCommands program.entry (copies ++ repairs ++ of_locks)) }
+{
     let program = with_copies(alloc, program)?;
     let program = with_repairs(alloc, program)?;
     with_locks(alloc, program)

@@ -1,6 +1,6 @@
 //! `vault forget --dry-run`.
 
-ghost use Rattle.std.specs.Prelude.{◌≡◌, option_map};
+ghost use Rattle.std.specs.Prelude.{◌≡◌};
 ghost use Rattle.repo_prune.specs.Forgetting.{IsNoPolicy};
 ghost use Rattle.repo_prog.specs.declared.status.Status.{Status};
 ghost use Rattle.repo_prog.specs.Shown.{ShowsForeseen, TellsForeseen};
@@ -9,10 +9,10 @@ ghost use Rattle.repo_prog.specs.Jobs.{ListObeyed};
 use crate::callers::{Caller, HOST};
 use crate::status::{Status, failed};
 use crate::telling::{foreseen_lines, show_made, unfinished};
-use repo_dial::{Dial, drive_again};
+use repo_dial::Dial;
 use repo_prune::{Choice, would_forget};
 use repo_restore::SnapshotList;
-use repo_session::{Client, DriveError, Outcome};
+use repo_session::{DriveError, Outcome};
 use std::alloc::Global;
 use std::io::Write;
 
@@ -20,15 +20,15 @@ use std::io::Write;
 fn show_foreseen<O: Write, F: Write>(
     alloc: Global,
     choice: &Choice,
-    outcome: Option<&Outcome>,
+    outcome: &Outcome,
     output: &mut O,
     faults: &mut F,
 ) -> Status
-    ensures shows { ShowsForeseen choice.now (option_map (λ o. o.now) outcome.entry) result (O.contents output.old) (O.contents output.new) }
+    ensures shows { ShowsForeseen choice.now outcome.now result (O.contents output.old) (O.contents output.new) }
     ensures silent { result ≡ Status.Done → faults.new ≡ faults.old }
 {
-    let Some(Outcome::Listed(snapshots)) = outcome else {
-        return unfinished(alloc, outcome, faults);
+    let Outcome::Listed(snapshots) = outcome else {
+        return unfinished(alloc, Some(outcome), faults);
     };
     let Ok(names) = would_forget(alloc, choice, snapshots.as_slice()) else {
         return failed(faults, &DriveError::Memory);
@@ -59,9 +59,9 @@ pub fn foresee_command<D: Dial, O: Write, F: Write>(
     let Ok(who) = caller.who(alloc, HOST) else {
         return failed(faults, &DriveError::Memory);
     };
-    let mut list = SnapshotList::new(alloc, who);
-    match drive_again(alloc, &mut list, dial, retry, |_| true) {
-        Ok(_) => show_foreseen(alloc, choice, list.outcome(), output, faults),
+    let list = SnapshotList::new(alloc, who);
+    match list.bring(alloc, dial, retry) {
+        Ok(outcome) => show_foreseen(alloc, choice, &outcome, output, faults),
         Err(error) => failed(faults, &error),
     }
 }

@@ -1,6 +1,6 @@
 //! `vault forget`.
 
-ghost use Rattle.std.specs.Prelude.{◌≡◌, option_map};
+ghost use Rattle.std.specs.Prelude.{◌≡◌};
 ghost use Rattle.repo_prune.specs.Forgetting.{IsNoPolicy};
 ghost use Rattle.repo_prog.specs.declared.status.Status.{Status};
 ghost use Rattle.repo_prog.specs.Shown.{ShowsForgotten, TellsForgotten};
@@ -9,24 +9,24 @@ ghost use Rattle.repo_prog.specs.Jobs.{ForgetObeyed};
 use crate::callers::{Caller, HOST};
 use crate::status::{Status, failed};
 use crate::telling::{forgotten_lines, show_made, unfinished};
-use repo_dial::{Dial, drive_again};
+use repo_dial::Dial;
 use repo_prune::{Choice, Forget, ForgetError};
-use repo_session::{Client, DriveError, Outcome};
+use repo_session::{DriveError, Outcome};
 use std::alloc::Global;
 use std::io::Write;
 
 /// Writes the lines of the snapshots that were forgotten, or tells how else the job ended.
 fn show_forgotten<O: Write, F: Write>(
     alloc: Global,
-    outcome: Option<&Outcome>,
+    outcome: &Outcome,
     output: &mut O,
     faults: &mut F,
 ) -> Status
-    ensures shows { ShowsForgotten (option_map (λ o. o.now) outcome.entry) result (O.contents output.old) (O.contents output.new) }
+    ensures shows { ShowsForgotten outcome.now result (O.contents output.old) (O.contents output.new) }
     ensures silent { result ≡ Status.Done → faults.new ≡ faults.old }
 {
-    let Some(Outcome::Forgotten(names)) = outcome else {
-        return unfinished(alloc, outcome, faults);
+    let Outcome::Forgotten(names) = outcome else {
+        return unfinished(alloc, Some(outcome), faults);
     };
     show_made(forgotten_lines(alloc, names.as_slice()), output, faults)
 }
@@ -51,12 +51,12 @@ pub fn forget_command<D: Dial, O: Write, F: Write>(
     let Ok(who) = caller.who(alloc, HOST) else {
         return failed(faults, &DriveError::Memory);
     };
-    let mut forget = match Forget::new(alloc, who, choice) {
+    let forget = match Forget::new(alloc, who, choice) {
         Ok(forget) => forget,
         Err(ForgetError::NoPolicy) => return failed(faults, &"no policy"),
     };
-    match drive_again(alloc, &mut forget, dial, retry, |_| true) {
-        Ok(_) => show_forgotten(alloc, forget.outcome(), output, faults),
+    match forget.bring(alloc, dial, retry) {
+        Ok(outcome) => show_forgotten(alloc, &outcome, output, faults),
         Err(error) => failed(faults, &error),
     }
 }

@@ -6,7 +6,8 @@ ghost use Rattle.repo_name.specs.declared.names.Instance.{Instance};
 ghost use Rattle.repo_name.specs.Naming.{IsInstance};
 ghost use Rattle.repo_tree.specs.ConfigText.{IsTarget};
 ghost use Rattle.repo_tree.specs.Versions.{greatest_version, IsKnownTo};
-ghost use Rattle.repo_prog.specs.Commands.{config_by, created_line, InitGives, IsCutShort, IsEnd, IsMaking};
+ghost use Rattle.repo_prog.specs.Commands.{config_by, created_line, InitGives, IsEnd, IsMaking};
+ghost use Rattle.repo_prog.specs.Tellings.{IsCutShort};
 ghost use Rattle.repo_prog.specs.declared.status.Status.{Status};
 
 use crate::status::{Status, failed, failed_by};

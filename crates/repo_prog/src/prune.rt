@@ -1,6 +1,6 @@
 //! `vault prune`.
 
-ghost use Rattle.std.specs.Prelude.{◌≡◌, option_map};
+ghost use Rattle.std.specs.Prelude.{◌≡◌};
 ghost use Rattle.repo_prog.specs.declared.status.Status.{Status};
 ghost use Rattle.repo_prog.specs.Shown.{ShowsPruned, TellsPruned};
 ghost use Rattle.repo_prog.specs.Jobs.{PruneObeyed};
@@ -8,24 +8,24 @@ ghost use Rattle.repo_prog.specs.Jobs.{PruneObeyed};
 use crate::callers::{Caller, HOST};
 use crate::status::{Status, failed};
 use crate::telling::{pruned_line, show_made, unfinished};
-use repo_dial::{Dial, drive_again};
+use repo_dial::Dial;
 use repo_prune::Prune;
-use repo_session::{Client, DriveError, Outcome};
+use repo_session::{DriveError, Outcome};
 use std::alloc::Global;
 use std::io::Write;
 
 /// Writes the line of a prune that is done, or tells how else the job ended.
 fn show_pruned<O: Write, F: Write>(
     alloc: Global,
-    outcome: Option<&Outcome>,
+    outcome: &Outcome,
     output: &mut O,
     faults: &mut F,
 ) -> Status
-    ensures shows { ShowsPruned (option_map (λ o. o.now) outcome.entry) result (O.contents output.old) (O.contents output.new) }
+    ensures shows { ShowsPruned outcome.now result (O.contents output.old) (O.contents output.new) }
     ensures silent { result ≡ Status.Done → faults.new ≡ faults.old }
 {
-    let Some(Outcome::Pruned { packs, bytes }) = outcome else {
-        return unfinished(alloc, outcome, faults);
+    let Outcome::Pruned { packs, bytes } = outcome else {
+        return unfinished(alloc, Some(outcome), faults);
     };
     show_made(pruned_line(alloc, *packs, *bytes), output, faults)
 }
@@ -48,9 +48,9 @@ pub fn prune_command<D: Dial, O: Write, F: Write>(
     let Ok(who) = caller.who(alloc, HOST) else {
         return failed(faults, &DriveError::Memory);
     };
-    let mut prune = Prune::new(alloc, who);
-    match drive_again(alloc, &mut prune, dial, retry, |_| true) {
-        Ok(_) => show_pruned(alloc, prune.outcome(), output, faults),
+    let prune = Prune::new(alloc, who);
+    match prune.bring(alloc, dial, retry) {
+        Ok(outcome) => show_pruned(alloc, &outcome, output, faults),
         Err(error) => failed(faults, &error),
     }
 }

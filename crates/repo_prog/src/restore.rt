@@ -1,20 +1,22 @@
 //! `vault restore`.
 
-ghost use Rattle.std.specs.Prelude.{◌≡◌, ℕ, Some, IfOk, true, option_map};
-ghost use Rattle.repo_session.specs.Sessions.{ended_in};
-ghost use Rattle.repo_session.specs.declared.outcomes.Outcome.{Outcome};
-ghost use Rattle.repo_prog.specs.Jobs.{RestoresSnapshot, RestoreObeyed};
+ghost use Rattle.std.specs.Fn.{CalledAt};
+ghost use Rattle.std.specs.Prelude.{◌≡◌, IfOk, true};
+ghost use Rattle.repo_session.specs.Sinks.{IsTakenBy};
+ghost use Rattle.repo_dial.specs.Bringing.{Ended, given_over};
+ghost use Rattle.repo_restore.specs.Restoring.{restore_rule};
+ghost use Rattle.repo_prog.specs.Jobs.{RestoreObeyed, vault_asker};
 ghost use Rattle.repo_prog.specs.declared.status.Status.{Status};
-ghost use Rattle.repo_prog.specs.Shown.{ShowsRestored, TellsRestored};
+ghost use Rattle.repo_prog.specs.Shown.{ShowsRestored, TellsRestored, TellsRestoredInto};
 
 use crate::callers::{Caller, HOST};
 use crate::status::{Status, failed};
 use crate::telling::{complete_line, show_made, unfinished};
-use repo_dial::{Dial, TryError, drive_again};
+use repo_dial::{Dial, TryError};
 use repo_files::{Restorer, RestorerError};
 use repo_name::Name;
 use repo_restore::Restore;
-use repo_session::{Client, DriveError, Emission, Outcome};
+use repo_session::{DriveError, Emission, Outcome};
 use std::alloc::{AllocGlobal, Global};
 use std::fs::Files;
 use std::io::Write;
@@ -22,18 +24,18 @@ use std::io::Write;
 /// Writes the line of a restore that is complete, once what it gave out is finished, or tells how else the job ended.
 fn show_restored<E: FnOnce() -> bool, O: Write, F: Write>(
     alloc: Global,
-    outcome: Option<&Outcome>,
+    outcome: &Outcome,
     finish: E,
     output: &mut O,
     faults: &mut F,
 ) -> Status
     requires { E.pre finish }
     ensures finished { result ≡ Status.Done → E.post finish true }
-    ensures shows { ShowsRestored (option_map (λ o. o.now) outcome.entry) result (O.contents output.old) (O.contents output.new) }
+    ensures shows { ShowsRestored outcome.now result (O.contents output.old) (O.contents output.new) }
     ensures silent { result ≡ Status.Done → faults.new ≡ faults.old }
 {
-    let Some(Outcome::Complete { entries }) = outcome else {
-        return unfinished(alloc, outcome, faults);
+    let Outcome::Complete { entries } = outcome else {
+        return unfinished(alloc, Some(outcome), faults);
     };
     if !finish() {
         return failed(faults, &DriveError::Sink);
@@ -41,7 +43,7 @@ fn show_restored<E: FnOnce() -> bool, O: Write, F: Write>(
     show_made(complete_line(alloc, *entries), output, faults)
 }
 
-/// A restore that was driven to its end, and that handed what it gave out to a sink.
+/// How a restore ended that was brought to its end, and that handed all that it gave out to a sink, each part once and in order.
 fn restored<D: Dial, S: FnMut(&Emission) -> bool>(
     alloc: Global,
     caller: &Caller,
@@ -49,19 +51,19 @@ fn restored<D: Dial, S: FnMut(&Emission) -> bool>(
     sink: S,
     dial: &mut D,
     retry: u64,
-) -> Result<Restore, TryError>
+) -> Result<Outcome, TryError>
     requires callable { (state : S) (x : _) → S.pre state x }
     ensures obeyed { RestoreObeyed caller.now name retry (D.connections dial.old) (D.connections dial.new) }
-    ensures ended { IfOk result (λ restore. (entries : ℕ) → ended_in restore.session ≡ Some (Outcome.Complete entries)
-        → RestoresSnapshot caller.now name entries retry (D.connections dial.old) (D.connections dial.new)) }
+    ensures taken { IfOk result (λ outcome. (ended : Ended (restore_rule name) (vault_asker caller.now) outcome retry (D.connections dial.old) (D.connections dial.new))
+        × IsTakenBy (CalledAt S.FnMut) sink (given_over ended)) }
 {
     let who = caller.who(alloc, HOST)?;
-    let mut restore = Restore::new(alloc, who, name);
-    drive_again(alloc, &mut restore, dial, retry, sink)?;
-    Ok(restore)
+    let restore = Restore::new(alloc, who, name);
+    restore.bring(alloc, sink, dial, retry)
 }
 
-/// Restores a snapshot, and hands what is given out to a sink.
+/// Restores a snapshot, and hands what is given out to a sink, each part once and in order; it is told as complete where the sink took
+/// all of it.
 pub fn restore_into<D: Dial, S: FnMut(&Emission) -> bool, O: Write, F: Write>(
     alloc: Global,
     caller: &Caller,
@@ -74,11 +76,11 @@ pub fn restore_into<D: Dial, S: FnMut(&Emission) -> bool, O: Write, F: Write>(
 ) -> Status
     requires callable { (state : S) (x : _) → S.pre state x }
     ensures obeyed { RestoreObeyed caller.now name retry (D.connections dial.old) (D.connections dial.new) }
-    ensures tells { TellsRestored caller.now name retry (D.connections dial.old) (D.connections dial.new) result (O.contents output.old) (O.contents output.new) }
+    ensures tells { TellsRestoredInto (IsTakenBy (CalledAt S.FnMut) sink) caller.now name retry (D.connections dial.old) (D.connections dial.new) result (O.contents output.old) (O.contents output.new) }
     ensures silent { result ≡ Status.Done → faults.new ≡ faults.old }
 {
     match restored(alloc, caller, name, sink, dial, retry) {
-        Ok(restore) => show_restored(alloc, restore.outcome(), || true, output, faults),
+        Ok(outcome) => show_restored(alloc, &outcome, || true, output, faults),
         Err(error) => failed(faults, &error),
     }
 }
@@ -119,10 +121,10 @@ pub fn restore_command<T: Files + AllocGlobal + Clone + Drop, D: Dial, O: Write,
         Err(error) => return not_begun(error, faults),
     };
     let sink = |emission: &Emission| restorer.write(emission);
-    let restore = match restored(rt.alloc(), caller, name, sink, dial, retry) {
-        Ok(restore) => restore,
+    let outcome = match restored(rt.alloc(), caller, name, sink, dial, retry) {
+        Ok(outcome) => outcome,
         Err(error) => return failed(faults, &error),
     };
     let finish = || restorer.finish();
-    show_restored(rt.alloc(), restore.outcome(), finish, output, faults)
+    show_restored(rt.alloc(), &outcome, finish, output, faults)
 }

@@ -1,6 +1,6 @@
 //! `vault snapshots`.
 
-ghost use Rattle.std.specs.Prelude.{◌≡◌, option_map};
+ghost use Rattle.std.specs.Prelude.{◌≡◌};
 ghost use Rattle.repo_prog.specs.Jobs.{ListObeyed};
 ghost use Rattle.repo_prog.specs.declared.status.Status.{Status};
 ghost use Rattle.repo_prog.specs.Shown.{ShowsListed, TellsListed};
@@ -8,24 +8,24 @@ ghost use Rattle.repo_prog.specs.Shown.{ShowsListed, TellsListed};
 use crate::callers::{Caller, HOST};
 use crate::status::{Status, failed};
 use crate::telling::{show_made, snapshot_lines, unfinished};
-use repo_dial::{Dial, drive_again};
+use repo_dial::Dial;
 use repo_restore::SnapshotList;
-use repo_session::{Client, DriveError, Outcome};
+use repo_session::{DriveError, Outcome};
 use std::alloc::Global;
 use std::io::Write;
 
 /// Writes the lines of a list of snapshots, or tells how else the job ended.
 fn show_list<O: Write, F: Write>(
     alloc: Global,
-    outcome: Option<&Outcome>,
+    outcome: &Outcome,
     output: &mut O,
     faults: &mut F,
 ) -> Status
-    ensures shows { ShowsListed (option_map (λ o. o.now) outcome.entry) result (O.contents output.old) (O.contents output.new) }
+    ensures shows { ShowsListed outcome.now result (O.contents output.old) (O.contents output.new) }
     ensures silent { result ≡ Status.Done → faults.new ≡ faults.old }
 {
-    let Some(Outcome::Listed(snapshots)) = outcome else {
-        return unfinished(alloc, outcome, faults);
+    let Outcome::Listed(snapshots) = outcome else {
+        return unfinished(alloc, Some(outcome), faults);
     };
     show_made(snapshot_lines(alloc, snapshots.as_slice()), output, faults)
 }
@@ -47,9 +47,9 @@ pub fn snapshots_command<D: Dial, O: Write, F: Write>(
     let Ok(who) = caller.who(alloc, HOST) else {
         return failed(faults, &DriveError::Memory);
     };
-    let mut list = SnapshotList::new(alloc, who);
-    match drive_again(alloc, &mut list, dial, retry, |_| true) {
-        Ok(_) => show_list(alloc, list.outcome(), output, faults),
+    let list = SnapshotList::new(alloc, who);
+    match list.bring(alloc, dial, retry) {
+        Ok(outcome) => show_list(alloc, &outcome, output, faults),
         Err(error) => failed(faults, &error),
     }
 }

@@ -1,6 +1,6 @@
 //! `vault upgrade`.
 
-ghost use Rattle.std.specs.Prelude.{◌≡◌, option_map};
+ghost use Rattle.std.specs.Prelude.{◌≡◌};
 ghost use Rattle.repo_prog.specs.declared.status.Status.{Status};
 ghost use Rattle.repo_prog.specs.Shown.{ShowsUpgraded, TellsUpgraded};
 ghost use Rattle.repo_prog.specs.Jobs.{UpgradeObeyed};
@@ -8,24 +8,24 @@ ghost use Rattle.repo_prog.specs.Jobs.{UpgradeObeyed};
 use crate::callers::{Caller, HOST};
 use crate::status::{Status, failed};
 use crate::telling::{show_made, unfinished, upgraded_line};
-use repo_dial::{Dial, drive_again};
+use repo_dial::Dial;
 use repo_prune::Upgrade;
-use repo_session::{Client, DriveError, Outcome};
+use repo_session::{DriveError, Outcome};
 use std::alloc::Global;
 use std::io::Write;
 
 /// Writes the line of an upgrade that is done, or tells how else the job ended.
 fn show_upgraded<O: Write, F: Write>(
     alloc: Global,
-    outcome: Option<&Outcome>,
+    outcome: &Outcome,
     output: &mut O,
     faults: &mut F,
 ) -> Status
-    ensures shows { ShowsUpgraded (option_map (λ o. o.now) outcome.entry) result (O.contents output.old) (O.contents output.new) }
+    ensures shows { ShowsUpgraded outcome.now result (O.contents output.old) (O.contents output.new) }
     ensures silent { result ≡ Status.Done → faults.new ≡ faults.old }
 {
-    let Some(Outcome::Upgraded) = outcome else {
-        return unfinished(alloc, outcome, faults);
+    let Outcome::Upgraded = outcome else {
+        return unfinished(alloc, Some(outcome), faults);
     };
     show_made(upgraded_line(alloc), output, faults)
 }
@@ -47,9 +47,9 @@ pub fn upgrade_command<D: Dial, O: Write, F: Write>(
     let Ok(who) = caller.who(alloc, HOST) else {
         return failed(faults, &DriveError::Memory);
     };
-    let mut upgrade = Upgrade::new(alloc, who);
-    match drive_again(alloc, &mut upgrade, dial, retry, |_| true) {
-        Ok(_) => show_upgraded(alloc, upgrade.outcome(), output, faults),
+    let upgrade = Upgrade::new(alloc, who);
+    match upgrade.bring(alloc, dial, retry) {
+        Ok(outcome) => show_upgraded(alloc, &outcome, output, faults),
         Err(error) => failed(faults, &error),
     }
 }

@@ -1,10 +1,13 @@
 //! The words of the command line.
 
-ghost use Rattle.std.specs.Prelude.{◌≡◌, ◌↔◌, ◌*◌, IfOk, IfSome, IsNone, IsSome, string_bytes};
+ghost use Rattle.std.specs.Prelude.{◌≡◌, ◌↔◌, ◌*◌, ◌∷◌, [], IfOk, IfSome, IsNone, IsSome, codes, string_bytes};
 ghost use Rattle.std.specs.Duration.{as_nanos};
+ghost use Rattle.clap.specs.Simple.{app_of};
+ghost use Rattle.clap.specs.Walk.{Rule};
 ghost use Rattle.repo_tree.specs.ConfigText.{IsTarget};
 ghost use Rattle.repo_tree.specs.Versions.{greatest_version, IsKnownTo};
 ghost use Rattle.repo_prog.specs.Commands.{IsAtOnce, IsIdle, IsMaking, IsOrder, IsServing};
+ghost use Rattle.repo_prog.specs.Spelled.{AddsWords, IsCommand, IsOfKind, flag_rule, init_rules, needed_rule, number_rule, serve_rules, vault_app};
 ghost use Rattle.repo_prog.specs.Words.{AreOrdering, IsFlag, IsIdleOf, IsMakingOf, IsNumber, IsServingOf, IsWord};
 
 use crate::addresses::address_of;
@@ -110,7 +113,9 @@ pub fn number<'a>(
     name: &'a str,
     default: &'a str,
     meaning: &'a str,
-) -> Result<Arg<'a>, AllocError> {
+) -> Result<Arg<'a>, AllocError>
+    ensures { IfOk result (IsOfKind (number_rule name.entry.now default.entry.now)) }
+{
     Ok(
         Arg::new(alloc, name)
             .long(name)
@@ -122,7 +127,9 @@ pub fn number<'a>(
 }
 
 /// An option without a word, and what it means.
-pub fn flag<'a>(alloc: Global, name: &'a str, meaning: &'a str) -> Arg<'a> {
+pub fn flag<'a>(alloc: Global, name: &'a str, meaning: &'a str) -> Arg<'a>
+    ensures { IsOfKind (flag_rule name.entry.now) result }
+{
     Arg::new(alloc, name)
         .long(name)
         .action(ArgAction::SetTrue)
@@ -130,7 +137,9 @@ pub fn flag<'a>(alloc: Global, name: &'a str, meaning: &'a str) -> Arg<'a> {
 }
 
 /// A word that has to be there, and what it means.
-pub fn needed<'a>(alloc: Global, name: &'a str, meaning: &'a str) -> Arg<'a> {
+pub fn needed<'a>(alloc: Global, name: &'a str, meaning: &'a str) -> Arg<'a>
+    ensures { IsOfKind (needed_rule name.entry.now) result }
+{
     Arg::new(alloc, name)
         .required(true)
         .action(ArgAction::Set)
@@ -141,14 +150,18 @@ pub fn needed<'a>(alloc: Global, name: &'a str, meaning: &'a str) -> Arg<'a> {
 pub fn with_word<'a>(
     command: Command<'a>,
     word: Result<Arg<'a>, AllocError>,
-) -> Result<Command<'a>, AllocError> {
+) -> Result<Command<'a>, AllocError>
+    ensures { (rule : Rule) → IfOk word.entry (IsOfKind rule) → IfOk result (AddsWords command.entry (rule ∷ [])) }
+{
     match word {
         Ok(word) => command.arg(word),
         Err(error) => Err(error),
     }
 }
 
-fn init_words<'a>(alloc: Global) -> Result<Command<'a>, AllocError> {
+fn init_words<'a>(alloc: Global) -> Result<Command<'a>, AllocError>
+    ensures { IfOk result (IsCommand (codes "init") init_rules) }
+{
     let command = Command::new(alloc, "init")
         .about("Makes a store in a folder")
         .after_help(INIT);
@@ -161,14 +174,18 @@ fn init_words<'a>(alloc: Global) -> Result<Command<'a>, AllocError> {
 }
 
 /// How many seconds a connection may say nothing, and how many where that is left out.
-pub fn idle<'a>(alloc: Global, default: &'a str) -> Result<Arg<'a>, AllocError> {
+pub fn idle<'a>(alloc: Global, default: &'a str) -> Result<Arg<'a>, AllocError>
+    ensures { IfOk result (IsOfKind (number_rule (codes "idle") default.entry.now)) }
+{
     match number(alloc, "idle", default, IDLE) {
         Ok(word) => Ok(word.value_name("SECONDS")),
         Err(error) => Err(error),
     }
 }
 
-fn serve_words<'a>(alloc: Global) -> Result<Command<'a>, AllocError> {
+fn serve_words<'a>(alloc: Global) -> Result<Command<'a>, AllocError>
+    ensures { IfOk result (IsCommand (codes "serve") serve_rules) }
+{
     let command = Command::new(alloc, "serve")
         .about("Serves the store in a folder to connections, one after another or several at once")
         .after_help(SERVE);
@@ -183,25 +200,33 @@ fn serve_words<'a>(alloc: Global) -> Result<Command<'a>, AllocError> {
 /// What `vault --version` tells.
 const VERSION: &str = "0.1.0";
 
-fn frames_words<'a>(alloc: Global) -> Command<'a> {
+fn frames_words<'a>(alloc: Global) -> Command<'a>
+    ensures { IsCommand (codes "frames") [] result }
+{
     let about = "Answers request frames in hexadecimal, from an empty store in memory";
     Command::new(alloc, "frames")
         .about(about)
         .after_help(FRAMES)
 }
 
-fn play_words<'a>(alloc: Global) -> Command<'a> {
+fn play_words<'a>(alloc: Global) -> Command<'a>
+    ensures { IsCommand (codes "play") [] result }
+{
     let about = "Plays a script of clients and what befalls them, over a store in memory";
     Command::new(alloc, "play").about(about).after_help(PLAY)
 }
 
-fn loop_words<'a>(alloc: Global) -> Command<'a> {
+fn loop_words<'a>(alloc: Global) -> Command<'a>
+    ensures { IsCommand (codes "loop") [] result }
+{
     let about = "Plays a script, and sends each request and each reply over a connection to itself";
     Command::new(alloc, "loop").about(about).after_help(LOOP)
 }
 
 /// The commands and their words: those that make and serve a store, those that go to a server, and those of scripts.
-fn commands<'a>(alloc: Global) -> Result<Command<'a>, AllocError> {
+fn commands<'a>(alloc: Global) -> Result<Command<'a>, AllocError>
+    ensures { IfOk result (λ program. app_of program ≡ vault_app) }
+{
     let program = Command::new(alloc, "vault")
         .about("A shared, deduplicating backup repository")
         .version(VERSION)

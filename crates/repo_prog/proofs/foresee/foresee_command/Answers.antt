@@ -1,5 +1,8 @@
-use Rattle.std.proofs.Common.{refl, sym, ◌∙◌}
-use Rattle.repo_prog.proofs.JobLemmas.{listed, list_obeyed, list_none}
+use Rattle.std.proofs.Common.{refl, subst, ◌∙◌}
+use Rattle.repo_dial.specs.Bringing.{Ended, Obeyed}
+use Rattle.repo_restore.specs.Listing.{list_rule}
+use Rattle.repo_prog.specs.Jobs.{vault_asker}
+use Rattle.repo_prog.proofs.JobLemmas.{list_none}
 use Rattle.repo_prog.proofs.TellLemmas.{nothing_told, tells_as}
 use Rattle.repo_prog.proofs.foresee.foresee_command.Goals as goal
 
@@ -9,13 +12,11 @@ returns-then-is_no_policy-clause-obeyed g c = list_none c.args.caller.now c.args
 pub returns-in_default-clause-obeyed : goal.returns-in_default-clause-obeyed
 returns-in_default-clause-obeyed g c = list_none c.args.caller.now c.args.retry (g.D.Dial.connections c.args.dial.now)
 
-pub returns-in-Ok-drive_again-clause-obeyed : goal.returns-in-Ok-drive_again-clause-obeyed
-returns-in-Ok-drive_again-clause-obeyed g c =
-    list_obeyed c.args.caller.now c.args.retry c.new-list.result c.drive_again.new.client _ (g.D.Dial.connections c.args.dial.now) (g.D.Dial.connections c.drive_again.new.dial) c.new-list.ensures.fits (c.new-list.ensures.who ∙ c.in-Ok.ensures) c.in-Ok-drive_again.ensures.again
+pub returns-in-Ok-bring-clause-obeyed : goal.returns-in-Ok-bring-clause-obeyed
+returns-in-Ok-bring-clause-obeyed g c = subst (λ who. Obeyed list_rule who c.args.retry (g.D.Dial.connections c.args.dial.now) (g.D.Dial.connections c.bring.new.dial)) (c.new-list.ensures.who ∙ c.in-Ok.ensures) c.bring.ensures.obeyed
 
-pub returns-clause-obeyed : goal.returns-clause-obeyed
-returns-clause-obeyed g c =
-    list_obeyed c.args.caller.now c.args.retry c.new-list.result c.drive_again.new.client _ (g.D.Dial.connections c.args.dial.now) (g.D.Dial.connections c.drive_again.new.dial) c.new-list.ensures.fits (c.new-list.ensures.who ∙ c.in-Ok.ensures) c.in-Err.ensures.again
+pub returns-in-Err-clause-obeyed : goal.returns-in-Err-clause-obeyed
+returns-in-Err-clause-obeyed g c = subst (λ who. Obeyed list_rule who c.args.retry (g.D.Dial.connections c.args.dial.now) (g.D.Dial.connections c.bring.new.dial)) (c.new-list.ensures.who ∙ c.in-Ok.ensures) c.bring.ensures.obeyed
 
 pub returns-then-is_no_policy-clause-tells : goal.returns-then-is_no_policy-clause-tells
 returns-then-is_no_policy-clause-tells g c = nothing_told _ _ _ _ _ c.failed.ensures refl
@@ -23,14 +24,10 @@ returns-then-is_no_policy-clause-tells g c = nothing_told _ _ _ _ _ c.failed.ens
 pub returns-in_default-clause-tells : goal.returns-in_default-clause-tells
 returns-in_default-clause-tells g c = nothing_told _ _ _ _ _ c.failed-in_default.ensures refl
 
-pub returns-in-Ok-drive_again-clause-tells : goal.returns-in-Ok-drive_again-clause-tells
-returns-in-Ok-drive_again-clause-tells g c =
-    tells_as _ _ _ _ _ (λ names is. (
-      is.0,
-      listed c.args.caller.now c.args.retry c.in-Ok-drive_again.field-0 c.new-list.result c.drive_again.new.client (g.D.Dial.connections c.args.dial.now) (g.D.Dial.connections c.drive_again.new.dial) is.0
-          c.new-list.ensures.fits (c.new-list.ensures.who ∙ c.in-Ok.ensures) c.in-Ok-drive_again.ensures.again (sym c.outcome.ensures ∙ is.1),
-      is.2,
-    )) _ c.show_foreseen.ensures.shows
+pub returns-in-Ok-bring-clause-tells : goal.returns-in-Ok-bring-clause-tells
+returns-in-Ok-bring-clause-tells g c =
+    let ended = subst (λ who. Ended list_rule who c.in-Ok-bring.outcome c.args.retry (g.D.Dial.connections c.args.dial.now) (g.D.Dial.connections c.bring.new.dial)) (c.new-list.ensures.who ∙ c.in-Ok.ensures) c.in-Ok-bring.ensures.ended in
+    tells_as _ _ _ _ _ (λ names is. (is.0, subst (λ o. Ended list_rule (vault_asker c.args.caller.now) o c.args.retry (g.D.Dial.connections c.args.dial.now) (g.D.Dial.connections c.bring.new.dial)) is.1 ended, is.2)) _ c.show_foreseen.ensures.shows
 
-pub returns-clause-tells : goal.returns-clause-tells
-returns-clause-tells g c = nothing_told _ _ _ _ _ c.failed-in-Err.ensures refl
+pub returns-in-Err-clause-tells : goal.returns-in-Err-clause-tells
+returns-in-Err-clause-tells g c = nothing_told _ _ _ _ _ c.failed-in-Err.ensures refl

@@ -1,5 +1,9 @@
-use Rattle.std.proofs.Common.{refl, sym, ◌∙◌}
-use Rattle.repo_prog.proofs.JobLemmas.{forgotten, forget_obeyed, forget_none, same_choosing}
+use Rattle.std.proofs.Common.{refl, subst, ◌∙◌}
+use Rattle.repo_dial.specs.Bringing.{Ended, Obeyed}
+use Rattle.repo_prune.specs.Forgetting.{forget_rule}
+use Rattle.repo_prune.specs.ForgetStates.{choice_of}
+use Rattle.repo_prog.specs.Jobs.{vault_asker}
+use Rattle.repo_prog.proofs.JobLemmas.{forget_none}
 use Rattle.repo_prog.proofs.TellLemmas.{nothing_told, tells_as}
 use Rattle.repo_prog.proofs.forget.forget_command.Goals as goal
 
@@ -9,19 +13,15 @@ returns-in_default-clause-obeyed g c = forget_none c.args.caller.now c.args.choi
 pub returns-in-Err-NoPolicy-clause-obeyed : goal.returns-in-Err-NoPolicy-clause-obeyed
 returns-in-Err-NoPolicy-clause-obeyed g c = forget_none c.args.caller.now c.args.choice c.args.retry (g.D.Dial.connections c.args.dial.now)
 
-pub returns-in-Ok-drive_again-clause-obeyed : goal.returns-in-Ok-drive_again-clause-obeyed
-returns-in-Ok-drive_again-clause-obeyed g c =
-    let forget = c.in-Ok-new.forget in
+pub returns-in-Ok-bring-clause-obeyed : goal.returns-in-Ok-bring-clause-obeyed
+returns-in-Ok-bring-clause-obeyed g c =
     let made = c.in-Ok-new.ensures in
-    let job = same_choosing forget c.args.caller.now c.args.choice (made.who ∙ c.in-Ok.ensures) made.choice in
-    forget_obeyed c.args.caller.now c.args.choice c.args.retry forget c.drive_again.new.client _ (g.D.Dial.connections c.args.dial.now) (g.D.Dial.connections c.drive_again.new.dial) made.fits job c.in-Ok-drive_again.ensures.again
+    subst (λ choice. Obeyed (forget_rule choice) (vault_asker c.args.caller.now) c.args.retry (g.D.Dial.connections c.args.dial.now) (g.D.Dial.connections c.bring.new.dial)) made.choice (subst (λ who. Obeyed (forget_rule (choice_of c.in-Ok-new.forget)) who c.args.retry (g.D.Dial.connections c.args.dial.now) (g.D.Dial.connections c.bring.new.dial)) (made.who ∙ c.in-Ok.ensures) c.bring.ensures.obeyed)
 
-pub returns-clause-obeyed : goal.returns-clause-obeyed
-returns-clause-obeyed g c =
-    let forget = c.in-Ok-new.forget in
+pub returns-in-Err-clause-obeyed : goal.returns-in-Err-clause-obeyed
+returns-in-Err-clause-obeyed g c =
     let made = c.in-Ok-new.ensures in
-    let job = same_choosing forget c.args.caller.now c.args.choice (made.who ∙ c.in-Ok.ensures) made.choice in
-    forget_obeyed c.args.caller.now c.args.choice c.args.retry forget c.drive_again.new.client _ (g.D.Dial.connections c.args.dial.now) (g.D.Dial.connections c.drive_again.new.dial) made.fits job c.in-Err.ensures.again
+    subst (λ choice. Obeyed (forget_rule choice) (vault_asker c.args.caller.now) c.args.retry (g.D.Dial.connections c.args.dial.now) (g.D.Dial.connections c.bring.new.dial)) made.choice (subst (λ who. Obeyed (forget_rule (choice_of c.in-Ok-new.forget)) who c.args.retry (g.D.Dial.connections c.args.dial.now) (g.D.Dial.connections c.bring.new.dial)) (made.who ∙ c.in-Ok.ensures) c.bring.ensures.obeyed)
 
 pub returns-in_default-clause-tells : goal.returns-in_default-clause-tells
 returns-in_default-clause-tells g c = nothing_told _ _ _ _ _ c.failed.ensures refl
@@ -29,13 +29,12 @@ returns-in_default-clause-tells g c = nothing_told _ _ _ _ _ c.failed.ensures re
 pub returns-in-Err-NoPolicy-clause-tells : goal.returns-in-Err-NoPolicy-clause-tells
 returns-in-Err-NoPolicy-clause-tells g c = nothing_told _ _ _ _ _ c.failed-in-Err-NoPolicy.ensures refl
 
-pub returns-in-Ok-drive_again-clause-tells : goal.returns-in-Ok-drive_again-clause-tells
-returns-in-Ok-drive_again-clause-tells g c =
-    let forget = c.in-Ok-new.forget in
+pub returns-in-Ok-bring-clause-tells : goal.returns-in-Ok-bring-clause-tells
+returns-in-Ok-bring-clause-tells g c =
     let made = c.in-Ok-new.ensures in
-    let job = same_choosing forget c.args.caller.now c.args.choice (made.who ∙ c.in-Ok.ensures) made.choice in
-    tells_as _ _ _ _ _ (λ names is. forgotten c.args.caller.now c.args.choice c.args.retry c.in-Ok-drive_again.field-0 forget c.drive_again.new.client (g.D.Dial.connections c.args.dial.now) (g.D.Dial.connections c.drive_again.new.dial) names
-    made.fits job c.in-Ok-drive_again.ensures.again (sym c.outcome.ensures ∙ is)) _ c.show_forgotten.ensures.shows
+    let ended = subst (λ choice. Ended (forget_rule choice) (vault_asker c.args.caller.now) c.in-Ok-bring.outcome c.args.retry (g.D.Dial.connections c.args.dial.now) (g.D.Dial.connections c.bring.new.dial)) made.choice
+    (subst (λ who. Ended (forget_rule (choice_of c.in-Ok-new.forget)) who c.in-Ok-bring.outcome c.args.retry (g.D.Dial.connections c.args.dial.now) (g.D.Dial.connections c.bring.new.dial)) (made.who ∙ c.in-Ok.ensures) c.in-Ok-bring.ensures.ended) in
+    tells_as _ _ _ _ _ (λ names is. subst (λ o. Ended (forget_rule c.args.choice) (vault_asker c.args.caller.now) o c.args.retry (g.D.Dial.connections c.args.dial.now) (g.D.Dial.connections c.bring.new.dial)) is ended) _ c.show_forgotten.ensures.shows
 
-pub returns-clause-tells : goal.returns-clause-tells
-returns-clause-tells g c = nothing_told _ _ _ _ _ c.failed-in-Err.ensures refl
+pub returns-in-Err-clause-tells : goal.returns-in-Err-clause-tells
+returns-in-Err-clause-tells g c = nothing_told _ _ _ _ _ c.failed-in-Err.ensures refl

@@ -1,4 +1,7 @@
-use Rattle.std.proofs.Common.{refl, sym, ◌∙◌}
+use Rattle.std.proofs.Common.{refl, subst}
+use Rattle.repo_dial.specs.Bringing.{Ended}
+use Rattle.repo_restore.specs.Restoring.{restore_rule}
+use Rattle.repo_prog.specs.Jobs.{vault_asker}
 use Rattle.repo_prog.proofs.JobLemmas.{restore_none}
 use Rattle.repo_prog.proofs.TellLemmas.{nothing_told, tells_as}
 use Rattle.repo_prog.proofs.restore.restore_command.Goals as goal
@@ -13,4 +16,4 @@ pub returns-in-Err-restored-clause-tells : goal.returns-in-Err-restored-clause-t
 returns-in-Err-restored-clause-tells g c = nothing_told _ _ _ _ _ c.failed.ensures refl
 
 pub returns-clause-tells : goal.returns-clause-tells
-returns-clause-tells g c = tells_as _ _ _ _ _ (λ entries is. c.in-Ok-restored.ensures.ended entries (sym c.outcome.ensures ∙ is)) _ c.show_restored.ensures.shows
+returns-clause-tells g c = tells_as _ _ _ _ _ (λ entries is. subst (λ o. Ended (restore_rule c.args.name) (vault_asker c.args.caller.now) o c.args.retry (g.D.Dial.connections c.args.dial.now) (g.D.Dial.connections c.restored.new.dial)) is c.in-Ok-restored.ensures.taken.0) _ c.show_restored.ensures.shows

@@ -1,5 +1,4 @@
-use Rattle.std.proofs.Common.{rules, ◌≡◌, Some}
-use Rattle.std.specs.Prelude.{option_map}
+use Rattle.std.proofs.Common.{rules, ◌≡◌}
 use Rattle.repo_session.specs.declared.outcomes.Outcome.{Outcome}
 use Rattle.repo_prog.specs.Tellings.{complete_line}
 use Rattle.repo_prog.proofs.TellLemmas.{shown}
@@ -7,6 +6,6 @@ use Rattle.repo_prog.proofs.restore.show_restored.Goals as goal
 
 pub returns-clause-shows : goal.returns-clause-shows
 returns-clause-shows g c =
-    let n = c.in-Some-Complete.entries in
-    let came : option_map (λ o. o.now) c.args.outcome ≡ Some (Outcome.Complete n) = search rules in
+    let n = c.in-Complete.entries in
+    let came : c.args.outcome.now ≡ Outcome.Complete n = search rules in
     shown _ _ _ _ _ n came (c.show_made.ensures.shows (complete_line n) c.complete_line.ensures)

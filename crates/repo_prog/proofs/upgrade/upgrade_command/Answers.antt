@@ -1,26 +1,29 @@
-use Rattle.std.proofs.Common.{refl, sym, ◌∙◌}
-use Rattle.repo_prog.proofs.JobLemmas.{upgraded, upgrade_obeyed, upgrade_none}
+use Rattle.std.proofs.Common.{refl, subst, ◌∙◌}
+use Rattle.repo_dial.specs.Bringing.{Ended, Obeyed}
+use Rattle.repo_prune.specs.Upgrading.{upgrade_rule}
+use Rattle.repo_prog.specs.Jobs.{vault_asker}
+use Rattle.repo_prog.proofs.JobLemmas.{upgrade_none}
 use Rattle.repo_prog.proofs.TellLemmas.{nothing_told, tells_as}
 use Rattle.repo_prog.proofs.upgrade.upgrade_command.Goals as goal
 
 pub returns-in_default-clause-obeyed : goal.returns-in_default-clause-obeyed
 returns-in_default-clause-obeyed g c = upgrade_none c.args.caller.now c.args.retry (g.D.Dial.connections c.args.dial.now)
 
-pub returns-in-Ok-drive_again-clause-obeyed : goal.returns-in-Ok-drive_again-clause-obeyed
-returns-in-Ok-drive_again-clause-obeyed g c =
-    upgrade_obeyed c.args.caller.now c.args.retry c.new-upgrade.result c.drive_again.new.client _ (g.D.Dial.connections c.args.dial.now) (g.D.Dial.connections c.drive_again.new.dial) c.new-upgrade.ensures.fits (c.new-upgrade.ensures.who ∙ c.in-Ok.ensures) c.in-Ok-drive_again.ensures.again
+pub returns-in-Ok-bring-clause-obeyed : goal.returns-in-Ok-bring-clause-obeyed
+returns-in-Ok-bring-clause-obeyed g c =
+    subst (λ who. Obeyed upgrade_rule who c.args.retry (g.D.Dial.connections c.args.dial.now) (g.D.Dial.connections c.bring.new.dial)) (c.new-upgrade.ensures.who ∙ c.in-Ok.ensures) c.bring.ensures.obeyed
 
-pub returns-clause-obeyed : goal.returns-clause-obeyed
-returns-clause-obeyed g c =
-    upgrade_obeyed c.args.caller.now c.args.retry c.new-upgrade.result c.drive_again.new.client _ (g.D.Dial.connections c.args.dial.now) (g.D.Dial.connections c.drive_again.new.dial) c.new-upgrade.ensures.fits (c.new-upgrade.ensures.who ∙ c.in-Ok.ensures) c.in-Err.ensures.again
+pub returns-in-Err-clause-obeyed : goal.returns-in-Err-clause-obeyed
+returns-in-Err-clause-obeyed g c =
+    subst (λ who. Obeyed upgrade_rule who c.args.retry (g.D.Dial.connections c.args.dial.now) (g.D.Dial.connections c.bring.new.dial)) (c.new-upgrade.ensures.who ∙ c.in-Ok.ensures) c.bring.ensures.obeyed
 
 pub returns-in_default-clause-tells : goal.returns-in_default-clause-tells
 returns-in_default-clause-tells g c = nothing_told _ _ _ _ _ c.failed.ensures refl
 
-pub returns-in-Ok-drive_again-clause-tells : goal.returns-in-Ok-drive_again-clause-tells
-returns-in-Ok-drive_again-clause-tells g c =
-    tells_as _ _ _ _ _ (λ done is. upgraded c.args.caller.now c.args.retry c.in-Ok-drive_again.field-0 c.new-upgrade.result c.drive_again.new.client (g.D.Dial.connections c.args.dial.now) (g.D.Dial.connections c.drive_again.new.dial)
-    c.new-upgrade.ensures.fits (c.new-upgrade.ensures.who ∙ c.in-Ok.ensures) c.in-Ok-drive_again.ensures.again (sym c.outcome.ensures ∙ is)) _ c.show_upgraded.ensures.shows
+pub returns-in-Ok-bring-clause-tells : goal.returns-in-Ok-bring-clause-tells
+returns-in-Ok-bring-clause-tells g c =
+    let ended = subst (λ who. Ended upgrade_rule who c.in-Ok-bring.outcome c.args.retry (g.D.Dial.connections c.args.dial.now) (g.D.Dial.connections c.bring.new.dial)) (c.new-upgrade.ensures.who ∙ c.in-Ok.ensures) c.in-Ok-bring.ensures.ended in
+    tells_as _ _ _ _ _ (λ it is. subst (λ o. Ended upgrade_rule (vault_asker c.args.caller.now) o c.args.retry (g.D.Dial.connections c.args.dial.now) (g.D.Dial.connections c.bring.new.dial)) is ended) _ c.show_upgraded.ensures.shows
 
-pub returns-clause-tells : goal.returns-clause-tells
-returns-clause-tells g c = nothing_told _ _ _ _ _ c.failed-in-Err.ensures refl
+pub returns-in-Err-clause-tells : goal.returns-in-Err-clause-tells
+returns-in-Err-clause-tells g c = nothing_told _ _ _ _ _ c.failed-in-Err.ensures refl
