@@ -199,8 +199,9 @@ index_out facts b token step items es h some puts =
     let written : HasWritten facts b.waiting b.counts h.puts [] es = subst (λ ws. HasWritten facts ws b.counts h.puts [] es) (none_being_put b h.listed) h.at.written in
     let all = map listing_of (h.puts ++ []) in
     let lawful = puts_lawful b.counts h.puts [] es written.put in
-    let k = puts (waits_lawful all b.waiting es written.lists lawful) (waits_few all b.waiting es written.lists lawful h.few) in
-    (k.0, k.1, k.2, index_may facts b.waiting b.counts h.puts es k.0 written k.1 some, record { puts = h.puts; at = h.at; unsealed = h.unsealed; listed = h.listed; reads = k.1 }, k.3)
+    let few = waits_few all b.waiting es written.lists lawful h.few in
+    let k = puts (waits_lawful all b.waiting es written.lists lawful) few in
+    (k.0, k.1, k.2, index_may facts b.waiting b.counts h.puts es k.0 written k.1 few some, record { puts = h.puts; at = h.at; unsealed = h.unsealed; listed = h.listed; reads = k.1 }, k.3)
 
 -- the job goes on after the exchange as after its trace
 pub turns_on : (rule : Rule) (who : Asker) (Knows : Ask → Trace → Type 0) (Wants : Trace → Type 0) (e : Exchange) (es : Trace) (step : Step) → e.emitted ≡ [] → MayGoOn rule who Knows Wants (e ∷ es) step → MayTurn rule who Knows Wants es e step

@@ -9,6 +9,7 @@ use Rattle.repo_wire.specs.declared.messages.Ask.{Ask}
 use Rattle.repo_wire.specs.declared.messages.Say.{Say}
 use Rattle.repo_pack.specs.PackLayout.{Item}
 use Rattle.repo_index.specs.IndexText.{fact_of, IsIndexText}
+use Rattle.repo_index.specs.IndexWriting.{AreFew}
 use Rattle.repo_index.specs.declared.facts.Fact.{Fact}
 use Rattle.repo_index.specs.declared.facts.PackFacts.{PackFacts}
 use Rattle.repo_session.specs.Catalogs.{AreIndexed}
@@ -20,7 +21,7 @@ use Rattle.repo_writing.specs.declared.counts.Counts.{Counts}
 use Rattle.repo_writing.proofs.BlobLemmas.{once_apart}
 use Rattle.repo_name.proofs.Containing.{contains_map}
 use Rattle.repo_writing.proofs.PutLemmas.{each_contained, objects_put_other, put_done_now, gives_later, indexed_later}
-use Rattle.repo_writing.proofs.Writings.{listing_of, none_put, none_listed, packs_stay, lists_stay, pack_sent, pack_done, packed_one, put_listed, waits_more, index_of, index_done, put_indexed, counted}
+use Rattle.repo_writing.proofs.Writings.{listing_of, none_put, none_listed, packs_stay, lists_stay, pack_sent, pack_done, packed_one, put_listed, waits_among, waits_more, index_done, put_indexed, counted}
 use Rattle.repo_backup.specs.Backing.{HasWritten}
 use Rattle.repo_backup.specs.Packings.{IsCovered}
 use Rattle.repo_backup.specs.Rules.{IndexRule, IsStored}
@@ -87,11 +88,12 @@ module _ (known : List Fact) (waiting : List PackFacts) (counts : Counts) (puts 
   listed_puts es b = subst (λ ps. AreListed (map listing_of ps) waiting es) (append-nil puts) b.lists
 
   -- an index of what waits may be put
-  pub index_may : (es : Trace) (x : List ℕ) → HasWritten known waiting counts puts [] es → IsIndexText x waiting → waiting ≢ [] → IndexRule es x
-  index_may es x b reads some = record {
+  pub index_may : (es : Trace) (x : List ℕ) → HasWritten known waiting counts puts [] es → IsIndexText x waiting → AreFew waiting → waiting ≢ [] → IndexRule es x
+  index_may es x b reads few some = record {
     indexes = b.indexed;
     first = b.none;
-    lists = index_of (IsListedPack es) (map listing_of puts) waiting es x (listed_puts es b) (put_listed counts puts es b.put) reads some;
+    lists = record { packs = waiting; reads = reads; some = some; each = λ l among. put_listed counts puts es b.put l (waits_among (map listing_of puts) waiting es l (listed_puts es b) among) };
+    few = few;
   }
 
   -- its put is done, and nothing waits

@@ -42,7 +42,7 @@ use Rattle.repo_prune.proofs.Asides.{IsAside, read_same, fact_same}
 use Rattle.repo_prune.proofs.Firsts.{indexed_before, some_first, some_once}
 use Rattle.repo_prune.proofs.Pairs.{count, pairs_of, counted_has, has_counted, once_counted, counted_once, count_shuffled, repacked_pairs}
 use Rattle.repo_prune.proofs.Relistings.{in_first}
-use Rattle.repo_prune.proofs.PruneDeletes.{covered_later, first_of, puts_listed}
+use Rattle.repo_prune.proofs.PruneDeletes.{covered_later, puts_listed}
 
 -- ---- all blobs are moved
 
@@ -223,7 +223,7 @@ module _ (k : Known) (r s : Relisting) (es : Trace) (h : MayList k r es) where
           none = h.packed.none;
           indexes = h.packed.read.indexes;
           lists = record { packs = p.waiting; reads = p.reads; some = p.some; each = λ listed has. h.packed.each listed (among listed has) };
-          blobs = λ listed has. first_of listed.facts (h.packed.listable listed (among listed has)).some;
+          few = p.few;
           rows = k.rows;
           snapshots = h.packed.read.snapshots;
           texts = h.packed.covered.texts;

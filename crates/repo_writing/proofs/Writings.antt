@@ -24,7 +24,7 @@ use Rattle.repo_index.proofs.ExactLemmas.{fact_there}
 use Rattle.repo_session.specs.Traces.{Each, Exchange, Trace, Object, object_put, objects_put}
 use Rattle.repo_session.proofs.Receiving.{each_both, each_more}
 use Rattle.repo_writing.specs.Blobs.{HasItem}
-use Rattle.repo_writing.specs.Putting.{PutDone, AreDone, IsPacked, IsIndexed, IsListedPack, IsIndexOf, Packed, IsCount, AreCounted}
+use Rattle.repo_writing.specs.Putting.{PutDone, AreDone, IsPacked, IsIndexed, IsListedPack, Packed, IsCount, AreCounted}
 use Rattle.repo_writing.specs.Sealing.{IsSealedOf, IsListedAs}
 use Rattle.repo_writing.specs.Writing.{Put, IsPut, items_of, bytes_of, AreCounts, ArePut, Listing, packs_of, IsDone, AreListed, FewWait}
 use Rattle.repo_writing.specs.declared.counts.Counts.{Counts}
@@ -199,11 +199,6 @@ waits_more listed waiting x es h = record {
 -- what waits is to be listed
 pub waits_among : (listed waiting : List PackFacts) (es : Trace) (x : PackFacts) → AreListed listed waiting es → Contains waiting x → Contains listed x
 waits_among listed waiting es x h among = subst (λ ls. Contains ls x) (sym h.lists) (Contains-append_right (packs_of h.listings) waiting x among)
-
--- an index of what waits, where something does, of packs that may be listed
-pub index_of : (MayList : PackFacts → Type 0) (listed waiting : List PackFacts) (es : Trace) (x : List ℕ) → AreListed listed waiting es → ((l : PackFacts) → Contains listed l → MayList l)
-    → IsIndexText x waiting → waiting ≢ [] → IsIndexOf MayList x
-index_of MayList listed waiting es x h may reads some = record { packs = waiting; reads = reads; some = some; each = λ l among. may l (waits_among listed waiting es l h among) }
 
 -- its put is done, and nothing waits
 pub index_done : (listed waiting : List PackFacts) (token : Token) (n : Name) (x : List ℕ) (e : Exchange) (es : Trace) → IsIndexText x waiting → e.ask ≡ Ask.Put token Kind.Index n x → e.say ≡ Say.Done
