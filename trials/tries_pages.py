@@ -91,7 +91,7 @@ def cases_are_those_that_are_written():
 
 @trial
 def definitions_have_their_lines():
-    says_nothing("bash", "scripts/definitions.sh")
+    says_nothing(sys.executable, "-B", "scripts/definitions.py", "--check")
 
 
 def completed(*words):
