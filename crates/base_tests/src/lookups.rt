@@ -2,7 +2,7 @@
 
 use crate::trials::Trial;
 use repo_index::{Fact, Facts, IndexText, Lookup, PackFacts};
-use repo_name::{BlobKind, Name, name_of};
+use repo_name::{BlobKind, Name, Names, name_of};
 use repo_pack::PackView;
 use std::alloc::{AllocError, Global};
 
@@ -25,6 +25,16 @@ fn list(alloc: Global, index: &mut IndexText) -> Result<(), AllocError> {
         Ok(view) => index.push(PackFacts::of_pack(alloc, &name_of(&PACK), &view)?),
         Err(_) => Err(AllocError),
     }
+}
+
+/// The packs of a look-up's facts.
+fn packs_of(lookup: &Lookup) -> Result<Names, AllocError> {
+    lookup.placed()?.packs()
+}
+
+/// A look-up's facts of a pack.
+fn facts_of(lookup: &Lookup, pack: &Name) -> Result<Facts, AllocError> {
+    lookup.placed()?.facts_of(pack)
 }
 
 impl Trial {
@@ -78,10 +88,10 @@ impl Trial {
 
     /// A look-up has facts of these packs, asked for again where there was no memory.
     fn has_packs(&mut self, lookup: &Lookup, wanted: &[Name]) {
-        let mut packs = lookup.packs();
+        let mut packs = packs_of(lookup);
         if packs.is_err() {
             self.lack();
-            packs = lookup.packs();
+            packs = packs_of(lookup);
         }
         match packs {
             Ok(packs) => self.count(packs.as_slice() == wanted),
@@ -92,10 +102,10 @@ impl Trial {
     /// A look-up has these facts of that pack, asked for again where there was no memory.
     fn has_facts(&mut self, lookup: &Lookup, wanted: &[Fact]) {
         let pack = name_of(&PACK);
-        let mut facts = lookup.facts_of(&pack);
+        let mut facts = facts_of(lookup, &pack);
         if facts.is_err() {
             self.lack();
-            facts = lookup.facts_of(&pack);
+            facts = facts_of(lookup, &pack);
         }
         match facts {
             Ok(facts) => self.count(facts.as_slice() == wanted),

@@ -8,7 +8,7 @@ ghost use Rattle.repo_check.specs.Gathering.{well_noted};
 ghost use Rattle.repo_check.specs.Rounds.{round_of};
 
 use crate::rounds::{Note, Round};
-use repo_index::{Fact, Facts, IndexText, Lookup};
+use repo_index::{Fact, Facts, IndexText, Lookup, Placed};
 use repo_name::Name;
 use std::alloc::{AllocError, Global};
 
@@ -57,7 +57,7 @@ fn facts_of<'a>(packs: &'a Round<Facts>, pack: &Name) -> Option<&'a Facts>
 }
 
 /// Whether an index lists a pack just as it is known. It fails for memory alone.
-fn lists_as_known(own: &Lookup, packs: &Round<Facts>, pack: &Name) -> Result<bool, AllocError>
+fn lists_as_known(own: &Placed, packs: &Round<Facts>, pack: &Name) -> Result<bool, AllocError>
     ensures yes { NamesAscend None packs.now.roll.names.items → IfOk result (λ is. IsTrue is → ListsAsKnown own.now (facts_by (round_of packs.now)) pack.now) }
     ensures no { NamesAscend None packs.now.roll.names.items → IfOk result (λ is. IsFalse is → ListsOtherwise own.now (facts_by (round_of packs.now)) pack.now) }
 {
@@ -69,7 +69,7 @@ fn lists_as_known(own: &Lookup, packs: &Round<Facts>, pack: &Name) -> Result<boo
 }
 
 /// Whether it lists all of these packs so. It fails for memory alone.
-fn all_as_known(own: &Lookup, packs: &Round<Facts>, names: &[Name]) -> Result<bool, AllocError>
+fn all_as_known(own: &Placed, packs: &Round<Facts>, names: &[Name]) -> Result<bool, AllocError>
     ensures yes { NamesAscend None packs.now.roll.names.items → IfOk result (λ are. IsTrue are
         → AllListedAsKnown own.now (facts_by (round_of packs.now)) names.now) }
     ensures no { NamesAscend None packs.now.roll.names.items → IfOk result (λ are. IsFalse are
@@ -89,8 +89,9 @@ pub fn fits(alloc: Global, text: &IndexText, packs: &Round<Facts>) -> Result<boo
     ensures yes { NamesAscend None packs.now.roll.names.items → IfOk result (λ is. IsTrue is → Fits text.now (facts_by (round_of packs.now))) }
     ensures no { NamesAscend None packs.now.roll.names.items → IfOk result (λ is. IsFalse is → Misfits text.now (facts_by (round_of packs.now))) }
 {
-    let mut own = Lookup::new(alloc);
-    own.add(text)?;
+    let mut facts = Lookup::new(alloc);
+    facts.add(text)?;
+    let own = facts.placed()?;
     let names = own.packs()?;
     all_as_known(&own, packs, names.as_slice())
 }

@@ -1,6 +1,7 @@
 -- What a look-up holds, and what it finds.
-use Rattle.std.proofs.Common.{◌≡◌, ◌≢◌, ◌↔◌, ◌<◌, ◌+◌, ◌⊎◌, ◌++◌, ◌∷◌, [], ℕ, List, length, take, get_or, append-nil, append_assoc, Bool, true, false, not, cond, refl, ap, sym, ◌∙◌, subst, inl, inr, Contains, arith}
+use Rattle.std.proofs.Common.{◌≡◌, ◌≢◌, ◌↔◌, ◌<◌, ◌+◌, ◌⊎◌, ◌++◌, ◌∷◌, [], ℕ, List, length, take, get_or, append-nil, append_assoc, Bool, true, false, cond, refl, ap, sym, ◌∙◌, subst, inl, inr, Contains, arith}
 use Rattle.std.specs.Prelude.{IsTrue}
+use Rattle.std.specs.Cmp.{IsTotalOrder}
 use Rattle.std.proofs.lemmas.Cmp.{tied_itself}
 use Rattle.std.proofs.lemmas.Map.Views.{btree_set_contains_iff}
 use Rattle.std.proofs.lemmas.List.{take_more}
@@ -9,7 +10,6 @@ use Rattle.std.specs.Ordering.{ordering_then, is_gt, is_eq}
 use Rattle.std.specs.declared.cmp.Ordering.{Ordering}
 use Rattle.std.specs.declared.cmp.Ordering.TheVariants.{Less, Equal, Greater}
 use Rattle.std.specs.declared.ops.Bound.TheVariants.{Included}
-use Rattle.std.specs.List.{list_any}
 use Rattle.std.specs.BTreeMap.{is_at}
 use Rattle.std.specs.BTreeMap.Range.{IsLeBy, IsInRange}
 use Rattle.std.specs.BTreeSet.{BTreeSet, contains, Updates, IsKeyRangeOf}
@@ -18,20 +18,20 @@ use Rattle.repo_name.specs.declared.names.Name.{Name}
 use Rattle.repo_name.specs.declared.kinds.BlobKind.{BlobKind}
 use Rattle.repo_pack.specs.declared.places.Place.{Place}
 use Rattle.repo_index.specs.IndexText.{fact_of, IsFact, facts_in}
-use Rattle.repo_index.specs.Order.{place_cmp, kind_cmp, place_first, name_first, IsAtMost, names_total, kinds_total, place_first_total, name_first_total}
+use Rattle.repo_index.specs.Order.{place_cmp, kind_cmp, name_first, IsAtMost, names_total, kinds_total, name_first_total}
 use Rattle.repo_index.specs.inner.Bounds.{IsBeforePair, IsAfterPair}
-use Rattle.repo_index.specs.Lookups.{IsLeast, Joins, Grew, HasSame, AreHeld}
+use Rattle.repo_index.specs.Lookups.{IsLeast, Joins, Grew, HasSame, AreFacts}
 use Rattle.repo_index.specs.declared.facts.Fact.{Fact}
 use Rattle.repo_index.specs.declared.facts.PackFacts.{PackFacts}
-use Rattle.repo_index.proofs.OrderLemmas.{then_le, between, same_le, kinds_exact, names_exact, place_first_exact, name_first_exact}
+use Rattle.repo_index.proofs.OrderLemmas.{then_le, between, same_le, kinds_exact, names_exact, name_first_exact}
 
 -- ---- members of a set
 
-pub has : (s : BTreeSet Fact) (f : Fact) → Contains s.keys f → IsTrue (contains place_first s f)
-has s f h = (btree_set_contains_iff place_first_total place_first_exact s f).1 h
+has : (s : BTreeSet Fact) (f : Fact) → Contains s.keys f → IsTrue (contains name_first s f)
+has s f h = (btree_set_contains_iff name_first_total name_first_exact s f).1 h
 
-pub member : (s : BTreeSet Fact) (f : Fact) → IsTrue (contains place_first s f) → Contains s.keys f
-member s f h = (btree_set_contains_iff place_first_total place_first_exact s f).0 h
+member : (s : BTreeSet Fact) (f : Fact) → IsTrue (contains name_first s f) → Contains s.keys f
+member s f h = (btree_set_contains_iff name_first_total name_first_exact s f).0 h
 
 -- ---- what a look-up finds
 
@@ -79,64 +79,36 @@ place_of_first kind name p q h =
     subst (λ (o : Ordering). is_gt (ordering_then o (place_cmp p q)) ≡ false) f g
 
 -- the first fact between the bounds has the least place
-pub least_is_first : (by_place by_name : BTreeSet Fact) (kind : BlobKind) (name : Name) (lo hi k : Fact) (rest : List Fact)
-    → AreHeld by_place by_name → IsBeforePair kind name lo → IsAfterPair kind name hi
-    → IsKeyRangeOf name_first (Included lo) (Included hi) by_name (k ∷ rest) → IsLeast by_place.keys kind name k.place
-least_is_first by_place by_name kind name lo hi k rest held low high range =
+pub least_is_first : (by_name : BTreeSet Fact) (kind : BlobKind) (name : Name) (lo hi k : Fact) (rest : List Fact)
+    → AreFacts by_name.keys → IsBeforePair kind name lo → IsAfterPair kind name hi
+    → IsKeyRangeOf name_first (Included lo) (Included hi) by_name (k ∷ rest) → IsLeast by_name.keys kind name k.place
+least_is_first by_name kind name lo hi k rest made low high range =
     let pair = pair_is kind name lo hi k low high range.1.0 in
     let is : k ≡ fact_of kind name k.place = λ i. record { kind = sym pair.0 i; name = sym pair.1 i; place = k.place } in
     record {
-      among = subst (Contains by_place.keys) is (member by_place k (sym (held.same k) ∙ range.1.1));
+      among = subst (Contains by_name.keys) is (member by_name k range.1.1);
       least = λ other h.
-          let there = has by_place (fact_of kind name other) h in
-          let inside = pair_in kind name lo hi other low high (held.made (fact_of kind name other) there) in
-          let first = range.2 (fact_of kind name other) inside (held.same (fact_of kind name other) ∙ there) in
+          let inside = pair_in kind name lo hi other low high (made (fact_of kind name other) h) in
+          let first = range.2 (fact_of kind name other) inside (has by_name (fact_of kind name other) h) in
           place_of_first kind name k.place other (subst (λ (f : Fact). IsLeBy name_first f (fact_of kind name other)) is first);
     }
 
 -- where nothing stands between the bounds no fact has the kind and name
-pub none_is_none : (by_place by_name : BTreeSet Fact) (kind : BlobKind) (name : Name) (lo hi : Fact)
-    → AreHeld by_place by_name → IsBeforePair kind name lo → IsAfterPair kind name hi
-    → IsKeyRangeOf name_first (Included lo) (Included hi) by_name [] → (place : Place) → ¬ Contains by_place.keys (fact_of kind name place)
-none_is_none by_place by_name kind name lo hi held low high range place h =
-    let there = has by_place (fact_of kind name place) h in
-    let inside = pair_in kind name lo hi place low high (held.made (fact_of kind name place) there) in
+pub none_is_none : (by_name : BTreeSet Fact) (kind : BlobKind) (name : Name) (lo hi : Fact)
+    → AreFacts by_name.keys → IsBeforePair kind name lo → IsAfterPair kind name hi
+    → IsKeyRangeOf name_first (Included lo) (Included hi) by_name [] → (place : Place) → ¬ Contains by_name.keys (fact_of kind name place)
+none_is_none by_name kind name lo hi made low high range place h =
+    let inside = pair_in kind name lo hi place low high (made (fact_of kind name place) h) in
     let absent = range.5 refl (fact_of kind name place) inside in
-    let present = held.same (fact_of kind name place) ∙ there in
-    let e : true ≡ false = sym present ∙ absent in
+    let e : true ≡ false = sym (has by_name (fact_of kind name place) h) ∙ absent in
     cc e
 
 -- ---- a fact added
-
-bools_same : (b c : Bool) → (b ≡ true → c ≡ true) → (c ≡ true → b ≡ true) → b ≡ c
-bools_same true c h g = sym (h refl)
-bools_same false true h g = g refl
-bools_same false false h g = refl
 
 equal_is : (o : Ordering) → is_eq o ≡ true → o ≡ Equal
 equal_is Less h = cc h
 equal_is Equal h = refl
 equal_is Greater h = cc h
-
--- the two orders tell the same facts from one another
-at_place : (k f : Fact) → is_at (place_first k) f ≡ true → k ≡ f
-at_place k f h = place_first_exact k f (equal_is (place_first k f) h)
-
-at_name : (k f : Fact) → is_at (name_first k) f ≡ true → k ≡ f
-at_name k f h = name_first_exact k f (equal_is (name_first k f) h)
-
-place_at : (k f : Fact) → k ≡ f → is_at (place_first k) f ≡ true
-place_at k f same =
-    let e : place_first k f ≡ Equal = subst (λ (x : Fact). place_first k x ≡ Equal) same (tied_itself place_first_total k) in
-    ap is_eq e
-
-name_at : (k f : Fact) → k ≡ f → is_at (name_first k) f ≡ true
-name_at k f same =
-    let e : name_first k f ≡ Equal = subst (λ (x : Fact). name_first k x ≡ Equal) same (tied_itself name_first_total k) in
-    ap is_eq e
-
-at_both : (k f : Fact) → is_at (name_first k) f ≡ is_at (place_first k) f
-at_both k f = bools_same (is_at (name_first k) f) (is_at (place_first k) f) (λ h. place_at k f (at_name k f h)) (λ h. name_at k f (at_place k f h))
 
 true_cases : (b c : Bool) → cond b true c ≡ true → (b ≡ true) ⊎ (c ≡ true)
 true_cases true c h = inl refl
@@ -145,51 +117,6 @@ true_cases false c h = inr h
 cond_right : (b c : Bool) → c ≡ true → cond b true c ≡ true
 cond_right true c h = refl
 cond_right false c h = h
-
-none_in : (f : Fact) → Contains [] f → ⊥
-none_in f h = absurd (omega (arith, h.1))
-
--- what stands in a list of one
-only : (k f : Fact) → Contains (k ∷ []) f → k ≡ f
-only k f h = elim (Contains-push_cases [] k f h) [ inl none ↦ absurd (none_in f none) | inr same ↦ same ]
-
--- both sets with a fact more
-pub held_more : (p n p2 n2 : BTreeSet Fact) (k : Fact) → AreHeld p n → IsFact k → Updates name_first n n2 k true → Updates place_first p p2 k true
-    → AreHeld p2 n2
-held_more p n p2 n2 k held is names places = record {
-  same = λ f. names.0 f ∙ ap (λ b. cond b true (contains name_first n f)) (at_both k f)
-      ∙ ap (cond (is_at (place_first k) f) true) (held.same f) ∙ sym (places.0 f);
-  made = λ f h. elim (true_cases (is_at (place_first k) f) (contains place_first p f) (sym (places.0 f) ∙ h)) [
-    | inl at ↦ subst IsFact (at_place k f at) is
-    | inr old ↦ held.made f old
-  ];
-}
-
-taken_back : (b old put back : Bool) → put ≡ cond b true old → back ≡ cond b false put → (b ≡ true → old ≡ false) → back ≡ old
-taken_back true old put back e f absent = f ∙ sym (absent refl)
-taken_back false old put back e f absent = f ∙ e
-
--- a fact that was put and taken back
-pub held_back : (p n n2 n3 : BTreeSet Fact) (k : Fact) → AreHeld p n → contains name_first n k ≡ false
-    → Updates name_first n n2 k true → Updates name_first n2 n3 k false → AreHeld p n3
-held_back p n n2 n3 k held absent put back = record {
-  same = λ f. taken_back (is_at (name_first k) f) (contains name_first n f) (contains name_first n2 f) (contains name_first n3 f) (put.0 f) (back.0 f)
-      (λ at. subst (λ (x : Fact). contains name_first n x ≡ false) (at_name k f at) absent) ∙ held.same f;
-  made = held.made;
-}
-
--- the set with a fact more has the facts of both
-pub joins_fact : (p p2 : BTreeSet Fact) (k : Fact) → Updates place_first p p2 k true → Joins p.keys (k ∷ []) p2.keys
-joins_fact p p2 k places f = (
-  λ h. elim (true_cases (is_at (place_first k) f) (contains place_first p f) (sym (places.0 f) ∙ has p2 f h)) [
-    | inl at ↦ inr (subst (Contains (k ∷ [])) (at_place k f at) (Contains-push [] k))
-    | inr old ↦ inl (member p f old)
-  ],
-  λ h. member p2 f (places.0 f ∙ elim h [
-    | inl old ↦ cond_right (is_at (place_first k) f) (contains place_first p f) (has p f old)
-    | inr new ↦ ap (λ b. cond b true (contains place_first p f)) (place_at k f (only k f new))
-  ]),
-)
 
 cond_less : (b c : Bool) → cond b false c ≡ true → c ≡ true
 cond_less true c h = cc h
@@ -203,42 +130,62 @@ cond_not : (b c : Bool) → cond b false c ≡ true → b ≡ true → ⊥
 cond_not true c h p = cc h
 cond_not false c h p = cc p
 
--- both sets with a fact less
-pub held_less : (p n p2 n2 : BTreeSet Fact) (k : Fact) → AreHeld p n → Updates name_first n n2 k false → Updates place_first p p2 k false → AreHeld p2 n2
-held_less p n p2 n2 k held names places = record {
-  same = λ f. names.0 f ∙ ap (λ b. cond b false (contains name_first n f)) (at_both k f)
-      ∙ ap (cond (is_at (place_first k) f) false) (held.same f) ∙ sym (places.0 f);
-  made = λ f h. held.made f (cond_less (is_at (place_first k) f) (contains place_first p f) (sym (places.0 f) ∙ h));
-}
+none_in : (f : Fact) → Contains [] f → ⊥
+none_in f h = absurd (omega (arith, h.1))
 
--- the set with a fact less has the others
-pub leaves_fact : (p p2 : BTreeSet Fact) (k : Fact) → Updates place_first p p2 k false → (f : Fact) → Contains p2.keys f ↔ (Contains p.keys f × (f ≢ k))
-leaves_fact p p2 k places f = (
-  λ h.
-      let there = sym (places.0 f) ∙ has p2 f h in (
-        member p f (cond_less (is_at (place_first k) f) (contains place_first p f) there),
-        λ same. cond_not (is_at (place_first k) f) (contains place_first p f) there (place_at k f (sym same)),
-      ),
-  λ h. member p2 f (places.0 f ∙ cond_other (is_at (place_first k) f) (contains place_first p f) (has p f h.0) (λ at. h.1 (sym (at_place k f at)))),
-)
+-- what stands in a list of one
+only : (k f : Fact) → Contains (k ∷ []) f → k ≡ f
+only k f h = elim (Contains-push_cases [] k f h) [ inl none ↦ absurd (none_in f none) | inr same ↦ same ]
 
--- a fact that is there already
-pub joins_known : (p n : BTreeSet Fact) (k : Fact) → AreHeld p n → contains name_first n k ≡ true → Joins p.keys (k ∷ []) p.keys
-joins_known p n k held known f = (
-  λ h. inl h,
-  λ h. elim h [
-    | inl old ↦ old
-    | inr new ↦ subst (Contains p.keys) (only k f new) (member p k (sym (held.same k) ∙ known))
-  ],
-)
+-- facts that join some, and are as programs make them, if these are
+pub made_more : (old new : List Fact) (k : Fact) → AreFacts old → IsFact k → Joins old (k ∷ []) new → AreFacts new
+made_more old new k made is joins f h = elim ((joins f).0 h) [ inl before ↦ made f before | inr one ↦ subst IsFact (only k f one) is ]
 
-pub not_false : (x b : Bool) → x ≡ false → x ≡ not b → b ≡ true
-not_false x true h g = refl
-not_false x false h g = let e : false ≡ true = sym h ∙ g in cc e
+pub made_less : (old new : List Fact) (k : Fact) → AreFacts old → ((f : Fact) → Contains new f ↔ (Contains old f × (f ≢ k))) → AreFacts new
+made_less old new k made left f h = made f ((left f).0 h).0
 
-pub not_true : (x b : Bool) → x ≡ true → x ≡ not b → b ≡ false
-not_true x false h g = refl
-not_true x true h g = let e : true ≡ false = sym h ∙ g in cc e
+pub made_same : (old new : List Fact) → new ≡ old → AreFacts old → AreFacts new
+made_same old new same made = subst AreFacts (sym same) made
+
+-- the same of a set in any order in which each fact has its own place
+module _ {order : Fact → Fact → Ordering} (total : IsTotalOrder order) (exact : (a b : Fact) → order a b ≡ Equal → a ≡ b) where
+  there_in : (s : BTreeSet Fact) (f : Fact) → Contains s.keys f → IsTrue (contains order s f)
+  there_in s f h = (btree_set_contains_iff total exact s f).1 h
+
+  in_there : (s : BTreeSet Fact) (f : Fact) → IsTrue (contains order s f) → Contains s.keys f
+  in_there s f h = (btree_set_contains_iff total exact s f).0 h
+
+  at : (k f : Fact) → is_at (order k) f ≡ true → k ≡ f
+  at k f h = exact k f (equal_is (order k f) h)
+
+  is_there : (k f : Fact) → k ≡ f → is_at (order k) f ≡ true
+  is_there k f same =
+      let e : order k f ≡ Equal = subst (λ (x : Fact). order k x ≡ Equal) same (tied_itself total k) in
+      ap is_eq e
+
+  -- the set with a fact more has the facts of both
+  pub joins_fact : (p p2 : BTreeSet Fact) (k : Fact) → Updates order p p2 k true → Joins p.keys (k ∷ []) p2.keys
+  joins_fact p p2 k updates f = (
+    λ h. elim (true_cases (is_at (order k) f) (contains order p f) (sym (updates.0 f) ∙ there_in p2 f h)) [
+      | inl here ↦ inr (subst (Contains (k ∷ [])) (at k f here) (Contains-push [] k))
+      | inr old ↦ inl (in_there p f old)
+    ],
+    λ h. in_there p2 f (updates.0 f ∙ elim h [
+      | inl old ↦ cond_right (is_at (order k) f) (contains order p f) (there_in p f old)
+      | inr new ↦ ap (λ b. cond b true (contains order p f)) (is_there k f (only k f new))
+    ]),
+  )
+
+  -- the set with a fact less has the others
+  pub leaves_fact : (p p2 : BTreeSet Fact) (k : Fact) → Updates order p p2 k false → (f : Fact) → Contains p2.keys f ↔ (Contains p.keys f × (f ≢ k))
+  leaves_fact p p2 k updates f = (
+    λ h.
+        let there = sym (updates.0 f) ∙ there_in p2 f h in (
+          in_there p f (cond_less (is_at (order k) f) (contains order p f) there),
+          λ same. cond_not (is_at (order k) f) (contains order p f) there (is_there k f (sym same)),
+        ),
+    λ h. in_there p2 f (updates.0 f ∙ cond_other (is_at (order k) f) (contains order p f) (there_in p f h.0) (λ here. h.1 (sym (at k f here)))),
+  )
 
 -- ---- lists of facts, joined
 
@@ -257,6 +204,17 @@ joins_then old xs mid ys new h g f = (
 
 pub joins_none : (old : List Fact) → Joins old [] old
 joins_none old f = (λ h. inl h, λ h. elim h [ inl there ↦ there | inr none ↦ absurd (none_in f none) ])
+
+-- a fact more on both sides
+pub same_more : (done now new : List Fact) (k : Fact) → HasSame done now → Joins now (k ∷ []) new → HasSame (done ++ k ∷ []) new
+same_more done now new k same joins f = (
+  λ h. elim ((joins f).0 h) [ inl before ↦ Contains-append_left done (k ∷ []) f ((same f).0 before) | inr one ↦ Contains-append_right done (k ∷ []) f one ],
+  λ h. elim (Contains-append_cases done (k ∷ []) f h) [ inl before ↦ (joins f).1 (inl ((same f).1 before)) | inr one ↦ (joins f).1 (inr one) ],
+)
+
+-- what joined some facts to others did so to the same ones
+pub joins_same : (old more new other : List Fact) → Joins old more new → HasSame new other → Joins old more other
+joins_same old more new other joins same f = (λ h. (joins f).0 ((same f).0 h), λ h. (same f).1 ((joins f).1 h))
 
 -- ---- a loop over facts
 
@@ -286,14 +244,6 @@ pub joins_pack : (old mid new : List Fact) (packs : List PackFacts) (i : ℕ) (p
     → Joins old (facts_in (take i packs)) mid → Joins mid p.facts new → Joins old (facts_in (take (i + 1) packs)) new
 joins_pack old mid new packs i p lt at h g =
     subst (λ (fs : List Fact). Joins old fs new) (sym (facts_of_more packs i p lt at)) (joins_then old (facts_in (take i packs)) mid p.facts new h g)
-
--- ---- a set that didn't change
-
-pub held_same : (p p2 n : BTreeSet Fact) → p2.keys ≡ p.keys → AreHeld p n → AreHeld p2 n
-held_same p p2 n e held = record {
-  same = λ f. held.same f ∙ ap (list_any (is_at (place_first f))) (sym e);
-  made = λ f h. held.made f (ap (list_any (is_at (place_first f))) (sym e) ∙ h);
-}
 
 -- ---- facts that are noted as they are added
 

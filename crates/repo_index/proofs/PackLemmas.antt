@@ -19,10 +19,9 @@ use Rattle.repo_name.specs.declared.names.Name.{Name}
 use Rattle.repo_index.specs.IndexText.{IsFact}
 use Rattle.repo_index.specs.Order.{kind_cmp, place_first, names_total, place_first_total}
 use Rattle.repo_index.specs.inner.Bounds.{IsBeforePack, IsAfterPack}
-use Rattle.repo_index.specs.Lookups.{AreHeld, EndsWith, AreFactsOf, ArePacksOf}
+use Rattle.repo_index.specs.Lookups.{AreFacts, EndsWith, AreFactsOf, ArePacksOf, HasSame}
 use Rattle.repo_index.specs.declared.facts.Fact.{Fact}
 use Rattle.repo_index.proofs.OrderLemmas.{then_assoc, between, names_exact}
-use Rattle.repo_index.proofs.LookupLemmas.{has}
 
 -- ---- members of lists
 
@@ -104,18 +103,31 @@ pub pack_forward : (pack : Name) (lo hi : Fact) → IsBeforePack pack lo → IsA
 pack_forward pack lo hi low high = low.before hi high.made high.pack_is
 
 -- what stands between the bounds of a pack are its facts
-pub facts_are : (p n : BTreeSet Fact) (pack : Name) (lo hi : Fact) (r : List Fact) → AreHeld p n → IsBeforePack pack lo → IsAfterPack pack hi
+pub facts_are : (p : BTreeSet Fact) (pack : Name) (lo hi : Fact) (r : List Fact) → AreFacts p.keys → IsBeforePack pack lo → IsAfterPack pack hi
     → r ≡ keys_between place_first (Included lo) (Included hi) p → IsOrdered place_first p → AreFactsOf p.keys pack r
-facts_are p n pack lo hi r held low high is ordered =
+facts_are p pack lo hi r made low high is ordered =
     let within = range_contains place_first (Included lo) (Included hi) in
     let P : List Fact → Type 0 = AreFactsOf p.keys pack in
     subst P (sym is) (record {
       each = λ f. (
         λ h. (filtered within p.keys f h, of_pack pack lo hi f low high (passes within p.keys f h)),
-        λ h. kept within p.keys f h.0 (in_pack pack lo hi f low high (held.made f (has p f h.0)) h.1),
+        λ h. kept within p.keys f h.0 (in_pack pack lo hi f low high (made f h.0) h.1),
       );
       ascend = IsStrictlySortedBy-filter place_first within p.keys ordered;
     })
+
+-- those of the same facts
+pub same_facts_of : (facts same : List Fact) (pack : Name) (own : List Fact) → HasSame facts same → AreFactsOf same pack own → AreFactsOf facts pack own
+same_facts_of facts same pack own are of = record {
+  each = λ f. (λ h. (let is = (of.each f).0 h in ((are f).0 is.0, is.1)), λ h. (of.each f).1 ((are f).1 h.0, h.1));
+  ascend = of.ascend;
+}
+
+pub same_packs_of : (facts same : List Fact) (packs : List Name) → HasSame facts same → ArePacksOf same packs → ArePacksOf facts packs
+same_packs_of facts same packs are of = record {
+  each = λ p. (λ h. (let is = (of.each p).0 h in (is.0, (are is.0).0 is.1, is.2)), λ h. (of.each p).1 (h.0, (are h.0).1 h.1, h.2));
+  ascend = of.ascend;
+}
 
 -- ---- the packs of facts
 

@@ -1,13 +1,12 @@
 -- What a look-up holds, and what it finds.
-use Rattle.std.specs.Prelude.{◌≡◌, ◌-◌, ◌⊎◌, ◌↔◌, List, length, slice_get, Some, Contains, IsTrue}
+use Rattle.std.specs.Prelude.{◌≡◌, ◌-◌, ◌⊎◌, ◌↔◌, List, length, slice_get, Some, Contains}
 use Rattle.std.specs.List.Sorted.{IsStrictlySortedBy}
-use Rattle.std.specs.BTreeSet.{BTreeSet, contains}
 use Rattle.repo_name.specs.Naming.{name_cmp}
 use Rattle.repo_name.specs.declared.names.Name.{Name}
 use Rattle.repo_name.specs.declared.kinds.BlobKind.{BlobKind}
 use Rattle.repo_pack.specs.declared.places.Place.{Place}
 use Rattle.repo_index.specs.IndexText.{IsFact, fact_of}
-use Rattle.repo_index.specs.Order.{place_first, name_first, IsAtMost}
+use Rattle.repo_index.specs.Order.{place_first, IsAtMost}
 use Rattle.repo_index.specs.declared.facts.Fact.{Fact}
 
 -- of the places that these facts give a pair of kind and name, this is the least
@@ -42,7 +41,6 @@ pub record AreFactsOf (facts : List Fact) (pack : Name) (own : List Fact) : Type
   pub each : (fact : Fact) → Contains own fact ↔ (Contains facts fact × (fact.place.pack ≡ pack))
   pub ascend : IsStrictlySortedBy place_first own
 
--- the two sets of a look-up have the same facts, and these are as programs make them
-pub record AreHeld (by_place by_name : BTreeSet Fact) : Type 0 where
-  pub same : (fact : Fact) → contains name_first by_name fact ≡ contains place_first by_place fact
-  pub made : (fact : Fact) → IsTrue (contains place_first by_place fact) → IsFact fact
+-- facts as programs make them
+abbrev pub AreFacts : List Fact → Type 0
+AreFacts facts = (fact : Fact) → Contains facts fact → IsFact fact

@@ -3,14 +3,15 @@
 ghost use Rattle.std.specs.Prelude.{◌≡◌, ◌≢◌, ◌↔◌, ◌∷◌, [], List, IsTrue, IsFalse, OnOk, OnErr, IfOk, IfSome, IfNone, Contains};
 ghost use Rattle.repo_pack.specs.declared.places.Place.{Place};
 ghost use Rattle.repo_index.specs.IndexText.{fact_of, facts_in};
-ghost use Rattle.repo_index.specs.Lookups.{IsLeast, Joins, Grew, HasSame, EndsWith, ArePacksOf, AreFactsOf};
+ghost use Rattle.repo_index.specs.Lookups.{IsLeast, Joins, Grew, HasSame};
 ghost use Rattle.repo_index.specs.declared.facts.Fact.{Fact};
 
-use crate::bounds::{greatest_of_pack, greatest_of_pair, least_of_pack, least_of_pair};
+use crate::bounds::{greatest_of_pair, least_of_pair};
 use crate::facts::{Fact, Facts, PackFacts};
 use crate::index_text::IndexText;
-use crate::keys::{ByName, ByPlace};
-use repo_name::{BlobKind, Name, Names};
+use crate::keys::ByName;
+use crate::placed::Placed;
+use repo_name::{BlobKind, Name};
 use repo_pack::Place;
 use std::alloc::{AllocError, Global};
 use std::collections::BTreeSet;
@@ -20,11 +21,11 @@ use std::ops::Bound;
 /// Where blobs lie, by the facts of the indexes that were added. A clause sees these facts in a list, and tells which ones
 /// it contains.
 ///
-/// It finds a blob's least place, and a pack's facts, in logarithmic time. A fact takes 76 bytes in each of two ordered
-/// sets, whose blocks have room for 15 facts and hold 7 at least: 155 to 350 bytes a fact, and no allocation of its own.
+/// It finds a blob's least place in logarithmic time. A fact takes 76 bytes in an ordered set, whose blocks have room for 15
+/// facts and hold 7 at least: 78 to 175 bytes a fact, and no allocation of its own. Who wants a pack's facts has them
+/// [`Placed`].
 #[derive(Drop)]
 pub struct Lookup {
-    by_place: BTreeSet<ByPlace>,
     by_name: BTreeSet<ByName>,
     alloc: Global,
 }
@@ -35,21 +36,11 @@ impl Model for Lookup {
 
     ghost Value = { List Fact };
 
-    ghost use Rattle.repo_index.specs.Lookups.{AreHeld};
+    ghost use Rattle.repo_index.specs.Lookups.{AreFacts};
 
-    ghost view = { λ l. l.by_place.keys };
+    ghost view = { λ l. l.by_name.keys };
 
-    ghost invariant = { λ l. AreHeld l.by_place l.by_name };
-}
-
-/// Whether a name is the last of some.
-fn ends_with(names: &[Name], name: &Name) -> bool
-    ensures { IsTrue result ↔ EndsWith names.now name.now }
-{
-    match names.last() {
-        Some(last) => last == name,
-        None => false,
-    }
+    ghost invariant = { λ l. AreFacts l.by_name.keys };
 }
 
 impl Lookup {
@@ -58,7 +49,6 @@ impl Lookup {
         ensures { result ≡ [] }
     {
         Lookup {
-            by_place: BTreeSet::new(alloc),
             by_name: BTreeSet::new(alloc),
             alloc,
         }
@@ -71,19 +61,10 @@ impl Lookup {
         ensures known { IfOk result (λ is_new. IsFalse is_new → self.new ≡ self.old) }
         ensures err { OnErr result (self.new ≡ self.old) }
     {
-        let key = ByName::of(fact);
-        match self.by_name.insert(key) {
-            Err(_) => return Err(AllocError),
-            Ok(false) => return Ok(false),
-            Ok(true) => {}
-        }
-        match self.by_place.insert(ByPlace::of(fact)) {
-            Ok(_) => Ok(true),
-            Err(_) => {
-                self.by_name.remove(&key);
-                Err(AllocError)
-            }
-        }
+        let Ok(is_new) = self.by_name.insert(ByName::of(fact)) else {
+            return Err(AllocError);
+        };
+        Ok(is_new)
     }
 
     /// Adds a fact, and notes it where it is new. It fails for memory alone, and then nothing changed.
@@ -127,7 +108,6 @@ impl Lookup {
         ensures { (other : Fact) → Contains self.new other ↔ (Contains self.old other × (other ≢ fact)) }
     {
         self.by_name.remove(&ByName::of(fact));
-        self.by_place.remove(&ByPlace::of(fact));
     }
 
     /// Removes the facts that were noted as they were added: the look-up has the facts that it had before. It takes no
@@ -179,32 +159,14 @@ impl Lookup {
         Some(key.fact().place)
     }
 
-    /// The packs that the facts are of, ascending. It fails for memory alone.
-    pub fn packs(&self) -> Result<Names, AllocError>
-        ensures { IfOk result (ArePacksOf self.now) }
+    /// The same facts by their places. It fails for memory alone.
+    pub fn placed(&self) -> Result<Placed, AllocError>
+        ensures { IfOk result (HasSame self.now) }
     {
-        let mut packs: Vec<Name> = Vec::new(self.alloc);
-        for key in self.by_place.iter() {
-            let pack = key.fact().place.pack;
-            if !ends_with(packs.as_slice(), &pack) {
-                packs.push(pack)?;
-            }
+        let mut placed = Placed::new(self.alloc);
+        for key in self.by_name.iter() {
+            placed.add(key.fact())?;
         }
-        Ok(Names::of(packs))
-    }
-
-    /// The facts of a pack, by offset, then by length, kind and name. It fails for memory alone.
-    pub fn facts_of(&self, pack: &Name) -> Result<Facts, AllocError>
-        ensures { IfOk result (AreFactsOf self.now pack.now) }
-    {
-        let least = least_of_pack(*pack);
-        let greatest = greatest_of_pack(*pack);
-        let of_pack = (Bound::Included(least), Bound::Included(greatest));
-        let facts = self
-            .by_place
-            .range(of_pack)
-            .map(|key| key.fact())
-            .collect(self.alloc)?;
-        Ok(Facts::of(facts))
+        Ok(placed)
     }
 }

@@ -3,10 +3,10 @@
 ghost use Rattle.std.specs.Prelude.{◌≡◌, ◌≤◌, ◌↔◌, length, IfOk, OnOk, IsTrue, Contains};
 ghost use Rattle.repo_name.specs.Limits.{blobs_limit};
 ghost use Rattle.repo_pack.specs.declared.places.Place.{Place};
-ghost use Rattle.repo_index.specs.Lookups.{IsLeast};
+ghost use Rattle.repo_index.specs.Lookups.{HasSame, IsLeast};
 ghost use Rattle.repo_prune.specs.Plans.{IsUsedCopy, IsPlanOf, Covers, Plans, AreOwnCopies};
 
-use repo_index::{Fact, Lookup, PackFacts};
+use repo_index::{Fact, Lookup, PackFacts, Placed};
 use repo_name::{BLOBS_LIMIT, Name};
 use repo_pack::Place;
 use repo_reach::Used;
@@ -71,17 +71,18 @@ fn is_kept(own: &[Fact], copies: &[Fact]) -> bool
 }
 
 impl Plan {
-    /// What becomes of a pack comes to the plan. It fails for memory alone.
+    /// What becomes of a pack comes to the plan, by the same facts in both orders. It fails for memory alone.
     fn add(
         &mut self,
         alloc: Global,
         lookup: &Lookup,
+        placed: &Placed,
         used: &Used,
         pack: Name,
     ) -> Result<(), AllocError>
-        ensures { OnOk result (Plans used.now lookup.now pack self.old self.new) }
+        ensures { HasSame lookup.now placed.now → OnOk result (Plans used.now lookup.now pack self.old self.new) }
     {
-        let own = lookup.facts_of(&pack)?;
+        let own = placed.facts_of(&pack)?;
         let copies = used_copies(alloc, lookup, used, own.as_slice())?;
         if is_kept(own.as_slice(), copies.as_slice()) {
             self.kept.push(PackFacts { pack, facts: own })?;
@@ -102,10 +103,11 @@ impl Plan {
             kept: Vec::new(alloc),
             moves: Vec::new(alloc),
         };
-        let packs = lookup.packs()?;
+        let placed = lookup.placed()?;
+        let packs = placed.packs()?;
         let names = packs.as_slice();
         for pack in names {
-            plan.add(alloc, lookup, used, *pack)?;
+            plan.add(alloc, lookup, &placed, used, *pack)?;
         }
         Ok(plan)
     }

@@ -19,7 +19,7 @@ returns-clause-found c =
     let lo = c.least_of_pair-least.result in
     let hi = c.greatest_of_pair-greatest.result in
     let range = subst (λ (r : List Fact). IsKeyRangeOf name_first (Included lo) (Included hi) c.self.inside.by_name r) c.in_ok-key.ensures.steps (c.range.ensures.in_range tt) in
-    let least = least_is_first c.self.inside.by_place c.self.inside.by_name c.args.kind c.args.name.now lo hi c.in_ok-key.key.now _ c.self.invariant
+    let least = least_is_first c.self.inside.by_name c.args.kind c.args.name.now lo hi c.in_ok-key.key.now _ c.self.invariant
     c.least_of_pair-least.ensures c.greatest_of_pair-greatest.ensures range in
     rw (c.fact.ensures) (subst (λ (fs : List Fact). IsLeast fs c.args.kind c.args.name.now c.in_ok-key.key.now.place) c.self.view_is least)
 
@@ -28,6 +28,6 @@ returns-in_err-key-clause-none c =
     let lo = c.least_of_pair-least.result in
     let hi = c.greatest_of_pair-greatest.result in
     let range = subst (λ (r : List Fact). IsKeyRangeOf name_first (Included lo) (Included hi) c.self.inside.by_name r) c.in_err-key.ensures.steps.0 (c.range.ensures.in_range tt) in
-    let none = none_is_none c.self.inside.by_place c.self.inside.by_name c.args.kind c.args.name.now lo hi c.self.invariant
+    let none = none_is_none c.self.inside.by_name c.args.kind c.args.name.now lo hi c.self.invariant
     c.least_of_pair-least.ensures c.greatest_of_pair-greatest.ensures range in
     rw c.from_residual.ensures (subst (λ (fs : List Fact). (place : Place) → Contains fs (fact_of c.args.kind c.args.name.now place) → ⊥) c.self.view_is none)

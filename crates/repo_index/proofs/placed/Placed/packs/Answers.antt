@@ -1,7 +1,7 @@
 use Rattle.std.proofs.Common.{rules, ◌≡◌, ◌++◌, ◌∷◌, [], refl, sym, subst}
 use Rattle.repo_index.specs.Lookups.{EndsWith, ArePacksOf}
 use Rattle.repo_index.proofs.PackLemmas.{packs_none, packs_same, packs_more, next_fact, sorted_there}
-use Rattle.repo_index.proofs.lookups.Lookup.packs.Goals as goal
+use Rattle.repo_index.proofs.placed.Placed.packs.Goals as goal
 
 pub loop-key-init : goal.loop-key-init
 loop-key-init c = ([], refl, subst (ArePacksOf []) (sym c.new-packs.ensures.items) packs_none)
