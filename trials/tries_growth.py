@@ -1,7 +1,7 @@
 """Want of memory: requests for memory that are refused, one in each run, by a small library that stands before malloc and realloc.
 
-The program of cases is run so, with a case of each command, of a store with its clients, and of scripts; and the commands themselves, over a
-real server, each of whose runs is done all the same, or ends with a text that says why.
+The cases are run so: a run of each command over what a server says, and of scripts; and the program of cases, with what is asked of a store.
+And the commands themselves, over a real server, each of whose runs is done all the same, or ends with a text that says why.
 """
 import importlib.util
 import os
@@ -12,7 +12,7 @@ import sys
 from pathlib import Path
 
 from program import Server, has_status, told
-from trying import OPTIONS, ROOT, WAIT, Skipped, holds, needs, same, trial
+from trying import OPTIONS, ROOT, WAIT, Skipped, holds, needs, new_folder, same, trial
 from yards import SMALL, Yard, entries, filled, is_clean, restores, stored
 
 CASES = ROOT / "crates/cases/out/cases"
@@ -50,23 +50,26 @@ def refusing(library, mark, at):
 
 @trial(is_early=True)
 def cases_whose_memory_is_refused():
-    """Each case twice in a row: whichever request is refused, at most one of the two differs, and says why."""
+    """Each case of a store twice in a row: whichever request is refused, at most one of the two differs, and says why."""
     if not CASES.is_file():
         raise Skipped("there is no program of cases: `rt ci` leaves one")
+    refused = refused_cases()
     with Yard() as yard:
         library, mark = refuser(yard), yard.top / "refused"
-        total = sum(refuses_in(case, library, mark) for case in refused_cases().tried())
+        total = sum(case.requests(library, mark, numbers(10, 29)) for case in refused.tried_cases(refused.chosen()))
+        holds(total > 100, f"only {total} requests were refused")
+
+
+@trial(is_early=True)
+def runs_whose_memory_is_refused():
+    """Each run of the cases: whichever request is refused, it ends as it ends else, or says why."""
+    refused = refused_cases()
+    with Yard() as yard:
+        library, mark = refuser(yard), yard.top / "refused"
+        counts(library, mark)
+        runner = refused.Runner(OPTIONS.program, new_folder())
+        total = sum(run.requests(runner, library, mark, numbers(10, 29)) for run in refused.tried_runs(refused.chosen()))
         holds(total > 500, f"only {total} requests were refused")
-
-
-def refuses_in(case, library, mark):
-    """How many requests of a case were refused, each in a run of its own."""
-    for count, at in enumerate(numbers(10, 29)):
-        ran = subprocess.run([CASES], input=case.given, text=True, capture_output=True, env=os.environ | refusing(library, mark, at), timeout=WAIT)
-        if not mark.is_symlink():
-            holds(case.is_whole(ran), f"where nothing is refused: {ran.stdout[-900:]}")
-            return count
-        holds(not case.fault(ran), f"where request {at} is refused: {case.fault(ran)}")
 
 
 def refused_cases():

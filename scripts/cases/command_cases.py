@@ -99,7 +99,7 @@ def refresh(script):
     single(script, "refresh", lambda *a, **k: script.refresh(7, *a, **k), ("done",))
     for token in (0, 1, 2**64 - 1):
         script.heading(f"refresh of {token}")
-        script.refresh(token, says(("done",)), time=2**64 - 1)
+        script.refresh(token, says(("done",)), time=2**63 - 1)
 
 
 def unlock(script):

@@ -38,7 +38,7 @@ class Server:
 class Run:
     """What came of a command."""
     status: int = 0
-    sent: bytes = b""
+    sent: bytearray = field(default_factory=bytearray)
     given: list = field(default_factory=list)
     output: bytes = b""
     faults: str = ""
@@ -59,8 +59,10 @@ class Talk:
         self.stream = Stream(server.replies, REPLIES)
 
     def send(self, request):
-        self.run.sent, whole = written(self.run.sent, self.server.sent_room, request.frame())
-        if not whole:
+        frame, sent, room = request.frame(), self.run.sent, self.server.sent_room
+        left = len(frame) if room is None else room - len(sent)
+        sent += frame[:left]
+        if left < len(frame):
             raise Failed("write failed")
 
     def hear(self, request):
@@ -278,7 +280,7 @@ class Lines:
                 self.show(request.reply(self.store.answer(request.what)))
         except Malformed as fault:
             raise Failed(f"malformed: {fault}")
-        self.data = stream.data
+        self.data = bytes(stream.data)
 
     def show(self, reply):
         self.output, whole = written(self.output, self.room, reply.frame().hex().encode() + b"\n")

@@ -181,7 +181,7 @@ def appending(script):
     script.append_only()
     stored = script.start_backup(X)
     script.steps(stored)
-    for client in (script.start_forget(stored), script.start_forget(), script.start_prune(), script.start_check(), script.start_restore(stored)):
+    for client in (script.start_forget(stored), script.start_prune(), script.start_check(), script.start_restore(stored)):
         script.steps(client)
     script.steps(script.start_backup(TWO, "b", 7))
     script.lift("snapshot", script.seats[stored].client.outcome.name)

@@ -1,7 +1,8 @@
 """Cases of a world of its own, whose events happen in two goes: a backup, and a restore of what it stored; and what the world shows of them."""
 
 from jobs import Backup, Client, Restore
-from lines import shown
+from lines import digits
+from runs import shown
 from store import Store
 from texts import config_text
 
@@ -17,8 +18,8 @@ def ended(store, job):
 def shows(script, heading, entries):
     """A backup and a restore to their ends: how each ended, the snapshot's bytes, and what the restore gave out."""
     script.heading(heading)
-    script.take_in(entries)
-    script.entries = []
+    for path, data in entries:
+        script.line(*["dir", "/".join(path)] if data is None else ["file", "/".join(path), digits(data)])
     store = Store()
     store.config = config_text()
     backup, first, _ = ended(store, Backup(entries))

@@ -2,6 +2,7 @@
 
 import random
 
+import commands
 from command_cases import ABC, OPENED, SNAPSHOT, TREE, codes, places, raw_pages, say, says, snapshots_texts, streams
 from jobs import DAY
 from naming import name_of
@@ -35,10 +36,11 @@ def by_names(script):
     for place in (1, 3, 4, 5):
         codes(script, "forget", run, good, place)
     for text, names, count in (("one twice", [two, two], 1), ("one that isn't listed", [ABC], 0),
-                               ("one that isn't listed before one that is", [ABC, three], 1), ("all", [two, three, one], 3),
-                               ("none", [], 0)):
+                               ("one that isn't listed before one that is", [ABC, three], 1), ("all", [two, three, one], 3)):
         script.heading("forget: " + text)
         script.forget(names, says(*OPENED, page_of(THREE), *[DONE] * (count + 1)))
+    script.heading("forget: neither names nor a policy")
+    script.asked(["forget"], commands.forget, (), (0, 0))
     script.heading("forget: no snapshot is listed")
     script.forget([one], says(*OPENED, page_of([]), DONE))
     for text, pages in raw_pages("snapshot", THREE):
@@ -147,7 +149,6 @@ def worked(script):
     """Forgets, request by request."""
     for text, start in (("two names", lambda place: script.start_forget(place[2], place[0])),
                         ("a name twice and one of nothing", lambda place: script.start_forget(place[1], ABC, place[1])),
-                        ("no name", lambda place: script.start_forget()),
                         ("the last one", lambda place: script.start_keep(1, 0)),
                         ("the last of two days", lambda place: script.start_keep(0, 2)),
                         ("both", lambda place: script.start_keep(1, 2)),
@@ -161,7 +162,7 @@ def worked(script):
         script.report()
     script.heading("a policy that keeps nothing is refused, and takes no number")
     filled(script)
-    script.start_keep(0, 0)
+    script.keep(0, 0)
     script.steps(script.start_keep(0, 1))
     script.steps(script.start_keep(0, 1))
     script.report()

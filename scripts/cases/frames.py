@@ -186,7 +186,7 @@ class Stream:
     """A stream of frames, read to its end."""
 
     def __init__(self, data, table):
-        self.data, self.table = data, table
+        self.data, self.table = memoryview(data), table
 
     def next(self):
         """The next message; None where the stream ends before one is whole."""
@@ -197,5 +197,5 @@ class Stream:
             raise Malformed("length")
         if len(self.data) < 4 + length:
             return None
-        body, self.data = self.data[4:4 + length], self.data[4 + length:]
+        body, self.data = bytes(self.data[4:4 + length]), self.data[4 + length:]
         return message_of(body, self.table)

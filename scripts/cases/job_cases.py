@@ -182,30 +182,16 @@ def nested(depth):
     return [(["d"] * length, None) for length in range(1, depth + 1)]
 
 
-def entry(text):
-    """A directory where a text of one letter ends with a slash, else a file."""
-    if len(text) == 2 and text[1] == "/":
-        return [text[0]], None
-    return text.split("/") if text else [], b"1"
-
-
 def refused_entries(script):
-    """Entries that no backup takes."""
-    for text, paths in (("b before a", ["b", "a"]), ("a twice", ["a", "a"]), ("a file in no directory", ["c", "d/x"]),
-                        ("a file in a file", ["f", "f/x"]), ("a path that leads up", ["a", ".."]), ("a path of a dot", ["."]),
-                        ("an empty component", ["a", "a//x"]), ("a path of no component", ["", "a"]), ("a path that ends with a slash", ["ab/"]),
-                        ("a component of 256 bytes", ["n" * 256]), ("a component of 128 letters and 256 bytes", ["é" * 128]), ("names that fall below a directory", ["d/", "d/b", "d/a"]),
-                        ("a directory twice", ["d/", "d/"]), ("a bad path behind a wrong order", ["b", "a", ".."])):
-        script.heading("backup: " + text)
-        script.backup("a", [entry(path) for path in paths], says(*OPENED, NO_NAMES, *[("done",)] * 4))
+    """Entries that no backup takes: of those that a folder may have the directories that are too deep."""
     for text, depth in (("101", 101), ("100", 100)):
         script.heading(f"backup: directories nested {text} deep")
         script.backup("a", nested(depth), says(*OPENED, NO_NAMES, *[("done",)] * 30))
     script.heading("backup: an entry that isn't taken behind a pack that was put, and a lock that isn't given back")
-    script.backup("a", [(["a"], stream(1_500)), (["a"], b"")], says(*OPENED, NO_NAMES, ("done",), ("refused", 10)))
+    script.backup("a", [(["a"], stream(1_500)), *nested(101)], says(*OPENED, NO_NAMES, ("done",), ("refused", 10)))
     script.heading("backup: an entry that isn't taken, and a server that says no more, or nothing that reads")
-    script.backup("a", [(["b"], b""), (["a"], b"")], says(*OPENED, NO_NAMES))
-    script.backup("a", [(["b"], b""), (["a"], b"")], says(*OPENED, NO_NAMES) + bytes(4))
+    script.backup("a", nested(101), says(*OPENED, NO_NAMES))
+    script.backup("a", nested(101), says(*OPENED, NO_NAMES) + bytes(4))
 
 
 def backups(script):
@@ -240,12 +226,12 @@ def backups(script):
 
 def skips(script, good):
     """Backups of all but some entries."""
-    skipped = ("p/link", "an entry in p/d")
+    skipped, found = ("an entry in p/d", "p/link"), [(["d"], None)]
     script.heading("backup: entries were skipped")
-    script.backup("a", [], says(*good), skipped=skipped)
-    script.heading("backup: entries were skipped, and it is busy")
-    script.backup("a", [], says(("token", 1), ("refused", 3)), skipped=skipped)
+    script.backup("a", found, says(*good), skipped=skipped)
+    script.heading("backup: it is busy, before it comes to entries that would be skipped")
+    script.backup("a", found, says(("token", 1), ("refused", 3)), unmet=skipped)
     script.heading("backup: entries were skipped, and others are refused")
-    script.backup("a", [(["b"], b""), (["a"], b"")], says(*OPENED, NO_NAMES, ("done",)), skipped=skipped)
+    script.backup("a", nested(101), says(*OPENED, NO_NAMES, ("done",)), skipped=skipped)
     script.heading("backup: entries were skipped, and it can't be shown")
-    script.backup("a", [], says(*good), skipped=skipped, output_room=9)
+    script.backup("a", found, says(*good), skipped=skipped, output_room=9)

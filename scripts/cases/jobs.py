@@ -10,6 +10,8 @@ from texts import (GREATEST_VERSION, OtherVersion, Unreadable, dir_node, directo
 
 DEEPEST = 100
 INDEX_BLOBS = 20_000
+# How many bytes of a file come at a time.
+PIECE = 4_096
 PACK_BLOBS = 4_096
 DAY = 86_400
 
@@ -598,8 +600,8 @@ def items_of(entries):
             yield "dir", name
             continue
         yield "file", name
-        if data:
-            yield "bytes", data
+        for at in range(0, len(data), PIECE):
+            yield "bytes", data[at:at + PIECE]
         yield "close", None
     for _ in path:
         yield "close", None

@@ -1,11 +1,8 @@
-"""The lines of a script for crates/cases, and what each has to print: entries, commands, the program's words."""
+"""Runs of the program, over what a server says and over what is typed; and lines for crates/cases, with what each has to print."""
 
 import commands
-from hashlib import sha256
-
+from runs import ADDRESS, FOLDER, TARGET, Came, Run, shown, wanted_of
 from store import Store
-
-SHORT = 100
 
 
 def digits(data):
@@ -15,44 +12,26 @@ def digits(data):
     return data.hex() or "-"
 
 
-def shown(data):
-    """Bytes as they are printed: of many the name and the number."""
-    return f"sha256 {sha256(data).hexdigest()} of {len(data)}" if len(data) > SHORT else data.hex() or "-"
-
-
-def frames_of(stream):
-    """A stream's frames; what is left at its end is one more."""
-    frames = []
-    while stream:
-        end = 4 + int.from_bytes(stream[:4], "big") if len(stream) >= 4 else len(stream)
-        frames.append(stream[:end])
-        stream = stream[end:]
-    return frames
-
-
 class Lines:
-    """Lines and what they print. The words of a line are run by the reference as they are written."""
+    """Runs of the program; and lines, with what they print. What has to come of a run or a line is what comes of it in the reference."""
 
     def __init__(self):
-        self.given, self.wanted, self.entries = [], [], []
+        self.runs, self.given, self.wanted, self.entries = [], [], [], []
+        self.title, self.is_told = "", True
 
     def line(self, *words):
+        if not self.is_told:
+            self.is_told = True
+            self.given.append("# " + self.title)
+            self.wanted.append("# " + self.title)
         self.given.append(" ".join(str(word) for word in words))
 
     def prints(self, *words):
         self.wanted.append(" ".join(str(word) for word in words))
 
     def heading(self, text):
-        self.line("#", text)
-        self.prints("#", text)
-
-    def text(self, word, text):
-        for line in text.split("\n")[:-1]:
-            self.prints(word, line)
-        rest = text.split("\n")[-1]
-        if rest:
-            self.prints(word, rest)
-            self.prints("which has no end")
+        """What the following runs and lines show. It is a line where there are lines."""
+        self.title, self.is_told = text, False
 
     def parts(self, given):
         for word, what in given:
@@ -62,152 +41,109 @@ class Lines:
     # Entries for the next backup.
 
     def take_in(self, entries):
-        for path, data in entries:
-            if data is None:
-                self.line("dir", "/".join(path))
-            else:
-                self.line("file", "/".join(path), digits(data))
-            self.entries.append((path, data))
+        self.entries += entries
 
     def many_files(self, count):
         """Files with names of 5 digits, each with 64 bytes of its own."""
-        self.line("files", count)
         self.entries += [([f"{number:05}"], b"%064d" % number) for number in range(count)]
 
     def many_dirs(self, count):
         """Empty directories with names of 255 digits."""
-        self.line("dirs", count)
         self.entries += [([f"{number:0255}"], None) for number in range(count)]
 
     def used(self):
         entries, self.entries = self.entries, []
         return entries
 
-    # Commands over what a server says.
+    # Runs of the program: commands over what a server says.
 
-    def server(self, replies=b"", slow=False, broken=False, **shape):
-        """How a server and a command's streams are, for the next command."""
-        if replies:
-            self.line("reply", replies.hex())
-        for word, on in (("slow", slow), ("broken", broken)):
-            if on:
-                self.line(word)
-        for key, words in (("sent_room", "shut sent"), ("output_room", "shut output"), ("stop", "stop"), ("time", "time")):
-            if key in shape:
-                self.line(words, shape[key])
-        return commands.Server(replies, **shape)
+    def command(self, words, run, server, slow=False, broken=False, title=None, **given):
+        """A command at a server's address, and what has to come of it."""
+        word, *rest = [str(word) for word in words]
+        self.runs.append(Run(title or self.title, [word, ADDRESS, *rest], wanted_of(run), server=server, slow=slow, broken=broken, **given))
 
-    def ran(self, run):
-        """What came of a command."""
-        self.prints("status", run.status)
-        for frame in frames_of(run.sent):
-            self.prints("sent", shown(frame))
-        self.parts(run.given)
-        self.text("out", run.output.decode())
-        self.text("err", run.faults)
+    def asked(self, words, command, *values, replies=b"", slow=False, broken=False, **shape):
+        """A command over these replies; `shape` is how its streams are."""
+        server = commands.Server(replies, **shape)
+        self.command(words, commands.run(command, server, *values), server, slow, broken)
 
-    def locks(self, *replies, **shape):
-        server = self.server(*replies, **shape)
-        self.line("locks")
-        self.ran(commands.run(commands.locks, server))
+    def locks(self, replies=b"", **shape):
+        self.asked(["locks"], commands.locks, replies=replies, **shape)
 
-    def refresh(self, token, *replies, **shape):
-        server = self.server(*replies, **shape)
-        self.line("refresh", token)
-        self.ran(commands.run(commands.refresh, server, token))
+    def refresh(self, token, replies=b"", **shape):
+        self.asked(["refresh", token], commands.refresh, token, replies=replies, **shape)
 
-    def unlock(self, everything, *replies, **shape):
-        server = self.server(*replies, slow=True, **shape)
-        self.line(*["unlock", "--remove-all"][:1 + everything])
-        self.ran(commands.run(commands.unlock, server, everything))
+    def unlock(self, everything, replies=b"", **shape):
+        self.asked(["unlock", "--remove-all"][:1 + everything], commands.unlock, everything, replies=replies, slow=True, **shape)
 
-    def snapshots(self, *replies, **shape):
-        server = self.server(*replies, **shape)
-        self.line("snapshots")
-        self.ran(commands.run(commands.snapshots, server))
+    def snapshots(self, replies=b"", **shape):
+        self.asked(["snapshots"], commands.snapshots, replies=replies, **shape)
 
-    def restore(self, name, *replies, **shape):
-        server = self.server(*replies, **shape)
-        self.line("restore", name.hex())
-        self.ran(commands.run(commands.restore, server, name))
+    def restore(self, name, replies=b"", **shape):
+        self.asked(["restore", name.hex(), TARGET], commands.restore, name, replies=replies, **shape)
 
-    def prune(self, *replies, **shape):
-        server = self.server(*replies, **shape)
-        self.line("prune")
-        self.ran(commands.run(commands.prune, server))
+    def prune(self, replies=b"", **shape):
+        self.asked(["prune"], commands.prune, replies=replies, **shape)
 
-    def upgrade(self, *replies, **shape):
-        server = self.server(*replies, **shape)
-        self.line("upgrade")
-        self.ran(commands.run(commands.upgrade, server))
+    def upgrade(self, replies=b"", **shape):
+        self.asked(["upgrade"], commands.upgrade, replies=replies, **shape)
 
-    def check(self, *replies, **shape):
-        server = self.server(*replies, **shape)
-        self.line("check")
-        self.ran(commands.run(commands.check, server))
+    def check(self, replies=b"", **shape):
+        self.asked(["check"], commands.check, replies=replies, **shape)
 
-    def forget(self, names, *replies, **shape):
-        server = self.server(*replies, **shape)
-        self.line("forget", *[name.hex() for name in names])
-        self.ran(commands.run(commands.forget, server, names))
+    def forget(self, names, replies=b"", **shape):
+        self.asked(["forget", *[name.hex() for name in names]], commands.forget, names, replies=replies, **shape)
 
-    def keep(self, last, daily, *replies, **shape):
+    def keep(self, last, daily, replies=b"", **shape):
         """A forget by a policy."""
-        server = self.server(*replies, **shape)
-        self.line("keep", last, daily)
-        self.ran(commands.run(commands.forget, server, (), (last, daily)))
+        self.asked(["forget", *policy(last, daily)], commands.forget, (), (last, daily), replies=replies, **shape)
 
-    def keep_of(self, last, daily, host, *replies, **shape):
+    def keep_of(self, last, daily, host, replies=b"", **shape):
         """A forget by a policy for one host."""
-        server = self.server(*replies, **shape)
-        self.line("keep-of", last, daily, host)
-        self.ran(commands.run(commands.forget, server, (), (last, daily), host))
+        self.asked(["forget", *policy(last, daily, host)], commands.forget, (), (last, daily), host, replies=replies, **shape)
 
-    def would_forget(self, names, *replies, **shape):
+    def would_forget(self, names, replies=b"", **shape):
         """Which of the snapshots of some names a forget would forget."""
-        server = self.server(*replies, **shape)
-        self.line("would", "forget", *[name.hex() for name in names])
-        self.ran(commands.run(commands.would_forget, server, names))
+        self.asked(["forget", "--dry-run", *[name.hex() for name in names]], commands.would_forget, names, replies=replies, **shape)
 
-    def would_keep(self, last, daily, host, *replies, **shape):
+    def would_keep(self, last, daily, host, replies=b"", **shape):
         """Which snapshots a forget by a policy would forget, of one host or of all."""
-        server = self.server(*replies, **shape)
-        words = ["keep", last, daily] if host is None else ["keep-of", last, daily, host]
-        self.line("would", *words)
-        self.ran(commands.run(commands.would_forget, server, (), (last, daily), host))
+        words = ["forget", "--dry-run", *policy(last, daily, host)]
+        self.asked(words, commands.would_forget, (), (last, daily), host, replies=replies, **shape)
 
-    def backup(self, host, entries, *replies, skipped=(), **shape):
-        server = self.server(*replies, **shape)
-        for path in skipped:
-            self.line("skip", path.removeprefix("an entry "))
-        self.take_in(entries)
-        self.line("backup", host)
-        self.ran(commands.run(commands.backup, server, host, self.used(), skipped))
+    def backup(self, host, entries, replies=b"", skipped=(), unmet=(), slow=False, broken=False, **shape):
+        """A backup of a folder of these entries, which leaves some things out, and would leave out others if it came to them."""
+        server = commands.Server(replies, **shape)
+        entries = self.used() + entries
+        run = commands.run(commands.backup, server, host, entries, skipped)
+        self.command(["backup", host, FOLDER], run, server, slow, broken, entries=entries, skipped=(*skipped, *unmet))
 
-    # The program's own words.
+    # Runs of the program: other words.
 
-    def vault(self, words, lines=(), typed=b""):
-        """The words of the program, over lines and bytes that are typed: what it prints is wanted by the caller."""
-        for line in lines:
-            self.line("input", line)
-        if typed:
-            self.line("typed", typed.hex())
-        self.line(words)
+    def vault(self, words, typed, came, slow=False, broken=False, output_room=None, is_brief=False):
+        """The words of the program over what is typed, and what has to come of it."""
+        self.runs.append(Run(self.title, words.split(" ")[1:], came, typed, None, slow, broken, output_room, is_brief=is_brief))
 
-    def ended(self, status, output="", faults=""):
-        self.prints("status", status)
-        self.text("out", output)
-        self.text("err", faults)
+    def ended(self, words, status, output="", faults="", lines=()):
+        """The words of the program over these lines, and how it has to end."""
+        self.vault(words, "".join(line + "\n" for line in lines).encode(), Came(status, output=output, faults=faults))
 
-    def frames(self, lines=(), typed=b"", **shape):
+    def played(self, command, script, prints, fault="", **shape):
+        """A script that is played."""
+        faults = fault + "\n" * bool(fault)
+        self.vault("vault " + command, script, Came(1 if fault else 0, output=prints, faults=faults), **shape)
+
+    def frames(self, lines=(), typed=b"", slow=False, broken=False, output_room=None):
         """`vault frames` over lines, and bytes after them."""
-        self.server(**shape)
-        self.vault("vault frames", lines, typed)
-        text = "".join(line + "\n" for line in lines) + typed.decode("latin-1")
-        self.ended(*commands.framed(Store(), text, shape.get("broken", False), shape.get("output_room")))
+        typed = "".join(line + "\n" for line in lines).encode() + typed
+        status, output, faults = commands.framed(Store(), typed.decode("latin-1"), broken, output_room)
+        self.vault("vault frames", typed, Came(status, output=output, faults=faults), slow, broken, output_room)
 
     def clap(self, words, status, output="", faults=""):
         """Words of which clap tells; the first line is what is wanted."""
-        self.line("brief")
-        self.line(words)
-        self.ended(status, output and output + "\n", faults and faults + "\n")
+        self.vault(words, b"", Came(status, output=output, faults=faults), is_brief=True)
+
+
+def policy(last, daily, host=None):
+    """The words of a policy."""
+    return ["--keep-last", last, "--keep-daily", daily] + ["--host", host] * (host is not None)

@@ -119,9 +119,7 @@ def bytes_of(text):
 
 def played(script, command, heading, text, prints, fault="", **shape):
     script.heading(heading)
-    script.server(**shape)
-    script.vault("vault " + command, typed=bytes_of(text))
-    script.ended(1 if fault else 0, prints, fault + "\n" * bool(fault))
+    script.played(command, bytes_of(text), prints, fault, **shape)
 
 
 def worked(script):

@@ -1,10 +1,11 @@
 #!/usr/bin/env python3
-"""Runs some cases, each twice in a row, with their first request for memory refused, then with the second, and so on, until none is left.
+"""Runs some cases with their first request for memory refused, then with the second, and so on, until none is left.
 
-Whichever is refused, at most one of the two differs from what is wanted. A command tells of want of memory, or of a writer or a sink
-that could not take more, or a text on standard error is cut short. A script that is played prints what the reference prints where
-the store lacks memory for one of its requests; or it ends for want of memory behind some of its lines. Where a line of the
-case itself gets no memory the program ends with that text. The program is the one that `rt run` builds in crates/cases.
+A run of the program `vault` ends then as it ends else; or it tells of want of memory, or of a writer or a sink that could not take more;
+or a text on standard error is cut short. A script that is played prints what the reference prints where the store lacks memory for one of
+its requests; or it ends for want of memory behind some of its lines. What stands in a case of a store alone is a case of the program
+`cases`, twice in a row: whichever is refused, at most one of the two differs, and says why. Where a line of the case itself gets no memory
+that program ends with that text. The programs are those that `rt run` builds in crates/vault and crates/cases.
 """
 
 import os
@@ -20,19 +21,22 @@ import line_cases
 from checks import Check
 from command_cases import NO_NAMES, OPENED, row, says
 from job_cases import FILE_TREE, indexed, restore_of, tree_first
-from lines import Lines
 from naming import name_of
 from played_cases import RESTORED, UPGRADED, WORKED
 from plays import prints_of
 from prune_cases import Objects, mixed, replies_to
 from prunes import Prune
+from running import Runner
 from script import Script
 from store import Store
 from texts import dir_node, file_node, snapshot_text, tree_text
 from world_cases import laid
 
-PROGRAM = Path(__file__).resolve().parents[2] / "crates/cases/out/cases"
+CRATES = Path(__file__).resolve().parents[2] / "crates"
+CASES, VAULT = CRATES / "cases/out/cases", CRATES / "vault/out/vault"
 CAUSES = ("out of memory", "refused 11", "write failed", "stopped")
+# What is told besides where the words, an address, the caller or an entry of a folder get no memory.
+BEFORE = ("bad argument", "not reached", "read failed", "unreadable p")
 # The small library that refuses a request.
 REFUSER = Path(__file__).resolve().parents[1] / "refuse.c"
 
@@ -61,21 +65,14 @@ class Lacking(Store):
         return ("refused", 11) if self.left == 0 else super().answer(ask)
 
 
-def told(prints, fault):
-    """The lines of a case whose script prints this, and ends so."""
-    lines = Lines()
-    lines.ended(1 if fault else 0, prints, fault + "\n" * bool(fault))
-    return lines.wanted
-
-
 def lacking(command, text):
-    """What comes of a script where the store lacks memory for its first request, for its second, and so on."""
+    """What comes of a script where the store lacks memory for its first request, for its second, and so on: prints, and a fault."""
     for number in range(1, 10_000):
         store = Lacking(number)
         prints = prints_of(command, text, store=store)
         if store.left > 0:
             return
-        yield told(*prints)
+        yield prints
 
 
 class Cases(Script):
@@ -87,7 +84,7 @@ class Cases(Script):
 
     def plays(self, heading, text, command="play", **shape):
         line_cases.plays(self, heading, text, command, **shape)
-        self.lacking["# " + heading] = list(lacking(command, text.encode()))
+        self.lacking[heading] = [(prints, fault + "\n" * bool(fault)) for prints, fault in lacking(command, text.encode())]
 
 
 # What happens to a client whose messages come one by one: again, late, over a device that fails, with its lock removed.
@@ -178,7 +175,47 @@ def chosen():
     script = Cases()
     for part in (commands, clients, scripts):
         part(script)
+    script.ends()
     return script
+
+
+def holds(is_so, what):
+    if not is_so:
+        raise AssertionError(what)
+
+
+def refusing(library, mark, at):
+    """The environment in which the request of a number is refused; a mark tells that it was."""
+    mark.unlink(missing_ok=True)
+    return {"REFUSE": str(at), "REFUSED": str(mark), "LD_PRELOAD": str(library)}
+
+
+class TriedRun:
+    """A run of the program `vault`, of which a request for memory is refused, and what it may print then, where it is a script's."""
+
+    def __init__(self, run, lacking):
+        self.run, self.lacking = run, lacking
+
+    def fault(self, came):
+        """What is wrong with a run in which a request was refused."""
+        wanted = self.run.wanted
+        shown = came.status, came.sent, came.restored, came.output
+        if shown == (wanted.status, wanted.sent, wanted.restored, wanted.output) and wanted.faults.startswith(came.faults):
+            return None
+        if self.lacking is not None and (came.output, came.faults) in self.lacking:
+            return None
+        is_told = came.faults.endswith(tuple(cause + "\n" for cause in CAUSES + BEFORE)) or came.faults.startswith("unreadable p")
+        is_begun = wanted.output.startswith(came.output)
+        return None if came.status in (1, 2) and is_told and is_begun else f"{self.run.heading}: {came}"
+
+    def requests(self, runner, library, mark, numbers):
+        """How many requests for memory were refused, those of these numbers, each in a run of its own."""
+        for count, at in enumerate(numbers):
+            came = runner.came(self.run, refusing(library, mark, at))
+            if not mark.is_symlink():
+                holds(self.run.holds(came), f"{self.run.heading} differs where nothing is refused: {came}")
+                return count
+            holds(not self.fault(came), f"where request {at} is refused: {self.fault(came)}")
 
 
 def by_case(lines):
@@ -192,50 +229,18 @@ def by_case(lines):
     return cases
 
 
-def halves(lines):
-    """A case's lines, and what of them is on standard error."""
-    told = [line.removeprefix("err ") for line in lines if line.startswith("err ")]
-    return [line for line in lines if not line.startswith("err ") and line != "which has no end"], "\n".join(told)
-
-
 def is_cause(line):
     """Whether a line tells of what is refused: by a text, or by a frame that refuses with code 11."""
-    return line.endswith(CAUSES) or " 0000001a86" in line and line.endswith("0b")
+    return line.endswith(CAUSES) or line.startswith("said 0000001a86") and line.endswith("0b")
 
 
-def has_cause(gave, wanted):
-    """Whether a case says why it differs, or does so only in that a text on standard error was cut short."""
-    (shown, told), (rest, text) = halves(gave), halves(wanted)
-    return any(is_cause(line) for line in gave) or shown == rest and text.startswith(told)
+class TriedCase:
+    """A case of a store, and the same again behind it, of which a request for memory is refused."""
 
-
-def text_of(lines):
-    """The text of which these lines of a case tell."""
-    text = "".join(line.removeprefix("out ") + "\n" for line in lines if line.startswith("out "))
-    return text[:-1] if "which has no end" in lines else text
-
-
-def is_begun(gave, wanted):
-    """Whether a script ends behind some of its lines, for want of memory; or in its end the fault is cut short."""
-    (shown, told), (rest, text) = halves(gave), halves(wanted)
-    ends = gave[0] == "status 1" and told in CAUSES and text_of(wanted).startswith(text_of(gave))
-    return ends or shown == rest and text.startswith(told)
-
-
-class Tried:
-    """A case, and the same again behind it, of which a request for memory is refused."""
-
-    def __init__(self, heading, given, wanted, lacking):
+    def __init__(self, heading, given, wanted):
         headings = heading, heading + ", again"
         self.given = "".join(line + "\n" for one in headings for line in [one, *given])
         self.wanted = {one: wanted for one in headings}
-        self.lacking = lacking
-
-    def is_explained(self, gave, wanted):
-        """Whether a case differs in a way in which it may."""
-        if self.lacking is None:
-            return has_cause(gave, wanted)
-        return gave in self.lacking or is_begun(gave, wanted)
 
     def is_whole(self, ran):
         """Whether a run gave what is wanted of both."""
@@ -253,41 +258,52 @@ class Tried:
             return f"{differ} differ, before its end"
         if len(differ) > 1:
             return f"{differ} differ"
-        if ran.returncode == 0 and not all(self.is_explained(gave[case], self.wanted[case]) for case in differ):
+        if ran.returncode == 0 and not all(any(map(is_cause, gave[case])) for case in differ):
             return f"{differ} don't say why: {[gave[case] for case in differ]}"
         return None
 
+    def requests(self, library, mark, numbers):
+        """How many requests for memory were refused, those of these numbers, each in a run of its own."""
+        for count, at in enumerate(numbers):
+            ran = subprocess.run([CASES], input=self.given, text=True, capture_output=True, env=os.environ | refusing(library, mark, at))
+            if not mark.is_symlink():
+                holds(self.is_whole(ran), f"{list(self.wanted)[0]} differs where nothing is refused")
+                return count
+            holds(not self.fault(ran), f"where request {at} is refused: {self.fault(ran)}")
 
-def tried():
-    """Each of the chosen cases, as it is run."""
-    script = chosen()
+
+def tried_runs(script):
+    return [TriedRun(run, script.lacking.get(run.heading)) for run in script.runs]
+
+
+def tried_cases(script):
     given, wanted = by_case(script.given), by_case(script.wanted)
-    return [Tried(case, given[case], wanted[case], script.lacking.get(case)) for case in wanted]
+    return [TriedCase(case, given[case], wanted[case]) for case in wanted]
 
 
-def refusing(library, mark, at):
-    """The environment in which the request of a number is refused; a mark tells that it was."""
-    mark.unlink(missing_ok=True)
-    return os.environ | {"REFUSE": str(at), "REFUSED": str(mark), "LD_PRELOAD": str(library)}
-
-
-def requests_of(case, library, mark):
-    """How many requests a case makes, each of which is refused in a run of its own."""
-    for at in range(1, 1_000_000):
-        ran = subprocess.run([PROGRAM], input=case.given, text=True, capture_output=True, env=refusing(library, mark, at))
-        if not mark.is_symlink():
-            return at - 1 if case.is_whole(ran) else sys.exit(f"{list(case.wanted)[0]} differs where nothing is refused")
-        if wrong := case.fault(ran):
-            sys.exit(f"where request {at} is refused: {wrong}")
+def compiled(folder):
+    """The library that refuses a request."""
+    made = folder / "refuse.so"
+    subprocess.run(["gcc", "-shared", "-fPIC", "-O1", "-o", made, REFUSER], check=True)
+    return made
 
 
 def main():
-    cases = tried()
+    script = chosen()
+    runs, cases = tried_runs(script), tried_cases(script)
     with tempfile.TemporaryDirectory() as folder, ThreadPoolExecutor(os.cpu_count()) as pool:
-        library = Path(folder) / "refuse.so"
-        subprocess.run(["gcc", "-shared", "-fPIC", "-O1", "-o", library, REFUSER], check=True)
-        counts = pool.map(lambda at: requests_of(cases[at], library, Path(folder) / f"refused-{at}"), range(len(cases)))
-        print(f"the {len(cases)} cases hold with each of their {sum(counts)} requests refused")
+        top = Path(folder)
+        refuser = compiled(top)
+
+        def refuses(place):
+            room = top / str(place)
+            room.mkdir()
+            if place < len(runs):
+                return runs[place].requests(Runner(VAULT, room), refuser, room / "refused", range(1, 1_000_000))
+            return cases[place - len(runs)].requests(refuser, room / "refused", range(1, 1_000_000))
+
+        counts = list(pool.map(refuses, range(len(runs) + len(cases))))
+        print(f"the {len(runs)} runs and the {len(cases)} cases hold with each of their {sum(counts)} requests refused")
 
 
 if __name__ == "__main__":

@@ -1,27 +1,49 @@
-"""A whole script: beside commands and words one store and its clients."""
+"""A whole script: beside runs of the program one store and its clients.
+
+The reference moves the store and its clients together, request by request, as a case says. What then has to be shown is told apart. Of
+the store there are lines for crates/cases: all that was asked of it, in that order, with what happened to it between. Of each client there
+is a run of the program over the replies that it got.
+"""
 
 import commands
 from checks import Check
 from frames import KINDS, Message
-from jobs import Backup, Client, Forget, List, Pieces, Restore, StartRefused
-from lines import Lines, digits, frames_of, shown
-from prunes import Prune, Upgrade
+from jobs import Client, Fed, FedClient, Forget, List, Pieces, Restore, StartRefused, items_of
+from lines import Lines, digits, policy
 from naming import name_of
+from prunes import Prune, Upgrade
+from runs import FOLDER, TARGET, frames_of, shown
 from store import Refused, Store
 from texts import config_text
 
+HOST, TIME = "vault", 5
+# A store to which more than this many digits are sent in a case is shown by what its clients make of it alone.
+MOST = 300_000
+
 
 class Script(Lines):
-    """Lines, and the store and the clients that they speak of."""
+    """Lines and runs, and the store and the clients that they speak of."""
 
     def __init__(self):
         super().__init__()
-        self.seats, self.store = [], Store()
+        self.seats, self.store, self.begun = [], Store(), None
 
     def shelf(self):
         """A shelf on which no store was made."""
+        self.ends()
+        self.begun = len(self.given), len(self.wanted), self.is_told
         self.line("shelf")
-        self.store, self.seats = Store(), []
+        self.store = Store()
+
+    def ends(self):
+        """Ends what was told of a store, and tells of its clients."""
+        for seat in self.seats:
+            seat.tells(self)
+        self.seats = []
+        if self.begun and sum(map(len, self.given[self.begun[0]:])) > MOST:
+            given, wanted, self.is_told = self.begun
+            del self.given[given:], self.wanted[wanted:]
+        self.begun = None
 
     def init(self, minimum=64, maximum=128, bits=6, target=1_024):
         self.line("init", minimum, maximum, bits, target)
@@ -86,24 +108,26 @@ class Script(Lines):
         for frame in frames_of(replies):
             self.prints("said", shown(frame))
         self.prints("served", ended)
+        return replies
 
     def ask(self, *asks, sequence=1):
         """Requests in one connection, by the client of sixteen bytes 01."""
         frames = [Message(commands.INSTANCE, sequence + place, what).frame() for place, what in enumerate(asks)]
         self.serve(b"".join(frames))
 
-    def seat(self, core, host, time, old=False):
-        instance = len(self.seats).to_bytes(16, "big")
-        self.seats.append(Seat(Client(core, instance, host, time, old)))
+    # Clients.
+
+    def seat(self, client, words, command, *values, **given):
+        self.seats.append(Seat(self.title, client, words, command, values, given))
         return len(self.seats) - 1
 
+    def seat_job(self, job, words, command, *values):
+        return self.seat(Client(job, commands.INSTANCE, HOST, TIME), words, command, *values)
+
     def start_backup(self, entries, host="a", time=5):
-        self.take_in(entries)
-        self.line("start backup", host, time)
-        try:
-            return self.seat(Backup(self.used()), host, time)
-        except StartRefused as refused:
-            self.prints("start refused", refused.args[0])
+        entries = self.used() + entries
+        client = FolderClient(entries, host, time)
+        return self.seat(client, ["backup", host, FOLDER], commands.backup, host, entries, (), entries=entries)
 
     def pieces(self, items, host="a", time=5, early=(), late=()):
         """A backup that is fed items, some early ones before it wants any, some late ones after it ended: the name of its snapshot."""
@@ -117,45 +141,34 @@ class Script(Lines):
         return client.outcome.name
 
     def start_list(self):
-        self.line("start list")
-        return self.seat(List(), "play", 0)
+        return self.seat_job(List(), ["snapshots"], commands.snapshots)
+
+    def named(self, snapshot):
+        """The name of a snapshot, or of the one that a client stored."""
+        return snapshot if isinstance(snapshot, bytes) else self.seats[snapshot].client.outcome.name
 
     def start_restore(self, snapshot):
         """Of a name, or of what a client stored."""
-        if isinstance(snapshot, bytes):
-            self.line("start restore", snapshot.hex())
-            return self.seat(Restore(snapshot), "play", 0)
-        self.line("start restore", snapshot)
-        return self.seat(Restore(self.seats[snapshot].client.outcome.name), "play", 0)
+        name = self.named(snapshot)
+        return self.seat_job(Restore(name), ["restore", name.hex(), TARGET], commands.restore, name)
 
     def start_forget(self, *snapshots):
         """Of names, or of what clients stored."""
-        self.line("start forget", *[one.hex() if isinstance(one, bytes) else one for one in snapshots])
-        names = [one if isinstance(one, bytes) else self.seats[one].client.outcome.name for one in snapshots]
-        return self.seat(Forget(names), "play", 0)
+        names = [self.named(one) for one in snapshots]
+        return self.seat_job(Forget(names), ["forget", *[name.hex() for name in names]], commands.forget, names)
 
     def start_keep(self, last, daily):
-        self.line("start keep", last, daily)
-        try:
-            return self.seat(Forget(policy=(last, daily)), "play", 0)
-        except StartRefused as refused:
-            self.prints("start refused", refused.args[0])
+        job = Forget(policy=(last, daily))
+        return self.seat_job(job, ["forget", *policy(last, daily)], commands.forget, (), (last, daily))
 
     def start_prune(self):
-        self.line("start prune")
-        return self.seat(Prune(), "play", 0)
+        return self.seat_job(Prune(), ["prune"], commands.prune)
 
-    def start_upgrade(self, old=False):
-        """Of a client that knows both versions, or of an old one."""
-        self.line("old " * old + "start upgrade")
-        return self.seat(Upgrade(), "play", 0, old)
+    def start_upgrade(self):
+        return self.seat_job(Upgrade(), ["upgrade"], commands.upgrade)
 
     def start_check(self):
-        self.line("start check")
-        return self.seat(Check(), "play", 0)
-
-    def reply_to(self, request):
-        return request.reply(self.store.answer(request.what))
+        return self.seat_job(Check(), ["check"], commands.check)
 
     def one_step(self, place):
         """Whether there was a request."""
@@ -163,34 +176,36 @@ class Script(Lines):
         request = seat.client.pending
         if seat.crashed or not request:
             return False
-        reply = self.reply_to(request)
-        self.prints(">", shown(request.frame()))
-        self.prints("<", shown(reply.frame()))
-        seat.last = request
-        seat.client.take(reply)
-        self.parts(seat.client.emitted)
+        seat.last = request.frame()
+        seat.take(request.reply(self.answered(seat.last, request)))
         return True
 
+    def answered(self, frame, request):
+        """What the store says to a request."""
+        self.line("ask", digits(frame))
+        say = self.store.answer(request.what)
+        self.prints("said", shown(request.reply(say).frame()))
+        self.prints("served", 1)
+        return say
+
     def step(self, place):
-        self.line("step", place)
         self.one_step(place)
 
     def steps(self, place):
-        self.line("steps", place)
         while self.one_step(place):
             pass
-        self.result(place)
+
+    finish = steps
 
     def until(self, place, word):
-        self.line("until", place, word)
         while self.seats[place].pending() != word and self.one_step(place):
             pass
 
     def fault(self, place, word):
-        self.line("fault", place, word)
-        self.store.armed = word
+        """A step in which the device fails."""
+        self.arm(word)
         self.one_step(place)
-        self.store.armed = None
+        self.disarm()
 
     def fault_read(self, place, word):
         """A step of a store that was just opened, in which the device fails; one that remembers, where a `kept read` fails."""
@@ -198,70 +213,39 @@ class Script(Lines):
             self.restart()
         self.fault(place, word.removeprefix("kept "))
 
-    def finish(self, place):
-        self.line("finish", place)
-        count, given = self.seats[place].client.finish(self.store)
-        self.prints("requests", count)
-        self.parts(given)
-        self.result(place)
+    def late(self, place):
+        """A client's last request is answered once more, to nobody."""
+        self.serve(self.seats[place].last)
 
-    def check_alone(self):
-        """How a check ends that isn't one of the clients: its words, and what is at fault."""
-        client = Client(Check(), bytes(16), "play", 0)
-        while client.pending:
-            client.take(self.reply_to(client.pending))
-        found = [f" {thing} {what}" for thing, _, what in client.outcome.faults or []]
-        return client.outcome.text + "".join(found)
+    def crash(self, place):
+        """A client sends no more."""
+        self.seats[place].crashed = True
 
     def spoil(self, kind, name, under):
         """Each byte of an object is turned, one after another, and then the object is cut at each length; it lies under
-        its name (`same`), or under that of its bytes (`own`). After each a check is made."""
-        self.line("spoil", kind, name.hex(), under)
+        its name (`same`), or under that of its bytes (`own`). After each a check is made: how it ends."""
         objects = self.store.objects[kind]
         whole, ends = objects.pop(name), []
         for data in turned(whole) + [whole[:length] for length in range(len(whole))]:
             place = name if under == "same" else name_of(data)
             objects[place] = data
-            ends.append(self.check_alone())
+            ends.append(self.checked())
             objects.pop(place)
         objects[name] = whole
-        for end in sorted(set(ends), key=ends.index):
-            self.prints("ended", ends.count(end), end)
         return ends
 
-    def late(self, place):
-        self.line("late", place)
-        say = self.reply_to(self.seats[place].last).what
-        self.prints("late", {"done": "done", "refused": f"refused {say[-1]}"}.get(say[0], "other"))
-
-    def crash(self, place):
-        self.line("crash", place)
-        self.seats[place].crashed = True
-
-    def result(self, place):
-        """How a client's job stands."""
-        seat = self.seats[place]
-        outcome = seat.client.outcome
-        if outcome is None:
-            return self.prints(seat.client.job.role, "crashed" if seat.crashed else "running")
-        self.prints(seat.client.job.role, outcome.text)
-        for name, host, time, token in outcome.rows or []:
-            self.prints("listed", name.hex())
-            self.prints("host", host)
-            self.prints("time", time)
-            self.prints("token", token)
-        for name in outcome.forgotten or []:
-            self.prints("forgot", name.hex())
-        for thing, name, what in outcome.faults or []:
-            self.prints("fault", thing, name.hex(), what)
-        if outcome.name is not None:
-            self.prints("name", outcome.name.hex())
+    def checked(self):
+        """A check of the store as it stands, of which no line tells: its words, and what is at fault."""
+        client = Client(Check(), commands.INSTANCE, HOST, TIME)
+        seat = Seat(self.title, client, ["check"], commands.check, (), {})
+        while client.pending:
+            seat.take(client.pending.reply(self.store.answer(client.pending.what)))
+        seat.tells(self)
+        return client.outcome.text + "".join(f" {thing} {what}" for thing, _, what in client.outcome.faults or [])
 
     def report(self):
+        """What the store holds."""
         self.line("report")
-        for place in range(len(self.seats)):
-            self.prints("client", place)
-            self.result(place)
         for what in (*KINDS, "ledger"):
             self.store.needs(what)
         packs, indexes, snapshots = (len(self.store.objects[kind]) for kind in KINDS)
@@ -275,11 +259,34 @@ def turned(data):
     return [data[:at] + bytes([data[at] ^ 1]) + data[at + 1:] for at in range(len(data))]
 
 
-class Seat:
-    """A client at a store, and what it sent last."""
+class FolderClient(FedClient):
+    """A backup of entries, which is fed them as they are found in a folder."""
 
-    def __init__(self, client):
-        self.client, self.crashed, self.last = client, False, None
+    def __init__(self, entries, host, time):
+        self.items, self.rest = items_of(entries), None
+        super().__init__(Fed(), commands.INSTANCE, host, time)
+
+    def take(self, reply):
+        super().take(reply)
+        while self.wants and self.outcome is None:
+            word, what = self.rest or next(self.items)
+            code, taken = self.feed(word, what)
+            self.rest = ("bytes", what[taken:]) if word == "bytes" and taken < len(what) else None
+            if code is not None:
+                self.feed("abandon")
+
+
+class Seat:
+    """A client at a store, what it sent last, and what it got; and the command that it is of."""
+
+    def __init__(self, title, client, words, command, values, given):
+        self.title, self.client, self.crashed, self.last = title, client, False, None
+        self.words, self.command, self.values, self.given = words, command, values, given
+        self.replies = []
+
+    def take(self, reply):
+        self.replies.append(reply.frame())
+        self.client.take(reply)
 
     def pending(self):
         """The word for the request that is pending."""
@@ -287,3 +294,9 @@ class Seat:
             return None
         what = self.client.pending.what
         return f"{what[0]}-{what[2]}" if what[0] in ("put", "delete") else what[0]
+
+    def tells(self, lines):
+        """Tells of the run of the program over what it got. One that got no more than this ends where it reads on."""
+        server = commands.Server(b"".join(self.replies), time=self.client.time)
+        run = commands.run(self.command, server, *self.values)
+        lines.command(self.words, run, server, title=self.title, **self.given)

@@ -1,6 +1,7 @@
 """Cases of versions: upgrades over replies and at a store, old clients, and stores and snapshots of version 2."""
 
 from command_cases import codes, places, say, streams
+from line_cases import plays
 from naming import name_of
 from prune_cases import mixed, replies_to
 from prunes import Upgrade
@@ -87,17 +88,13 @@ def at_a_store(script):
     script.steps(script.start_upgrade())
     script.ask(("config",))
     script.report()
-    script.heading("each client at a store of version 2, and an upgrade of one that knows version 1 alone")
+    script.heading("each client at a store of version 2")
     for client in (script.start_backup(TWO, "b", 7), script.start_restore(place), script.start_list(), script.start_forget(place),
-                   script.start_keep(1, 1), script.start_prune(), script.start_check(), script.start_upgrade(old=True)):
+                   script.start_keep(1, 1), script.start_prune(), script.start_check()):
         script.steps(client)
     script.report()
-    script.heading("an old upgrade at a store of version 1")
-    script.fresh()
-    script.steps(script.start_upgrade(old=True))
-    script.steps(script.start_upgrade(old=True))
-    script.steps(script.start_upgrade())
-    script.report()
+    plays(script, "upgrades of clients that know version 1 alone, at a store of version 1 and at one of version 2",
+          "old start upgrade\nfinish 0\nold start upgrade\nfinish 1\nstart upgrade\nfinish 2\nreport\nold start upgrade\nfinish 3\nreport\n")
     script.heading("a snapshot of version 2 at a store of version 1")
     script.fresh()
     later = snapshot_text("a", 1, 1, name_of(tree_text([])), 2)

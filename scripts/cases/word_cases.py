@@ -26,8 +26,7 @@ def bad_arguments(script):
                   "forget ADDR --keep-last 1 --host " + "h" * 256, "forget ADDR --host " + "é" * 128 + " --dry-run",
                   "forget ADDR 12", "forget ADDR --dry-run 12", "forget ADDR " + UPPER, "forget ADDR " + A.hex() + " " + "g" * 64, "forget ADDR " + A.hex() + "0 " + A.hex()):
         script.heading("words that make no command")
-        script.vault("vault " + words.replace("ADDR", ADDRESS))
-        script.ended(2, "", "bad argument\n")
+        script.ended("vault " + words.replace("ADDR", ADDRESS), 2, "", "bad argument\n")
 
 
 def bad_addresses(script):
@@ -35,14 +34,12 @@ def bad_addresses(script):
     for address in ("127.0.0.1", "nowhere", "", ":", ":0", "127.0.0.1:", "127.0.0.1:x", "127.0.0.1:-1", "127.0.0.1:0x1", "127.0.0.1:65536",
                     "127.0.0.1:18446744073709551616", "127.0.0.1:++1", "127.0.0.1:\u0661", "[::1]", "[::1]:", "::", "127.0.0.1;1"):
         script.heading("an address that is none")
-        script.vault("vault locks " + address)
-        script.ended(2, "", "bad argument\n")
+        script.ended("vault locks " + address, 2, "", "bad argument\n")
     for words in ("serve x nowhere", "locks nowhere", "snapshots nowhere", "refresh nowhere 1", "unlock nowhere --remove-all", "backup nowhere h p --retry 1",
                   "restore nowhere " + A.hex() + " d", "prune nowhere", "check nowhere --retry 1", "forget nowhere", "forget nowhere " + A.hex(),
                   "forget nowhere --keep-last 1 --dry-run", "upgrade nowhere"):
         script.heading("an address that is none, of each command")
-        script.vault("vault " + words)
-        script.ended(2, "", "bad argument\n")
+        script.ended("vault " + words, 2, "", "bad argument\n")
 
 
 def both(script):
@@ -50,8 +47,7 @@ def both(script):
     for words in ("--keep-last 1 " + A.hex(), A.hex() + " --keep-daily 1", f"--keep-last 0 --keep-daily 4294967295 {A.hex()} {E.hex()}",
                   "--host a " + A.hex(), "--dry-run --keep-last 1 " + A.hex()):
         script.heading("snapshots to be forgotten by their names and by a policy")
-        script.vault(f"vault forget {ADDRESS} " + words)
-        script.ended(2, "", "names and a policy exclude each other\n")
+        script.ended(f"vault forget {ADDRESS} " + words, 2, "", "names and a policy exclude each other\n")
 
 
 def claps(script):
@@ -109,8 +105,7 @@ def unreached(script):
                   "backup ADDR h p --retry 0", "snapshots ADDR --retry 1", "restore ADDR " + A.hex() + " d --retry 2", "forget ADDR --retry 3",
                   "prune ADDR --retry 4", "check ADDR --retry 5", "upgrade ADDR", "upgrade ADDR --retry 1"):
         script.heading("an address that can't be connected to")
-        script.vault("vault " + words.replace("ADDR", ADDRESS))
-        script.ended(1, "", "not reached\n")
+        script.ended("vault " + words.replace("ADDR", ADDRESS), 1, "", "not reached\n")
 
 
 def worked(script):
@@ -118,17 +113,16 @@ def worked(script):
     a = A.hex()
     one = "01" * 16
     script.heading("a ticket, a lock, a put and a get")
-    script.vault("vault frames", ["00000019" + "01" + one + "0000000000000001",
-                                  "0000002c" + "02" + one + "0000000000000002" + "0000000000000001" + "00" + "0000000000000005" + "0161",
-                                  "00000045" + "09" + one + "0000000000000003" + "0000000000000001" + "02" + a + "616263",
-                                  "0000003a" + "07" + one + "0000000000000004" + "02" + a])
-    script.ended(0, "00000021" + "81" + one + "0000000000000001" + "0000000000000001\n"
+    lines = ["00000019" + "01" + one + "0000000000000001",
+             "0000002c" + "02" + one + "0000000000000002" + "0000000000000001" + "00" + "0000000000000005" + "0161",
+             "00000045" + "09" + one + "0000000000000003" + "0000000000000001" + "02" + a + "616263",
+             "0000003a" + "07" + one + "0000000000000004" + "02" + a]
+    script.ended("vault frames", 0, "00000021" + "81" + one + "0000000000000001" + "0000000000000001\n"
                  + "00000019" + "82" + one + "0000000000000002\n" + "00000019" + "82" + one + "0000000000000003\n"
-                 + "0000001c" + "84" + one + "0000000000000004" + "616263\n")
+                 + "0000001c" + "84" + one + "0000000000000004" + "616263\n", lines=lines)
     for text, given, said in SPELLED:
         script.heading(text)
-        script.vault("vault frames", asks(*given))
-        script.ended(0, "".join(line + "\n" for line in asks(*said)))
+        script.ended("vault frames", 0, "".join(line + "\n" for line in asks(*said)), lines=asks(*given))
 
 
 def lock(token, exclusive=False):

@@ -2,6 +2,7 @@
 
 import random
 
+from line_cases import plays
 from naming import name_of
 from texts import dir_node, file_node, index_text, pack_of, snapshot_text, tree_text
 
@@ -80,13 +81,10 @@ def delete_all(script):
 
 def starts(script):
     """Entries that are refused at a start, which takes no number."""
-    script.heading("starts that are refused")
-    script.fresh()
-    for paths in (["b", "a"], ["d/x"], [".."], ["a", "a"], ["f", "f/x"], [""], ["a//x"]):
-        script.start_backup([(path.split("/") if path else [], b"") for path in paths])
-    script.start_backup([(["d"] * length, None) for length in range(1, 102)])
-    script.finish(script.start_backup([]))
-    script.report()
+    lists = [["file b -", "file a -"], ["file d/x -"], ["file .. -"], ["file a -", "file a -"], ["file f -", "file f/x -"], ["file a//x -"],
+             ["dir " + "/".join("d" * length) for length in range(1, 102)], []]
+    text = "".join("".join(line + "\n" for line in [*lines, "start backup a 5"]) for lines in lists)
+    plays(script, "starts that are refused", text + "finish 0\nreport\n")
 
 
 def deep(script):

@@ -34,14 +34,15 @@ CRATES = Path(__file__).resolve().parents[2] / "crates"
 PARTS = [command_cases.locks, command_cases.refresh, command_cases.unlock, command_cases.lists, job_cases.restores,
          job_cases.backups, *word_cases.ALL, *world_cases.ALL, *damage_cases.ALL, *folder_cases.ALL, *forget_cases.ALL,
          *prune_cases.ALL, *check_cases.ALL, *upgrade_cases.ALL, *piece_cases.ALL, *played_cases.ALL, *line_cases.ALL, *feed_cases.ALL,
-         *part_cases.ALL]
+         *part_cases.ALL, *event_cases.ALL, *kernel_cases.ALL]
 
 
 def files():
     """The files, and what each holds."""
     script = Script()
-    for part in PARTS + event_cases.ALL + kernel_cases.ALL:
+    for part in PARTS:
         part(script)
+    script.ends()
     asked, said = vault_frames.stream()
     return {CRATES / "cases/stdin": "".join(line + "\n" for line in script.given),
             CRATES / "cases/stdout": "".join(line + "\n" for line in script.wanted),

@@ -1,11 +1,10 @@
 //! A backup at the store that is fed items.
 
-use crate::clients::told_end;
 use crate::lines::{ScriptError, bytes, cut, number};
 use crate::told::Told;
 use repo_backup::{FeedError, Item, ItemsError, PieceBackup, lockstep_fed, lockstep_items};
 use repo_name::Instance;
-use repo_session::{Client, Who};
+use repo_session::{Client, Who, result_text};
 use repo_store::Shelf;
 use std::alloc::Global;
 
@@ -97,7 +96,10 @@ fn feed_all<S: Shelf>(
             },
         }
     }
-    told.pair("backup", told_end(alloc, backup.outcome())?.as_str())?;
+    told.pair(
+        "backup",
+        result_text(alloc, backup.outcome(), false)?.as_str(),
+    )?;
     Ok(())
 }
 

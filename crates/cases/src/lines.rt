@@ -2,7 +2,6 @@
 
 use hex::FromHexError;
 use repo_name::{Bytes, Kind, Name, Text};
-use repo_prune::Policy;
 use repo_tree::{Entry, EntryKind, Path};
 use std::alloc::{AllocError, AllocFailed, Global};
 use thiserror::Error;
@@ -77,32 +76,6 @@ pub fn name(word: &str) -> Result<Name, ScriptError> {
     }
 }
 
-/// The names that the words of a text spell.
-pub fn names(alloc: Global, words: &str) -> Result<Vec<Name>, ScriptError> {
-    let mut names = Vec::new(alloc);
-    for word in words.split_whitespace() {
-        names.push(name(word)?)?;
-    }
-    Ok(names)
-}
-
-/// A count that a word spells.
-pub fn count(word: &str) -> Result<u32, ScriptError> {
-    match word.parse::<u32>() {
-        Ok(count) => Ok(count),
-        Err(_) => Err(ScriptError::Line),
-    }
-}
-
-/// The policy of two counts: `LAST DAILY`.
-pub fn policy(words: &str) -> Result<Policy, ScriptError> {
-    let (last, daily) = cut(words);
-    Ok(Policy {
-        last: count(last)?,
-        daily: count(daily)?,
-    })
-}
-
 /// The kind of object that a word is for.
 pub fn kind(word: &str) -> Result<Kind, ScriptError> {
     match word {
@@ -141,26 +114,4 @@ pub fn file(alloc: Global, words: &str) -> Result<Entry, ScriptError> {
         path: path(alloc, place)?,
         what: EntryKind::File(Bytes::of(held)),
     })
-}
-
-/// So many files, each with a name of 5 digits and 64 bytes of its own: its number in digits.
-pub fn add_files(alloc: Global, count: u64, entries: &mut Vec<Entry>) -> Result<(), ScriptError> {
-    for number in 0..count {
-        let place = format!(in alloc; "{number:05}")?;
-        let held = format!(in alloc; "{number:064}")?;
-        entries.push(Entry {
-            path: path(alloc, place.as_str())?,
-            what: EntryKind::File(Bytes::of(held.as_bytes().to_vec(alloc)?)),
-        })?;
-    }
-    Ok(())
-}
-
-/// So many empty directories, each with a name of 255 bytes: its number in digits.
-pub fn add_dirs(alloc: Global, count: u64, entries: &mut Vec<Entry>) -> Result<(), ScriptError> {
-    for number in 0..count {
-        let place = format!(in alloc; "{number:0255}")?;
-        entries.push(dir(alloc, place.as_str())?)?;
-    }
-    Ok(())
 }

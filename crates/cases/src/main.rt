@@ -7,7 +7,6 @@ use script::Script;
 use std::io::Read;
 
 mod clients;
-mod commands;
 mod feeding;
 mod framing;
 mod halves;
@@ -17,17 +16,14 @@ mod kernels;
 mod lines;
 mod random;
 mod script;
-mod sources;
-mod spoiling;
 mod stored;
 mod stores;
 mod streams;
 mod told;
-mod worlds;
 
 /// Runs a line, and prints what came of it.
 fn run_line(rt: &HostRuntime, script: &mut Script, line: &str) -> Result<()> {
-    script.take(rt, line)?;
+    script.take(line)?;
     let told = script.told.as_str();
     print!(rt; "{told}")?;
     script.told.clear();

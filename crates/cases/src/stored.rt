@@ -4,7 +4,7 @@ use crate::clients::{JobEnd, do_job};
 use crate::lines::{ScriptError, cut};
 use crate::random::random_bytes;
 use crate::stores::config_of;
-use repo_name::{Bytes, Instance, Name, Text, name_of};
+use repo_name::{Bytes, Name, Text, name_of};
 use repo_session::Emission;
 use repo_store::{MemShelf, init};
 use repo_tree::{Entry, EntryKind, Path};
@@ -51,7 +51,7 @@ fn name_of_end(end: &JobEnd) -> Result<Name, ScriptError> {
 
 /// Does a job: the name that its end comes to.
 pub fn done(alloc: Global, shelf: &mut MemShelf, job: Job) -> Result<Name, ScriptError> {
-    let end = do_job(alloc, Instance([1; 16]), "bench", job, shelf)?;
+    let end = do_job(alloc, job, shelf)?;
     name_of_end(&end)
 }
 

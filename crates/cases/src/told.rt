@@ -1,4 +1,4 @@
-//! What is printed: words with bytes in hexadecimal, lines of a text, what a restore gave out.
+//! What is printed: words with bytes in hexadecimal, and what a restore gave out.
 
 use repo_name::name_of;
 use repo_session::Emission;
@@ -12,11 +12,6 @@ const SHORT: usize = 100;
 #[derive(Drop)]
 pub struct Told {
     text: String,
-}
-
-/// The text that some bytes are.
-fn text_of(bytes: &[u8]) -> &str {
-    str::from_utf8(bytes).unwrap_or("no text")
 }
 
 impl Told {
@@ -41,11 +36,6 @@ impl Told {
     pub fn line(&mut self, line: &str) -> Result<(), AllocError> {
         self.text.push_str(line)?;
         self.text.push('\n')
-    }
-
-    /// Lines that are told already.
-    pub fn append(&mut self, lines: &str) -> Result<(), AllocError> {
-        self.text.push_str(lines)
     }
 
     /// A word, and what follows it.
@@ -74,25 +64,6 @@ impl Told {
         }
         let digits = hex::encode(alloc, bytes)?;
         self.pair(word, digits.as_str())
-    }
-
-    /// The lines of a text, each behind a word.
-    pub fn lines(&mut self, word: &str, bytes: &[u8]) -> Result<(), AllocError> {
-        for line in text_of(bytes).lines() {
-            self.pair(word, line)?;
-        }
-        if bytes.is_empty() || bytes.ends_with(b"\n") {
-            return Ok(());
-        }
-        self.line("which has no end")
-    }
-
-    /// The first line of a text, behind a word.
-    pub fn first_line(&mut self, word: &str, bytes: &[u8]) -> Result<(), AllocError> {
-        match text_of(bytes).lines().next() {
-            Some(line) => self.pair(word, line),
-            None => Ok(()),
-        }
     }
 
     /// A stream's frames, each behind a word. What is left at its end is told like a frame.
