@@ -3,7 +3,7 @@
 
 use crate::asks::said;
 use repo_locks::Ledger;
-use repo_name::{Bytes, Kind, Name, Names};
+use repo_name::{Bytes, Kind, Name, Names, Token};
 use repo_store::{Kept, MemShelf, Page, Shelf, ShelfError, Slice};
 use repo_wire::{Ask, Code, Say};
 use std::alloc::Global;
@@ -59,6 +59,10 @@ impl Shelf for OnePage {
 
     fn ledger(&mut self) -> Result<Ledger, ShelfError> {
         Ok(Ledger::new(self.alloc))
+    }
+
+    fn live_as(&mut self, _: Token) -> Result<Option<bool>, ShelfError> {
+        Ok(None)
     }
 
     fn save_ledger(&mut self, _: &Ledger) -> Result<(), ShelfError> {
