@@ -1,8 +1,9 @@
 #!/usr/bin/env python3
 """Sends a server requests, each after the reply to the one before. Usage: bench/requests.py PORT COMMAND COUNT
 
-`locks`: COUNT times a ticket, a lock and its unlock. `puts`: COUNT objects of 8 bytes. `lists`: the names of all packs, COUNT
-times. Prints how many requests were answered as they should be; another answer ends it.
+`locks`: COUNT times a ticket, a lock and its unlock. `puts`: COUNT objects of 8 bytes. `crowded`: others, beside as many locks and
+tickets as a store has. `lists`: the names of all packs, COUNT times. Prints how many requests were answered as they should be; another
+answer ends it.
 """
 import socket
 import sys
@@ -52,12 +53,20 @@ def locks(talk, count):
         talk.ask(130, "unlock", talk.locked())
 
 
-def puts(talk, count):
+def puts(talk, count, first=0):
     token = talk.locked()
-    for number in range(count):
+    for number in range(first, first + count):
         data = number.to_bytes(8, "big")
         talk.ask(130, "put", token, "pack", sha256(data).digest(), data)
     talk.ask(130, "unlock", token)
+
+
+def crowded(talk, count):
+    for _ in range(255):
+        talk.locked()
+    for _ in range(1_023):
+        talk.ask(129, "ticket")
+    puts(talk, count, 1_000_000)
 
 
 def lists(talk, count):
@@ -70,5 +79,5 @@ def lists(talk, count):
 
 if __name__ == "__main__":
     talk = Talk(int(sys.argv[1]))
-    {"locks": locks, "puts": puts, "lists": lists}[sys.argv[2]](talk, int(sys.argv[3]))
+    {"locks": locks, "puts": puts, "crowded": crowded, "lists": lists}[sys.argv[2]](talk, int(sys.argv[3]))
     print(talk.count)

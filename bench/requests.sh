@@ -1,6 +1,7 @@
 #!/usr/bin/env bash
-# Times a server over a folder: 10,000 locks, each after a ticket and before its unlock; 10,000 puts of 8 bytes; and a listing
-# of a store with 10,000 packs, and of one with 100,000. What is printed is the server's processor time, with its start.
+# Times a server over a folder: 10,000 locks, each after a ticket and before its unlock; 10,000 puts of 8 bytes; a listing of a
+# store with 10,000 packs, and of one with 100,000; and 10,000 puts beside as many locks and tickets as a store has. What is printed
+# is the server's processor time, with its start.
 # Usage: bench/requests.sh PROGRAM FOLDER. PROGRAM is vault; FOLDER isn't there yet, best on a file system in memory, since
 # else the disk's syncs are timed.
 set -euo pipefail
@@ -38,3 +39,4 @@ for number in range(10_000, 100_000):
     Path(sys.argv[1], name[:2], name).write_bytes(data)
 MORE
 time_requests "a listing of 100,000 packs" lists 1
+time_requests "10,000 puts beside 255 locks" crowded 10000

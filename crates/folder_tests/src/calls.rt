@@ -2,7 +2,8 @@
 
 use repo_disk::{MemDisk, Stopping};
 use repo_folder::{DirShelf, Turn, live};
-use repo_name::{Bytes, Kind, name_of};
+use repo_locks::Ledger;
+use repo_name::{Bytes, Kind, Token, name_of};
 use repo_store::{Shelf, ShelfError, Slice};
 use std::alloc::{AllocError, Global};
 
@@ -60,6 +61,31 @@ fn each_call_is_answered(rt: HostRuntime) -> Result<(), ShelfError> {
         wrong = wrong.saturating_add(1);
     }
     assert_eq!(rt; wrong, 0);
+    Ok(())
+}
+
+/// Takes a lock alone for the next token.
+fn lock_alone(ledger: &mut Ledger) -> Option<Token> {
+    let token = ledger.ticket().ok()?;
+    ledger.lock(token, true, 5, "h").ok()?;
+    Some(token)
+}
+
+#[test]
+fn a_token_is_live_while_its_lock_is_kept(rt: HostRuntime) -> Result<(), ShelfError> {
+    let alloc = rt.alloc();
+    let mut shelf = DirShelf::create(stopping(alloc, u64::MAX), alloc)?;
+    let mut ledger = shelf.ledger()?;
+    let locked = lock_alone(&mut ledger);
+    shelf.save_ledger(&ledger)?;
+    let held = shelf.live_as(Token(1))?;
+    let other = shelf.live_as(Token(2))?;
+    let removed = ledger.unlock(Token(1));
+    shelf.save_ledger(&ledger)?;
+    let gone = shelf.live_as(Token(1))?;
+    assert_eq!(rt; locked, Some(Token(1)));
+    assert!(rt; removed);
+    assert!(rt; held == Some(true) && other.is_none() && gone.is_none());
     Ok(())
 }
 

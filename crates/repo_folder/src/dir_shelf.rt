@@ -16,7 +16,7 @@ use crate::places::{CONFIG, CONFIG_DRAFT, LEDGER, LEDGER_DRAFT, draft_of, room_o
 use crate::telling::told;
 use repo_disk::{Disk, Part, Room};
 use repo_locks::{Ledger, LedgerError};
-use repo_name::{Bytes, Kind, Name};
+use repo_name::{Bytes, Kind, Name, Token};
 use repo_store::{Page, Shelf, ShelfError, Slice};
 use std::alloc::Global;
 
@@ -125,6 +125,10 @@ impl<D: Disk> Shelf for DirShelf<D> {
     fn ledger(&mut self) -> Result<Ledger, ShelfError> {
         let bytes = told(self.folder.read(Room::Top, LEDGER))?;
         ledger_of(self.alloc, bytes)
+    }
+
+    fn live_as(&mut self, token: Token) -> Result<Option<bool>, ShelfError> {
+        Ok(self.ledger()?.live_as(token))
     }
 
     fn save_ledger(&mut self, ledger: &Ledger) -> Result<(), ShelfError> {

@@ -1,4 +1,4 @@
-use Rattle.std.proofs.Common.{arith, Vec, Global, ℕ, List, length, ◌≡◌, ◌≤◌, inl, inr, refl, sym, ap, subst, ◌∙◌, Ok, Err, Option, Some, None, is_some, Bool, true, false}
+use Rattle.std.proofs.Common.{arith, Vec, Global, ℕ, List, length, ◌≡◌, ◌≢◌, ◌≤◌, inl, inr, refl, sym, ap, subst, ◌∙◌, Ok, Err, Option, Some, None, Bool, true, false}
 use Rattle.std.proofs.lemmas.Option.{none-some}
 use Rattle.repo_name.specs.declared.kinds.Kind.{Kind}
 use Rattle.repo_name.specs.declared.names.Name.{Name}
@@ -8,7 +8,7 @@ use Rattle.repo_name.specs.declared.tokens.Token.{Token}
 use Rattle.repo_wire.specs.declared.messages.Ask.{Ask}
 use Rattle.repo_wire.specs.declared.messages.Say.{Say}
 use Rattle.repo_locks.specs.declared.outcomes.Grant.{Grant}
-use Rattle.repo_locks.specs.TokenMachine.{Tokens, live_as, is_live, is_fresh_or_live, TicketStep, LockStep, RefreshStep, UnlockStep}
+use Rattle.repo_locks.specs.TokenMachine.{Tokens, live_as, is_fresh_or_live, TicketStep, LockStep, RefreshStep, UnlockStep}
 use Rattle.repo_store.specs.declared.shelves.ShelfError.{ShelfError}
 use Rattle.repo_store.specs.Laws.{Writes}
 use Rattle.repo_store.specs.StoreMachine.{object_limit, Answers, Looks, IsQuiet, Step, refusal}
@@ -62,27 +62,20 @@ module _ (old : Store) (read tokens : Tokens) (is : read ≡ old.tokens) where
       let was : is_fresh_or_live old.tokens token ≡ true = subst (λ l. is_fresh_or_live l token ≡ true) is step.0 in
       let c : true ≡ false = sym was ∙ quiet in absurd (cc)
 
--- the ledger read says how a token is live in the store
-pub put_made : (old : Store) (read : Tokens) (token : Token) (kind : Kind) (name : Name) (bytes : List ℕ) → read ≡ old.tokens → length bytes ≤ object_limit kind
-    → is_live read token ≡ true → naming.name bytes ≡ name → (after : Store) → PutsObject kind name bytes old after → Answers old (Ask.Put token kind name bytes) Say.Done after
-put_made old read token kind name bytes is fits live same after puts =
-    let is_there : is_live old.tokens token ≡ true = subst (λ l. is_live l token ≡ true) is live in
-    inr (inr (inr (fits, (λ none. not_live (live_as old.tokens token) none is_there), same, refl, puts)))
-  where
-    not_live : (kind : Option Bool) → kind ≡ None → is_some kind ≡ true → ⊥
-    not_live None none there = absurd (cc)
-    not_live (Some x) none there = none-some x (sym none)
+-- what is read of a token is how it is live in the store
+pub put_made : (old : Store) (live : Option Bool) (token : Token) (kind : Kind) (name : Name) (bytes : List ℕ) → live ≡ live_as old.tokens token → length bytes ≤ object_limit kind
+    → live ≢ None → naming.name bytes ≡ name → (after : Store) → PutsObject kind name bytes old after → Answers old (Ask.Put token kind name bytes) Say.Done after
+put_made old live token kind name bytes is fits there same after puts = inr (inr (inr (fits, (λ none. there (is ∙ none)), same, refl, puts)))
 
-pub removed_made : (old : Store) (read : Tokens) (token : Token) (kind : Kind) (name : Name) → read ≡ old.tokens → old.append_only ≡ false
-    → live_as read token ≡ Some true → (after : Store) → RemovesObject kind name old after → Answers old (Ask.Delete token kind name) Say.Done after
-removed_made old read token kind name is deletes live after removes =
-    inr (deletes, inr (inr (subst (λ l. live_as l token ≡ Some true) is live, refl, removes)))
+pub removed_made : (old : Store) (live : Option Bool) (token : Token) (kind : Kind) (name : Name) → live ≡ live_as old.tokens token → old.append_only ≡ false
+    → live ≡ Some true → (after : Store) → RemovesObject kind name old after → Answers old (Ask.Delete token kind name) Say.Done after
+removed_made old live token kind name is deletes alone after removes = inr (deletes, inr (inr (sym is ∙ alone, refl, removes)))
 
 -- the config read is raised
-pub raised_made : (old : Store) (read : Tokens) (token : Token) (text anew : List ℕ) → read ≡ old.tokens → live_as read token ≡ Some true
+pub raised_made : (old : Store) (live : Option Bool) (token : Token) (text anew : List ℕ) → live ≡ live_as old.tokens token → live ≡ Some true
     → old.config ≡ Some text → IsUpgradeOf text anew → (after : Store) → SavesConfig anew old after → Answers old (Ask.Upgrade token) Say.Done after
-raised_made old read token text anew is live config due after saves =
-    inr (inr (subst (λ l. live_as l token ≡ Some true) is live, subst (λ found. RaiseAnswer found old Say.Done after) (sym config) (inr (inr (refl, (anew, due, saves))))))
+raised_made old live token text anew is alone config due after saves =
+    inr (inr (sym is ∙ alone, subst (λ found. RaiseAnswer found old Say.Done after) (sym config) (inr (inr (refl, (anew, due, saves))))))
 
 -- it isn't of version 2
 pub newly_raised : (old : Store) (token : Token) (text anew : List ℕ) → old.config ≡ Some text → IsUpgradeOf text anew → ¬ IsQuiet old (Ask.Upgrade token)
@@ -98,12 +91,12 @@ due_of None anew h = absurd (cc)
 due_of (Some text) anew h = (text, refl, h)
 
 -- a config that wasn't kept
-pub raise_failed : (old mid new : Store) (read : Tokens) (token : Token) (text anew : List ℕ) (e : ShelfError) → mid ≡ old → read ≡ old.tokens → live_as read token ≡ Some true → old.config ≡ Some text
+pub raise_failed : (old mid new : Store) (live : Option Bool) (token : Token) (text anew : List ℕ) (e : ShelfError) → mid ≡ old → live ≡ live_as old.tokens token → live ≡ Some true → old.config ≡ Some text
     → IsUpgradeOf text anew → Writes {T = Unit {0}} (SavesConfig anew) mid (Err e) new → Step old (Ask.Upgrade token) (refusal e) new
-raise_failed old mid new read token text anew ShelfError.Fault same is live config due (inl stays) = inr (tt, inl (refl, inl (stays ∙ same)))
-raise_failed old mid new read token text anew ShelfError.Fault same is live config due (inr saved) =
-    inr (tt, inl (refl, inr (Say.Done, raised_made old read token text anew is live config due new (subst (λ s. SavesConfig anew s new) same saved))))
-raise_failed old mid new read token text anew ShelfError.Memory same is live config due stays = inr (tt, inr (refl, stays ∙ same))
+raise_failed old mid new live token text anew ShelfError.Fault same is alone config due (inl stays) = inr (tt, inl (refl, inl (stays ∙ same)))
+raise_failed old mid new live token text anew ShelfError.Fault same is alone config due (inr saved) =
+    inr (tt, inl (refl, inr (Say.Done, raised_made old live token text anew is alone config due new (subst (λ s. SavesConfig anew s new) same saved))))
+raise_failed old mid new live token text anew ShelfError.Memory same is alone config due stays = inr (tt, inr (refl, stays ∙ same))
 
 pub ticket_failed : (old mid new : Store) (read tokens : Tokens) (token : Token) (e : ShelfError) → mid ≡ old → read ≡ old.tokens
     → TicketStep read (Ok token) tokens → Writes {T = Unit {0}} (SavesTokens tokens) mid (Err e) new → Step old Ask.Ticket (refusal e) new

@@ -4,7 +4,7 @@ ghost use Rattle.std.specs.Prelude.{◌≡◌};
 
 use crate::shelves::{Page, Shelf, ShelfError, Slice};
 use repo_locks::Ledger;
-use repo_name::{Bytes, Kind, Name};
+use repo_name::{Bytes, Kind, Name, Token};
 
 /// A shelf around another, whose store only appends: no request deletes an object of it.
 ///
@@ -73,6 +73,10 @@ impl<S: Shelf> Shelf for AppendOnly<S> {
 
     fn ledger(&mut self) -> Result<Ledger, ShelfError> {
         self.inner.ledger()
+    }
+
+    fn live_as(&mut self, token: Token) -> Result<Option<bool>, ShelfError> {
+        self.inner.live_as(token)
     }
 
     fn save_ledger(&mut self, ledger: &Ledger) -> Result<(), ShelfError> {

@@ -3,6 +3,7 @@
 ghost use Rattle.std.specs.Prelude.{◌≡◌, ◌≢◌, ◌≤◌, ◌+◌, ◌^◌, ◌-◌, ℕ, min, length, option_map, All, Bool, true, false, Some, None, IfOk, IsErrOf};
 ghost use Rattle.repo_name.specs.declared.kinds.Kind.{Kind};
 ghost use Rattle.repo_name.specs.Naming.{IsName};
+ghost use Rattle.repo_locks.specs.TokenMachine.{live_as};
 ghost use Rattle.repo_store.specs.Faults.{fails_reading, fails_writing, one_less, count_of, ReadsAsArmed, WritesThenFails};
 ghost use Rattle.repo_store.specs.Laws.{Reads, Writes, HasCause};
 ghost use Rattle.repo_store.specs.Pages.{ReadsPage};
@@ -14,7 +15,7 @@ ghost use Rattle.repo_store.specs.declared.shelves.ShelfError.{ShelfError};
 
 use crate::shelves::{Page, Shelf, ShelfError, Slice};
 use repo_locks::Ledger;
-use repo_name::{Bytes, Kind, Name};
+use repo_name::{Bytes, Kind, Name, Token};
 
 /// The call that is to fail next.
 #[derive(Clone, Copy, Debug, PartialEq, Eq)]
@@ -223,6 +224,19 @@ impl<S: Shelf> Shelf for FaultShelf<S> {
             return Err(ShelfError::Fault);
         }
         self.inner.ledger()
+    }
+
+    fn live_as(&mut self, token: Token) -> Result<Option<bool>, ShelfError>
+        ensures law { S.honest self.old.inner → Reads (λ live. live ≡ live_as (S.store self.old.inner).tokens token) (S.store self.old.inner) result (S.store self.new.inner) }
+        ensures cause { S.honest self.old.inner → HasCause (count_of (S.failed self.old.inner) self.old.count) result (count_of (S.failed self.new.inner) self.new.count) }
+        ensures armed { S.honest self.old.inner → ReadsAsArmed self.old.armed (S.failed self.old.inner) result self.new.armed (S.failed self.new.inner) }
+        ensures honest { S.honest self.old.inner → S.honest self.new.inner }
+        ensures quiet { S.writes self.new.inner ≡ S.writes self.old.inner }
+    {
+        if self.fails_reading() {
+            return Err(ShelfError::Fault);
+        }
+        self.inner.live_as(token)
     }
 
     fn save_ledger(&mut self, ledger: &Ledger) -> Result<(), ShelfError> {

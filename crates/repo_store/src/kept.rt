@@ -11,7 +11,7 @@ use crate::memory::page_after;
 use crate::pages::all_names;
 use crate::shelves::{Page, Shelf, ShelfError, Slice};
 use repo_locks::Ledger;
-use repo_name::{Bytes, Kind, Name};
+use repo_name::{Bytes, Kind, Name, Token};
 use std::alloc::Global;
 
 /// A shelf around another, which reads the ledger and the names of each kind once, and remembers them. So
@@ -159,6 +159,16 @@ impl<S: Shelf> Shelf for Kept<S> {
         let copied = ledger.copy();
         self.known.ledger = Some(ledger);
         Ok(copied?)
+    }
+
+    fn live_as(&mut self, token: Token) -> Result<Option<bool>, ShelfError> {
+        if let Some(ledger) = &self.known.ledger {
+            return Ok(ledger.live_as(token));
+        }
+        let ledger = self.inner.ledger()?;
+        let live = ledger.live_as(token);
+        self.known.ledger = Some(ledger);
+        Ok(live)
     }
 
     fn save_ledger(&mut self, ledger: &Ledger) -> Result<(), ShelfError> {

@@ -10,7 +10,7 @@ ghost use Rattle.repo_store.specs.Stores.{empty};
 
 use crate::shelves::{Page, Shelf, ShelfError, Slice};
 use repo_locks::Ledger;
-use repo_name::{Bytes, Kind, Name, Names, insert_named, remove_named};
+use repo_name::{Bytes, Kind, Name, Names, Token, insert_named, remove_named};
 use std::alloc::{AllocError, Global};
 use std::collections::BTreeMap;
 use std::ops::Bound;
@@ -201,6 +201,10 @@ impl Shelf for MemShelf {
 
     fn ledger(&mut self) -> Result<Ledger, ShelfError> {
         Ok(self.ledger.copy()?)
+    }
+
+    fn live_as(&mut self, token: Token) -> Result<Option<bool>, ShelfError> {
+        Ok(self.ledger.live_as(token))
     }
 
     fn save_ledger(&mut self, ledger: &Ledger) -> Result<(), ShelfError> {

@@ -133,11 +133,11 @@ pub fn answer_put<S: Shelf>(
     if bytes.len() > limit_of(kind) {
         return Say::Refused(Code::TooLarge);
     }
-    let ledger = match shelf.ledger() {
-        Ok(ledger) => ledger,
+    let live = match shelf.live_as(token) {
+        Ok(live) => live,
         Err(error) => return refusal(error),
     };
-    if !ledger.is_live(token) {
+    if live.is_none() {
         return Say::Refused(Code::Dead);
     }
     if name_of(bytes) != *name {
@@ -163,11 +163,11 @@ pub fn answer_delete<S: Shelf>(shelf: &mut S, token: Token, kind: Kind, name: &N
     if shelf.append_only() {
         return Say::Refused(Code::AppendOnly);
     }
-    let ledger = match shelf.ledger() {
-        Ok(ledger) => ledger,
+    let live = match shelf.live_as(token) {
+        Ok(live) => live,
         Err(error) => return refusal(error),
     };
-    match ledger.live_as(token) {
+    match live {
         None => return Say::Refused(Code::Dead),
         Some(false) => return Say::Refused(Code::NotExclusive),
         Some(true) => {}

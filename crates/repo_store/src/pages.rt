@@ -1,10 +1,10 @@
 //! Pages of names, and all of them in a set.
 
-ghost use Rattle.std.specs.Prelude.{◌≡◌, ◌↔◌, [], Some, IfNone, IfSome, IsTrue, OnOk};
+ghost use Rattle.std.specs.Prelude.{◌≡◌, ◌↔◌, ◌<◌, ◌-◌, ◌^◌, None, false, length, IsTrue, OnOk};
 ghost use Rattle.repo_store.specs.Faults.{MayReadAsArmed};
 ghost use Rattle.repo_store.specs.Kept.{PageJoins, ReadsNames};
 ghost use Rattle.repo_store.specs.Laws.{HasCause};
-ghost use Rattle.repo_store.specs.Pages.{Above, NamesAscend, Has, PageRises};
+ghost use Rattle.repo_store.specs.Pages.{Above, NamesAscend, PageRises};
 
 use crate::known::NameSet;
 use crate::shelves::{Shelf, ShelfError};
@@ -27,10 +27,14 @@ fn is_above(after: Option<Name>, name: Name) -> bool
 fn ascend(after: Option<Name>, names: &[Name]) -> bool
     ensures { IsTrue result ↔ NamesAscend after names.now }
 {
-    match names {
-        [] => true,
-        [first, rest @ ..] => is_above(after, *first) && ascend(Some(*first), rest),
+    let mut last = after;
+    for name in names {
+        if !is_above(last, *name) {
+            return false;
+        }
+        last = Some(*name);
     }
+    true
 }
 
 /// Whether a page rises: its names ascend, all above the given one, and there is one where more follow.
@@ -38,18 +42,6 @@ pub fn rises(after: Option<Name>, more: bool, names: &[Name]) -> bool
     ensures { IsTrue result ↔ PageRises after more names.now }
 {
     ascend(after, names) && !(more && names.is_empty())
-}
-
-/// The last of some names, if there is one.
-fn last_of(names: &[Name]) -> Option<Name>
-    ensures some { IfSome result (Has names.now) }
-    ensures none { IfNone result (names.now ≡ []) }
-{
-    match names {
-        [] => None,
-        [last] => Some(*last),
-        [_, rest @ ..] => last_of(rest),
-    }
 }
 
 /// The names of a page join a set. It fails for memory alone.
@@ -62,14 +54,19 @@ fn join(names: &mut NameSet, page: &[Name]) -> Result<(), AllocError>
     Ok(())
 }
 
-/// How many names a page has at most that is asked for.
-const PAGE: usize = 256;
+/// More names than any page has.
+const ALL: usize = usize::MAX;
 
-/// The most pages that are asked for.
-const PAGES: u64 = 1 << 32;
+/// Whether a page from the first name on has all names: they ascend, and none follow. No page has `ALL` of them.
+fn is_whole(more: bool, names: &[Name]) -> bool
+    ensures whole { IsTrue result ↔ (more ≡ false) × NamesAscend None names.now }
+    ensures fewer { length names.now < 2 ^ 64 - 1 }
+{
+    !more && names.len() < ALL && ascend(None, names)
+}
 
-/// All names of a kind, asked for page by page. `Fault` is told, too, where a page doesn't rise, which an
-/// honest shelf never causes; and `Memory` where after 2^32 pages more follow.
+/// All names of a kind, asked for as one page, so that a folder is read once. `Fault` is told, too, where its
+/// names don't ascend or more follow them, which an honest shelf never causes.
 pub fn all_names<S: Shelf>(alloc: Global, shelf: &mut S, kind: Kind) -> Result<NameSet, ShelfError>
     ensures law { S.honest shelf.old → ReadsNames kind (S.store shelf.old) result (S.store shelf.new) }
     ensures cause { S.honest shelf.old → HasCause (S.failed shelf.old) result (S.failed shelf.new) }
@@ -77,18 +74,12 @@ pub fn all_names<S: Shelf>(alloc: Global, shelf: &mut S, kind: Kind) -> Result<N
     ensures honest { S.honest shelf.old → S.honest shelf.new }
     ensures quiet { S.writes shelf.new ≡ S.writes shelf.old }
 {
-    let mut names = BTreeMap::new(alloc);
-    let mut last = None;
-    for turn in 0..PAGES {
-        let page = shelf.names_after(kind, last.as_ref(), PAGE)?;
-        if !rises(last, page.more, page.names.as_slice()) {
-            return Err(ShelfError::Fault);
-        }
-        join(&mut names, page.names.as_slice())?;
-        if !page.more {
-            return Ok(names);
-        }
-        last = last_of(page.names.as_slice());
+    let page = shelf.names_after(kind, None, ALL)?;
+    let listed = page.names.as_slice();
+    if !is_whole(page.more, listed) {
+        return Err(ShelfError::Fault);
     }
-    Err(ShelfError::Memory)
+    let mut names = BTreeMap::new(alloc);
+    join(&mut names, listed)?;
+    Ok(names)
 }

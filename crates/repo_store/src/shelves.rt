@@ -3,6 +3,7 @@
 ghost use Rattle.std.specs.Prelude.{◌≡◌, ◌≤◌, ◌+◌, ℕ, length, option_map, All, IfOk};
 ghost use Rattle.repo_name.specs.declared.kinds.Kind.{Kind};
 ghost use Rattle.repo_name.specs.Naming.{IsName};
+ghost use Rattle.repo_locks.specs.TokenMachine.{live_as};
 ghost use Rattle.repo_store.specs.Faults.{ReadsAsArmed, MayReadAsArmed, MakesAsArmed};
 ghost use Rattle.repo_store.specs.Laws.{Reads, Writes, HasCause};
 ghost use Rattle.repo_store.specs.Pages.{ReadsPage};
@@ -11,7 +12,7 @@ ghost use Rattle.repo_store.specs.declared.faults.Armed.{Armed};
 ghost use Rattle.repo_store.specs.Stores.{Store, PutsObject, RemovesObject, SavesTokens, SavesConfig};
 
 use repo_locks::Ledger;
-use repo_name::{Bytes, Kind, Name, Names};
+use repo_name::{Bytes, Kind, Name, Names, Token};
 use std::alloc::AllocError;
 use thiserror::Error;
 
@@ -123,6 +124,15 @@ pub trait Shelf {
     /// The ledger, as it was saved last. It changes nothing but the count of failures.
     fn ledger(&mut self) -> Result<Ledger, ShelfError>
         ensures law { honest self.old → Reads (λ ledger. ledger ≡ (store self.old).tokens) (store self.old) result (store self.new) }
+        ensures cause { honest self.old → HasCause (failed self.old) result (failed self.new) }
+        ensures armed { honest self.old → MayReadAsArmed (armed self.old) (own self.old) result (armed self.new) (own self.new) }
+        ensures honest { honest self.old → honest self.new }
+        ensures quiet { writes self.new ≡ writes self.old };
+
+    /// How a token's lock is live, by the ledger as it was saved last: `None` where it isn't, else whether it is
+    /// exclusive. It changes nothing but the count of failures.
+    fn live_as(&mut self, token: Token) -> Result<Option<bool>, ShelfError>
+        ensures law { honest self.old → Reads (λ live. live ≡ live_as (store self.old).tokens token) (store self.old) result (store self.new) }
         ensures cause { honest self.old → HasCause (failed self.old) result (failed self.new) }
         ensures armed { honest self.old → MayReadAsArmed (armed self.old) (own self.old) result (armed self.new) (own self.new) }
         ensures honest { honest self.old → honest self.new }

@@ -73,11 +73,11 @@ pub fn answer_upgrade<S: Shelf>(alloc: Global, shelf: &mut S, token: Token) -> S
     ensures ruled_out { IsRuledOut result → S.writes shelf.new ≡ S.writes shelf.old }
     ensures within { IsSay result × IsShortSay result }
 {
-    let ledger = match shelf.ledger() {
-        Ok(ledger) => ledger,
+    let live = match shelf.live_as(token) {
+        Ok(live) => live,
         Err(error) => return refusal(error),
     };
-    match ledger.live_as(token) {
+    match live {
         None => return Say::Refused(Code::Dead),
         Some(false) => return Say::Refused(Code::NotExclusive),
         Some(true) => {}

@@ -1,9 +1,9 @@
-//! The pages that a shelf is remembered by: more than one, and those of a shelf whose pages don't rise, of which a list is a
-//! fault and nothing else.
+//! The page that a shelf is remembered by: one of more names than a client's, and that of a shelf whose page doesn't rise or
+//! isn't the last one, of which a list is a fault and nothing else.
 
 use crate::asks::said;
 use repo_locks::Ledger;
-use repo_name::{Bytes, Kind, Name, Names};
+use repo_name::{Bytes, Kind, Name, Names, Token};
 use repo_store::{Kept, MemShelf, Page, Shelf, ShelfError, Slice};
 use repo_wire::{Ask, Code, Say};
 use std::alloc::Global;
@@ -59,6 +59,10 @@ impl Shelf for OnePage {
 
     fn ledger(&mut self) -> Result<Ledger, ShelfError> {
         Ok(Ledger::new(self.alloc))
+    }
+
+    fn live_as(&mut self, _: Token) -> Result<Option<bool>, ShelfError> {
+        Ok(None)
     }
 
     fn save_ledger(&mut self, _: &Ledger) -> Result<(), ShelfError> {
@@ -130,7 +134,7 @@ impl Trial {
 }
 
 #[test]
-fn pages_that_do_not_rise_are_a_fault(rt: HostRuntime) {
+fn pages_that_do_not_rise_or_have_more_behind_them_are_a_fault(rt: HostRuntime) {
     let mut trial = Trial {
         alloc: rt.alloc(),
         differ: 0,
@@ -138,6 +142,7 @@ fn pages_that_do_not_rise_are_a_fault(rt: HostRuntime) {
     trial.is_a_fault(&[HIGH, LOW], false);
     trial.is_a_fault(&[LOW, LOW], false);
     trial.is_a_fault(&[LOW], true);
+    trial.is_a_fault(&[LOW, HIGH], true);
     trial.is_a_fault(&[], true);
     trial.is_given(&[LOW, HIGH]);
     trial.is_given(&[]);
