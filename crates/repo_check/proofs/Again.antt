@@ -1,33 +1,29 @@
 -- A survey asks for nothing again.
-use Rattle.std.proofs.Common.{◌≡◌, ◌∷◌, [], ℕ, zero, suc, List, length, map, take, slice_get, Option, Some, None, refl, sym, ap, subst, inl, inr, ◌∙◌}
+use Rattle.std.proofs.Common.{◌≡◌, ◌-◌, ◌∷◌, [], ℕ, zero, suc, arith, List, length, map, take, slice_get, Option, Some, None, refl, sym, ap, subst, inl, inr, ◌∙◌}
 use Rattle.repo_name.specs.Naming.{Before}
+use Rattle.repo_index.specs.Order.{names_total}
 use Rattle.repo_name.specs.declared.kinds.Kind.{Kind}
 use Rattle.repo_name.specs.declared.names.Name.{Name}
 use Rattle.repo_wire.specs.declared.messages.Ask.{Ask}
 use Rattle.repo_wire.specs.declared.messages.Code.{Code}
 use Rattle.repo_wire.specs.declared.messages.Say.{Say}
-use Rattle.repo_store.specs.Pages.{Has, NamesAscend}
+use Rattle.repo_store.specs.Pages.{Above, Has, NamesAscend}
 use Rattle.repo_session.specs.Blobs.{range_of}
-use Rattle.repo_session.specs.Traces.{Exchanged, Trace, WasAsked}
+use Rattle.repo_session.specs.Order.{IsNextPage, May, Task, last_of}
+use Rattle.repo_session.specs.Traces.{Exchanged, Trace, WasAsked, names_in}
 use Rattle.repo_session.proofs.Rolling.{has_got}
 use Rattle.repo_check.specs.Answers.{Answer, IsAnswer}
 use Rattle.repo_check.specs.Arrivals.{IsIndexOf, IsPackOf, IsRootOf}
 use Rattle.repo_check.specs.Checking.{IsNew}
 use Rattle.repo_check.specs.Laws.{HeardOnce}
-use Rattle.repo_check.specs.Rounds.{AreNoted, IsGetting, KnowsRound, RoundView}
+use Rattle.repo_check.specs.Rounds.{AreNoted, ArePast, IsGetting, KnowsRound, RoundView}
 use Rattle.repo_check.specs.Surveys.{AtTrees, KnowsNotes, RoundsView, Surveys}
 use Rattle.repo_check.specs.Walks.{IsSettled, WalkView}
 use Rattle.repo_check.proofs.Finding.{beyond, got_once, has_name, not_before}
 use Rattle.repo_check.proofs.Reading.{seen_settled}
-use Rattle.repo_check.proofs.Rounding.{got_now}
+use Rattle.repo_check.proofs.Rounding.{got_now, heard_of}
 use Rattle.repo_check.proofs.Trailing.{was_read}
 use Rattle.repo_check.proofs.Walking.{due_not_settled}
-
--- to what was asked something was said
-heard_of : (es : Trace) (ask : Ask) → WasAsked es ask → (say : Say) × Exchanged es ask say
-heard_of [] ask h = absurd h
-heard_of (e ∷ es) ask (inl here) = (e.say, inl (here, refl))
-heard_of (e ∷ es) ask (inr before) = let more = heard_of es ask before in (more.0, inr more.1)
 
 -- what was said is what came
 say_of : Option (List ℕ) → Say
@@ -71,6 +67,28 @@ not_among after (m ∷ names) zero n h next has = has
 not_among after (m ∷ names) (suc i) n h next (inl is) = not_before m (subst (λ o. Before m o) is (beyond m names h.1 n (has_got names i n next)))
 not_among after (m ∷ names) (suc i) n h next (inr more) = not_among (Some m) names i n h.1 next more
 
+-- behind the last of names that ascend comes none of them
+above_more : (a : Option Name) (n m : Name) → Above a n → Before n m → Above a m
+above_more None n m above before = tt
+above_more (Some b) n m above before = names_total.trans b n m above before
+
+none_past : (a : Option Name) (names : List Name) → NamesAscend a names → (n : Name) → Has names n → (last : Option Name) → last_of names ≡ last → Above last n → ⊥
+none_past a [] h n has last is above = has
+none_past a (x ∷ []) h n (inl same) last is above = not_before x (subst (λ m. Before x m) same (subst (λ o. Above o n) (sym is) above))
+none_past a (x ∷ []) h n (inr more) last is above = more
+none_past a (x ∷ y ∷ names) h n (inl same) last is above =
+    let step : length (x ∷ y ∷ names) - 1 ≡ suc (length (y ∷ names) - 1) = omega arith in
+    none_past (Some x) (y ∷ names) h.1 y (inl refl) last (sym (ap (λ i. slice_get (x ∷ y ∷ names) i) step) ∙ is) (above_more last x y (subst (λ m. Above last m) same above) h.1.0)
+none_past a (x ∷ y ∷ names) h n (inr more) last is above =
+    let step : length (x ∷ y ∷ names) - 1 ≡ suc (length (y ∷ names) - 1) = omega arith in
+    none_past (Some x) (y ∷ names) h.1 n more last (sym (ap (λ i. slice_get (x ∷ y ∷ names) i) step) ∙ is) above
+
+-- the next page wasn't asked for
+page_new : (k : Kind) (after : Option Name) (names : List Name) (es : Trace) → IsNextPage k after es → names_in k es ≡ names → ArePast k names es → WasAsked es (Ask.List k after) → ⊥
+page_new k after names es next listed past was =
+    let p = past after was in
+    none_past None names (subst (λ ns. NamesAscend None ns) listed next.rise.ascend) p.0 p.1 after (sym (next.last ∙ ap last_of listed)) p.2
+
 module _ {T : Type 0} (k : Kind) (Gives : Answer → T → Type 0) (round : RoundView T) (es : Trace) (noted : AreNoted k Gives round.names round.notes es) where
   -- the next object wasn't asked for
   never_got : (n : Name) → IsGetting k round n es → WasAsked es (Ask.Get k n) → ⊥
@@ -81,19 +99,21 @@ module _ {T : Type 0} (k : Kind) (Gives : Answer → T → Type 0) (round : Roun
       let has : Has (map (λ (b : Answer). b.name) noted.answers) n = subst (λ m. Has (map (λ (b : Answer). b.name) noted.answers) m) named (has_name noted.answers a.0 a.1) in
       not_among None round.names (length round.notes) n (subst (λ ns. NamesAscend None ns) getting.paged.listed getting.paged.rise.ascend) getting.next (subst (λ ns. Has ns n) noted.named has)
 
-  round_new : (ask : Ask) → KnowsRound k round ask es → IsNew es ask
-  round_new (Ask.List j after) h = tt
-  round_new (Ask.Get j n) h = λ was. never_got n h.1 (subst (λ i. WasAsked es (Ask.Get i n)) h.0 was)
-  round_new Ask.Ticket h = absurd h
-  round_new (Ask.Lock row) h = absurd h
-  round_new (Ask.Refresh token time) h = absurd h
-  round_new (Ask.Unlock token) h = absurd h
-  round_new Ask.Locks h = absurd h
-  round_new (Ask.Range pack offset len) h = absurd h
-  round_new (Ask.Put token j n x) h = absurd h
-  round_new (Ask.Delete token j n) h = absurd h
-  round_new (Ask.Upgrade token) h = absurd h
-  round_new Ask.Config h = absurd h
+  round_new : (task : Task) (ask : Ask) → May task es ask → KnowsRound k round ask es → IsNew es ask
+  round_new task (Ask.List j after) may h =
+      let next = subst (λ i. IsNextPage i after es) h.0 may.1 in
+      λ was. page_new k after round.names es next h.1.rolled.paged.listed h.1.past (subst (λ i. WasAsked es (Ask.List i after)) h.0 was)
+  round_new task (Ask.Get j n) may h = λ was. never_got n h.1 (subst (λ i. WasAsked es (Ask.Get i n)) h.0 was)
+  round_new task Ask.Ticket may h = absurd h
+  round_new task (Ask.Lock row) may h = absurd h
+  round_new task (Ask.Refresh token time) may h = absurd h
+  round_new task (Ask.Unlock token) may h = absurd h
+  round_new task Ask.Locks may h = absurd h
+  round_new task (Ask.Range pack offset len) may h = absurd h
+  round_new task (Ask.Put token j n x) may h = absurd h
+  round_new task (Ask.Delete token j n) may h = absurd h
+  round_new task (Ask.Upgrade token) may h = absurd h
+  round_new task Ask.Config may h = absurd h
 
 -- where a tree's place was asked for, it was for another tree
 range_new : (rounds : RoundsView) (walk : WalkView) (ask : Ask) (es : Trace) → KnowsNotes rounds es → AtTrees rounds walk ask es → IsNew es ask
@@ -109,8 +129,8 @@ range_new rounds walk ask es notes at = subst (λ a. IsNew es a) (sym at.asked) 
       gives_other = was_read rounds walk.known.facts _ es notes at.objects.facts at.awaits.due.least.among;
     })
 
-pub survey_new : (rounds : RoundsView) (walk : WalkView) (ask : Ask) (es : Trace) → Surveys rounds walk ask es → IsNew es ask
-survey_new rounds walk ask es (notes, inl at) = round_new Kind.Snapshot IsRootOf rounds.snapshots es notes.snapshots ask at.snapshots
-survey_new rounds walk ask es (notes, inr (inl at)) = round_new Kind.Index IsIndexOf rounds.indexes es notes.indexes ask at.indexes
-survey_new rounds walk ask es (notes, inr (inr (inl at))) = round_new Kind.Pack IsPackOf rounds.packs es notes.packs ask at.packs
-survey_new rounds walk ask es (notes, inr (inr (inr at))) = range_new rounds walk ask es notes at
+pub survey_new : (task : Task) (rounds : RoundsView) (walk : WalkView) (ask : Ask) (es : Trace) → May task es ask → Surveys rounds walk ask es → IsNew es ask
+survey_new task rounds walk ask es may (notes, inl at) = round_new Kind.Snapshot IsRootOf rounds.snapshots es notes.snapshots task ask may at.snapshots
+survey_new task rounds walk ask es may (notes, inr (inl at)) = round_new Kind.Index IsIndexOf rounds.indexes es notes.indexes task ask may at.indexes
+survey_new task rounds walk ask es may (notes, inr (inr (inl at))) = round_new Kind.Pack IsPackOf rounds.packs es notes.packs task ask may at.packs
+survey_new task rounds walk ask es may (notes, inr (inr (inr at))) = range_new rounds walk ask es notes at

@@ -57,7 +57,7 @@ reads_works Ask.Config h = absurd h
 pub may_ask : (j : CheckJob) (who : Asker) (es : Trace) (ask : Ask) → May (check_task who) es ask → KnowsCheck j ask es → MayAsk check_rule who (KnowsCheck j) es ask
 may_ask j who es ask may knows =
     let reads = survey_reads _ _ ask es knows in
-    record { work = reads_works ask reads; may = may; allowed = (reads, survey_new _ _ ask es knows); knows = knows }
+    record { work = reads_works ask reads; may = may; allowed = (reads, survey_new (check_task who) _ _ ask es may knows); knows = knows }
 
 -- an outcome by the rule alone, which is no fault
 pub concludes : (known : ℕ) (es : Trace) (outcome : Outcome) → CheckConcludes es outcome → MayConclude known true CheckConcludes es outcome

@@ -1,5 +1,5 @@
 -- A round over the objects of one kind.
-use Rattle.std.proofs.Common.{arith, ◌≡◌, ◌≤◌, ◌+◌, ◌++◌, ◌∷◌, [], ℕ, Bool, true, false, List, length, map, take, slice_get, suc, cond, Option, Some, None, refl, sym, ap, subst, inl, inr, ◌∙◌, length-append, Contains}
+use Rattle.std.proofs.Common.{arith, ◌≡◌, ◌≢◌, ◌≤◌, ◌+◌, ◌++◌, ◌∷◌, [], ℕ, Bool, true, false, List, length, map, take, slice_get, suc, cond, Option, Some, None, refl, sym, ap, subst, inl, inr, ◌∙◌, length-append, Contains}
 use Rattle.std.proofs.lemmas.List.{append-nil, take_all}
 use Rattle.std.proofs.lemmas.List.Elements.{Contains-append_left, Contains-append_right}
 use Rattle.std.proofs.lemmas.Option.{slice_get_within, get_or_from_slice_get}
@@ -12,12 +12,13 @@ use Rattle.repo_name.specs.declared.tokens.Token.{Token}
 use Rattle.repo_wire.specs.declared.messages.Ask.{Ask}
 use Rattle.repo_wire.specs.declared.messages.Code.{Code}
 use Rattle.repo_wire.specs.declared.messages.Say.{Say}
-use Rattle.repo_store.specs.Pages.{Has}
+use Rattle.repo_store.specs.Pages.{Above, Has, NamesAscend}
+use Rattle.repo_store.proofs.PageLemmas.{has_left, has_right}
 use Rattle.repo_session.specs.Ends.{IsOfOtherVersion}
 use Rattle.repo_session.specs.Order.{Task, IsWorking, May}
 use Rattle.repo_session.specs.Readings.{KnowsRoll}
 use Rattle.repo_session.specs.Rolls.{IsNamedObject, IsPaged, IsRolled}
-use Rattle.repo_session.specs.Traces.{Each, Exchange, Exchanged, Trace, Object, same_kind, page_names, is_last_page, object_got, objects_in, silent}
+use Rattle.repo_session.specs.Traces.{Each, Exchange, Exchanged, Trace, WasAsked, Object, same_kind, page_names, is_last_page, object_got, objects_in, silent}
 use Rattle.repo_session.proofs.Rolling.{has_got, paged_on}
 use Rattle.repo_session.specs.Versions.{upto}
 use Rattle.repo_session.specs.declared.versions.Versions.{Versions}
@@ -25,7 +26,7 @@ use Rattle.repo_reach.specs.declared.roots.Root.{Root}
 use Rattle.repo_check.specs.Answers.{Answer, IsAnswer}
 use Rattle.repo_check.specs.Arrivals.{IsRootOf, TellsNothing}
 use Rattle.repo_check.specs.Checking.{CameFor, AreGot}
-use Rattle.repo_check.specs.Rounds.{IsUntouched, RoundIsListing, IsWholeRound, AsksNext, KnowsRound, TurnsOn, TakesObject, TakesSnapshot, Match, IsNoteOf, AreNoted, RoundView, round_of}
+use Rattle.repo_check.specs.Rounds.{ArePast, IsUntouched, RoundIsListing, IsWholeRound, AsksNext, KnowsRound, TurnsOn, TakesObject, TakesSnapshot, Match, IsNoteOf, AreNoted, RoundView, round_of}
 use Rattle.repo_check.specs.declared.rounds.Note.{Note}
 use Rattle.repo_check.specs.declared.rounds.Round.{Round}
 use Rattle.repo_check.specs.declared.rounds.Turn.{Turn}
@@ -57,12 +58,13 @@ module _ {T : Type 0} where
       (sym h.of_kind, h.none_read, subst (λ j. R j round.read) (sym h.of_kind) (subst (λ read. R k read) (sym h.none_read) h.rolled))
 
   -- and what the round knows of it
-  pub roll_known : (k : Kind) (own : Round T) (ask : Ask) (es : Trace) → own.roll.kind ≡ k → own.roll.read ≡ 0 → own.notes.items ≡ [] → KnowsRoll own.roll ask es → KnowsRound k (round_of own) ask es
-  roll_known k own (Ask.List j after) es kind read none h =
+  pub roll_known : (k : Kind) (own : Round T) (ask : Ask) (es : Trace) → own.roll.kind ≡ k → own.roll.read ≡ 0 → own.notes.items ≡ [] → ArePast k own.roll.names.items es → KnowsRoll own.roll ask es
+      → KnowsRound k (round_of own) ask es
+  roll_known k own (Ask.List j after) es kind read none past h =
       let round = round_of own in
       let R : Kind → ℕ → Type 0 = λ i n. IsRolled i round.names n false es in
-      (h.0 ∙ kind, record { of_kind = kind; none_read = read; rolled = subst (λ i. R i 0) kind (subst (λ n. R round.kind n) read h.2); none = none })
-  roll_known k own (Ask.Get j n) es kind read none h =
+      (h.0 ∙ kind, record { of_kind = kind; none_read = read; rolled = subst (λ i. R i 0) kind (subst (λ n. R round.kind n) read h.2); past = past; none = none })
+  roll_known k own (Ask.Get j n) es kind read none past h =
       let round = round_of own in (
         h.0 ∙ kind,
         record {
@@ -71,16 +73,16 @@ module _ {T : Type 0} where
           next = ap (λ i. slice_get round.names i) (ap length none ∙ sym read) ∙ h.1;
         },
       )
-  roll_known k own Ask.Ticket es kind read none h = absurd h
-  roll_known k own (Ask.Lock row) es kind read none h = absurd h
-  roll_known k own (Ask.Refresh token time) es kind read none h = absurd h
-  roll_known k own (Ask.Unlock token) es kind read none h = absurd h
-  roll_known k own Ask.Locks es kind read none h = absurd h
-  roll_known k own (Ask.Range pack offset len) es kind read none h = absurd h
-  roll_known k own (Ask.Put token j n x) es kind read none h = absurd h
-  roll_known k own (Ask.Delete token j n) es kind read none h = absurd h
-  roll_known k own (Ask.Upgrade token) es kind read none h = absurd h
-  roll_known k own Ask.Config es kind read none h = absurd h
+  roll_known k own Ask.Ticket es kind read none past h = absurd h
+  roll_known k own (Ask.Lock row) es kind read none past h = absurd h
+  roll_known k own (Ask.Refresh token time) es kind read none past h = absurd h
+  roll_known k own (Ask.Unlock token) es kind read none past h = absurd h
+  roll_known k own Ask.Locks es kind read none past h = absurd h
+  roll_known k own (Ask.Range pack offset len) es kind read none past h = absurd h
+  roll_known k own (Ask.Put token j n x) es kind read none past h = absurd h
+  roll_known k own (Ask.Delete token j n) es kind read none past h = absurd h
+  roll_known k own (Ask.Upgrade token) es kind read none past h = absurd h
+  roll_known k own Ask.Config es kind read none past h = absurd h
 
 -- ---- exchanges of another kind
 
@@ -175,15 +177,32 @@ module _ (k : Kind) where
   pub paged_aside : (names : List Name) (whole : Bool) (e : Exchange) (es : Trace) → IsAside k e.ask → IsPaged k names whole es → IsPaged k names whole (e ∷ es)
   paged_aside names whole e es aside h = paged_on k e names whole es (no_names e.ask e.say aside) (no_last e.ask e.say aside) (no_list e.ask aside) h
 
+  past_aside : (names : List Name) (e : Exchange) (es : Trace) → IsAside k e.ask → ArePast k names es → ArePast k names (e ∷ es)
+  past_aside names e es aside past after (inl is) = absurd (no_list e.ask aside after is)
+  past_aside names e es aside past after (inr was) = past after was
+
   pub untouched_aside : (e : Exchange) (es : Trace) → IsAside k e.ask → IsUntouched k es → IsUntouched k (e ∷ es)
   untouched_aside e es aside h =
       let same : objects_in k es ++ object_got k e.ask e.say ≡ objects_in k es = ap (λ os. objects_in k es ++ os) (no_object e.ask e.say aside) ∙ append-nil (objects_in k es) in
       record {
-        paged = paged_aside [] false e es aside h.paged;
-        within = h.within;
-        received = ap (λ os. map (λ (o : Object). o.name) os) same ∙ h.received;
-        named = subst (λ os. Each IsNamedObject os) (sym same) h.named;
+        rolled = record {
+          paged = paged_aside [] false e es aside h.rolled.paged;
+          within = h.rolled.within;
+          received = ap (λ os. map (λ (o : Object). o.name) os) same ∙ h.rolled.received;
+          named = subst (λ os. Each IsNamedObject os) (sym same) h.rolled.named;
+        };
+        past = past_aside [] e es aside h.past;
       }
+
+  -- a page that was asked for behind the names so far, and rose behind them
+  pub past_on : (names page : List Name) (after : Option Name) (say : Say) (es : Trace) → NamesAscend after page → page ≢ [] → ArePast k names es → ArePast k (names ++ page) (silent (Ask.List k after) say ∷ es)
+  past_on names [] after say es rises some past a was = absurd (some refl)
+  past_on names (n ∷ page) after say es rises some past a (inl is) =
+      let same : after ≡ a = cc in
+      (n, has_right names (n ∷ page) n (inl refl), subst (λ o. Above o n) same rises.0)
+  past_on names (n ∷ page) after say es rises some past a (inr was) =
+      let p = past a was in
+      (p.0, has_left names (n ∷ page) p.0 p.1, p.2)
 
 -- ---- notes
 
@@ -191,6 +210,12 @@ module _ (k : Kind) where
 pub heard_before : (e : Exchange) (es : Trace) (ask : Ask) (say : Say) → (e.ask ≡ ask → ⊥) → Exchanged (e ∷ es) ask say → Exchanged es ask say
 heard_before e es ask say other (inl h) = absurd (other h.0)
 heard_before e es ask say other (inr h) = h
+
+-- to what was asked something was said
+pub heard_of : (es : Trace) (ask : Ask) → WasAsked es ask → (say : Say) × Exchanged es ask say
+heard_of [] ask h = absurd h
+heard_of (e ∷ es) ask (inl here) = (e.say, inl (here, refl))
+heard_of (e ∷ es) ask (inr before) = let more = heard_of es ask before in (more.0, inr more.1)
 
 -- no object of the kind was asked for
 abbrev pub IsUngot : Kind → Trace → Type 0

@@ -18,20 +18,20 @@ use Rattle.repo_session.proofs.Rolling.{may_page, opened_rolled}
 use Rattle.repo_tree.specs.ConfigText.{IsConfigText}
 use Rattle.repo_tree.specs.declared.configs.Config.{Config}
 use Rattle.repo_check.specs.Arrivals.{IsIndexOf, IsPackOf, IsRootOf}
-use Rattle.repo_check.specs.Rounds.{AreNoted, GoesOn, IsFreshRound, RoundIsListing, IsUntouched, IsWholeRound, KnowsRound, PagesRound, RoundView, TakesObject, TakesSnapshot, TurnsOn}
+use Rattle.repo_check.specs.Rounds.{AreNoted, ArePast, GoesOn, IsFreshRound, RoundIsListing, IsUntouched, IsWholeRound, KnowsRound, PagesRound, RoundView, TakesObject, TakesSnapshot, TurnsOn}
 use Rattle.repo_check.specs.Surveys.{AtIndexes, AtPacks, AtSnapshots, AtTrees, GoesAfter, HasTaken, IsFirst, IsFreshSurvey, IsUnranged, KnowsNotes, RoundsView, Surveys, SurveysOn, first_page}
 use Rattle.repo_check.specs.Walks.{Awaits, TreeIsNoted, WalkView}
 use Rattle.repo_check.specs.declared.knowing.TreeNote.{TreeNote}
 use Rattle.repo_check.specs.declared.rounds.Note.{Note}
 use Rattle.repo_check.specs.declared.rounds.Turn.{Turn}
 use Rattle.repo_check.specs.declared.surveys.Next.{Next}
-use Rattle.repo_check.proofs.Rounding.{IsAside, heard_before, none_noted, noted_grow, noted_page, paged_aside, untouched_aside}
+use Rattle.repo_check.proofs.Rounding.{IsAside, heard_before, heard_of, none_noted, noted_grow, noted_page, paged_aside, untouched_aside}
 
 -- ---- a round that begins
 
 module _ {T : Type 0} (k : Kind) (round : RoundView T) where
   fresh_listing : (es : Trace) → IsFreshRound k round → IsUntouched k es → RoundIsListing k round es
-  fresh_listing es fresh none = record { of_kind = fresh.of_kind; none_read = fresh.none_read; rolled = subst (λ ns. IsRolled k ns 0 false es) (sym fresh.no_names) none; none = fresh.no_notes }
+  fresh_listing es fresh none = record { of_kind = fresh.of_kind; none_read = fresh.none_read; rolled = subst (λ ns. IsRolled k ns 0 false es) (sym fresh.no_names) none.rolled; past = subst (λ ns. ArePast k ns es) (sym fresh.no_names) none.past; none = fresh.no_notes }
 
   -- its first page may be asked for
   begins : (task : Task) (token : Token) (es : Trace) → IsWorking task token es → IsFreshRound k round → IsUntouched k es
@@ -233,12 +233,18 @@ opened_never task token text ask say reads (inr (inl h)) = subst IsReading (sym 
 opened_never task token text ask say reads (inr (inr (inl h))) = subst IsReading (sym h.0) reads
 opened_never task token text ask say reads (inr (inr (inr h))) = h
 
+opened_untouched : (k : Kind) (task : Task) (token : Token) (text : List ℕ) → IsUntouched k (opened task token text)
+opened_untouched k task token text = record {
+  rolled = opened_rolled k task token text;
+  past = λ after was. let heard = heard_of (opened task token text) (Ask.List k after) was in absurd (opened_never task token text (Ask.List k after) heard.0 tt heard.1);
+}
+
 -- where nothing of the kinds was listed, the first page may be asked for
 pub first_known : (task : Task) (token : Token) (text : List ℕ) (config : Config) (rounds : RoundsView) (walk : WalkView) (ask : Ask) → IsConfigText text config → config.version ≤ upto task.versions → IsFreshSurvey rounds
     → ask ≡ Ask.List rounds.snapshots.kind (last_of rounds.snapshots.names) → IsFirst task rounds walk (opened task token text) ask
 first_known task token text config rounds walk ask reads known fresh is =
     let es = opened task token text in
-    let first = begins Kind.Snapshot rounds.snapshots task token es (opened_working task token text config reads known) fresh.snapshots (opened_rolled Kind.Snapshot task token text) in
+    let first = begins Kind.Snapshot rounds.snapshots task token es (opened_working task token text config reads known) fresh.snapshots (opened_untouched Kind.Snapshot task token text) in
     subst (λ a. May task es a × Surveys rounds walk a es) (sym is) (
       first.1,
       (
@@ -250,9 +256,9 @@ first_known task token text config rounds walk ask reads known fresh is =
         inl (record {
           snapshots = first.0;
           indexes = fresh.indexes;
-          no_indexes = opened_rolled Kind.Index task token text;
+          no_indexes = opened_untouched Kind.Index task token text;
           packs = fresh.packs;
-          no_packs = opened_rolled Kind.Pack task token text;
+          no_packs = opened_untouched Kind.Pack task token text;
           no_trees = λ pack offset len say h. opened_never task token text (Ask.Range pack offset len) say tt h;
         }),
       ),

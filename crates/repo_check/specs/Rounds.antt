@@ -5,13 +5,14 @@ use Rattle.repo_name.specs.declared.names.Name.{Name}
 use Rattle.repo_name.specs.declared.tokens.Token.{Token}
 use Rattle.repo_wire.specs.declared.messages.Ask.{Ask}
 use Rattle.repo_wire.specs.declared.messages.Say.{Say}
+use Rattle.repo_store.specs.Pages.{Above, Has}
 use Rattle.repo_session.specs.Versions.{upto}
 use Rattle.repo_session.specs.Ends.{IsOfOtherVersion, IsSenseless}
 use Rattle.repo_session.specs.Jobs.{IsShort}
 use Rattle.repo_session.specs.Order.{Task, IsWorking, May}
 use Rattle.repo_session.specs.Rolls.{IsPaged, IsRolled}
 use Rattle.repo_session.specs.declared.versions.Versions.{Versions}
-use Rattle.repo_session.specs.Traces.{Each, Exchange, Exchanged, Trace, silent}
+use Rattle.repo_session.specs.Traces.{Each, Exchange, Exchanged, Trace, WasAsked, silent}
 use Rattle.repo_reach.specs.declared.roots.Root.{Root}
 use Rattle.repo_check.specs.Answers.{Answer, IsAnswer}
 use Rattle.repo_check.specs.Arrivals.{IsFaulty, IsRootOf, TellsNothing}
@@ -33,15 +34,21 @@ round_of round = record { kind = round.roll.kind; names = round.roll.names.items
 
 -- ---- names
 
--- nothing of the kind was listed or received
-abbrev pub IsUntouched : Kind → Trace → Type 0
-IsUntouched k es = IsRolled k [] 0 false es
+-- each page of the kind that was asked for was one behind which one of these names comes
+abbrev pub ArePast : Kind → List Name → Trace → Type 0
+ArePast k names es = (after : Option Name) → WasAsked es (Ask.List k after) → (n : Name) × Has names n × Above after n
+
+-- nothing of the kind was asked for as a page, listed or received
+pub record IsUntouched (k : Kind) (es : Trace) : Type 0 where
+  pub rolled : IsRolled k [] 0 false es
+  pub past : ArePast k [] es
 
 -- its names come page by page, and nothing was noted
 pub record RoundIsListing {T : Type 0} (k : Kind) (round : RoundView T) (es : Trace) : Type 0 where
   pub of_kind : round.kind ≡ k
   pub none_read : round.read ≡ 0
   pub rolled : IsRolled k round.names 0 false es
+  pub past : ArePast k round.names es
   pub none : round.notes ≡ []
 
 -- they all came, and the object of this name is the next one

@@ -3,7 +3,7 @@
 ghost use Rattle.std.specs.Prelude.{◌≡◌, [], IfOk, OnErr};
 ghost use Rattle.repo_session.specs.Jobs.{IsShortStep};
 ghost use Rattle.repo_session.specs.Traces.{Trace};
-ghost use Rattle.repo_dial.specs.Bringing.{Ended, Obeyed};
+ghost use Rattle.repo_dial.specs.Bringing.{Brought};
 ghost use Rattle.repo_check.specs.Checking.{check_rule};
 ghost use Rattle.repo_check.specs.CheckStates.{Concluded, FitsCheck, IsFreshCheck, KnowsCheck, TakesBack, checker_of};
 ghost use Rattle.repo_check.specs.Surveys.{IsShortNext};
@@ -129,11 +129,10 @@ impl Check {
         retry: u64,
     ) -> Result<Outcome, TryError>
         requires { FitsCheck self [] }
-        ensures obeyed { Obeyed check_rule (checker_of self) retry (D.connections dial.old) (D.connections dial.new) }
-        ensures ended { IfOk result (λ outcome. Ended check_rule (checker_of self) outcome retry (D.connections dial.old) (D.connections dial.new)) }
+        ensures { Brought check_rule (checker_of self) result retry (D.connections dial.old) (D.connections dial.new) }
     {
         let Check { session } = self;
-        bring(alloc, session, |_| true, dial, retry)
+        bring(alloc, session, &mut |_| true, dial, retry)
     }
 }
 

@@ -1,26 +1,28 @@
--- A job that was brought to its end over one connection after another.
+-- A job that was brought on over one connection after another.
 use Rattle.std.specs.Prelude.{option_map}
-use Rattle.std.proofs.Common.{◌≡◌, ◌≤◌, ◌++◌, ◌∷◌, [], ℕ, zero, suc, true, false, List, Option, Some, None, Result, Ok, Err, length, refl, sym, ap, subst, arith, ◌∙◌}
+use Rattle.std.proofs.Common.{◌≡◌, ◌≢◌, ◌++◌, ◌∷◌, [], ℕ, Bool, List, Option, Some, None, Result, Ok, Err, length, refl, sym, ap, subst, inl, inr, ◌∙◌}
 use Rattle.repo_name.specs.declared.names.Instance.{Instance}
 use Rattle.repo_name.specs.declared.tokens.Token.{Token}
 use Rattle.repo_wire.specs.declared.messages.Ask.{Ask}
+use Rattle.repo_wire.specs.declared.messages.Reply.{Reply}
 use Rattle.repo_wire.specs.declared.messages.Request.{Request}
+use Rattle.repo_wire.specs.declared.messages.Say.{Say}
 use Rattle.repo_store.specs.Channels.{said_in}
 use Rattle.repo_session.specs.declared.driving.DriveError.{DriveError}
+use Rattle.repo_session.specs.declared.emissions.Emission.{Emission}
 use Rattle.repo_session.specs.declared.outcomes.Outcome.{Outcome}
 use Rattle.repo_session.specs.Askers.{Asker}
 use Rattle.repo_session.specs.Jobs.{Rule}
-use Rattle.repo_session.specs.Talks.{Talk, Said, AreNumbered, WritesPart, WritesBy, frames_of, given_in, sent_in, trace_of}
+use Rattle.repo_session.specs.Talks.{Talk, Said, AreNumbered, Drives, trace_of}
 use Rattle.repo_session.specs.Traces.{Each, Trace}
+use Rattle.repo_session.proofs.Handing.{handed_as}
 use Rattle.repo_session.proofs.Joining.{driven_said}
-use Rattle.repo_session.proofs.Talking.{whole_part}
-use Rattle.repo_dial.specs.Bringing.{IsObedientBy, EndsLockOf, SendsBy, BroughtOn, IsBroughtOn, IsBegunBy, IsLeftBehind, Ended, Obeyed, given_over}
-use Rattle.repo_dial.specs.Dialing.{Asking, Call, Connections, Driven, Try, Missed, Turned, Carried, config_request, talk_in, talk_over, AreAtOneStore, AreDialed, AreKept, farewell_in, is_cut, DrivenOver, EndsOwnLock, TakesLeave, TryGives, AreCut, DrivesAgain}
+use Rattle.repo_dial.specs.Bringing.{IsObedientBy, EndsLockOf, DrivesTo, LeavesBy, BroughtOn, TriedBy, AreCutOff, IsBegunBy, BroughtInto, Obeyed}
+use Rattle.repo_dial.specs.Dialing.{Asking, Call, Connections, Driven, Try, Missed, Turned, Carried, IsStopped, Meets, MeetsSay, config_request, talk_in, talk_over, DrivenOver, EndsOwnLock, TakesLeave, TryGives, AreCut, DrivesAgain}
 use Rattle.repo_dial.specs.declared.again.TryError.{TryError}
 use Rattle.repo_dial.specs.declared.peers.Acquaintance.{Acquaintance}
-use Rattle.repo_dial.proofs.DialLemmas.{trace_of_both, went_driven, first_driven, went_try, same_try}
-use Rattle.repo_dial.proofs.MeetLemmas.{left_behind}
-use Rattle.repo_dial.proofs.TryLemmas.{behind_leave, kept_cut}
+use Rattle.repo_dial.proofs.DialLemmas.{trace_of_both, went_driven, first_driven, known_cut, went_try, same_try}
+use Rattle.repo_dial.proofs.TryLemmas.{behind_leave}
 
 -- the unlock is of the ticket of the trace at which the client stands
 ends_at : {C : Type 0} (instance : Instance) (Fits : C → Trace → Type 0) (client : C) (es : Trace) (farewell : Option Asking) → Fits client es → EndsOwnLock instance Fits client farewell
@@ -28,36 +30,57 @@ ends_at : {C : Type 0} (instance : Instance) (Fits : C → Trace → Type 0) (cl
 ends_at instance Fits client es None fits h = tt
 ends_at instance Fits client es (Some asking) fits h = let n = h.2 es fits in (h.0, h.1, n.0, n.1, n.2)
 
--- where nothing was asked for behind
-sends_none : (farewell : Option Asking) (talk : Talk) (next : Option Request) (bytes : List ℕ) → farewell ≡ None → WritesPart (Some []) (sent_in talk) next (Some bytes) → SendsBy farewell talk next bytes
-sends_none farewell talk next bytes none w = subst (λ f. SendsBy f talk next bytes) (sym none) w
+-- the error of a driver, if it came to one
+abbrev error_of : Result ℕ DriveError → Option DriveError
+error_of (Ok n) = None
+error_of (Err error) = Some error
 
--- where nothing of the pending request was said
-sends_all : (farewell : Option Asking) (talk : Talk) (next : Option Request) (bytes : List ℕ) → bytes ≡ frames_of (sent_in talk) → SendsBy farewell talk next bytes
-sends_all None talk next bytes all = whole_part (Some []) (Some bytes) (sent_in talk) next all
-sends_all (Some asking) talk next bytes all = all
+drives_to : {C : Type 0} (instance : Instance) (Fits : C → Trace → Type 0) (next : C → Option Request) (old : C) (result : Result ℕ DriveError) (new : C) (said : Said) (bytes : List ℕ)
+    → Drives instance Fits next old result new said (Some []) (Some bytes) → DrivesTo (error_of result) said (next new) bytes
+drives_to instance Fits next old (Ok n) new said bytes d = (d.2, d.4, d.5)
+drives_to instance Fits next old (Err error) new said bytes d = (d.1, d.2)
 
-sends_error : (error : DriveError) (talk : Talk) (next : Option Request) (told : Option Token) (call : Call) (bytes : List ℕ) → WritesBy error (Some []) (sent_in talk) next (Some bytes)
-    → TakesLeave (Err error) next told call → SendsBy call.farewell talk next bytes
-sends_error DriveError.Read talk next told call bytes w none = sends_none call.farewell talk next bytes none w
-sends_error DriveError.Write talk next told call bytes w none = sends_none call.farewell talk next bytes none w
-sends_error DriveError.Malformed talk next told call bytes w none = sends_none call.farewell talk next bytes none w
-sends_error DriveError.Limit talk next told call bytes w none = sends_none call.farewell talk next bytes none w
-sends_error DriveError.Memory talk next told call bytes w none = sends_none call.farewell talk next bytes none w
-sends_error DriveError.Sink talk next told call bytes w leaves = sends_all call.farewell talk next bytes w
+leaves_by : (result : Result ℕ DriveError) (next : Option Request) (told : Option Token) (instance : Instance) (es : Trace) (call : Call) → TakesLeave result next told call → EndsLockOf instance es call.farewell
+    → LeavesBy (error_of result) instance es call
+leaves_by (Ok n) next told instance es call leaves ends = leaves
+leaves_by (Err DriveError.Read) next told instance es call leaves ends = leaves
+leaves_by (Err DriveError.Write) next told instance es call leaves ends = leaves
+leaves_by (Err DriveError.Malformed) next told instance es call leaves ends = leaves
+leaves_by (Err DriveError.Limit) next told instance es call leaves ends = leaves
+leaves_by (Err DriveError.Memory) next told instance es call leaves ends = leaves
+leaves_by (Err DriveError.Sink) next told instance es call leaves ends = (behind_leave (Err DriveError.Sink) next told call leaves, ends)
 
--- what was said over a connection
-sends : {C J : Type 0} (d : Driven C J) (old : C) (call : Call) (result : Result ℕ DriveError) (new : C) → DrivenOver d old call result new
-    → SendsBy call.farewell call.said.talk (d.next new) (said_in call.passages)
-sends d old call (Ok n) new o =
-    let all = said_in call.passages in
-    sends_none call.farewell call.said.talk (d.next new) all o.leaves (whole_part (Some []) (Some all) (sent_in call.said.talk) (d.next new) o.drives.5)
-sends d old call (Err error) new o = sends_error error call.said.talk (d.next new) (d.told new) call (said_in call.passages) o.drives.2 o.leaves
+-- where the job doesn't go on at a store, no other config is known than before
+same_say : (known : Option (List ℕ)) (say : Say) (error : TryError) (after : Option (List ℕ)) → MeetsSay known say (Err error) after → after ≡ known
+same_say None (Say.Bytes x) error after m = let q = m.0 in absurd (cc)
+same_say (Some known) (Say.Bytes x) error after m = m.0
+same_say known (Say.Refused code) error after m = m.1
+same_say known (Say.Token token) error after m = m.1
+same_say known Say.Done error after m = m.1
+same_say known (Say.Names more names) error after m = m.1
+same_say known (Say.LockList rows) error after m = m.1
+
+same_config : (known : Option (List ℕ)) (answer : Result Reply DriveError) (error : TryError) (after : Option (List ℕ)) → Meets known answer (Err error) after → after ≡ known
+same_config known (Ok reply) error after m = same_say known reply.say error after m
+same_config known (Err why) error after m = m.1
+
+-- what a job comes to, with this outcome, where its driver came to this
+abbrev pub ComesTo : Result ℕ TryError → Option Outcome → Result Outcome TryError → Type 0
+ComesTo (Ok n) reached came = (outcome : Outcome) × (reached ≡ Some outcome) × (came ≡ Ok outcome)
+ComesTo (Err error) reached came = came ≡ Err error
+
+comes_error : (result : Result ℕ TryError) (reached : Option Outcome) (came : Result Outcome TryError) → ComesTo result reached came → (error : TryError) → came ≡ Err error → result ≡ Err error
+comes_error (Ok n) reached came comes error is = let q = comes.2 in absurd (cc)
+comes_error (Err e) reached came comes error is = let same : e ≡ error = cc in ap (λ x. Err x) same
+
+comes_stopped : (result : Result ℕ TryError) (reached : Option Outcome) (came : Result Outcome TryError) → ComesTo result reached came → IsStopped result → IsStopped came
+comes_stopped (Ok n) reached came comes is = absurd (cc)
+comes_stopped (Err e) reached came comes is = let same : e ≡ TryError.Drive DriveError.Sink = cc in comes ∙ ap (λ x. Err x) same
 
 module _ {C J : Type 0} (d : Driven C J) (reached : C → Option Outcome) (rule : Rule) (who : Asker) where
   -- over one connection
   brought : (old new : C) (earlier : Talk) (call : Call) (result : Result ℕ DriveError) → DrivenOver d old call result new → d.own (d.job old) ≡ who.instance → d.fits old (trace_of earlier)
-      → ((es : Trace) → d.fits new es → IsObedientBy rule who (d.next new) (reached new) es) → BroughtOn rule who earlier (d.next old) call (d.next new) (reached new)
+      → ((es : Trace) → d.fits new es → IsObedientBy rule who (d.next new) (reached new) es) → BroughtOn rule who earlier (d.next old) call (error_of result) (d.next new) (reached new)
   brought old new earlier call result o own_is fits obeys =
       let said : Said = call.said in
       let is = driven_said (d.own (d.job old)) d.fits d.next old result new said (Some []) (Some (said_in call.passages)) o.drives in
@@ -68,12 +91,12 @@ module _ {C J : Type 0} (d : Driven C J) (reached : C → Option Outcome) (rule 
         heard = is.1;
         turns = is.0;
         numbered = subst (λ instance. AreNumbered instance (length (trace_of earlier)) said.talk) own_is (went.numbered (trace_of earlier) fits);
-        sent = sends d old call result new o;
+        drives = drives_to (d.own (d.job old)) d.fits d.next old result new said (said_in call.passages) o.drives;
         first = first_driven (d.own (d.job old)) d.fits d.next old result new said (Some []) (Some (said_in call.passages)) o.drives;
         obeyed = obeys (trace_of (said.talk ++ earlier)) here;
-        behind = behind_leave result (d.next new) (d.told new) call o.leaves;
-        ends = subst (λ instance. EndsLockOf instance (trace_of (said.talk ++ earlier)) call.farewell) (ap d.own o.same ∙ own_is)
-            (ends_at (d.own (d.job new)) d.fits new (trace_of (said.talk ++ earlier)) call.farewell here o.ends);
+        leaves = leaves_by result (d.next new) (d.told new) who.instance (trace_of (said.talk ++ earlier)) call o.leaves
+            (subst (λ instance. EndsLockOf instance (trace_of (said.talk ++ earlier)) call.farewell) (ap d.own o.same ∙ own_is)
+            (ends_at (d.own (d.job new)) d.fits new (trace_of (said.talk ++ earlier)) call.farewell here o.ends));
       }
 
   -- after tries that were cut off the client stands where they lead
@@ -86,30 +109,6 @@ module _ {C J : Type 0} (d : Driven C J) (reached : C → Option Outcome) (rule 
   same_cut : (begun : Acquaintance) (old : C) (tries : List Try) (new : C) (known : Acquaintance) → AreCut d begun old tries new known → d.job new ≡ d.job old
   same_cut begun old [] new known h = ap d.job h.0
   same_cut begun old (try ∷ tries) new known h = same_try d h.1 h.0 try (Err h.3.0) new known h.3.1 ∙ same_cut begun old tries h.0 h.1 h.2
-
-  -- the lock is kept in a try that is cut off
-  kept_try : (known : Acquaintance) (old : C) (try : Try) (error : TryError) (new : C) (after : Acquaintance) → TryGives d known old try (Err error) new after → is_cut error ≡ true → farewell_in try ≡ None
-  kept_try known old Missed error new after g cut = refl
-  kept_try known old (Turned asking) error new after g cut = refl
-  kept_try known old (Carried asking call) error new after g cut = kept_cut g.0 error (d.next new) (d.told new) call g.2 cut g.1.leaves
-
-  kept_all : (begun : Acquaintance) (old : C) (tries : List Try) (new : C) (known : Acquaintance) → AreCut d begun old tries new known → AreKept tries
-  kept_all begun old [] new known h = tt
-  kept_all begun old (try ∷ tries) new known h = (kept_try h.1 h.0 try h.3.0 new known h.3.1 h.3.2, kept_all begun old tries h.0 h.1 h.2)
-
-  -- nor was another one tried where a store answered
-  left_try : (known : Acquaintance) (old : C) (try : Try) (error : TryError) (new : C) (after : Acquaintance) → TryGives d known old try (Err error) new after → is_cut error ≡ true → IsLeftBehind try
-  left_try known old Missed error new after g cut = tt
-  left_try known old (Turned asking) error new after g cut =
-      let same = g.1 in
-      let is : error ≡ g.0 = cc in
-      let m = g.3 in
-      left_behind known.config asking.answer g.0 after.config m.4 (subst (λ e. is_cut e ≡ true) is cut)
-  left_try known old (Carried asking call) error new after g cut = tt
-
-  left_all : (begun : Acquaintance) (old : C) (tries : List Try) (new : C) (known : Acquaintance) → AreCut d begun old tries new known → Each IsLeftBehind tries
-  left_all begun old [] new known h = tt
-  left_all begun old (try ∷ tries) new known h = (left_try h.1 h.0 try h.3.0 new known h.3.1 h.3.2, left_all begun old tries h.0 h.1 h.2)
 
   module _ (begun : Acquaintance) (old : C) (obeys : (c : C) → d.job c ≡ d.job old → (es : Trace) → d.fits c es → IsObedientBy rule who (d.next c) (reached c) es) (own_is : d.own (d.job old) ≡ who.instance) (fits : d.fits old []) where
     -- the ask for the config has the asker's instance
@@ -133,120 +132,108 @@ module _ {C J : Type 0} (d : Driven C J) (reached : C → Option Outcome) (rule 
     begun_cut (try ∷ tries) new known h =
         (begun_try h.1 h.0 (trace_of (talk_over tries)) try (Err h.3.0) new known (same_cut begun old tries h.0 h.1 h.2) (fits_cut begun old tries h.0 h.1 h.2 fits) h.3.1, begun_cut tries h.0 h.1 h.2)
 
-    brought_cut : (tries : List Try) (new : C) (known : Acquaintance) → AreCut d begun old tries new known → IsBroughtOn rule who (d.next old) tries (d.next new)
-    brought_cut [] new known h = ap d.next h.0
-    brought_cut (Missed ∷ tries) new known h = subst (λ c. IsBroughtOn rule who (d.next old) tries (d.next c)) (sym h.3.1.1) (brought_cut tries h.0 h.1 h.2)
-    brought_cut (Turned asking ∷ tries) new known h = subst (λ c. IsBroughtOn rule who (d.next old) tries (d.next c)) (sym h.3.1.2) (brought_cut tries h.0 h.1 h.2)
-    brought_cut (Carried asking call ∷ tries) new known h =
-        let mid = h.0 in
-        let g = h.3.1 in
-        let same = g.1.same ∙ same_cut begun old tries mid h.1 h.2 in (
-          d.next mid,
-          (reached new, brought mid new (talk_over tries) call g.0 g.1 (ap d.own (same_cut begun old tries mid h.1 h.2) ∙ own_is) (fits_cut begun old tries mid h.1 h.2 fits) (obeys new same)),
-          brought_cut tries mid h.1 h.2,
-        )
+    module _ (none : begun.config ≡ None) where
+      -- over one connection behind some that were cut off
+      brought_behind : (tries : List Try) (mid : C) (known : Acquaintance) → AreCut d begun old tries mid known → (call : Call) (result : Result ℕ DriveError) (new : C) → DrivenOver d mid call result new
+          → BroughtOn rule who (talk_over tries) (d.next mid) call (error_of result) (d.next new) (reached new)
+      brought_behind tries mid known before call result new o =
+          brought mid new (talk_over tries) call result o (ap d.own (same_cut begun old tries mid known before) ∙ own_is) (fits_cut begun old tries mid known before fits)
+          (obeys new (o.same ∙ same_cut begun old tries mid known before))
 
-    -- the last try brought it to its end
-    ended_by : (retry n : ℕ) (mid new : C) (known ended : Acquaintance) (coming after : Connections) (outcome : Outcome) (cut : List Try) (last : Try) → AreCut d begun old cut mid known
-        → TryGives d known mid last (Ok n) new ended → AreDialed coming (last ∷ cut) after → AreAtOneStore retry (last ∷ cut) → length cut ≤ retry → reached new ≡ Some outcome → Ended rule who outcome retry coming after
-    ended_by retry n mid new known ended coming after outcome cut Missed before gives dialed store few is = let e = gives.0 in absurd (cc)
-    ended_by retry n mid new known ended coming after outcome cut (Turned asking) before gives dialed store few is = let e = gives.1 in absurd (cc)
-    ended_by retry n mid new known ended coming after outcome cut (Carried asking call) before (Err error, driven, told, met, left) dialed store few is = absurd (cc)
-    ended_by retry n mid new known ended coming after outcome cut (Carried asking call) before (Ok m, driven, told, met, left) dialed store few is =
-        let same = driven.same ∙ same_cut begun old cut mid known before in
-        let here = fits_cut begun old cut mid known before fits in
-        let b = brought mid new (talk_over cut) call (Ok m) driven (ap d.own (same_cut begun old cut mid known before) ∙ own_is) here (obeys new same) in
-        let P : Option Request → Option Outcome → Type 0 = λ x y. BroughtOn rule who (talk_over cut) (d.next mid) call x y in
-        record {
-          cut = cut;
-          asking = asking;
-          last = call;
-          few = few;
-          dialed = dialed;
-          begun_by = (begun_try known mid (trace_of (talk_over cut)) (Carried asking call) (Ok n) new ended (same_cut begun old cut mid known before) here (Ok m, driven, told, met, left), begun_cut cut mid known before);
-          store = store;
-          kept = (driven.leaves, kept_all begun old cut mid known before);
-          left = left_all begun old cut mid known before;
-          begun = d.next old;
-          waiting = d.next mid;
-          before = brought_cut cut mid known before;
-          ended = subst (λ x. P x (Some outcome)) driven.drives.2 (subst (λ y. P (d.next new) y) is b);
-        }
+      -- a try that came to an error
+      failed_by : (tries : List Try) (mid : C) (known : Acquaintance) → AreCut d begun old tries mid known → (try : Try) (error : TryError) (new : C) (after : Acquaintance)
+          → TryGives d known mid try (Err error) new after → TriedBy rule who tries (d.next mid) try (Err error) (d.next new)
+      failed_by tries mid known before Missed error new after g = let e = g.0 in (cc, ap d.next g.1)
+      failed_by tries mid known before (Turned asking) error new after g =
+          let met = g.3 in
+          let e = g.1 in
+          let first = known_cut d begun old tries mid known none before in
+          let same = same_config known.config asking.answer g.0 after.config met.4 in (
+            g.0,
+            cc,
+            subst (λ k. Meets k asking.answer (Err g.0) k) first (subst (λ k. Meets known.config asking.answer (Err g.0) k) same met.4),
+            ap d.next g.2,
+          )
+      failed_by tries mid known before (Carried asking call) error new after (Ok n, driven, told, met, left) = absurd (cc)
+      failed_by tries mid known before (Carried asking call) error new after (Err cause, driven, told, met, left) =
+          (cause, cc, (reached new, brought_behind tries mid known before call (Err cause) new driven))
 
-    -- what was given out is what the tries gave out
-    given_by : (retry n : ℕ) (mid new : C) (known ended : Acquaintance) (coming after : Connections) (outcome : Outcome) (cut : List Try) (last : Try) (before : AreCut d begun old cut mid known)
-        (gives : TryGives d known mid last (Ok n) new ended) (dialed : AreDialed coming (last ∷ cut) after) (store : AreAtOneStore retry (last ∷ cut)) (few : length cut ≤ retry) (is : reached new ≡ Some outcome)
-        → given_over (ended_by retry n mid new known ended coming after outcome cut last before gives dialed store few is) ≡ given_in (talk_over (last ∷ cut))
-    unfolding ended_by
-    given_by retry n mid new known ended coming after outcome cut Missed before gives dialed store few is = let e = gives.0 in absurd (cc)
-    given_by retry n mid new known ended coming after outcome cut (Turned asking) before gives dialed store few is = let e = gives.1 in absurd (cc)
-    given_by retry n mid new known ended coming after outcome cut (Carried asking call) before (Err error, driven, told, met, left) dialed store few is = absurd (cc)
-    given_by retry n mid new known ended coming after outcome cut (Carried asking call) before (Ok m, driven, told, met, left) dialed store few is = refl
+      -- one that brought it to its end
+      ended_by : (tries : List Try) (mid : C) (known : Acquaintance) → AreCut d begun old tries mid known → (try : Try) (n : ℕ) (new : C) (after : Acquaintance) (outcome : Outcome)
+          → TryGives d known mid try (Ok n) new after → reached new ≡ Some outcome → TriedBy rule who tries (d.next mid) try (Ok outcome) (d.next new)
+      ended_by tries mid known before Missed n new after outcome g is = let e = g.0 in absurd (cc)
+      ended_by tries mid known before (Turned asking) n new after outcome g is = let e = g.1 in absurd (cc)
+      ended_by tries mid known before (Carried asking call) n new after outcome (Err error, driven, told, met, left) is = absurd (cc)
+      ended_by tries mid known before (Carried asking call) n new after outcome (Ok m, driven, told, met, left) is =
+          subst (λ o. BroughtOn rule who (talk_over tries) (d.next mid) call None (d.next new) o) is (brought_behind tries mid known before call (Ok m) new driven)
 
-    -- however it ended, it was brought on by its rules
-    obeyed_by : (retry : ℕ) (result : Result ℕ TryError) (mid new : C) (known ended : Acquaintance) (coming after : Connections) (cut : List Try) (last : Try) → AreCut d begun old cut mid known
-        → TryGives d known mid last result new ended → AreDialed coming (last ∷ cut) after → AreAtOneStore retry (last ∷ cut) → length cut ≤ retry → Obeyed rule who retry coming after
-    obeyed_by retry result mid new known ended coming after cut Missed before gives dialed store few = record {
-      tries = Missed ∷ cut;
-      few = omega (arith, few);
-      dialed = dialed;
-      begun_by = (tt, begun_cut cut mid known before);
-      store = store;
-      kept = kept_all begun old cut mid known before;
-      left = left_all begun old cut mid known before;
-      begun = d.next old;
-      waiting = d.next mid;
-      brought = brought_cut cut mid known before;
+      cut_off : (tries : List Try) (new : C) (known : Acquaintance) → AreCut d begun old tries new known → AreCutOff rule who (d.next old) tries (d.next new)
+      cut_off [] new known h = ap d.next h.0
+      cut_off (try ∷ tries) new known h = (d.next h.0, cut_off tries h.0 h.1 h.2, (h.3.0, failed_by tries h.0 h.1 h.2 try h.3.0 new known h.3.1, h.3.2))
+
+      -- what a job comes to where its driver came to this
+      pub came_by : (result : Result ℕ TryError) (new : C) (came : Result Outcome TryError) (cut : List Try) (mid : C) (known : Acquaintance) (last : Try) (ended : Acquaintance)
+          → AreCut d begun old cut mid known → TryGives d known mid last result new ended → ComesTo result (reached new) came → TriedBy rule who cut (d.next mid) last came (d.next new)
+      came_by (Ok n) new came cut mid known last ended before gives comes =
+          subst (λ r. TriedBy rule who cut (d.next mid) last r (d.next new)) (sym comes.2) (ended_by cut mid known before last n new ended comes.0 gives comes.1)
+      came_by (Err error) new came cut mid known last ended before gives comes =
+          subst (λ r. TriedBy rule who cut (d.next mid) last r (d.next new)) (sym comes) (failed_by cut mid known before last error new ended gives)
+
+  -- behind a try that brought it to its end nothing is pending
+  nothing_next : (known : Acquaintance) (old : C) (try : Try) (n : ℕ) (new : C) (after : Acquaintance) → TryGives d known old try (Ok n) new after → d.next new ≡ None
+  nothing_next known old Missed n new after g = let e = g.0 in absurd (cc)
+  nothing_next known old (Turned asking) n new after g = let e = g.1 in absurd (cc)
+  nothing_next known old (Carried asking call) n new after (Err error, driven, told, met, left) = absurd (cc)
+  nothing_next known old (Carried asking call) n new after (Ok m, driven, told, met, left) = driven.drives.2
+
+  module _ {F : Type 0} (Called : F → Emission → Bool → F → Type 0) (old : C) (obeys : (c : C) → d.job c ≡ d.job old → (es : Trace) → d.fits c es → IsObedientBy rule who (d.next c) (reached c) es)
+      (own_is : d.own (d.job old) ≡ who.instance) (fits : d.fits old []) where
+    pub brought_into : (retry : ℕ) (from : F) (result : Result ℕ TryError) (new : C) (to : F) (coming after : Connections) (came : Result Outcome TryError)
+        → DrivesAgain d Called retry old from result new to coming after → ComesTo result (reached new) came → BroughtInto Called from rule who came retry coming after to
+    brought_into retry from result new to coming after came a comes = record {
+      brought = record {
+        cut = a.cut;
+        last = a.last;
+        few = a.few;
+        spent = λ error is cut. a.spent error (comes_error result (reached new) came comes error is) cut;
+        dialed = a.dialed;
+        begun_by = (
+          begun_try a.begun old obeys own_is fits a.known a.mid (trace_of (talk_over a.cut)) a.last result new a.ended (same_cut a.begun old a.cut a.mid a.known a.before)
+              (fits_cut a.begun old a.cut a.mid a.known a.before fits) a.gives,
+          begun_cut a.begun old obeys own_is fits a.cut a.mid a.known a.before,
+        );
+        store = a.store;
+        begun = d.next old;
+        waiting = d.next a.mid;
+        next = d.next new;
+        before = cut_off a.begun old obeys own_is fits a.fresh.0 a.cut a.mid a.known a.before;
+        came = came_by a.begun old obeys own_is fits a.fresh.0 result new came a.cut a.mid a.known a.last a.ended a.before a.gives comes;
+      };
+      handed = handed_as Called (IsStopped result) (IsStopped came) (talk_over (a.last ∷ a.cut)) from to (comes_stopped result (reached new) came comes)
+          (λ stopped. comes_error result (reached new) came comes (TryError.Drive DriveError.Sink) stopped) a.handed;
     }
-    obeyed_by retry result mid new known ended coming after cut (Turned asking) before gives dialed store few = record {
-      tries = Turned asking ∷ cut;
-      few = omega (arith, few);
-      dialed = dialed;
-      begun_by = (begun_try known mid (trace_of (talk_over cut)) (Turned asking) result new ended (same_cut begun old cut mid known before) (fits_cut begun old cut mid known before fits) gives, begun_cut cut mid known before);
-      store = store;
-      kept = kept_all begun old cut mid known before;
-      left = left_all begun old cut mid known before;
-      begun = d.next old;
-      waiting = d.next mid;
-      brought = brought_cut cut mid known before;
-    }
-    obeyed_by retry result mid new known ended coming after cut (Carried asking call) before gives dialed store few =
-        let here = fits_cut begun old cut mid known before fits in
-        record {
-          tries = Carried asking call ∷ cut;
-          few = omega (arith, few);
-          dialed = dialed;
-          begun_by = (begun_try known mid (trace_of (talk_over cut)) (Carried asking call) result new ended (same_cut begun old cut mid known before) here gives, begun_cut cut mid known before);
-          store = store;
-          kept = kept_all begun old cut mid known before;
-          left = left_all begun old cut mid known before;
-          begun = d.next old;
-          waiting = d.next new;
-          brought = (
-            d.next mid,
-            (reached new, brought mid new (talk_over cut) call gives.0 gives.1 (ap d.own (same_cut begun old cut mid known before) ∙ own_is) here (obeys new (gives.1.same ∙ same_cut begun old cut mid known before))),
-            brought_cut cut mid known before,
-          );
-        }
 
-  module _ (old : C) (obeys : (c : C) → d.job c ≡ d.job old → (es : Trace) → d.fits c es → IsObedientBy rule who (d.next c) (reached c) es) (own_is : d.own (d.job old) ≡ who.instance) (fits : d.fits old []) where
-    pub ended_over : (retry n : ℕ) (new : C) (coming after : Connections) (outcome : Outcome) → DrivesAgain d retry old (Ok n) new coming after → reached new ≡ Some outcome
-        → Ended rule who outcome retry coming after
-    ended_over retry n new coming after outcome a is = ended_by a.begun old obeys own_is fits retry n a.mid new a.known a.ended coming after outcome a.cut a.last a.before a.gives a.dialed a.store a.few is
+    comes_as : (result : Result ℕ TryError) (new : C) (o : Option Outcome) → reached new ≡ o → ((n : ℕ) → result ≡ Ok n → o ≢ None) → (came : Result Outcome TryError) × ComesTo result (reached new) came
+    comes_as (Err error) new o is some = (Err error, refl)
+    comes_as (Ok n) new (Some outcome) is some = (Ok outcome, (outcome, is, refl))
+    comes_as (Ok n) new None is some = absurd (some n refl refl)
 
-    pub given_ended : (retry n : ℕ) (new : C) (coming after : Connections) (outcome : Outcome) (a : DrivesAgain d retry old (Ok n) new coming after) (is : reached new ≡ Some outcome)
-        → given_over (ended_over retry n new coming after outcome a is) ≡ given_in (talk_over (a.last ∷ a.cut))
-    unfolding ended_over
-    given_ended retry n new coming after outcome a is = given_by a.begun old obeys own_is fits retry n a.mid new a.known a.ended coming after outcome a.cut a.last a.before a.gives a.dialed a.store a.few is
+    -- a job that never wants input has an outcome where nothing is pending
+    pub comes_over : ((es : Trace) → ¬ rule.wanting es) → (retry : ℕ) (from : F) (result : Result ℕ TryError) (new : C) (to : F) (coming after : Connections)
+        → DrivesAgain d Called retry old from result new to coming after → (came : Result Outcome TryError) × ComesTo result (reached new) came
+    comes_over never retry from result new to coming after a =
+        let es = trace_of (talk_over (a.last ∷ a.cut)) ++ [] in
+        let same : d.job new ≡ d.job old = same_try d a.known a.mid a.last result new a.ended a.gives ∙ same_cut a.begun old a.cut a.mid a.known a.before in
+        comes_as result new (reached new) refl (λ n is none. never es ((obeys new same es (a.went.fits [] fits)).settled
+        (nothing_next a.known a.mid a.last n new a.ended (subst (λ r. TryGives d a.known a.mid a.last r new a.ended) is a.gives)) none))
 
-    pub obeyed_over : (retry : ℕ) (result : Result ℕ TryError) (new : C) (coming after : Connections) → DrivesAgain d retry old result new coming after → Obeyed rule who retry coming after
-    obeyed_over retry result new coming after a = obeyed_by a.begun old obeys own_is fits retry result a.mid new a.known a.ended coming after a.cut a.last a.before a.gives a.dialed a.store a.few
-
--- where nothing was tried there is no other store
-store_of_none : (retry : ℕ) → AreAtOneStore retry []
-store_of_none zero = (false, [], (λ p. absurd (let q = p in cc), λ less. absurd (omega (arith, less))), tt, tt)
-store_of_none (suc n) = (true, [], (λ p. omega arith, λ less. refl), tt, tt)
+    -- however far it was brought
+    pub obeyed_over : ((es : Trace) → ¬ rule.wanting es) → (retry : ℕ) (from : F) (result : Result ℕ TryError) (new : C) (to : F) (coming after : Connections)
+        → DrivesAgain d Called retry old from result new to coming after → Obeyed rule who retry coming after
+    obeyed_over never retry from result new to coming after a =
+        let comes = comes_over never retry from result new to coming after a in
+        inr (comes.0, (brought_into retry from result new to coming after comes.0 a comes.1).brought)
 
 -- no connection was asked for
 pub obeyed_none : (rule : Rule) (who : Asker) (retry : ℕ) (coming : Connections) → Obeyed rule who retry coming coming
-obeyed_none rule who retry coming = record { tries = []; few = omega arith; dialed = refl; begun_by = tt; store = store_of_none retry; kept = tt; left = tt; begun = None; waiting = None; brought = refl }
+obeyed_none rule who retry coming = inl refl

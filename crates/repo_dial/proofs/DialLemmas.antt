@@ -7,11 +7,14 @@ use Rattle.repo_wire.specs.declared.messages.Request.{Request}
 use Rattle.repo_wire.specs.declared.messages.Say.{Say}
 use Rattle.repo_store.specs.Channels.{said_in}
 use Rattle.repo_session.specs.declared.driving.DriveError.{DriveError}
+use Rattle.repo_session.specs.declared.emissions.Emission.{Emission}
 use Rattle.repo_session.specs.Clients.{exchange}
+use Rattle.repo_session.specs.Sinks.{IsHandedOn}
 use Rattle.repo_session.specs.Talks.{Talk, Said, IsTurn, AreNumbered, Drives, Went, WritesPart, first_carried, pending_frame, sent_in, trace_of}
 use Rattle.repo_session.specs.Traces.{Each, Trace}
+use Rattle.repo_session.proofs.Handing.{handed_after}
 use Rattle.repo_session.proofs.Talking.{by_part, went_nowhere, whole_part}
-use Rattle.repo_dial.specs.Dialing.{Connections, Driven, Try, Missed, Turned, Carried, talk_in, talk_over, AreAtOneStore, AreDialed, IsDialed, IsAtStore, Meets, MeetsSay, config_in, config_of, config_told, or_else, first_told, TryGives, AreCut, is_cut, DrivesAgain}
+use Rattle.repo_dial.specs.Dialing.{Connections, Driven, Try, Missed, Turned, Carried, talk_in, talk_over, AreAtOneStore, AreDialed, IsDialed, IsAtStore, Meets, MeetsSay, config_in, config_of, config_told, or_else, first_told, IsStopped, TryGives, AreCut, is_cut, DrivesAgain}
 use Rattle.repo_dial.specs.declared.peers.Acquaintance.{Acquaintance}
 use Rattle.repo_dial.specs.declared.again.TryError.{TryError}
 use Rattle.repo_dial.proofs.TryLemmas.{no_farewell}
@@ -187,8 +190,23 @@ module _ {C J : Type 0} (d : Driven C J) where
 
 -- ---- tries, one after another
 
+-- a sink doesn't stop a try that is cut off
+not_stopped_cut : (error : TryError) → is_cut error ≡ true → ¬ IsStopped {T = ℕ} (Err error)
+not_stopped_cut error cut stopped =
+    let same : error ≡ TryError.Drive DriveError.Sink = cc in
+    let is : is_cut (TryError.Drive DriveError.Sink) ≡ true = subst (λ e. is_cut e ≡ true) same cut in
+    absurd (cc)
+
+-- behind tries that were cut off the config is known that was told first
+pub known_cut : {C J : Type 0} (d : Driven C J) (begun : Acquaintance) (old : C) (tries : List Try) (new : C) (known : Acquaintance) → begun.config ≡ None → AreCut d begun old tries new known
+    → known.config ≡ first_told tries
+known_cut d begun old [] new known none h = ap (λ (a : Acquaintance). a.config) h.1 ∙ none
+known_cut d begun old (try ∷ tries) new known none h =
+    known_try d h.1 h.0 try (Err h.3.0) new known h.3.1 ∙ ap (λ o. or_else o (config_told try)) (known_cut d begun old tries h.0 h.1 none h.2)
+
 -- the last of some tries gave this result, and those before it, so many, were cut off; before the first one no config was known
-pub record Tried {C J : Type 0} (d : Driven C J) (asks : Bool) (old : C) (result : Result ℕ TryError) (new : C) (ended : Acquaintance) (coming after : Connections) (n : ℕ) : Type 0 where
+pub record Tried {C J F : Type 0} (d : Driven C J) (Called : F → Emission → Bool → F → Type 0) (asks : Bool) (old : C) (from : F) (result : Result ℕ TryError) (new : C) (to : F) (ended : Acquaintance)
+    (coming after : Connections) (n : ℕ) : Type 0 where
   pub begun : Acquaintance
   pub known : Acquaintance
   pub cut : List Try
@@ -199,87 +217,82 @@ pub record Tried {C J : Type 0} (d : Driven C J) (asks : Bool) (old : C) (result
   pub gives : TryGives d known mid last result new ended
   pub dialed : AreDialed coming (last ∷ cut) after
   pub went : Went (d.own (d.job old)) d.fits old (talk_over (last ∷ cut)) new
+  pub handed : IsHandedOn Called (IsStopped result) from (talk_over (last ∷ cut)) to
   pub store : (config : List ℕ) → MayBe ended.config config → Each (IsAtStore asks config) (last ∷ cut)
   pub first : ended.config ≡ first_told (last ∷ cut)
   pub asked : ended.asks ≡ asks
   pub count : length cut ≡ n
   pub same : d.job new ≡ d.job old
 
-module _ {C J : Type 0} (d : Driven C J) (asks : Bool) (old : C) where
+module _ {C J F : Type 0} (d : Driven C J) (Called : F → Emission → Bool → F → Type 0) (asks : Bool) (old : C) (from : F) where
   -- the first
-  pub tried_first : (begun : Acquaintance) (result : Result ℕ TryError) (new : C) (ended : Acquaintance) (coming after : Connections) (try : Try) → begun.config ≡ None → begun.asks ≡ asks → IsDialed coming try after
-      → TryGives d begun old try result new ended → (Also : List Try → Type 0) → Also (try ∷ []) → (tried : Tried d asks old result new ended coming after 0) × Also (tried.last ∷ tried.cut)
-  tried_first begun result new ended coming after try none is dials gives Also also = (
-    record {
-      begun = begun;
-      known = begun;
-      cut = [];
-      mid = old;
-      last = try;
-      fresh = (none, is);
-      before = (refl, refl);
-      gives = gives;
-      dialed = (coming, refl, dials);
-      went = subst (λ t. Went (d.own (d.job old)) d.fits old t new) (sym (append-nil (talk_in try))) (went_try d begun old try result new ended gives);
-      store = λ config may. (at_store d asks begun old try result new ended config is gives may, tt);
-      first = known_try d begun old try result new ended gives ∙ ap (λ o. or_else o (config_told try)) none;
-      asked = asks_same d begun old try result new ended gives ∙ is;
-      count = refl;
-      same = same_try d begun old try result new ended gives;
-    },
-    also,
-  )
+  pub tried_first : (begun : Acquaintance) (result : Result ℕ TryError) (new : C) (to : F) (ended : Acquaintance) (coming after : Connections) (try : Try) → begun.config ≡ None → begun.asks ≡ asks
+      → IsDialed coming try after → TryGives d begun old try result new ended → IsHandedOn Called (IsStopped result) from (talk_in try) to
+      → Tried d Called asks old from result new to ended coming after 0
+  tried_first begun result new to ended coming after try none is dials gives handed = record {
+    begun = begun;
+    known = begun;
+    cut = [];
+    mid = old;
+    last = try;
+    fresh = (none, is);
+    before = (refl, refl);
+    gives = gives;
+    dialed = (coming, refl, dials);
+    went = subst (λ t. Went (d.own (d.job old)) d.fits old t new) (sym (append-nil (talk_in try))) (went_try d begun old try result new ended gives);
+    handed = subst (λ t. IsHandedOn Called (IsStopped result) from t to) (sym (append-nil (talk_in try))) handed;
+    store = λ config may. (at_store d asks begun old try result new ended config is gives may, tt);
+    first = known_try d begun old try result new ended gives ∙ ap (λ o. or_else o (config_told try)) none;
+    asked = asks_same d begun old try result new ended gives ∙ is;
+    count = refl;
+    same = same_try d begun old try result new ended gives;
+  }
 
   -- one more
-  pub tried_again : (error : TryError) (result : Result ℕ TryError) (mid new : C) (known ended : Acquaintance) (coming between after : Connections) (n : ℕ) (try : Try) (t : Tried d asks old (Err error) mid known coming between n)
-      → is_cut error ≡ true → IsDialed between try after → TryGives d known mid try result new ended → (Also : List Try → Type 0) → Also (try ∷ t.last ∷ t.cut)
-      → (tried : Tried d asks old result new ended coming after (n + 1)) × Also (tried.last ∷ tried.cut)
-  tried_again error result mid new known ended coming between after n try t is dials gives Also also = (
-    record {
-      begun = t.begun;
-      known = known;
-      cut = t.last ∷ t.cut;
-      mid = mid;
-      last = try;
-      fresh = t.fresh;
-      before = (t.mid, t.known, t.before, (error, t.gives, is));
-      gives = gives;
-      dialed = (between, t.dialed, dials);
-      went = went_both (d.own (d.job old)) d.fits old mid new (talk_over (t.last ∷ t.cut)) (talk_in try) t.went
-          (subst (λ j. Went (d.own j) d.fits mid (talk_in try) new) t.same (went_try d known mid try result new ended gives));
-      store = λ config may. (at_store d asks known mid try result new ended config t.asked gives may, t.store config (may_before d known mid try result new ended config known.config refl gives may));
-      first = known_try d known mid try result new ended gives ∙ ap (λ o. or_else o (config_told try)) t.first;
-      asked = asks_same d known mid try result new ended gives ∙ t.asked;
-      count = omega (arith, t.count);
-      same = same_try d known mid try result new ended gives ∙ t.same;
-    },
-    also,
-  )
+  pub tried_again : (error : TryError) (result : Result ℕ TryError) (mid new : C) (between to : F) (known ended : Acquaintance) (coming behind after : Connections) (n : ℕ) (try : Try)
+      → Tried d Called asks old from (Err error) mid between known coming behind n → is_cut error ≡ true → IsDialed behind try after → TryGives d known mid try result new ended
+      → IsHandedOn Called (IsStopped result) between (talk_in try) to → Tried d Called asks old from result new to ended coming after (n + 1)
+  tried_again error result mid new between to known ended coming behind after n try t is dials gives handed = record {
+    begun = t.begun;
+    known = known;
+    cut = t.last ∷ t.cut;
+    mid = mid;
+    last = try;
+    fresh = t.fresh;
+    before = (t.mid, t.known, t.before, (error, t.gives, is));
+    gives = gives;
+    dialed = (behind, t.dialed, dials);
+    went = went_both (d.own (d.job old)) d.fits old mid new (talk_over (t.last ∷ t.cut)) (talk_in try) t.went
+        (subst (λ j. Went (d.own j) d.fits mid (talk_in try) new) t.same (went_try d known mid try result new ended gives));
+    handed = handed_after Called (IsStopped result) (talk_in try) (talk_over (t.last ∷ t.cut)) from between to (t.handed.all (not_stopped_cut error is)) handed;
+    store = λ config may. (at_store d asks known mid try result new ended config t.asked gives may, t.store config (may_before d known mid try result new ended config known.config refl gives may));
+    first = known_try d known mid try result new ended gives ∙ ap (λ o. or_else o (config_told try)) t.first;
+    asked = asks_same d known mid try result new ended gives ∙ t.asked;
+    count = omega (arith, t.count);
+    same = same_try d known mid try result new ended gives ∙ t.same;
+  }
 
   one_store : (retry : ℕ) (known : Option (List ℕ)) (tries : List Try) → ((config : List ℕ) → MayBe known config → Each (IsAtStore asks config) tries) → ((asks ≡ true) ↔ (0 < retry)) → known ≡ first_told tries → AreAtOneStore retry tries
   one_store retry None tries store on first = (asks, [], on, store [] (inl refl), subst (λ o. IfSome o (λ x. [] ≡ x)) first tt)
   one_store retry (Some config) tries store on first = (asks, config, on, store config (inr refl), subst (λ o. IfSome o (λ x. config ≡ x)) first refl)
 
   -- all that may be tried, or it came to an end before
-  pub drives_again : (retry : ℕ) (result : Result ℕ TryError) (new : C) (ended : Acquaintance) (coming after : Connections) (n : ℕ) (t : Tried d asks old result new ended coming after n) → n ≤ retry
-      → ((asks ≡ true) ↔ (0 < retry)) → ((error : TryError) → result ≡ Err error → is_cut error ≡ true → n ≡ retry) → (Also : List Try → Type 0) → Also (t.last ∷ t.cut)
-      → (again : DrivesAgain d retry old result new coming after) × Also (again.last ∷ again.cut)
-  drives_again retry result new ended coming after n t few on spent Also also = (
-    record {
-      begun = t.begun;
-      known = t.known;
-      ended = ended;
-      cut = t.cut;
-      mid = t.mid;
-      last = t.last;
-      fresh = (t.fresh.0, subst (λ b. (b ≡ true) ↔ (0 < retry)) (sym t.fresh.1) on);
-      before = t.before;
-      gives = t.gives;
-      dialed = t.dialed;
-      went = t.went;
-      store = one_store retry ended.config (t.last ∷ t.cut) t.store on t.first;
-      few = omega (arith, t.count, few);
-      spent = λ error is cut. t.count ∙ spent error is cut;
-    },
-    also,
-  )
+  pub drives_again : (retry : ℕ) (result : Result ℕ TryError) (new : C) (to : F) (ended : Acquaintance) (coming after : Connections) (n : ℕ) → Tried d Called asks old from result new to ended coming after n → n ≤ retry
+      → ((asks ≡ true) ↔ (0 < retry)) → ((error : TryError) → result ≡ Err error → is_cut error ≡ true → n ≡ retry) → DrivesAgain d Called retry old from result new to coming after
+  drives_again retry result new to ended coming after n t few on spent = record {
+    begun = t.begun;
+    known = t.known;
+    ended = ended;
+    cut = t.cut;
+    mid = t.mid;
+    last = t.last;
+    fresh = (t.fresh.0, subst (λ b. (b ≡ true) ↔ (0 < retry)) (sym t.fresh.1) on);
+    before = t.before;
+    gives = t.gives;
+    dialed = t.dialed;
+    went = t.went;
+    handed = t.handed;
+    store = one_store retry ended.config (t.last ∷ t.cut) t.store on t.first;
+    few = omega (arith, t.count, few);
+    spent = λ error is cut. t.count ∙ spent error is cut;
+  }

@@ -1,10 +1,8 @@
 -- What a store told to the ask for its config, where the job doesn't go on at it.
 use Rattle.std.specs.Prelude.{⊤}
-use Rattle.std.proofs.Common.{◌≡◌, ◌≢◌, ℕ, true, List, Option, Some, None, Result, Ok, Err, refl, subst}
-use Rattle.repo_wire.specs.declared.messages.Reply.{Reply}
+use Rattle.std.proofs.Common.{◌≡◌, ℕ, List, Option, Some, None, Result, Err, refl, subst}
 use Rattle.repo_wire.specs.declared.messages.Say.{Say}
-use Rattle.repo_session.specs.declared.driving.DriveError.{DriveError}
-use Rattle.repo_dial.specs.Dialing.{Meets, MeetsSay, Recognizes, is_cut}
+use Rattle.repo_dial.specs.Dialing.{MeetsSay, Recognizes}
 use Rattle.repo_dial.specs.declared.again.TryError.{TryError}
 
 -- the store told something
@@ -29,19 +27,3 @@ told_error known (Say.Token token) error after m = told_kind error TryError.BadR
 told_error known Say.Done error after m = told_kind error TryError.BadReply (Err error) refl m.0 tt
 told_error known (Say.Names more names) error after m = told_kind error TryError.BadReply (Err error) refl m.0 tt
 told_error known (Say.LockList rows) error after m = told_kind error TryError.BadReply (Err error) refl m.0 tt
-
-told_ends : (error : TryError) → IsTold error → is_cut error ≢ true
-told_ends (TryError.Refused code) told cut = absurd (cc)
-told_ends TryError.BadReply told cut = absurd (cc)
-told_ends TryError.OtherStore told cut = absurd (cc)
-told_ends TryError.NotReached told cut = told
-told_ends (TryError.Drive error) told cut = told
-
--- where the job goes on over another connection, there was no reply
-pub left_behind : (known : Option (List ℕ)) (answer : Result Reply DriveError) (error : TryError) (after : Option (List ℕ)) → Meets known answer (Err error) after → is_cut error ≡ true
-    → (why : DriveError) × (answer ≡ Err why) × (is_cut (TryError.Drive why) ≡ true)
-left_behind known (Ok reply) error after m cut = absurd (told_ends error (told_error known reply.say error after m) cut)
-left_behind known (Err why) error after m cut =
-    let same = m.0 in
-    let is : error ≡ TryError.Drive why = cc in
-    (why, refl, subst (λ e. is_cut e ≡ true) is cut)

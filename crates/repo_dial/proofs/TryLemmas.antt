@@ -1,5 +1,5 @@
 -- One try: the store is met, the client is driven, and its lock is given back.
-use Rattle.std.proofs.Common.{◌≡◌, ◌≢◌, ◌+◌, ◌++◌, ◌∷◌, [], ℕ, true, Option, Some, None, Result, Ok, Err, length, refl, sym, ap, subst, inl, inr, ◌∙◌}
+use Rattle.std.proofs.Common.{◌≡◌, ◌≢◌, ◌+◌, ◌++◌, ◌∷◌, [], ℕ, Option, Some, None, Result, Ok, Err, length, refl, sym, ap, subst, inl, inr, ◌∙◌}
 use Rattle.std.specs.Prelude.{option_map}
 use Rattle.repo_name.specs.declared.tokens.Token.{Token}
 use Rattle.repo_wire.specs.declared.messages.Ask.{Ask}
@@ -11,7 +11,7 @@ use Rattle.repo_session.specs.declared.outcomes.Outcome.{Outcome}
 use Rattle.repo_session.specs.Clients.{IsNextRequest, IsObedientWith, TellsToken}
 use Rattle.repo_session.specs.Order.{Task, locked, May}
 use Rattle.repo_session.specs.Traces.{Exchange, Exchanged, Trace}
-use Rattle.repo_dial.specs.Dialing.{Asking, AsksOnce, Call, Connections, Driven, DrivenOver, Try, Turned, Carried, Dials, EndsOwnLock, HangsUp, HasMet, IsBehind, IsDialed, IsFarewell, IsGivenBack, TakesLeave, TryGives, as_try, dialed_in, talk_in, is_cut, ends_behind, farewell_of, left_in, token_to_end, unlock_in_place}
+use Rattle.repo_dial.specs.Dialing.{Asking, AsksOnce, Call, Connections, Driven, DrivenOver, Try, Turned, Carried, Dials, EndsOwnLock, HangsUp, HasMet, IsBehind, IsDialed, IsFarewell, IsGivenBack, TakesLeave, TryGives, as_try, dialed_in, talk_in, ends_behind, farewell_of, left_in, token_to_end, unlock_in_place}
 use Rattle.repo_dial.specs.Ends.{ConnectionEnds}
 use Rattle.repo_dial.specs.declared.again.TryError.{TryError}
 use Rattle.repo_dial.specs.declared.peers.Acquaintance.{Acquaintance}
@@ -27,18 +27,7 @@ no_leave (Err DriveError.Limit) next told call isnt none = none
 no_leave (Err DriveError.Memory) next told call isnt none = none
 no_leave (Err DriveError.Sink) next told call isnt none = absurd (isnt refl)
 
--- after an error with which the job may go on over another connection nothing is asked for, nor where it came to its end
-pub kept_cut : (driven : Result ℕ DriveError) (error : TryError) (next : Option Request) (told : Option Token) (call : Call) → Err error ≡ as_try driven → is_cut error ≡ true → TakesLeave driven next told call
-    → call.farewell ≡ None
-kept_cut (Ok n) error next told call is cut none = none
-kept_cut (Err DriveError.Read) error next told call is cut none = none
-kept_cut (Err DriveError.Write) error next told call is cut none = none
-kept_cut (Err DriveError.Malformed) error next told call is cut none = none
-kept_cut (Err DriveError.Limit) error next told call is cut none = none
-kept_cut (Err DriveError.Memory) error next told call is cut none = none
-kept_cut (Err DriveError.Sink) error next told call is cut none = absurd (cc)
-
--- nor where nothing is pending
+-- nothing is asked for behind where nothing is pending
 pub no_farewell : (driven : Result ℕ DriveError) (next : Option Request) (told : Option Token) (call : Call) → next ≡ None → TakesLeave driven next told call → call.farewell ≡ None
 no_farewell (Ok n) next told call is none = none
 no_farewell (Err DriveError.Read) next told call is none = none

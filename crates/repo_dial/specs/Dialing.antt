@@ -8,7 +8,9 @@ use Rattle.repo_wire.specs.declared.messages.Request.{Request}
 use Rattle.repo_wire.specs.declared.messages.Say.{Say}
 use Rattle.repo_store.specs.Channels.{Passage, heard_in, said_in}
 use Rattle.repo_session.specs.declared.driving.DriveError.{DriveError}
+use Rattle.repo_session.specs.declared.emissions.Emission.{Emission}
 use Rattle.repo_session.specs.Order.{Task}
+use Rattle.repo_session.specs.Sinks.{IsHandedOn}
 use Rattle.repo_session.specs.Talks.{Talk, Said, AskGives, Drives, Went}
 use Rattle.repo_session.specs.Traces.{Each, Exchanged, Trace}
 use Rattle.repo_session.specs.Turns.{AreAskedInTurn, IsAskedFirst, asked_in}
@@ -126,16 +128,6 @@ abbrev pub left_in : Try → Option ConnectionEnds
 left_in Missed = None
 left_in (Turned asking) = Some asking.left
 left_in (Carried asking call) = Some (ends_behind call.left call.farewell)
-
--- the unlock that was asked for behind what a client said over it, if one was
-abbrev pub farewell_in : Try → Option Asking
-farewell_in Missed = None
-farewell_in (Turned asking) = None
-farewell_in (Carried asking call) = call.farewell
-
--- in none of these tries the client's lock was given back so
-abbrev pub AreKept : List Try → Type 0
-AreKept tries = Each (λ try. farewell_in try ≡ None) tries
 
 abbrev pub IsGivenBack : Connections → Option ConnectionEnds → Connections → Type 0
 IsGivenBack old None new = new ≡ old
@@ -286,10 +278,9 @@ abbrev pub as_try : Result ℕ DriveError → Result ℕ TryError
 as_try (Ok n) = Ok n
 as_try (Err error) = Err (TryError.Drive error)
 
--- whether what was given out was all taken, where a try ends so
-abbrev pub all_taken : Result ℕ TryError → Bool
-all_taken (Err (TryError.Drive DriveError.Sink)) = false
-all_taken _ = true
+-- it ended because the sink took no more
+abbrev pub IsStopped : {T : Type 0} → Result T TryError → Type 0
+IsStopped result = result ≡ Err (TryError.Drive DriveError.Sink)
 
 -- what a try gives: there was no connection, and all is as before; its store isn't the job's, and the client is as before; or the client was driven
 abbrev pub TryGives : {C J : Type 0} → Driven C J → Acquaintance → C → Try → Result ℕ TryError → C → Acquaintance → Type 0
@@ -319,9 +310,9 @@ AreCut {C} d known old (try ∷ tries) new after =
     (mid : C) × (between : Acquaintance) × AreCut d known old tries mid between × ((error : TryError) × TryGives d between mid try (Err error) new after × (is_cut error ≡ true))
 
 -- what driving a client over connections gives, where the first may be followed by so many more: the last try gave the result, and all before it
--- were cut off; before the first one no config was known, and just where more may be made stores are asked for it; the client went as over one connection,
--- and all were to one store; and where the last one was cut off too, no more were left
-pub record DrivesAgain {C J : Type 0} (d : Driven C J) (retry : ℕ) (old : C) (result : Result ℕ TryError) (new : C) (coming after : Connections) : Type 0 where
+-- were cut off; before the first one no config was known, and just where more may be made stores are asked for it; the client went as over one connection, what it gave
+-- out was handed on, and all were to one store; and where the last one was cut off too, no more were left
+pub record DrivesAgain {C J F : Type 0} (d : Driven C J) (Called : F → Emission → Bool → F → Type 0) (retry : ℕ) (old : C) (from : F) (result : Result ℕ TryError) (new : C) (to : F) (coming after : Connections) : Type 0 where
   pub begun : Acquaintance
   pub known : Acquaintance
   pub ended : Acquaintance
@@ -333,6 +324,7 @@ pub record DrivesAgain {C J : Type 0} (d : Driven C J) (retry : ℕ) (old : C) (
   pub gives : TryGives d known mid last result new ended
   pub dialed : AreDialed coming (last ∷ cut) after
   pub went : Went (d.own (d.job old)) d.fits old (talk_over (last ∷ cut)) new
+  pub handed : IsHandedOn Called (IsStopped result) from (talk_over (last ∷ cut)) to
   pub store : AreAtOneStore retry (last ∷ cut)
   pub few : length cut ≤ retry
   pub spent : (error : TryError) → result ≡ Err error → is_cut error ≡ true → length cut ≡ retry

@@ -1,10 +1,10 @@
 //! The driver of a client over connections that are made one after another.
 
 ghost use Rattle.std.specs.Fn.{CalledAt};
-ghost use Rattle.std.specs.Prelude.{◌≡◌, ◌∷◌, Some};
-ghost use Rattle.repo_session.specs.Sinks.{AreHandedOn, takes_all};
-ghost use Rattle.repo_session.specs.Talks.{given_in};
-ghost use Rattle.repo_dial.specs.Dialing.{Call, Try, driven_by, dialed_in, left_in, talk_in, talk_over, ends_behind, IsDialed, DrivenOver, TryGives, all_taken, is_cut, DrivesAgain};
+ghost use Rattle.std.specs.Prelude.{◌≡◌, Some, Err};
+ghost use Rattle.repo_session.specs.Sinks.{IsHandedOn};
+ghost use Rattle.repo_session.specs.declared.driving.DriveError.{DriveError};
+ghost use Rattle.repo_dial.specs.Dialing.{Call, Try, driven_by, dialed_in, left_in, talk_in, ends_behind, IsDialed, IsStopped, DrivenOver, TryGives, is_cut, DrivesAgain};
 
 use crate::dialing::Dial;
 use crate::ends::KnownChannel;
@@ -69,7 +69,7 @@ fn carry<C: Client, E: KnownChannel, F: FnMut(&Emission) -> bool>(
     requires callable { (state : F) (x : _) → F.pre state x }
     ensures { (call : Call) × (call.came ≡ E.ends channel.old) × (ends_behind call.left call.farewell ≡ E.ends channel.new)
         × DrivenOver (driven_by C.task C.job C.fits C.next C.token_of) client.old call result client.new
-        × AreHandedOn (CalledAt F.FnMut) (takes_all result) sink.old (given_in call.said.talk) sink.new }
+        × IsHandedOn (CalledAt F.FnMut) (result ≡ Err DriveError.Sink) sink.old call.said.talk sink.new }
 {
     let mut connection = Connection::new(alloc)?;
     let driven = drive_over(client, &mut connection, channel, sink);
@@ -91,7 +91,7 @@ fn try_over<C: Client, E: KnownChannel, F: FnMut(&Emission) -> bool>(
     requires callable { (state : F) (x : _) → F.pre state x }
     ensures { (try : Try) × (dialed_in try ≡ Some (E.ends channel.old)) × (left_in try ≡ Some (E.ends channel.new))
         × TryGives (driven_by C.task C.job C.fits C.next C.token_of) known.old client.old try result client.new known.new
-        × AreHandedOn (CalledAt F.FnMut) (all_taken result) sink.old (given_in (talk_in try)) sink.new }
+        × IsHandedOn (CalledAt F.FnMut) (IsStopped result) sink.old (talk_in try) sink.new }
 {
     if let Err(error) = known.meet(alloc, client, channel) {
         return Err(error);
@@ -113,7 +113,7 @@ fn try_once<C: Client, D: Dial, F: FnMut(&Emission) -> bool>(
     requires callable { (state : F) (x : _) → F.pre state x }
     ensures { (try : Try) × IsDialed (D.connections dial.old) try (D.connections dial.new)
         × TryGives (driven_by C.task C.job C.fits C.next C.token_of) known.old client.old try result client.new known.new
-        × AreHandedOn (CalledAt F.FnMut) (all_taken result) sink.old (given_in (talk_in try)) sink.new }
+        × IsHandedOn (CalledAt F.FnMut) (IsStopped result) sink.old (talk_in try) sink.new }
 {
     let Some(mut channel) = dial.dial() else {
         return Err(TryError::NotReached);
@@ -137,20 +137,19 @@ pub fn drive_again<C: Client, D: Dial, F: FnMut(&Emission) -> bool>(
     client: &mut C,
     dial: &mut D,
     retry: u64,
-    mut sink: F,
+    sink: &mut F,
 ) -> Result<u64, TryError>
     requires callable { (state : F) (x : _) → F.pre state x }
-    ensures again { (again : DrivesAgain (driven_by C.task C.job C.fits C.next C.token_of) retry client.old result client.new
-        (D.connections dial.old) (D.connections dial.new))
-        × ((last : F) × AreHandedOn (CalledAt F.FnMut) (all_taken result) sink (given_in (talk_over (again.last ∷ again.cut))) last) }
+    ensures again { DrivesAgain (driven_by C.task C.job C.fits C.next C.token_of) (CalledAt F.FnMut) retry client.old sink.old result client.new sink.new
+        (D.connections dial.old) (D.connections dial.new) }
     ensures job { C.job client.new ≡ C.job client.old }
 {
     let mut known = Acquaintance::new(retry);
-    let mut result = try_once(alloc, client, dial, &mut known, &mut sink);
+    let mut result = try_once(alloc, client, dial, &mut known, sink);
     for turn in 0..retry {
         match result {
             Err(error) if is_cut(error) => {
-                result = try_once(alloc, client, dial, &mut known, &mut sink);
+                result = try_once(alloc, client, dial, &mut known, sink);
             }
             other => return other,
         }

@@ -1,11 +1,10 @@
 //! A job that is brought to its end over connections that are made one after another.
 
 ghost use Rattle.std.specs.Fn.{CalledAt};
-ghost use Rattle.std.specs.Prelude.{[], IfOk};
+ghost use Rattle.std.specs.Prelude.{[]};
 ghost use Rattle.repo_session.specs.Sessions.{FitsWanting, who_in};
-ghost use Rattle.repo_session.specs.Sinks.{IsTakenBy};
 ghost use Rattle.repo_session.specs.Traces.{Trace};
-ghost use Rattle.repo_dial.specs.Bringing.{Ended, Obeyed, given_over};
+ghost use Rattle.repo_dial.specs.Bringing.{BroughtInto};
 
 use crate::again::{TryError, drive_again};
 use crate::dialing::Dial;
@@ -17,17 +16,14 @@ use std::alloc::Global;
 pub fn bring<J: Job + Drop, D: Dial, F: FnMut(&Emission) -> bool>(
     alloc: Global,
     session: Session<J>,
-    sink: F,
+    sink: &mut F,
     dial: &mut D,
     retry: u64,
 ) -> Result<Outcome, TryError>
     requires fits { FitsWanting J.handed J.rule J.fresh J.knows J.wants session [] }
     requires never { (es : Trace) → ¬ ((J.rule (J.handed session.job)).wanting es) }
     requires callable { (state : F) (x : _) → F.pre state x }
-    ensures obeyed { Obeyed (J.rule (J.handed session.job)) (who_in session) retry (D.connections dial.old) (D.connections dial.new) }
-    ensures ended { IfOk result (λ outcome. Ended (J.rule (J.handed session.job)) (who_in session) outcome retry (D.connections dial.old) (D.connections dial.new)) }
-    ensures taken { IfOk result (λ outcome. (ended : Ended (J.rule (J.handed session.job)) (who_in session) outcome retry (D.connections dial.old) (D.connections dial.new))
-        × IsTakenBy (CalledAt F.FnMut) sink (given_over ended)) }
+    ensures { BroughtInto (CalledAt F.FnMut) sink.old (J.rule (J.handed session.job)) (who_in session) result retry (D.connections dial.old) (D.connections dial.new) sink.new }
 {
     let mut session = session;
     let driven = drive_again(alloc, &mut session, dial, retry, sink);

@@ -7,7 +7,7 @@ ghost use Rattle.repo_wire.specs.declared.messages.Ask.{Ask};
 ghost use Rattle.repo_session.specs.Jobs.{IsShortStep, StepsOn};
 ghost use Rattle.repo_session.specs.Listings.{KnowsAsMuch};
 ghost use Rattle.repo_session.specs.Traces.{silent};
-ghost use Rattle.repo_dial.specs.Bringing.{Ended, Obeyed};
+ghost use Rattle.repo_dial.specs.Bringing.{Brought};
 ghost use Rattle.repo_prune.specs.declared.choices.Choice.{Choice};
 ghost use Rattle.repo_prune.specs.Forgetting.{AreChosenOf, IsNoPolicy, WouldForget, forget_rule};
 ghost use Rattle.repo_prune.specs.ForgetStates.{FitsForget, IsFreshForget, KnowsDelete, KnowsForget, ForgetBegins, ForgetGoesOn, ForgetReadsOn, who_of, choice_of, TakesPage};
@@ -256,11 +256,10 @@ impl Forget {
         retry: u64,
     ) -> Result<Outcome, TryError>
         requires { FitsForget self [] }
-        ensures obeyed { Obeyed (forget_rule (choice_of self)) (who_of self) retry (D.connections dial.old) (D.connections dial.new) }
-        ensures ended { IfOk result (λ outcome. Ended (forget_rule (choice_of self)) (who_of self) outcome retry (D.connections dial.old) (D.connections dial.new)) }
+        ensures { Brought (forget_rule (choice_of self)) (who_of self) result retry (D.connections dial.old) (D.connections dial.new) }
     {
         let Forget { session } = self;
-        bring(alloc, session, |_| true, dial, retry)
+        bring(alloc, session, &mut |_| true, dial, retry)
     }
 }
 

@@ -2,7 +2,7 @@
 
 ghost use Rattle.std.specs.Prelude.{◌≡◌, [], IfOk, OnErr};
 ghost use Rattle.repo_session.specs.Jobs.{IsShortStep};
-ghost use Rattle.repo_dial.specs.Bringing.{Ended, Obeyed};
+ghost use Rattle.repo_dial.specs.Bringing.{Brought};
 ghost use Rattle.repo_tree.specs.ConfigText.{IsTarget};
 ghost use Rattle.repo_prune.specs.Pruning.{prune_rule};
 ghost use Rattle.repo_prune.specs.PruneStates.{IsFreshPrune, StepsFor, KnowsAsMuch, FitsPrune, pruner_of};
@@ -176,11 +176,10 @@ impl Prune {
         retry: u64,
     ) -> Result<Outcome, TryError>
         requires { FitsPrune self [] }
-        ensures obeyed { Obeyed prune_rule (pruner_of self) retry (D.connections dial.old) (D.connections dial.new) }
-        ensures ended { IfOk result (λ outcome. Ended prune_rule (pruner_of self) outcome retry (D.connections dial.old) (D.connections dial.new)) }
+        ensures { Brought prune_rule (pruner_of self) result retry (D.connections dial.old) (D.connections dial.new) }
     {
         let Prune { session } = self;
-        bring(alloc, session, |_| true, dial, retry)
+        bring(alloc, session, &mut |_| true, dial, retry)
     }
 }
 

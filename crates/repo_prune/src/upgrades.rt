@@ -1,7 +1,7 @@
 //! The upgrade of a store to version 2.
 
-ghost use Rattle.std.specs.Prelude.{◌≡◌, [], IfOk};
-ghost use Rattle.repo_dial.specs.Bringing.{Ended, Obeyed};
+ghost use Rattle.std.specs.Prelude.{◌≡◌, []};
+ghost use Rattle.repo_dial.specs.Bringing.{Brought};
 ghost use Rattle.repo_prune.specs.Upgrading.{upgrade_rule};
 ghost use Rattle.repo_prune.specs.UpgradeStates.{FitsUpgrade, who_of_upgrade};
 
@@ -90,11 +90,10 @@ impl Upgrade {
         retry: u64,
     ) -> Result<Outcome, TryError>
         requires { FitsUpgrade self [] }
-        ensures obeyed { Obeyed upgrade_rule (who_of_upgrade self) retry (D.connections dial.old) (D.connections dial.new) }
-        ensures ended { IfOk result (λ outcome. Ended upgrade_rule (who_of_upgrade self) outcome retry (D.connections dial.old) (D.connections dial.new)) }
+        ensures { Brought upgrade_rule (who_of_upgrade self) result retry (D.connections dial.old) (D.connections dial.new) }
     {
         let Upgrade { session } = self;
-        bring(alloc, session, |_| true, dial, retry)
+        bring(alloc, session, &mut |_| true, dial, retry)
     }
 }
 

@@ -1,7 +1,7 @@
 //! The list of a store's snapshots.
 
-ghost use Rattle.std.specs.Prelude.{◌≡◌, [], IfOk};
-ghost use Rattle.repo_dial.specs.Bringing.{Ended, Obeyed};
+ghost use Rattle.std.specs.Prelude.{◌≡◌, []};
+ghost use Rattle.repo_dial.specs.Bringing.{Brought};
 ghost use Rattle.repo_restore.specs.Listing.{list_rule};
 ghost use Rattle.repo_restore.specs.ListStates.{FitsList, IsFreshList, who_of};
 
@@ -110,11 +110,10 @@ impl SnapshotList {
         retry: u64,
     ) -> Result<Outcome, TryError>
         requires { FitsList self [] }
-        ensures obeyed { Obeyed list_rule (who_of self) retry (D.connections dial.old) (D.connections dial.new) }
-        ensures ended { IfOk result (λ outcome. Ended list_rule (who_of self) outcome retry (D.connections dial.old) (D.connections dial.new)) }
+        ensures { Brought list_rule (who_of self) result retry (D.connections dial.old) (D.connections dial.new) }
     {
         let SnapshotList { session } = self;
-        bring(alloc, session, |_| true, dial, retry)
+        bring(alloc, session, &mut |_| true, dial, retry)
     }
 }
 

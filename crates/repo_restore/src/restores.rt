@@ -10,8 +10,7 @@ ghost use Rattle.repo_wire.specs.declared.messages.Say.{Say};
 ghost use Rattle.repo_session.specs.declared.emissions.Emission.{Emission};
 ghost use Rattle.repo_session.specs.Ends.{IsBadBlob};
 ghost use Rattle.repo_session.specs.Jobs.{IsShort, IsShortStep};
-ghost use Rattle.repo_session.specs.Sinks.{IsTakenBy};
-ghost use Rattle.repo_dial.specs.Bringing.{Ended, Obeyed, given_over};
+ghost use Rattle.repo_dial.specs.Bringing.{BroughtInto};
 ghost use Rattle.repo_restore.specs.Restoring.{restore_rule};
 ghost use Rattle.repo_restore.specs.RestoreObedience.{wish_of};
 ghost use Rattle.repo_restore.specs.RestoreStates.{FitsRestore, GoesOnKnown, IsNewRestore, KnowsRestore, RestoreReplied, RestoreRepliedTo, RestoreStays, RestoreGoesOn, RestoreTakesBlob};
@@ -271,15 +270,13 @@ impl Restore {
     pub fn bring<D: Dial, F: FnMut(&Emission) -> bool>(
         self,
         alloc: Global,
-        sink: F,
+        sink: &mut F,
         dial: &mut D,
         retry: u64,
     ) -> Result<Outcome, TryError>
         requires fits { FitsRestore self [] }
         requires callable { (state : F) (x : _) → F.pre state x }
-        ensures obeyed { Obeyed (restore_rule (wish_of self).snapshot) (wish_of self).who retry (D.connections dial.old) (D.connections dial.new) }
-        ensures taken { IfOk result (λ outcome. (ended : Ended (restore_rule (wish_of self).snapshot) (wish_of self).who outcome retry (D.connections dial.old) (D.connections dial.new))
-            × IsTakenBy (CalledAt F.FnMut) sink (given_over ended)) }
+        ensures { BroughtInto (CalledAt F.FnMut) sink.old (restore_rule (wish_of self).snapshot) (wish_of self).who result retry (D.connections dial.old) (D.connections dial.new) sink.new }
     {
         let Restore { session } = self;
         bring(alloc, session, sink, dial, retry)

@@ -1,8 +1,18 @@
 -- What is handed to a sink, one after another.
-use Rattle.std.proofs.Common.{◌≢◌, ◌++◌, ◌∷◌, [], Bool, true, false, List, Err, refl, sym, ap, subst, append_assoc, ◌∙◌}
-use Rattle.repo_session.specs.declared.driving.DriveError.{DriveError}
+use Rattle.std.proofs.Common.{◌≡◌, ◌≢◌, ◌++◌, ◌∷◌, [], Bool, true, false, List, refl, sym, ap, subst, append_assoc, ◌∙◌}
+use Rattle.std.proofs.lemmas.List.{append-nil}
 use Rattle.repo_session.specs.declared.emissions.Emission.{Emission}
-use Rattle.repo_session.specs.Sinks.{AreTaken, AreHandedOn, takes_all}
+use Rattle.repo_session.specs.Sinks.{AreTaken, StopsAt, StopsAtLast, IsHandedOn}
+use Rattle.repo_session.specs.Talks.{Talk, Turn, given_in}
+
+-- what two talks gave out, the newer first
+pub given_both : (newer older : Talk) → given_in (newer ++ older) ≡ given_in older ++ given_in newer
+given_both [] older = sym (append-nil (given_in older))
+given_both (turn ∷ newer) older = ap (λ x. x ++ turn.emitted) (given_both newer older) ∙ append_assoc (given_in older) (given_in newer) turn.emitted
+
+none_behind : (xs : List Emission) (x : Emission) (ys : List Emission) → [] ≢ xs ++ x ∷ ys
+none_behind [] x ys is = absurd (cc)
+none_behind (y ∷ xs) x ys is = absurd (cc)
 
 module _ {F : Type 0} (Called : F → Emission → Bool → F → Type 0) where
   -- some, and then some more
@@ -14,24 +24,30 @@ module _ {F : Type 0} (Called : F → Emission → Bool → F → Type 0) where
   pub taken_on : (xs : List Emission) (x : Emission) (a b c : F) → AreTaken Called a xs b → Called b x true c → AreTaken Called a (xs ++ x ∷ []) c
   taken_on xs x a b c p q = taken_both xs (x ∷ []) a b c p (c, q, refl)
 
-  -- some were taken before those of which one wasn't
-  pub handed_after : (all : Bool) (xs ys : List Emission) (a b c : F) → AreTaken Called a xs b → AreHandedOn Called all b ys c → AreHandedOn Called all a (xs ++ ys) c
-  handed_after true xs ys a b c p q = taken_both xs ys a b c p q
-  handed_after false xs ys a b c p q = record {
-    first = xs ++ q.first;
-    emission = q.emission;
-    later = q.later;
-    order = ap (λ zs. xs ++ zs) q.order ∙ sym (append_assoc xs q.first (q.emission ∷ q.later));
-    mid = q.mid;
-    taken = taken_both xs q.first a b q.mid p q.taken;
-    refused = q.refused;
+  -- a sink doesn't stop where nothing was given out
+  pub stops_some : (xs : List Emission) (a b : F) → StopsAt Called a xs b → xs ≢ []
+  stops_some xs a b h none = none_behind h.first h.emission h.later (sym none ∙ h.order)
+
+  -- where the sink didn't stop it
+  pub handed_all : (Stopped : Type 0) (talk : Talk) (a b : F) → ¬ Stopped → AreTaken Called a (given_in talk) b → IsHandedOn Called Stopped a talk b
+  handed_all Stopped talk a b other taken = record { all = λ n. taken; some = λ s. absurd (other s) }
+
+  -- where it stopped at what one turn more gave out
+  pub handed_some : (Stopped : Type 0) (turn : Turn) (talk : Talk) (a b c : F) → Stopped → AreTaken Called a (given_in talk) b → StopsAt Called b turn.emitted c → IsHandedOn Called Stopped a (turn ∷ talk) c
+  handed_some Stopped turn talk a b c stopped taken stops = record { all = λ n. absurd (n stopped); some = λ s. (b, taken, stops) }
+
+  stops_after : (newer older : Talk) (a b c : F) → AreTaken Called a (given_in older) b → StopsAtLast Called b newer c → StopsAtLast Called a (newer ++ older) c
+  stops_after [] older a b c p q = absurd q
+  stops_after (turn ∷ newer) older a b c p q =
+      (q.0, subst (λ xs. AreTaken Called a xs q.0) (sym (given_both newer older)) (taken_both (given_in older) (given_in newer) a b q.0 p q.1), q.2)
+
+  -- what an older talk gave out was taken before
+  pub handed_after : (Stopped : Type 0) (newer older : Talk) (a b c : F) → AreTaken Called a (given_in older) b → IsHandedOn Called Stopped b newer c → IsHandedOn Called Stopped a (newer ++ older) c
+  handed_after Stopped newer older a b c p q = record {
+    all = λ n. subst (λ xs. AreTaken Called a xs c) (sym (given_both newer older)) (taken_both (given_in older) (given_in newer) a b c p (q.all n));
+    some = λ s. stops_after newer older a b c p (q.some s);
   }
 
-  -- all was taken before an error that isn't the sink's
-  pub taken_before : (error : DriveError) (xs : List Emission) (a b : F) → error ≢ DriveError.Sink → AreTaken Called a xs b → AreHandedOn Called (takes_all (Err error)) a xs b
-  taken_before DriveError.Read xs a b other p = p
-  taken_before DriveError.Write xs a b other p = p
-  taken_before DriveError.Malformed xs a b other p = p
-  taken_before DriveError.Limit xs a b other p = p
-  taken_before DriveError.Memory xs a b other p = p
-  taken_before DriveError.Sink xs a b other p = absurd (other refl)
+  -- in other words for that it was stopped
+  pub handed_as : (One Other : Type 0) (talk : Talk) (a b : F) → (One → Other) → (Other → One) → IsHandedOn Called One a talk b → IsHandedOn Called Other a talk b
+  handed_as One Other talk a b to from h = record { all = λ n. h.all (λ one. n (to one)); some = λ other. h.some (from other) }

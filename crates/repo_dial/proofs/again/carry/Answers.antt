@@ -1,6 +1,8 @@
-use Rattle.std.proofs.Common.{rules, ◌≡◌, ◌≢◌, [], None, Err, refl, sym, subst}
+use Rattle.std.proofs.Common.{rules, ◌≡◌, ◌≢◌, [], ℕ, None, Result, Err, refl, sym, subst}
+use Rattle.std.specs.Fn.{CalledAt}
 use Rattle.std.proofs.lemmas.Result.{err_from_is_err_and}
 use Rattle.repo_session.specs.declared.driving.DriveError.{DriveError}
+use Rattle.repo_session.proofs.Handing.{handed_all}
 use Rattle.repo_dial.specs.Dialing.{Call, TakesLeave, driven_by}
 use Rattle.repo_dial.proofs.GoingLemmas.{goes_over, no_call, not_driven}
 use Rattle.repo_dial.proofs.TryLemmas.{ends_own, no_leave}
@@ -10,7 +12,14 @@ pub returns-in_err-connection : goal.returns-in_err-connection
 returns-in_err-connection g c =
     let p = err_from_is_err_and c.from_residual.result c.from_residual.ensures.1 in
     let came = g.E.KnownChannel.ends c.args.channel.now in
-    rw (p.1, p.2) (no_call came, refl, refl, not_driven (driven_by g.C.Client.task g.C.Client.job g.C.Client.fits g.C.Client.next g.C.Client.token_of) c.args.client.now came, refl)
+    let failed : Result ℕ DriveError = Err DriveError.Memory in
+    rw (p.1, p.2) (
+      no_call came,
+      refl,
+      refl,
+      not_driven (driven_by g.C.Client.task g.C.Client.job g.C.Client.fits g.C.Client.next g.C.Client.token_of) c.args.client.now came,
+      handed_all (CalledAt g.F.FnMut) (failed ≡ Err DriveError.Sink) [] c.args.sink.now c.args.sink.now (λ sink. absurd (cc)) refl,
+    )
 
 pub returns : goal.returns
 returns g c =

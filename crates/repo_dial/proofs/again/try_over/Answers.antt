@@ -1,8 +1,7 @@
 use Rattle.std.proofs.Common.{rules, ◌≡◌, Ok, Err, refl, subst}
 use Rattle.std.specs.Fn.{CalledAt}
-use Rattle.repo_session.specs.Talks.{given_in}
 use Rattle.repo_dial.specs.Dialing.{HasMet, driven_by}
-use Rattle.repo_dial.proofs.HandLemmas.{handed_as, handed_none, not_stopped}
+use Rattle.repo_dial.proofs.HandLemmas.{handed_as_try, handed_none, not_stopped}
 use Rattle.repo_dial.proofs.TryLemmas.{carried, turned}
 use Rattle.repo_dial.proofs.again.try_over.Goals as goal
 
@@ -22,7 +21,7 @@ returns-in-Ok g c =
     let w = c.in-Ok.ensures in
     let t = carried (driven_by g.C.Client.task g.C.Client.job g.C.Client.fits g.C.Client.next g.C.Client.token_of) c.args.known.now c.args.client.now (Ok c.in-Ok.count) (Ok c.in-Ok.count) c.carry.new.client c.meet.new.self
     (g.E.KnownChannel.ends c.args.channel.now) (g.E.KnownChannel.ends c.meet.new.channel) (g.E.KnownChannel.ends c.carry.new.channel) m.0 w.0 met m.2 m.3 w.1 w.2 w.3 refl in
-    (t.0, t.1, t.2, t.3, rw t.4 w.4)
+    (t.0, t.1, t.2, t.3, rw t.4 (handed_as_try (CalledAt g.F.FnMut) (Ok c.in-Ok.count) w.0.said.talk c.args.sink.now c.carry.new.sink w.4))
 
 pub returns-in-Err-carry : goal.returns-in-Err-carry
 returns-in-Err-carry g c =
@@ -32,4 +31,4 @@ returns-in-Err-carry g c =
     let w = c.in-Err-carry.ensures in
     let t = carried (driven_by g.C.Client.task g.C.Client.job g.C.Client.fits g.C.Client.next g.C.Client.token_of) c.args.known.now c.args.client.now (Err c.in-Err-carry.error) _ c.carry.new.client c.meet.new.self
     (g.E.KnownChannel.ends c.args.channel.now) (g.E.KnownChannel.ends c.meet.new.channel) (g.E.KnownChannel.ends c.carry.new.channel) m.0 w.0 met m.2 m.3 w.1 w.2 w.3 refl in
-    (t.0, t.1, t.2, t.3, rw t.4 (handed_as (CalledAt g.F.FnMut) (Err c.in-Err-carry.error) (given_in w.0.said.talk) c.args.sink.now c.carry.new.sink w.4))
+    (t.0, t.1, t.2, t.3, rw t.4 (handed_as_try (CalledAt g.F.FnMut) (Err c.in-Err-carry.error) w.0.said.talk c.args.sink.now c.carry.new.sink w.4))

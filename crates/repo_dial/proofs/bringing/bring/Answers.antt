@@ -1,25 +1,18 @@
-use Rattle.std.proofs.Common.{sym, ◌∙◌}
+use Rattle.std.proofs.Common.{Err, refl, sym, ap, ◌∙◌}
 use Rattle.std.specs.Fn.{CalledAt}
-use Rattle.repo_session.specs.Sinks.{IsTakenBy}
-use Rattle.repo_dial.proofs.SessionLemmas.{session_ended, session_obeyed}
+use Rattle.std.proofs.lemmas.Result.{err_from_is_err_and}
+use Rattle.repo_dial.specs.declared.again.TryError.{TryError}
+use Rattle.repo_dial.proofs.SessionLemmas.{session_brought}
 use Rattle.repo_dial.proofs.bringing.bring.Goals as goal
 
-pub returns-in_err-driven-clause-obeyed : goal.returns-in_err-driven-clause-obeyed
-returns-in_err-driven-clause-obeyed g c =
-    session_obeyed g.J.Job.handed g.J.Job.rule g.J.Job.fresh g.J.Job.knows g.J.Job.wants c.args.session c.requires.fits c.args.retry _ c.drive_again-driven.new.client _ _ c.drive_again-driven.ensures.again.0
+pub returns-in_err-driven : goal.returns-in_err-driven
+returns-in_err-driven g c =
+    let p = err_from_is_err_and c.from_residual.result c.from_residual.ensures.1 in
+    session_brought g.J.Job.handed g.J.Job.rule g.J.Job.fresh g.J.Job.knows g.J.Job.wants c.args.session c.requires.fits (CalledAt g.F.FnMut) c.args.retry c.args.sink.now _ c.drive_again-driven.new.client
+    c.drive_again-driven.new.sink (g.D.Dial.connections c.args.dial.now) (g.D.Dial.connections c.drive_again-driven.new.dial) c.from_residual.result c.in_err-driven.ensures.again (p.1 ∙ ap (λ (e : TryError). Err e) p.2)
 
-pub returns-clause-obeyed : goal.returns-clause-obeyed
-returns-clause-obeyed g c =
-    session_obeyed g.J.Job.handed g.J.Job.rule g.J.Job.fresh g.J.Job.knows g.J.Job.wants c.args.session c.requires.fits c.args.retry _ c.drive_again-driven.new.client _ _ c.drive_again-driven.ensures.again.0
-
-pub returns-clause-ended : goal.returns-clause-ended
-returns-clause-ended g c =
-    let again = c.in_ok-driven.ensures.again in
-    (session_ended g.J.Job.handed g.J.Job.rule g.J.Job.fresh g.J.Job.knows g.J.Job.wants c.args.session c.requires.fits (IsTakenBy (CalledAt g.F.FnMut) c.args.sink) c.args.retry c.in_ok-driven.field-0
-    c.drive_again-driven.new.client _ _ c.in-Some.outcome again.0 again.1 (sym c.into_outcome-outcome.ensures ∙ c.in-Some.is)).0
-
-pub returns-clause-taken : goal.returns-clause-taken
-returns-clause-taken g c =
-    let again = c.in_ok-driven.ensures.again in
-    session_ended g.J.Job.handed g.J.Job.rule g.J.Job.fresh g.J.Job.knows g.J.Job.wants c.args.session c.requires.fits (IsTakenBy (CalledAt g.F.FnMut) c.args.sink) c.args.retry c.in_ok-driven.field-0
-    c.drive_again-driven.new.client _ _ c.in-Some.outcome again.0 again.1 (sym c.into_outcome-outcome.ensures ∙ c.in-Some.is)
+pub returns : goal.returns
+returns g c =
+    session_brought g.J.Job.handed g.J.Job.rule g.J.Job.fresh g.J.Job.knows g.J.Job.wants c.args.session c.requires.fits (CalledAt g.F.FnMut) c.args.retry c.args.sink.now _ c.drive_again-driven.new.client
+    c.drive_again-driven.new.sink (g.D.Dial.connections c.args.dial.now) (g.D.Dial.connections c.drive_again-driven.new.dial) _ c.in_ok-driven.ensures.again
+    (c.in-Some.outcome, sym c.into_outcome-outcome.ensures ∙ c.in-Some.is, refl)

@@ -25,6 +25,3 @@ returns-clause-carries g c bytes told h =
       n.rests,
       handed.1,
     )
-
-pub returns-clause-stopped : goal.returns-clause-stopped
-returns-clause-stopped g c bytes told h = c.drive_over-driven.ensures.stopped bytes told h

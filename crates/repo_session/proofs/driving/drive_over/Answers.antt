@@ -1,11 +1,12 @@
-use Rattle.std.proofs.Common.{◌≡◌, ◌^◌, ◌++◌, Some, None, Err, false, refl, sym, ap, subst, lit≤, arith, option_map, ◌∙◌}
+use Rattle.std.proofs.Common.{◌≡◌, ◌^◌, ◌++◌, ℕ, Result, Some, None, Ok, Err, refl, sym, ap, subst, lit≤, arith, option_map, ◌∙◌}
 use Rattle.std.specs.Fn.{CalledAt}
 use Rattle.std.proofs.lemmas.Result.{err_from_is_err_and}
 use Rattle.repo_store.specs.Channels.{heard_in}
-use Rattle.repo_session.specs.Sinks.{AreHandedOn, AreTaken, StopsAt, takes_all}
+use Rattle.repo_session.specs.declared.driving.DriveError.{DriveError}
+use Rattle.repo_session.specs.Sinks.{AreTaken, StopsAt, IsHandedOn}
 use Rattle.repo_session.specs.Talks.{Turn, IsTurn, given_in, read_in}
 use Rattle.repo_session.proofs.Awaiting.{gone_nowhere, gone_done, gone_far, gone_stopped, gone_unanswered, gone_untaken, gone_on}
-use Rattle.repo_session.proofs.Handing.{handed_after, taken_before, taken_both}
+use Rattle.repo_session.proofs.Handing.{handed_all, handed_some, stops_some, taken_both}
 use Rattle.repo_session.proofs.Talking.{numbered_next, went_on}
 use Rattle.repo_session.proofs.driving.drive_over.Goals as goal
 
@@ -21,7 +22,9 @@ pub returns-in-None-clause-carries : goal.returns-in-None-clause-carries
 returns-in-None-clause-carries g c bytes told h =
     let none : g.C.Client.next c.loop-turn.client ≡ None = sym c.pending.ensures.next ∙ ap (option_map (λ r. r.now)) c.in-None.is in
     let i = c.loop-turn.invariant.gone bytes told h in
-    gone_done _ _ bytes told _ _ _ _ _ _ _ _ _ i.0 _ refl none (λ t. AreTaken (CalledAt g.F.FnMut) c.args.sink.now (given_in t) c.loop-turn.sink) i.1
+    let done : Result ℕ DriveError = Ok c.loop-turn.turn in
+    gone_done _ _ bytes told _ _ _ _ _ _ _ _ _ i.0 _ refl none (λ t. IsHandedOn (CalledAt g.F.FnMut) (done ≡ Err DriveError.Sink) c.args.sink.now t c.loop-turn.sink)
+    (handed_all (CalledAt g.F.FnMut) (done ≡ Err DriveError.Sink) i.0.talk c.args.sink.now c.loop-turn.sink (λ sink. absurd (cc)) i.1)
 
 pub ask_over-requires : goal.ask_over-requires
 ask_over-requires g c =
@@ -34,11 +37,12 @@ returns-in_err-reply-in-Some-clause-carries g c bytes told h =
     let handed = c.loop-turn.invariant.gone bytes told h in
     let i = handed.0 in
     let pending : g.C.Client.next c.loop-turn.client ≡ Some c.in-Some.request.now = sym c.pending.ensures.next ∙ ap (option_map (λ r. r.now)) c.in-Some.is in
+    let failed : Result ℕ DriveError = Err c.in_err-reply-in-Some.field-0.0 in
     let n = c.in_err-reply-in-Some.ensures (bytes ++ heard_in i.passages) (told ++ read_in i.talk) i.reads in
     rw (p.1, p.2) (
     gone_unanswered _ _ bytes told _ _ _ _ _ _ _ _ _ i c.in-Some.request.now pending _ c.ask_over.new.self c.ask_over.new.channel n c.in_err-reply-in-Some.field-0.0 refl
-    (λ t. AreHandedOn (CalledAt g.F.FnMut) (takes_all (Err c.in_err-reply-in-Some.field-0.0)) c.args.sink.now (given_in t) c.loop-turn.sink)
-    (λ other. taken_before (CalledAt g.F.FnMut) c.in_err-reply-in-Some.field-0.0 (given_in i.talk) c.args.sink.now c.loop-turn.sink other handed.1))
+    (λ t. IsHandedOn (CalledAt g.F.FnMut) (failed ≡ Err DriveError.Sink) c.args.sink.now t c.loop-turn.sink)
+    (λ other. handed_all (CalledAt g.F.FnMut) (failed ≡ Err DriveError.Sink) i.talk c.args.sink.now c.loop-turn.sink (λ sink. other (cc)) handed.1))
 
 pub returns-in_err-take-clause-carries : goal.returns-in_err-take-clause-carries
 returns-in_err-take-clause-carries g c bytes told h =
@@ -47,8 +51,10 @@ returns-in_err-take-clause-carries g c bytes told h =
     let i = handed.0 in
     let pending : g.C.Client.next c.loop-turn.client ≡ Some c.in-Some.request.now = sym c.pending.ensures.next ∙ ap (option_map (λ r. r.now)) c.in-Some.is in
     let n = c.in_ok-reply-in-Some.ensures (bytes ++ heard_in i.passages) (told ++ read_in i.talk) i.reads in
+    let failed : Result ℕ DriveError = Err DriveError.Memory in
     rw (p.1, p.2) (gone_untaken _ _ bytes told _ _ _ _ _ _ _ _ _ i c.in-Some.request.now pending _ c.ask_over.new.self c.ask_over.new.channel n c.in_ok-reply-in-Some.reply refl c.take.new.self
-    c.in_err-take.ensures.next c.in_err-take.ensures.fits (λ t. AreTaken (CalledAt g.F.FnMut) c.args.sink.now (given_in t) c.loop-turn.sink) handed.1)
+    c.in_err-take.ensures.next c.in_err-take.ensures.fits (λ t. IsHandedOn (CalledAt g.F.FnMut) (failed ≡ Err DriveError.Sink) c.args.sink.now t c.loop-turn.sink)
+    (handed_all (CalledAt g.F.FnMut) (failed ≡ Err DriveError.Sink) i.talk c.args.sink.now c.loop-turn.sink (λ sink. absurd (cc)) handed.1))
 
 pub returns-then-not-hand_out-clause-carries : goal.returns-then-not-hand_out-clause-carries
 returns-then-not-hand_out-clause-carries g c bytes told h =
@@ -62,10 +68,11 @@ returns-then-not-hand_out-clause-carries g c bytes told h =
     let went = went_on (g.C.Client.task (g.C.Client.job c.args.client.now)).who.instance g.C.Client.fits c.args.client.now c.loop-turn.client c.take.new.self i.talk turn i.went is
     (λ es f. numbered_next _ _ _ _ _ _ _ es (g.C.Client.task (g.C.Client.job c.args.client.now)).who.instance c.in-Some.request.now (g.met.C.Client.obedient c.loop-turn.client es f) pending (ap (λ j. (g.C.Client.task j).who.instance) c.loop-turn.invariant.job))
     (c.in_ok-take.ensures.taken c.in-Some.request.now pending is.answers) in
-    let stops = subst (λ all. AreHandedOn (CalledAt g.F.FnMut) all c.loop-turn.sink c.emitted.result.now c.hand_out.new.sink) c.if-not-hand_out.true c.hand_out.ensures.handed in
-    gone_stopped _ _ bytes told _ _ _ _ _ _ _ _ _ i c.in-Some.request.now pending _ c.ask_over.new.self c.ask_over.new.channel n c.in_ok-reply-in-Some.reply refl c.take.new.self given went (λ none. c.hand_out.ensures.some c.if-not-hand_out.true (c.emitted.ensures ∙ none))
-    (λ t. StopsAt (CalledAt g.F.FnMut) c.args.sink.now (given_in t) c.hand_out.new.sink)
-    (handed_after (CalledAt g.F.FnMut) false (given_in i.talk) given c.args.sink.now c.loop-turn.sink c.hand_out.new.sink handed.1 (subst (λ xs. StopsAt (CalledAt g.F.FnMut) c.loop-turn.sink xs c.hand_out.new.sink) c.emitted.ensures stops))
+    let stops = subst (λ xs. StopsAt (CalledAt g.F.FnMut) c.loop-turn.sink xs c.hand_out.new.sink) c.emitted.ensures (c.hand_out.ensures.stops c.if-not-hand_out.true) in
+    let stopped : Result ℕ DriveError = Err DriveError.Sink in
+    gone_stopped _ _ bytes told _ _ _ _ _ _ _ _ _ i c.in-Some.request.now pending _ c.ask_over.new.self c.ask_over.new.channel n c.in_ok-reply-in-Some.reply refl c.take.new.self given went (stops_some (CalledAt g.F.FnMut) given c.loop-turn.sink c.hand_out.new.sink stops)
+    (λ t. IsHandedOn (CalledAt g.F.FnMut) (stopped ≡ Err DriveError.Sink) c.args.sink.now t c.hand_out.new.sink)
+    (handed_some (CalledAt g.F.FnMut) (stopped ≡ Err DriveError.Sink) turn i.talk c.args.sink.now c.loop-turn.sink c.hand_out.new.sink refl handed.1 stops)
 
 pub loop-turn-preserved : goal.loop-turn-preserved
 loop-turn-preserved g c = record {
@@ -80,10 +87,10 @@ loop-turn-preserved g c = record {
       let went = went_on (g.C.Client.task (g.C.Client.job c.args.client.now)).who.instance g.C.Client.fits c.args.client.now c.loop-turn.client c.take.new.self i.talk turn i.went is
       (λ es f. numbered_next _ _ _ _ _ _ _ es (g.C.Client.task (g.C.Client.job c.args.client.now)).who.instance c.in-Some.request.now (g.met.C.Client.obedient c.loop-turn.client es f) pending (ap (λ j. (g.C.Client.task j).who.instance) c.loop-turn.invariant.job))
       (c.in_ok-take.ensures.taken c.in-Some.request.now pending is.answers) in
-      let all = subst (λ all. AreHandedOn (CalledAt g.F.FnMut) all c.loop-turn.sink c.emitted.result.now c.hand_out.new.sink) c.if-not-hand_out.false c.hand_out.ensures.handed in
+      let all = subst (λ xs. AreTaken (CalledAt g.F.FnMut) c.loop-turn.sink xs c.hand_out.new.sink) c.emitted.ensures (c.hand_out.ensures.taken c.if-not-hand_out.false) in
       gone_on _ _ bytes told _ _ _ _ _ _ _ _ _ i c.in-Some.request.now pending _ c.ask_over.new.self c.ask_over.new.channel n c.in_ok-reply-in-Some.reply refl c.take.new.self given went
       (λ t. AreTaken (CalledAt g.F.FnMut) c.args.sink.now (given_in t) c.hand_out.new.sink)
-      (taken_both (CalledAt g.F.FnMut) (given_in i.talk) given c.args.sink.now c.loop-turn.sink c.hand_out.new.sink handed.1 (subst (λ xs. AreTaken (CalledAt g.F.FnMut) c.loop-turn.sink xs c.hand_out.new.sink) c.emitted.ensures all));
+      (taken_both (CalledAt g.F.FnMut) (given_in i.talk) given c.args.sink.now c.loop-turn.sink c.hand_out.new.sink handed.1 all);
   few = omega (arith, c.loop-turn-test.true);
   sink = c.hand_out.ensures.callable;
   job = c.in_ok-take.ensures.job ∙ c.loop-turn.invariant.job;
@@ -95,10 +102,14 @@ returns-in-None-pending-clause-carries g c bytes told h =
     let i = c.loop-turn.invariant.gone bytes told h in
     let many = c.loop-turn-test.false in
     let count : c.loop-turn.turn ≡ 2 ^ 32 = omega (arith, many, c.loop-turn.invariant.few) in
-    gone_done _ _ bytes told _ _ _ _ _ _ _ _ _ i.0 _ count none (λ t. AreTaken (CalledAt g.F.FnMut) c.args.sink.now (given_in t) c.loop-turn.sink) i.1
+    let done : Result ℕ DriveError = Ok (2 ^ 32) in
+    gone_done _ _ bytes told _ _ _ _ _ _ _ _ _ i.0 _ count none (λ t. IsHandedOn (CalledAt g.F.FnMut) (done ≡ Err DriveError.Sink) c.args.sink.now t c.loop-turn.sink)
+    (handed_all (CalledAt g.F.FnMut) (done ≡ Err DriveError.Sink) i.0.talk c.args.sink.now c.loop-turn.sink (λ sink. absurd (cc)) i.1)
 
 pub returns-in-Some-pending-clause-carries : goal.returns-in-Some-pending-clause-carries
 returns-in-Some-pending-clause-carries g c bytes told h =
     let i = c.loop-turn.invariant.gone bytes told h in
     let many = c.loop-turn-test.false in
-    gone_far _ _ bytes told _ _ _ _ _ _ _ _ _ i.0 (omega (arith, many)) (λ t. AreTaken (CalledAt g.F.FnMut) c.args.sink.now (given_in t) c.loop-turn.sink) i.1
+    let far : Result ℕ DriveError = Err DriveError.Limit in
+    gone_far _ _ bytes told _ _ _ _ _ _ _ _ _ i.0 (omega (arith, many)) (λ t. IsHandedOn (CalledAt g.F.FnMut) (far ≡ Err DriveError.Sink) c.args.sink.now t c.loop-turn.sink)
+    (handed_all (CalledAt g.F.FnMut) (far ≡ Err DriveError.Sink) i.0.talk c.args.sink.now c.loop-turn.sink (λ sink. absurd (cc)) i.1)

@@ -6,8 +6,8 @@ use Rattle.repo_session.specs.Sinks.{AreTaken}
 use Rattle.repo_session.proofs.Handing.{taken_on}
 use Rattle.repo_session.proofs.driving.hand_out.Goals as goal
 
-pub returns-then-not-sink-clause-handed : goal.returns-then-not-sink-clause-handed
-returns-then-not-sink-clause-handed g c =
+pub returns-then-not-sink-clause-stops : goal.returns-then-not-sink-clause-stops
+returns-then-not-sink-clause-stops g c = λ no.
     let all = c.args.emitted.now in
     let i = c.loop-emission.emission-index in
     let item = c.emission-item.result in

@@ -1,10 +1,12 @@
-use Rattle.std.proofs.Common.{true, [], ◌∷◌, subst, ◌∙◌}
+use Rattle.std.proofs.Common.{true, [], ◌∷◌, refl, sym, ap, subst, ◌∙◌}
 use Rattle.repo_wire.specs.declared.messages.Ask.{Ask}
+use Rattle.repo_store.specs.Pages.{NamesAscend}
+use Rattle.repo_session.specs.Order.{last_of}
 use Rattle.repo_session.specs.Rolls.{IsPaged}
 use Rattle.repo_session.specs.Traces.{silent}
-use Rattle.repo_check.specs.Rounds.{round_of}
+use Rattle.repo_check.specs.Rounds.{ArePast, round_of}
 use Rattle.repo_check.specs.declared.rounds.Round.{Round}
-use Rattle.repo_check.proofs.Rounding.{listing_rolls, next_on, roll_known}
+use Rattle.repo_check.proofs.Rounding.{listing_rolls, next_on, past_on, roll_known}
 use Rattle.repo_check.proofs.rounds.Round.take_page.Goals as goal
 
 pub returns-in-Ask-clause-pages : goal.returns-in-Ask-clause-pages
@@ -14,7 +16,11 @@ returns-in-Ask-clause-pages g c = λ task token k after es w may listing.
     let e = silent (Ask.List k after) c.args.say.now in
     let pages = rw c.in-Ask.is at c.in_ok-ask.ensures.pages in
     let due = pages task token k after [] es w may (listing_rolls k old after es listing) in
-    (roll_known k new c.in-Ask.ask (e ∷ es) (c.add_page.ensures.kind ∙ listing.of_kind) (c.add_page.ensures.read ∙ listing.none_read) listing.none due.knows, due.may)
+    let page = (rw c.in-Ask.is at c.in_ok-ask.ensures.takes).0 in
+    let next = may.1.last ∙ ap last_of listing.rolled.paged.listed in
+    let rises = subst (λ a. NamesAscend a page.0) (sym next) page.2.0 in
+    let past = subst (λ ns. ArePast k ns (e ∷ es)) (sym page.3) (past_on k old.roll.names.items page.0 after c.args.say.now es rises (page.2.1 refl) listing.past) in
+    (roll_known k new c.in-Ask.ask (e ∷ es) (c.add_page.ensures.kind ∙ listing.of_kind) (c.add_page.ensures.read ∙ listing.none_read) listing.none past due.knows, due.may)
 
 pub returns-in-Last-clause-pages : goal.returns-in-Last-clause-pages
 returns-in-Last-clause-pages g c = λ task token k after es w may listing.
