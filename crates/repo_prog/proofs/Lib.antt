@@ -7,3 +7,4 @@ pub mod JobLemmas
 pub mod TellLemmas
 pub mod ServedLemmas
 pub mod SpelledLemmas
+mod Entering

@@ -15,7 +15,7 @@ use Rattle.repo_prog.specs.declared.words.WordsError.{WordsError}
 use Rattle.repo_prune.specs.Forgetting.{IsNoPolicy}
 use Rattle.repo_prog.specs.Asking.{Streams, streams, Asked, RemovesLocks, request_of}
 use Rattle.repo_prog.specs.Tellings.{locks_told, refresh_told}
-use Rattle.repo_prog.specs.Commands.{IsEnd, created_line, listening_line}
+use Rattle.repo_prog.specs.Commands.{FramesGives, IsEnd, LoopGives, PlayGives, created_line, listening_line}
 use Rattle.repo_dial.specs.Dialing.{Connections, Dials, HangsUp, unknown}
 use Rattle.repo_dial.specs.Ends.{ConnectionEnds}
 use Rattle.repo_prog.specs.Jobs.{ListObeyed, RestoreObeyed, ForgetObeyed, PruneObeyed, UpgradeObeyed, CheckObeyed, BackupObeyed}
@@ -65,12 +65,14 @@ abbrev pub AddressGives : Errand → ℕ → Option (List ℕ) → Status → Op
 AddressGives errand retry start status contents = ((status ≡ Status.Failed) × (contents ≡ start))
     ⊎ ((caller : Caller) × (left : ℕ) × IsInstance caller.instance × (left ≤ retry) × ErrandGives errand caller left unknown unknown start status contents)
 
--- what an order gives on the output, where it reads no input
-abbrev pub OrderGives : Order → Option (List ℕ) → Status → Option (List ℕ) → Type 0
-OrderGives (Order.Init folder making) start status contents = IsEnd status × (status ≡ Status.Done → (id : Instance) × Appends start contents (created_line id))
-OrderGives (Order.Serve folder address serving) start status contents = IsEnd status × (status ≡ Status.Done → Appends start contents listening_line)
-OrderGives (Order.Client address errand retry idle) start status contents = AddressGives errand retry start status contents
-OrderGives _ start status contents = ⊤
+-- what an order gives on the output: by the input, where it reads that, and all of it is known
+abbrev pub OrderGives : Order → Option (List ℕ) → Option (List ℕ) → Option (List ℕ) → Status → Option (List ℕ) → Type 0
+OrderGives Order.Frames input left start status contents = (text : List ℕ) → input ≡ Some text → FramesGives text start status contents
+OrderGives Order.Play input left start status contents = (text : List ℕ) → input ≡ Some text → PlayGives text start status contents
+OrderGives Order.Loop input left start status contents = (text : List ℕ) → input ≡ Some text → LoopGives text start status left contents
+OrderGives (Order.Init folder making) input left start status contents = IsEnd status × (status ≡ Status.Done → (id : Instance) × Appends start contents (created_line id))
+OrderGives (Order.Serve folder address serving) input left start status contents = IsEnd status × (status ≡ Status.Done → Appends start contents listening_line)
+OrderGives (Order.Client address errand retry idle) input left start status contents = AddressGives errand retry start status contents
 
 -- help that was asked for, or the version
 abbrev pub IsToShow : ErrorKind → Type 0
@@ -87,6 +89,6 @@ RefusesWords WordsError.NamesAndPolicy status = status ≡ Status.Usage
 RefusesWords WordsError.Memory status = status ≡ Status.Failed
 
 -- what following words gives: what their order gives, or they are refused
-abbrev pub Follows : Result Order WordsError → Option (List ℕ) → Status → Option (List ℕ) → Type 0
-Follows (Ok order) start status contents = OrderGives order start status contents
-Follows (Err error) start status contents = RefusesWords error status
+abbrev pub Follows : Result Order WordsError → Option (List ℕ) → Option (List ℕ) → Option (List ℕ) → Status → Option (List ℕ) → Type 0
+Follows (Ok order) input left start status contents = OrderGives order input left start status contents
+Follows (Err error) input left start status contents = RefusesWords error status

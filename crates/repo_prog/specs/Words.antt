@@ -1,13 +1,17 @@
 -- What the words of a command ask for, as `clap` read them.
-use Rattle.std.specs.Prelude.{◌≡◌, ◌≢◌, ◌↔◌, ◌*◌, ⊤, ℕ, Bool, true, false, [], List, map, Option, Some, None, IfSome, option_map, unwrap_or, codes, string_bytes}
+use Rattle.std.specs.Prelude.{◌≡◌, ◌≢◌, ◌⊎◌, ◌↔◌, ◌<◌, ◌^◌, ◌*◌, ⊤, ℕ, Bool, true, false, [], List, map, Option, Some, None, IfSome, option_map, unwrap_or, codes, string_bytes}
 use Rattle.std.specs.Duration.{as_nanos}
-use Rattle.std.specs.Str.Parse.{digits_value, without_leading_plus}
+use Rattle.std.specs.Str.Parse.{IsNumeral, digits_value, without_leading_plus}
 use Rattle.std.specs.declared.time.Duration.{Duration}
 use Rattle.clap.specs.Matches.{found_of, first_value, matched_of, one_text, raw_values}
+use Rattle.clap.specs.Simple.{subcommand_of}
+use Rattle.clap.specs.Words.{rows_of}
 use Rattle.clap.specs.declared.parser.matches.ArgMatches.{ArgMatches}
 use Rattle.repo_name.specs.Naming.{hex_of}
 use Rattle.repo_prune.specs.declared.choices.Choice.{Choice}
 use Rattle.repo_prune.specs.declared.keeping.Policy.{Policy}
+use Rattle.repo_prog.specs.Commands.{errand_word}
+use Rattle.repo_prog.specs.Spelled.{vault_app}
 use Rattle.repo_prog.specs.declared.errands.Errand.{Errand}
 use Rattle.repo_prog.specs.declared.errands.LockErrand.{LockErrand}
 use Rattle.repo_prog.specs.declared.serve.Serving.{Serving}
@@ -47,6 +51,15 @@ Chooses words (Choice.KeepOf host policy) = (words_of words (codes "NAME") ≡ [
 abbrev pub IsIdleOf : ArgMatches → Option Duration → Type 0
 IsIdleOf words idle = (seconds : ℕ) × IsNumber words (codes "idle") seconds × ((idle ≡ None) ↔ (seconds ≡ 0)) × IfSome idle (λ time. as_nanos time ≡ seconds * 1_000_000_000)
 
+-- the word of this name spells a number of 64 bits
+abbrev pub HasNumber : ArgMatches → List ℕ → Type 0
+HasNumber words name = (digits : List ℕ) × (one_text (found_of words) name ≡ Some digits) × IsNumeral 10 (without_leading_plus digits)
+    × (digits_value 10 (without_leading_plus digits) < 2 ^ 64)
+
+-- a job connects again so often at most as the words say, where they have a number for that, and else never
+abbrev pub IsRetryOf : ArgMatches → ℕ → Type 0
+IsRetryOf words retry = IsNumber words (codes "retry") retry ⊎ ((retry ≡ 0) × ¬ HasNumber words (codes "retry"))
+
 -- the words of an errand's command ask for it
 abbrev pub AskFor : ArgMatches → Errand → Type 0
 AskFor words (Errand.Backup host folder) = IsWord words (codes "HOST") host × IsWord words (codes "PATH") (string_bytes folder)
@@ -83,4 +96,21 @@ AreOrdering words Order.Play = ⊤
 AreOrdering words Order.Loop = ⊤
 AreOrdering words (Order.Init folder making) = IsWord words (codes "DIR") (string_bytes folder) × IsMakingOf words making
 AreOrdering words (Order.Serve folder address serving) = IsWord words (codes "DIR") (string_bytes folder) × IsWord words (codes "ADDR") (string_bytes address) × IsServingOf words serving
-AreOrdering words (Order.Client address errand retry idle) = IsWord words (codes "ADDR") (string_bytes address) × AskFor words errand × IsIdleOf words idle
+AreOrdering words (Order.Client address errand retry idle) =
+    IsWord words (codes "ADDR") (string_bytes address) × AskFor words errand × IsRetryOf words retry × IsIdleOf words idle
+
+-- the word of an order's command
+abbrev pub order_word : Order → List ℕ
+order_word Order.Frames = codes "frames"
+order_word Order.Play = codes "play"
+order_word Order.Loop = codes "loop"
+order_word (Order.Init folder making) = codes "init"
+order_word (Order.Serve folder address serving) = codes "serve"
+order_word (Order.Client address errand retry idle) = errand_word errand
+
+-- the words of the command line, the program's name first, spell an order: by the program's commands `clap` reads its word and words of its command in them,
+-- and these ask for it
+pub record IsSpelledBy (line : List (List ℕ)) (order : Order) : Type 0 where
+  pub words : ArgMatches
+  pub read : subcommand_of vault_app line ≡ Some (order_word order, rows_of (found_of words))
+  pub asked : AreOrdering words order

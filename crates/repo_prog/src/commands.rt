@@ -1,10 +1,11 @@
 //! What the command line's words ask for, done over readers, writers and a machine.
 
-ghost use Rattle.std.specs.Prelude.{◌≡◌, ◌≢◌, ◌⊎◌, ℕ, List, Some, Ok, Err, IfOk};
+ghost use Rattle.std.specs.Prelude.{◌≡◌, ◌≢◌, ◌⊎◌, ℕ, List, Result, Some, Ok, Err, IfOk, map, string_bytes};
 ghost use Rattle.clap.specs.Values.{kind_of};
 ghost use Rattle.clap.specs.declared.error.kind.ErrorKind.{ErrorKind};
-ghost use Rattle.repo_prog.specs.Commands.{FramesGives, IsOrder, ReadsInput, LoopGives, PlayGives};
+ghost use Rattle.repo_prog.specs.Commands.{FramesGives, IsOrder, ReadsInput};
 ghost use Rattle.repo_prog.specs.Errands.{OrderGives, Follows, IsToShow};
+ghost use Rattle.repo_prog.specs.Words.{IsSpelledBy};
 ghost use Rattle.repo_prog.specs.declared.status.Status.{Status};
 ghost use Rattle.repo_prog.specs.declared.words.Order.{Order};
 ghost use Rattle.repo_prog.specs.declared.words.WordsError.{WordsError};
@@ -81,13 +82,7 @@ where
     ensures silent { result ≡ Status.Done → faults.new ≡ faults.old }
     ensures status { result ≢ Status.Usage }
     ensures unread { ¬ ReadsInput order → input.new ≡ input.old }
-    ensures gives { OrderGives order (W.contents output.old) result (W.contents output.new) }
-    ensures frames { order ≡ Order.Frames → (text : List ℕ) → R.remaining input.old ≡ Some text
-        → FramesGives text (W.contents output.old) result (W.contents output.new) }
-    ensures plays { order ≡ Order.Play → (text : List ℕ) → R.remaining input.old ≡ Some text
-        → PlayGives text (W.contents output.old) result (W.contents output.new) }
-    ensures loops { order ≡ Order.Loop → (text : List ℕ) → R.remaining input.old ≡ Some text
-        → LoopGives text (W.contents output.old) result (R.remaining input.new) (W.contents output.new) }
+    ensures gives { OrderGives order (R.remaining input.old) (R.remaining input.new) (W.contents output.old) result (W.contents output.new) }
 {
     match order {
         Order::Frames => frames_command(rt.alloc(), input, output, faults),
@@ -126,13 +121,7 @@ fn follow<
 where
     T::File: HoldFile,
     requires { IfOk order IsOrder }
-    ensures follows { Follows order (W.contents output.old) result (W.contents output.new) }
-    ensures frames { order ≡ Ok Order.Frames → (text : List ℕ) → R.remaining input.old ≡ Some text
-        → FramesGives text (W.contents output.old) result (W.contents output.new) }
-    ensures plays { order ≡ Ok Order.Play → (text : List ℕ) → R.remaining input.old ≡ Some text
-        → PlayGives text (W.contents output.old) result (W.contents output.new) }
-    ensures loops { order ≡ Ok Order.Loop → (text : List ℕ) → R.remaining input.old ≡ Some text
-        → LoopGives text (W.contents output.old) result (R.remaining input.new) (W.contents output.new) }
+    ensures follows { Follows order (R.remaining input.old) (R.remaining input.new) (W.contents output.old) result (W.contents output.new) }
     ensures unread { (error : WordsError) → order ≡ Err error → input.new ≡ input.old }
     ensures silent { result ≡ Status.Done → faults.new ≡ faults.old }
     ensures usage { result ≡ Status.Usage → (input.new ≡ input.old) × (output.new ≡ output.old) }
@@ -146,8 +135,9 @@ where
     }
 }
 
-/// Does what the words ask for, the program's name first. Where they make no command nothing is read; and where it ends with 2
-/// nothing is written but the fault. That a command's words go to what reads them is only tested.
+/// Does what the words ask for, the program's name first: what is done is the order that they spell, as `clap` reads them. Where they
+/// make none nothing is read; and where it ends with 2 nothing is written but the fault. That words which spell an order aren't
+/// refused is only tested.
 pub fn run<
     T: Files + Net + AllocGlobal + RandomSource + Clock + Clone + Drop,
     R: Read,
@@ -156,6 +146,8 @@ pub fn run<
 >(rt: &T, words: &[String], input: &mut R, output: &mut W, faults: &mut F) -> Status
 where
     T::File: HoldFile,
+    ensures follows { (order : Result Order WordsError) × IfOk order (IsSpelledBy (map string_bytes words.now))
+        × Follows order (R.remaining input.old) (R.remaining input.new) (W.contents output.old) result (W.contents output.new) }
     ensures silent { result ≡ Status.Done → faults.new ≡ faults.old }
     ensures usage { result ≡ Status.Usage → (input.new ≡ input.old) × (output.new ≡ output.old) }
 {

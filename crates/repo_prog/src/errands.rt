@@ -4,7 +4,7 @@ ghost use Rattle.std.specs.Prelude.{◌≡◌, ◌++◌, ◌∷◌, [], List, If
 ghost use Rattle.clap.specs.Walk.{Rule, Text};
 ghost use Rattle.repo_prog.specs.Commands.{IsErrand, errand_word};
 ghost use Rattle.repo_prog.specs.Spelled.{AddsCommands, AddsWords, IsCommand, again_rules, backup_rules, command_shape, copies, forget_rules, number_rule, of_locks, refresh_rules, repairs, restore_rules, server_rules, unlock_rules};
-ghost use Rattle.repo_prog.specs.Words.{AskFor};
+ghost use Rattle.repo_prog.specs.Words.{AskFor, IsRetryOf};
 
 use crate::choosing::{choice_of, choice_words};
 use crate::help::{
@@ -249,7 +249,9 @@ fn forget_errand(alloc: Global, words: &ArgMatches) -> Result<Errand, WordsError
 }
 
 /// How often it is connected again, by the words of one of these commands: 0 where it has no word for that.
-pub fn retry_of(words: &ArgMatches) -> u64 {
+pub fn retry_of(words: &ArgMatches) -> u64
+    ensures { IsRetryOf words.now result }
+{
     words.get_one::<u64>("retry").unwrap_or(0)
 }
 

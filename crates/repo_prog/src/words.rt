@@ -1,6 +1,6 @@
 //! The words of the command line.
 
-ghost use Rattle.std.specs.Prelude.{◌≡◌, ◌↔◌, ◌*◌, ◌∷◌, [], IfOk, IfSome, IsNone, IsSome, codes, string_bytes};
+ghost use Rattle.std.specs.Prelude.{◌≡◌, ◌↔◌, ◌*◌, ◌∷◌, [], IfOk, IfSome, IsNone, IsSome, codes, map, string_bytes};
 ghost use Rattle.std.specs.Duration.{as_nanos};
 ghost use Rattle.clap.specs.Simple.{app_of};
 ghost use Rattle.clap.specs.Walk.{Rule};
@@ -8,7 +8,7 @@ ghost use Rattle.repo_tree.specs.ConfigText.{IsTarget};
 ghost use Rattle.repo_tree.specs.Versions.{greatest_version, IsKnownTo};
 ghost use Rattle.repo_prog.specs.Commands.{IsAtOnce, IsIdle, IsMaking, IsOrder, IsServing};
 ghost use Rattle.repo_prog.specs.Spelled.{AddsWords, IsCommand, IsOfKind, flag_rule, init_rules, needed_rule, number_rule, serve_rules, vault_app};
-ghost use Rattle.repo_prog.specs.Words.{AreOrdering, IsFlag, IsIdleOf, IsMakingOf, IsNumber, IsServingOf, IsWord};
+ghost use Rattle.repo_prog.specs.Words.{AreOrdering, IsFlag, IsIdleOf, IsMakingOf, IsNumber, IsServingOf, IsSpelledBy, IsWord, order_word};
 
 use crate::addresses::address_of;
 use crate::errands::{Errand, errand_of, retry_of, with_command, with_errands};
@@ -304,6 +304,7 @@ fn making_of(matches: &ArgMatches) -> Result<Making, WordsError>
 
 fn init_order(alloc: Global, matches: &ArgMatches) -> Result<Order, WordsError>
     ensures within { IfOk result IsOrder }
+    ensures word { IfOk result (λ order. order_word order ≡ codes "init") }
     ensures asked { IfOk result (AreOrdering matches.now) }
 {
     let folder = word_of(alloc, matches, "DIR")?;
@@ -368,6 +369,7 @@ fn serving_of(matches: &ArgMatches) -> Result<Serving, WordsError>
 
 fn serve_order(alloc: Global, matches: &ArgMatches) -> Result<Order, WordsError>
     ensures within { IfOk result IsOrder }
+    ensures word { IfOk result (λ order. order_word order ≡ codes "serve") }
     ensures asked { IfOk result (AreOrdering matches.now) }
 {
     let folder = word_of(alloc, matches, "DIR")?;
@@ -383,6 +385,7 @@ fn serve_order(alloc: Global, matches: &ArgMatches) -> Result<Order, WordsError>
 /// The order of the words of a command that goes to a server.
 fn client_order(alloc: Global, command: &str, words: &ArgMatches) -> Result<Order, WordsError>
     ensures within { IfOk result IsOrder }
+    ensures word { IfOk result (λ order. order_word order ≡ command.now) }
     ensures asked { IfOk result (AreOrdering words.now) }
 {
     let errand = errand_of(alloc, command, words)?;
@@ -397,19 +400,30 @@ fn client_order(alloc: Global, command: &str, words: &ArgMatches) -> Result<Orde
     })
 }
 
+/// The order of a command with these words.
+fn order_in(alloc: Global, command: &str, words: &ArgMatches) -> Result<Order, WordsError>
+    ensures within { IfOk result IsOrder }
+    ensures asked { IfOk result (λ order. (order_word order ≡ command.now) × AreOrdering words.now order) }
+{
+    match command {
+        "frames" => Ok(Order::Frames),
+        "play" => Ok(Order::Play),
+        "loop" => Ok(Order::Loop),
+        "init" => init_order(alloc, words),
+        "serve" => serve_order(alloc, words),
+        _ => client_order(alloc, command, words),
+    }
+}
+
 /// The order that the words spell, the program's name first.
 pub fn order_of(alloc: Global, words: &[String]) -> Result<Order, WordsError>
-    ensures { IfOk result IsOrder }
+    ensures within { IfOk result IsOrder }
+    ensures spelled { IfOk result (IsSpelledBy (map string_bytes words.now)) }
 {
     let commands = commands(alloc)?;
     let matches = commands.try_get_matches_from(words)?;
     match matches.subcommand() {
-        Some(("frames", _)) => Ok(Order::Frames),
-        Some(("play", _)) => Ok(Order::Play),
-        Some(("loop", _)) => Ok(Order::Loop),
-        Some(("init", words)) => init_order(alloc, words),
-        Some(("serve", words)) => serve_order(alloc, words),
-        Some((command, words)) => client_order(alloc, command, words),
+        Some((command, words)) => order_in(alloc, command, words),
         None => Err(WordsError::BadArgument),
     }
 }

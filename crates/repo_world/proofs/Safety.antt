@@ -69,8 +69,8 @@ module _ (w : World) (bag : HasBag w) (clash : HasNoClash w) where
   source_of : (n : Name) (x : List ℕ) → (p : IsPutBy w Kind.Snapshot n x) → (entries : List Entry) × Source w p.by x entries
   source_of n x p = made_by x n p.by p.request.sequence p.token (subst (λ a. AskedAt (client w p.by) p.request.sequence a) p.asks (bag.asked p.by p.request p.message))
 
-  handed_of : (n : Name) (k : ℕ) (x : List ℕ) (entries : List Entry) → IsPutBy w Kind.Snapshot n x → Source w k x entries → Handed w n entries
-  handed_of n k x entries p s = record { text = x; put = p; snapshot = s.snapshot; reads = s.reads; by = k; took = s.took; handed = s.handed; host_is = s.host_is; time_is = s.time_is }
+  handed_of : (n : Name) (x : List ℕ) (entries : List Entry) (p : IsPutBy w Kind.Snapshot n x) → Source w p.by x entries → Handed w n entries
+  handed_of n x entries p s = record { text = x; put = p; snapshot = s.snapshot; reads = s.reads; took = s.took; handed = s.handed; host_is = s.host_is; time_is = s.time_is }
 
   source_known : (k : ℕ) (x : List ℕ) (own : List Entry) (s : Source w k x own) (b : BlobKind) (y : List ℕ) → blobs_in s.items b y → IsKnown w y
   source_known k x own s b y h = known_made k (s.made b y h)
@@ -95,7 +95,7 @@ module _ (w : World) (bag : HasBag w) (clash : HasNoClash w) where
       subst (λ (v : ℕ). Spells v (Received es) snapshot.tree [] (rebuilt (emitted_in es))) (sym h.found.4)
       (subst (λ (t : Name). Spells h.version (Received es) t [] (rebuilt (emitted_in es))) (sym h.found.5) h.spells) in
       let same = same_entries put.by x source.0 source.1 (Received es) (received_known w bag k es (λ ask say h. h)) snapshot (rebuilt (emitted_in es)) h.found.3 spelled in
-      (subst (λ (l : List Entry). Handed w s l) same (handed_of s put.by x source.0 put source.1), h.whole)
+      (subst (λ (l : List Entry). Handed w s l) same (handed_of s x source.0 put source.1), h.whole)
 
   restored_is : (k : ℕ) (s : Name) (count : ℕ) → (client w k).job ≡ Job.Restore s → (client w k).outcome ≡ Some (Outcome.Complete count) → Handed w s (rebuilt (emitted_in (client w k).trace)) × AreWhole (emitted_in (client w k).trace)
   restored_is k s count job outcome =
@@ -118,7 +118,7 @@ module _ (w : World) (bag : HasBag w) (clash : HasNoClash w) where
       let h = bag.sound.snapshots s x here in
       let same : source.0 ≡ h.entries = same_entries put.by x source.0 source.1 (IsHeld w.store.objects) (held_known w bag) h.snapshot h.entries h.reads h.spells in
       let one : h.snapshot ≡ snapshot = snapshot_texts_one x h.snapshot snapshot h.reads reads in
-      let handed = subst (λ (es : List Entry). (handed : Handed w s es) × (handed.text ≡ x)) same (handed_of s put.by x source.0 put source.1, refl) in
+      let handed = subst (λ (es : List Entry). (handed : Handed w s es) × (handed.text ≡ x)) same (handed_of s x source.0 put source.1, refl) in
       (h.entries, handed.0, handed.1, subst (λ (z : Snapshot). Spells z.version (IsHeld w.store.objects) z.tree [] h.entries) one h.spells)
 
   -- ---- what was handed is one list
@@ -127,7 +127,7 @@ module _ (w : World) (bag : HasBag w) (clash : HasNoClash w) where
   handed_is_one s some others a b =
       let texts : a.text ≡ b.text = clash a.text b.text (known_spoken (by_put Kind.Snapshot s a.put)) (known_spoken (by_put Kind.Snapshot s b.put)) (put_named w bag Kind.Snapshot s a.text a.put ∙ sym (put_named w bag Kind.Snapshot s b.text b.put)) in
       let snapshots : a.snapshot ≡ b.snapshot = snapshot_texts_one b.text a.snapshot b.snapshot (subst (λ (x : List ℕ). IsSnapshotText x a.snapshot) texts a.reads) b.reads in
-      let by : a.by ≡ b.by = owner_of w bag a.by b.by b.snapshot.token (subst (λ (z : Snapshot). Took w a.by z.token) snapshots a.took) b.took in
+      let by : a.put.by ≡ b.put.by = owner_of w bag a.put.by b.put.by b.snapshot.token (subst (λ (z : Snapshot). Took w a.put.by z.token) snapshots a.took) b.took in
       same_Some some others (sym a.handed ∙ (ap (λ k. handed_by (client w k).job (client w k).trace) by ∙ b.handed))
 
   -- the snapshot that a backup reports is of what it was handed itself
@@ -137,7 +137,7 @@ module _ (w : World) (bag : HasBag w) (clash : HasNoClash w) where
       let sent = bag.sent k q.0 (Ask.Put t Kind.Snapshot s x) q.1 in
       let source = made_by x s k q.0 t q.1 in
       let own : source.0 ≡ entries = same_Some source.0 entries (sym source.1.handed ∙ same) in
-      subst (λ (es : List Entry). Handed w s es) own (handed_of s k x source.0 (record { by = k; request = sent.0; token = t; message = sent.1; asks = sent.2 }) source.1)
+      subst (λ (es : List Entry). Handed w s es) own (handed_of s x source.0 (record { by = k; request = sent.0; token = t; message = sent.1; asks = sent.2 }) source.1)
 
   -- ---- who asked for a deletion
 
