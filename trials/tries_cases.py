@@ -5,7 +5,7 @@ requests and what was restored are what the reference says. What stands there of
 import sys
 from itertools import groupby
 
-from trying import OPTIONS, ROOT, Skipped, holds, new_folder, trial
+from trying import OPTIONS, ROOT, Skipped, new_folder, trial
 
 FOLDER = ROOT / "scripts/cases"
 # Those that take the longest.
@@ -33,7 +33,8 @@ def holds_each(parts):
         raise Skipped(str(error))
     for run in script.runs:
         came = runner.came(run)
-        holds(run.holds(came), f"{run.heading}: {' '.join(run.words)[:200]}: {came}, and not {run.wanted}")
+        if not run.holds(came):
+            raise AssertionError(f"{run.heading}: {' '.join(run.words)[:200]}: {came}, and not {run.wanted}")
 
 
 def tries(name, parts):

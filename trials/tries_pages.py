@@ -86,7 +86,7 @@ def completions_of_other_shells_are_read():
 @trial
 def cases_are_those_that_are_written():
     # All cases are played by the reference, which takes a processor for minutes, more of them where the machine has much else to do.
-    says_nothing(sys.executable, "-B", "scripts/cases/write.py", "--check", seconds=12 * WAIT)
+    says_nothing(sys.executable, "-B", "scripts/cases/write.py", "--check", seconds=6 * WAIT)
 
 
 @trial

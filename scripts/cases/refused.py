@@ -36,7 +36,7 @@ CRATES = Path(__file__).resolve().parents[2] / "crates"
 CASES, VAULT = CRATES / "cases/out/cases", CRATES / "vault/out/vault"
 CAUSES = ("out of memory", "refused 11", "write failed", "stopped")
 # What is told besides where the words, an address, the caller or an entry of a folder get no memory.
-BEFORE = ("bad argument", "not reached", "read failed", "unreadable p")
+BEFORE = ("bad argument", "not reached", "read failed")
 # The small library that refuses a request.
 REFUSER = Path(__file__).resolve().parents[1] / "refuse.c"
 
@@ -199,14 +199,13 @@ class TriedRun:
     def fault(self, came):
         """What is wrong with a run in which a request was refused."""
         wanted = self.run.wanted
-        shown = came.status, came.sent, came.restored, came.output
-        if shown == (wanted.status, wanted.sent, wanted.restored, wanted.output) and wanted.faults.startswith(came.faults):
-            return None
-        if self.lacking is not None and (came.output, came.faults) in self.lacking:
-            return None
         is_told = came.faults.endswith(tuple(cause + "\n" for cause in CAUSES + BEFORE)) or came.faults.startswith("unreadable p")
-        is_begun = wanted.output.startswith(came.output)
-        return None if came.status in (1, 2) and is_told and is_begun else f"{self.run.heading}: {came}"
+        if (came.status, came.sent, came.restored, came.output) == (wanted.status, wanted.sent, wanted.restored, wanted.output):
+            is_so = is_told or wanted.faults.startswith(came.faults)
+        else:
+            is_so = came.status in (1, 2) and is_told and wanted.output.startswith(came.output)
+        is_so = is_so or self.lacking is not None and (came.output, came.faults) in self.lacking
+        return None if is_so else f"{self.run.heading}: {came}"
 
     def requests(self, runner, library, mark, numbers):
         """How many requests for memory were refused, those of these numbers, each in a run of its own."""

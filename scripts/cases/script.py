@@ -5,6 +5,8 @@ the store there are lines for crates/cases: all that was asked of it, in that or
 is a run of the program over the replies that it got.
 """
 
+import copy
+
 import commands
 from checks import Check
 from frames import KINDS, Message
@@ -26,7 +28,7 @@ class Script(Lines):
 
     def __init__(self):
         super().__init__()
-        self.seats, self.store, self.begun = [], Store(), None
+        self.seats, self.store, self.begun, self.known = [], Store(), None, set()
 
     def shelf(self):
         """A shelf on which no store was made."""
@@ -223,23 +225,23 @@ class Script(Lines):
 
     def spoil(self, kind, name, under):
         """Each byte of an object is turned, one after another, and then the object is cut at each length; it lies under
-        its name (`same`), or under that of its bytes (`own`). After each a check is made: how it ends."""
-        objects = self.store.objects[kind]
+        its name (`same`), or under that of its bytes (`own`). After each a check is made: how it ends. Of the store no line tells."""
+        store = copy.deepcopy(self.store)
+        objects = store.objects[kind]
         whole, ends = objects.pop(name), []
         for data in turned(whole) + [whole[:length] for length in range(len(whole))]:
             place = name if under == "same" else name_of(data)
             objects[place] = data
-            ends.append(self.checked())
+            ends.append(self.checked(store))
             objects.pop(place)
-        objects[name] = whole
         return ends
 
-    def checked(self):
-        """A check of the store as it stands, of which no line tells: its words, and what is at fault."""
+    def checked(self, store):
+        """A check of a store: its words, and what is at fault."""
         client = Client(Check(), commands.INSTANCE, HOST, TIME)
         seat = Seat(self.title, client, ["check"], commands.check, (), {})
         while client.pending:
-            seat.take(client.pending.reply(self.store.answer(client.pending.what)))
+            seat.take(client.pending.reply(store.answer(client.pending.what)))
         seat.tells(self)
         return client.outcome.text + "".join(f" {thing} {what}" for thing, _, what in client.outcome.faults or [])
 
@@ -295,8 +297,13 @@ class Seat:
         what = self.client.pending.what
         return f"{what[0]}-{what[2]}" if what[0] in ("put", "delete") else what[0]
 
-    def tells(self, lines):
-        """Tells of the run of the program over what it got. One that got no more than this ends where it reads on."""
+    def tells(self, script):
+        """Tells of the run of the program over what it got, once, where several got the same. One that got no more than this ends where
+        it reads on."""
         server = commands.Server(b"".join(self.replies), time=self.client.time)
+        key = name_of(server.replies + repr((self.words, self.client.time, self.given)).encode())
+        if key in script.known:
+            return
+        script.known.add(key)
         run = commands.run(self.command, server, *self.values)
-        lines.command(self.words, run, server, title=self.title, **self.given)
+        script.command(self.words, run, server, title=self.title, **self.given)

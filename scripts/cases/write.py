@@ -1,7 +1,8 @@
 #!/usr/bin/env python3
 """Writes what the programs `cases` and `vault` are run on, and what they must print; with --check compares.
 
-It is a second implementation, from the rules alone, and reads nothing that the programs printed.
+It is a second implementation, from the rules alone, and reads nothing that the programs printed. Which runs of `vault` the cases are
+besides is in no file: trials/tries_cases.py makes them of the same parts.
 """
 
 import sys

@@ -2,7 +2,7 @@
 
 use crate::lines::ScriptError;
 use repo_name::{Instance, Name};
-use repo_session::{Client, Emission, Outcome, StepError, Who, lockstep, result_text};
+use repo_session::{Client, Emission, Outcome, Who, lockstep, result_text};
 use repo_store::MemShelf;
 use repo_world::{AnyClient, Job, NotBegun};
 use std::alloc::Global;
@@ -24,16 +24,6 @@ fn client_for(alloc: Global, job: Job) -> Result<AnyClient, ScriptError> {
     }
 }
 
-/// Brings a client to its end in one go. What it gives out is added to `given`.
-fn finish(
-    alloc: Global,
-    client: &mut AnyClient,
-    shelf: &mut MemShelf,
-    given: &mut Vec<Emission>,
-) -> Result<u64, StepError> {
-    lockstep(alloc, client, shelf, given)
-}
-
 /// How a job ended, and what it gave out.
 #[derive(Drop)]
 pub struct JobEnd {
@@ -53,13 +43,13 @@ pub fn stored_name(outcome: Option<&Outcome>) -> Option<Name> {
 }
 
 /// Brings a client to its end.
-fn ended(
+fn ended<C: Client>(
     alloc: Global,
-    client: &mut AnyClient,
+    client: &mut C,
     shelf: &mut MemShelf,
 ) -> Result<JobEnd, ScriptError> {
     let mut given = Vec::new(alloc);
-    if finish(alloc, client, shelf, &mut given).is_err() {
+    if lockstep(alloc, client, shelf, &mut given).is_err() {
         return Err(ScriptError::Memory);
     }
     Ok(JobEnd {
@@ -69,10 +59,11 @@ fn ended(
     })
 }
 
-/// The same of a client that is no more then. A client is dear to drop: it is done here alone, with nothing else alive.
-fn spent(
+/// The same of a client that is no more then. One of all sorts is dear to drop, for the prover goes through each sort: so this is said of
+/// any client.
+fn spent<C: Client + Drop>(
     alloc: Global,
-    mut client: AnyClient,
+    mut client: C,
     shelf: &mut MemShelf,
 ) -> Result<JobEnd, ScriptError> {
     ended(alloc, &mut client, shelf)
