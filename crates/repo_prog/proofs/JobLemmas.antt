@@ -1,14 +1,15 @@
 -- Each job that was brought to its end over one connection after another.
-use Rattle.std.proofs.Common.{◌≡◌, [], ℕ, List, Option, Some, Result, Ok, ap, subst, ◌∙◌}
+use Rattle.std.proofs.Common.{◌≡◌, [], ℕ, Bool, List, Option, Some, Result, Ok, ap, refl, subst, inl, inr, ◌∙◌}
 use Rattle.repo_name.specs.declared.names.Name.{Name}
+use Rattle.repo_session.specs.declared.emissions.Emission.{Emission}
 use Rattle.repo_session.specs.declared.outcomes.Outcome.{Outcome}
 use Rattle.repo_session.specs.Sessions.{next_in, ended_in, token_in}
 use Rattle.repo_session.specs.Feeds.{Fed}
 use Rattle.repo_session.specs.Traces.{Trace}
-use Rattle.repo_dial.specs.Bringing.{IsObedientBy}
+use Rattle.repo_dial.specs.Bringing.{BroughtInto, IsObedientBy}
 use Rattle.repo_dial.specs.Dialing.{Connections, Driven, DrivesAgain, driven_by}
 use Rattle.repo_dial.specs.declared.again.TryError.{TryError}
-use Rattle.repo_dial.proofs.BringLemmas.{ended_over, obeyed_over, obeyed_none}
+use Rattle.repo_dial.proofs.BringLemmas.{brought_into, obeyed_over, obeyed_none}
 use Rattle.repo_backup.specs.PieceStates.{piece_task}
 use Rattle.repo_check.specs.Checking.{check_rule}
 use Rattle.repo_feeding.specs.FedObedience.{fed_obeys}
@@ -21,7 +22,7 @@ use Rattle.repo_prune.specs.Upgrading.{upgrade_rule}
 use Rattle.repo_restore.specs.Listing.{list_rule}
 use Rattle.repo_restore.specs.Restoring.{restore_rule}
 use Rattle.repo_prog.specs.declared.callers.Caller.{Caller}
-use Rattle.repo_prog.specs.Jobs.{backup_asker, vault_asker, ListObeyed, RestoreObeyed, BackupObeyed, ForgetObeyed, PruneObeyed, UpgradeObeyed, CheckObeyed, Stores}
+use Rattle.repo_prog.specs.Jobs.{backup_asker, vault_asker, ListObeyed, RestoreCame, RestoreObeyed, BackupObeyed, ForgetObeyed, PruneObeyed, UpgradeObeyed, CheckObeyed, Stores}
 
 -- ---- a backup, which feeds itself
 
@@ -35,20 +36,36 @@ backup_driven {C} feeder_of = driven_by (λ (j : FedJob). piece_task j.who) (λ 
     (λ (c : C). next_in (feeder_of c).backup.session) (λ (c : C). token_in (feeder_of c).backup.session)
 
 -- a backup
-pub stored : {C : Type 0} (feeder_of : C → Feeder) (caller : Caller) (host : List ℕ) (whole : Option (List Fed)) (retry n : ℕ) (old new : C) (coming after : Connections) (name : Name) (blobs bytes : ℕ)
-    → FitsFed (feeder_of old) [] → job_of (feeder_of old) ≡ backup_job caller host whole → DrivesAgain (backup_driven feeder_of) retry old (Ok n) new coming after
-    → ended_in (feeder_of new).backup.session ≡ Some (Outcome.Stored name blobs bytes) → Stores caller host whole name blobs bytes retry coming after
-stored {C} feeder_of caller host whole retry n old new coming after name blobs bytes fits job d is =
-    let P : C → Trace → FedJob → Type 0 = λ c es j. IsObedientBy (fed_rule j.who j.whole) j.who (next_in (feeder_of c).backup.session) (ended_in (feeder_of c).backup.session) es in
-    ended_over (backup_driven feeder_of) (λ (c : C). ended_in (feeder_of c).backup.session) (fed_rule (backup_asker caller host) whole) (backup_asker caller host)
-    old (λ c same es h. subst (P c es) (same ∙ job) (fed_obeys (feeder_of c) es h)) (ap (λ (j : FedJob). j.who.instance) job) fits retry n new coming after (Outcome.Stored name blobs bytes) d is
+module _ {C F : Type 0} (feeder_of : C → Feeder) (Called : F → Emission → Bool → F → Type 0) (caller : Caller) (host : List ℕ) (whole : Option (List Fed)) (old : C) (fits : FitsFed (feeder_of old) [])
+    (job : job_of (feeder_of old) ≡ backup_job caller host whole) where
+  obeys : (c : C) → job_of (feeder_of c) ≡ job_of (feeder_of old) → (es : Trace) → FitsFed (feeder_of c) es
+      → IsObedientBy (fed_rule (backup_asker caller host) whole) (backup_asker caller host) (next_in (feeder_of c).backup.session) (ended_in (feeder_of c).backup.session) es
+  obeys c same es h =
+      let P : FedJob → Type 0 = λ j. IsObedientBy (fed_rule j.who j.whole) j.who (next_in (feeder_of c).backup.session) (ended_in (feeder_of c).backup.session) es in
+      subst P (same ∙ job) (fed_obeys (feeder_of c) es h)
 
-pub backup_obeyed : {C : Type 0} (feeder_of : C → Feeder) (caller : Caller) (host : List ℕ) (whole : Option (List Fed)) (retry : ℕ) (old new : C) (result : Result ℕ TryError) (coming after : Connections)
-    → FitsFed (feeder_of old) [] → job_of (feeder_of old) ≡ backup_job caller host whole → DrivesAgain (backup_driven feeder_of) retry old result new coming after → BackupObeyed caller host whole retry coming after
-backup_obeyed {C} feeder_of caller host whole retry old new result coming after fits job d =
-    let P : C → Trace → FedJob → Type 0 = λ c es j. IsObedientBy (fed_rule j.who j.whole) j.who (next_in (feeder_of c).backup.session) (ended_in (feeder_of c).backup.session) es in
-    obeyed_over (backup_driven feeder_of) (λ (c : C). ended_in (feeder_of c).backup.session) (fed_rule (backup_asker caller host) whole) (backup_asker caller host)
-    old (λ c same es h. subst (P c es) (same ∙ job) (fed_obeys (feeder_of c) es h)) (ap (λ (j : FedJob). j.who.instance) job) fits retry result new coming after d
+  pub stored : (retry n : ℕ) (new : C) (from to : F) (coming after : Connections) (name : Name) (blobs bytes : ℕ) → DrivesAgain (backup_driven feeder_of) Called retry old from (Ok n) new to coming after
+      → ended_in (feeder_of new).backup.session ≡ Some (Outcome.Stored name blobs bytes) → Stores caller host whole name blobs bytes retry coming after
+  stored retry n new from to coming after name blobs bytes d is =
+      (brought_into (backup_driven feeder_of) (λ (c : C). ended_in (feeder_of c).backup.session) (fed_rule (backup_asker caller host) whole) (backup_asker caller host) Called old obeys
+      (ap (λ (j : FedJob). j.who.instance) job) fits retry from (Ok n) new to coming after (Ok (Outcome.Stored name blobs bytes)) d (Outcome.Stored name blobs bytes, is, refl)).brought
+
+  pub backup_obeyed : (retry : ℕ) (result : Result ℕ TryError) (new : C) (from to : F) (coming after : Connections) → DrivesAgain (backup_driven feeder_of) Called retry old from result new to coming after
+      → BackupObeyed caller host whole retry coming after
+  backup_obeyed retry result new from to coming after d =
+      obeyed_over (backup_driven feeder_of) (λ (c : C). ended_in (feeder_of c).backup.session) (fed_rule (backup_asker caller host) whole) (backup_asker caller host) Called old obeys
+      (ap (λ (j : FedJob). j.who.instance) job) fits (λ es wants. wants) retry from result new to coming after d
+
+-- ---- a restore into a sink
+
+module _ {F : Type 0} (Called : F → Emission → Bool → F → Type 0) (old : F) (caller : Caller) (name : Name) (retry : ℕ) (coming after : Connections) (new : F) where
+  pub came_obeyed : (result : Result Outcome TryError) → RestoreCame Called old caller name result retry coming after new → RestoreObeyed caller name retry coming after
+  came_obeyed result (inl h) = inl h.1
+  came_obeyed result (inr h) = inr (result, h.brought)
+
+  pub came_ended : (outcome : Outcome) → RestoreCame Called old caller name (Ok outcome) retry coming after new → BroughtInto Called old (restore_rule name) (vault_asker caller) (Ok outcome) retry coming after new
+  came_ended outcome (inl h) = let e = h.0 in absurd (cc)
+  came_ended outcome (inr h) = h
 
 -- ---- no connection was asked for
 

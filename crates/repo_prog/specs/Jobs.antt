@@ -1,13 +1,15 @@
 -- What the commands do that bring a job to its end, over connections that are made one after another.
-use Rattle.std.specs.Prelude.{ℕ, List, Option, codes}
+use Rattle.std.specs.Prelude.{◌≡◌, ◌⊎◌, ℕ, Bool, List, Option, Result, Ok, Err, codes}
 use Rattle.repo_name.specs.declared.names.Name.{Name}
 use Rattle.repo_tree.specs.declared.snapshots.Snapshot.{Snapshot}
+use Rattle.repo_session.specs.declared.driving.DriveError.{DriveError}
 use Rattle.repo_session.specs.declared.emissions.Emission.{Emission}
 use Rattle.repo_session.specs.declared.outcomes.Outcome.{Outcome}
 use Rattle.repo_session.specs.Askers.{Asker, asker}
 use Rattle.repo_session.specs.declared.versions.Versions.{Versions}
-use Rattle.repo_dial.specs.Bringing.{Ended, Obeyed, given_over}
+use Rattle.repo_dial.specs.Bringing.{BroughtInto, Ended, Obeyed}
 use Rattle.repo_dial.specs.Dialing.{Connections}
+use Rattle.repo_dial.specs.declared.again.TryError.{TryError}
 use Rattle.repo_session.specs.Feeds.{Fed}
 use Rattle.repo_feeding.specs.FedRules.{fed_rule}
 use Rattle.repo_check.specs.Checking.{check_rule}
@@ -39,9 +41,9 @@ ListsSnapshots caller rows retry coming after = Ended list_rule (vault_asker cal
 abbrev pub RestoresSnapshot : Caller → Name → ℕ → ℕ → Connections → Connections → Type 0
 RestoresSnapshot caller name entries retry coming after = Ended (restore_rule name) (vault_asker caller) (Outcome.Complete entries) retry coming after
 
--- so it was, and of all that was given out, in order, this is so
-abbrev pub RestoresInto : (List Emission → Type 0) → Caller → Name → ℕ → ℕ → Connections → Connections → Type 0
-RestoresInto Taken caller name entries retry coming after = (restored : RestoresSnapshot caller name entries retry coming after) × Taken (given_over restored)
+-- so it was, into a sink
+abbrev pub RestoresInto : {F : Type 0} → (F → Emission → Bool → F → Type 0) → F → Caller → Name → ℕ → ℕ → Connections → Connections → F → Type 0
+RestoresInto Called old caller name entries retry coming after new = BroughtInto Called old (restore_rule name) (vault_asker caller) (Ok (Outcome.Complete entries)) retry coming after new
 
 -- the chosen snapshots were forgotten: those of these names
 abbrev pub Forgets : Caller → Choice → List Name → ℕ → Connections → Connections → Type 0
@@ -74,6 +76,11 @@ ListObeyed caller retry coming after = Obeyed list_rule (vault_asker caller) ret
 
 abbrev pub RestoreObeyed : Caller → Name → ℕ → Connections → Connections → Type 0
 RestoreObeyed caller name retry coming after = Obeyed (restore_rule name) (vault_asker caller) retry coming after
+
+-- what a restore into a sink came to: there was no memory to begin it, and no connection was asked for; or it was brought on, and came to this
+abbrev pub RestoreCame : {F : Type 0} → (F → Emission → Bool → F → Type 0) → F → Caller → Name → Result Outcome TryError → ℕ → Connections → Connections → F → Type 0
+RestoreCame Called old caller name result retry coming after new =
+    ((result ≡ Err (TryError.Drive DriveError.Memory)) × (after ≡ coming) × (new ≡ old)) ⊎ BroughtInto Called old (restore_rule name) (vault_asker caller) result retry coming after new
 
 abbrev pub ForgetObeyed : Caller → Choice → ℕ → Connections → Connections → Type 0
 ForgetObeyed caller choice retry coming after = Obeyed (forget_rule choice) (vault_asker caller) retry coming after

@@ -1,5 +1,5 @@
 -- What commands show of their jobs.
-use Rattle.std.specs.Prelude.{◌≡◌, ⊤, ◌⊎◌, Option, ℕ, List, Some}
+use Rattle.std.specs.Prelude.{◌≡◌, ⊤, ◌⊎◌, Option, ℕ, List, Some, Bool}
 use Rattle.repo_prog.specs.Tellings.{snapshot_lines, complete_line, stored_line, foreseen_lines, forgotten_lines, pruned_line, upgraded_line, fault_lines, clean_line}
 use Rattle.repo_dial.specs.Dialing.{Connections}
 use Rattle.repo_prog.specs.declared.callers.Caller.{Caller}
@@ -117,8 +117,8 @@ TellsListed caller retry coming left status before after = Tells (λ rows. Lists
 abbrev pub TellsRestored : Caller → Name → ℕ → Connections → Connections → Status → Option (List ℕ) → Option (List ℕ) → Type 0
 TellsRestored caller name retry coming left status before after = Tells (λ entries. RestoresSnapshot caller name entries retry coming left) complete_line status before after
 
-abbrev pub TellsRestoredInto : (List Emission → Type 0) → Caller → Name → ℕ → Connections → Connections → Status → Option (List ℕ) → Option (List ℕ) → Type 0
-TellsRestoredInto Taken caller name retry coming left status before after = Tells (λ entries. RestoresInto Taken caller name entries retry coming left) complete_line status before after
+abbrev pub TellsRestoredInto : {F : Type 0} → (F → Emission → Bool → F → Type 0) → F → Caller → Name → ℕ → Connections → Connections → F → Status → Option (List ℕ) → Option (List ℕ) → Type 0
+TellsRestoredInto Called old caller name retry coming left new status before after = Tells (λ entries. RestoresInto Called old caller name entries retry coming left new) complete_line status before after
 
 abbrev pub TellsForgotten : Caller → Choice → ℕ → Connections → Connections → Status → Option (List ℕ) → Option (List ℕ) → Type 0
 TellsForgotten caller choice retry coming left status before after = Tells (λ names. Forgets caller choice names retry coming left) forgotten_lines status before after

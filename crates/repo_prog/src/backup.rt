@@ -199,7 +199,7 @@ pub fn backup_from<S: Source<Error = WalkError> + LeavesOut + Drop, D: Dial, O: 
     let Ok(mut backup) = FedBackup::new(alloc, who, source) else {
         return failed(faults, &DriveError::Memory);
     };
-    match drive_again(alloc, &mut backup, dial, retry, |_| true) {
+    match drive_again(alloc, &mut backup, dial, retry, &mut |_| true) {
         Ok(_) => show_ended(alloc, &backup, output, faults),
         Err(error) => show_broken(alloc, &backup, &error, faults),
     }

@@ -1,11 +1,10 @@
 //! `vault restore`.
 
 ghost use Rattle.std.specs.Fn.{CalledAt};
-ghost use Rattle.std.specs.Prelude.{◌≡◌, IfOk, true};
-ghost use Rattle.repo_session.specs.Sinks.{IsTakenBy};
-ghost use Rattle.repo_dial.specs.Bringing.{Ended, given_over};
-ghost use Rattle.repo_restore.specs.Restoring.{restore_rule};
-ghost use Rattle.repo_prog.specs.Jobs.{RestoreObeyed, vault_asker};
+ghost use Rattle.std.specs.Prelude.{◌≡◌, true, Result};
+ghost use Rattle.repo_session.specs.declared.outcomes.Outcome.{Outcome};
+ghost use Rattle.repo_dial.specs.declared.again.TryError.{TryError};
+ghost use Rattle.repo_prog.specs.Jobs.{RestoreCame, RestoreObeyed};
 ghost use Rattle.repo_prog.specs.declared.status.Status.{Status};
 ghost use Rattle.repo_prog.specs.Shown.{ShowsRestored, TellsRestored, TellsRestoredInto};
 
@@ -43,8 +42,25 @@ fn show_restored<E: FnOnce() -> bool, O: Write, F: Write>(
     show_made(complete_line(alloc, *entries), output, faults)
 }
 
-/// How a restore ended that was brought to its end, and that handed all that it gave out to a sink, each part once and in order.
+/// Brings a restore to its end, and hands what it gives out to a sink, each part once and in order.
 fn restored<D: Dial, S: FnMut(&Emission) -> bool>(
+    alloc: Global,
+    caller: &Caller,
+    name: Name,
+    sink: &mut S,
+    dial: &mut D,
+    retry: u64,
+) -> Result<Outcome, TryError>
+    requires callable { (state : S) (x : _) → S.pre state x }
+    ensures { RestoreCame (CalledAt S.FnMut) sink.old caller.now name result retry (D.connections dial.old) (D.connections dial.new) sink.new }
+{
+    let who = caller.who(alloc, HOST)?;
+    let restore = Restore::new(alloc, who, name);
+    restore.bring(alloc, sink, dial, retry)
+}
+
+/// The same of a sink that is handed over.
+fn restored_by<D: Dial, S: FnMut(&Emission) -> bool>(
     alloc: Global,
     caller: &Caller,
     name: Name,
@@ -53,13 +69,10 @@ fn restored<D: Dial, S: FnMut(&Emission) -> bool>(
     retry: u64,
 ) -> Result<Outcome, TryError>
     requires callable { (state : S) (x : _) → S.pre state x }
-    ensures obeyed { RestoreObeyed caller.now name retry (D.connections dial.old) (D.connections dial.new) }
-    ensures taken { IfOk result (λ outcome. (ended : Ended (restore_rule name) (vault_asker caller.now) outcome retry (D.connections dial.old) (D.connections dial.new))
-        × IsTakenBy (CalledAt S.FnMut) sink (given_over ended)) }
+    ensures { (last : S) × RestoreCame (CalledAt S.FnMut) sink caller.now name result retry (D.connections dial.old) (D.connections dial.new) last }
 {
-    let who = caller.who(alloc, HOST)?;
-    let restore = Restore::new(alloc, who, name);
-    restore.bring(alloc, sink, dial, retry)
+    let mut sink = sink;
+    restored(alloc, caller, name, &mut sink, dial, retry)
 }
 
 /// Restores a snapshot, and hands what is given out to a sink, each part once and in order; it is told as complete where the sink took
@@ -68,15 +81,15 @@ pub fn restore_into<D: Dial, S: FnMut(&Emission) -> bool, O: Write, F: Write>(
     alloc: Global,
     caller: &Caller,
     name: Name,
-    sink: S,
+    sink: &mut S,
     dial: &mut D,
     retry: u64,
     output: &mut O,
     faults: &mut F,
 ) -> Status
     requires callable { (state : S) (x : _) → S.pre state x }
-    ensures obeyed { RestoreObeyed caller.now name retry (D.connections dial.old) (D.connections dial.new) }
-    ensures tells { TellsRestoredInto (IsTakenBy (CalledAt S.FnMut) sink) caller.now name retry (D.connections dial.old) (D.connections dial.new) result (O.contents output.old) (O.contents output.new) }
+    ensures came { (came : Result Outcome TryError) × RestoreCame (CalledAt S.FnMut) sink.old caller.now name came retry (D.connections dial.old) (D.connections dial.new) sink.new }
+    ensures tells { TellsRestoredInto (CalledAt S.FnMut) sink.old caller.now name retry (D.connections dial.old) (D.connections dial.new) sink.new result (O.contents output.old) (O.contents output.new) }
     ensures silent { result ≡ Status.Done → faults.new ≡ faults.old }
 {
     match restored(alloc, caller, name, sink, dial, retry) {
@@ -121,7 +134,7 @@ pub fn restore_command<T: Files + AllocGlobal + Clone + Drop, D: Dial, O: Write,
         Err(error) => return not_begun(error, faults),
     };
     let sink = |emission: &Emission| restorer.write(emission);
-    let outcome = match restored(rt.alloc(), caller, name, sink, dial, retry) {
+    let outcome = match restored_by(rt.alloc(), caller, name, sink, dial, retry) {
         Ok(outcome) => outcome,
         Err(error) => return failed(faults, &error),
     };

@@ -17,35 +17,35 @@ returns-in-Ok-drive_again-clause-obeyed g c =
     let told = g.S.Source.told c.args.source in
     let made = c.in-Ok-new.ensures in
     let job = made.job ∙ ap (λ (w : Asker). fed_job w told) c.in-Ok.ensures in
-    backup_obeyed (λ b. feeder b.backup (g.S.Source.told b.source) b.room (g.S.Source.failed b.source) b.given_up) c.args.caller.now c.args.host.now (whole_of told) c.args.retry c.in-Ok-new.backup c.drive_again.new.client _ (g.D.Dial.connections c.args.dial.now) (g.D.Dial.connections c.drive_again.new.dial)
-    (made.fits c.requires.fresh) job c.in-Ok-drive_again.ensures.again.0
+    backup_obeyed (λ b. feeder b.backup (g.S.Source.told b.source) b.room (g.S.Source.failed b.source) b.given_up) _ c.args.caller.now c.args.host.now (whole_of told) c.in-Ok-new.backup (made.fits c.requires.fresh) job c.args.retry _ c.drive_again.new.client _ _
+    (g.D.Dial.connections c.args.dial.now) (g.D.Dial.connections c.drive_again.new.dial) c.in-Ok-drive_again.ensures.again
 
 pub returns-in-Ok-drive_again-clause-tells : goal.returns-in-Ok-drive_again-clause-tells
 returns-in-Ok-drive_again-clause-tells g c =
     let told = g.S.Source.told c.args.source in
     let made = c.in-Ok-new.ensures in
     let job = made.job ∙ ap (λ (w : Asker). fed_job w told) c.in-Ok.ensures in
-    tells_as _ _ _ _ _ (λ s is. stored (λ b. feeder b.backup (g.S.Source.told b.source) b.room (g.S.Source.failed b.source) b.given_up) c.args.caller.now c.args.host.now (whole_of told) c.args.retry c.in-Ok-drive_again.field-0 c.in-Ok-new.backup c.drive_again.new.client
-    (g.D.Dial.connections c.args.dial.now) (g.D.Dial.connections c.drive_again.new.dial) s.0 s.1 s.2 (made.fits c.requires.fresh) job c.in-Ok-drive_again.ensures.again.0 is) _ c.show_ended.ensures.shows
+    tells_as _ _ _ _ _ (λ s is. stored (λ b. feeder b.backup (g.S.Source.told b.source) b.room (g.S.Source.failed b.source) b.given_up) _ c.args.caller.now c.args.host.now (whole_of told) c.in-Ok-new.backup (made.fits c.requires.fresh) job c.args.retry c.in-Ok-drive_again.field-0
+    c.drive_again.new.client _ _ (g.D.Dial.connections c.args.dial.now) (g.D.Dial.connections c.drive_again.new.dial) s.0 s.1 s.2 c.in-Ok-drive_again.ensures.again is) _ c.show_ended.ensures.shows
 
 pub returns-clause-obeyed : goal.returns-clause-obeyed
 returns-clause-obeyed g c =
     let told = g.S.Source.told c.args.source in
     let made = c.in-Ok-new.ensures in
     let job = made.job ∙ ap (λ (w : Asker). fed_job w told) c.in-Ok.ensures in
-    backup_obeyed (λ b. feeder b.backup (g.S.Source.told b.source) b.room (g.S.Source.failed b.source) b.given_up) c.args.caller.now c.args.host.now (whole_of told) c.args.retry c.in-Ok-new.backup c.drive_again.new.client _ (g.D.Dial.connections c.args.dial.now) (g.D.Dial.connections c.drive_again.new.dial)
-    (made.fits c.requires.fresh) job c.in-Err.ensures.again.0
+    backup_obeyed (λ b. feeder b.backup (g.S.Source.told b.source) b.room (g.S.Source.failed b.source) b.given_up) _ c.args.caller.now c.args.host.now (whole_of told) c.in-Ok-new.backup (made.fits c.requires.fresh) job c.args.retry _ c.drive_again.new.client _ _
+    (g.D.Dial.connections c.args.dial.now) (g.D.Dial.connections c.drive_again.new.dial) c.in-Err.ensures.again
 
 pub returns-in-Ok-drive_again-clause-whole : goal.returns-in-Ok-drive_again-clause-whole
 returns-in-Ok-drive_again-clause-whole g c = λ done. (
     let b = c.drive_again.new.client in
-    let fits = c.in-Ok-drive_again.ensures.again.0.went.fits [] (c.in-Ok-new.ensures.fits c.requires.fresh) in
+    let fits = c.in-Ok-drive_again.ensures.again.went.fits [] (c.in-Ok-new.ensures.fits c.requires.fresh) in
     let came = came_done _ _ _ _ _ (inl done) c.show_ended.ensures.shows in
     (b.source, (b.backup, (b.room, (b.given_up, (_, fits, (came.0, came.1))))), c.show_ended.ensures.whole done))
 
 pub returns-in-Ok-drive_again-clause-flawed : goal.returns-in-Ok-drive_again-clause-flawed
 returns-in-Ok-drive_again-clause-flawed g c = λ done. (
     let b = c.drive_again.new.client in
-    let fits = c.in-Ok-drive_again.ensures.again.0.went.fits [] (c.in-Ok-new.ensures.fits c.requires.fresh) in
+    let fits = c.in-Ok-drive_again.ensures.again.went.fits [] (c.in-Ok-new.ensures.fits c.requires.fresh) in
     let came = came_done _ _ _ _ _ (inr done) c.show_ended.ensures.shows in
     (b.source, (b.backup, (b.room, (b.given_up, (_, fits, (came.0, came.1))))), c.show_ended.ensures.flawed done))

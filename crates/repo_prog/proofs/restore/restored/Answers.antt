@@ -1,27 +1,21 @@
-use Rattle.std.proofs.Common.{subst, ◌∙◌}
+use Rattle.std.proofs.Common.{inl, inr, refl, subst, ◌∙◌}
+use Rattle.std.proofs.lemmas.Result.{err_from_is_err_and}
 use Rattle.std.specs.Fn.{CalledAt}
-use Rattle.std.specs.Prelude.{IfOk}
 use Rattle.repo_name.specs.declared.names.Name.{Name}
 use Rattle.repo_session.specs.Askers.{Asker}
-use Rattle.repo_session.specs.Sinks.{IsTakenBy}
-use Rattle.repo_dial.specs.Bringing.{Ended, Obeyed, given_over}
+use Rattle.repo_dial.specs.Bringing.{BroughtInto}
 use Rattle.repo_restore.specs.Restoring.{restore_rule}
 use Rattle.repo_restore.specs.RestoreObedience.{wish_of}
 use Rattle.repo_prog.specs.Jobs.{vault_asker}
-use Rattle.repo_prog.proofs.JobLemmas.{restore_none}
 use Rattle.repo_prog.proofs.restore.restored.Goals as goal
 
-pub returns-in_err-who-clause-obeyed : goal.returns-in_err-who-clause-obeyed
-returns-in_err-who-clause-obeyed g c = restore_none c.args.caller.now c.args.name c.args.retry (g.D.Dial.connections c.args.dial.now)
+pub returns-in_err-who : goal.returns-in_err-who
+returns-in_err-who g c =
+    let p = err_from_is_err_and c.from_residual.result c.from_residual.ensures.1 in
+    rw (p.1, p.2) (inl (refl, refl, refl))
 
-pub returns-clause-obeyed : goal.returns-clause-obeyed
-returns-clause-obeyed g c =
+pub returns : goal.returns
+returns g c =
     let made = c.new-restore.ensures in
-    subst (λ name. Obeyed (restore_rule name) (vault_asker c.args.caller.now) c.args.retry (g.D.Dial.connections c.args.dial.now) (g.D.Dial.connections c.bring.new.dial)) made.snapshot
-    (subst (λ who. Obeyed (restore_rule (wish_of c.new-restore.result).snapshot) who c.args.retry (g.D.Dial.connections c.args.dial.now) (g.D.Dial.connections c.bring.new.dial)) (made.who ∙ c.in_ok-who.ensures) c.bring.ensures.obeyed)
-
-pub returns-clause-taken : goal.returns-clause-taken
-returns-clause-taken g c =
-    let made = c.new-restore.ensures in
-    let Ends : Name → Asker → Type 0 = λ name who. IfOk c.bring.result (λ outcome. (ended : Ended (restore_rule name) who outcome c.args.retry (g.D.Dial.connections c.args.dial.now) (g.D.Dial.connections c.bring.new.dial)) × IsTakenBy (CalledAt g.S.FnMut) c.args.sink (given_over ended)) in
-    subst (λ name. Ends name (vault_asker c.args.caller.now)) made.snapshot (subst (λ who. Ends (wish_of c.new-restore.result).snapshot who) (made.who ∙ c.in_ok-who.ensures) c.bring.ensures.taken)
+    let Into : Name → Asker → Type 0 = λ name who. BroughtInto (CalledAt g.S.FnMut) c.args.sink.now (restore_rule name) who c.bring.result c.args.retry (g.D.Dial.connections c.args.dial.now) (g.D.Dial.connections c.bring.new.dial) c.bring.new.sink in
+    inr (subst (λ name. Into name (vault_asker c.args.caller.now)) made.snapshot (subst (λ who. Into (wish_of c.new-restore.result).snapshot who) (made.who ∙ c.in_ok-who.ensures) c.bring.ensures))

@@ -1,5 +1,5 @@
-use Rattle.std.proofs.Common.{refl, subst, ◌∙◌}
-use Rattle.repo_dial.specs.Bringing.{Ended, Obeyed}
+use Rattle.std.proofs.Common.{refl, subst, inr, ◌∙◌}
+use Rattle.repo_dial.specs.Bringing.{Brought, Ended}
 use Rattle.repo_restore.specs.Listing.{list_rule}
 use Rattle.repo_prog.specs.Jobs.{vault_asker}
 use Rattle.repo_prog.proofs.JobLemmas.{list_none}
@@ -11,18 +11,18 @@ returns-in_default-clause-obeyed g c = list_none c.args.caller.now c.args.retry 
 
 pub returns-in-Ok-bring-clause-obeyed : goal.returns-in-Ok-bring-clause-obeyed
 returns-in-Ok-bring-clause-obeyed g c =
-    subst (λ who. Obeyed list_rule who c.args.retry (g.D.Dial.connections c.args.dial.now) (g.D.Dial.connections c.bring.new.dial)) (c.new-list.ensures.who ∙ c.in-Ok.ensures) c.bring.ensures.obeyed
+    inr (c.bring.result, subst (λ who. Brought list_rule who c.bring.result c.args.retry (g.D.Dial.connections c.args.dial.now) (g.D.Dial.connections c.bring.new.dial)) (c.new-list.ensures.who ∙ c.in-Ok.ensures) c.bring.ensures)
 
 pub returns-in-Err-clause-obeyed : goal.returns-in-Err-clause-obeyed
 returns-in-Err-clause-obeyed g c =
-    subst (λ who. Obeyed list_rule who c.args.retry (g.D.Dial.connections c.args.dial.now) (g.D.Dial.connections c.bring.new.dial)) (c.new-list.ensures.who ∙ c.in-Ok.ensures) c.bring.ensures.obeyed
+    inr (c.bring.result, subst (λ who. Brought list_rule who c.bring.result c.args.retry (g.D.Dial.connections c.args.dial.now) (g.D.Dial.connections c.bring.new.dial)) (c.new-list.ensures.who ∙ c.in-Ok.ensures) c.bring.ensures)
 
 pub returns-in_default-clause-tells : goal.returns-in_default-clause-tells
 returns-in_default-clause-tells g c = nothing_told _ _ _ _ _ c.failed.ensures refl
 
 pub returns-in-Ok-bring-clause-tells : goal.returns-in-Ok-bring-clause-tells
 returns-in-Ok-bring-clause-tells g c =
-    let ended = subst (λ who. Ended list_rule who c.in-Ok-bring.outcome c.args.retry (g.D.Dial.connections c.args.dial.now) (g.D.Dial.connections c.bring.new.dial)) (c.new-list.ensures.who ∙ c.in-Ok.ensures) c.in-Ok-bring.ensures.ended in
+    let ended = subst (λ who. Ended list_rule who c.in-Ok-bring.outcome c.args.retry (g.D.Dial.connections c.args.dial.now) (g.D.Dial.connections c.bring.new.dial)) (c.new-list.ensures.who ∙ c.in-Ok.ensures) c.in-Ok-bring.ensures in
     tells_as _ _ _ _ _ (λ it is. subst (λ o. Ended list_rule (vault_asker c.args.caller.now) o c.args.retry (g.D.Dial.connections c.args.dial.now) (g.D.Dial.connections c.bring.new.dial)) is ended) _ c.show_list.ensures.shows
 
 pub returns-in-Err-clause-tells : goal.returns-in-Err-clause-tells
