@@ -11,12 +11,13 @@ use crate::told::Told;
 use repo_files::Skipped;
 use repo_name::{Instance, Name, Names, Text, Token};
 use repo_prog::{
-    Caller, Errand, LockErrand, Once, Pair, Status, backup_from, do_errand, restore_into,
+    Caller, Dial, Errand, LockErrand, Once, Pair, Status, backup_from, do_errand, restore_into,
 };
 use repo_prune::{Choice, Policy};
 use repo_session::Emission;
 use repo_tree::Entry;
 use std::alloc::{AllocError, Global};
+use std::io::Write;
 
 /// What a server says, and how a command's streams behave.
 #[derive(Drop)]
@@ -139,6 +140,22 @@ fn errand(alloc: Global, word: &str, rest: &str) -> Result<Errand, ScriptError>
     }
 }
 
+/// Restores a snapshot into a sink that is handed over.
+fn restored<D: Dial, S: FnMut(&Emission) -> bool, O: Write, F: Write>(
+    alloc: Global,
+    caller: &Caller,
+    name: Name,
+    sink: S,
+    dial: &mut D,
+    output: &mut O,
+    faults: &mut F,
+) -> Status
+    requires { (state : S) (x : _) → S.pre state x }
+{
+    let mut sink = sink;
+    restore_into(alloc, caller, name, &mut sink, dial, 0, output, faults)
+}
+
 impl Talk<'_> {
     fn errand(&mut self, errand: Errand) -> Status
         requires { IsErrand errand }
@@ -180,16 +197,7 @@ impl Talk<'_> {
         let (o, f) = (&mut self.output, &mut self.faults);
         let sink = &mut self.sink;
         let takes = |emission: &Emission| sink.take(emission);
-        restore_into(
-            self.rt.alloc(),
-            &self.caller,
-            name,
-            takes,
-            &mut dial,
-            0,
-            o,
-            f,
-        )
+        restored(self.rt.alloc(), &self.caller, name, takes, &mut dial, o, f)
     }
 
     /// Runs the command of these words.
