@@ -41,10 +41,6 @@ ListsSnapshots caller rows retry coming after = Ended list_rule (vault_asker cal
 abbrev pub RestoresSnapshot : Caller → Name → ℕ → ℕ → Connections → Connections → Type 0
 RestoresSnapshot caller name entries retry coming after = Ended (restore_rule name) (vault_asker caller) (Outcome.Complete entries) retry coming after
 
--- so it was, into a sink
-abbrev pub RestoresInto : {F : Type 0} → (F → Emission → Bool → F → Type 0) → F → Caller → Name → ℕ → ℕ → Connections → Connections → F → Type 0
-RestoresInto Called old caller name entries retry coming after new = BroughtInto Called old (restore_rule name) (vault_asker caller) (Ok (Outcome.Complete entries)) retry coming after new
-
 -- the chosen snapshots were forgotten: those of these names
 abbrev pub Forgets : Caller → Choice → List Name → ℕ → Connections → Connections → Type 0
 Forgets caller choice names retry coming after = Ended (forget_rule choice) (vault_asker caller) (Outcome.Forgotten names) retry coming after

@@ -4,7 +4,7 @@ use Rattle.repo_prog.specs.Tellings.{snapshot_lines, complete_line, stored_line,
 use Rattle.repo_dial.specs.Dialing.{Connections}
 use Rattle.repo_prog.specs.declared.callers.Caller.{Caller}
 use Rattle.repo_prog.specs.declared.status.Status.{Status}
-use Rattle.repo_prog.specs.Jobs.{RestoresSnapshot, RestoresInto, Prunes, Checks, Stores, Foresees, Forgets, ListsSnapshots, Upgrades}
+use Rattle.repo_prog.specs.Jobs.{RestoresSnapshot, Prunes, Checks, Stores, Foresees, Forgets, ListsSnapshots, Upgrades}
 use Rattle.repo_session.specs.Feeds.{Fed}
 use Rattle.repo_session.specs.Sessions.{ended_in}
 use Rattle.repo_session.specs.Traces.{Trace}
@@ -15,7 +15,6 @@ use Rattle.repo_feeding.specs.declared.reasons.GivenUp.{GivenUp}
 use Rattle.std.specs.Io.KnownBytes.{Appends}
 use Rattle.repo_prune.specs.declared.choices.Choice.{Choice}
 use Rattle.repo_prune.specs.Forgetting.{WouldForget}
-use Rattle.repo_session.specs.declared.emissions.Emission.{Emission}
 use Rattle.repo_session.specs.declared.outcomes.CheckFault.{CheckFault}
 use Rattle.repo_name.specs.declared.names.Name.{Name}
 use Rattle.repo_store.specs.Output.{AppendsPart}
@@ -116,9 +115,6 @@ TellsListed caller retry coming left status before after = Tells (λ rows. Lists
 
 abbrev pub TellsRestored : Caller → Name → ℕ → Connections → Connections → Status → Option (List ℕ) → Option (List ℕ) → Type 0
 TellsRestored caller name retry coming left status before after = Tells (λ entries. RestoresSnapshot caller name entries retry coming left) complete_line status before after
-
-abbrev pub TellsRestoredInto : {F : Type 0} → (F → Emission → Bool → F → Type 0) → F → Caller → Name → ℕ → Connections → Connections → F → Status → Option (List ℕ) → Option (List ℕ) → Type 0
-TellsRestoredInto Called old caller name retry coming left new status before after = Tells (λ entries. RestoresInto Called old caller name entries retry coming left new) complete_line status before after
 
 abbrev pub TellsForgotten : Caller → Choice → ℕ → Connections → Connections → Status → Option (List ℕ) → Option (List ℕ) → Type 0
 TellsForgotten caller choice retry coming left status before after = Tells (λ names. Forgets caller choice names retry coming left) forgotten_lines status before after

@@ -72,7 +72,7 @@ pub use playing::{Loopback, loop_command, play_command};
 pub use prune::prune_command;
 pub use repo_dial::{Address, Dial, KnownChannel, Once, Pair, TryError, drive_again};
 pub use repo_play::{PlayError, play};
-pub use restore::{restore_command, restore_into};
+pub use restore::restore_command;
 pub use serve::{Serving, serve_connections, serve_folder};
 pub use snapshots::snapshots_command;
 pub use status::{Status, refuse_words};

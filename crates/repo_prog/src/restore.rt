@@ -1,12 +1,10 @@
 //! `vault restore`.
 
 ghost use Rattle.std.specs.Fn.{CalledAt};
-ghost use Rattle.std.specs.Prelude.{◌≡◌, true, Result};
-ghost use Rattle.repo_session.specs.declared.outcomes.Outcome.{Outcome};
-ghost use Rattle.repo_dial.specs.declared.again.TryError.{TryError};
+ghost use Rattle.std.specs.Prelude.{◌≡◌, true};
 ghost use Rattle.repo_prog.specs.Jobs.{RestoreCame, RestoreObeyed};
 ghost use Rattle.repo_prog.specs.declared.status.Status.{Status};
-ghost use Rattle.repo_prog.specs.Shown.{ShowsRestored, TellsRestored, TellsRestoredInto};
+ghost use Rattle.repo_prog.specs.Shown.{ShowsRestored, TellsRestored};
 
 use crate::callers::{Caller, HOST};
 use crate::status::{Status, failed};
@@ -73,29 +71,6 @@ fn restored_by<D: Dial, S: FnMut(&Emission) -> bool>(
 {
     let mut sink = sink;
     restored(alloc, caller, name, &mut sink, dial, retry)
-}
-
-/// Restores a snapshot, and hands what is given out to a sink, each part once and in order; it is told as complete where the sink took
-/// all of it.
-pub fn restore_into<D: Dial, S: FnMut(&Emission) -> bool, O: Write, F: Write>(
-    alloc: Global,
-    caller: &Caller,
-    name: Name,
-    sink: &mut S,
-    dial: &mut D,
-    retry: u64,
-    output: &mut O,
-    faults: &mut F,
-) -> Status
-    requires callable { (state : S) (x : _) → S.pre state x }
-    ensures came { (came : Result Outcome TryError) × RestoreCame (CalledAt S.FnMut) sink.old caller.now name came retry (D.connections dial.old) (D.connections dial.new) sink.new }
-    ensures tells { TellsRestoredInto (CalledAt S.FnMut) sink.old caller.now name retry (D.connections dial.old) (D.connections dial.new) sink.new result (O.contents output.old) (O.contents output.new) }
-    ensures silent { result ≡ Status.Done → faults.new ≡ faults.old }
-{
-    match restored(alloc, caller, name, sink, dial, retry) {
-        Ok(outcome) => show_restored(alloc, &outcome, || true, output, faults),
-        Err(error) => failed(faults, &error),
-    }
 }
 
 /// Tells why a folder can't be restored into.
