@@ -86,7 +86,7 @@ all_above n m [] before h = tt
 all_above n m (x ∷ names) before h = (names_total.trans n m x before h.0, all_above n m names before h.1)
 
 -- names that ascend are sorted
-ascending_sorted : (after : Option Name) (names : List Name) → NamesAscend after names → IsStrictlySortedBy name_cmp names
+pub ascending_sorted : (after : Option Name) (names : List Name) → NamesAscend after names → IsStrictlySortedBy name_cmp names
 unfolding IsStrictlySortedBy
 ascending_sorted after [] h = tt
 ascending_sorted after (n ∷ []) h = (tt, tt)

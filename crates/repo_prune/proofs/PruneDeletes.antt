@@ -1,6 +1,10 @@
 -- What is known while a prune deletes.
-use Rattle.std.proofs.Common.{arith, Bool, Vec, Global, ◌≡◌, ◌<◌, ◌≤◌, ◌+◌, ◌⊎◌, ◌↔◌, ◌++◌, ◌∷◌, [], ℕ, true, false, IsTrue, List, Some, length, map, take, slice_get, refl, sym, ap, subst, inl, inr, ◌∙◌, Contains, append-nil}
+use Rattle.std.proofs.Common.{arith, Bool, Vec, Global, ◌≡◌, ◌<◌, ◌≤◌, ◌+◌, ◌⊎◌, ◌↔◌, ◌++◌, ◌∷◌, [], ℕ, zero, suc, true, false, IsTrue, List, Some, None, length, map, take, slice_get, refl, sym, ap, subst, inl, inr, ◌∙◌, Contains, append-nil}
 use Rattle.std.specs.Cmp.{eq_by_cmp_equiv}
+use Rattle.std.specs.List.Sorted.{IsStrictlySortedBy}
+use Rattle.std.specs.declared.cmp.Ordering.TheVariants.{Less, Equal}
+use Rattle.std.proofs.lemmas.Cmp.{tied_itself}
+use Rattle.std.proofs.lemmas.Map.Keys.{sorted_head, sorted_tail}
 use Rattle.std.specs.Ordering.{is_eq}
 use Rattle.std.proofs.lemmas.List.{take_all}
 use Rattle.repo_name.proofs.Containing.{contained_or, contains_map, first_contained, later_contained, map_contains, none_contained, contains_got}
@@ -13,7 +17,7 @@ use Rattle.repo_name.specs.declared.kinds.Kind.{Kind}
 use Rattle.repo_name.specs.declared.names.Name.{Name}
 use Rattle.repo_name.specs.declared.tokens.Token.{Token}
 use Rattle.repo_index.specs.declared.facts.PackFacts.{PackFacts}
-use Rattle.repo_store.specs.Pages.{Has}
+use Rattle.repo_store.specs.Pages.{Has, NamesAscend}
 use Rattle.repo_wire.specs.declared.messages.Ask.{Ask}
 use Rattle.repo_wire.specs.declared.messages.Say.{Say}
 use Rattle.repo_session.specs.declared.jobs.Step.{Step}
@@ -40,7 +44,8 @@ use Rattle.repo_prune.specs.declared.prunes.Stage.{Stage}
 use Rattle.repo_prune.specs.declared.relisting.Relisting.{Relisting}
 use Rattle.repo_prune.proofs.Asides.{aside_lists, indexed_same}
 use Rattle.repo_prune.proofs.Repacking.{one_taken}
-use Rattle.repo_prune.proofs.Choosing.{has_contained, contained_has}
+use Rattle.repo_prune.proofs.Ascending.{each_all}
+use Rattle.repo_prune.proofs.Choosing.{ascending_sorted, has_contained, contained_has}
 
 -- ---- what stays over a delete
 
@@ -53,6 +58,18 @@ covered_later e es rows packs h = record {
   just = h.just;
   once = h.once;
 }
+
+-- what stands at a place of a sorted list doesn't stand before it
+unrepeated : (names : List Name) (i : ℕ) (n : Name) → IsStrictlySortedBy name_cmp names → slice_get names i ≡ Some n → ¬ Contains (take i names) n
+unrepeated [] i n sorted at h = absurd (let none : None ≡ Some n = at in cc)
+unrepeated (m ∷ names) zero n sorted at h = none_contained n h
+unrepeated (m ∷ names) (suc i) n sorted at h = elim (contained_or m (take i names) n h) [
+  | inl same ↦
+      let less : name_cmp m n ≡ Less = each_all (λ (y : Name). name_cmp m y ≡ Less) names n (sorted_head name_cmp m names sorted) (contains_got names i n at) in
+      let equal : name_cmp m n ≡ Equal = ap (name_cmp m) (sym same) ∙ tied_itself names_total m in
+      let bad : Less ≡ Equal = sym less ∙ equal in cc bad
+  | inr more ↦ unrepeated names i n (sorted_tail name_cmp m names sorted) at more
+]
 
 -- a list with elements has one
 pub first_of : {A : Type 0} (xs : List A) → 1 ≤ length xs → (x : A) × Contains xs x
@@ -116,6 +133,8 @@ module _ (token : Token) (kind : Kind) (name : Name) (say : Say) (es : Trace) wh
             let o = h.packs_old n among in
             record { among = lists_later Kind.Pack n o.among; unput = λ asked. o.unput (asked_before Kind.Pack n asked); unlisted = o.unlisted };
         packs_all = λ n lists. h.packs_all n (lists_before Kind.Pack n lists);
+        indexes_ascend = h.indexes_ascend;
+        packs_ascend = h.packs_ascend;
         blobs = h.blobs;
         counted = counted_later h.blobs d.bytes h.counted;
       }
@@ -222,6 +241,8 @@ module _ (k : Known) (r : Relisting) (d : Deleting) (es : Trace) (h : HasListed 
           | inl listed ↦ let found = map_contains (λ (q : PackFacts). q.pack) r.packs.items n listed in inl (found.0, found.1, found.2)
           | inr none ↦ inr ((b.packs_are.each n).1 (pack_listed n lists, is_not_among pack_names n none))
         ];
+        indexes_ascend = b.indexes_are.ascend (ascending_sorted None k.indexes (subst (NamesAscend None) p.read.listed p.read.indexes.listed.rise.ascend));
+        packs_ascend = b.packs_are.ascend (ascending_sorted None k.packs (subst (NamesAscend None) p.read.packs.listed p.read.packs.rise.ascend));
         blobs = r.counts.blobs;
         counted = subst (λ m. AreCounted es r.counts.blobs m) (sym b.bytes) counted;
       }
@@ -232,6 +253,7 @@ module _ (k : Known) (r : Relisting) (d : Deleting) (es : Trace) (h : HasListed 
     may = may_clear;
     indexes_gone = subst (λ i. Each (λ n. DeleteDone es Kind.Index n) (take i d.indexes.items)) (sym b.none_gone.0) tt;
     packs_gone = subst (λ i. Each (λ n. DeleteDone es Kind.Pack n) (take i d.packs.items)) (sym b.none_gone.1) tt;
+    indexes_deleted = h.may.packed.none Kind.Index ∙ ap (λ i. take i d.indexes.items) (sym b.none_gone.0);
     deleted = h.may.packed.none Kind.Pack ∙ ap (λ i. take i d.packs.items) (sym b.none_gone.1);
   }
 
@@ -253,7 +275,7 @@ module _ (k : Known) (d : Deleting) (who : Asker) (token : Token) (es : Trace) (
       record {
         work = tt;
         may = (w, refl);
-        allowed = record { packs = c.packs; settled = c.may.settled; among = old.0; unput = old.1 };
+        allowed = record { packs = c.packs; settled = c.may.settled; among = old.0; unput = old.1; once = λ asked. unrepeated d.indexes.items d.indexes_gone n c.may.indexes_ascend at (subst (λ ns. Contains ns n) c.indexes_deleted asked) };
         knows = (at, c);
       }
 
@@ -263,7 +285,7 @@ module _ (k : Known) (d : Deleting) (who : Asker) (token : Token) (es : Trace) (
       record {
         work = tt;
         may = (w, refl);
-        allowed = record { packs = c.packs; settled = c.may.settled; replaced = replaced all; all = c.may.all; among = old.among; unput = old.unput; unlisted = old.unlisted };
+        allowed = record { packs = c.packs; settled = c.may.settled; replaced = replaced all; all = c.may.all; among = old.among; unput = old.unput; unlisted = old.unlisted; once = λ asked. unrepeated d.packs.items d.packs_gone n c.may.packs_ascend at (subst (λ ns. Contains ns n) c.deleted asked) };
         knows = (all, at, c);
       }
 
@@ -313,6 +335,8 @@ may_as packs d f es i p b h = record {
   indexes_all = λ n lists. elim (h.indexes_all n lists) [ inl put ↦ inl put | inr old ↦ inr (subst (λ (v : Vec Name Global). Contains v.items n) (sym i) old) ];
   packs_old = λ n among. h.packs_old n (subst (λ (v : Vec Name Global). Contains v.items n) p among);
   packs_all = λ n lists. elim (h.packs_all n lists) [ inl listed ↦ inl listed | inr old ↦ inr (subst (λ (v : Vec Name Global). Contains v.items n) (sym p) old) ];
+  indexes_ascend = subst (λ (v : Vec Name Global). IsStrictlySortedBy name_cmp v.items) (sym i) h.indexes_ascend;
+  packs_ascend = subst (λ (v : Vec Name Global). IsStrictlySortedBy name_cmp v.items) (sym p) h.packs_ascend;
   blobs = h.blobs;
   counted = subst (λ m. AreCounted es h.blobs m) (sym b) h.counted;
 }
@@ -327,6 +351,7 @@ index_gone d f token n es at c g =
       may = may_as c.packs d f (e ∷ es) g.0 g.1 g.4 (may_later token Kind.Index n Say.Done es c.packs d c.may);
       indexes_gone = subst (λ v. I v f.indexes_gone) (sym g.0) (gone_taken Kind.Index d.indexes.items d.indexes_gone f.indexes_gone token n es at g.2 c.indexes_gone);
       packs_gone = subst (λ v. P v f.packs_gone) (sym g.1) (subst (λ i. P d.packs i) (sym g.3) (gone_same Kind.Pack (take d.packs_gone d.packs.items) e es c.packs_gone));
+      indexes_deleted = ap (λ ns. ns ++ n ∷ []) c.indexes_deleted ∙ sym (one_taken d.indexes.items d.indexes_gone n at) ∙ ap (λ i. take i d.indexes.items) (sym (g.2 (slice_get_within d.indexes.items d.indexes_gone n at))) ∙ ap (λ (v : Vec Name Global). take f.indexes_gone v.items) (sym g.0);
       deleted = append-nil (names_deleted Kind.Pack es) ∙ c.deleted ∙ ap (λ i. take i d.packs.items) (sym g.3) ∙ ap (λ (v : Vec Name Global). take f.packs_gone v.items) (sym g.1);
     }
 
@@ -341,6 +366,7 @@ pack_gone d f token n es at c g =
       may = may_as c.packs d f (e ∷ es) g.0 g.1 g.4 (may_later token Kind.Pack n Say.Done es c.packs d c.may);
       indexes_gone = subst (λ v. I v f.indexes_gone) (sym g.0) (subst (λ i. I d.indexes i) (sym g.2) (gone_same Kind.Index (take d.indexes_gone d.indexes.items) e es c.indexes_gone));
       packs_gone = subst (λ v. P v f.packs_gone) (sym g.1) (gone_taken Kind.Pack d.packs.items d.packs_gone f.packs_gone token n es at g.3 c.packs_gone);
+      indexes_deleted = append-nil (names_deleted Kind.Index es) ∙ c.indexes_deleted ∙ ap (λ i. take i d.indexes.items) (sym g.2) ∙ ap (λ (v : Vec Name Global). take f.indexes_gone v.items) (sym g.0);
       deleted = ap (λ ns. ns ++ n ∷ []) c.deleted ∙ sym (one_taken d.packs.items d.packs_gone n at) ∙ ap (λ i. take i d.packs.items) (sym next) ∙ ap (λ (v : Vec Name Global). take f.packs_gone v.items) (sym g.1);
     }
 

@@ -1,5 +1,7 @@
 -- What is known while a prune goes on.
 use Rattle.std.specs.Prelude.{⊤, ◌≡◌, ◌≤◌, ◌⊎◌, ◌↔◌, ◌++◌, ◌∷◌, [], ℕ, true, false, List, length, map, take, slice_get, Some, Contains}
+use Rattle.std.specs.List.Sorted.{IsStrictlySortedBy}
+use Rattle.repo_name.specs.Naming.{name_cmp}
 use Rattle.repo_name.specs.declared.kinds.BlobKind.{BlobKind}
 use Rattle.repo_name.specs.declared.kinds.BlobKind.TheVariants.{Tree}
 use Rattle.repo_name.specs.declared.kinds.Kind.{Kind}
@@ -212,7 +214,7 @@ pub record IsOldPack (es : Trace) (packs : List PackFacts) (n : Name) : Type 0 w
   pub unput : ¬ AskedToPut es Kind.Pack n
   pub unlisted : ¬ ListsPack packs n
 
--- deletes may begin, and these old indexes and packs are all that there are
+-- deletes may begin, and these old indexes and packs are all that there are, each once
 pub record MayClear (packs : List PackFacts) (d : Deleting) (es : Trace) : Type 0 where
   pub settled : IsSettled es packs
   pub all : IsListed Kind.Pack es
@@ -220,6 +222,8 @@ pub record MayClear (packs : List PackFacts) (d : Deleting) (es : Trace) : Type 
   pub indexes_all : (n : Name) → Lists es Kind.Index n → AskedToPut es Kind.Index n ⊎ Contains d.indexes.items n
   pub packs_old : (n : Name) → Contains d.packs.items n → IsOldPack es packs n
   pub packs_all : (n : Name) → Lists es Kind.Pack n → ListsPack packs n ⊎ Contains d.packs.items n
+  pub indexes_ascend : IsStrictlySortedBy name_cmp d.indexes.items
+  pub packs_ascend : IsStrictlySortedBy name_cmp d.packs.items
   pub blobs : ℕ
   pub counted : AreCounted es blobs d.bytes
 
@@ -229,6 +233,7 @@ pub record IsClearing (d : Deleting) (es : Trace) : Type 0 where
   pub may : MayClear packs d es
   pub indexes_gone : Each (λ n. DeleteDone es Kind.Index n) (take d.indexes_gone d.indexes.items)
   pub packs_gone : Each (λ n. DeleteDone es Kind.Pack n) (take d.packs_gone d.packs.items)
+  pub indexes_deleted : names_deleted Kind.Index es ≡ take d.indexes_gone d.indexes.items
   pub deleted : names_deleted Kind.Pack es ≡ take d.packs_gone d.packs.items
 
 -- ---- while snapshots, indexes and packs are being listed
