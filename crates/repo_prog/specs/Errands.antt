@@ -1,5 +1,5 @@
 -- What a client's errand gives: what its command does.
-use Rattle.std.specs.Prelude.{◌≡◌, ◌≢◌, ◌⊎◌, ◌≤◌, ⊤, ℕ, List, Option, Some, None, Result, Ok, Err}
+use Rattle.std.specs.Prelude.{◌≡◌, ◌≢◌, ◌⊎◌, ◌≤◌, ℕ, List, Option, Some, None, Result, Ok, Err}
 use Rattle.clap.specs.Values.{kind_of}
 use Rattle.clap.specs.declared.error.kind.ErrorKind.{ErrorKind}
 use Rattle.std.specs.Io.KnownBytes.{Appends}
@@ -11,10 +11,11 @@ use Rattle.repo_prog.specs.declared.errands.Errand.{Errand}
 use Rattle.repo_prog.specs.declared.errands.LockErrand.{LockErrand}
 use Rattle.repo_prog.specs.declared.status.Status.{Status}
 use Rattle.repo_prog.specs.declared.words.Order.{Order}
+use Rattle.repo_prog.specs.declared.words.OrderError.{OrderError}
 use Rattle.repo_prog.specs.declared.words.WordsError.{WordsError}
 use Rattle.repo_prune.specs.Forgetting.{IsNoPolicy}
 use Rattle.repo_prog.specs.Asking.{Streams, streams, Asked, RemovesLocks, request_of}
-use Rattle.repo_prog.specs.Tellings.{locks_told, refresh_told}
+use Rattle.repo_prog.specs.Tellings.{IsCutShort, locks_told, refresh_told}
 use Rattle.repo_prog.specs.Commands.{FramesGives, IsEnd, LoopGives, PlayGives, created_line, listening_line}
 use Rattle.repo_dial.specs.Dialing.{Connections, Dials, HangsUp, unknown}
 use Rattle.repo_dial.specs.Ends.{ConnectionEnds}
@@ -70,25 +71,32 @@ abbrev pub OrderGives : Order → Option (List ℕ) → Option (List ℕ) → Op
 OrderGives Order.Frames input left start status contents = (text : List ℕ) → input ≡ Some text → FramesGives text start status contents
 OrderGives Order.Play input left start status contents = (text : List ℕ) → input ≡ Some text → PlayGives text start status contents
 OrderGives Order.Loop input left start status contents = (text : List ℕ) → input ≡ Some text → LoopGives text start status left contents
-OrderGives (Order.Init folder making) input left start status contents = IsEnd status × (status ≡ Status.Done → (id : Instance) × Appends start contents (created_line id))
-OrderGives (Order.Serve folder address serving) input left start status contents = IsEnd status × (status ≡ Status.Done → Appends start contents listening_line)
-OrderGives (Order.Client address errand retry idle) input left start status contents = AddressGives errand retry start status contents
+OrderGives (Order.Init folder making) input left start status contents = (left ≡ input) × IsEnd status × (status ≡ Status.Done → (id : Instance) × Appends start contents (created_line id))
+    × (status ≡ Status.Failed → (contents ≡ start) ⊎ ((id : Instance) × IsCutShort start contents (created_line id)))
+OrderGives (Order.Serve folder address serving) input left start status contents = (left ≡ input) × IsEnd status × (status ≡ Status.Done → Appends start contents listening_line)
+    × (status ≡ Status.Failed → IsCutShort start contents listening_line ⊎ Appends start contents listening_line)
+OrderGives (Order.Client address errand retry idle) input left start status contents = (left ≡ input) × AddressGives errand retry start status contents
 
 -- help that was asked for, or the version
 abbrev pub IsToShow : ErrorKind → Type 0
 IsToShow kind = (kind ≡ ErrorKind.DisplayHelp) ⊎ (kind ≡ ErrorKind.DisplayVersion)
 
--- how it ends where words make no order: what clap says of them is done where it is help or the version, and fails where that can't be written, or for want of
--- memory; all else is refused
-abbrev pub RefusesWords : WordsError → Status → Type 0
-RefusesWords (WordsError.Clap error) status =
+-- how it ends where words make no order: what clap says of them is done where it is help or the version, and fails where that can't be written; want of memory
+-- fails; all else is refused
+abbrev pub RefusesWords : OrderError → Status → Type 0
+RefusesWords (OrderError.Clap error) status =
     (status ≡ Status.Done → IsToShow (kind_of error)) × (status ≡ Status.Failed → IsToShow (kind_of error) ⊎ (kind_of error ≡ ErrorKind.OutOfMemory))
     × (status ≡ Status.Usage → ¬ IsToShow (kind_of error)) × (status ≢ Status.Flawed)
-RefusesWords WordsError.BadArgument status = status ≡ Status.Usage
-RefusesWords WordsError.NamesAndPolicy status = status ≡ Status.Usage
-RefusesWords WordsError.Memory status = status ≡ Status.Failed
+RefusesWords (OrderError.Words WordsError.BadArgument) status = status ≡ Status.Usage
+RefusesWords (OrderError.Words WordsError.NamesAndPolicy) status = status ≡ Status.Usage
+RefusesWords (OrderError.Words WordsError.Memory) status = status ≡ Status.Failed
 
--- what following words gives: what their order gives, or they are refused
-abbrev pub Follows : Result Order WordsError → Option (List ℕ) → Option (List ℕ) → Option (List ℕ) → Status → Option (List ℕ) → Type 0
+-- help, or the version, is to be shown
+abbrev pub IsShown : OrderError → Type 0
+IsShown (OrderError.Clap error) = IsToShow (kind_of error)
+IsShown (OrderError.Words error) = ⊥
+
+-- what following words gives: what their order gives; or they are refused, nothing is read, and nothing is written on the output but what is to be shown
+abbrev pub Follows : Result Order OrderError → Option (List ℕ) → Option (List ℕ) → Option (List ℕ) → Status → Option (List ℕ) → Type 0
 Follows (Ok order) input left start status contents = OrderGives order input left start status contents
-Follows (Err error) input left start status contents = RefusesWords error status
+Follows (Err error) input left start status contents = RefusesWords error status × (left ≡ input) × (¬ IsShown error → contents ≡ start)

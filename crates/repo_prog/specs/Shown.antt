@@ -1,5 +1,5 @@
 -- What commands show of their jobs.
-use Rattle.std.specs.Prelude.{◌≡◌, ⊤, ◌⊎◌, Option, ℕ, List, Some, Bool}
+use Rattle.std.specs.Prelude.{◌≡◌, ⊤, ◌⊎◌, Option, ℕ, List, Some}
 use Rattle.repo_prog.specs.Tellings.{snapshot_lines, complete_line, stored_line, foreseen_lines, forgotten_lines, pruned_line, upgraded_line, fault_lines, clean_line}
 use Rattle.repo_dial.specs.Dialing.{Connections}
 use Rattle.repo_prog.specs.declared.callers.Caller.{Caller}

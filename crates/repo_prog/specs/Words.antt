@@ -1,10 +1,13 @@
 -- What the words of a command ask for, as `clap` read them.
-use Rattle.std.specs.Prelude.{◌≡◌, ◌≢◌, ◌⊎◌, ◌↔◌, ◌<◌, ◌^◌, ◌*◌, ⊤, ℕ, Bool, true, false, [], List, map, Option, Some, None, IfSome, option_map, unwrap_or, codes, string_bytes}
+use Rattle.std.specs.Prelude.{◌≡◌, ◌≢◌, ◌⊎◌, ◌↔◌, ◌<◌, ◌^◌, ◌*◌, ⊤, ℕ, Bool, true, false, [], List, map, Option, Some, None, Result, Ok, Err, IfSome, option_map, unwrap_or, codes, string_bytes}
 use Rattle.std.specs.Duration.{as_nanos}
 use Rattle.std.specs.Str.Parse.{IsNumeral, digits_value, without_leading_plus}
 use Rattle.std.specs.declared.time.Duration.{Duration}
 use Rattle.clap.specs.Matches.{found_of, first_value, matched_of, one_text, raw_values}
+use Rattle.clap.specs.Faults.{fault_of}
+use Rattle.clap.specs.Kinds.{IsAmong}
 use Rattle.clap.specs.Simple.{subcommand_of}
+use Rattle.clap.specs.Values.{kind_of}
 use Rattle.clap.specs.Words.{rows_of}
 use Rattle.clap.specs.declared.parser.matches.ArgMatches.{ArgMatches}
 use Rattle.repo_name.specs.Naming.{hex_of}
@@ -17,6 +20,8 @@ use Rattle.repo_prog.specs.declared.errands.LockErrand.{LockErrand}
 use Rattle.repo_prog.specs.declared.serve.Serving.{Serving}
 use Rattle.repo_prog.specs.declared.words.Making.{Making}
 use Rattle.repo_prog.specs.declared.words.Order.{Order}
+use Rattle.repo_prog.specs.declared.words.OrderError.{OrderError}
+use Rattle.repo_prog.specs.declared.words.WordsError.{WordsError}
 
 -- a flag is given, or isn't
 abbrev pub IsFlag : ArgMatches → List ℕ → Bool → Type 0
@@ -114,3 +119,16 @@ pub record IsSpelledBy (line : List (List ℕ)) (order : Order) : Type 0 where
   pub words : ArgMatches
   pub read : subcommand_of vault_app line ≡ Some (order_word order, rows_of (found_of words))
   pub asked : AreOrdering words order
+
+-- why they make no order: `clap` finds a fault of this kind in them, help and the version among these; or it finds none, and the words of the command ask for
+-- nothing; or there is no memory
+abbrev pub IsRefusalOf : List (List ℕ) → OrderError → Type 0
+IsRefusalOf line (OrderError.Clap error) = IsAmong (kind_of error) (fault_of vault_app line)
+IsRefusalOf line (OrderError.Words WordsError.BadArgument) = fault_of vault_app line ≡ []
+IsRefusalOf line (OrderError.Words WordsError.NamesAndPolicy) = fault_of vault_app line ≡ []
+IsRefusalOf line (OrderError.Words WordsError.Memory) = ⊤
+
+-- what the words of the command line come to
+abbrev pub ReadsAs : List (List ℕ) → Result Order OrderError → Type 0
+ReadsAs line (Ok order) = IsSpelledBy line order
+ReadsAs line (Err error) = IsRefusalOf line error

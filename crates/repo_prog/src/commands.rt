@@ -5,10 +5,10 @@ ghost use Rattle.clap.specs.Values.{kind_of};
 ghost use Rattle.clap.specs.declared.error.kind.ErrorKind.{ErrorKind};
 ghost use Rattle.repo_prog.specs.Commands.{FramesGives, IsOrder, ReadsInput};
 ghost use Rattle.repo_prog.specs.Errands.{OrderGives, Follows, IsToShow};
-ghost use Rattle.repo_prog.specs.Words.{IsSpelledBy};
+ghost use Rattle.repo_prog.specs.Words.{ReadsAs};
 ghost use Rattle.repo_prog.specs.declared.status.Status.{Status};
 ghost use Rattle.repo_prog.specs.declared.words.Order.{Order};
-ghost use Rattle.repo_prog.specs.declared.words.WordsError.{WordsError};
+ghost use Rattle.repo_prog.specs.declared.words.OrderError.{OrderError};
 
 use crate::connecting::run_errand;
 use crate::frames_engine::frames;
@@ -16,7 +16,7 @@ use crate::init::init_folder;
 use crate::playing::{loop_command, play_command};
 use crate::serve::serve_folder;
 use crate::status::{Status, failed, refuse_both, refuse_words};
-use crate::words::{Order, WordsError, order_of};
+use crate::words::{Order, OrderError, WordsError, order_of};
 use clap::error::ErrorKind;
 use repo_files::HoldFile;
 use repo_session::DriveError;
@@ -50,6 +50,7 @@ fn show<W: Write, F: Write>(error: &clap::Error, output: &mut W, faults: &mut F)
     ensures status { result ≢ Status.Flawed }
     ensures silent { result ≡ Status.Done → faults.new ≡ faults.old }
     ensures usage { result ≡ Status.Usage → output.new ≡ output.old }
+    ensures unshown { ¬ IsToShow (kind_of error.now) → output.new ≡ output.old }
     ensures memory { kind_of error.now ≡ ErrorKind.OutOfMemory → result ≡ Status.Failed }
     ensures done { result ≡ Status.Done → IsToShow (kind_of error.now) }
     ensures failed { result ≡ Status.Failed → IsToShow (kind_of error.now) ⊎ (kind_of error.now ≡ ErrorKind.OutOfMemory) }
@@ -117,21 +118,21 @@ fn follow<
     R: Read,
     W: Write,
     F: Write,
->(rt: &T, order: Result<Order, WordsError>, input: &mut R, output: &mut W, faults: &mut F) -> Status
+>(rt: &T, order: Result<Order, OrderError>, input: &mut R, output: &mut W, faults: &mut F) -> Status
 where
     T::File: HoldFile,
     requires { IfOk order IsOrder }
     ensures follows { Follows order (R.remaining input.old) (R.remaining input.new) (W.contents output.old) result (W.contents output.new) }
-    ensures unread { (error : WordsError) → order ≡ Err error → input.new ≡ input.old }
+    ensures unread { (error : OrderError) → order ≡ Err error → input.new ≡ input.old }
     ensures silent { result ≡ Status.Done → faults.new ≡ faults.old }
     ensures usage { result ≡ Status.Usage → (input.new ≡ input.old) × (output.new ≡ output.old) }
 {
     match order {
         Ok(order) => perform(rt, order, input, output, faults),
-        Err(WordsError::Clap(error)) => show(&error, output, faults),
-        Err(WordsError::BadArgument) => refuse_words(faults),
-        Err(WordsError::NamesAndPolicy) => refuse_both(faults),
-        Err(WordsError::Memory) => failed(faults, &"out of memory"),
+        Err(OrderError::Clap(error)) => show(&error, output, faults),
+        Err(OrderError::Words(WordsError::BadArgument)) => refuse_words(faults),
+        Err(OrderError::Words(WordsError::NamesAndPolicy)) => refuse_both(faults),
+        Err(OrderError::Words(WordsError::Memory)) => failed(faults, &"out of memory"),
     }
 }
 
@@ -146,7 +147,7 @@ pub fn run<
 >(rt: &T, words: &[String], input: &mut R, output: &mut W, faults: &mut F) -> Status
 where
     T::File: HoldFile,
-    ensures follows { (order : Result Order WordsError) × IfOk order (IsSpelledBy (map string_bytes words.now))
+    ensures follows { (order : Result Order OrderError) × ReadsAs (map string_bytes words.now) order
         × Follows order (R.remaining input.old) (R.remaining input.new) (W.contents output.old) result (W.contents output.new) }
     ensures silent { result ≡ Status.Done → faults.new ≡ faults.old }
     ensures usage { result ≡ Status.Usage → (input.new ≡ input.old) × (output.new ≡ output.old) }

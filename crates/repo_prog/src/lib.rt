@@ -78,4 +78,4 @@ pub use snapshots::snapshots_command;
 pub use status::{Status, refuse_words};
 pub use telling::fault_word;
 pub use upgrade::upgrade_command;
-pub use words::{Making, Order, WordsError, order_of};
+pub use words::{Making, Order, OrderError, WordsError, order_of};

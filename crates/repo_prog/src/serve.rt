@@ -1,9 +1,10 @@
 //! `vault serve`.
 
-ghost use Rattle.std.specs.Prelude.{◌≡◌, ◌≤◌, ◌<◌, ◌↔◌, Option, true, IsOk};
+ghost use Rattle.std.specs.Prelude.{◌≡◌, ◌≤◌, ◌<◌, ◌↔◌, ◌⊎◌, Option, true, IsOk};
 ghost use Rattle.std.specs.Io.KnownBytes.{Appends};
 ghost use Rattle.repo_prog.specs.Commands.{listening_line, IsEnd};
 ghost use Rattle.repo_prog.specs.Serving.{IsServed, ServesAtOnce, ServesInTurn, Visit, as_served, ending};
+ghost use Rattle.repo_prog.specs.Tellings.{IsCutShort};
 ghost use Rattle.repo_prog.specs.declared.status.Status.{Status};
 ghost use Rattle.repo_store.specs.AppendOnly.{KeepsObjects, OnlyAppends};
 ghost use Rattle.repo_store.specs.Serving.{Ran};
@@ -206,6 +207,8 @@ where
     ensures silent { result ≡ Status.Done → faults.new ≡ faults.old }
     ensures status { IsEnd result }
     ensures written { result ≡ Status.Done → Appends (W.contents output.old) (W.contents output.new) listening_line }
+    ensures cut { result ≡ Status.Failed → IsCutShort (W.contents output.old) (W.contents output.new) listening_line
+        ⊎ Appends (W.contents output.old) (W.contents output.new) listening_line }
 {
     let shelf = match open_store(rt, folder) {
         Ok(shelf) => shelf,
@@ -216,7 +219,10 @@ where
         Err(error) => return failed_by(faults, &error, "not reached"),
     };
     shelf.folder.disk.clean();
-    if write_whole(output, b"listening\n").is_err() || output.flush().is_err() {
+    if write_whole(output, b"listening\n").is_err() {
+        return failed(faults, &"write failed");
+    }
+    if output.flush().is_err() {
         return failed(faults, &"write failed");
     }
     let mut arrivals = Arrivals::at(&listener, serving.idle);

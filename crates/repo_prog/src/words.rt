@@ -8,7 +8,7 @@ ghost use Rattle.repo_tree.specs.ConfigText.{IsTarget};
 ghost use Rattle.repo_tree.specs.Versions.{greatest_version, IsKnownTo};
 ghost use Rattle.repo_prog.specs.Commands.{IsAtOnce, IsIdle, IsMaking, IsOrder, IsServing};
 ghost use Rattle.repo_prog.specs.Spelled.{AddsWords, IsCommand, IsOfKind, flag_rule, init_rules, needed_rule, number_rule, serve_rules, vault_app};
-ghost use Rattle.repo_prog.specs.Words.{AreOrdering, IsFlag, IsIdleOf, IsMakingOf, IsNumber, IsServingOf, IsSpelledBy, IsWord, order_word};
+ghost use Rattle.repo_prog.specs.Words.{AreOrdering, IsFlag, IsIdleOf, IsMakingOf, IsNumber, IsServingOf, IsWord, ReadsAs, order_word};
 
 use crate::addresses::address_of;
 use crate::errands::{Errand, errand_of, retry_of, with_command, with_errands};
@@ -67,12 +67,10 @@ pub enum Order {
     },
 }
 
-/// Why the words make no command.
-#[derive(Debug, Drop)]
+/// Why the words of a command, which `clap` takes, ask for nothing.
+#[derive(Clone, Copy, Debug, PartialEq, Eq)]
 pub enum WordsError {
-    /// `clap` says why, or shows its help.
-    Clap(clap::Error),
-    /// `clap` takes them, and the program doesn't: a word is outside its limits.
+    /// A word is outside its limits.
     BadArgument,
     /// Names are given, and a policy too.
     NamesAndPolicy,
@@ -80,19 +78,41 @@ pub enum WordsError {
     Memory,
 }
 
-impl From<clap::Error> for WordsError {
-    ghost use Rattle.std.specs.Prelude.{◌≡◌, ◌≢◌};
+/// Why the words of the command line make no order.
+#[derive(Debug, Drop)]
+pub enum OrderError {
+    /// `clap` says why, or shows its help, or the version.
+    Clap(clap::Error),
+    /// `clap` takes them, and the program doesn't; or there was no memory.
+    Words(WordsError),
+}
+
+impl From<clap::Error> for OrderError {
+    ghost use Rattle.std.specs.Prelude.{◌≡◌, ◌≢◌, ◌⊎◌};
     ghost use Rattle.clap.specs.Words.{kind_of};
     ghost use Rattle.clap.specs.declared.error.kind.ErrorKind.TheVariants.{OutOfMemory};
+    ghost use Rattle.repo_prog.specs.declared.words.OrderError.{OrderError};
     ghost use Rattle.repo_prog.specs.declared.words.WordsError.{WordsError};
 
-    ghost from_gives = { λ e r. (kind_of e ≡ OutOfMemory → r ≡ WordsError.Memory) × (kind_of e ≢ OutOfMemory → r ≡ WordsError.Clap e) };
+    ghost from_gives = { λ e r. ((kind_of e ≡ OutOfMemory) × (r ≡ OrderError.Words WordsError.Memory)) ⊎ ((kind_of e ≢ OutOfMemory) × (r ≡ OrderError.Clap e)) };
 
-    fn from(error: clap::Error) -> WordsError {
+    fn from(error: clap::Error) -> OrderError {
         match error.kind() {
-            ErrorKind::OutOfMemory => WordsError::Memory,
-            _ => WordsError::Clap(error),
+            ErrorKind::OutOfMemory => OrderError::Words(WordsError::Memory),
+            _ => OrderError::Clap(error),
         }
+    }
+}
+
+impl From<AllocError> for OrderError {
+    ghost use Rattle.std.specs.Prelude.{◌≡◌};
+    ghost use Rattle.repo_prog.specs.declared.words.OrderError.{OrderError};
+    ghost use Rattle.repo_prog.specs.declared.words.WordsError.{WordsError};
+
+    ghost from_gives = { λ e r. r ≡ OrderError.Words WordsError.Memory };
+
+    fn from(_: AllocError) -> OrderError {
+        OrderError::Words(WordsError::Memory)
     }
 }
 
@@ -416,14 +436,17 @@ fn order_in(alloc: Global, command: &str, words: &ArgMatches) -> Result<Order, W
 }
 
 /// The order that the words spell, the program's name first.
-pub fn order_of(alloc: Global, words: &[String]) -> Result<Order, WordsError>
+pub fn order_of(alloc: Global, words: &[String]) -> Result<Order, OrderError>
     ensures within { IfOk result IsOrder }
-    ensures spelled { IfOk result (IsSpelledBy (map string_bytes words.now)) }
+    ensures reads { ReadsAs (map string_bytes words.now) result }
 {
     let commands = commands(alloc)?;
     let matches = commands.try_get_matches_from(words)?;
-    match matches.subcommand() {
-        Some((command, words)) => order_in(alloc, command, words),
-        None => Err(WordsError::BadArgument),
+    let Some((command, words)) = matches.subcommand() else {
+        return Err(OrderError::Words(WordsError::BadArgument));
+    };
+    match order_in(alloc, command, words) {
+        Ok(order) => Ok(order),
+        Err(error) => Err(OrderError::Words(error)),
     }
 }
