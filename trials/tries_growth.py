@@ -57,7 +57,7 @@ def cases_whose_memory_is_refused():
     with Yard() as yard:
         library, mark = refuser(yard), yard.top / "refused"
         total = sum(case.requests(library, mark, numbers(10, 29)) for case in refused.tried_cases(refused.chosen()))
-        holds(total > 100, f"only {total} requests were refused")
+        holds(total > 80, f"only {total} requests were refused")
 
 
 @trial(is_early=True)

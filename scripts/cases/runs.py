@@ -58,7 +58,8 @@ class Run:
         """What the library is told."""
         of_server = self.server or Server()
         told = {"AT": of_server.time, "CHANCE": INSTANCE[0], "SENT": of_server.sent_room, "PARTS": of_server.stop,
-                "SHOWN": of_server.output_room if self.server else self.shown_room, "SLOW": self.slow or None, "BROKEN": self.broken or None}
+                "SHOWN": of_server.output_room if self.server else self.shown_room, "SLOW": self.slow or None, "BROKEN": self.broken or None,
+                "HEARD": self.server and True}
         return {key: str(value) for key, value in told.items() if value is not None}
 
     def holds(self, came):

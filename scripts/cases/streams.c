@@ -8,10 +8,12 @@
  * SENT      so many bytes are taken by connections, seven at a time, and then writes fail
  * SHOWN     so many by standard output
  * PARTS     so many of the calls are made by which folders and files come to be, and the next one fails
+ * HEARD     a connection is heard to its end before it is closed, since what was said over one that is closed before may be lost
  *
  * It needs no header, so that any compiler makes it, and makes the calls of Linux on x86-64 by their numbers. */
 #define ABSENT (-1)
 #define ROOM 7
+#define NO_MORE_IS_SAID 1
 #define BROKEN_PIPE 32
 #define NO_SPACE 28
 #define REALTIME 0
@@ -21,7 +23,7 @@
 #define OUTPUT 1
 #define FAULTS 2
 #define HERE (-100)
-enum { READ = 0, WRITE = 1, SENDTO = 44, RECVFROM = 45, RENAME = 82, MKDIR = 83, CLOCK_GETTIME = 228, OPENAT = 257, GETRANDOM = 318 };
+enum { READ = 0, WRITE = 1, CLOSE = 3, SENDTO = 44, RECVFROM = 45, SHUTDOWN = 48, RENAME = 82, MKDIR = 83, CLOCK_GETTIME = 228, OPENAT = 257, GETRANDOM = 318 };
 
 typedef unsigned long size_t;
 struct timespec {
@@ -118,6 +120,15 @@ long write(int file, const void *bytes, size_t count) {
 long send(int file, const void *bytes, size_t count, int flags) {
     long most = taken(file, count);
     return most == 0 && count > 0 ? fails(BROKEN_PIPE) : syscall(SENDTO, file, bytes, most, flags, 0, 0);
+}
+
+int close(int file) {
+    char rest[4096];
+    if (getenv("HEARD") && is_socket(file)) {
+        syscall(SHUTDOWN, file, NO_MORE_IS_SAID);
+        while (syscall(RECVFROM, file, rest, sizeof rest, 0, 0, 0) > 0) continue;
+    }
+    return (int)syscall(CLOSE, file);
 }
 
 int mkdir(const char *path, unsigned mode) {
