@@ -3,8 +3,6 @@
 The cases are run so: a run of each command over what a server says, and of scripts; and the program of cases, with what is asked of a store.
 And the commands themselves, over a real server, each of whose runs is done all the same, or ends with a text that says why.
 """
-import importlib.util
-import os
 import re
 import shutil
 import subprocess
@@ -15,7 +13,11 @@ from program import Server, has_status, told
 from trying import OPTIONS, ROOT, WAIT, Skipped, holds, needs, new_folder, same, trial
 from yards import SMALL, Yard, entries, filled, is_clean, restores, stored
 
-CASES = ROOT / "crates/cases/out/cases"
+sys.path.append(str(ROOT / "scripts/cases"))
+
+# The cases that are run so, and how they are judged.
+import refused
+
 # In the gate each request up to this one is refused, then every seventh.
 FIRST, STEP = 40, 7
 
@@ -32,28 +34,22 @@ def refuser(yard):
     """The library, where it can be built and loaded before the program."""
     needs("gcc")
     library = yard.top / "refuse.so"
-    subprocess.run(["gcc", "-shared", "-fPIC", "-O1", "-o", library, ROOT / "scripts/refuse.c"], check=True, timeout=WAIT)
+    subprocess.run(["gcc", "-shared", "-fPIC", "-O1", "-o", library, refused.REFUSER], check=True, timeout=WAIT)
     return library
 
 
 def counts(library, mark):
     """Skips the trial where the library doesn't see the program's own requests: of a script, or of a program with a sanitizer."""
     is_script = Path(OPTIONS.program).read_bytes()[:2] == b"#!"
-    if is_script or told("--version", env=refusing(library, mark, 1)).startswith("0|") and not mark.is_symlink():
+    if is_script or told("--version", env=refused.refusing(library, mark, 1)).startswith("0|") and not mark.is_symlink():
         raise Skipped("the requests of this program can't be refused")
-
-
-def refusing(library, mark, at):
-    mark.unlink(missing_ok=True)
-    return {"REFUSE": str(at), "REFUSED": str(mark), "LD_PRELOAD": str(library)}
 
 
 @trial(is_early=True)
 def cases_whose_memory_is_refused():
     """Each case of a store twice in a row: whichever request is refused, at most one of the two differs, and says why."""
-    if not CASES.is_file():
+    if not refused.CASES.is_file():
         raise Skipped("there is no program of cases: `rt ci` leaves one")
-    refused = refused_cases()
     with Yard() as yard:
         library, mark = refuser(yard), yard.top / "refused"
         total = sum(case.requests(library, mark, numbers(10, 29)) for case in refused.tried_cases(refused.chosen()))
@@ -63,23 +59,12 @@ def cases_whose_memory_is_refused():
 @trial(is_early=True)
 def runs_whose_memory_is_refused():
     """Each run of the cases: whichever request is refused, it ends as it ends else, or says why."""
-    refused = refused_cases()
     with Yard() as yard:
         library, mark = refuser(yard), yard.top / "refused"
         counts(library, mark)
         runner = refused.Runner(OPTIONS.program, new_folder())
-        total = sum(run.requests(runner, library, mark, numbers(10, 29)) for run in refused.tried_runs(refused.chosen()))
+        total = sum(run.requests(library, mark, numbers(10, 29), runner) for run in refused.tried_runs(refused.chosen()))
         holds(total > 500, f"only {total} requests were refused")
-
-
-def refused_cases():
-    """The cases that are run so, and how they are judged: scripts/cases/refused.py."""
-    folder = ROOT / "scripts/cases"
-    sys.path.append(str(folder))
-    spec = importlib.util.spec_from_file_location("refused", folder / "refused.py")
-    module = importlib.util.module_from_spec(spec)
-    spec.loader.exec_module(module)
-    return module
 
 
 # How a command is told as done; where it isn't, it ends with status 1 or 2, and no signal ends it.
@@ -116,7 +101,7 @@ def refuses_each(address, library, mark, words, wanted):
                 shutil.rmtree(each, ignore_errors=True)
         if count % 10 == 0:
             told("unlock", address, "--remove-all")
-        got = told(words[0], address, *words[1:], env=refusing(library, mark, at))
+        got = told(words[0], address, *words[1:], env=refused.refusing(library, mark, at))
         if not mark.is_symlink():
             break
         holds(is_an_end(words[0], got), f"{words[0]}, request {at} refused: {got}")
@@ -136,7 +121,7 @@ def a_server_whose_memory_is_refused():
         root = filled(yard.top / "from", {"d/x": b"abc" * 50, "y": b"def"})
         for count, at in enumerate(numbers()):
             try:
-                server = Server(yard.root, connections=9, env=refusing(library, mark, at))
+                server = Server(yard.root, connections=9, env=refused.refusing(library, mark, at))
             except AssertionError as error:
                 holds(mark.is_symlink() and str(error).startswith("serve: "), error)
                 continue

@@ -3,7 +3,7 @@
 import random
 
 import commands
-from command_cases import ABC, OPENED, SNAPSHOT, TREE, codes, places, raw_pages, say, says, snapshots_texts, streams
+from command_cases import ABC, OPENED, SNAPSHOT, TREE, codes, places, raw_pages, says, snapshots_texts, streams
 from jobs import DAY
 from naming import name_of
 from texts import snapshot_text

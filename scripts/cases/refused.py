@@ -195,11 +195,31 @@ def is_frame_of_want(frame):
     return frame.startswith("0000001a86") and frame.endswith("0b")
 
 
-class TriedRun:
+class Tried:
+    """What is run again and again, each time with one request for memory refused."""
+
+    def requests(self, library, mark, numbers, *place):
+        """How many requests for memory were refused, those of these numbers, each in a run of its own."""
+        for count, at in enumerate(numbers):
+            ran = self.ran(refusing(library, mark, at), *place)
+            if not mark.is_symlink():
+                holds(self.is_whole(ran), f"{self.heading} differs where nothing is refused: {ran}")
+                return count
+            holds(not self.fault(ran), f"where request {at} is refused: {self.fault(ran)}")
+
+
+class TriedRun(Tried):
     """A run of the program `vault`, of which a request for memory is refused, and what it may print then, where it is a script's."""
 
     def __init__(self, run, lacking):
-        self.run, self.lacking = run, lacking
+        self.heading, self.run, self.lacking = run.heading, run, lacking
+
+    def ran(self, environment, runner):
+        return runner.came(self.run, environment)
+
+    def is_whole(self, came):
+        """Whether all came that is wanted."""
+        return self.run.holds(came)
 
     def fault(self, came):
         """What is wrong with a run in which a request was refused."""
@@ -212,16 +232,7 @@ class TriedRun:
         is_so = is_so or self.lacking is not None and (came.output, came.faults) in self.lacking
         # The frames of a store that lacked memory for one of them.
         is_so = is_so or self.run.words == ["frames"] and not came.faults and any(map(is_frame_of_want, came.output.splitlines()))
-        return None if is_so else f"{self.run.heading}: {came}"
-
-    def requests(self, runner, library, mark, numbers):
-        """How many requests for memory were refused, those of these numbers, each in a run of its own."""
-        for count, at in enumerate(numbers):
-            came = runner.came(self.run, refusing(library, mark, at))
-            if not mark.is_symlink():
-                holds(self.run.holds(came), f"{self.run.heading} differs where nothing is refused: {came}")
-                return count
-            holds(not self.fault(came), f"where request {at} is refused: {self.fault(came)}")
+        return None if is_so else f"{self.heading}: {came}"
 
 
 def by_case(lines):
@@ -240,13 +251,17 @@ def is_cause(line):
     return line.endswith(CAUSES) or is_frame_of_want(line.removeprefix("said "))
 
 
-class TriedCase:
+class TriedCase(Tried):
     """A case of a store, and the same again behind it, of which a request for memory is refused."""
 
     def __init__(self, heading, given, wanted):
+        self.heading = heading
         headings = heading, heading + ", again"
         self.given = "".join(line + "\n" for one in headings for line in [one, *given])
         self.wanted = {one: wanted for one in headings}
+
+    def ran(self, environment):
+        return subprocess.run([CASES], input=self.given, text=True, capture_output=True, env=os.environ | environment)
 
     def is_whole(self, ran):
         """Whether a run gave what is wanted of both."""
@@ -267,15 +282,6 @@ class TriedCase:
         if ran.returncode == 0 and not all(any(map(is_cause, gave[case])) for case in differ):
             return f"{differ} don't say why: {[gave[case] for case in differ]}"
         return None
-
-    def requests(self, library, mark, numbers):
-        """How many requests for memory were refused, those of these numbers, each in a run of its own."""
-        for count, at in enumerate(numbers):
-            ran = subprocess.run([CASES], input=self.given, text=True, capture_output=True, env=os.environ | refusing(library, mark, at))
-            if not mark.is_symlink():
-                holds(self.is_whole(ran), f"{list(self.wanted)[0]} differs where nothing is refused")
-                return count
-            holds(not self.fault(ran), f"where request {at} is refused: {self.fault(ran)}")
 
 
 def tried_runs(script):
@@ -305,7 +311,7 @@ def main():
             room = top / str(place)
             room.mkdir()
             if place < len(runs):
-                return runs[place].requests(Runner(VAULT, room), refuser, room / "refused", range(1, 1_000_000))
+                return runs[place].requests(refuser, room / "refused", range(1, 1_000_000), Runner(VAULT, room))
             return cases[place - len(runs)].requests(refuser, room / "refused", range(1, 1_000_000))
 
         counts = list(pool.map(refuses, range(len(runs) + len(cases))))

@@ -10,7 +10,7 @@ import copy
 import commands
 from checks import Check
 from frames import KINDS, Message
-from jobs import Client, Fed, FedClient, Forget, List, Pieces, Restore, StartRefused, items_of
+from jobs import Client, Fed, FedClient, Forget, List, Pieces, Restore, items_of
 from lines import Lines, digits, policy
 from naming import name_of
 from prunes import Prune, Upgrade
