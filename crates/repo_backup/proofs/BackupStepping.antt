@@ -12,16 +12,16 @@ use Rattle.repo_name.specs.declared.tokens.Token.{Token}
 use Rattle.repo_session.specs.Askers.{Holding}
 use Rattle.repo_session.specs.Feeds.{Fed}
 use Rattle.repo_session.specs.Jobs.{MayGoOn}
-use Rattle.repo_session.specs.Order.{IsWorking}
+use Rattle.repo_session.specs.Order.{ReadsKind, IsWorking}
 use Rattle.repo_session.specs.Traces.{Trace}
 use Rattle.repo_session.specs.declared.catalogs.Catalog.{Catalog}
 use Rattle.repo_session.specs.declared.jobs.Step.{Step}
 use Rattle.repo_tree.specs.declared.entries.Entry.{Entry}
 use Rattle.repo_wire.specs.declared.messages.Ask.{Ask}
 use Rattle.repo_writing.specs.Putting.{PutsIndexOf}
-use Rattle.repo_writing.specs.Writing.{items_of}
+use Rattle.repo_writing.specs.Writing.{items_of, ListsEachPack}
 use Rattle.repo_backup.specs.Backing.{HasWritten}
-use Rattle.repo_backup.specs.BackupStates.{backup_task, backup_rule, IsUnderWay, GoesSo, IsSameWay, IsBegunAnew, BackupPuts, KnowsPut, IsDueNext, IsGoingOn}
+use Rattle.repo_backup.specs.BackupStates.{backup_task, IsUnderWay, GoesSo, IsSameWay, IsBegunAnew, BackupPuts, KnowsPut, IsDueNext, IsGoingOn}
 use Rattle.repo_backup.specs.Backups.{handed_to, left_in, Knows, WalksOn, BackupSends}
 use Rattle.repo_backup.specs.Items.{Feeding, Place, place_of, ItemFault, fed_part, fed_of, size_of}
 use Rattle.repo_backup.specs.Packings.{AimsOn}
@@ -29,7 +29,7 @@ use Rattle.repo_backup.specs.PieceStates.{waits, HasBegun, PutsPack, PutsIndex, 
 use Rattle.repo_session.specs.declared.outcomes.Outcome.{Outcome}
 use Rattle.repo_backup.specs.Pieces.{IsReady, LeavesRoom, PieceStands, Goes, EndsTooLarge, Refuses, Stays, WorkTakes, LeavesPacked, sealing_at}
 use Rattle.repo_backup.specs.Plans.{walked, left_fed, next_fed, behind, before, steps_left, LeadThrough}
-use Rattle.repo_backup.specs.Rules.{AreLast, IsTooLarge, PackRule, SnapshotRule, BackupConcludes}
+use Rattle.repo_backup.specs.Rules.{AreLast, IsTooLarge, PackRule, SnapshotRule, BackupAllows, BackupConcludes, backup_rule}
 use Rattle.repo_backup.specs.Folders.{blobs_of}
 use Rattle.repo_backup.specs.PieceRules.{IsStandingOf}
 use Rattle.repo_backup.specs.Standings.{Standing, made_at}
@@ -39,7 +39,7 @@ use Rattle.repo_tree.specs.declared.configs.Config.{Config}
 use Rattle.repo_writing.specs.Filling.{IsFullIndex}
 use Rattle.repo_backup.specs.declared.items.FeedError.{FeedError}
 use Rattle.repo_backup.specs.declared.items.Item.{Item}
-use Rattle.repo_backup.specs.declared.jobs.BackupJob.{BackupJob}
+use Rattle.repo_backup.specs.declared.backups.Backup.{Backup}
 use Rattle.repo_backup.specs.declared.piece_backing.PieceBacking.{PieceBacking}
 use Rattle.repo_backup.specs.declared.piece_works.PieceWork.{PieceWork}
 use Rattle.repo_backup.specs.declared.piece_works.Took.{Took}
@@ -175,11 +175,26 @@ some_waits waiting many none =
     let few = none_waits waiting none in
     omega (arith, many, few)
 
-pub put_known : (j : BackupJob) (token : Token) (k : Kind) (n : Name) (x : List ℕ) (es : Trace) → Knows j (Ask.Put token k n x) es → KnowsPut (handed_to j) j.catalog.lookup j.backing (left_in j) (Ask.Put token k n x) es
+-- indexes may be read
+pub may_read : (entries : List Entry) (es : Trace) (ask : Ask) → ReadsKind Kind.Index es ask → BackupAllows entries es ask
+may_read entries es (Ask.List k after) r = r
+may_read entries es (Ask.Get k n) r = r
+may_read entries es (Ask.Range pack offset len) r = r
+may_read entries es Ask.Ticket r = r
+may_read entries es (Ask.Lock row) r = r
+may_read entries es (Ask.Refresh token time) r = r
+may_read entries es (Ask.Unlock token) r = r
+may_read entries es Ask.Locks r = r
+may_read entries es (Ask.Put token k n x) r = absurd r
+may_read entries es (Ask.Delete token k n) r = absurd r
+may_read entries es (Ask.Upgrade token) r = absurd r
+may_read entries es Ask.Config r = r
+
+pub put_known : (j : Backup) (token : Token) (k : Kind) (n : Name) (x : List ℕ) (es : Trace) → Knows j (Ask.Put token k n x) es → KnowsPut (handed_to j) j.catalog.lookup j.backing (left_in j) (Ask.Put token k n x) es
 put_known j token k n x es (inl reading) = absurd reading.knows
 put_known j token k n x es (inr put) = put
 
-module _ (j : BackupJob) (holding : Holding) (es : Trace) (working : IsWorking (backup_task holding.who) holding.token es) (b : PieceBacking) (is : j.backing ≡ Some b) (items : Feeding) (leads : LeadThrough (handed_to j) (left_in j) items) where
+module _ (j : Backup) (holding : Holding) (es : Trace) (working : IsWorking (backup_task holding.who) holding.token es) (b : PieceBacking) (is : j.backing ≡ Some b) (items : Feeding) (leads : LeadThrough (handed_to j) (left_in j) items) where
   abbrev pub Does : Step → Type 0
   Does step = MayGoOn (backup_rule (handed_to j)) holding.who (Knows j) (λ fs. ⊥) es step
 
@@ -196,10 +211,10 @@ module _ (j : BackupJob) (holding : Holding) (es : Trace) (working : IsWorking (
     index_sent token step own some why puts =
         let k = index_out j.catalog.lookup b token step items es h some puts in
         let x = k.0 in
-        let full : IsFullIndex x ⊎ AreLast (handed_to j) es [] = elim why [ inl many ↦ inl (b.waiting, k.1, many) | inr over ↦ inr (last_now over.1 over.0) ] in
+        let full : IsFullIndex x ⊎ (AreLast (handed_to j) es [] × ListsEachPack k.3.lists.packs es) = elim why [ inl many ↦ inl (b.waiting, k.1, many) | inr over ↦ inr (last_now over.1 over.0, k.4) ] in
         let T : Token → Type 0 = λ t. Does (Step.Ask (Ask.Put t Kind.Index (naming.name x) x)) in
-        let may : T holding.token = record { work = tt; may = (working, refl, k.2); allowed = (k.3, full); knows = inr (b, is, (items, leads, k.4)) } in
-        subst Does (sym k.5) (subst T (sym own) may)
+        let may : T holding.token = record { work = tt; may = (working, refl, k.2); allowed = (k.3, full); knows = inr (b, is, (items, leads, k.5)) } in
+        subst Does (sym k.6) (subst T (sym own) may)
 
     -- the snapshot is put
     pub snapshot_sent : (root : Name) (step : Step) → b.work.parts ≡ None → b.work.walk.root ≡ Some root → b.waiting ≡ [] → PutsSnapshotOf holding root b.work.walk.version step → Does step
@@ -256,7 +271,7 @@ anew_begun b d es anew h = record {
 }
 
 -- where the work was under way, and went so, what is due next is sent
-pub sent_so : (old mid new : BackupJob) (holding : Holding) (went : Went) (step : Step) → mid.steps ≡ old.steps → mid.catalog ≡ old.catalog → WalksOn went old mid → ((b : PieceBacking) → old.backing ≡ Some b → went ≡ Went.On → left_in mid ≡ []) → ((b : PieceBacking) → mid.backing ≡ Some b → went ≡ Went.On → b.work.parts ≡ None)
+pub sent_so : (old mid new : Backup) (holding : Holding) (went : Went) (step : Step) → mid.steps ≡ old.steps → mid.catalog ≡ old.catalog → WalksOn went old mid → ((b : PieceBacking) → old.backing ≡ Some b → went ≡ Went.On → left_in mid ≡ []) → ((b : PieceBacking) → mid.backing ≡ Some b → went ≡ Went.On → b.work.parts ≡ None)
     → BackupSends mid holding went step new → (b : PieceBacking) (es : Trace) → IsWorking (backup_task holding.who) holding.token es → old.backing ≡ Some b → IsGoingOn (handed_to old) old.catalog.lookup b (left_in old) es
     → length (facts_in b.waiting) < facts_limit → MayGoOn (backup_rule (handed_to old)) holding.who (Knows new) (λ fs. ⊥) es step
 sent_so old mid new holding went step steps catalog walks all laid sends b es working is due room =
@@ -270,7 +285,7 @@ sent_so old mid new holding went step steps catalog walks all laid sends b es wo
     let there : D (handed_to mid) mid.catalog.lookup k.0 = subst (λ en. D en mid.catalog.lookup k.0) (sym handed) (subst (λ fs. D (handed_to old) fs k.0) (sym facts) (subst (λ d. D (handed_to old) old.catalog.lookup d) (sym k.2) next)) in
     subst (λ en. MayGoOn (backup_rule en) holding.who (Knows new) (λ fs. ⊥) es step) handed (sends k.0 es working k.1 there)
 
-pub walked_so : (went : Went) (old new : BackupJob) (a c : PieceBacking) → old.backing ≡ Some a → new.backing ≡ Some c → c ≡ record a { work = c.work } → IsSameWay a.work c.work → GoesSo old.catalog.lookup a.work (left_in old) went c.work (left_in new) → WalksOn went old new
+pub walked_so : (went : Went) (old new : Backup) (a c : PieceBacking) → old.backing ≡ Some a → new.backing ≡ Some c → c ≡ record a { work = c.work } → IsSameWay a.work c.work → GoesSo old.catalog.lookup a.work (left_in old) went c.work (left_in new) → WalksOn went old new
 walked_so went old new a c there now same way goes b is =
     let one : a ≡ b = same_Some a b (sym there ∙ is) in
     (c, now, subst (λ x. c ≡ record x { work = c.work }) one same, subst (λ (x : PieceBacking). IsSameWay x.work c.work) one way, subst (λ (x : PieceBacking). GoesSo old.catalog.lookup x.work (left_in old) went c.work (left_in new)) one goes)
@@ -278,7 +293,7 @@ walked_so went old new a c there now same way goes b is =
 -- ---- where there was no memory for what comes next
 
 -- the same is known of a put
-known_so : (old new : BackupJob) → new.steps ≡ old.steps → new.catalog ≡ old.catalog → (token : Token) (kind : Kind) (n : Name) (x : List ℕ) (es : Trace) → KnowsPut (handed_to old) old.catalog.lookup new.backing (left_in new) (Ask.Put token kind n x) es
+known_so : (old new : Backup) → new.steps ≡ old.steps → new.catalog ≡ old.catalog → (token : Token) (kind : Kind) (n : Name) (x : List ℕ) (es : Trace) → KnowsPut (handed_to old) old.catalog.lookup new.backing (left_in new) (Ask.Put token kind n x) es
     → Knows new (Ask.Put token kind n x) es
 known_so old new steps catalog token kind n x es h =
     let E : List Entry → Type 0 = λ en. KnowsPut en old.catalog.lookup new.backing (left_in new) (Ask.Put token kind n x) es in
@@ -286,7 +301,7 @@ known_so old new steps catalog token kind n x es h =
     inr (subst C (sym catalog) (subst E (sym (ap (λ (s : Vec WalkStep Global). walked [] s.items) steps)) h))
 
 -- a pack
-pub pack_kept : (old new : BackupJob) (b : PieceBacking) → old.backing ≡ Some b → new.steps ≡ old.steps → new.catalog ≡ old.catalog → WalksOn Went.On old new → (token : Token) (n : Name) (x : List ℕ) (es : Trace)
+pub pack_kept : (old new : Backup) (b : PieceBacking) → old.backing ≡ Some b → new.steps ≡ old.steps → new.catalog ≡ old.catalog → WalksOn Went.On old new → (token : Token) (n : Name) (x : List ℕ) (es : Trace)
     → BackupPuts (handed_to old) (left_in old) (λ items. PutsPack old.catalog.lookup b n x items es) → Knows new (Ask.Put token Kind.Pack n x) es
 pack_kept old new b is steps catalog walks token n x es h =
     let k = walks b is in
@@ -297,7 +312,7 @@ pack_kept old new b is steps catalog walks token n x es h =
     known_so old new steps catalog token Kind.Pack n x es (k.0, k.1, (u.items, u.leads, subst (λ d. PutsPack old.catalog.lookup d n x u.items es) (sym k.2) now))
 
 -- an index, whose packs wait again
-pub index_kept : (old new : BackupJob) (a e : PieceBacking) (w : PieceWork) → new.steps ≡ old.steps → new.catalog ≡ old.catalog → new.backing ≡ Some e → e ≡ record a { work = w } → GoesSo old.catalog.lookup a.work (left_in old) Went.On w (left_in new)
+pub index_kept : (old new : Backup) (a e : PieceBacking) (w : PieceWork) → new.steps ≡ old.steps → new.catalog ≡ old.catalog → new.backing ≡ Some e → e ≡ record a { work = w } → GoesSo old.catalog.lookup a.work (left_in old) Went.On w (left_in new)
     → (token : Token) (n : Name) (x : List ℕ) (es : Trace) → BackupPuts (handed_to old) (left_in old) (λ items. PutsIndex old.catalog.lookup a x items es) → Knows new (Ask.Put token Kind.Index n x) es
 index_kept old new a e w steps catalog there so goes token n x es h =
     let puts = h.2 in

@@ -16,6 +16,7 @@ pub mod Feeding
 pub mod Spelling
 pub mod Forbidding
 pub mod SpelledExample
+pub mod FactsOnce
 pub mod Written
 pub mod NameOrder
 pub mod NamePlaces

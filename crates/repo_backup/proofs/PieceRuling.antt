@@ -155,6 +155,9 @@ module _ (facts : List Fact) (b : PieceBacking) (puts : List Put) (sealed : List
   once_all : AreOnce (items_of puts ++ sealed)
   once_all = once_left (items_of puts ++ sealed) b.work.packing.packer.writer.items packing_so.once
 
+  pub sent_once : AreOnce (items_of puts)
+  sent_once = once_left (items_of puts) sealed once_all
+
   unknown_all : Each (λ i. ¬ HasFact facts i.kind i.name) sealed
   unknown_all =
       let U : Item → Type 0 = λ i. ¬ HasFact facts i.kind i.name in

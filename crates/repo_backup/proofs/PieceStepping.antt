@@ -13,7 +13,7 @@ use Rattle.repo_pack.specs.declared.writers.Sealed.{Sealed}
 use Rattle.repo_session.specs.Askers.{Asker, Holding}
 use Rattle.repo_session.specs.Jobs.{Rule, MayTurn, MayGoOn}
 use Rattle.repo_session.specs.Catalogs.{AreIndexed}
-use Rattle.repo_session.specs.Order.{IsReading, IsWorking}
+use Rattle.repo_session.specs.Order.{ReadsKind, IsWorking}
 use Rattle.repo_session.specs.Readings.{KnowsIndexes}
 use Rattle.repo_session.specs.Traces.{Each, Exchange, Trace, fed_in, ReadFact, silent}
 use Rattle.repo_session.specs.declared.catalogs.Catalog.{Catalog}
@@ -23,7 +23,7 @@ use Rattle.repo_wire.specs.declared.messages.Say.{Say}
 use Rattle.repo_writing.specs.Filling.{HasConfig, IsFullIndex}
 use Rattle.repo_writing.specs.Putting.{PutsIndexOf}
 use Rattle.repo_writing.specs.Sealing.{IsSealedOf, IsListedAs}
-use Rattle.repo_writing.specs.Writing.{Put, items_of, AreCounts, FewWait}
+use Rattle.repo_writing.specs.Writing.{Put, items_of, AreCounts, FewWait, ListsEachPack}
 use Rattle.repo_writing.proofs.Writings.{listing_of, items_push, put_of, is_put, puts_lawful, waits_lawful, waits_few}
 use Rattle.repo_backup.specs.Backing.{HasWritten}
 use Rattle.repo_backup.specs.Items.{Feeding}
@@ -46,7 +46,7 @@ use Rattle.repo_writing.proofs.Filling.{config_later}
 use Rattle.repo_writing.proofs.PutLemmas.{objects_put_other}
 use Rattle.repo_backup.proofs.PackingLemmas.{all_out, packing_out}
 use Rattle.repo_backup.proofs.Piecing.{packing_in, room_as}
-use Rattle.repo_backup.proofs.PieceRuling.{over_is, piece_last, piece_snapshot, sent_is}
+use Rattle.repo_backup.proofs.PieceRuling.{over_is, piece_last, piece_snapshot, sent_is, sent_once}
 use Rattle.repo_backup.proofs.Replying.{reading_puts}
 use Rattle.repo_backup.proofs.Staging.{facts_push}
 use Rattle.repo_backup.proofs.Written.{begin_written, pack_next, pack_written, index_may, index_written}
@@ -192,16 +192,17 @@ index_is_put facts b c token n x items es h work counts waiting same =
 pub none_being_put : (b : PieceBacking) → b.listed ≡ None → waits b ≡ b.waiting
 none_being_put b none = ap (λ o. b.waiting ++ listed_of o) none ∙ append-nil b.waiting
 
--- an index of what waits may be put, and is known then
+-- an index of what waits may be put, with it each pack is listed, and it is known then
 pub index_out : (facts : List Fact) (b : PieceBacking) (token : Token) (step : Step) (items : Feeding) (es : Trace) (h : IsIdleAt facts b items es) → b.waiting ≢ [] → PutsIndexOf token b.waiting step
-    → (x : List ℕ) × IsIndexText x b.waiting × (length x ≤ index_limit) × IndexRule es x × PutsIndex facts b x items es × (step ≡ Step.Ask (Ask.Put token Kind.Index (naming.name x) x))
+    → (x : List ℕ) × IsIndexText x b.waiting × (length x ≤ index_limit) × (rule : IndexRule es x) × ListsEachPack rule.lists.packs es × PutsIndex facts b x items es × (step ≡ Step.Ask (Ask.Put token Kind.Index (naming.name x) x))
 index_out facts b token step items es h some puts =
     let written : HasWritten facts b.waiting b.counts h.puts [] es = subst (λ ws. HasWritten facts ws b.counts h.puts [] es) (none_being_put b h.listed) h.at.written in
     let all = map listing_of (h.puts ++ []) in
     let lawful = puts_lawful b.counts h.puts [] es written.put in
     let few = waits_few all b.waiting es written.lists lawful h.few in
     let k = puts (waits_lawful all b.waiting es written.lists lawful) few in
-    (k.0, k.1, k.2, index_may facts b.waiting b.counts h.puts es k.0 written k.1 few some, record { puts = h.puts; at = h.at; unsealed = h.unsealed; listed = h.listed; reads = k.1 }, k.3)
+    let may = index_may facts b.waiting b.counts h.puts es k.0 written (sent_once facts b h.puts [] items es h.at) k.1 few some in
+    (k.0, k.1, k.2, may.0, may.1, record { puts = h.puts; at = h.at; unsealed = h.unsealed; listed = h.listed; reads = k.1 }, k.3)
 
 -- the job goes on after the exchange as after its trace
 pub turns_on : (rule : Rule) (who : Asker) (Knows : Ask → Trace → Type 0) (Wants : Trace → Type 0) (e : Exchange) (es : Trace) (step : Step) → e.emitted ≡ [] → MayGoOn rule who Knows Wants (e ∷ es) step → MayTurn rule who Knows Wants es e step
@@ -224,14 +225,14 @@ module _ (c : Catalog) (backing : Option PieceBacking) (b : PieceBacking) (is : 
       let x = k.0 in
       let S : Step → Type 0 = λ s. MayGoOn piece_rule holding.who (KnowsPieces c backing) (WantsPieces c backing) es s in
       let T : Token → Type 0 = λ t. S (Step.Ask (Ask.Put t Kind.Index (naming.name x) x)) in
-      let full : IsFullIndex x ⊎ PieceAreLast es [] = elim why [ inl many ↦ inl (b.waiting, k.1, many) | inr ended ↦ inr (piece_last c.lookup b h.puts [] es h.at ended.1 ended.0) ] in
+      let full : IsFullIndex x ⊎ (PieceAreLast es [] × ListsEachPack k.3.lists.packs es) = elim why [ inl many ↦ inl (b.waiting, k.1, many) | inr ended ↦ inr (piece_last c.lookup b h.puts [] es h.at ended.1 ended.0, k.4) ] in
       let may : T holding.token = record {
         work = tt;
         may = (working, refl, k.2);
         allowed = (k.3, h.at.kept, full);
-        knows = inr (b, is, k.4);
+        knows = inr (b, is, k.5);
       } in
-      subst S (sym k.5) (subst T (sym own) may)
+      subst S (sym k.6) (subst T (sym own) may)
 
   module _ (h : IsPieceDone c.lookup b es) where
     wait_for : waits b ≡ b.waiting
@@ -293,7 +294,7 @@ piece_large facts b es h = large_ends (PieceConcludes es) h.config es b.work.wal
 -- ---- while the indexes are read
 
 -- what reads may be asked for
-pub may_read_pieces : (es : Trace) (ask : Ask) → IsReading ask → fed_in es ≡ [] → PieceAllows es ask
+pub may_read_pieces : (es : Trace) (ask : Ask) → ReadsKind Kind.Index es ask → fed_in es ≡ [] → PieceAllows es ask
 may_read_pieces es (Ask.List k after) r none = (r, none)
 may_read_pieces es (Ask.Get k n) r none = (r, none)
 may_read_pieces es (Ask.Range pack offset len) r none = (r, none)

@@ -15,8 +15,8 @@ use Rattle.repo_index.specs.declared.facts.PackFacts.{PackFacts}
 use Rattle.repo_session.specs.Catalogs.{AreIndexed}
 use Rattle.repo_session.specs.Traces.{Each, Exchange, Trace, object_put, objects_put, ReadFact, IsGiven}
 use Rattle.repo_writing.specs.Blobs.{AreOnce, HasFact}
-use Rattle.repo_writing.specs.Putting.{IsPacked, IsIndexed, IsListedPack}
-use Rattle.repo_writing.specs.Writing.{Put, IsPut, items_of, AreCounts, AreListed}
+use Rattle.repo_writing.specs.Putting.{IsPacked, IsIndexed}
+use Rattle.repo_writing.specs.Writing.{Put, IsPut, items_of, AreCounts, AreListed, ListsEachPack}
 use Rattle.repo_writing.specs.declared.counts.Counts.{Counts}
 use Rattle.repo_writing.proofs.BlobLemmas.{once_apart}
 use Rattle.repo_name.proofs.Containing.{contains_map}
@@ -25,6 +25,7 @@ use Rattle.repo_writing.proofs.Writings.{listing_of, none_put, none_listed, pack
 use Rattle.repo_backup.specs.Backing.{HasWritten}
 use Rattle.repo_backup.specs.Packings.{IsCovered}
 use Rattle.repo_backup.specs.Rules.{IndexRule, IsStored}
+use Rattle.repo_backup.proofs.FactsOnce.{waits_once, waits_unindexed, waits_last}
 
 -- all indexes are read, and nothing was put
 pub begin_written : (known : List Fact) (counts : Counts) (es : Trace) → AreIndexed es → ((fact : Fact) → Contains known fact ↔ ReadFact es fact)
@@ -87,14 +88,20 @@ module _ (known : List Fact) (waiting : List PackFacts) (counts : Counts) (puts 
   pub listed_puts : (es : Trace) → HasWritten known waiting counts puts [] es → AreListed (map listing_of puts) waiting es
   listed_puts es b = subst (λ ps. AreListed (map listing_of ps) waiting es) (append-nil puts) b.lists
 
-  -- an index of what waits may be put
-  pub index_may : (es : Trace) (x : List ℕ) → HasWritten known waiting counts puts [] es → IsIndexText x waiting → AreFew waiting → waiting ≢ [] → IndexRule es x
-  index_may es x b reads few some = record {
-    indexes = b.indexed;
-    first = b.none;
-    lists = record { packs = waiting; reads = reads; some = some; each = λ l among. put_listed counts puts es b.put l (waits_among (map listing_of puts) waiting es l (listed_puts es b) among) };
-    few = few;
-  }
+  -- where each blob of the packs put is there once, an index of what waits may be put, and with it each pack is listed
+  pub index_may : (es : Trace) (x : List ℕ) → HasWritten known waiting counts puts [] es → AreOnce (items_of puts) → IsIndexText x waiting → AreFew waiting → waiting ≢ [] → (rule : IndexRule es x) × ListsEachPack rule.lists.packs es
+  index_may es x b once reads few some =
+      let listed = listed_puts es b in (
+        record {
+          indexes = b.indexed;
+          first = b.none;
+          lists = record { packs = waiting; reads = reads; some = some; each = λ l among. put_listed counts puts es b.put l (waits_among (map listing_of puts) waiting es l listed among) };
+          few = few;
+          once = waits_once counts puts waiting es b.put listed once;
+          unindexed = waits_unindexed counts puts waiting es b.put listed once;
+        },
+        waits_last counts puts waiting es b.put listed,
+      )
 
   -- its put is done, and nothing waits
   pub index_written : (token : Token) (n : Name) (x : List ℕ) (e : Exchange) (es : Trace) → HasWritten known waiting counts puts [] es

@@ -1,5 +1,5 @@
 -- What is known while a backup is made.
-use Rattle.std.specs.Prelude.{◌≡◌, ◌⊎◌, ◌<◌, ◌≤◌, [], ⊤, true, false, List, length, Option, Some, None}
+use Rattle.std.specs.Prelude.{◌≡◌, ◌⊎◌, ◌<◌, ◌≤◌, [], true, false, List, length, Option, Some, None}
 use Rattle.repo_name.specs.Limits.{facts_limit}
 use Rattle.repo_name.specs.declared.kinds.Kind.{Kind}
 use Rattle.repo_index.specs.IndexText.{facts_in}
@@ -8,10 +8,8 @@ use Rattle.repo_index.specs.declared.facts.PackFacts.{PackFacts}
 use Rattle.repo_pack.specs.PackLayout.{Item}
 use Rattle.repo_session.specs.Askers.{Asker}
 use Rattle.repo_session.specs.Feeds.{Fed}
-use Rattle.repo_session.specs.Jobs.{Rule}
 use Rattle.repo_session.specs.Order.{Task}
 use Rattle.repo_session.specs.Traces.{Trace}
-use Rattle.repo_session.specs.declared.versions.Versions.{Versions}
 use Rattle.repo_tree.specs.declared.entries.Entry.{Entry}
 use Rattle.repo_wire.specs.declared.messages.Ask.{Ask}
 use Rattle.repo_writing.specs.Writing.{Put, AreCounts, FewWait}
@@ -21,7 +19,7 @@ use Rattle.repo_backup.specs.Packings.{IsListed}
 use Rattle.repo_backup.specs.PieceStates.{StandsAt, PutsPack, PutsIndex, PutsSnapshot, AtPieces}
 use Rattle.repo_backup.specs.Pieces.{PieceStands, IsReady, at_beginning}
 use Rattle.repo_backup.specs.Plans.{LeadThrough}
-use Rattle.repo_backup.specs.Rules.{IsTooLarge, BackupAllows, BackupGives, BackupConcludes}
+use Rattle.repo_backup.specs.Rules.{IsTooLarge}
 use Rattle.repo_backup.specs.declared.piece_backing.PieceBacking.{PieceBacking}
 use Rattle.repo_backup.specs.declared.piece_works.PieceWork.{PieceWork}
 use Rattle.repo_backup.specs.declared.walks.Went.{Went}
@@ -29,10 +27,6 @@ use Rattle.repo_backup.specs.declared.walks.Went.{Went}
 -- a backup is made under a shared lock, by a config of a version that who makes it knows
 abbrev pub backup_task : Asker → Task
 backup_task who = record { who = who; exclusive = false; snapshot = None; versions = who.versions; notes = false }
-
--- what a backup of these entries may ask, give out and conclude; a refusal takes it no memory
-abbrev pub backup_rule : List Entry → Rule
-backup_rule entries = record { exclusive = false; snapshot = None; versions = Versions.Both; notes = false; calm = ⊤; allows = BackupAllows entries; gives = BackupGives entries; concludes = BackupConcludes entries; wanting = λ es. ⊥ }
 
 -- ---- the work over the steps
 

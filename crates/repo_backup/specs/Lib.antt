@@ -7,7 +7,6 @@ pub mod Packings
 pub mod Backing
 pub mod BackupStates
 pub mod Backups
-pub mod BackupObedience
 pub mod Laws
 pub mod inner
 pub mod Items

@@ -7,7 +7,7 @@ use Rattle.repo_pack.specs.PackLayout.{Item, item_of, IsTruePack}
 use Rattle.repo_session.specs.Catalogs.{AreIndexed}
 use Rattle.repo_session.specs.Feeds.{fed_abandon}
 use Rattle.repo_session.specs.Jobs.{Rule}
-use Rattle.repo_session.specs.Order.{IsReading}
+use Rattle.repo_session.specs.Order.{ReadsKind}
 use Rattle.repo_session.specs.Traces.{Trace, fed_in, objects_put, IsGiven}
 use Rattle.repo_session.specs.declared.outcomes.End.{End}
 use Rattle.repo_session.specs.declared.outcomes.Outcome.{Outcome}
@@ -17,6 +17,7 @@ use Rattle.repo_wire.specs.declared.messages.Ask.{Ask}
 use Rattle.repo_writing.specs.Blobs.{AreOnce, HasItem}
 use Rattle.repo_writing.specs.Putting.{IsPacked}
 use Rattle.repo_writing.specs.Filling.{HasConfig, IsPromptPack, IsFullPack, IsFullIndex}
+use Rattle.repo_writing.specs.Writing.{ListsEachPack}
 use Rattle.repo_backup.specs.Items.{Feeding, NobodyGaveUp, AreTaken, place_of, spelled_by}
 use Rattle.repo_backup.specs.Rules.{IndexRule, SnapshotRule, IsStored}
 use Rattle.repo_backup.specs.Standings.{Standing, LeadTo, made_at}
@@ -62,14 +63,15 @@ pub record PiecePackRule (es : Trace) (x : List ℕ) : Type 0 where
   pub prompt : IsPromptPack es items
   pub full : IsFullPack es items ⊎ PieceAreLast es items
 
--- what it may ask for: before it was fed it reads; it puts packs, and while nobody gave up indexes that are full or as the items ended; and a snapshot of the entries that the items spell, once they ended
+-- what it may ask for: before it was fed it reads indexes, each once; it puts packs, and while nobody gave up indexes that are full, or as the items ended the last one, with which the indexes put list each
+-- pack put; and a snapshot of the entries that the items spell, once they ended
 abbrev pub PieceAllows : Trace → Ask → Type 0
 PieceAllows es (Ask.Put token Kind.Pack n x) = PiecePackRule es x
-PieceAllows es (Ask.Put token Kind.Index n x) = IndexRule es x × NobodyGaveUp (fed_in es) × (IsFullIndex x ⊎ PieceAreLast es [])
+PieceAllows es (Ask.Put token Kind.Index n x) = (rule : IndexRule es x) × NobodyGaveUp (fed_in es) × (IsFullIndex x ⊎ (PieceAreLast es [] × ListsEachPack rule.lists.packs es))
 PieceAllows es (Ask.Put token Kind.Snapshot n x) = AreOver es × AreTaken (fed_in es) × SnapshotRule (spelled_by (fed_in es)) es token x
 PieceAllows es (Ask.Delete token k n) = ⊥
 PieceAllows es (Ask.Upgrade token) = ⊥
-PieceAllows es ask = IsReading ask × (fed_in es ≡ [])
+PieceAllows es ask = ReadsKind Kind.Index es ask × (fed_in es ≡ [])
 
 -- by a config of this version, the text of a tree is too large: in version 2 that of a part
 pub record PieceTooLarge (version : ℕ) (es : Trace) : Type 0 where

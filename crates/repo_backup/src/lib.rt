@@ -1,25 +1,25 @@
 //! Backup of entries into a store.
 //!
-//! A [`Backup`] is a client of repo_session. The entries handed in are checked, and laid out as the steps of a walk
-//! through their folder. Once the store's indexes were read, the walk feeds the steps' items to the work, which cuts
-//! files into chunks and makes the trees of directories; each of these blobs is added to a pack, unless an index gives
-//! it or it was added before. Chunks that ended wait for their names, so that eight are named side by side, which is
-//! faster than one by one: until there are eight, or 8,388,608 bytes of them, or the open pack would be full with them,
-//! and at most until the file ends. So no pack is full before the chunk that makes it so was taken. By a config of
-//! version 2 a directory is in parts, which are made from the last one to the first, each a tree of its own; where a
-//! pack is full between two of them, it is put before the next one is made. A pack is put as soon as it is full, and
-//! the last one at the end; an index whenever 20,000 blobs or more wait for one and at the end; and the snapshot, of
-//! the config's version, last.
+//! A [`Backup`] is a job of repo_session, and `Session<Backup>` its client. The entries handed in are checked, and
+//! laid out as the steps of a walk through their folder. Once the store's indexes were read, the walk feeds the steps'
+//! items to the work, which cuts files into chunks and makes the trees of directories; each of these blobs is added to
+//! a pack, unless an index gives it or it was added before. Chunks that ended wait for their names, so that eight are
+//! named side by side, which is faster than one by one: until there are eight, or 8,388,608 bytes of them, or the open
+//! pack would be full with them, and at most until the file ends. So no pack is full before the chunk that makes it so
+//! was taken. By a config of version 2 a directory is in parts, which are made from the last one to the first, each a
+//! tree of its own; where a pack is full between two of them, it is put before the next one is made. A pack is put as
+//! soon as it is full, and the last one at the end; an index whenever 20,000 blobs or more wait for one and at the
+//! end; and the snapshot, of the config's version, last.
 //!
 //! Promised: entries are refused for the first fault of the first one that has one; each pack, index and snapshot that
 //! is put is one that the rule of a backup allows after the exchanges before it, whoever answers; `Stored` comes only
 //! once the snapshot's put is done, with the counts of what was put. Not promised: that a store answers, or that a
 //! backup ends well.
 //!
-//! The definitions stand in `specs/`: `Handed` (which entries may be handed in), `Folders` (a folder, its entries, nodes
-//! and blobs), `Rules` (what a backup may put, and how it may end); and what is known on the way: `Plans` (a folder's
-//! steps, and the items that they feed), `Packings` (the packs), `Backing` (what is known of the trace), `BackupStates`,
-//! `Backups` and `BackupObedience` (where the job and the client stand). What any job knows that puts packs and indexes
+//! The definitions stand in `specs/`: `Handed` (which entries may be handed in), `Folders` (a folder, its entries,
+//! nodes and blobs), `Rules` (what a backup may put, and how it may end); and what is known on the way: `Plans` (a
+//! folder's steps, and the items that they feed), `Packings` (the packs), `Backing` (what is known of the trace),
+//! `BackupStates` and `Backups` (where the job and the client stand). What any job knows that puts packs and indexes
 //! stands in repo_writing, with when these are full.
 //!
 //! A [`PieceBackup`] does the same for a folder that nobody holds whole: it is fed items, one after another, that spell
@@ -43,7 +43,6 @@ mod faults;
 mod item_laws;
 mod item_steps;
 mod items;
-mod jobs;
 mod laws;
 mod packing;
 mod parts;

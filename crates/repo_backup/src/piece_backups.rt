@@ -71,11 +71,10 @@ impl PieceBackup {
 }
 
 impl Client for PieceBackup {
-    ghost use Rattle.std.specs.Prelude.{[], ⊤};
+    ghost use Rattle.std.specs.Prelude.{[]};
     ghost use Rattle.repo_session.specs.Askers.{Asker};
     ghost use Rattle.repo_session.specs.Sessions.{who_in, next_in, ended_in, token_in};
-    ghost use Rattle.repo_backup.specs.PieceRules.{PieceAllows, PieceConcludes, WantsInput};
-    ghost use Rattle.repo_backup.specs.PieceStates.{piece_task};
+    ghost use Rattle.repo_backup.specs.PieceRules.{piece_rule};
     ghost use Rattle.repo_backup.specs.PieceBackups.{FitsPieces};
     ghost use Rattle.repo_backup.specs.PieceObedience.{pieces_obey, pieces_tell};
 
@@ -83,17 +82,9 @@ impl Client for PieceBackup {
 
     ghost job = { λ b. who_in b.session };
 
-    ghost task = { piece_task };
+    ghost who = { λ j. j };
 
-    ghost calm = { λ j. ⊤ };
-
-    ghost wanting = { λ j. WantsInput };
-
-    ghost allows = { λ j. PieceAllows };
-
-    ghost gives = { λ j es e. ⊥ };
-
-    ghost concludes = { λ j. PieceConcludes };
+    ghost rule = { λ j. piece_rule };
 
     ghost fits = { FitsPieces };
 

@@ -10,19 +10,23 @@ use Rattle.repo_wire.specs.declared.messages.Say.{Say}
 use Rattle.repo_store.specs.Pages.{Above, Has, NamesAscend}
 use Rattle.repo_session.specs.Blobs.{range_of}
 use Rattle.repo_session.specs.Order.{IsNextPage, May, Task, last_of}
-use Rattle.repo_session.specs.Traces.{Exchanged, Trace, WasAsked, names_in}
-use Rattle.repo_session.proofs.Rolling.{has_got}
+use Rattle.repo_session.specs.Traces.{Exchanged, Trace, WasAsked, names_in, ReadFact}
+use Rattle.repo_session.proofs.Rolling.{not_among, not_before}
 use Rattle.repo_check.specs.Answers.{Answer, IsAnswer}
 use Rattle.repo_check.specs.Arrivals.{IsIndexOf, IsPackOf, IsRootOf}
-use Rattle.repo_check.specs.Checking.{IsNew}
+use Rattle.repo_name.specs.declared.kinds.BlobKind.TheVariants.{Tree}
+use Rattle.repo_index.specs.IndexText.{fact_of}
+use Rattle.repo_session.specs.Traces.{ReadFact}
+use Rattle.repo_check.specs.Checking.{MayRead}
 use Rattle.repo_check.specs.Laws.{HeardOnce}
 use Rattle.repo_check.specs.Rounds.{AreNoted, ArePast, IsGetting, KnowsRound, RoundView}
 use Rattle.repo_check.specs.Surveys.{AtTrees, KnowsNotes, RoundsView, Surveys}
 use Rattle.repo_check.specs.Walks.{IsSettled, WalkView}
-use Rattle.repo_check.proofs.Finding.{beyond, got_once, has_name, not_before}
+use Rattle.repo_check.proofs.Finding.{got_once, has_name}
 use Rattle.repo_check.proofs.Reading.{seen_settled}
 use Rattle.repo_check.proofs.Rounding.{got_now, heard_of}
 use Rattle.repo_check.proofs.Trailing.{was_read}
+use Rattle.repo_index.specs.IndexText.{fact_of}
 use Rattle.repo_check.proofs.Walking.{due_not_settled}
 
 -- what was said is what came
@@ -60,13 +64,6 @@ heard_once es answers are k n one other heard again =
     let same : a.0 ≡ b.0 = got_once es k (answers.objects k) got a.0 b.0 a.1 b.1 ((got_now k n one a.0 es a.2).0 ∙ sym (got_now k n other b.0 es b.2).0) in
     said_is n one a.0 a.2 ∙ ap (λ (c : Answer). say_of c.bytes) same ∙ sym (said_is n other b.0 b.2)
 
--- in names that ascend none stands among those before it
-not_among : (after : Option Name) (names : List Name) (i : ℕ) (n : Name) → NamesAscend after names → slice_get names i ≡ Some n → Has (take i names) n → ⊥
-not_among after [] i n h next has = absurd (cc)
-not_among after (m ∷ names) zero n h next has = has
-not_among after (m ∷ names) (suc i) n h next (inl is) = not_before m (subst (λ o. Before m o) is (beyond m names h.1 n (has_got names i n next)))
-not_among after (m ∷ names) (suc i) n h next (inr more) = not_among (Some m) names i n h.1 next more
-
 -- behind the last of names that ascend comes none of them
 above_more : (a : Option Name) (n m : Name) → Above a n → Before n m → Above a m
 above_more None n m above before = tt
@@ -99,7 +96,7 @@ module _ {T : Type 0} (k : Kind) (Gives : Answer → T → Type 0) (round : Roun
       let has : Has (map (λ (b : Answer). b.name) noted.answers) n = subst (λ m. Has (map (λ (b : Answer). b.name) noted.answers) m) named (has_name noted.answers a.0 a.1) in
       not_among None round.names (length round.notes) n (subst (λ ns. NamesAscend None ns) getting.paged.listed getting.paged.rise.ascend) getting.next (subst (λ ns. Has ns n) noted.named has)
 
-  round_new : (task : Task) (ask : Ask) → May task es ask → KnowsRound k round ask es → IsNew es ask
+  round_new : (task : Task) (ask : Ask) → May task es ask → KnowsRound k round ask es → MayRead es ask
   round_new task (Ask.List j after) may h =
       let next = subst (λ i. IsNextPage i after es) h.0 may.1 in
       λ was. page_new k after round.names es next h.1.rolled.paged.listed h.1.past (subst (λ i. WasAsked es (Ask.List i after)) h.0 was)
@@ -116,20 +113,25 @@ module _ {T : Type 0} (k : Kind) (Gives : Answer → T → Type 0) (round : Roun
   round_new task Ask.Config may h = absurd h
 
 -- where a tree's place was asked for, it was for another tree
-range_new : (rounds : RoundsView) (walk : WalkView) (ask : Ask) (es : Trace) → KnowsNotes rounds es → AtTrees rounds walk ask es → IsNew es ask
-range_new rounds walk ask es notes at = subst (λ a. IsNew es a) (sym at.asked) (λ was.
+range_new : (rounds : RoundsView) (walk : WalkView) (ask : Ask) (es : Trace) → KnowsNotes rounds es → AtTrees rounds walk ask es → MayRead es ask
+range_new rounds walk ask es notes at =
     let fact = at.fact in
-    let heard = heard_of es (range_of fact) was in
-    let a = at.reads.seen.only fact.place heard.0 heard.1 in
-    record {
-      one = a.0.name;
-      other = fact.name;
-      apart = λ same. due_not_settled walk.known fact.name fact at.awaits.due (subst (λ m. IsSettled walk.known m) same (seen_settled walk.known es a.0 (at.reads.seen.each a.0 a.1)));
-      gives_one = was_read rounds walk.known.facts _ es notes at.objects.facts a.2.among;
-      gives_other = was_read rounds walk.known.facts _ es notes at.objects.facts at.awaits.due.least.among;
-    })
+    let given : ReadFact es (fact_of Tree fact.name fact.place) = was_read rounds walk.known.facts _ es notes at.objects.facts at.awaits.due.least.among in
+    subst (λ a. MayRead es a) (sym at.asked) (
+      (fact.name, given),
+      λ was.
+          let heard = heard_of es (range_of fact) was in
+          let a = at.reads.seen.only fact.place heard.0 heard.1 in
+          record {
+            one = a.0.name;
+            other = fact.name;
+            apart = λ same. due_not_settled walk.known fact.name fact at.awaits.due (subst (λ m. IsSettled walk.known m) same (seen_settled walk.known es a.0 (at.reads.seen.each a.0 a.1)));
+            gives_one = was_read rounds walk.known.facts _ es notes at.objects.facts a.2.among;
+            gives_other = given;
+          },
+    )
 
-pub survey_new : (task : Task) (rounds : RoundsView) (walk : WalkView) (ask : Ask) (es : Trace) → May task es ask → Surveys rounds walk ask es → IsNew es ask
+pub survey_new : (task : Task) (rounds : RoundsView) (walk : WalkView) (ask : Ask) (es : Trace) → May task es ask → Surveys rounds walk ask es → MayRead es ask
 survey_new task rounds walk ask es may (notes, inl at) = round_new Kind.Snapshot IsRootOf rounds.snapshots es notes.snapshots task ask may at.snapshots
 survey_new task rounds walk ask es may (notes, inr (inl at)) = round_new Kind.Index IsIndexOf rounds.indexes es notes.indexes task ask may at.indexes
 survey_new task rounds walk ask es may (notes, inr (inr (inl at))) = round_new Kind.Pack IsPackOf rounds.packs es notes.packs task ask may at.packs

@@ -14,7 +14,7 @@ use Rattle.repo_check.specs.Checking.{CheckConcludes, check_rule, check_task}
 use Rattle.repo_check.specs.Rounds.{KnowsRound, RoundView}
 use Rattle.repo_check.specs.Surveys.{RoundsView, Surveys}
 use Rattle.repo_check.specs.Walks.{WalkView}
-use Rattle.repo_check.specs.declared.checks.CheckJob.{CheckJob}
+use Rattle.repo_check.specs.declared.checks.Check.{Check}
 use Rattle.repo_check.proofs.Again.{survey_new}
 use Rattle.repo_name.specs.declared.kinds.Kind.{Kind}
 
@@ -54,7 +54,7 @@ reads_works (Ask.Upgrade token) h = tt
 reads_works Ask.Config h = absurd h
 
 -- so it may be asked for
-pub may_ask : (j : CheckJob) (who : Asker) (es : Trace) (ask : Ask) → May (check_task who) es ask → KnowsCheck j ask es → MayAsk check_rule who (KnowsCheck j) es ask
+pub may_ask : (j : Check) (who : Asker) (es : Trace) (ask : Ask) → May (check_task who) es ask → KnowsCheck j ask es → MayAsk check_rule who (KnowsCheck j) es ask
 may_ask j who es ask may knows =
     let reads = survey_reads _ _ ask es knows in
     record { work = reads_works ask reads; may = may; allowed = (reads, survey_new (check_task who) _ _ ask es may knows); knows = knows }

@@ -32,6 +32,7 @@ use Rattle.repo_session.specs.Traces.{Trace}
 use Rattle.repo_check.specs.Answers.{Answer, Gathered, LiesAt, LiesNowhere}
 use Rattle.repo_check.specs.Checking.{IsFound, OfBlob, OfObject, AreAnswers, AreGot, AreWell}
 use Rattle.repo_check.specs.Findings.{ReadsAs, IsIllegible, IsExactOf, IsFitting, IsMisplaced, ObjectIs, Measure, IsMeasured, IsMismeasured, IsWellTree, IsIllTree, IsTreeAt, TreeIs, ContentIs, BlobIs}
+use Rattle.repo_session.proofs.Rolling.{not_before, beyond}
 use Rattle.repo_check.specs.Laws.{FoundOnce, WellHasNoFault}
 
 -- ---- places
@@ -259,14 +260,6 @@ module _ (answers : Gathered) where
       tree_once h.0 h.1 f g h.5 (subst (λ a. TreeIs answers h.0 a g) same there)
 
 -- ---- one answer of a name
-
-pub not_before : (n : Name) → Before n n → ⊥
-not_before n h = let self = tied_itself names_total n in cc (self, h)
-
-pub beyond : (n : Name) (names : List Name) → NamesAscend (Some n) names → (m : Name) → Has names m → Before n m
-beyond n [] h m has = absurd has
-beyond n (first ∷ names) h m (inl is) = subst (λ o. Before n o) (sym is) h.0
-beyond n (first ∷ names) h m (inr more) = names_total.trans n first m h.0 (beyond first names h.1 m more)
 
 pub has_name : (answers : List Answer) (a : Answer) → Contains answers a → Has (map (λ (b : Answer). b.name) answers) a.name
 has_name [] a h = absurd (none_contained a h)

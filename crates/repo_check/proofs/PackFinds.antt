@@ -15,7 +15,7 @@ use Rattle.repo_store.specs.Pages.{Has, NamesAscend}
 use Rattle.repo_check.specs.Fitting.{facts_at}
 use Rattle.repo_check.specs.Gathering.{well_noted}
 use Rattle.repo_check.specs.declared.rounds.Note.{Note}
-use Rattle.repo_check.proofs.Finding.{beyond}
+use Rattle.repo_session.proofs.Rolling.{beyond}
 use Rattle.repo_check.proofs.Tellings.{has_at}
 
 -- ---- a search by halves

@@ -174,6 +174,20 @@ module _ (k : Kind) where
   no_list (Ask.Upgrade token) h after is = absurd h
   no_list Ask.Config h after is = absurd h
 
+  no_get : (ask : Ask) → IsAside k ask → (n : Name) → ask ≡ Ask.Get k n → ⊥
+  no_get (Ask.Get j m) h n is = other_self j h (let p = is in cc)
+  no_get (Ask.List j before) h n is = absurd (cc is)
+  no_get (Ask.Range pack offset len) h n is = absurd (cc is)
+  no_get Ask.Ticket h n is = absurd h
+  no_get (Ask.Lock row) h n is = absurd h
+  no_get (Ask.Refresh token time) h n is = absurd h
+  no_get (Ask.Unlock token) h n is = absurd h
+  no_get Ask.Locks h n is = absurd h
+  no_get (Ask.Put token j m x) h n is = absurd h
+  no_get (Ask.Delete token j m) h n is = absurd h
+  no_get (Ask.Upgrade token) h n is = absurd h
+  no_get Ask.Config h n is = absurd h
+
   pub paged_aside : (names : List Name) (whole : Bool) (e : Exchange) (es : Trace) → IsAside k e.ask → IsPaged k names whole es → IsPaged k names whole (e ∷ es)
   paged_aside names whole e es aside h = paged_on k e names whole es (no_names e.ask e.say aside) (no_last e.ask e.say aside) (no_list e.ask aside) h
 
@@ -190,9 +204,14 @@ module _ (k : Kind) where
           within = h.rolled.within;
           received = ap (λ os. map (λ (o : Object). o.name) os) same ∙ h.rolled.received;
           named = subst (λ os. Each IsNamedObject os) (sym same) h.rolled.named;
+          asked = λ n was. untouched_still n was;
         };
         past = past_aside [] e es aside h.past;
       }
+    where
+      untouched_still : (n : Name) → WasAsked (e ∷ es) (Ask.Get k n) → Has (take 0 []) n
+      untouched_still n (inl is) = absurd (no_get e.ask aside n is)
+      untouched_still n (inr was) = h.rolled.asked n was
 
   -- a page that was asked for behind the names so far, and rose behind them
   pub past_on : (names page : List Name) (after : Option Name) (say : Say) (es : Trace) → NamesAscend after page → page ≢ [] → ArePast k names es → ArePast k (names ++ page) (silent (Ask.List k after) say ∷ es)

@@ -16,7 +16,7 @@ use Rattle.repo_session.specs.declared.outcomes.CheckFault.{CheckFault}
 use Rattle.repo_session.specs.declared.outcomes.FaultKind.{FaultKind}
 use Rattle.repo_check.specs.Checking.{rank, fault_cmp}
 use Rattle.repo_check.specs.Telling.{told, IsFoundAmong, ToldAreFound, AreOfRank, ToldAscend, RanksAscend}
-use Rattle.repo_check.proofs.Finding.{beyond}
+use Rattle.repo_session.proofs.Rolling.{beyond}
 
 -- ---- what is told
 

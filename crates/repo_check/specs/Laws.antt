@@ -14,7 +14,7 @@ use Rattle.repo_session.specs.declared.outcomes.CheckFault.{CheckFault}
 use Rattle.repo_session.specs.declared.outcomes.FaultKind.{FaultKind}
 use Rattle.repo_session.specs.declared.outcomes.Outcome.{Outcome}
 use Rattle.repo_session.specs.Ends.{before_unlock}
-use Rattle.repo_session.specs.Sessions.{next_in, ended_in}
+use Rattle.repo_session.specs.Sessions.{next_in, ended_in, who_in}
 use Rattle.repo_session.specs.Soundness.{IsSound}
 use Rattle.repo_session.specs.Talks.{Talk, trace_of, TookEach, CameIn}
 use Rattle.repo_session.specs.Traces.{Exchanged, Trace}
@@ -23,8 +23,9 @@ use Rattle.repo_check.specs.Fitting.{FactsOfPacks, AreKnown, Fits, Misfits}
 use Rattle.repo_index.specs.IndexText.{IsIndexText}
 use Rattle.repo_index.specs.declared.facts.PackFacts.{PackFacts}
 use Rattle.repo_check.specs.Answers.{Answer, Gathered, GivesFact}
-use Rattle.repo_check.specs.CheckStates.{FitsCheck, checker_of}
+use Rattle.repo_check.specs.CheckStates.{FitsCheck}
 use Rattle.repo_check.specs.Checking.{check_task, IsFaultOf, IsFound, AreWell, IsClean, IsAtFault, AreAnswers}
+use Rattle.repo_session.specs.declared.sessions.Session.{Session}
 use Rattle.repo_check.specs.declared.checks.Check.{Check}
 
 -- the objects that came, under the names for which they came
@@ -73,16 +74,16 @@ WellHasNoFault = (es : Trace) (answers : Gathered) → AreAnswers es answers →
 -- ---- whatever the replies
 
 -- a check whose ticket was pending had these replies, whoever sent them and whatever they say, and took these turns of them
-pub record CheckTook (old : Check) (replies : List Reply) (talk : Talk) (new : Check) : Type 0 where
+pub record CheckTook (old : Session Check) (replies : List Reply) (talk : Talk) (new : Session Check) : Type 0 where
   pub begins : FitsCheck old []
-  pub took : TookEach (check_task (checker_of old)).who.instance FitsCheck (λ c. next_in c.session) old replies talk new
+  pub took : TookEach (who_in old).instance FitsCheck (λ s. next_in s) old replies talk new
 
 -- where it is clean, all that a check has to receive was received, in those replies, and is well
 abbrev pub CleanIsWhatCame : Type 0
-CleanIsWhatCame = (old new : Check) (replies : List Reply) (talk : Talk) (snapshots indexes packs blobs : ℕ) → CheckTook old replies talk new
-    → ended_in new.session ≡ Some (Outcome.Clean snapshots indexes packs blobs) → CameIn replies (trace_of talk) × IsClean (before_unlock (trace_of talk)) snapshots indexes packs blobs
+CleanIsWhatCame = (old new : Session Check) (replies : List Reply) (talk : Talk) (snapshots indexes packs blobs : ℕ) → CheckTook old replies talk new
+    → ended_in new ≡ Some (Outcome.Clean snapshots indexes packs blobs) → CameIn replies (trace_of talk) × IsClean (before_unlock (trace_of talk)) snapshots indexes packs blobs
 
 -- where it tells faults, all of it was received, in those replies; each that it tells is at fault there, and nothing that is at fault there is left out
 abbrev pub FaultsAreWhatCame : Type 0
-FaultsAreWhatCame = (old new : Check) (replies : List Reply) (talk : Talk) (faults : List CheckFault) → CheckTook old replies talk new → ended_in new.session ≡ Some (Outcome.Faults faults)
+FaultsAreWhatCame = (old new : Session Check) (replies : List Reply) (talk : Talk) (faults : List CheckFault) → CheckTook old replies talk new → ended_in new ≡ Some (Outcome.Faults faults)
     → CameIn replies (trace_of talk) × IsAtFault (before_unlock (trace_of talk)) faults

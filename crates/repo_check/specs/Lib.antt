@@ -14,7 +14,6 @@ pub mod Gathering
 pub mod Surveys
 pub mod Verdicts
 pub mod CheckStates
-pub mod CheckObedience
 pub mod Laws
 pub mod LoneLaws
 pub mod inner

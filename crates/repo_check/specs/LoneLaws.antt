@@ -7,17 +7,17 @@ use Rattle.repo_store.specs.Stores.{Store}
 use Rattle.repo_session.specs.Versions.{upto}
 use Rattle.repo_session.specs.Alone.{IsFit, AreVersionsUpto, IsSent, IsSpoken, NoClash}
 use Rattle.repo_session.specs.Askers.{Asker}
-use Rattle.repo_session.specs.Clients.{IsObedient}
+use Rattle.repo_session.specs.Clients.{IsObedientBy}
 use Rattle.repo_session.specs.Soundness.{IsSound}
 use Rattle.repo_session.specs.Talks.{Talk, trace_of, TalkRan, MayBeAhead}
 use Rattle.repo_session.specs.Traces.{Trace}
 use Rattle.repo_session.specs.declared.outcomes.End.{End}
 use Rattle.repo_session.specs.declared.outcomes.Outcome.{Outcome}
-use Rattle.repo_check.specs.Checking.{check_task, CheckAllows, CheckGives, CheckConcludes}
+use Rattle.repo_check.specs.Checking.{check_task, CheckAllows, CheckGives, CheckConcludes, check_rule}
 
 -- these exchanges, what is pending and the outcome are a check's
 abbrev pub IsCheck : Asker → Option Request → Option Outcome → Trace → Type 0
-IsCheck who next outcome es = IsObedient (check_task who) CheckAllows CheckGives CheckConcludes next outcome es
+IsCheck who next outcome es = IsObedientBy check_rule who next outcome es
 
 -- no two of the objects of a store, and of the blobs in its packs, have one name
 abbrev pub AreStoredApart : Store → Type 0

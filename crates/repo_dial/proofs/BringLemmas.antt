@@ -12,16 +12,19 @@ use Rattle.repo_session.specs.declared.driving.DriveError.{DriveError}
 use Rattle.repo_session.specs.declared.emissions.Emission.{Emission}
 use Rattle.repo_session.specs.declared.outcomes.Outcome.{Outcome}
 use Rattle.repo_session.specs.Askers.{Asker}
+use Rattle.repo_session.specs.Clients.{IsObedientBy, TellsToken}
+use Rattle.repo_session.specs.Order.{IsUnlock}
 use Rattle.repo_session.specs.Jobs.{Rule}
 use Rattle.repo_session.specs.Talks.{Talk, Said, AreNumbered, Drives, trace_of}
-use Rattle.repo_session.specs.Traces.{Each, Trace}
+use Rattle.repo_session.specs.Traces.{Each, Exchanged, Trace}
 use Rattle.repo_session.proofs.Handing.{handed_as}
 use Rattle.repo_session.proofs.Joining.{driven_said}
-use Rattle.repo_dial.specs.Bringing.{IsObedientBy, EndsLockOf, DrivesTo, LeavesBy, BroughtOn, TriedBy, AreCutOff, IsBegunBy, BroughtInto, Obeyed}
-use Rattle.repo_dial.specs.Dialing.{Asking, Call, Connections, Driven, Try, Missed, Turned, Carried, IsStopped, Meets, MeetsSay, config_request, talk_in, talk_over, DrivenOver, EndsOwnLock, TakesLeave, TryGives, AreCut, DrivesAgain}
+use Rattle.repo_dial.specs.Bringing.{EndsLockOf, IsGivenBack, DrivesTo, LeavesBy, BroughtOn, TriedBy, AreCutOff, IsBegunBy, BroughtInto, Obeyed}
+use Rattle.repo_dial.specs.Dialing.{Asking, Call, Connections, IsFarewell, farewell_of, token_to_end, unlock_in_place, Driven, Try, Missed, Turned, Carried, IsStopped, Meets, MeetsSay, config_request, talk_in, talk_over, DrivenOver, EndsOwnLock, TakesLeave, TryGives, AreCut, DrivesAgain}
 use Rattle.repo_dial.specs.declared.again.TryError.{TryError}
 use Rattle.repo_dial.specs.declared.peers.Acquaintance.{Acquaintance}
 use Rattle.repo_dial.proofs.DialLemmas.{trace_of_both, went_driven, first_driven, known_cut, went_try, same_try}
+use Rattle.repo_dial.specs.Ends.{ConnectionEnds}
 use Rattle.repo_dial.proofs.TryLemmas.{behind_leave}
 
 -- the unlock is of the ticket of the trace at which the client stands
@@ -40,15 +43,52 @@ drives_to : {C : Type 0} (instance : Instance) (Fits : C → Trace → Type 0) (
 drives_to instance Fits next old (Ok n) new said bytes d = (d.2, d.4, d.5)
 drives_to instance Fits next old (Err error) new said bytes d = (d.1, d.2)
 
-leaves_by : (result : Result ℕ DriveError) (next : Option Request) (told : Option Token) (instance : Instance) (es : Trace) (call : Call) → TakesLeave result next told call → EndsLockOf instance es call.farewell
-    → LeavesBy (error_of result) instance es call
-leaves_by (Ok n) next told instance es call leaves ends = leaves
-leaves_by (Err DriveError.Read) next told instance es call leaves ends = leaves
-leaves_by (Err DriveError.Write) next told instance es call leaves ends = leaves
-leaves_by (Err DriveError.Malformed) next told instance es call leaves ends = leaves
-leaves_by (Err DriveError.Limit) next told instance es call leaves ends = leaves
-leaves_by (Err DriveError.Memory) next told instance es call leaves ends = leaves
-leaves_by (Err DriveError.Sink) next told instance es call leaves ends = (behind_leave (Err DriveError.Sink) next told call leaves, ends)
+-- a client stands by its rule, and tells its token
+abbrev pub Stands : Rule → Asker → Option Request → Option Outcome → Option Token → Trace → Type 0
+Stands rule who next outcome told es = IsObedientBy rule who next outcome es × TellsToken told outcome es
+
+-- there is a token whose lock is to be ended
+some_token : (ask : Ask) (told : Option Token) (token : Token) → (¬ IsUnlock ask → told ≡ Some token) → token_to_end ask told ≢ None
+some_token (Ask.Unlock t) told token h none = absurd (cc)
+some_token Ask.Ticket told token h none = let is = h (λ x. x) in absurd (cc)
+some_token (Ask.Lock row) told token h none = let is = h (λ x. x) in absurd (cc)
+some_token (Ask.Refresh t time) told token h none = let is = h (λ x. x) in absurd (cc)
+some_token Ask.Locks told token h none = let is = h (λ x. x) in absurd (cc)
+some_token (Ask.List k after) told token h none = let is = h (λ x. x) in absurd (cc)
+some_token (Ask.Get k n) told token h none = let is = h (λ x. x) in absurd (cc)
+some_token (Ask.Range pack offset len) told token h none = let is = h (λ x. x) in absurd (cc)
+some_token (Ask.Put t k n x) told token h none = let is = h (λ x. x) in absurd (cc)
+some_token (Ask.Delete t k n) told token h none = let is = h (λ x. x) in absurd (cc)
+some_token Ask.Config told token h none = let is = h (λ x. x) in absurd (cc)
+some_token (Ask.Upgrade t) told token h none = let is = h (λ x. x) in absurd (cc)
+
+-- a token is told where its unlock isn't pending
+told_token : (rule : Rule) (who : Asker) (request : Request) (outcome : Option Outcome) (told : Option Token) (es : Trace) (token : Token) → Stands rule who (Some request) outcome told es → Exchanged es Ask.Ticket (Say.Token token)
+    → ¬ IsUnlock request.ask → told ≡ Some token
+told_token rule who request None told es token stands given other = stands.1.tells token refl given
+told_token rule who request (Some outcome) told es token stands given other = absurd (other (stands.0.beside request refl (λ none. absurd (cc))))
+
+asked_back : (request : Request) (end : Option Token) (left : ConnectionEnds) (farewell : Option Asking) → end ≢ None → IsFarewell (option_map (λ token. unlock_in_place request token) end) left farewell → farewell ≢ None
+asked_back request None left farewell some h none = some refl
+asked_back request (Some token) left None some h none = h
+asked_back request (Some token) left (Some asking) some h none = absurd (cc)
+
+given_back : (rule : Rule) (who : Asker) (next : Option Request) (outcome : Option Outcome) (told : Option Token) (es : Trace) (left : ConnectionEnds) (farewell : Option Asking) → Stands rule who next outcome told es
+    → IsFarewell (farewell_of next told) left farewell → IsGivenBack es next farewell
+given_back rule who None outcome told es left farewell stands h = tt
+given_back rule who (Some request) outcome told es left farewell stands h =
+    λ token given. asked_back request (token_to_end request.ask told) left farewell (some_token request.ask told token (told_token rule who request outcome told es token stands given)) h
+
+leaves_by : (rule : Rule) (who : Asker) (result : Result ℕ DriveError) (next : Option Request) (outcome : Option Outcome) (told : Option Token) (instance : Instance) (es : Trace) (call : Call) → Stands rule who next outcome told es
+    → TakesLeave result next told call → EndsLockOf instance es call.farewell → LeavesBy (error_of result) instance es next call
+leaves_by rule who (Ok n) next outcome told instance es call stands leaves ends = leaves
+leaves_by rule who (Err DriveError.Read) next outcome told instance es call stands leaves ends = leaves
+leaves_by rule who (Err DriveError.Write) next outcome told instance es call stands leaves ends = leaves
+leaves_by rule who (Err DriveError.Malformed) next outcome told instance es call stands leaves ends = leaves
+leaves_by rule who (Err DriveError.Limit) next outcome told instance es call stands leaves ends = leaves
+leaves_by rule who (Err DriveError.Memory) next outcome told instance es call stands leaves ends = leaves
+leaves_by rule who (Err DriveError.Sink) next outcome told instance es call stands leaves ends =
+    (behind_leave (Err DriveError.Sink) next told call leaves, ends, given_back rule who next outcome told es call.left call.farewell stands leaves)
 
 -- where the job doesn't go on at a store, no other config is known than before
 same_say : (known : Option (List ℕ)) (say : Say) (error : TryError) (after : Option (List ℕ)) → MeetsSay known say (Err error) after → after ≡ known
@@ -80,7 +120,7 @@ comes_stopped (Err e) reached came comes is = let same : e ≡ TryError.Drive Dr
 module _ {C J : Type 0} (d : Driven C J) (reached : C → Option Outcome) (rule : Rule) (who : Asker) where
   -- over one connection
   brought : (old new : C) (earlier : Talk) (call : Call) (result : Result ℕ DriveError) → DrivenOver d old call result new → d.own (d.job old) ≡ who.instance → d.fits old (trace_of earlier)
-      → ((es : Trace) → d.fits new es → IsObedientBy rule who (d.next new) (reached new) es) → BroughtOn rule who earlier (d.next old) call (error_of result) (d.next new) (reached new)
+      → ((es : Trace) → d.fits new es → Stands rule who (d.next new) (reached new) (d.told new) es) → BroughtOn rule who earlier (d.next old) call (error_of result) (d.next new) (reached new)
   brought old new earlier call result o own_is fits obeys =
       let said : Said = call.said in
       let is = driven_said (d.own (d.job old)) d.fits d.next old result new said (Some []) (Some (said_in call.passages)) o.drives in
@@ -93,8 +133,8 @@ module _ {C J : Type 0} (d : Driven C J) (reached : C → Option Outcome) (rule 
         numbered = subst (λ instance. AreNumbered instance (length (trace_of earlier)) said.talk) own_is (went.numbered (trace_of earlier) fits);
         drives = drives_to (d.own (d.job old)) d.fits d.next old result new said (said_in call.passages) o.drives;
         first = first_driven (d.own (d.job old)) d.fits d.next old result new said (Some []) (Some (said_in call.passages)) o.drives;
-        obeyed = obeys (trace_of (said.talk ++ earlier)) here;
-        leaves = leaves_by result (d.next new) (d.told new) who.instance (trace_of (said.talk ++ earlier)) call o.leaves
+        obeyed = (obeys (trace_of (said.talk ++ earlier)) here).0;
+        leaves = leaves_by rule who result (d.next new) (reached new) (d.told new) who.instance (trace_of (said.talk ++ earlier)) call (obeys (trace_of (said.talk ++ earlier)) here) o.leaves
             (subst (λ instance. EndsLockOf instance (trace_of (said.talk ++ earlier)) call.farewell) (ap d.own o.same ∙ own_is)
             (ends_at (d.own (d.job new)) d.fits new (trace_of (said.talk ++ earlier)) call.farewell here o.ends));
       }
@@ -110,14 +150,14 @@ module _ {C J : Type 0} (d : Driven C J) (reached : C → Option Outcome) (rule 
   same_cut begun old [] new known h = ap d.job h.0
   same_cut begun old (try ∷ tries) new known h = same_try d h.1 h.0 try (Err h.3.0) new known h.3.1 ∙ same_cut begun old tries h.0 h.1 h.2
 
-  module _ (begun : Acquaintance) (old : C) (obeys : (c : C) → d.job c ≡ d.job old → (es : Trace) → d.fits c es → IsObedientBy rule who (d.next c) (reached c) es) (own_is : d.own (d.job old) ≡ who.instance) (fits : d.fits old []) where
+  module _ (begun : Acquaintance) (old : C) (obeys : (c : C) → d.job c ≡ d.job old → (es : Trace) → d.fits c es → Stands rule who (d.next c) (reached c) (d.told c) es) (own_is : d.own (d.job old) ≡ who.instance) (fits : d.fits old []) where
     -- the ask for the config has the asker's instance
     asks_own : (c : C) (es : Trace) (next : Option Request) (asking : Asking) → d.job c ≡ d.job old → d.fits c es → d.next c ≡ next → option_map config_request next ≡ Some asking.request
         → asking.request ≡ record { instance = who.instance; sequence = 0; ask = Ask.Config }
     asks_own c es None asking same here is p = absurd (cc)
     asks_own c es (Some request) asking same here is p =
         let of : config_request request ≡ asking.request = cc in
-        let instance = ((obeys c same es here).pending request is).instance in
+        let instance = ((obeys c same es here).0.pending request is).instance in
         sym of ∙ ap (λ (i : Instance). record { instance = i; sequence = 0; ask = Ask.Config }) instance
 
     begun_try : (known : Acquaintance) (mid : C) (es : Trace) (try : Try) (result : Result ℕ TryError) (new : C) (after : Acquaintance) → d.job mid ≡ d.job old → d.fits mid es
@@ -186,7 +226,7 @@ module _ {C J : Type 0} (d : Driven C J) (reached : C → Option Outcome) (rule 
   nothing_next known old (Carried asking call) n new after (Err error, driven, told, met, left) = absurd (cc)
   nothing_next known old (Carried asking call) n new after (Ok m, driven, told, met, left) = driven.drives.2
 
-  module _ {F : Type 0} (Called : F → Emission → Bool → F → Type 0) (old : C) (obeys : (c : C) → d.job c ≡ d.job old → (es : Trace) → d.fits c es → IsObedientBy rule who (d.next c) (reached c) es)
+  module _ {F : Type 0} (Called : F → Emission → Bool → F → Type 0) (old : C) (obeys : (c : C) → d.job c ≡ d.job old → (es : Trace) → d.fits c es → Stands rule who (d.next c) (reached c) (d.told c) es)
       (own_is : d.own (d.job old) ≡ who.instance) (fits : d.fits old []) where
     pub brought_into : (retry : ℕ) (from : F) (result : Result ℕ TryError) (new : C) (to : F) (coming after : Connections) (came : Result Outcome TryError)
         → DrivesAgain d Called retry old from result new to coming after → ComesTo result (reached new) came → BroughtInto Called from rule who came retry coming after to
@@ -224,7 +264,7 @@ module _ {C J : Type 0} (d : Driven C J) (reached : C → Option Outcome) (rule 
     comes_over never retry from result new to coming after a =
         let es = trace_of (talk_over (a.last ∷ a.cut)) ++ [] in
         let same : d.job new ≡ d.job old = same_try d a.known a.mid a.last result new a.ended a.gives ∙ same_cut a.begun old a.cut a.mid a.known a.before in
-        comes_as result new (reached new) refl (λ n is none. never es ((obeys new same es (a.went.fits [] fits)).settled
+        comes_as result new (reached new) refl (λ n is none. never es ((obeys new same es (a.went.fits [] fits)).0.settled
         (nothing_next a.known a.mid a.last n new a.ended (subst (λ r. TryGives d a.known a.mid a.last r new a.ended) is a.gives)) none))
 
     -- however far it was brought

@@ -8,9 +8,11 @@ use Rattle.repo_wire.specs.declared.messages.Request.{Request}
 use Rattle.repo_wire.specs.declared.messages.Say.{Say}
 use Rattle.repo_session.specs.declared.driving.DriveError.{DriveError}
 use Rattle.repo_session.specs.declared.outcomes.Outcome.{Outcome}
-use Rattle.repo_session.specs.Clients.{IsNextRequest, IsObedientWith, TellsToken}
+use Rattle.repo_session.specs.Clients.{IsNextRequest, IsObedientBy, TellsToken}
+use Rattle.repo_session.specs.Askers.{Asker}
+use Rattle.repo_session.specs.Jobs.{Rule, task_under}
 use Rattle.repo_session.specs.Order.{Task, locked, May}
-use Rattle.repo_session.specs.Traces.{Exchange, Exchanged, Trace}
+use Rattle.repo_session.specs.Traces.{Exchanged, Trace}
 use Rattle.repo_dial.specs.Dialing.{Asking, AsksOnce, Call, Connections, Driven, DrivenOver, Try, Turned, Carried, Dials, EndsOwnLock, HangsUp, HasMet, IsBehind, IsDialed, IsFarewell, IsGivenBack, TakesLeave, TryGives, as_try, dialed_in, talk_in, ends_behind, farewell_of, left_in, token_to_end, unlock_in_place}
 use Rattle.repo_dial.specs.Ends.{ConnectionEnds}
 use Rattle.repo_dial.specs.declared.again.TryError.{TryError}
@@ -85,22 +87,21 @@ token_given task es (Ask.Delete t k n) ended told token may tells is = tells.giv
 token_given task es (Ask.Upgrade t) ended told token may tells is = tells.given token is
 token_given task es Ask.Config ended told token may tells is = tells.given token is
 
-module _ {C : Type 0} (Fits : C → Trace → Type 0) (client : C) (task : Task) (Allows : Trace → Ask → Type 0) (Gives : Trace → Exchange → Type 0) (Own : Trace → Outcome → Type 0)
-    (Wanting : Trace → Type 0) where
-  ends_next : (request : Request) (ended : Option Outcome) (told : Option Token) → ((es : Trace) → Fits client es → IsObedientWith task Allows Gives Own Wanting (Some request) ended es)
+module _ {C : Type 0} (Fits : C → Trace → Type 0) (client : C) (rule : Rule) (who : Asker) where
+  ends_next : (request : Request) (ended : Option Outcome) (told : Option Token) → ((es : Trace) → Fits client es → IsObedientBy rule who (Some request) ended es)
       → ((es : Trace) → Fits client es → TellsToken told ended es) → (left : ConnectionEnds) (asking : Asking) (o : Option Token) → token_to_end request.ask told ≡ o
-      → IsFarewell (option_map (λ token. unlock_in_place request token) o) left (Some asking) → EndsOwnLock task.who.instance Fits client (Some asking)
+      → IsFarewell (option_map (λ token. unlock_in_place request token) o) left (Some asking) → EndsOwnLock who.instance Fits client (Some asking)
   ends_next request ended told obeys tells left asking None is h = absurd (cc)
   ends_next request ended told obeys tells left asking (Some token) is h =
       (token, ap (λ (r : Request). r.ask) h.1, λ es fits. numbered es ((obeys es fits).pending request refl) (tells es fits)) where
-        numbered : (es : Trace) → IsNextRequest task Allows es request → TellsToken told ended es
-            → Exchanged es Ask.Ticket (Say.Token token) × (asking.request.instance ≡ task.who.instance) × (asking.request.sequence ≡ length es + 1)
+        numbered : (es : Trace) → IsNextRequest (task_under rule who) rule.allows es request → TellsToken told ended es
+            → Exchanged es Ask.Ticket (Say.Token token) × (asking.request.instance ≡ who.instance) × (asking.request.sequence ≡ length es + 1)
         numbered es next own =
-            (token_given task es request.ask ended told token next.may own is, ap (λ (r : Request). r.instance) h.1 ∙ next.instance, ap (λ (r : Request). r.sequence) h.1 ∙ next.sequence)
+            (token_given (task_under rule who) es request.ask ended told token next.may own is, ap (λ (r : Request). r.instance) h.1 ∙ next.instance, ap (λ (r : Request). r.sequence) h.1 ∙ next.sequence)
 
   -- what is asked for is the end of the client's own lock
-  pub ends_own : (next : Option Request) (ended : Option Outcome) (told : Option Token) → ((es : Trace) → Fits client es → IsObedientWith task Allows Gives Own Wanting next ended es)
-      → ((es : Trace) → Fits client es → TellsToken told ended es) → (left : ConnectionEnds) (farewell : Option Asking) → IsFarewell (farewell_of next told) left farewell → EndsOwnLock task.who.instance Fits client farewell
+  pub ends_own : (next : Option Request) (ended : Option Outcome) (told : Option Token) → ((es : Trace) → Fits client es → IsObedientBy rule who next ended es)
+      → ((es : Trace) → Fits client es → TellsToken told ended es) → (left : ConnectionEnds) (farewell : Option Asking) → IsFarewell (farewell_of next told) left farewell → EndsOwnLock who.instance Fits client farewell
   ends_own next ended told obeys tells left None h = tt
   ends_own None ended told obeys tells left (Some asking) h = absurd (cc)
   ends_own (Some request) ended told obeys tells left (Some asking) h = ends_next request ended told obeys tells left asking (token_to_end request.ask told) refl h

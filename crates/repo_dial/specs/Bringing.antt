@@ -1,5 +1,5 @@
 -- A job that is brought to its end, by its own rule, over connections that are made one after another.
-use Rattle.std.specs.Prelude.{◌≡◌, ◌≤◌, ◌⊎◌, ◌+◌, ◌++◌, ◌∷◌, [], ⊤, ℕ, Bool, true, List, length, Option, Some, None, Result, Ok, Err}
+use Rattle.std.specs.Prelude.{◌≡◌, ◌≢◌, ◌≤◌, ◌⊎◌, ◌+◌, ◌++◌, ◌∷◌, [], ⊤, ℕ, Bool, true, List, length, Option, Some, None, Result, Ok, Err}
 use Rattle.repo_name.specs.declared.names.Instance.{Instance}
 use Rattle.repo_name.specs.declared.tokens.Token.{Token}
 use Rattle.repo_wire.specs.declared.messages.Ask.{Ask}
@@ -10,17 +10,13 @@ use Rattle.repo_session.specs.declared.driving.DriveError.{DriveError}
 use Rattle.repo_session.specs.declared.emissions.Emission.{Emission}
 use Rattle.repo_session.specs.declared.outcomes.Outcome.{Outcome}
 use Rattle.repo_session.specs.Askers.{Asker}
-use Rattle.repo_session.specs.Clients.{IsObedientWith}
-use Rattle.repo_session.specs.Jobs.{Rule, task_under}
+use Rattle.repo_session.specs.Clients.{IsObedientBy}
+use Rattle.repo_session.specs.Jobs.{Rule}
 use Rattle.repo_session.specs.Sinks.{IsHandedOn}
 use Rattle.repo_session.specs.Talks.{Talk, Said, IsTurn, AreNumbered, IsHeard, DriveCause, WritesBy, first_carried, frames_of, sent_in, trace_of}
 use Rattle.repo_session.specs.Traces.{Each, Exchanged, Trace}
 use Rattle.repo_dial.specs.Dialing.{Asking, Call, Connections, Try, Missed, Turned, Carried, GoesInTurn, IsAsking, IsBehind, IsStopped, Meets, talk_over, first_told, AreAtOneStore, AreDialed, is_cut}
 use Rattle.repo_dial.specs.declared.again.TryError.{TryError}
-
--- a client stands at a trace by its job's rule
-abbrev pub IsObedientBy : Rule → Asker → Option Request → Option Outcome → Trace → Type 0
-IsObedientBy rule who next outcome es = IsObedientWith (task_under rule who) rule.allows rule.gives rule.concludes rule.wanting next outcome es
 
 -- what is asked for behind a job is the end of the lock of its own ticket, with the instance, and a number that no request before it had: the one after theirs
 abbrev pub EndsLockOf : Instance → Trace → Option Asking → Type 0
@@ -34,10 +30,15 @@ abbrev pub DrivesTo : Option DriveError → Said → Option Request → List ℕ
 DrivesTo None said next bytes = (next ≡ None) × (said.more ≡ []) × (bytes ≡ frames_of (sent_in said.talk))
 DrivesTo (Some error) said next bytes = DriveCause error said next × WritesBy error (Some []) (sent_in said.talk) next (Some bytes)
 
--- behind it nothing was asked for, but where the sink took no more the end of the job's own lock, if anything
-abbrev pub LeavesBy : Option DriveError → Instance → Trace → Call → Type 0
-LeavesBy (Some DriveError.Sink) instance es call = IsBehind call.left call.farewell × EndsLockOf instance es call.farewell
-LeavesBy _ instance es call = call.farewell ≡ None
+-- where a request is pending and the ticket was given, something was asked for
+abbrev pub IsGivenBack : Trace → Option Request → Option Asking → Type 0
+IsGivenBack es None farewell = ⊤
+IsGivenBack es (Some request) farewell = (token : Token) → Exchanged es Ask.Ticket (Say.Token token) → farewell ≢ None
+
+-- behind it nothing was asked for, but where the sink took no more the end of the job's own lock
+abbrev pub LeavesBy : Option DriveError → Instance → Trace → Option Request → Call → Type 0
+LeavesBy (Some DriveError.Sink) instance es next call = IsBehind call.left call.farewell × EndsLockOf instance es call.farewell × IsGivenBack es next call.farewell
+LeavesBy _ instance es next call = call.farewell ≡ None
 
 -- A job was brought on over a connection, by its rule, to its end or to this error: what was said went over it in turn; each request has the asker's instance
 -- and the number after those before it; what was pending before went first; and the job stands, by its rule, at the trace of that and of all that was said before.
@@ -49,7 +50,7 @@ pub record BroughtOn (rule : Rule) (who : Asker) (earlier : Talk) (before : Opti
   pub drives : DrivesTo error call.said next (said_in call.passages)
   pub first : first_carried (sent_in call.said.talk) next ≡ before
   pub obeyed : IsObedientBy rule who next outcome (trace_of (call.said.talk ++ earlier))
-  pub leaves : LeavesBy error who.instance (trace_of (call.said.talk ++ earlier)) call
+  pub leaves : LeavesBy error who.instance (trace_of (call.said.talk ++ earlier)) next call
 
 -- What a try behind earlier ones came to, from one pending request to another: no connection could be had; what its store said to the ask for its config isn't
 -- what the job's store says, nor was it asked for more; or the job was brought on over it, to its end, or to an error.

@@ -9,7 +9,7 @@ use Rattle.repo_wire.specs.declared.messages.Say.{Say}
 use Rattle.repo_store.specs.Channels.{Passage, heard_in, said_in}
 use Rattle.repo_session.specs.declared.driving.DriveError.{DriveError}
 use Rattle.repo_session.specs.declared.emissions.Emission.{Emission}
-use Rattle.repo_session.specs.Order.{Task}
+use Rattle.repo_session.specs.Askers.{Asker}
 use Rattle.repo_session.specs.Sinks.{IsHandedOn}
 use Rattle.repo_session.specs.Talks.{Talk, Said, AskGives, Drives, Went}
 use Rattle.repo_session.specs.Traces.{Each, Exchanged, Trace}
@@ -256,8 +256,8 @@ pub record Driven (C J : Type 0) : Type 1 where
   pub told : C → Option Token
 
 -- the same, of the members of `Client`
-abbrev pub driven_by : {C J : Type 0} → (J → Task) → (C → J) → (C → Trace → Type 0) → (C → Option Request) → (C → Option Token) → Driven C J
-driven_by task job fits next told = record { own = λ j. (task j).who.instance; job = job; fits = fits; next = next; told = told }
+abbrev pub driven_by : {C J : Type 0} → (J → Asker) → (C → J) → (C → Trace → Type 0) → (C → Option Request) → (C → Option Token) → Driven C J
+driven_by who job fits next told = record { own = λ j. (who j).instance; job = job; fits = fits; next = next; told = told }
 
 -- a client was driven over a connection, in turn, to this result
 pub record DrivenOver {C J : Type 0} (d : Driven C J) (old : C) (call : Call) (result : Result ℕ DriveError) (new : C) : Type 0 where

@@ -68,7 +68,7 @@ fn carry<C: Client, E: KnownChannel, F: FnMut(&Emission) -> bool>(
 ) -> Result<u64, DriveError>
     requires callable { (state : F) (x : _) → F.pre state x }
     ensures { (call : Call) × (call.came ≡ E.ends channel.old) × (ends_behind call.left call.farewell ≡ E.ends channel.new)
-        × DrivenOver (driven_by C.task C.job C.fits C.next C.token_of) client.old call result client.new
+        × DrivenOver (driven_by C.who C.job C.fits C.next C.token_of) client.old call result client.new
         × IsHandedOn (CalledAt F.FnMut) (result ≡ Err DriveError.Sink) sink.old call.said.talk sink.new }
 {
     let mut connection = Connection::new(alloc)?;
@@ -90,7 +90,7 @@ fn try_over<C: Client, E: KnownChannel, F: FnMut(&Emission) -> bool>(
 ) -> Result<u64, TryError>
     requires callable { (state : F) (x : _) → F.pre state x }
     ensures { (try : Try) × (dialed_in try ≡ Some (E.ends channel.old)) × (left_in try ≡ Some (E.ends channel.new))
-        × TryGives (driven_by C.task C.job C.fits C.next C.token_of) known.old client.old try result client.new known.new
+        × TryGives (driven_by C.who C.job C.fits C.next C.token_of) known.old client.old try result client.new known.new
         × IsHandedOn (CalledAt F.FnMut) (IsStopped result) sink.old (talk_in try) sink.new }
 {
     if let Err(error) = known.meet(alloc, client, channel) {
@@ -112,7 +112,7 @@ fn try_once<C: Client, D: Dial, F: FnMut(&Emission) -> bool>(
 ) -> Result<u64, TryError>
     requires callable { (state : F) (x : _) → F.pre state x }
     ensures { (try : Try) × IsDialed (D.connections dial.old) try (D.connections dial.new)
-        × TryGives (driven_by C.task C.job C.fits C.next C.token_of) known.old client.old try result client.new known.new
+        × TryGives (driven_by C.who C.job C.fits C.next C.token_of) known.old client.old try result client.new known.new
         × IsHandedOn (CalledAt F.FnMut) (IsStopped result) sink.old (talk_in try) sink.new }
 {
     let Some(mut channel) = dial.dial() else {
@@ -140,7 +140,7 @@ pub fn drive_again<C: Client, D: Dial, F: FnMut(&Emission) -> bool>(
     sink: &mut F,
 ) -> Result<u64, TryError>
     requires callable { (state : F) (x : _) → F.pre state x }
-    ensures again { DrivesAgain (driven_by C.task C.job C.fits C.next C.token_of) (CalledAt F.FnMut) retry client.old sink.old result client.new sink.new
+    ensures again { DrivesAgain (driven_by C.who C.job C.fits C.next C.token_of) (CalledAt F.FnMut) retry client.old sink.old result client.new sink.new
         (D.connections dial.old) (D.connections dial.new) }
     ensures job { C.job client.new ≡ C.job client.old }
 {

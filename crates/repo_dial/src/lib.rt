@@ -30,7 +30,7 @@ mod recording;
 
 pub use again::{TryError, drive_again};
 pub use asking::ask_once;
-pub use bringing::bring;
+pub use bringing::{bring, bring_into};
 pub use dialing::{Address, Dial, Once};
 pub use ends::{KnownChannel, Pair, pair_of, reader_of};
 pub use recording::{Recorder, Tape, Went};

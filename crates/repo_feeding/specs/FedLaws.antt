@@ -10,16 +10,15 @@ use Rattle.repo_tree.specs.declared.entries.Entry.{Entry}
 use Rattle.repo_tree.specs.declared.snapshots.Snapshot.{Snapshot}
 use Rattle.repo_wire.specs.declared.messages.Request.{Request}
 use Rattle.repo_session.specs.Askers.{Asker}
-use Rattle.repo_session.specs.Clients.{IsObedientWith}
+use Rattle.repo_session.specs.Clients.{IsObedientBy}
 use Rattle.repo_session.specs.Feeds.{Fed}
 use Rattle.repo_session.specs.Traces.{Trace, IsGiven, fed_in}
 use Rattle.repo_session.specs.declared.outcomes.Outcome.{Outcome}
 use Rattle.repo_writing.specs.Putting.{PutDone, IsIndexed}
 use Rattle.repo_backup.specs.Handed.{AreHanded}
-use Rattle.repo_backup.specs.PieceStates.{piece_task}
 use Rattle.repo_backup.specs.Items.{place_of}
 use Rattle.repo_backup.specs.Laws.{IsFedBackup}
-use Rattle.repo_feeding.specs.FedRules.{AreWelcome, IsAsTold, FedAllows, FedConcludes}
+use Rattle.repo_feeding.specs.FedRules.{AreWelcome, IsAsTold, fed_rule}
 use Rattle.repo_feeding.specs.Unfed.{unfed}
 use Rattle.repo_feeding.specs.Sources.{spelled_in}
 
@@ -45,7 +44,7 @@ pub record IsSpelledSnapshot (whole : Option (List Fed)) (es : Trace) (name : Na
 
 -- a client stands at these exchanges by the rule of a backup that feeds itself
 abbrev pub IsFedClient : Asker → Option (List Fed) → Option Request → Option Outcome → Trace → Type 0
-IsFedClient who whole next outcome es = IsObedientWith (piece_task who) (FedAllows who whole) (λ before e. ⊥) (FedConcludes who whole) (λ before. ⊥) next outcome es
+IsFedClient who whole next outcome es = IsObedientBy (fed_rule who whole) who next outcome es
 
 -- a backup that is fed stands at these exchanges by its rule, with some items between them, each of which was welcome; and where its source is known they spell
 -- what the source was made to give, once they ended

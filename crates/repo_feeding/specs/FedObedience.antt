@@ -5,7 +5,7 @@ use Rattle.repo_wire.specs.declared.messages.Ask.{Ask}
 use Rattle.repo_wire.specs.declared.messages.Request.{Request}
 use Rattle.repo_wire.specs.declared.messages.Say.{Say}
 use Rattle.repo_session.specs.Askers.{Asker}
-use Rattle.repo_session.specs.Clients.{IsNextRequest, IsObedientWith, TellsToken}
+use Rattle.repo_session.specs.Clients.{IsNextRequest, IsObedientBy, TellsToken}
 use Rattle.repo_session.specs.Ends.{Concludes, MayConclude, before_unlock, without_unlock}
 use Rattle.repo_session.specs.Feeds.{Fed}
 use Rattle.repo_session.specs.Order.{IsPermitted, May, Obeys}
@@ -15,9 +15,9 @@ use Rattle.repo_session.specs.Versions.{upto}
 use Rattle.repo_session.specs.declared.outcomes.Outcome.{Outcome}
 use Rattle.repo_backup.specs.Items.{at_root}
 use Rattle.repo_backup.specs.PieceObedience.{pieces_obey, pieces_tell}
-use Rattle.repo_backup.specs.PieceRules.{PieceAllows, PieceConcludes, WantsInput}
+use Rattle.repo_backup.specs.PieceRules.{PieceAllows, PieceConcludes, piece_rule}
 use Rattle.repo_backup.specs.PieceStates.{piece_task}
-use Rattle.repo_feeding.specs.FedRules.{IsAsTold, IsOnTheWay, IsFedLate, IsFedSo, FedAllows, FedConcludes}
+use Rattle.repo_feeding.specs.FedRules.{IsAsTold, IsOnTheWay, IsFedLate, IsFedSo, FedAllows, FedConcludes, fed_rule}
 use Rattle.repo_feeding.specs.FedStates.{Feeder, job_of, IsFedRight, AreFedRight, FitsFed}
 use Rattle.repo_feeding.specs.Sources.{whole_of}
 use Rattle.repo_feeding.specs.Unfed.{unfed}
@@ -120,8 +120,7 @@ module _ (who : Asker) (whole : Option (List Fed)) (gave : Bool) where
   -- ---- where it stands
 
   obedient_so : (next : Option Request) (outcome : Option Outcome) (fs : Trace) → IsFedLate fs → AreFedRight whole gave fs → ¬ ((next ≡ None) × (outcome ≡ None))
-      → IsObedientWith (piece_task who) PieceAllows (λ before e. ⊥) PieceConcludes WantsInput next outcome fs
-      → IsObedientWith (piece_task who) (FedAllows who whole) (λ before e. ⊥) (FedConcludes who whole) (λ before. ⊥) next outcome (unfed fs)
+      → IsObedientBy piece_rule who next outcome fs → IsObedientBy (fed_rule who whole) who next outcome (unfed fs)
   obedient_so next outcome fs late right full h = record {
     obeys = obeys_so fs right h.obeys;
     pending = λ request is. next_so fs request right h.obeys (h.pending request is);
@@ -133,12 +132,12 @@ module _ (who : Asker) (whole : Option (List Fed)) (gave : Bool) where
   }
 
 pub fed_obeys : (f : Feeder) (es : Trace) → FitsFed f es
-    → IsObedientWith (piece_task (job_of f).who) (FedAllows (job_of f).who (job_of f).whole) (λ before e. ⊥) (FedConcludes (job_of f).who (job_of f).whole) (λ before. ⊥) (next_in f.backup.session) (ended_in f.backup.session) es
+    → IsObedientBy (fed_rule (job_of f).who (job_of f).whole) (job_of f).who (next_in f.backup.session) (ended_in f.backup.session) es
 fed_obeys f es fits =
     let b = f.backup in
     let who = who_in b.session in
     let whole = whole_of f.told in
-    let P : Trace → Type 0 = λ fs. IsObedientWith (piece_task who) (FedAllows who whole) (λ before e. ⊥) (FedConcludes who whole) (λ before. ⊥) (next_in b.session) (ended_in b.session) fs in
+    let P : Trace → Type 0 = λ fs. IsObedientBy (fed_rule who whole) who (next_in b.session) (ended_in b.session) fs in
     let u = fits.upto.fed in
     subst P u.same (obedient_so who whole f.gave (next_in b.session) (ended_in b.session) fits.fs (right_at whole f.gave fits.fs u.right).late u.right fits.full (pieces_obey b fits.fs u.at))
 

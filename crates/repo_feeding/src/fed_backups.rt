@@ -189,28 +189,19 @@ impl<S: Source + Drop> FedBackup<S> {
 }
 
 impl<S: Source + Drop> Client for FedBackup<S> {
-    ghost use Rattle.std.specs.Prelude.{[], ⊤};
+    ghost use Rattle.std.specs.Prelude.{[]};
     ghost use Rattle.repo_session.specs.Sessions.{next_in, ended_in, token_in};
-    ghost use Rattle.repo_backup.specs.PieceStates.{piece_task};
     ghost use Rattle.repo_feeding.specs.FedObedience.{fed_obeys, fed_tells};
-    ghost use Rattle.repo_feeding.specs.FedRules.{FedAllows, FedConcludes};
+    ghost use Rattle.repo_feeding.specs.FedRules.{fed_rule};
     ghost use Rattle.repo_feeding.specs.FedStates.{FedJob, feeder, job_of, FitsFed};
 
     ghost Job = { FedJob };
 
     ghost job = { λ b. job_of (feeder b.backup (S.told b.source) b.room (S.failed b.source) b.given_up) };
 
-    ghost task = { λ j. piece_task j.who };
+    ghost who = { λ j. j.who };
 
-    ghost calm = { λ j. ⊤ };
-
-    ghost wanting = { λ j es. ⊥ };
-
-    ghost allows = { λ j. FedAllows j.who j.whole };
-
-    ghost gives = { λ j es e. ⊥ };
-
-    ghost concludes = { λ j. FedConcludes j.who j.whole };
+    ghost rule = { λ j. fed_rule j.who j.whole };
 
     ghost fits = { λ b es. FitsFed (feeder b.backup (S.told b.source) b.room (S.failed b.source) b.given_up) es };
 

@@ -48,6 +48,7 @@ use Rattle.repo_session.specs.Received.{Received}
 use Rattle.repo_restore.specs.Laws.{BeginsSnapshot, AreFirstOf}
 use Rattle.repo_restore.proofs.Firsts.{first_is_of_all}
 use Rattle.repo_restore.proofs.Replied.{begun_of}
+use Rattle.repo_restore.proofs.Advancing.{only_reads}
 use Rattle.repo_restore.specs.Restoring.{Wish, restore_task, IsForBlob, IsRestored, RestoreAllows, RestoreGives}
 
 -- the rule under which a snapshot was put, and what is made by then
@@ -102,8 +103,8 @@ module _ (w : Wish) (entries : List Entry) (from mid : Store) (Made : List ℕ �
   spelled : (talk : Talk) (to : Store) → Obeys (restore_task w) (RestoreAllows w.snapshot) (RestoreGives w.snapshot) (trace_of talk) → Led mid talk to → (version : ℕ) (root : Name) → HasRoot (trace_of talk) w.snapshot version root
       → Spells version Makes root [] entries × Agree Makes (Received (trace_of talk))
   spelled talk to o h version root found =
-      let shares = shares_run (restore_task w) (RestoreAllows w.snapshot) (RestoreGives w.snapshot) (λ fs a x. x) mid talk to o h in
-      let same = same_run (restore_task w) (RestoreAllows w.snapshot) (RestoreGives w.snapshot) (λ fs a x. x) mid talk to o h in
+      let shares = shares_run (restore_task w) (RestoreAllows w.snapshot) (RestoreGives w.snapshot) (λ fs a x. only_reads w.snapshot fs a x) mid talk to o h in
+      let same = same_run (restore_task w) (RestoreAllows w.snapshot) (RestoreGives w.snapshot) (λ fs a x. only_reads w.snapshot fs a x) mid talk to o h in
       let got = sym (ap (λ (s : Objects). s Kind.Snapshot w.snapshot) same) ∙ shares.got Kind.Snapshot w.snapshot found.0 found.2.0 in
       let one : source.text ≡ found.0 = same_Some source.text found.0 (sym source.there ∙ got) in
       let snapshot : source.rule.snapshot ≡ found.1 = snapshot_texts_one found.0 source.rule.snapshot found.1 (subst (λ (x : List ℕ). IsSnapshotText x source.rule.snapshot) one source.rule.reads) found.3 in

@@ -10,13 +10,13 @@ ghost use Rattle.repo_session.specs.declared.emissions.Emission.{Emission};
 ghost use Rattle.repo_session.specs.declared.outcomes.Outcome.{Outcome};
 ghost use Rattle.repo_backup.specs.Backups.{FitsBackup, handed_to};
 ghost use Rattle.repo_restore.specs.ListStates.{FitsList};
-ghost use Rattle.repo_restore.specs.RestoreObedience.{wish_of};
+ghost use Rattle.repo_restore.specs.RestoreStates.{wish_of};
 ghost use Rattle.repo_restore.specs.RestoreStates.{FitsRestore};
 ghost use Rattle.repo_laws.specs.Alone.{NeverFailed, BacksUp, RestoresAlone, ListsAlone, GivesBack, GivesNothing, WentGiving};
 
 use repo_backup::Backup;
 use repo_restore::{Restore, SnapshotList};
-use repo_session::{Client, Emission, Outcome, StepError, Who, lockstep};
+use repo_session::{Client, Emission, Outcome, Session, StepError, Who, lockstep};
 use repo_store::Shelf;
 use std::alloc::Global;
 
@@ -27,14 +27,14 @@ use std::alloc::Global;
 /// at the end, and the backup is stored, or a directory or a file is too large, or the store had no memory.
 pub fn back_up_alone<S: Shelf>(
     alloc: Global,
-    backup: &mut Backup,
+    backup: &mut Session<Backup>,
     shelf: &mut S,
 ) -> Result<u64, StepError>
     requires honest { S.honest shelf.old }
     requires fresh { FitsBackup backup.old [] }
-    ensures went { IfOk result (λ n. (talk : Talk) × Went (who_in backup.old.session).instance FitsBackup backup.old talk backup.new × (n ≡ length talk)) }
-    ensures comes { IfOk result (λ _. IsFit (S.store shelf.old) → AreVersionsUpto (upto (who_in backup.old.session).versions) (S.store shelf.old) → NeverFailed (S.failed shelf.old) (S.failed shelf.new)
-        → BacksUp (handed_to backup.old.session.job) (S.store shelf.old) (S.store shelf.new) (ended_in backup.new.session)) }
+    ensures went { IfOk result (λ n. (talk : Talk) × Went (who_in backup.old).instance FitsBackup backup.old talk backup.new × (n ≡ length talk)) }
+    ensures comes { IfOk result (λ _. IsFit (S.store shelf.old) → AreVersionsUpto (upto (who_in backup.old).versions) (S.store shelf.old) → NeverFailed (S.failed shelf.old) (S.failed shelf.new)
+        → BacksUp (handed_to backup.old.job) (S.store shelf.old) (S.store shelf.new) (ended_in backup.new)) }
 {
     let mut nothing = Vec::new(alloc);
     lockstep(alloc, backup, shelf, &mut nothing)
@@ -48,15 +48,15 @@ pub fn back_up_alone<S: Shelf>(
 /// the store had no memory.
 pub fn restore_alone<S: Shelf>(
     alloc: Global,
-    restore: &mut Restore,
+    restore: &mut Session<Restore>,
     shelf: &mut S,
     out: &mut Vec<Emission>,
 ) -> Result<u64, StepError>
     requires honest { S.honest shelf.old }
     requires fresh { FitsRestore restore.old [] }
-    ensures went { IfOk result (λ n. WentGiving (who_in restore.old.session).instance FitsRestore restore.old n restore.new out.old.items out.new.items) }
+    ensures went { IfOk result (λ n. WentGiving (who_in restore.old).instance FitsRestore restore.old n restore.new out.old.items out.new.items) }
     ensures comes { IfOk result (λ _. IsFit (S.store shelf.old) → AreVersionsUpto (upto (wish_of restore.old).who.versions) (S.store shelf.old) → HasAsked (S.store shelf.old) (Some (wish_of restore.old).snapshot)
-        → NeverFailed (S.failed shelf.old) (S.failed shelf.new) → RestoresAlone (S.store shelf.old) (S.store shelf.new) (ended_in restore.new.session)) }
+        → NeverFailed (S.failed shelf.old) (S.failed shelf.new) → RestoresAlone (S.store shelf.old) (S.store shelf.new) (ended_in restore.new)) }
 {
     lockstep(alloc, restore, shelf, out)
 }
@@ -67,23 +67,23 @@ pub fn restore_alone<S: Shelf>(
 /// the objects stay, and the snapshots are listed, or the store had no memory.
 pub fn list_alone<S: Shelf>(
     alloc: Global,
-    list: &mut SnapshotList,
+    list: &mut Session<SnapshotList>,
     shelf: &mut S,
 ) -> Result<u64, StepError>
     requires honest { S.honest shelf.old }
     requires fresh { FitsList list.old [] }
-    ensures went { IfOk result (λ n. (talk : Talk) × Went (who_in list.old.session).instance FitsList list.old talk list.new × (n ≡ length talk)) }
-    ensures comes { IfOk result (λ _. IsFit (S.store shelf.old) → AreVersionsUpto (upto (who_in list.old.session).versions) (S.store shelf.old) → NeverFailed (S.failed shelf.old) (S.failed shelf.new)
-        → ListsAlone (S.store shelf.old) (S.store shelf.new) (ended_in list.new.session)) }
+    ensures went { IfOk result (λ n. (talk : Talk) × Went (who_in list.old).instance FitsList list.old talk list.new × (n ≡ length talk)) }
+    ensures comes { IfOk result (λ _. IsFit (S.store shelf.old) → AreVersionsUpto (upto (who_in list.old).versions) (S.store shelf.old) → NeverFailed (S.failed shelf.old) (S.failed shelf.new)
+        → ListsAlone (S.store shelf.old) (S.store shelf.new) (ended_in list.new)) }
 {
     let mut nothing = Vec::new(alloc);
     lockstep(alloc, list, shelf, &mut nothing)
 }
 
 /// Whether a restore is complete.
-fn is_complete(restore: &Restore) -> bool
-    ensures yes { IsTrue result → (count : ℕ) × (ended_in restore.now.session ≡ Some (Outcome.Complete count)) }
-    ensures no { IsFalse result → (count : ℕ) → ended_in restore.now.session ≢ Some (Outcome.Complete count) }
+fn is_complete(restore: &Session<Restore>) -> bool
+    ensures yes { IsTrue result → (count : ℕ) × (ended_in restore.now ≡ Some (Outcome.Complete count)) }
+    ensures no { IsFalse result → (count : ℕ) → ended_in restore.now ≢ Some (Outcome.Complete count) }
 {
     match restore.outcome() {
         Some(Outcome::Complete { .. }) => true,
@@ -98,16 +98,16 @@ fn is_complete(restore: &Restore) -> bool
 /// have one name.
 pub fn back_up_and_restore<S: Shelf>(
     alloc: Global,
-    backup: &mut Backup,
+    backup: &mut Session<Backup>,
     who: Who,
     shelf: &mut S,
 ) -> Result<Option<Vec<Emission>>, StepError>
     requires honest { S.honest shelf.old }
     requires fresh { FitsBackup backup.old [] }
-    ensures went { IfOk result (λ _. (talk : Talk) × Went (who_in backup.old.session).instance FitsBackup backup.old talk backup.new) }
-    ensures none { IfOk result (λ given. given ≡ None → GivesNothing who (ended_in backup.new.session) (S.store shelf.new)) }
+    ensures went { IfOk result (λ _. (talk : Talk) × Went (who_in backup.old).instance FitsBackup backup.old talk backup.new) }
+    ensures none { IfOk result (λ given. given ≡ None → GivesNothing who (ended_in backup.new) (S.store shelf.new)) }
     ensures back { IfOk result (λ given. IsSound (S.store shelf.old).objects → (emissions : List Emission) → option_map (λ v. v.items) given ≡ Some emissions
-        → GivesBack (handed_to backup.old.session.job) (S.store shelf.old) emissions) }
+        → GivesBack (handed_to backup.old.job) (S.store shelf.old) emissions) }
 {
     let mut out = Vec::new(alloc);
     lockstep(alloc, backup, shelf, &mut out)?;

@@ -6,13 +6,13 @@ use Rattle.repo_session.specs.declared.outcomes.Outcome.{Outcome}
 use Rattle.repo_session.specs.Sessions.{next_in, ended_in, token_in}
 use Rattle.repo_session.specs.Feeds.{Fed}
 use Rattle.repo_session.specs.Traces.{Trace}
-use Rattle.repo_dial.specs.Bringing.{BroughtInto, IsObedientBy}
+use Rattle.repo_dial.specs.Bringing.{BroughtInto}
+use Rattle.repo_session.specs.Clients.{IsObedientBy}
 use Rattle.repo_dial.specs.Dialing.{Connections, Driven, DrivesAgain, driven_by}
 use Rattle.repo_dial.specs.declared.again.TryError.{TryError}
-use Rattle.repo_dial.proofs.BringLemmas.{brought_into, obeyed_over, obeyed_none}
-use Rattle.repo_backup.specs.PieceStates.{piece_task}
+use Rattle.repo_dial.proofs.BringLemmas.{Stands, brought_into, obeyed_over, obeyed_none}
 use Rattle.repo_check.specs.Checking.{check_rule}
-use Rattle.repo_feeding.specs.FedObedience.{fed_obeys}
+use Rattle.repo_feeding.specs.FedObedience.{fed_obeys, fed_tells}
 use Rattle.repo_feeding.specs.FedRules.{fed_rule}
 use Rattle.repo_feeding.specs.FedStates.{FedJob, Feeder, FitsFed, job_of}
 use Rattle.repo_prune.specs.declared.choices.Choice.{Choice}
@@ -32,17 +32,17 @@ backup_job caller host whole = record { who = backup_asker caller host; whole = 
 
 -- (a backup by what it stands for)
 abbrev pub backup_driven : {C : Type 0} → (C → Feeder) → Driven C FedJob
-backup_driven {C} feeder_of = driven_by (λ (j : FedJob). piece_task j.who) (λ (c : C). job_of (feeder_of c)) (λ (c : C) es. FitsFed (feeder_of c) es)
+backup_driven {C} feeder_of = driven_by (λ (j : FedJob). j.who) (λ (c : C). job_of (feeder_of c)) (λ (c : C) es. FitsFed (feeder_of c) es)
     (λ (c : C). next_in (feeder_of c).backup.session) (λ (c : C). token_in (feeder_of c).backup.session)
 
 -- a backup
 module _ {C F : Type 0} (feeder_of : C → Feeder) (Called : F → Emission → Bool → F → Type 0) (caller : Caller) (host : List ℕ) (whole : Option (List Fed)) (old : C) (fits : FitsFed (feeder_of old) [])
     (job : job_of (feeder_of old) ≡ backup_job caller host whole) where
   obeys : (c : C) → job_of (feeder_of c) ≡ job_of (feeder_of old) → (es : Trace) → FitsFed (feeder_of c) es
-      → IsObedientBy (fed_rule (backup_asker caller host) whole) (backup_asker caller host) (next_in (feeder_of c).backup.session) (ended_in (feeder_of c).backup.session) es
+      → Stands (fed_rule (backup_asker caller host) whole) (backup_asker caller host) (next_in (feeder_of c).backup.session) (ended_in (feeder_of c).backup.session) (token_in (feeder_of c).backup.session) es
   obeys c same es h =
       let P : FedJob → Type 0 = λ j. IsObedientBy (fed_rule j.who j.whole) j.who (next_in (feeder_of c).backup.session) (ended_in (feeder_of c).backup.session) es in
-      subst P (same ∙ job) (fed_obeys (feeder_of c) es h)
+      (subst P (same ∙ job) (fed_obeys (feeder_of c) es h), fed_tells (feeder_of c) es h)
 
   pub stored : (retry n : ℕ) (new : C) (from to : F) (coming after : Connections) (name : Name) (blobs bytes : ℕ) → DrivesAgain (backup_driven feeder_of) Called retry old from (Ok n) new to coming after
       → ended_in (feeder_of new).backup.session ≡ Some (Outcome.Stored name blobs bytes) → Stores caller host whole name blobs bytes retry coming after

@@ -10,7 +10,7 @@ use crate::callers::{Caller, HOST};
 use crate::status::{Status, failed, flawed};
 use crate::telling::{clean_line, fault_lines, show_made, unfinished};
 use repo_check::Check;
-use repo_dial::Dial;
+use repo_dial::{Dial, bring};
 use repo_session::{DriveError, Outcome};
 use std::alloc::Global;
 use std::io::Write;
@@ -61,7 +61,7 @@ pub fn check_command<D: Dial, O: Write, F: Write>(
         return failed(faults, &DriveError::Memory);
     };
     let check = Check::new(alloc, who);
-    match check.bring(alloc, dial, retry) {
+    match bring(alloc, check, dial, retry) {
         Ok(outcome) => show_checked(alloc, &outcome, output, faults),
         Err(error) => failed(faults, &error),
     }

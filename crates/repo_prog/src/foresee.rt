@@ -9,7 +9,7 @@ ghost use Rattle.repo_prog.specs.Jobs.{ListObeyed};
 use crate::callers::{Caller, HOST};
 use crate::status::{Status, failed};
 use crate::telling::{foreseen_lines, show_made, unfinished};
-use repo_dial::Dial;
+use repo_dial::{Dial, bring};
 use repo_prune::{Choice, would_forget};
 use repo_restore::SnapshotList;
 use repo_session::{DriveError, Outcome};
@@ -60,7 +60,7 @@ pub fn foresee_command<D: Dial, O: Write, F: Write>(
         return failed(faults, &DriveError::Memory);
     };
     let list = SnapshotList::new(alloc, who);
-    match list.bring(alloc, dial, retry) {
+    match bring(alloc, list, dial, retry) {
         Ok(outcome) => show_foreseen(alloc, choice, &outcome, output, faults),
         Err(error) => failed(faults, &error),
     }

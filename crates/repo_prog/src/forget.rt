@@ -9,7 +9,7 @@ ghost use Rattle.repo_prog.specs.Jobs.{ForgetObeyed};
 use crate::callers::{Caller, HOST};
 use crate::status::{Status, failed};
 use crate::telling::{forgotten_lines, show_made, unfinished};
-use repo_dial::Dial;
+use repo_dial::{Dial, bring};
 use repo_prune::{Choice, Forget, ForgetError};
 use repo_session::{DriveError, Outcome};
 use std::alloc::Global;
@@ -55,7 +55,7 @@ pub fn forget_command<D: Dial, O: Write, F: Write>(
         Ok(forget) => forget,
         Err(ForgetError::NoPolicy) => return failed(faults, &"no policy"),
     };
-    match forget.bring(alloc, dial, retry) {
+    match bring(alloc, forget, dial, retry) {
         Ok(outcome) => show_forgotten(alloc, &outcome, output, faults),
         Err(error) => failed(faults, &error),
     }

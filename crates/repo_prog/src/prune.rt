@@ -8,7 +8,7 @@ ghost use Rattle.repo_prog.specs.Jobs.{PruneObeyed};
 use crate::callers::{Caller, HOST};
 use crate::status::{Status, failed};
 use crate::telling::{pruned_line, show_made, unfinished};
-use repo_dial::Dial;
+use repo_dial::{Dial, bring};
 use repo_prune::Prune;
 use repo_session::{DriveError, Outcome};
 use std::alloc::Global;
@@ -49,7 +49,7 @@ pub fn prune_command<D: Dial, O: Write, F: Write>(
         return failed(faults, &DriveError::Memory);
     };
     let prune = Prune::new(alloc, who);
-    match prune.bring(alloc, dial, retry) {
+    match bring(alloc, prune, dial, retry) {
         Ok(outcome) => show_pruned(alloc, &outcome, output, faults),
         Err(error) => failed(faults, &error),
     }

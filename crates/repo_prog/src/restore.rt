@@ -9,7 +9,7 @@ ghost use Rattle.repo_prog.specs.Shown.{ShowsRestored, TellsRestored};
 use crate::callers::{Caller, HOST};
 use crate::status::{Status, failed};
 use crate::telling::{complete_line, show_made, unfinished};
-use repo_dial::{Dial, TryError};
+use repo_dial::{Dial, TryError, bring_into};
 use repo_files::{Restorer, RestorerError};
 use repo_name::Name;
 use repo_restore::Restore;
@@ -54,7 +54,7 @@ fn restored<D: Dial, S: FnMut(&Emission) -> bool>(
 {
     let who = caller.who(alloc, HOST)?;
     let restore = Restore::new(alloc, who, name);
-    restore.bring(alloc, sink, dial, retry)
+    bring_into(alloc, restore, sink, dial, retry)
 }
 
 /// The same of a sink that is handed over.

@@ -8,7 +8,7 @@ ghost use Rattle.repo_prog.specs.Shown.{ShowsListed, TellsListed};
 use crate::callers::{Caller, HOST};
 use crate::status::{Status, failed};
 use crate::telling::{show_made, snapshot_lines, unfinished};
-use repo_dial::Dial;
+use repo_dial::{Dial, bring};
 use repo_restore::SnapshotList;
 use repo_session::{DriveError, Outcome};
 use std::alloc::Global;
@@ -48,7 +48,7 @@ pub fn snapshots_command<D: Dial, O: Write, F: Write>(
         return failed(faults, &DriveError::Memory);
     };
     let list = SnapshotList::new(alloc, who);
-    match list.bring(alloc, dial, retry) {
+    match bring(alloc, list, dial, retry) {
         Ok(outcome) => show_list(alloc, &outcome, output, faults),
         Err(error) => failed(faults, &error),
     }

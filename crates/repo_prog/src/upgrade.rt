@@ -8,7 +8,7 @@ ghost use Rattle.repo_prog.specs.Jobs.{UpgradeObeyed};
 use crate::callers::{Caller, HOST};
 use crate::status::{Status, failed};
 use crate::telling::{show_made, unfinished, upgraded_line};
-use repo_dial::Dial;
+use repo_dial::{Dial, bring};
 use repo_prune::Upgrade;
 use repo_session::{DriveError, Outcome};
 use std::alloc::Global;
@@ -48,7 +48,7 @@ pub fn upgrade_command<D: Dial, O: Write, F: Write>(
         return failed(faults, &DriveError::Memory);
     };
     let upgrade = Upgrade::new(alloc, who);
-    match upgrade.bring(alloc, dial, retry) {
+    match bring(alloc, upgrade, dial, retry) {
         Ok(outcome) => show_upgraded(alloc, &outcome, output, faults),
         Err(error) => failed(faults, &error),
     }

@@ -24,14 +24,14 @@ use Rattle.repo_session.specs.Traces.{Exchange, Trace, WasAsked, Lists, page_nam
 use Rattle.repo_session.proofs.Concluding.{EndsEither, calm_of, either, ends_either, exchanged_before, known, puts_none}
 use Rattle.repo_session.proofs.Growing.{Led, led, answered, no_done}
 use Rattle.repo_session.proofs.Spoken.{held_agree, was_asked}
-use Rattle.repo_writing.specs.Writing.{Listing, IsDone}
+use Rattle.repo_writing.specs.Writing.{Listing, IsDone, ListsPack}
 use Rattle.repo_writing.proofs.Keeping.{fact_of_listed}
 use Rattle.repo_writing.proofs.Replacing.{put_says}
 use Rattle.repo_prune.specs.declared.choices.Choice.{Choice}
 use Rattle.repo_prune.specs.Forgetting.{forget_task, ForgetAllows, ForgetGives, ForgetConcludes, IsForgotten}
 use Rattle.repo_prune.specs.Laws.{ForgetsNothing, ForgetOfAppendOnly}
 use Rattle.repo_prune.specs.PruneLaws.{IsPrunedOrMemory, PrunesNoPack, PruneOfAppendOnly}
-use Rattle.repo_prune.specs.Pruning.{prune_task, ListsPack, MayDeletePack, IsPruned, PruneAllows, PruneGives, PruneConcludes}
+use Rattle.repo_prune.specs.Pruning.{prune_task, MayDeletePack, IsPruned, PruneAllows, PruneGives, PruneConcludes}
 use Rattle.repo_prune.proofs.ForgetRuns as forgets
 use Rattle.repo_prune.proofs.PruneEnds.{own_before, prune_reads_first}
 use Rattle.repo_prune.proofs.PruneRuns as prunes

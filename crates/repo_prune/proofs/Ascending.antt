@@ -1,11 +1,16 @@
 -- Lists that ascend.
-use Rattle.std.proofs.Common.{◌≡◌, ◌++◌, ◌∷◌, [], List, subst, inl, inr, Contains}
+use Rattle.std.proofs.Common.{◌≡◌, ◌++◌, ◌∷◌, ◌∙◌, [], ℕ, zero, suc, List, Some, None, take, slice_get, sym, ap, subst, inl, inr, Contains}
 use Rattle.std.specs.List.{AllByRecursion}
 use Rattle.std.specs.List.Sorted.{IsStrictlySortedBy}
 use Rattle.std.specs.declared.cmp.Ordering.{Ordering}
-use Rattle.std.specs.declared.cmp.Ordering.TheVariants.{Less}
+use Rattle.std.specs.declared.cmp.Ordering.TheVariants.{Less, Equal}
+use Rattle.std.proofs.lemmas.Cmp.{tied_itself}
+use Rattle.std.proofs.lemmas.Map.Keys.{sorted_head, sorted_tail}
 use Rattle.std.proofs.lemmas.List.Elements.{Contains-append_left, Contains-append_right, Contains-append_cases}
-use Rattle.repo_name.proofs.Containing.{none_contained, first_contained, later_contained, contained_or}
+use Rattle.repo_name.proofs.Containing.{none_contained, first_contained, later_contained, contained_or, contains_got}
+use Rattle.repo_name.specs.Naming.{name_cmp}
+use Rattle.repo_name.specs.declared.names.Name.{Name}
+use Rattle.repo_index.specs.Order.{names_total}
 
 -- what holds of each element holds of all
 all_each : {X : Type 0} (P : X → Type 0) (xs : List X) → ((x : X) → Contains xs x → P x) → AllByRecursion P xs
@@ -47,4 +52,16 @@ less_across c [] ys h x y left right = absurd (none_contained x left)
 less_across {K} c (z ∷ xs) ys h x y left right = elim (contained_or z xs x left) [
   | inl same ↦ subst (λ (w : K). c w y ≡ Less) same (each_all (λ (w : K). c z w ≡ Less) (xs ++ ys) y h.0 (Contains-append_right xs ys y right))
   | inr more ↦ less_across c xs ys h.1 x y more right
+]
+
+-- what stands at a place of a sorted list doesn't stand before it
+pub unrepeated : (names : List Name) (i : ℕ) (n : Name) → IsStrictlySortedBy name_cmp names → slice_get names i ≡ Some n → ¬ Contains (take i names) n
+unrepeated [] i n sorted at h = absurd (let none : None ≡ Some n = at in cc)
+unrepeated (m ∷ names) zero n sorted at h = none_contained n h
+unrepeated (m ∷ names) (suc i) n sorted at h = elim (contained_or m (take i names) n h) [
+  | inl same ↦
+      let less : name_cmp m n ≡ Less = each_all (λ (y : Name). name_cmp m y ≡ Less) names n (sorted_head name_cmp m names sorted) (contains_got names i n at) in
+      let equal : name_cmp m n ≡ Equal = ap (name_cmp m) (sym same) ∙ tied_itself names_total m in
+      let bad : Less ≡ Equal = sym less ∙ equal in cc bad
+  | inr more ↦ unrepeated names i n (sorted_tail name_cmp m names sorted) at more
 ]

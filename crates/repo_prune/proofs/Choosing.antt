@@ -1,9 +1,9 @@
 -- What a forget knows while it reads, and while it deletes.
-use Rattle.std.proofs.Common.{◌≡◌, ◌<◌, ◌+◌, ◌++◌, ◌∷◌, [], ℕ, true, List, Option, Some, None, length, map, take, slice_get, refl, sym, subst, inl, inr, Contains}
+use Rattle.std.proofs.Common.{◌≡◌, ◌≢◌, ◌<◌, ◌+◌, ◌++◌, ◌∷◌, ◌∙◌, [], ℕ, true, List, Option, Some, None, length, map, take, slice_get, refl, sym, ap, subst, inl, inr, Contains}
 use Rattle.std.specs.List.Sorted.{IsStrictlySortedBy}
 use Rattle.std.specs.List.{AllByRecursion}
 use Rattle.std.specs.declared.cmp.Ordering.TheVariants.{Less}
-use Rattle.std.proofs.lemmas.Option.{slice_get_within}
+use Rattle.std.proofs.lemmas.Option.{slice_get_within, none-some}
 use Rattle.repo_name.specs.Naming.{name_cmp, Before}
 use Rattle.repo_name.specs.declared.kinds.Kind.{Kind}
 use Rattle.repo_name.specs.declared.names.Name.{Name}
@@ -12,45 +12,76 @@ use Rattle.repo_index.specs.Order.{names_total}
 use Rattle.repo_store.specs.Pages.{Has, NamesAscend}
 use Rattle.repo_wire.specs.declared.messages.Ask.{Ask}
 use Rattle.repo_wire.specs.declared.messages.Say.{Say}
-use Rattle.repo_session.specs.Askers.{Asker}
+use Rattle.repo_session.specs.declared.jobs.Step.{Step}
+use Rattle.repo_session.specs.Askers.{Asker, Holding}
 use Rattle.repo_session.specs.Deletions.{DeleteDone, NoneDeleted}
-use Rattle.repo_session.specs.Jobs.{MayAsk}
+use Rattle.repo_session.specs.Jobs.{MayAsk, StepsOn}
 use Rattle.repo_session.specs.Listings.{IsSnapshotListing, KnowsSnapshots}
-use Rattle.repo_session.specs.Order.{IsReading}
+use Rattle.repo_session.specs.Order.{IsWorking, ReadsKind}
 use Rattle.repo_session.specs.Readings.{IsAskDue, KnowsRoll}
 use Rattle.repo_session.specs.declared.rolls.Roll.{Roll}
 use Rattle.repo_session.specs.Traces.{Each, Exchange, Trace, silent, names_in, IsListed}
-use Rattle.repo_name.proofs.Containing.{none_contained, first_contained, later_contained, contained_or}
+use Rattle.repo_name.proofs.Containing.{none_contained, first_contained, later_contained, contained_or, contains_got}
 use Rattle.repo_session.proofs.Deleting.{DeletesNone, ListsNone, delete_lists_none, done_stays, listed_stays, listing_stays, names_stay, none_deleted_on}
+use Rattle.repo_session.proofs.KindReads.{due_snapshot}
 use Rattle.repo_session.specs.Rolls.{IsRolled}
 use Rattle.repo_session.proofs.Receiving.{each_more, is_listed}
+use Rattle.repo_prune.proofs.Ascending.{unrepeated}
 use Rattle.repo_prune.proofs.Repacking.{one_taken}
 use Rattle.repo_prune.specs.declared.choices.Choice.{Choice}
-use Rattle.repo_prune.specs.declared.forgets.ForgetJob.{ForgetJob}
-use Rattle.repo_prune.specs.Forgetting.{IsDecided, AreChosen, AreChosenOf, ForgetAllows, forget_rule, forget_task}
-use Rattle.repo_prune.specs.ForgetStates.{Deletes, KnowsForget, KnowsReading}
+use Rattle.repo_prune.specs.declared.forgets.Forget.{Forget}
+use Rattle.repo_prune.specs.Forgetting.{GoesByPolicy, IsDecided, AreChosen, AreChosenOf, ForgetAllows, forget_rule, forget_task}
+use Rattle.repo_prune.specs.ForgetStates.{Deletes, KnowsForget, KnowsReading, TakesPageByNames}
 use Rattle.repo_prune.specs.Keeping.{Row}
 
 -- ---- reading
 
--- a forget may read while nothing was deleted
-allows_reading : (choice : Choice) (es : Trace) (ask : Ask) → IsReading ask → NoneDeleted es → ForgetAllows choice es ask
-allows_reading choice es (Ask.List k after) h none = (h, none)
-allows_reading choice es (Ask.Get k n) h none = (h, none)
-allows_reading choice es (Ask.Range pack offset len) h none = (h, none)
-allows_reading choice es (Ask.Delete t k n) h none = absurd (h)
-allows_reading choice es (Ask.Upgrade t) h none = absurd (h)
-allows_reading choice es (Ask.Put t k n x) h none = absurd (h)
-allows_reading choice es Ask.Ticket h none = absurd (h)
-allows_reading choice es (Ask.Lock row) h none = absurd (h)
-allows_reading choice es (Ask.Refresh t time) h none = absurd (h)
-allows_reading choice es (Ask.Unlock t) h none = absurd (h)
-allows_reading choice es Ask.Locks h none = absurd (h)
-allows_reading choice es Ask.Config h none = absurd (h)
+-- by a policy a forget may read while nothing was deleted
+allows_reading : (choice : Choice) (es : Trace) (ask : Ask) → ReadsKind Kind.Snapshot es ask → GoesByPolicy choice → NoneDeleted es → ForgetAllows choice es ask
+allows_reading choice es (Ask.List k after) h policy none = (h, none)
+allows_reading choice es (Ask.Get k n) h policy none = (h, none, policy)
+allows_reading choice es (Ask.Range pack offset len) h policy none = absurd h
+allows_reading choice es (Ask.Delete t k n) h policy none = absurd h
+allows_reading choice es (Ask.Upgrade t) h policy none = absurd h
+allows_reading choice es (Ask.Put t k n x) h policy none = absurd h
+allows_reading choice es Ask.Ticket h policy none = absurd h
+allows_reading choice es (Ask.Lock row) h policy none = absurd h
+allows_reading choice es (Ask.Refresh t time) h policy none = absurd h
+allows_reading choice es (Ask.Unlock t) h policy none = absurd h
+allows_reading choice es Ask.Locks h policy none = absurd h
+allows_reading choice es Ask.Config h policy none = absurd h
 
 -- what is due of the reading may be asked for
-pub may_read : (f : ForgetJob) (who : Asker) (es : Trace) (ask : Ask) → NoneDeleted es → IsAskDue (forget_task who) (KnowsSnapshots f.snapshots) es ask → MayAsk (forget_rule f.choice) who (KnowsForget f) es ask
-may_read f who es ask none due = record { work = due.work; may = due.may; allowed = allows_reading f.choice es ask due.reads none; knows = inl (none, due.knows) }
+pub may_read : (f : Forget) (who : Asker) (es : Trace) (ask : Ask) → GoesByPolicy f.choice → NoneDeleted es → IsAskDue (forget_task who) (KnowsSnapshots f.snapshots) es ask → MayAsk (forget_rule f.choice) who (KnowsForget f) es ask
+may_read f who es ask policy none due = record {
+  work = due.work;
+  may = due.may;
+  allowed = allows_reading f.choice es ask (due_snapshot (forget_task who) f.snapshots es ask due) policy none;
+  knows = inl (none, due.knows);
+}
+
+-- and a page, whichever are chosen
+pub may_page : (f : Forget) (who : Asker) (es : Trace) (ask : Ask) (after : Option Name) → ask ≡ Ask.List Kind.Snapshot after → NoneDeleted es → IsAskDue (forget_task who) (KnowsSnapshots f.snapshots) es ask
+    → MayAsk (forget_rule f.choice) who (KnowsForget f) es ask
+may_page f who es ask after is none due = record { work = due.work; may = due.may; allowed = subst (ForgetAllows f.choice es) (sym is) (refl, none); knows = inl (none, due.knows) }
+
+-- where no name is known, a page is asked for
+pub asks_page : (roll : Roll) (ask : Ask) (es : Trace) → roll.kind ≡ Kind.Snapshot → roll.names.items ≡ [] → KnowsRoll roll ask es → (after : Option Name) × (ask ≡ Ask.List Kind.Snapshot after)
+asks_page roll (Ask.List k after) es of_kind none h = (after, ap (λ j. Ask.List j after) (h.0 ∙ of_kind))
+asks_page roll (Ask.Get k n) es of_kind none h =
+    let empty : List Name = [] in
+    let at : slice_get empty roll.read ≡ Some n = subst (λ names. slice_get names roll.read ≡ Some n) none h.1 in
+    absurd (none-some n at)
+asks_page roll (Ask.Range pack offset len) es of_kind none h = absurd h
+asks_page roll (Ask.Delete t k n) es of_kind none h = absurd h
+asks_page roll (Ask.Upgrade t) es of_kind none h = absurd h
+asks_page roll (Ask.Put t k n x) es of_kind none h = absurd h
+asks_page roll Ask.Ticket es of_kind none h = absurd h
+asks_page roll (Ask.Lock row) es of_kind none h = absurd h
+asks_page roll (Ask.Refresh t time) es of_kind none h = absurd h
+asks_page roll (Ask.Unlock t) es of_kind none h = absurd h
+asks_page roll Ask.Locks es of_kind none h = absurd h
+asks_page roll Ask.Config es of_kind none h = absurd h
 
 -- what a roll asks for deletes nothing
 roll_deletes_none : (roll : Roll) (ask : Ask) (es : Trace) → KnowsRoll roll ask es → DeletesNone ask
@@ -152,11 +183,56 @@ one_deleted choice names i j token n ask say es asked said at more h =
     let P : Name → Type 0 = λ m. DeleteDone (e ∷ es) Kind.Snapshot m in
     let before : Each P (take i names) = each_more (λ m. DeleteDone es Kind.Snapshot m) P (take i names) (λ m d. done_stays e es Kind.Snapshot m d) h.gone in
     let now : Each P (take i names ++ n ∷ []) = each_end P (take i names) n before (token, inl (refl, refl)) in
-    let d : Deletes choice names (i + 1) (e ∷ es) = record { chosen = chosen_stays choice e es names (delete_lists_none Kind.Snapshot token Kind.Snapshot n Say.Done []) h.chosen; gone = subst (Each P) (sym (one_taken names i n at)) now } in
+    let d : Deletes choice names (i + 1) (e ∷ es) = record { chosen = chosen_stays choice e es names (delete_lists_none Kind.Snapshot token Kind.Snapshot n Say.Done []) h.chosen; gone = subst (Each P) (sym (one_taken names i n at)) now; deleted = ap (λ ns. ns ++ n ∷ []) h.deleted ∙ sym (one_taken names i n at) } in
     subst (λ a. Deletes choice names j (silent a say ∷ es)) (sym asked) (subst (λ z. Deletes choice names j (silent (Ask.Delete token Kind.Snapshot n) z ∷ es)) (sym said)
     (subst (λ m. Deletes choice names m (e ∷ es)) (sym (more (slice_get_within names i n at))) d))
 
--- where a page is pending, it reads
-pub listing_known : (f : ForgetJob) (k : Kind) (after : Option Name) (es : Trace) → KnowsForget f (Ask.List k after) es → KnowsReading f (Ask.List k after) es
-listing_known f k after es (inl reads) = reads
-listing_known f k after es (inr deletes) = absurd (cc)
+-- the next one may be deleted
+pub next_due : (f : Forget) (who : Asker) (token : Token) (n : Name) (es : Trace) → IsWorking (forget_task who) token es → slice_get f.chosen.items f.deleted ≡ Some n → Deletes f.choice f.chosen.items f.deleted es
+    → MayAsk (forget_rule f.choice) who (KnowsForget f) es (Ask.Delete token Kind.Snapshot n)
+next_due f who token n es w at d =
+    let is = (d.chosen.each n).0 (contains_got f.chosen.items f.deleted n at) in
+    record {
+      work = tt;
+      may = (w, refl);
+      allowed = (
+        refl,
+        record {
+          rows = d.chosen.rows;
+          decided = d.chosen.decided;
+          among = is.0;
+          chosen = is.1;
+          once = λ asked. unrepeated f.chosen.items f.deleted n d.chosen.ascend at (subst (λ ns. Contains ns n) d.deleted asked);
+        },
+      );
+      knows = inr (token, n, refl, at, d);
+    }
+
+-- ---- where no delete is pending
+
+abbrev pub IsNoDelete : Ask → Type 0
+IsNoDelete ask = (token : Token) (k : Kind) (n : Name) → ask ≢ Ask.Delete token k n
+
+-- it reads
+reading_known : (f : Forget) (ask : Ask) (es : Trace) → IsNoDelete ask → KnowsForget f ask es → KnowsReading f ask es
+reading_known f ask es other (inl reads) = reads
+reading_known f ask es other (inr deletes) = absurd (other deletes.0 Kind.Snapshot deletes.1 deletes.2)
+
+reading_asked : (f : Forget) (who : Asker) (ask : Ask) (es : Trace) → IsNoDelete ask → MayAsk (forget_rule f.choice) who (KnowsForget f) es ask → MayAsk (forget_rule f.choice) who (KnowsReading f) es ask
+reading_asked f who ask es other h = record { work = h.work; may = h.may; allowed = h.allowed; knows = reading_known f ask es other h.knows }
+
+-- by names it asks for pages alone
+pub steps_by_names : (old : Forget) (holding : Holding) (ask : Ask) (say : Say) (step : Step) (new : Forget) (names : List Name) → old.choice ≡ Choice.Names names → IsNoDelete ask → TakesPageByNames old holding say step new
+    → StepsOn (forget_rule old.choice) holding (KnowsForget old) (KnowsForget new) (silent ask say) step
+steps_by_names old holding (Ask.List k after) say step new names is other h = λ es w obeys asked. h k after names is es w obeys (reading_asked old holding.who (Ask.List k after) es other asked)
+steps_by_names old holding (Ask.Get k n) say step new names is other h = λ es w obeys asked. absurd (subst GoesByPolicy is asked.allowed.2)
+steps_by_names old holding (Ask.Delete t k n) say step new names is other h = absurd (other t k n refl)
+steps_by_names old holding (Ask.Range pack offset len) say step new names is other h = λ es w obeys asked. absurd asked.allowed.0
+steps_by_names old holding (Ask.Upgrade t) say step new names is other h = λ es w obeys asked. absurd asked.allowed.0
+steps_by_names old holding (Ask.Put t k n x) say step new names is other h = λ es w obeys asked. absurd asked.allowed.0
+steps_by_names old holding Ask.Ticket say step new names is other h = λ es w obeys asked. absurd asked.allowed.0
+steps_by_names old holding (Ask.Lock row) say step new names is other h = λ es w obeys asked. absurd asked.allowed.0
+steps_by_names old holding (Ask.Refresh t time) say step new names is other h = λ es w obeys asked. absurd asked.allowed.0
+steps_by_names old holding (Ask.Unlock t) say step new names is other h = λ es w obeys asked. absurd asked.allowed.0
+steps_by_names old holding Ask.Locks say step new names is other h = λ es w obeys asked. absurd asked.allowed.0
+steps_by_names old holding Ask.Config say step new names is other h = λ es w obeys asked. absurd asked.allowed.0

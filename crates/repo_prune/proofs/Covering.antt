@@ -21,11 +21,10 @@ use Rattle.repo_index.specs.declared.facts.Fact.{Fact}
 use Rattle.repo_index.specs.declared.facts.PackFacts.{PackFacts}
 use Rattle.repo_reach.specs.declared.used.Used.{Used}
 use Rattle.repo_name.proofs.Containing.{none_contained, first_contained, later_contained, contained_or, flat_contains, contains_flat, contains_map}
-use Rattle.repo_writing.specs.Blobs.{HasFact}
+use Rattle.repo_writing.specs.Blobs.{HasFact, AreFactsOnce}
 use Rattle.repo_prune.proofs.Ascending.{each_all}
 use Rattle.repo_prune.proofs.Planning.{least_one}
 use Rattle.repo_prune.specs.Plans.{IsUsedCopy, MayStay, IsPlanOf, Covers, planned_facts}
-use Rattle.repo_prune.specs.Pruning.{AreFactsOnce}
 use Rattle.repo_prune.specs.declared.plans.Plan.{Plan}
 
 -- ---- a least place, where there is one

@@ -1,5 +1,5 @@
 -- Blobs that no index put before gives.
-use Rattle.std.proofs.Common.{arith, ◌≡◌, ◌≤◌, ◌+◌, ◌++◌, ℕ, List, sym, ap, subst, ◌∙◌, Contains}
+use Rattle.std.proofs.Common.{arith, ◌≡◌, ◌+◌, ◌++◌, List, sym, ap, subst, ◌∙◌, Contains}
 use Rattle.std.proofs.lemmas.List.{map-append}
 use Rattle.repo_name.proofs.Containing.{map_contains, flat_contains, contains_flat}
 use Rattle.repo_name.specs.declared.kinds.BlobKind.{BlobKind}
@@ -14,11 +14,10 @@ use Rattle.repo_wire.specs.declared.messages.Say.{Say}
 use Rattle.repo_session.proofs.Spoken.{was_asked}
 use Rattle.repo_session.specs.Traces.{Object, Trace}
 use Rattle.repo_writing.proofs.PutLemmas.{each_contained, asked_put}
-use Rattle.repo_writing.specs.Blobs.{HasFact}
+use Rattle.repo_writing.specs.Blobs.{HasFact, AreFactsOnce}
 use Rattle.repo_writing.specs.Putting.{IsIndexed}
 use Rattle.repo_writing.specs.Writing.{AreListed, Listing, packs_of, IsDone}
 use Rattle.repo_prune.specs.Moving.{pair_of_fact}
-use Rattle.repo_prune.specs.Pruning.{AreFactsOnce}
 use Rattle.repo_prune.proofs.Pairs.{count, count_append, counted_once, has_counted, once_counted, pairs_of}
 
 -- what an index put before gives is among what those list

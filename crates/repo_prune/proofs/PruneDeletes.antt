@@ -1,10 +1,7 @@
 -- What is known while a prune deletes.
-use Rattle.std.proofs.Common.{arith, Bool, Vec, Global, ◌≡◌, ◌<◌, ◌≤◌, ◌+◌, ◌⊎◌, ◌↔◌, ◌++◌, ◌∷◌, [], ℕ, zero, suc, true, false, IsTrue, List, Some, None, length, map, take, slice_get, refl, sym, ap, subst, inl, inr, ◌∙◌, Contains, append-nil}
+use Rattle.std.proofs.Common.{arith, Bool, Vec, Global, ◌≡◌, ◌<◌, ◌≤◌, ◌+◌, ◌⊎◌, ◌↔◌, ◌++◌, ◌∷◌, [], ℕ, true, false, IsTrue, List, Some, None, length, map, take, slice_get, refl, sym, ap, subst, inl, inr, ◌∙◌, Contains, append-nil}
 use Rattle.std.specs.Cmp.{eq_by_cmp_equiv}
 use Rattle.std.specs.List.Sorted.{IsStrictlySortedBy}
-use Rattle.std.specs.declared.cmp.Ordering.TheVariants.{Less, Equal}
-use Rattle.std.proofs.lemmas.Cmp.{tied_itself}
-use Rattle.std.proofs.lemmas.Map.Keys.{sorted_head, sorted_tail}
 use Rattle.std.specs.Ordering.{is_eq}
 use Rattle.std.proofs.lemmas.List.{take_all}
 use Rattle.repo_name.proofs.Containing.{contained_or, contains_map, first_contained, later_contained, map_contains, none_contained, contains_got}
@@ -34,17 +31,17 @@ use Rattle.repo_session.proofs.Receiving.{each_both, each_more}
 use Rattle.repo_writing.proofs.PutLemmas.{each_contained, asked_put, objects_put_other, put_done_later}
 use Rattle.repo_writing.proofs.Writings.{lists_stay, all_done, counted, each_alone}
 use Rattle.repo_writing.specs.Putting.{AreCounted, AreDone}
-use Rattle.repo_writing.specs.Writing.{Put, IsPut, AreListed}
+use Rattle.repo_writing.specs.Writing.{Put, IsPut, AreListed, ListsPack}
 use Rattle.repo_writing.specs.declared.counts.Counts.{Counts}
 use Rattle.repo_prune.specs.inner.Deleting.{BeginsDeleting, DeletesNext, IsGone}
 use Rattle.repo_prune.specs.PruneStates.{Known, ArePacked, HasListed, IsClearing, KnowsDeleting, KnowsStage, MayClear, IsNextStep}
-use Rattle.repo_prune.specs.Pruning.{prune_rule, prune_task, AreCovered, AreReplaced, IsPruned, IsSettled, ListsPack}
+use Rattle.repo_prune.specs.Pruning.{prune_rule, prune_task, AreCovered, AreReplaced, IsPruned, IsSettled}
 use Rattle.repo_prune.specs.declared.deleting.Deleting.{Deleting}
 use Rattle.repo_prune.specs.declared.prunes.Stage.{Stage}
 use Rattle.repo_prune.specs.declared.relisting.Relisting.{Relisting}
 use Rattle.repo_prune.proofs.Asides.{aside_lists, indexed_same}
 use Rattle.repo_prune.proofs.Repacking.{one_taken}
-use Rattle.repo_prune.proofs.Ascending.{each_all}
+use Rattle.repo_prune.proofs.Ascending.{unrepeated}
 use Rattle.repo_prune.proofs.Choosing.{ascending_sorted, has_contained, contained_has}
 
 -- ---- what stays over a delete
@@ -58,18 +55,6 @@ covered_later e es rows packs h = record {
   just = h.just;
   once = h.once;
 }
-
--- what stands at a place of a sorted list doesn't stand before it
-unrepeated : (names : List Name) (i : ℕ) (n : Name) → IsStrictlySortedBy name_cmp names → slice_get names i ≡ Some n → ¬ Contains (take i names) n
-unrepeated [] i n sorted at h = absurd (let none : None ≡ Some n = at in cc)
-unrepeated (m ∷ names) zero n sorted at h = none_contained n h
-unrepeated (m ∷ names) (suc i) n sorted at h = elim (contained_or m (take i names) n h) [
-  | inl same ↦
-      let less : name_cmp m n ≡ Less = each_all (λ (y : Name). name_cmp m y ≡ Less) names n (sorted_head name_cmp m names sorted) (contains_got names i n at) in
-      let equal : name_cmp m n ≡ Equal = ap (name_cmp m) (sym same) ∙ tied_itself names_total m in
-      let bad : Less ≡ Equal = sym less ∙ equal in cc bad
-  | inr more ↦ unrepeated names i n (sorted_tail name_cmp m names sorted) at more
-]
 
 -- a list with elements has one
 pub first_of : {A : Type 0} (xs : List A) → 1 ≤ length xs → (x : A) × Contains xs x

@@ -43,9 +43,9 @@ use Rattle.repo_prune.proofs.ForgetRuns.{undeleted}
 use Rattle.repo_prune.proofs.PruneRuns.{throughout}
 
 pub prune_reads_first : (es : Trace) (ask : Ask) → IsPermitted PruneAllows es ask → IsReading ask → NoneDeleted es
-prune_reads_first es (Ask.List k after) h r = (h tt).1
-prune_reads_first es (Ask.Get k n) h r = (h tt).1
-prune_reads_first es (Ask.Range pack offset len) h r = (h tt).1
+prune_reads_first es (Ask.List k after) h r = h tt
+prune_reads_first es (Ask.Get k n) h r = (h tt).0
+prune_reads_first es (Ask.Range pack offset len) h r = (h tt).none
 prune_reads_first es Ask.Ticket h r = absurd r
 prune_reads_first es (Ask.Lock row) h r = absurd r
 prune_reads_first es (Ask.Refresh token time) h r = absurd r

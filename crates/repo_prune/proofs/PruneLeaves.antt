@@ -40,14 +40,14 @@ use Rattle.repo_session.proofs.Enumerating.{listed_or_put}
 use Rattle.repo_session.proofs.Growing.{Led, led, step_moves}
 use Rattle.repo_session.proofs.Spoken.{was_asked}
 use Rattle.repo_session.proofs.Telling.{told_run, seen_run}
-use Rattle.repo_writing.specs.Blobs.{HasFact}
-use Rattle.repo_writing.specs.Writing.{Listing, IsDone}
+use Rattle.repo_writing.specs.Blobs.{HasFact, AreFactsOnce}
+use Rattle.repo_writing.specs.Writing.{Listing, IsDone, ListsPack}
 use Rattle.repo_writing.proofs.Keeping.{put_is_there, fact_of_listed}
 use Rattle.repo_writing.proofs.PutLemmas.{each_contained, asked_put}
 use Rattle.repo_writing.proofs.Replacing.{put_says, each_index_put}
 use Rattle.repo_prune.specs.Keeping.{Row}
 use Rattle.repo_prune.specs.PruneLaws.{IsReachedIn, IsListedIn, HaveJustWhatIsNeeded, PruneLeavesWhatIsNeeded}
-use Rattle.repo_prune.specs.Pruning.{prune_task, AreFactsOnce, ListsPack, IsNeededBy, IsSettled, IsPruned, PruneAllows, PruneGives}
+use Rattle.repo_prune.specs.Pruning.{prune_task, IsNeededBy, IsSettled, IsPruned, PruneAllows, PruneGives}
 use Rattle.repo_prune.proofs.Leaving.{unlock_or}
 use Rattle.repo_prune.proofs.PruneRuns.{listing_of, either_or, no_delete, trees_agree, stand, lone}
 

@@ -2,6 +2,7 @@
 use Rattle.std.proofs.Common.{◌≡◌, ◌≢◌, ◌∷◌, [], ℕ, Bool, true, false, cond, List, Option, refl, sym, ap, subst, inl, ◌∙◌}
 use Rattle.repo_name.specs.declared.kinds.Kind.{Kind}
 use Rattle.repo_name.specs.declared.names.Name.{Name}
+use Rattle.repo_name.specs.declared.tokens.Token.{Token}
 use Rattle.repo_wire.specs.declared.messages.Ask.{Ask}
 use Rattle.repo_wire.specs.declared.messages.Say.{Say}
 use Rattle.repo_session.specs.declared.catalogs.Catalog.{Catalog}
@@ -11,18 +12,18 @@ use Rattle.repo_session.specs.Askers.{Asker}
 use Rattle.repo_session.specs.Catalogs.{Catalogs, IsAll}
 use Rattle.repo_session.specs.Jobs.{MayAsk, MayStep}
 use Rattle.repo_session.specs.Listings.{IsSnapshotListing}
-use Rattle.repo_session.specs.Order.{last_of}
+use Rattle.repo_session.specs.Order.{ReadsKind, last_of}
 use Rattle.repo_session.specs.Readings.{IsAskDue, KnowsIndexes, KnowsRoll}
 use Rattle.repo_session.specs.Rolls.{IsPaged, IsRolled}
-use Rattle.repo_session.specs.Traces.{Exchange, Trace, silent, same_kind, page_names, is_last_page, object_got}
+use Rattle.repo_session.specs.Traces.{Exchange, Trace, same_kind, page_names, is_last_page, object_got}
 use Rattle.repo_session.proofs.Cataloguing.{are_indexed, catalog_on, rolled_on}
-use Rattle.repo_session.proofs.Rolling.{paged_on, same_self}
+use Rattle.repo_session.proofs.Rolling.{same_self}
 use Rattle.repo_session.proofs.Deleting.{ListsNone, listing_stays}
 use Rattle.repo_session.specs.Deletions.{NoneDeleted}
 use Rattle.repo_prune.specs.Pruning.{IsUntouched, prune_rule, prune_task, PruneAllows}
-use Rattle.repo_prune.specs.PruneStates.{Known, HaveRead, HasTarget, AreUnlisted, ReadsSnapshots, ReadsIndexes, ListsPacks, IsListingOf, KnowsPrune, KnowsStage, IsNextStep, known_in}
+use Rattle.repo_prune.specs.PruneStates.{Known, HaveRead, HasTarget, AreUnlisted, ReadsSnapshots, ReadsIndexes, ListsPacks, IsListingOf, KnowsPrune, KnowsStage, IsNextStep, KnowsAsMuch, StepsFrom, known_in}
 use Rattle.repo_prune.specs.declared.prunes.Onward.{Onward}
-use Rattle.repo_prune.specs.declared.prunes.PruneJob.{PruneJob}
+use Rattle.repo_prune.specs.declared.prunes.Prune.{Prune}
 use Rattle.repo_prune.specs.declared.prunes.Stage.{Stage}
 use Rattle.repo_prune.proofs.Asides.{IsNoChange, untouched_same, target_later}
 
@@ -115,15 +116,15 @@ module _ (j k : Kind) (e : Exchange) (other : same_kind j k ≡ false) (listing 
   pub other_lists : ListsNone k e
   other_lists = record { page = other_page j k e.ask e.say other listing; last = other_last j k e.ask e.say other listing; ask = no_page_of }
 
-  pub no_get_of : (n : Name) (x : List ℕ) → e.ask ≡ Ask.Get k n → e.say ≡ Say.Bytes x → ⊥
-  no_get_of n x is said =
+  pub no_get_of : (n : Name) → e.ask ≢ Ask.Get k n
+  no_get_of n is =
       let same : k ≡ j = subst (IsListingOf j) is listing in
       let itself : same_kind k k ≡ false = subst (λ z. same_kind z k ≡ false) (sym same) other in
       let yes = same_self k in
       absurd (cc)
 
   pub other_rolled : (names : List Name) (read : ℕ) (whole : Bool) (es : Trace) → IsRolled k names read whole es → IsRolled k names read whole (e ∷ es)
-  other_rolled names read whole es h = rolled_on k e names read whole es (other_page j k e.ask e.say other listing) (other_last j k e.ask e.say other listing) (other_object j k e.ask e.say other listing) no_page_of h
+  other_rolled names read whole es h = rolled_on k e names read whole es (other_page j k e.ask e.say other listing) (other_last j k e.ask e.say other listing) (other_object j k e.ask e.say other listing) no_page_of no_get_of h
 
 pub unlisted_same : (j : Kind) (e : Exchange) (es : Trace) (packs : Roll) → same_kind j Kind.Pack ≡ false → IsListingOf j e.ask → AreUnlisted packs es → AreUnlisted packs (e ∷ es)
 unlisted_same j e es packs other listing h = record {
@@ -153,19 +154,26 @@ listing_same j (Ask.Delete t i n) h = absurd h
 listing_same j (Ask.Upgrade t) h = absurd h
 listing_same j Ask.Config h = absurd h
 
-pub listing_reads : (j : Kind) (ask : Ask) → IsListingOf j ask → (es : Trace) → NoneDeleted es → PruneAllows es ask
-listing_reads j Ask.Ticket h = absurd h
-listing_reads j (Ask.Lock row) h = absurd h
-listing_reads j (Ask.Refresh t time) h = absurd h
-listing_reads j (Ask.Unlock t) h = absurd h
-listing_reads j Ask.Locks h = absurd h
-listing_reads j (Ask.List i after) h = λ es none. (tt, none)
-listing_reads j (Ask.Get i n) h = λ es none. (tt, none)
-listing_reads j (Ask.Range pack offset len) h = absurd h
-listing_reads j (Ask.Put t i n x) h = absurd h
-listing_reads j (Ask.Delete t i n) h = absurd h
-listing_reads j (Ask.Upgrade t) h = absurd h
-listing_reads j Ask.Config h = absurd h
+-- it may ask for pages, and for objects but packs, each once
+kind_allowed : (j : Kind) (es : Trace) (ask : Ask) → j ≢ Kind.Pack → ReadsKind j es ask → NoneDeleted es → PruneAllows es ask
+kind_allowed j es (Ask.List i after) other h none = none
+kind_allowed j es (Ask.Get i n) other h none = (none, λ is. other (sym h.0 ∙ is), h.1)
+kind_allowed j es (Ask.Range pack offset len) other h none = absurd h
+kind_allowed j es (Ask.Put t i n x) other h none = absurd h
+kind_allowed j es (Ask.Delete t i n) other h none = absurd h
+kind_allowed j es (Ask.Upgrade t) other h none = absurd h
+kind_allowed j es Ask.Ticket other h none = absurd h
+kind_allowed j es (Ask.Lock row) other h none = absurd h
+kind_allowed j es (Ask.Refresh t time) other h none = absurd h
+kind_allowed j es (Ask.Unlock t) other h none = absurd h
+kind_allowed j es Ask.Locks other h none = absurd h
+kind_allowed j es Ask.Config other h none = absurd h
+
+pub snapshots_allowed : (es : Trace) (ask : Ask) → ReadsKind Kind.Snapshot es ask → NoneDeleted es → PruneAllows es ask
+snapshots_allowed es ask h none = kind_allowed Kind.Snapshot es ask (λ is. absurd (cc)) h none
+
+pub indexes_allowed : (es : Trace) (ask : Ask) → ReadsKind Kind.Index es ask → NoneDeleted es → PruneAllows es ask
+indexes_allowed es ask h none = kind_allowed Kind.Index es ask (λ is. absurd (cc)) h none
 
 pub listing_untouched : (j : Kind) (e : Exchange) (es : Trace) → IsListingOf j e.ask → IsUntouched es → IsUntouched (e ∷ es)
 listing_untouched j e es h u = untouched_same e es (listing_same j e.ask h) u
@@ -200,7 +208,7 @@ index_listing c Ask.Config es h = absurd h
 
 -- ---- what the job knows of it
 
-pub snapshots_known : (j : PruneJob) (ask : Ask) (es : Trace) → IsListingOf Kind.Snapshot ask → KnowsPrune j ask es → ReadsSnapshots j ask es
+pub snapshots_known : (j : Prune) (ask : Ask) (es : Trace) → IsListingOf Kind.Snapshot ask → KnowsPrune j ask es → ReadsSnapshots j ask es
 snapshots_known j Ask.Ticket es is h = absurd is
 snapshots_known j (Ask.Lock row) es is h = absurd is
 snapshots_known j (Ask.Refresh t time) es is h = absurd is
@@ -218,7 +226,7 @@ snapshots_known j (Ask.Delete t i n) es is h = absurd is
 snapshots_known j (Ask.Upgrade t) es is h = absurd is
 snapshots_known j Ask.Config es is h = absurd is
 
-pub snapshots_back : (j : PruneJob) (ask : Ask) (es : Trace) → IsListingOf Kind.Snapshot ask → ReadsSnapshots j ask es → KnowsPrune j ask es
+pub snapshots_back : (j : Prune) (ask : Ask) (es : Trace) → IsListingOf Kind.Snapshot ask → ReadsSnapshots j ask es → KnowsPrune j ask es
 snapshots_back j Ask.Ticket es is h = absurd is
 snapshots_back j (Ask.Lock row) es is h = absurd is
 snapshots_back j (Ask.Refresh t time) es is h = absurd is
@@ -236,7 +244,7 @@ snapshots_back j (Ask.Delete t i n) es is h = absurd is
 snapshots_back j (Ask.Upgrade t) es is h = absurd is
 snapshots_back j Ask.Config es is h = absurd is
 
-pub indexes_known : (j : PruneJob) (ask : Ask) (es : Trace) → IsListingOf Kind.Index ask → KnowsPrune j ask es → ReadsIndexes j ask es
+pub indexes_known : (j : Prune) (ask : Ask) (es : Trace) → IsListingOf Kind.Index ask → KnowsPrune j ask es → ReadsIndexes j ask es
 indexes_known j Ask.Ticket es is h = absurd is
 indexes_known j (Ask.Lock row) es is h = absurd is
 indexes_known j (Ask.Refresh t time) es is h = absurd is
@@ -254,7 +262,7 @@ indexes_known j (Ask.Delete t i n) es is h = absurd is
 indexes_known j (Ask.Upgrade t) es is h = absurd is
 indexes_known j Ask.Config es is h = absurd is
 
-pub indexes_back : (j : PruneJob) (ask : Ask) (es : Trace) → IsListingOf Kind.Index ask → ReadsIndexes j ask es → KnowsPrune j ask es
+pub indexes_back : (j : Prune) (ask : Ask) (es : Trace) → IsListingOf Kind.Index ask → ReadsIndexes j ask es → KnowsPrune j ask es
 indexes_back j Ask.Ticket es is h = absurd is
 indexes_back j (Ask.Lock row) es is h = absurd is
 indexes_back j (Ask.Refresh t time) es is h = absurd is
@@ -271,42 +279,6 @@ indexes_back j (Ask.Put t i n x) es is h = absurd is
 indexes_back j (Ask.Delete t i n) es is h = absurd is
 indexes_back j (Ask.Upgrade t) es is h = absurd is
 indexes_back j Ask.Config es is h = absurd is
-
-pub packs_known : (j : PruneJob) (ask : Ask) (es : Trace) → IsListingOf Kind.Pack ask → KnowsPrune j ask es → ListsPacks j ask es
-packs_known j Ask.Ticket es is h = absurd is
-packs_known j (Ask.Lock row) es is h = absurd is
-packs_known j (Ask.Refresh t time) es is h = absurd is
-packs_known j (Ask.Unlock t) es is h = absurd is
-packs_known j Ask.Locks es is h = absurd is
-packs_known j (Ask.List Kind.Snapshot after) es is h = absurd (cc)
-packs_known j (Ask.List Kind.Index after) es is h = absurd (cc)
-packs_known j (Ask.List Kind.Pack after) es is h = h
-packs_known j (Ask.Get Kind.Snapshot n) es is h = absurd (cc)
-packs_known j (Ask.Get Kind.Index n) es is h = absurd (cc)
-packs_known j (Ask.Get Kind.Pack n) es is h = h
-packs_known j (Ask.Range pack offset len) es is h = absurd is
-packs_known j (Ask.Put t i n x) es is h = absurd is
-packs_known j (Ask.Delete t i n) es is h = absurd is
-packs_known j (Ask.Upgrade t) es is h = absurd is
-packs_known j Ask.Config es is h = absurd is
-
-pub packs_back : (j : PruneJob) (ask : Ask) (es : Trace) → IsListingOf Kind.Pack ask → ListsPacks j ask es → KnowsPrune j ask es
-packs_back j Ask.Ticket es is h = absurd is
-packs_back j (Ask.Lock row) es is h = absurd is
-packs_back j (Ask.Refresh t time) es is h = absurd is
-packs_back j (Ask.Unlock t) es is h = absurd is
-packs_back j Ask.Locks es is h = absurd is
-packs_back j (Ask.List Kind.Snapshot after) es is h = absurd (cc)
-packs_back j (Ask.List Kind.Index after) es is h = absurd (cc)
-packs_back j (Ask.List Kind.Pack after) es is h = h
-packs_back j (Ask.Get Kind.Snapshot n) es is h = absurd (cc)
-packs_back j (Ask.Get Kind.Index n) es is h = absurd (cc)
-packs_back j (Ask.Get Kind.Pack n) es is h = h
-packs_back j (Ask.Range pack offset len) es is h = absurd is
-packs_back j (Ask.Put t i n x) es is h = absurd is
-packs_back j (Ask.Delete t i n) es is h = absurd is
-packs_back j (Ask.Upgrade t) es is h = absurd is
-packs_back j Ask.Config es is h = absurd is
 
 -- ---- from a stage to the job
 
@@ -332,7 +304,7 @@ no_listing k stage (Ask.Delete t i n) j es is h = is
 no_listing k stage (Ask.Upgrade t) j es is h = is
 no_listing k stage Ask.Config j es is h = is
 
-pub later_known : (j : PruneJob) (ask : Ask) (es : Trace) → KnowsStage (known_in j) j.stage ask es → KnowsPrune j ask es
+pub later_known : (j : Prune) (ask : Ask) (es : Trace) → KnowsStage (known_in j) j.stage ask es → KnowsPrune j ask es
 later_known j Ask.Ticket es h = h
 later_known j (Ask.Lock row) es h = h
 later_known j (Ask.Refresh t time) es h = h
@@ -351,22 +323,51 @@ later_known j (Ask.Upgrade t) es h = h
 later_known j Ask.Config es h = h
 
 -- the next step is one that the job may take
-pub may_step : (j : PruneJob) (who : Asker) (e : Exchange) (es : Trace) (step : Step) → e.emitted ≡ [] → IsNextStep (known_in j) who j.stage step (e ∷ es) → MayStep prune_rule who (KnowsPrune j) es e step
+pub may_step : (j : Prune) (who : Asker) (e : Exchange) (es : Trace) (step : Step) → e.emitted ≡ [] → IsNextStep (known_in j) who j.stage step (e ∷ es) → MayStep prune_rule who (KnowsPrune j) es e step
 may_step j who e es (Step.Ask ask) none h = (inl none, record { work = h.work; may = h.may; allowed = h.allowed; knows = later_known j ask (e ∷ es) h.knows })
 may_step j who e es (Step.Finish outcome) none h = (inl none, h)
 may_step j who e es Step.Want none h = absurd h
 may_step j who e es Step.Away none h = absurd h
 
 -- the stage and the step of what comes next
-pub gone_on : (k : Known) (who : Asker) (onward : Onward) (j : PruneJob) (step : Step) (es : Trace) → step ≡ onward.step → j.stage ≡ onward.stage → known_in j ≡ k → IsNextStep k who onward.stage onward.step es
+pub gone_on : (k : Known) (who : Asker) (onward : Onward) (j : Prune) (step : Step) (es : Trace) → step ≡ onward.step → j.stage ≡ onward.stage → known_in j ≡ k → IsNextStep k who onward.stage onward.step es
     → IsNextStep (known_in j) who j.stage step es
 gone_on k who onward j step es step_is stage_is same h =
     subst (λ z. IsNextStep z who j.stage step es) (sym same) (subst (λ s. IsNextStep k who s step es) (sym stage_is) (subst (λ s. IsNextStep k who onward.stage s es) (sym step_is) h))
 
 -- ---- a page of packs
 
+-- what is done on a page, is done on each request of the listing of packs, which gets none
+pub steps_listing : (old : Prune) (token : Token) (ask : Ask) (say : Say) (step : Step) (new : Prune) → ((after : Option Name) → StepsFrom old token (Ask.List Kind.Pack after) say step new) → IsListingOf Kind.Pack ask → StepsFrom old token ask say step new
+steps_listing old token (Ask.List i after) say step new h is = subst (λ k. StepsFrom old token (Ask.List k after) say step new) (sym is) (h after)
+steps_listing old token (Ask.Get i n) say step new h is = λ who es w obeys asked. absurd (asked.allowed.1 is)
+steps_listing old token (Ask.Range pack offset len) say step new h is = absurd is
+steps_listing old token (Ask.Put t i n x) say step new h is = absurd is
+steps_listing old token (Ask.Delete t i n) say step new h is = absurd is
+steps_listing old token (Ask.Upgrade t) say step new h is = absurd is
+steps_listing old token Ask.Ticket say step new h is = absurd is
+steps_listing old token (Ask.Lock row) say step new h is = absurd is
+steps_listing old token (Ask.Refresh t time) say step new h is = absurd is
+steps_listing old token (Ask.Unlock t) say step new h is = absurd is
+steps_listing old token Ask.Locks say step new h is = absurd is
+steps_listing old token Ask.Config say step new h is = absurd is
+
+pub knows_listing : (old : Prune) (ask : Ask) (new : Prune) → ((after : Option Name) → KnowsAsMuch old (Ask.List Kind.Pack after) new) → IsListingOf Kind.Pack ask → KnowsAsMuch old ask new
+knows_listing old (Ask.List i after) new h is = subst (λ k. KnowsAsMuch old (Ask.List k after) new) (sym is) (h after)
+knows_listing old (Ask.Get i n) new h is = λ es known. absurd (subst (λ k. KnowsPrune old (Ask.Get k n) es) is known)
+knows_listing old (Ask.Range pack offset len) new h is = absurd is
+knows_listing old (Ask.Put t i n x) new h is = absurd is
+knows_listing old (Ask.Delete t i n) new h is = absurd is
+knows_listing old (Ask.Upgrade t) new h is = absurd is
+knows_listing old Ask.Ticket new h is = absurd is
+knows_listing old (Ask.Lock row) new h is = absurd is
+knows_listing old (Ask.Refresh t time) new h is = absurd is
+knows_listing old (Ask.Unlock t) new h is = absurd is
+knows_listing old Ask.Locks new h is = absurd is
+knows_listing old Ask.Config new h is = absurd is
+
 -- it may be asked for
-pub pack_page : (j : PruneJob) (who : Asker) (es : Trace) (ask : Ask) → Ask.List j.packs.kind (last_of j.packs.names.items) ≡ ask → IsAskDue (prune_task who) (KnowsRoll j.packs) es ask → ListsPacks j ask es
+pub pack_page : (j : Prune) (who : Asker) (es : Trace) (ask : Ask) → Ask.List j.packs.kind (last_of j.packs.names.items) ≡ ask → IsAskDue (prune_task who) (KnowsRoll j.packs) es ask → ListsPacks j ask es
     → MayAsk prune_rule who (KnowsPrune j) es ask
 pack_page j who es ask is due h =
     let page : Ask = Ask.List Kind.Pack (last_of j.packs.names.items) in
@@ -374,19 +375,13 @@ pack_page j who es ask is due h =
     record {
       work = due.work;
       may = due.may;
-      allowed = subst (PruneAllows es) same (tt, h.untouched.none_deleted);
+      allowed = subst (PruneAllows es) same h.untouched.none_deleted;
       knows = subst (λ a. KnowsPrune j a es) same (subst (λ a. ListsPacks j a es) (sym same) h);
     }
 
--- the next one may be asked for
-pub pack_next : (j : PruneJob) (who : Asker) (es : Trace) (ask : Ask) → j.packs.kind ≡ Kind.Pack → IsAskDue (prune_task who) (KnowsRoll j.packs) es ask → ListsPacks j ask es → MayAsk prune_rule who (KnowsPrune j) es ask
-pack_next j who es ask of_packs due h =
-    let listing : IsListingOf Kind.Pack ask = subst (λ k. IsListingOf k ask) of_packs (roll_listing j.packs ask es due.knows) in
-    record { work = due.work; may = due.may; allowed = listing_reads Kind.Pack ask listing es h.untouched.none_deleted; knows = packs_back j ask es listing h }
-
 -- ---- all packs are listed
 
-pub packs_listed : (j : PruneJob) (packs : Roll) (e : Exchange) (es : Trace) → IsListingOf Kind.Pack e.ask → IsUntouched es → IsSnapshotListing es j.snapshots.rows.items → Catalogs j.catalog true es → IsAll j.catalog
+pub packs_listed : (j : Prune) (packs : Roll) (e : Exchange) (es : Trace) → IsListingOf Kind.Pack e.ask → IsUntouched es → IsSnapshotListing es j.snapshots.rows.items → Catalogs j.catalog true es → IsAll j.catalog
     → HasTarget es j.target.bytes → IsPaged Kind.Pack packs.names.items true (e ∷ es)
     → HaveRead (record { rows = j.snapshots.rows.items; indexes = j.catalog.roll.names.items; facts = j.catalog.lookup; packs = packs.names.items; target = j.target.bytes }) (e ∷ es) × IsUntouched (e ∷ es)
 packs_listed j packs e es listing untouched rows catalog all target paged =
@@ -401,6 +396,3 @@ packs_listed j packs e es listing untouched rows catalog all target paged =
       },
       listing_untouched Kind.Pack e es listing untouched,
     )
-
-pub got_paged : (k : Kind) (n : Name) (say : Say) (names : List Name) (es : Trace) → IsPaged k names true es → IsPaged k names true (silent (Ask.Get k n) say ∷ es)
-got_paged k n say names es h = paged_on k (silent (Ask.Get k n) say) names true es refl refl (λ after is. absurd (cc)) h

@@ -26,7 +26,7 @@ use Rattle.repo_session.proofs.Deleting.{DeletesNone, none_deleted_on}
 use Rattle.repo_writing.proofs.BlobLemmas.{has_either, once_apart, once_behind}
 use Rattle.repo_writing.proofs.PutLemmas.{objects_put_other}
 use Rattle.repo_writing.proofs.Writings.{none_put, packs_stay, pack_sent, pack_done, items_push, put_of, is_put, packed_one, one_packed}
-use Rattle.repo_writing.specs.Blobs.{HasItem, AreOnce}
+use Rattle.repo_writing.specs.Blobs.{HasItem, AreOnce, AreFactsOnce}
 use Rattle.repo_writing.specs.Filling.{WasOpen, IsPromptPack, IsFullPack}
 use Rattle.repo_writing.specs.Putting.{IsPacked}
 use Rattle.repo_writing.specs.Writing.{Put, IsPut, items_of, ArePut, AreCounts}
@@ -34,7 +34,7 @@ use Rattle.repo_writing.specs.declared.counts.Counts.{Counts}
 use Rattle.repo_writing.specs.declared.targets.Target.{Target}
 use Rattle.repo_prune.specs.Moving.{IsMoving, AwaitsBlob, MovesOn, Pair, SendsPack, pair_of_fact, pair_of_item}
 use Rattle.repo_prune.specs.PruneStates.{Known, ArePlanned, HasPlanned, IsRepacking, KnowsMove, HasMoved, KnowsStage, IsNextStep, MovesTo}
-use Rattle.repo_prune.specs.Pruning.{prune_rule, prune_task, AreFactsOnce, HasToMove, IsNeededBy, AreLastMoved}
+use Rattle.repo_prune.specs.Pruning.{prune_rule, prune_task, HasToMove, IsNeededBy, AreLastMoved}
 use Rattle.repo_prune.specs.declared.moving.Moved.{Moved}
 use Rattle.repo_prune.specs.declared.moving.Moving.{Moving}
 use Rattle.repo_prune.specs.declared.prunes.Stage.{Stage}
@@ -98,10 +98,24 @@ module _ (k : Known) (m n : Moving) (puts : List Put) (es : Trace) (r : IsRepack
   pub move_asked : (fact : Fact) → AwaitsBlob n fact (items_of puts) [] → n.listed.items ≡ m.listed.items → MayAsk prune_rule who (KnowsStage k (Stage.Moving n)) es (range_of fact)
   move_asked fact a listed =
       let among : Contains m.moves.items fact = subst (λ fs. Contains fs fact) same_moves (contains_got n.moves.items n.asked fact a.asked) in
+      let must = (r.planned.must fact).0 among in
       record {
         work = tt;
         may = ((token, w), (fact, r.planned.moves_are fact among, refl, refl, refl));
-        allowed = (tt, r.none);
+        allowed = record {
+          none = r.none;
+          rows = k.rows;
+          snapshots = r.read.snapshots;
+          indexes = r.read.indexes;
+          texts = r.planned.texts;
+          trees = r.planned.trees;
+          facts = k.facts;
+          gives = r.read.gives;
+          fact = fact;
+          there = refl;
+          copy = must.copy;
+          wanted = inr (r.planned.walked, must);
+        };
         knows = record { puts = puts; sealed = []; fact = fact; repacking = repacks_as k m n puts [] es moves target listed (counted_alone n.counts puts a.moving.counted) r; awaits = a; asks = refl };
       }
 

@@ -26,14 +26,14 @@ use Rattle.repo_session.proofs.Cataloguing.{fact_stays}
 use Rattle.repo_session.proofs.Deleting.{DeletesNone, none_deleted_on}
 use Rattle.repo_writing.proofs.PutLemmas.{each_contained, objects_put_other, objects_put_more, put_done_later}
 use Rattle.repo_writing.proofs.Writings.{none_listed, packs_stay, index_done, put_listed, puts_lawful, each_alone, listing_of, IsLawfulListing}
-use Rattle.repo_writing.specs.Blobs.{HasFact}
+use Rattle.repo_writing.specs.Blobs.{HasFact, AreFactsOnce}
 use Rattle.repo_writing.specs.Filling.{IsFullIndex}
 use Rattle.repo_writing.specs.Laws.{IsPutOrKept}
 use Rattle.repo_writing.specs.Putting.{IsIndexed}
 use Rattle.repo_writing.specs.Writing.{Put, IsPut, items_of, AreListed, packs_of}
 use Rattle.repo_prune.specs.Moving.{pair_of_item, pair_of_fact, items_so_far}
 use Rattle.repo_prune.specs.PruneStates.{Known, HasMoved, ArePacked, MayList, PrunePutsIndex, HasListed, KnowsStage, IsNextStep}
-use Rattle.repo_prune.specs.Pruning.{prune_rule, prune_task, AreCovered, AreFactsOnce, AreLastListed, IsNeededBy}
+use Rattle.repo_prune.specs.Pruning.{prune_rule, prune_task, AreCovered, AreLastListed, IsNeededBy}
 use Rattle.repo_prune.specs.Relisting.{IsListable, AreListable, PutsNext, Relists}
 use Rattle.repo_prune.specs.declared.moving.Moving.{Moving}
 use Rattle.repo_prune.specs.declared.prunes.Stage.{Stage}

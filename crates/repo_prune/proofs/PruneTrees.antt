@@ -1,5 +1,5 @@
 -- What is known while a prune reads trees, and once it did.
-use Rattle.std.proofs.Common.{Vec, Global, ◌≡◌, ◌↔◌, ◌++◌, ◌∷◌, [], ℕ, Bool, true, false, List, map, Some, slice_get, refl, sym, ap, subst, inl, inr, ◌∙◌, Contains}
+use Rattle.std.proofs.Common.{Vec, Global, ◌≡◌, ◌≤◌, ◌↔◌, ◌++◌, ◌∷◌, [], ℕ, Bool, true, false, List, map, Some, slice_get, refl, sym, ap, subst, inl, inr, ◌∙◌, Contains}
 use Rattle.std.specs.List.{All}
 use Rattle.std.proofs.lemmas.List.Elements.{All-contains, Contains-append_cases}
 use Rattle.std.proofs.lemmas.Option.{none-some}
@@ -13,11 +13,12 @@ use Rattle.repo_name.specs.declared.tokens.Token.{Token}
 use Rattle.repo_pack.specs.PackLayout.{IsWithin}
 use Rattle.repo_index.proofs.OneLemmas.{index_texts_lawful}
 use Rattle.repo_index.specs.IndexText.{fact_of}
+use Rattle.repo_index.specs.Lookups.{IsLeast}
 use Rattle.repo_index.specs.declared.facts.Fact.{Fact}
 use Rattle.repo_index.specs.declared.facts.PackFacts.{PackFacts}
 use Rattle.repo_tree.specs.Laws.{Grows}
 use Rattle.repo_tree.specs.Parts.{ListsBy}
-use Rattle.repo_tree.specs.Spelling.{Reach}
+use Rattle.repo_tree.specs.Spelling.{Reach, greatest_depth}
 use Rattle.repo_tree.specs.declared.nodes.Node.{Node}
 use Rattle.repo_session.specs.declared.outcomes.End.{End}
 use Rattle.repo_session.specs.declared.outcomes.Outcome.{Outcome}
@@ -32,14 +33,14 @@ use Rattle.repo_session.specs.Received.{Received}
 use Rattle.repo_session.specs.Traces.{Exchange, Trace, Lists, ReadFact}
 use Rattle.repo_session.specs.Trees.{HasRoot, Under, IsNeeded, IsBroken, IsUnindexed}
 use Rattle.repo_session.proofs.Descending.{broken_grows, needed_grows, received_grows, under_grows}
-use Rattle.repo_session.proofs.Reaching.{reached_needed}
+use Rattle.repo_session.proofs.Reaching.{reached_needed, under_reached}
 use Rattle.repo_reach.proofs.Reaching.{used_is_reached}
 use Rattle.repo_reach.proofs.Leading.{same_version}
 use Rattle.repo_reach.proofs.Reading.{read_by}
 use Rattle.repo_reach.proofs.Using.{kept_links}
 use Rattle.repo_reach.specs.Collected.{tree_blobs, root_of, version_by, IsReachedBy}
 use Rattle.repo_reach.specs.Laws.{IsUsed}
-use Rattle.repo_reach.specs.Walks.{IsWalk, WasAt, links_by}
+use Rattle.repo_reach.specs.Walks.{IsLedTo, IsWalk, WasAt, links_by}
 use Rattle.repo_reach.specs.declared.roots.Root.{Root}
 use Rattle.repo_reach.specs.declared.looks.Seen.{Seen}
 use Rattle.repo_reach.specs.declared.trees.Trees.{Trees}
@@ -57,6 +58,7 @@ use Rattle.repo_session.proofs.Cataloguing.{fact_stays}
 use Rattle.repo_prune.specs.declared.plans.Plan.{Plan}
 use Rattle.repo_prune.specs.declared.prunes.Stage.{Stage}
 use Rattle.repo_prune.proofs.Choosing.{contained_has}
+use Rattle.repo_prune.proofs.TreeReading.{path_to}
 
 -- ---- a tree is asked for
 
@@ -64,15 +66,6 @@ pub awaited_read : (k : Known) (es : Trace) (texts : List (List ℕ)) (trees : T
 awaited_read k es texts trees fact read a =
     let is : fact_of Tree fact.name fact.place ≡ fact = λ i. record { kind = sym a.next.0 i; name = fact.name; place = fact.place } in
     (read.gives fact).0 (subst (Contains k.facts) is a.next.1.among)
-
-pub tree_asked : (k : Known) (who : Asker) (token : Token) (es : Trace) (texts : List (List ℕ)) (trees : Trees) (fact : Fact) → IsWorking (prune_task who) token es → IsWalkOver k texts trees es → Awaits k.facts texts trees fact
-    → MayAsk prune_rule who (KnowsStage k (Stage.Walking trees fact)) es (range_of fact)
-tree_asked k who token es texts trees fact w over a = record {
-  work = tt;
-  may = ((token, w), (fact, awaited_read k es texts trees fact over.read a, refl, refl, refl));
-  allowed = (tt, over.untouched.none_deleted);
-  knows = record { texts = texts; over = over; awaits = a; asks = refl };
-}
 
 -- ---- rows and roots
 
@@ -97,6 +90,42 @@ module _ (es : Trace) (rows : List Row) (l : IsSnapshotListing es rows) (row : R
   -- what holds by its root, holds by its version
   by_version : (P : ℕ → Name → Type 0) (root : Root) → row_root row ≡ root → P (version_by root.follows) root.tree → P row.1.version row.1.tree
   by_version P root is h = subst (λ v. P v row.1.tree) row_version (subst (λ (r : Root). P (version_by r.follows) r.tree) (sym is) h)
+
+-- a tree to which the roots lead, a snapshot needs
+tree_needed : (k : Known) (es : Trace) (texts : List (List ℕ)) (trees : Trees) (n : Name) → IsWalkOver k texts trees es → IsLedTo texts trees.roots.items n → IsNeededBy k.rows texts Tree n
+tree_needed k es texts trees n over (follows, depth, within, leads) =
+    let p = path_to texts trees.roots.items follows depth n leads in
+    let root : Root = record { tree = p.top; follows = follows } in
+    let found = map_contains row_root k.rows root (subst (λ rs. Contains rs root) over.roots p.among) in
+    let reach : Reach (version_by follows) (tree_blobs texts) p.top Tree n = under_reached (version_by follows) (tree_blobs texts) p.top p.path n (subst (λ d. d ≤ greatest_depth) (sym p.long) within) p.under in
+    record { row = found.0; among = found.1; reaches = by_version es k.rows over.read.snapshots found.0 found.1 (λ v t. Reach v (tree_blobs texts) t Tree n) root found.2 reach }
+
+pub tree_asked : (k : Known) (who : Asker) (token : Token) (es : Trace) (texts : List (List ℕ)) (trees : Trees) (fact : Fact) → IsWorking (prune_task who) token es → IsWalkOver k texts trees es → Awaits k.facts texts trees fact
+    → MayAsk prune_rule who (KnowsStage k (Stage.Walking trees fact)) es (range_of fact)
+tree_asked k who token es texts trees fact w over a =
+    let of_tree : Tree ≡ fact.kind = sym a.next.0 in
+    record {
+      work = tt;
+      may = ((token, w), (fact, awaited_read k es texts trees fact over.read a, refl, refl, refl));
+      allowed = record {
+        none = over.untouched.none_deleted;
+        rows = k.rows;
+        snapshots = over.read.snapshots;
+        indexes = over.read.indexes;
+        texts = texts;
+        trees = record { received = over.received; one = a.walks.walk.seen.one };
+        facts = k.facts;
+        gives = over.read.gives;
+        fact = fact;
+        there = refl;
+        copy = record {
+          is_used = subst (λ kind. IsNeededBy k.rows texts kind fact.name) of_tree (tree_needed k es texts trees fact.name over a.next.3);
+          least = subst (λ kind. IsLeast k.facts kind fact.name fact.place) of_tree a.next.1;
+        };
+        wanted = inl a.next.0;
+      };
+      knows = record { texts = texts; over = over; awaits = a; asks = refl };
+    }
 
 texts_received : (es : Trace) (texts : List (List ℕ)) → ((x : List ℕ) → Contains texts x → Received es Tree x) → Grows (tree_blobs texts) (Received es)
 texts_received es texts received k x h = subst (λ j. Received es j x) (sym h.0) (received x h.1)

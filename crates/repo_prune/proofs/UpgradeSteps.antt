@@ -14,7 +14,7 @@ use Rattle.repo_session.proofs.Faulting.{known_exist}
 use Rattle.repo_session.proofs.Holding.{opened_working}
 use Rattle.repo_prune.specs.Upgrading.{HasReadVersion, upgrade_rule}
 use Rattle.repo_prune.specs.UpgradeStates.{KnowsUpgrade}
-use Rattle.repo_prune.specs.declared.upgrades.UpgradeJob.{UpgradeJob}
+use Rattle.repo_prune.specs.declared.upgrades.Upgrade.{Upgrade}
 
 -- the config that was just read
 pub read_now : (task : Task) (token : Token) (text : List ℕ) (config : Config) (version : ℕ) → IsConfigText text config → config.version ≡ version → HasReadVersion (opened task token text) version
@@ -34,7 +34,7 @@ not_asked task token text t (inr (inr (inl h))) = absurd (cc)
 not_asked task token text t (inr (inr (inr h))) = absurd h
 
 -- an upgrade may be asked for right after a config of version 1
-pub upgrade_asked : (j : UpgradeJob) (who : Asker) (token : Token) (text : List ℕ) (config : Config) → IsConfigText text config → config.version ≤ known_under upgrade_rule who → config.version ≢ 2
+pub upgrade_asked : (j : Upgrade) (who : Asker) (token : Token) (text : List ℕ) (config : Config) → IsConfigText text config → config.version ≤ known_under upgrade_rule who → config.version ≢ 2
     → MayAsk upgrade_rule who (KnowsUpgrade j) (opened (task_under upgrade_rule who) token text) (Ask.Upgrade token)
 upgrade_asked j who token text config reads known other =
     let task = task_under upgrade_rule who in

@@ -11,7 +11,7 @@ use Rattle.repo_tree.specs.SnapshotText.{IsSnapshotText}
 use Rattle.repo_session.specs.Versions.{upto}
 use Rattle.repo_session.specs.Alone.{IsFit, AreVersionsUpto, IsSent, IsSpoken, NoClash}
 use Rattle.repo_session.specs.Askers.{Asker}
-use Rattle.repo_session.specs.Clients.{IsObedient}
+use Rattle.repo_session.specs.Clients.{IsObedientBy}
 use Rattle.repo_session.specs.Soundness.{IsSound}
 use Rattle.repo_session.specs.Talks.{Talk, trace_of, TalkRan, MayBeAhead}
 use Rattle.repo_session.specs.Listings.{IsSnapshotListing}
@@ -19,12 +19,8 @@ use Rattle.repo_session.specs.Traces.{Each, Trace}
 use Rattle.repo_session.specs.declared.outcomes.End.{End}
 use Rattle.repo_session.specs.declared.outcomes.Outcome.{Outcome}
 use Rattle.repo_prune.specs.declared.choices.Choice.{Choice}
-use Rattle.repo_prune.specs.Forgetting.{IsChosen, AreChosen, WouldForget, forget_task, ForgetAllows, ForgetGives, ForgetConcludes}
+use Rattle.repo_prune.specs.Forgetting.{IsChosen, AreChosen, WouldForget, forget_rule, forget_task}
 use Rattle.repo_prune.specs.Keeping.{Row}
-
--- these exchanges, what is pending and the outcome are a forget's
-abbrev pub IsForget : Asker → Choice → Option Request → Option Outcome → Trace → Type 0
-IsForget who choice next outcome es = IsObedient (forget_task who) (ForgetAllows choice) (ForgetGives choice) (ForgetConcludes choice) next outcome es
 
 -- no two of the objects of a store, and of the blobs in its packs, have one name
 abbrev pub AreStoredApart : Store → Type 0
@@ -39,7 +35,7 @@ pub record HasFewerSnapshots (from to : Store) : Type 0 where
 -- step ahead
 abbrev pub ForgetKeepsSound : Type 0
 ForgetKeepsSound = (who : Asker) (choice : Choice) (from mid to : Store) (failed failing : ℕ) (talk : Talk) (next : Option Request) (outcome : Option Outcome)
-    → IsSound from.objects → AreStoredApart from → TalkRan from failed talk mid failing → MayBeAhead mid next to → IsForget who choice next outcome (trace_of talk) → HasFewerSnapshots from to × IsSound to.objects
+    → IsSound from.objects → AreStoredApart from → TalkRan from failed talk mid failing → MayBeAhead mid next to → IsObedientBy (forget_rule choice) who next outcome (trace_of talk) → HasFewerSnapshots from to × IsSound to.objects
 
 -- a forget alone with a store in which it finds all that it wants, which isn't one that only appends, and whose device doesn't fail, tells at its end what
 -- it forgot, or the store had no memory
@@ -50,7 +46,7 @@ IsForgottenOrMemory (Some outcome) = outcome ≡ Outcome.Ended (End.Refused Code
 
 abbrev pub ForgetEndsWell : Type 0
 ForgetEndsWell = (who : Asker) (choice : Choice) (from to : Store) (failed : ℕ) (talk : Talk) (outcome : Option Outcome)
-    → IsFit from → AreVersionsUpto (upto (forget_task who).versions) from → from.append_only ≡ false → AreStoredApart from → failed < greatest_count → TalkRan from failed talk to failed → length talk < 2 ^ 64 - 1 → IsForget who choice None outcome (trace_of talk) → IsForgottenOrMemory outcome
+    → IsFit from → AreVersionsUpto (upto (forget_task who).versions) from → from.append_only ≡ false → AreStoredApart from → failed < greatest_count → TalkRan from failed talk to failed → length talk < 2 ^ 64 - 1 → IsObedientBy (forget_rule choice) who None outcome (trace_of talk) → IsForgottenOrMemory outcome
 
 -- a forget alone with a store in which it finds all that it wants, which only appends, and whose device doesn't fail, forgets nothing: it is refused for that
 -- mode, or forgot no snapshot, or the store had no memory
@@ -60,7 +56,7 @@ ForgetsNothing (Some outcome) = (outcome ≡ Outcome.Ended (End.Refused Code.NoM
 
 abbrev pub ForgetOfAppendOnly : Type 0
 ForgetOfAppendOnly = (who : Asker) (choice : Choice) (from to : Store) (failed : ℕ) (talk : Talk) (outcome : Option Outcome)
-    → IsFit from → AreVersionsUpto (upto (forget_task who).versions) from → from.append_only ≡ true → AreStoredApart from → failed < greatest_count → TalkRan from failed talk to failed → length talk < 2 ^ 64 - 1 → IsForget who choice None outcome (trace_of talk) → ForgetsNothing outcome
+    → IsFit from → AreVersionsUpto (upto (forget_task who).versions) from → from.append_only ≡ true → AreStoredApart from → failed < greatest_count → TalkRan from failed talk to failed → length talk < 2 ^ 64 - 1 → IsObedientBy (forget_rule choice) who None outcome (trace_of talk) → ForgetsNothing outcome
 
 -- rows are those of a store's snapshots: each is what the store has under its name, and none is left out
 pub record AreSnapshotsOf (store : Store) (rows : List Row) : Type 0 where
@@ -80,5 +76,5 @@ ForeseenIsForgotten = (choice : Choice) (rows : List Row) (names : List Name) (e
 -- where a forget tells what it forgot, alone with its store, what stays are just the snapshots that aren't chosen: by a policy those of which a row is kept, or is of another host than it is for
 abbrev pub ForgetLeavesTheOthers : Type 0
 ForgetLeavesTheOthers = (who : Asker) (choice : Choice) (from to : Store) (failed failing : ℕ) (talk : Talk) (next : Option Request) (names : List Name)
-    → TalkRan from failed talk to failing → IsForget who choice next (Some (Outcome.Forgotten names)) (trace_of talk)
+    → TalkRan from failed talk to failing → IsObedientBy (forget_rule choice) who next (Some (Outcome.Forgotten names)) (trace_of talk)
     → (rows : List Row) × AreChosenFrom choice from rows × ((n : Name) (x : List ℕ) → (to.objects Kind.Snapshot n ≡ Some x) ↔ ((from.objects Kind.Snapshot n ≡ Some x) × ¬ IsChosen choice rows n))

@@ -2,7 +2,6 @@
 pub mod Keeping
 pub mod Forgetting
 pub mod ForgetStates
-pub mod ForgetObedience
 pub mod Pruning
 pub mod PruneLaws
 pub mod Plans
@@ -10,10 +9,8 @@ pub mod Reading
 pub mod Moving
 pub mod Relisting
 pub mod PruneStates
-pub mod PruneObedience
 pub mod Laws
 pub mod Upgrading
 pub mod UpgradeStates
-pub mod UpgradeObedience
 pub mod UpgradeLaws
 pub mod inner

@@ -10,8 +10,8 @@ use Rattle.repo_index.specs.declared.facts.Fact.{Fact}
 use Rattle.repo_index.specs.declared.facts.PackFacts.{PackFacts}
 use Rattle.repo_reach.specs.Used.{UsedHasPair}
 use Rattle.repo_reach.specs.declared.used.Used.{Used}
-use Rattle.repo_writing.specs.Blobs.{HasFact}
-use Rattle.repo_prune.specs.Pruning.{AreFactsOnce, IsUsedCopyBy, MayStayBy, MustMoveBy}
+use Rattle.repo_writing.specs.Blobs.{HasFact, AreFactsOnce}
+use Rattle.repo_prune.specs.Pruning.{IsUsedCopyBy, MayStayBy, MustMoveBy}
 use Rattle.repo_prune.specs.declared.plans.Plan.{Plan}
 
 -- the copy of a used pair that is used: the one at the least place

@@ -17,17 +17,13 @@ use Rattle.repo_tree.specs.declared.snapshots.Snapshot.{Snapshot}
 use Rattle.repo_session.specs.Versions.{upto}
 use Rattle.repo_session.specs.Alone.{IsFit, AreVersionsUpto, IsSent, IsSpoken, NoClash}
 use Rattle.repo_session.specs.Askers.{Asker}
-use Rattle.repo_session.specs.Clients.{IsObedient}
+use Rattle.repo_session.specs.Clients.{IsObedientBy}
 use Rattle.repo_session.specs.Soundness.{IsHeld, IsSound}
 use Rattle.repo_session.specs.Talks.{Talk, trace_of, TalkRan, MayBeAhead}
 use Rattle.repo_session.specs.Traces.{Trace}
 use Rattle.repo_session.specs.declared.outcomes.End.{End}
 use Rattle.repo_session.specs.declared.outcomes.Outcome.{Outcome}
-use Rattle.repo_prune.specs.Pruning.{prune_task, PruneAllows, PruneGives, PruneConcludes}
-
--- these exchanges, what is pending and the outcome are a prune's
-abbrev pub IsPrune : Asker → Option Request → Option Outcome → Trace → Type 0
-IsPrune who next outcome es = IsObedient (prune_task who) PruneAllows PruneGives PruneConcludes next outcome es
+use Rattle.repo_prune.specs.Pruning.{prune_rule, prune_task}
 
 -- no two of the objects of a store and of those that were put or are about to be, and of the blobs in these packs, have one name
 abbrev pub AreApart : Store → Trace → Option Request → Type 0
@@ -40,7 +36,7 @@ HaveSameSnapshots from to = (n : Name) (x : List ℕ) → (to.objects Kind.Snaps
 -- a prune leaves the snapshots as they are, and a sound store sound: after every exchange, whatever the store says, and also where it is one step ahead
 abbrev pub PruneKeepsSound : Type 0
 PruneKeepsSound = (who : Asker) (from mid to : Store) (failed failing : ℕ) (talk : Talk) (next : Option Request) (outcome : Option Outcome)
-    → IsSound from.objects → AreApart from (trace_of talk) next → TalkRan from failed talk mid failing → MayBeAhead mid next to → IsPrune who next outcome (trace_of talk) → HaveSameSnapshots from to × IsSound to.objects
+    → IsSound from.objects → AreApart from (trace_of talk) next → TalkRan from failed talk mid failing → MayBeAhead mid next to → IsObedientBy prune_rule who next outcome (trace_of talk) → HaveSameSnapshots from to × IsSound to.objects
 
 -- a prune alone with a store in which it finds all that it wants, which isn't one that only appends, and whose device doesn't fail, is done at its end, or
 -- the store had no memory
@@ -51,7 +47,7 @@ IsPrunedOrMemory (Some outcome) = outcome ≡ Outcome.Ended (End.Refused Code.No
 
 abbrev pub PruneEndsWell : Type 0
 PruneEndsWell = (who : Asker) (from to : Store) (failed : ℕ) (talk : Talk) (outcome : Option Outcome)
-    → IsFit from → AreVersionsUpto (upto (prune_task who).versions) from → from.append_only ≡ false → AreApart from (trace_of talk) None → failed < greatest_count → TalkRan from failed talk to failed → length talk < 2 ^ 64 - 1 → IsPrune who None outcome (trace_of talk) → IsPrunedOrMemory outcome
+    → IsFit from → AreVersionsUpto (upto (prune_task who).versions) from → from.append_only ≡ false → AreApart from (trace_of talk) None → failed < greatest_count → TalkRan from failed talk to failed → length talk < 2 ^ 64 - 1 → IsObedientBy prune_rule who None outcome (trace_of talk) → IsPrunedOrMemory outcome
 
 -- a prune alone with a store in which it finds all that it wants, which only appends, and whose device doesn't fail, prunes no pack: it is refused for that
 -- mode, or is done with no pack deleted, or the store had no memory
@@ -61,7 +57,7 @@ PrunesNoPack (Some outcome) = (outcome ≡ Outcome.Ended (End.Refused Code.NoMem
 
 abbrev pub PruneOfAppendOnly : Type 0
 PruneOfAppendOnly = (who : Asker) (from to : Store) (failed : ℕ) (talk : Talk) (outcome : Option Outcome)
-    → IsFit from → AreVersionsUpto (upto (prune_task who).versions) from → from.append_only ≡ true → AreApart from (trace_of talk) None → failed < greatest_count → TalkRan from failed talk to failed → length talk < 2 ^ 64 - 1 → IsPrune who None outcome (trace_of talk) → PrunesNoPack outcome
+    → IsFit from → AreVersionsUpto (upto (prune_task who).versions) from → from.append_only ≡ true → AreApart from (trace_of talk) None → failed < greatest_count → TalkRan from failed talk to failed → length talk < 2 ^ 64 - 1 → IsObedientBy prune_rule who None outcome (trace_of talk) → PrunesNoPack outcome
 
 -- ---- what a prune leaves
 
@@ -93,4 +89,4 @@ pub record HaveJustWhatIsNeeded (objects : Objects) : Type 0 where
 -- where a prune alone with its store is done, the store has just what its snapshots need, once
 abbrev pub PruneLeavesWhatIsNeeded : Type 0
 PruneLeavesWhatIsNeeded = (who : Asker) (from to : Store) (failed failing : ℕ) (talk : Talk) (next : Option Request) (packs bytes : ℕ)
-    → IsSound from.objects → AreApart from (trace_of talk) next → TalkRan from failed talk to failing → IsPrune who next (Some (Outcome.Pruned packs bytes)) (trace_of talk) → HaveJustWhatIsNeeded to.objects
+    → IsSound from.objects → AreApart from (trace_of talk) next → TalkRan from failed talk to failing → IsObedientBy prune_rule who next (Some (Outcome.Pruned packs bytes)) (trace_of talk) → HaveJustWhatIsNeeded to.objects

@@ -29,22 +29,23 @@ use Rattle.repo_session.specs.Order.{IsWorking}
 use Rattle.repo_session.specs.Readings.{KnowsIndexes, KnowsRoll}
 use Rattle.repo_session.specs.Received.{Received}
 use Rattle.repo_session.specs.Rolls.{IsPaged, Rolls}
-use Rattle.repo_session.specs.Sessions.{FitsSession, who_in}
+use Rattle.repo_session.specs.Sessions.{FitsSession}
+use Rattle.repo_session.specs.declared.sessions.Session.{Session}
 use Rattle.repo_session.specs.Told.{AskedToPut}
 use Rattle.repo_session.specs.Traces.{Each, Object, Trace, silent, names_in, objects_put, IsListed, Lists, ReadFact}
 use Rattle.repo_reach.specs.Collected.{root_of}
 use Rattle.repo_reach.specs.Laws.{IsWholeWalk}
 use Rattle.repo_reach.specs.declared.trees.Trees.{Trees}
-use Rattle.repo_writing.specs.Blobs.{HasFact}
+use Rattle.repo_writing.specs.Blobs.{HasFact, AreFactsOnce}
 use Rattle.repo_writing.specs.Filling.{HasConfig}
 use Rattle.repo_writing.specs.Laws.{IsPutOrKept}
 use Rattle.repo_writing.specs.Putting.{AreCounted, IsKeptPack}
 use Rattle.repo_writing.specs.Sealing.{IsSealedOf}
-use Rattle.repo_writing.specs.Writing.{Put, items_of, ArePut, AreListed}
+use Rattle.repo_writing.specs.Writing.{Put, items_of, ArePut, AreListed, ListsPack}
 use Rattle.repo_writing.specs.declared.counts.Counts.{Counts}
 use Rattle.repo_prune.specs.Keeping.{Row}
 use Rattle.repo_prune.specs.Moving.{IsMoving, AwaitsBlob}
-use Rattle.repo_prune.specs.Pruning.{prune_rule, prune_task, IsUntouched, AreTrees, IsNeededBy, AreWalked, AreFactsOnce, MustMoveBy, AreCovered, ListsPack, IsSettled, PruneConcludes}
+use Rattle.repo_prune.specs.Pruning.{prune_rule, prune_task, IsUntouched, AreTrees, IsNeededBy, AreWalked, MustMoveBy, AreCovered, IsSettled, PruneConcludes}
 use Rattle.repo_prune.specs.Reading.{Walks, Awaits, HasTaken}
 use Rattle.repo_prune.specs.Relisting.{AreListable}
 use Rattle.repo_prune.specs.declared.deleting.Deleting.{Deleting}
@@ -52,7 +53,6 @@ use Rattle.repo_prune.specs.declared.moving.Moved.{Moved}
 use Rattle.repo_prune.specs.declared.moving.Moving.{Moving}
 use Rattle.repo_prune.specs.declared.prunes.Onward.{Onward}
 use Rattle.repo_prune.specs.declared.prunes.Prune.{Prune}
-use Rattle.repo_prune.specs.declared.prunes.PruneJob.{PruneJob}
 use Rattle.repo_prune.specs.declared.prunes.Stage.{Stage}
 use Rattle.repo_prune.specs.declared.relisting.Relisting.{Relisting}
 
@@ -245,7 +245,7 @@ pub record AreUnlisted (packs : Roll) (es : Trace) : Type 0 where
   pub rolled : Rolls packs false es
 
 -- snapshots are being read, and no page of indexes came
-pub record ReadsSnapshots (j : PruneJob) (ask : Ask) (es : Trace) : Type 0 where
+pub record ReadsSnapshots (j : Prune) (ask : Ask) (es : Trace) : Type 0 where
   pub untouched : IsUntouched es
   pub snapshots : KnowsSnapshots j.snapshots ask es
   pub indexes : Catalogs j.catalog false es
@@ -254,7 +254,7 @@ pub record ReadsSnapshots (j : PruneJob) (ask : Ask) (es : Trace) : Type 0 where
   pub target : HasTarget es j.target.bytes
 
 -- snapshots were read, and indexes are being read
-pub record ReadsIndexes (j : PruneJob) (ask : Ask) (es : Trace) : Type 0 where
+pub record ReadsIndexes (j : Prune) (ask : Ask) (es : Trace) : Type 0 where
   pub untouched : IsUntouched es
   pub snapshots : IsSnapshotListing es j.snapshots.rows.items
   pub indexes : KnowsIndexes j.catalog ask es
@@ -262,7 +262,7 @@ pub record ReadsIndexes (j : PruneJob) (ask : Ask) (es : Trace) : Type 0 where
   pub target : HasTarget es j.target.bytes
 
 -- indexes were read too, and packs are being listed
-pub record ListsPacks (j : PruneJob) (ask : Ask) (es : Trace) : Type 0 where
+pub record ListsPacks (j : Prune) (ask : Ask) (es : Trace) : Type 0 where
   pub untouched : IsUntouched es
   pub snapshots : IsSnapshotListing es j.snapshots.rows.items
   pub indexes : Catalogs j.catalog true es
@@ -274,7 +274,7 @@ pub record ListsPacks (j : PruneJob) (ask : Ask) (es : Trace) : Type 0 where
 -- ---- in each stage
 
 -- nothing was listed yet
-pub record IsFreshPrune (j : PruneJob) : Type 0 where
+pub record IsFreshPrune (j : Prune) : Type 0 where
   pub snapshots : IsFreshRoll j.snapshots
   pub of_indexes : j.catalog.roll.kind ≡ Kind.Index
   pub no_indexes : j.catalog.roll.names.items ≡ []
@@ -307,17 +307,17 @@ KnowsStage k (Stage.Relisting r) ask es = KnowsRelisting k r ask es
 KnowsStage k (Stage.Deleting d) ask es = KnowsDeleting d ask es
 
 -- what the job listed and read
-abbrev pub known_in : PruneJob → Known
+abbrev pub known_in : Prune → Known
 known_in j = record { rows = j.snapshots.rows.items; indexes = j.catalog.roll.names.items; facts = j.catalog.lookup; packs = j.packs.names.items; target = j.target.bytes }
 
 -- what is known where this is pending
-abbrev pub KnowsPrune : PruneJob → Ask → Trace → Type 0
+abbrev pub KnowsPrune : Prune → Ask → Trace → Type 0
 KnowsPrune j (Ask.List Kind.Snapshot after) es = ReadsSnapshots j (Ask.List Kind.Snapshot after) es
 KnowsPrune j (Ask.List Kind.Index after) es = ReadsIndexes j (Ask.List Kind.Index after) es
 KnowsPrune j (Ask.List Kind.Pack after) es = ListsPacks j (Ask.List Kind.Pack after) es
 KnowsPrune j (Ask.Get Kind.Snapshot n) es = ReadsSnapshots j (Ask.Get Kind.Snapshot n) es
 KnowsPrune j (Ask.Get Kind.Index n) es = ReadsIndexes j (Ask.Get Kind.Index n) es
-KnowsPrune j (Ask.Get Kind.Pack n) es = ListsPacks j (Ask.Get Kind.Pack n) es
+KnowsPrune j (Ask.Get Kind.Pack n) es = ⊥
 KnowsPrune j ask es = KnowsStage (known_in j) j.stage ask es
 
 -- ---- what comes next
@@ -334,7 +334,7 @@ abbrev pub ComesAfter : Known → Token → (Trace → Type 0) → Onward → Ty
 ComesAfter k token Knew onward = (who : Asker) (es : Trace) → IsWorking (prune_task who) token es → Knew es → IsNextStep k who onward.stage onward.step es
 
 -- the job is in that stage then
-abbrev pub GoesTo : Known → Token → (Trace → Type 0) → Step → PruneJob → Type 0
+abbrev pub GoesTo : Known → Token → (Trace → Type 0) → Step → Prune → Type 0
 GoesTo k token Knew step j = (who : Asker) (es : Trace) → IsWorking (prune_task who) token es → Knew es → IsNextStep (known_in j) who j.stage step es × (known_in j ≡ k)
 
 -- what the moving comes to
@@ -357,23 +357,19 @@ IsListingOf k (Ask.Get j n) = j ≡ k
 IsListingOf k _ = ⊥
 
 -- the step on an exchange, after each trace at whose end its request was pending
-abbrev pub StepsFrom : PruneJob → Token → Ask → Say → Step → PruneJob → Type 0
+abbrev pub StepsFrom : Prune → Token → Ask → Say → Step → Prune → Type 0
 StepsFrom old token ask say step new = (who : Asker) → StepsOn prune_rule (record { who = who; token = token }) (KnowsPrune old) (KnowsPrune new) (silent ask say) step
 
 -- where who prunes knows these versions
-abbrev pub StepsFor : Versions → PruneJob → Token → Ask → Say → Step → PruneJob → Type 0
+abbrev pub StepsFor : Versions → Prune → Token → Ask → Say → Step → Prune → Type 0
 StepsFor versions old token ask say step new = (who : Asker) → who.versions ≡ versions → StepsOn prune_rule (record { who = who; token = token }) (KnowsPrune old) (KnowsPrune new) (silent ask say) step
 
 -- where its reply wasn't taken, what was known is known
-abbrev pub KnowsAsMuch : PruneJob → Ask → PruneJob → Type 0
+abbrev pub KnowsAsMuch : Prune → Ask → Prune → Type 0
 KnowsAsMuch old ask new = (es : Trace) → KnowsPrune old ask es → KnowsPrune new ask es
 
 -- ---- the client
 
--- who prunes
-abbrev pub pruner_of : Prune → Asker
-pruner_of p = who_in p.session
-
 -- the prune stands where the trace leaves it
-abbrev pub FitsPrune : Prune → Trace → Type 0
-FitsPrune p es = FitsSession (λ (j : PruneJob). tt {0}) (λ h. prune_rule) IsFreshPrune KnowsPrune p.session es
+abbrev pub FitsPrune : Session Prune → Trace → Type 0
+FitsPrune p es = FitsSession (λ (j : Prune). tt {0}) (λ h. prune_rule) IsFreshPrune KnowsPrune p es

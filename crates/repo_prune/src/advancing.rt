@@ -12,7 +12,7 @@ use crate::deciding::{Decided, decide};
 use crate::deleting::Deleting;
 use crate::moving::{Moved, Moving};
 use crate::plans::Plan;
-use crate::prunes::{Onward, PruneJob, Stage};
+use crate::prunes::{Onward, Prune, Stage};
 use crate::reading::{Walked, read_on};
 use crate::relisting::Relisting;
 use repo_name::{Name, Thing, Token};
@@ -53,7 +53,7 @@ pub fn move_on(token: Token, moved: Moved) -> Step
     }
 }
 
-impl PruneJob {
+impl Prune {
     /// What comes once all new indexes are put: what is old is deleted. It fails for memory alone.
     pub fn after_indexes(&self, token: Token, relisting: &Relisting) -> Result<Onward, AllocError>
         ensures on { IfOk result (ComesAfter (known_in self.now) token (HasListed (known_in self.now) relisting.now)) }

@@ -7,28 +7,33 @@ ghost use Rattle.repo_wire.specs.declared.messages.Ask.{Ask};
 ghost use Rattle.repo_session.specs.Jobs.{IsShortStep, StepsOn};
 ghost use Rattle.repo_session.specs.Listings.{KnowsAsMuch};
 ghost use Rattle.repo_session.specs.Traces.{silent};
-ghost use Rattle.repo_dial.specs.Bringing.{Brought};
+ghost use Rattle.repo_session.specs.Sessions.{who_in};
 ghost use Rattle.repo_prune.specs.declared.choices.Choice.{Choice};
 ghost use Rattle.repo_prune.specs.Forgetting.{AreChosenOf, IsNoPolicy, WouldForget, forget_rule};
-ghost use Rattle.repo_prune.specs.ForgetStates.{FitsForget, IsFreshForget, KnowsDelete, KnowsForget, ForgetBegins, ForgetGoesOn, ForgetReadsOn, who_of, choice_of, TakesPage};
+ghost use Rattle.repo_prune.specs.ForgetStates.{FitsForget, IsFreshForget, KnowsDelete, KnowsForget, ForgetBegins, ForgetGoesOn, ReadsOnByPolicy, TakesPageByNames, choice_of};
 
 use crate::choices::{Choice, ForgetError};
 use crate::picking::{chosen, would_forget};
-use repo_dial::{Dial, TryError, bring};
 use repo_name::{Kind, Name, Names, Thing, Token};
 use repo_session::{
-    Client, Emission, End, Holder, Job, Outcome, Paging, Session, SnapshotReading, SnapshotRoll,
-    Step, Versions, Who,
+    Emission, End, Holder, Job, Outcome, Paging, Session, SnapshotReading, SnapshotRoll, Step,
+    Versions, Who,
 };
 use repo_tree::Config;
-use repo_wire::{Ask, Reply, Request, Say};
+use repo_wire::{Ask, Say};
 use std::alloc::{AllocError, Global};
 use std::mem;
 
-/// What is to be forgotten; the snapshots that were listed and read so far; and once that is known, the chosen ones, and
-/// how many of them were deleted.
+/// A client `Session<Forget>` deletes snapshots: it lists them all, by a policy it reads them all, and then it deletes those
+/// that are chosen, one by one, ascending. Its outcome is `Forgotten`, with the names of these, where nothing went wrong.
+///
+/// Where a policy chooses, bytes that don't have their name, or aren't a snapshot's text, end it as `BadObject`, and a
+/// snapshot of a version that isn't known ends it as `Version`: nothing was deleted then.
+///
+/// It has what is to be forgotten; the snapshots that were listed and read so far; and once that is known, the chosen ones,
+/// and how many of them were deleted.
 #[derive(Drop)]
-struct ForgetJob {
+pub struct Forget {
     choice: Choice,
     snapshots: SnapshotRoll,
     chosen: Vec<Name>,
@@ -36,13 +41,27 @@ struct ForgetJob {
     alloc: Global,
 }
 
-impl ForgetJob {
+impl Forget {
+    /// A forget whose ticket is pending. `NoPolicy` is told of a policy of which both counts are 0, and of nothing else.
+    /// It takes no memory.
+    pub fn new(alloc: Global, who: Who, choice: Choice) -> Result<Session<Forget>, ForgetError>
+        ensures fits { IfOk result (λ forget. FitsForget forget []) }
+        ensures who { IfOk result (λ forget. who_in forget ≡ who) }
+        ensures choice { IfOk result (λ forget. choice_of forget ≡ choice) }
+        ensures refused { IsErr result ↔ IsNoPolicy choice }
+    {
+        if choice.is_no_policy() {
+            return Err(ForgetError::NoPolicy);
+        }
+        Ok(Session::new(alloc, who, Forget::fresh(alloc, choice)))
+    }
+
     /// A forget of nothing so far. It takes no memory.
-    fn new(alloc: Global, choice: Choice) -> ForgetJob
+    fn fresh(alloc: Global, choice: Choice) -> Forget
         ensures fresh { IsFreshForget result }
         ensures choice { result.choice ≡ choice }
     {
-        ForgetJob {
+        Forget {
             choice,
             snapshots: SnapshotRoll::new(alloc),
             chosen: Vec::new(alloc),
@@ -124,7 +143,7 @@ impl ForgetJob {
     /// Takes the reply to the request for a page, where names were given. It fails for memory alone, and then what was
     /// known is known.
     fn take_page(&mut self, holder: &Holder, say: &Say) -> Result<Step, AllocError>
-        ensures steps { IfOk result (λ step. TakesPage self.old holder.now say.now step self.new) }
+        ensures steps { IfOk result (λ step. TakesPageByNames self.old holder.now say.now step self.new) }
         ensures short { IfOk result IsShortStep }
         ensures knows { OnErr result (KnowsAsMuch self.old.snapshots self.new.snapshots) }
         ensures choice { self.new.choice ≡ self.old.choice }
@@ -145,9 +164,10 @@ impl ForgetJob {
         }
     }
 
-    /// Takes the reply to a request of the reading. It fails for memory alone, and then what was known is known.
+    /// Takes the reply to a request of the reading, where a policy chooses. It fails for memory alone, and then what was
+    /// known is known.
     fn take_reading(&mut self, holder: &Holder, ask: &Ask, say: &Say) -> Result<Step, AllocError>
-        ensures steps { IfOk result (λ step. ForgetReadsOn self.old holder.now ask.now say.now step self.new) }
+        ensures steps { IfOk result (λ step. ReadsOnByPolicy self.old holder.now ask.now say.now step self.new) }
         ensures short { IfOk result IsShortStep }
         ensures knows { OnErr result (KnowsAsMuch self.old.snapshots self.new.snapshots) }
         ensures choice { self.new.choice ≡ self.old.choice }
@@ -174,7 +194,7 @@ impl ForgetJob {
     }
 }
 
-impl Job for ForgetJob {
+impl Job for Forget {
     ghost use Rattle.repo_prune.specs.declared.choices.Choice.{Choice};
     ghost use Rattle.repo_prune.specs.Forgetting.{forget_rule};
     ghost use Rattle.repo_prune.specs.ForgetStates.{IsFreshForget, KnowsForget, choice_in};
@@ -209,115 +229,16 @@ impl Job for ForgetJob {
         if let Say::Refused(_) = say {
             return Ok(Step::Away);
         }
-        match (ask, &self.choice) {
-            (Ask::Delete { .. }, _) => Ok(self.take_delete(holder, ask, say)),
-            (Ask::List { .. }, Choice::Names(_)) => self.take_page(holder, say),
+        if let Ask::Delete { .. } = ask {
+            return Ok(self.take_delete(holder, ask, say));
+        }
+        match &self.choice {
+            Choice::Names(_) => self.take_page(holder, say),
             _ => self.take_reading(holder, ask, say),
         }
     }
 
     fn emitted(&self) -> &[Emission] {
         &[]
-    }
-}
-
-/// A client that deletes snapshots: it lists them all, by a policy it reads them all, and then it deletes those that are
-/// chosen, one by one, ascending. Its outcome is `Forgotten`, with the names of these, where nothing went wrong.
-///
-/// Where a policy chooses, bytes that don't have their name, or aren't a snapshot's text, end it as `BadObject`, and a
-/// snapshot of a version that isn't known ends it as `Version`: nothing was deleted then.
-#[derive(Drop)]
-pub struct Forget {
-    session: Session<ForgetJob>,
-}
-
-impl Forget {
-    /// A forget whose ticket is pending. `NoPolicy` is told of a policy of which both counts are 0, and of nothing else.
-    /// It takes no memory.
-    pub fn new(alloc: Global, who: Who, choice: Choice) -> Result<Forget, ForgetError>
-        ensures fits { IfOk result (λ forget. FitsForget forget []) }
-        ensures who { IfOk result (λ forget. who_of forget ≡ who) }
-        ensures choice { IfOk result (λ forget. choice_of forget ≡ choice) }
-        ensures refused { IsErr result ↔ IsNoPolicy choice }
-    {
-        if choice.is_no_policy() {
-            return Err(ForgetError::NoPolicy);
-        }
-        Ok(Forget {
-            session: Session::new(alloc, who, ForgetJob::new(alloc, choice)),
-        })
-    }
-
-    /// Brings a forget that hasn't begun to its end, as [`bring`] does, and gives how it ended.
-    pub fn bring<D: Dial>(
-        self,
-        alloc: Global,
-        dial: &mut D,
-        retry: u64,
-    ) -> Result<Outcome, TryError>
-        requires { FitsForget self [] }
-        ensures { Brought (forget_rule (choice_of self)) (who_of self) result retry (D.connections dial.old) (D.connections dial.new) }
-    {
-        let Forget { session } = self;
-        bring(alloc, session, &mut |_| true, dial, retry)
-    }
-}
-
-impl Client for Forget {
-    ghost use Rattle.std.specs.Prelude.{⊤};
-    ghost use Rattle.repo_prune.specs.declared.choices.Choice.{Choice};
-    ghost use Rattle.repo_session.specs.Sessions.{Given, next_in, ended_in, given_by, token_in};
-    ghost use Rattle.repo_prune.specs.Forgetting.{forget_task, ForgetAllows, ForgetGives, ForgetConcludes};
-    ghost use Rattle.repo_prune.specs.ForgetStates.{FitsForget, who_of, choice_of};
-    ghost use Rattle.repo_prune.specs.ForgetObedience.{forget_obeys, forget_tells};
-
-    ghost Job = { Given Choice };
-
-    ghost job = { λ f. record { who = who_of f; handed = choice_of f } };
-
-    ghost task = { λ j. forget_task j.who };
-
-    ghost allows = { λ j. ForgetAllows j.handed };
-
-    ghost gives = { λ j. ForgetGives j.handed };
-
-    ghost concludes = { λ j. ForgetConcludes j.handed };
-
-    ghost calm = { λ j. ⊤ };
-
-    ghost wanting = { λ j es. ⊥ };
-
-    ghost fits = { FitsForget };
-
-    ghost next = { λ f. next_in f.session };
-
-    ghost ended = { λ f. ended_in f.session };
-
-    ghost given = { λ f. given_by (λ j. []) f.session };
-
-    ghost token_of = { λ f. token_in f.session };
-
-    ghost obedient = { forget_obeys };
-
-    ghost ticketed = { forget_tells };
-
-    fn pending(&self) -> Option<&Request> {
-        self.session.pending()
-    }
-
-    fn take(&mut self, reply: &Reply) -> Result<(), AllocError> {
-        self.session.take(reply)
-    }
-
-    fn outcome(&self) -> Option<&Outcome> {
-        self.session.outcome()
-    }
-
-    fn emitted(&self) -> &[Emission] {
-        self.session.emitted()
-    }
-
-    fn token(&self) -> Option<Token> {
-        self.session.token()
     }
 }

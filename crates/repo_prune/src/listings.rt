@@ -9,13 +9,13 @@ ghost use Rattle.repo_session.specs.Jobs.{IsShortStep};
 ghost use Rattle.repo_prune.specs.PruneStates.{IsListingOf, StepsFor, StepsFrom, KnowsAsMuch};
 
 use crate::advancing::end;
-use crate::prunes::PruneJob;
+use crate::prunes::Prune;
 use repo_name::{Kind, Thing, Token};
 use repo_session::{End, Paging, Reading, SnapshotReading, Step, Versions};
 use repo_wire::{Ask, Say};
 use std::alloc::AllocError;
 
-impl PruneJob {
+impl Prune {
     /// Takes the reply to a request of the reading of snapshots, for who knows these versions. It fails for memory alone,
     /// and then what was known is known.
     fn take_snapshots(
@@ -75,33 +75,6 @@ impl PruneJob {
         }
     }
 
-    /// Takes the reply to a request for a pack, whose bytes are of no account: all packs were listed. It fails for memory
-    /// alone, and then nothing changed.
-    fn take_pack(&mut self, token: Token, say: &Say) -> Result<Step, AllocError>
-        ensures steps { IfOk result (λ step. (name : Name) → StepsFrom self.old token (Ask.Get Kind.Pack name) say.now step self.new) }
-        ensures short { IfOk result IsShortStep }
-        ensures err { OnErr result (self.new ≡ self.old) }
-    {
-        let Say::Bytes(_) = say else {
-            return Ok(Step::Away);
-        };
-        let onward = self.after_lists(token)?;
-        Ok(self.go(onward))
-    }
-
-    /// Takes the reply to a request of the listing of packs. It fails for memory alone, and then what was known is known.
-    fn take_packs(&mut self, token: Token, ask: &Ask, say: &Say) -> Result<Step, AllocError>
-        ensures steps { IfOk result (λ step. IsListingOf Kind.Pack ask.now → StepsFrom self.old token ask.now say.now step self.new) }
-        ensures short { IfOk result IsShortStep }
-        ensures knows { OnErr result (IsListingOf Kind.Pack ask.now → KnowsAsMuch self.old ask.now self.new) }
-    {
-        match ask {
-            Ask::List { .. } => self.take_page(token, say),
-            Ask::Get { .. } => self.take_pack(token, say),
-            _ => Ok(Step::Away),
-        }
-    }
-
     /// Takes the reply to a request of the listing, for who knows these versions. It fails for memory alone, and then what
     /// was known is known.
     pub fn take_listing(
@@ -119,7 +92,7 @@ impl PruneJob {
         match kind {
             Kind::Snapshot => self.take_snapshots(versions, ask, say),
             Kind::Index => self.take_indexes(ask, say),
-            Kind::Pack => self.take_packs(token, ask, say),
+            Kind::Pack => self.take_page(token, say),
         }
     }
 }

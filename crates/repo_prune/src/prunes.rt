@@ -2,24 +2,21 @@
 
 ghost use Rattle.std.specs.Prelude.{◌≡◌, [], IfOk, OnErr};
 ghost use Rattle.repo_session.specs.Jobs.{IsShortStep};
-ghost use Rattle.repo_dial.specs.Bringing.{Brought};
 ghost use Rattle.repo_tree.specs.ConfigText.{IsTarget};
-ghost use Rattle.repo_prune.specs.Pruning.{prune_rule};
-ghost use Rattle.repo_prune.specs.PruneStates.{IsFreshPrune, StepsFor, KnowsAsMuch, FitsPrune, pruner_of};
+ghost use Rattle.repo_session.specs.Sessions.{who_in};
+ghost use Rattle.repo_prune.specs.PruneStates.{IsFreshPrune, StepsFor, KnowsAsMuch, FitsPrune};
 
 use crate::deleting::Deleting;
 use crate::moving::Moving;
 use crate::relisting::Relisting;
-use repo_dial::{Dial, TryError, bring};
 use repo_index::Fact;
 use repo_name::{GREATEST_TARGET, Kind, LEAST_TARGET, Token};
 use repo_reach::Trees;
 use repo_session::{
-    Catalog, Client, Emission, Holder, Job, Outcome, Roll, Session, SnapshotRoll, Step, Versions,
-    Who,
+    Catalog, Emission, Holder, Job, Roll, Session, SnapshotRoll, Step, Versions, Who,
 };
 use repo_tree::Config;
-use repo_wire::{Ask, Reply, Request, Say};
+use repo_wire::{Ask, Say};
 use repo_writing::Target;
 use std::alloc::{AllocError, Global};
 
@@ -45,9 +42,17 @@ pub struct Onward {
     pub step: Step,
 }
 
-/// A prune under its lock: what it listed and read of the store, how far it is, and how large new packs are to be.
+/// A client `Session<Prune>` removes what no snapshot needs: it lists and reads all snapshots and indexes, lists all packs,
+/// reads the trees that the snapshots reach, moves the used blobs of packs that have others too to new packs, lists the
+/// packs that stay in new indexes, and then deletes the other indexes and after them the other packs. Its outcome is
+/// `Pruned`, with the number of packs deleted and of the bytes of the blobs moved, where nothing went wrong.
+///
+/// `Missing` tells of a blob that a snapshot needs and no index gives, and `BadObject` or `Version` of what doesn't read:
+/// nothing was deleted then.
+///
+/// It has what it listed and read of the store, how far it is, and how large new packs are to be.
 #[derive(Drop)]
-pub struct PruneJob {
+pub struct Prune {
     pub snapshots: SnapshotRoll,
     pub catalog: Catalog,
     pub packs: Roll,
@@ -63,12 +68,20 @@ fn target_of(config: &Config) -> Target
     Target::of(config.target.clamp(LEAST_TARGET, GREATEST_TARGET) as u32)
 }
 
-impl PruneJob {
+impl Prune {
+    /// A prune whose ticket is pending. It takes no memory.
+    pub fn new(alloc: Global, who: Who) -> Session<Prune>
+        ensures fits { FitsPrune result [] }
+        ensures who { who_in result ≡ who }
+    {
+        Session::new(alloc, who, Prune::fresh(alloc))
+    }
+
     /// A prune that hasn't begun. It takes no memory.
-    fn new(alloc: Global) -> PruneJob
+    fn fresh(alloc: Global) -> Prune
         ensures { IsFreshPrune result }
     {
-        PruneJob {
+        Prune {
             snapshots: SnapshotRoll::new(alloc),
             catalog: Catalog::new(alloc),
             packs: Roll::new(alloc, Kind::Pack),
@@ -101,7 +114,7 @@ impl PruneJob {
     }
 }
 
-impl Job for PruneJob {
+impl Job for Prune {
     ghost use Rattle.std.specs.Prelude.{[]};
     ghost use Rattle.repo_prune.specs.Pruning.{prune_rule};
     ghost use Rattle.repo_prune.specs.PruneStates.{IsFreshPrune, KnowsPrune};
@@ -142,102 +155,5 @@ impl Job for PruneJob {
 
     fn emitted(&self) -> &[Emission] {
         &[]
-    }
-}
-
-/// A client that removes what no snapshot needs: it lists and reads all snapshots and indexes, lists all packs, reads
-/// the trees that the snapshots reach, moves the used blobs of packs that have others too to new packs, lists the packs
-/// that stay in new indexes, and then deletes the other indexes and after them the other packs. Its outcome is `Pruned`,
-/// with the number of packs deleted and of the bytes of the blobs moved, where nothing went wrong.
-///
-/// `Missing` tells of a blob that a snapshot needs and no index gives, and `BadObject` or `Version` of what doesn't read:
-/// nothing was deleted then.
-#[derive(Drop)]
-pub struct Prune {
-    session: Session<PruneJob>,
-}
-
-impl Prune {
-    /// A prune whose ticket is pending. It takes no memory.
-    pub fn new(alloc: Global, who: Who) -> Prune
-        ensures fits { FitsPrune result [] }
-        ensures who { pruner_of result ≡ who }
-    {
-        Prune {
-            session: Session::new(alloc, who, PruneJob::new(alloc)),
-        }
-    }
-
-    /// Brings a prune that hasn't begun to its end, as [`bring`] does, and gives how it ended.
-    pub fn bring<D: Dial>(
-        self,
-        alloc: Global,
-        dial: &mut D,
-        retry: u64,
-    ) -> Result<Outcome, TryError>
-        requires { FitsPrune self [] }
-        ensures { Brought prune_rule (pruner_of self) result retry (D.connections dial.old) (D.connections dial.new) }
-    {
-        let Prune { session } = self;
-        bring(alloc, session, &mut |_| true, dial, retry)
-    }
-}
-
-impl Client for Prune {
-    ghost use Rattle.std.specs.Prelude.{⊤};
-    ghost use Rattle.repo_session.specs.Askers.{Asker};
-    ghost use Rattle.repo_session.specs.Sessions.{next_in, ended_in, given_by, token_in};
-    ghost use Rattle.repo_prune.specs.Pruning.{prune_task, PruneAllows, PruneGives, PruneConcludes};
-    ghost use Rattle.repo_prune.specs.PruneStates.{FitsPrune, pruner_of};
-    ghost use Rattle.repo_prune.specs.PruneObedience.{prune_obeys, prune_tells};
-
-    ghost Job = { Asker };
-
-    ghost job = { pruner_of };
-
-    ghost task = { prune_task };
-
-    ghost allows = { λ j. PruneAllows };
-
-    ghost gives = { λ j. PruneGives };
-
-    ghost concludes = { λ j. PruneConcludes };
-
-    ghost calm = { λ j. ⊤ };
-
-    ghost wanting = { λ j es. ⊥ };
-
-    ghost fits = { FitsPrune };
-
-    ghost next = { λ p. next_in p.session };
-
-    ghost ended = { λ p. ended_in p.session };
-
-    ghost given = { λ p. given_by (λ j. []) p.session };
-
-    ghost token_of = { λ p. token_in p.session };
-
-    ghost obedient = { prune_obeys };
-
-    ghost ticketed = { prune_tells };
-
-    fn pending(&self) -> Option<&Request> {
-        self.session.pending()
-    }
-
-    fn take(&mut self, reply: &Reply) -> Result<(), AllocError> {
-        self.session.take(reply)
-    }
-
-    fn outcome(&self) -> Option<&Outcome> {
-        self.session.outcome()
-    }
-
-    fn emitted(&self) -> &[Emission] {
-        self.session.emitted()
-    }
-
-    fn token(&self) -> Option<Token> {
-        self.session.token()
     }
 }

@@ -21,7 +21,7 @@ ghost use Rattle.repo_prune.specs.inner.Replies.{StepsInWalk, KnowsInWalk, EndsW
 
 use crate::advancing::{end, move_on};
 use crate::moving::Moved;
-use crate::prunes::{PruneJob, Stage};
+use crate::prunes::{Prune, Stage};
 use crate::reading::{Walked, take_tree, untake};
 use repo_index::Fact;
 use repo_name::{Kind, Token};
@@ -37,7 +37,7 @@ fn bad_blob(fact: Fact) -> Step
     end(End::BadObject(blob_thing(fact.kind), fact.name))
 }
 
-impl PruneJob {
+impl Prune {
     /// Takes the reply to the request for a tree. It fails for memory alone, and then what was known is known.
     fn take_tree(&mut self, token: Token, say: &Say) -> Result<Step, AllocError>
         ensures steps { IfOk result (λ step. StepsInWalk self.old token say.now step self.new) }

@@ -23,25 +23,28 @@ use Rattle.repo_session.specs.Askers.{Asker}
 use Rattle.repo_session.specs.Catalogs.{Catalogs, IsAll}
 use Rattle.repo_session.specs.Ends.{IsBad, IsBadBlob, Concludes, blob_thing}
 use Rattle.repo_session.specs.Jobs.{task_under, known_under, MayAsk}
-use Rattle.repo_session.specs.Order.{opened}
+use Rattle.repo_session.specs.Blobs.{range_of}
+use Rattle.repo_session.specs.Order.{IsReading, IsWorking, ReadsKind, opened}
 use Rattle.repo_session.specs.Rebuilding.{rebuilt, Follow}
 use Rattle.repo_session.specs.Traces.{Each, Exchange, Trace, emitted_in, page_names, is_last_page, object_got, ReadFact}
 use Rattle.repo_session.proofs.Cataloguing.{catalog_fresh, catalog_on}
 use Rattle.repo_session.proofs.Descending.{fact_read, received_grows, root_grows, unindexed}
 use Rattle.repo_session.proofs.Holding.{opened_working}
 use Rattle.repo_session.proofs.Receiving.{each_more}
+use Rattle.repo_session.proofs.Rolling.{opened_rolled}
 use Rattle.repo_restore.specs.declared.nodes.Level.{Level}
-use Rattle.repo_restore.specs.declared.restores.RestoreJob.{RestoreJob}
+use Rattle.repo_restore.specs.declared.restores.Restore.{Restore}
 use Rattle.repo_restore.specs.declared.restores.Stage.{Stage}
 use Rattle.repo_restore.specs.declared.walks.Turn.{Turn}
 use Rattle.repo_restore.specs.declared.walks.Walk.{Walk}
 use Rattle.repo_session.specs.Received.{Received}
 use Rattle.repo_session.specs.Trees.{HasRoot, Under}
-use Rattle.repo_restore.specs.Restoring.{HaveLength, IsUneven, IsBadTree, MayGive, counted, restore_rule, RestoreConcludes}
+use Rattle.repo_restore.specs.Restoring.{HaveLength, IsUneven, IsBadTree, MayGive, counted, restore_rule, RestoreAllows, RestoreConcludes}
 use Rattle.repo_restore.specs.RestoreStates.{IsRangeOf, IsBefore, IsNewRestore, IsWalking, KnowsAtStage, KnowsRestore, RestoreTurnIs}
 use Rattle.repo_restore.specs.Walking.{WalkEnds, WaitsForBlob, Turns, TurnGives, IsUnevenIn, IsUnfitIn}
 use Rattle.repo_restore.specs.Walks.{Sums, WalkGives}
 use Rattle.repo_restore.proofs.Growing.{walk_grows}
+use Rattle.repo_restore.proofs.Needing.{waits_needed}
 
 lengths_of : (c : Catalog) (es : Trace) (content : List Name) (total : ℕ) → Catalogs c true es → Sums c.lookup content total → HaveLength es content total
 lengths_of c es [] total h s = s
@@ -82,19 +85,19 @@ before_on walk given e es p h = record {
 -- an exchange that is neither a page nor an index
 pub snapshot_on : (c : Catalog) (e : Exchange) (n : Name) (x : List ℕ) (whole : Bool) (es : Trace) → e.ask ≡ Ask.Get Kind.Snapshot n → e.say ≡ Say.Bytes x → Catalogs c whole es → Catalogs c whole (e ∷ es)
 snapshot_on c e n x whole es q t h =
-    let none : (m : Name) (y : List ℕ) → e.ask ≡ Ask.Get Kind.Index m → e.say ≡ Say.Bytes y → ⊥ = λ m y a b. (let w : Ask.Get Kind.Snapshot n ≡ Ask.Get Kind.Index m = sym q ∙ a in let k : Kind.Snapshot ≡ Kind.Index = cc in absurd (cc)) in
+    let none : (m : Name) → e.ask ≢ Ask.Get Kind.Index m = λ m a. (let w : Ask.Get Kind.Snapshot n ≡ Ask.Get Kind.Index m = sym q ∙ a in let k : Kind.Snapshot ≡ Kind.Index = cc in absurd (cc)) in
     let page : (after : Option Name) → e.ask ≢ Ask.List Kind.Index after = λ after a. (let w : Ask.Get Kind.Snapshot n ≡ Ask.List Kind.Index after = sym q ∙ a in absurd (cc)) in
     catalog_on e c.roll.kind c.roll.names.items c.roll.read c.lookup whole es (ap (λ a. page_names Kind.Index a e.say) q) (ap (λ a. is_last_page Kind.Index a e.say) q)
     (ap (λ a. object_got Kind.Index a e.say) q ∙ ap (λ b. object_got Kind.Index (Ask.Get Kind.Snapshot n) b) t) page none h
 
 pub range_on : (c : Catalog) (e : Exchange) (pack : Name) (offset len : ℕ) (whole : Bool) (es : Trace) → e.ask ≡ Ask.Range pack offset len → Catalogs c whole es → Catalogs c whole (e ∷ es)
 range_on c e pack offset len whole es q h =
-    let none : (m : Name) (y : List ℕ) → e.ask ≡ Ask.Get Kind.Index m → e.say ≡ Say.Bytes y → ⊥ = λ m y a b. (let w : Ask.Range pack offset len ≡ Ask.Get Kind.Index m = sym q ∙ a in absurd (cc)) in
+    let none : (m : Name) → e.ask ≢ Ask.Get Kind.Index m = λ m a. (let w : Ask.Range pack offset len ≡ Ask.Get Kind.Index m = sym q ∙ a in absurd (cc)) in
     let page : (after : Option Name) → e.ask ≢ Ask.List Kind.Index after = λ after a. (let w : Ask.Range pack offset len ≡ Ask.List Kind.Index after = sym q ∙ a in absurd (cc)) in
     catalog_on e c.roll.kind c.roll.names.items c.roll.read c.lookup whole es (ap (λ a. page_names Kind.Index a e.say) q) (ap (λ a. is_last_page Kind.Index a e.say) q) (ap (λ a. object_got Kind.Index a e.say) q) page none h
 
 -- the snapshot is asked for first
-pub first_ask : (j : RestoreJob) (who : Asker) (token : Token) (text : List ℕ) (config : Config) → IsNewRestore j → IsConfigText text config → config.version ≤ known_under (restore_rule j.snapshot) who
+pub first_ask : (j : Restore) (who : Asker) (token : Token) (text : List ℕ) (config : Config) → IsNewRestore j → IsConfigText text config → config.version ≤ known_under (restore_rule j.snapshot) who
     → MayAsk (restore_rule j.snapshot) who (KnowsRestore j) (opened (task_under (restore_rule j.snapshot) who) token text) (Ask.Get Kind.Snapshot j.snapshot)
 first_ask j who token text config new reads known =
     let task = task_under (restore_rule j.snapshot) who in
@@ -103,7 +106,60 @@ first_ask j who token text config new reads known =
     let indexes = catalog_fresh task token text j.catalog.roll.kind j.catalog.roll.names.items j.catalog.roll.read j.catalog.lookup es new.of_indexes new.no_names new.none_read new.no_facts refl in
     let before : IsBefore j.walk j.given.items es = record { no_levels = new.no_levels; no_entries = new.no_entries; not_onward = new.not_onward; none_given = new.none_given; nothing = refl } in
     let S : Stage → Type 0 = λ stage. KnowsAtStage j stage ask es in
-    record { work = tt; may = ((token, opened_working task token text config reads known), inr (refl, refl)); allowed = tt; knows = subst S (sym new.at_start) (refl, new.none_read, indexes, before) }
+    record { work = tt; may = ((token, opened_working task token text config reads known), inr (refl, refl)); allowed = (refl, λ was. (opened_rolled Kind.Snapshot task token text).asked j.snapshot was); knows = subst S (sym new.at_start) (refl, new.none_read, indexes, before) }
+
+-- what reads indexes is allowed
+pub reads_allowed : (snapshot : Name) (es : Trace) (ask : Ask) → ReadsKind Kind.Index es ask → RestoreAllows snapshot es ask
+reads_allowed snapshot es (Ask.Get Kind.Index n) h = h
+reads_allowed snapshot es (Ask.Get Kind.Pack n) h = h
+reads_allowed snapshot es (Ask.Get Kind.Snapshot n) h = absurd (cc h.0)
+reads_allowed snapshot es (Ask.List k after) h = h
+reads_allowed snapshot es (Ask.Range pack offset len) h = absurd h
+reads_allowed snapshot es Ask.Ticket h = h
+reads_allowed snapshot es (Ask.Lock row) h = h
+reads_allowed snapshot es (Ask.Refresh t time) h = h
+reads_allowed snapshot es (Ask.Unlock t) h = h
+reads_allowed snapshot es Ask.Locks h = h
+reads_allowed snapshot es (Ask.Put t k n x) h = h
+reads_allowed snapshot es (Ask.Delete t k n) h = h
+reads_allowed snapshot es Ask.Config h = h
+reads_allowed snapshot es (Ask.Upgrade t) h = h
+
+-- nothing else is
+pub only_reads : (snapshot : Name) (es : Trace) (ask : Ask) → RestoreAllows snapshot es ask → IsReading ask
+only_reads snapshot es (Ask.Get k n) h = tt
+only_reads snapshot es (Ask.List k after) h = tt
+only_reads snapshot es (Ask.Range pack offset len) h = tt
+only_reads snapshot es Ask.Ticket h = absurd h
+only_reads snapshot es (Ask.Lock row) h = absurd h
+only_reads snapshot es (Ask.Refresh t time) h = absurd h
+only_reads snapshot es (Ask.Unlock t) h = absurd h
+only_reads snapshot es Ask.Locks h = absurd h
+only_reads snapshot es (Ask.Put t k n x) h = absurd h
+only_reads snapshot es (Ask.Delete t k n) h = absurd h
+only_reads snapshot es Ask.Config h = absurd h
+only_reads snapshot es (Ask.Upgrade t) h = absurd h
+
+-- the blob that a walk waits for may be asked for
+pub waits_asks : (j : Restore) (version : ℕ) (fact : Fact) (who : Asker) (token : Token) (es : Trace) → j.stage ≡ Stage.Walk fact version → IsWorking (task_under (restore_rule j.snapshot) who) token es → IsWalking j version fact es
+    → MayAsk (restore_rule j.snapshot) who (KnowsRestore j) es (range_of fact)
+waits_asks j version fact who token es at w k =
+    let read = fact_read j.catalog es fact k.indexes k.waits.least in
+    let S : Stage → Type 0 = λ stage. KnowsAtStage j stage (range_of fact) es in
+    record {
+      work = tt;
+      may = ((token, w), (fact, read, refl, refl, refl));
+      allowed = record {
+        fact = fact;
+        read = read;
+        at = refl;
+        version = version;
+        root = k.root;
+        found = k.found;
+        needed = waits_needed j.catalog.lookup version (Received es) k.root j.walk.levels.items j.walk.sent fact (emitted_in es) j.walk.onward j.walk.entries k.waits;
+      };
+      knows = subst S (sym at) (refl, k);
+    }
 
 -- what comes next of a walk, over the trace
 pub turn_is : (facts : List Fact) (walk : Walk) (version : ℕ) (root : Name) (es : Trace) (old out : List Emission) (turn : Turn) → emitted_in es ≡ old ++ out → Turns facts version (Received es) root walk old out turn
@@ -131,14 +187,14 @@ turn_may_give c es version root levels sent onward entries old out turn h t =
     each_more (WalkGives c.lookup version (Received es) root) (MayGive es version root) out (λ given g. may_give c es version root given h g) (turn_gave c.lookup version (Received es) root levels sent onward entries old out turn t)
 
 -- what is known where the bytes of the blob came that was asked for
-pub record RangeTaken (j : RestoreJob) (version : ℕ) (fact : Fact) (root : Name) (e : Exchange) (bytes : List ℕ) (es : Trace) : Type 0 where
+pub record RangeTaken (j : Restore) (version : ℕ) (fact : Fact) (root : Name) (e : Exchange) (bytes : List ℕ) (es : Trace) : Type 0 where
   pub still : HasRoot (e ∷ es) j.snapshot version root
   pub indexes : Catalogs j.catalog true (e ∷ es)
   pub given : ReadFact (e ∷ es) fact
   pub waits : WaitsForBlob j.catalog.lookup version (Received (e ∷ es)) root j.walk fact (emitted_in es)
   pub got : naming.name bytes ≡ fact.name → Received (e ∷ es) fact.kind bytes
 
-pub range_taken : (j : RestoreJob) (version : ℕ) (fact : Fact) (e : Exchange) (bytes : List ℕ) (es : Trace) → IsRangeOf fact e.ask → e.say ≡ Say.Bytes bytes → (k : IsWalking j version fact es) → RangeTaken j version fact k.root e bytes es
+pub range_taken : (j : Restore) (version : ℕ) (fact : Fact) (e : Exchange) (bytes : List ℕ) (es : Trace) → IsRangeOf fact e.ask → e.say ≡ Say.Bytes bytes → (k : IsWalking j version fact es) → RangeTaken j version fact k.root e bytes es
 range_taken j version fact e bytes es of said k =
     let indexes = range_on j.catalog e fact.place.pack fact.place.offset fact.place.length true es of k.indexes in
     let given = fact_read j.catalog (e ∷ es) fact indexes k.waits.least in

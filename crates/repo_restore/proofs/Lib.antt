@@ -8,6 +8,7 @@ pub mod Trees
 pub mod Begins
 pub mod Passing
 pub mod Growing
+pub mod Needing
 pub mod Advancing
 pub mod Firsts
 pub mod Replied

@@ -14,20 +14,21 @@ use Rattle.repo_session.specs.Clients.{exchange}
 use Rattle.repo_session.specs.Ends.{before_unlock, without_unlock}
 use Rattle.repo_session.specs.Order.{Obeys}
 use Rattle.repo_session.specs.Received.{Received}
-use Rattle.repo_session.specs.Sessions.{next_in}
+use Rattle.repo_session.specs.Sessions.{next_in, who_in}
 use Rattle.repo_session.specs.Talks.{Talk, trace_of, given_in}
 use Rattle.repo_session.specs.Traces.{Each, Exchange, Trace, emitted_in}
 use Rattle.repo_session.proofs.Cataloguing.{fact_stays}
 use Rattle.repo_session.proofs.Descending.{received_grows, root_grows, node_at_grows}
 use Rattle.repo_session.proofs.Taking.{came_in, given_is, stands_after}
 use Rattle.repo_restore.specs.Laws.{RestoredIsWhatCame, GivenIsWhatCame, GivenIsABeginning, BeginsSnapshot, MayBeGiven, FileHolds, ClosedIsWhole}
-use Rattle.repo_restore.specs.RestoreObedience.{wish_of, restore_obeys}
-use Rattle.repo_restore.specs.RestoreStates.{FitsRestore}
-use Rattle.repo_restore.specs.Restoring.{Wish, restore_task, HaveLength, IsForBlob, IsRestored, MayGive, RestoreAllows, RestoreGives}
+use Rattle.repo_restore.specs.RestoreStates.{FitsRestore, IsNewRestore, KnowsRestore, wish_of}
+use Rattle.repo_restore.specs.Restoring.{Wish, restore_rule, restore_task, HaveLength, IsForBlob, IsRestored, MayGive, RestoreAllows, RestoreGives}
 use Rattle.repo_restore.specs.Walks.{ArePieces}
 use Rattle.repo_restore.specs.declared.restores.Restore.{Restore}
 use Rattle.repo_restore.specs.Beginnings.{IsBeginning}
 use Rattle.repo_restore.proofs.Beginnings.{beginning_grows}
+use Rattle.repo_session.specs.Obedience.{session_obeys}
+use Rattle.repo_session.specs.declared.sessions.Session.{Session}
 use Rattle.repo_restore.proofs.Closing.{file_closed}
 
 -- the exchanges keep the order and the rule of a restore
@@ -114,35 +115,35 @@ file_held es snapshot given before inside after path bytes is are (inr h) =
 
 pub restored_is_what_came : RestoredIsWhatCame
 restored_is_what_came old new replies talk entries r ended =
-    let instance = (restore_task (wish_of old)).who.instance in
-    let o = restore_obeys new (trace_of talk) (stands_after instance FitsRestore (λ (c : Restore). next_in c.session) old new replies talk r.begins r.took) in (
-      came_in instance FitsRestore (λ (c : Restore). next_in c.session) old new replies talk r.took,
+    let instance = (who_in old).instance in
+    let o = session_obeys (λ (j : Restore). j.snapshot) restore_rule IsNewRestore KnowsRestore (λ j fs. ⊥) new (trace_of talk) (stands_after instance FitsRestore (λ (s : Session Restore). next_in s) old new replies talk r.begins r.took) in (
+      came_in instance FitsRestore (λ (s : Session Restore). next_in s) old new replies talk r.took,
       subst (λ (w : Wish). IsRestored (before_unlock (trace_of talk)) w.snapshot entries) r.wish (o.concluded (Outcome.Complete entries) ended),
       given_before (wish_of new) (trace_of talk) o.obeys ∙ sym (given_is talk),
     )
 
 pub given_is_what_came : GivenIsWhatCame
 given_is_what_came old new replies talk given r c =
-    let instance = (restore_task (wish_of old)).who.instance in
-    let o = restore_obeys new (trace_of talk) (stands_after instance FitsRestore (λ (c : Restore). next_in c.session) old new replies talk r.begins r.took) in (
-      came_in instance FitsRestore (λ (c : Restore). next_in c.session) old new replies talk r.took,
+    let instance = (who_in old).instance in
+    let o = session_obeys (λ (j : Restore). j.snapshot) restore_rule IsNewRestore KnowsRestore (λ j fs. ⊥) new (trace_of talk) (stands_after instance FitsRestore (λ (s : Session Restore). next_in s) old new replies talk r.begins r.took) in (
+      came_in instance FitsRestore (λ (s : Session Restore). next_in s) old new replies talk r.took,
       subst (λ (w : Wish). MayBeGiven (trace_of talk) w.snapshot given) r.wish (given_of (wish_of new) talk given o.obeys c),
     )
 
 pub given_is_a_beginning : GivenIsABeginning
 given_is_a_beginning old new replies talk r =
-    let instance = (restore_task (wish_of old)).who.instance in
-    let o = restore_obeys new (trace_of talk) (stands_after instance FitsRestore (λ (c : Restore). next_in c.session) old new replies talk r.begins r.took) in
+    let instance = (who_in old).instance in
+    let o = session_obeys (λ (j : Restore). j.snapshot) restore_rule IsNewRestore KnowsRestore (λ j fs. ⊥) new (trace_of talk) (stands_after instance FitsRestore (λ (s : Session Restore). next_in s) old new replies talk r.begins r.took) in
     let begun = begun_of (wish_of new) (trace_of talk) o.obeys in (
-      came_in instance FitsRestore (λ (c : Restore). next_in c.session) old new replies talk r.took,
+      came_in instance FitsRestore (λ (s : Session Restore). next_in s) old new replies talk r.took,
       subst (λ given. BeginsSnapshot (trace_of talk) (wish_of old).snapshot given) (sym (given_is talk)) (subst (λ (w : Wish). BeginsSnapshot (trace_of talk) w.snapshot (emitted_in (trace_of talk))) r.wish begun),
     )
 
 pub closed_is_whole : ClosedIsWhole
 closed_is_whole old new replies talk before inside after path bytes r is are =
-    let instance = (restore_task (wish_of old)).who.instance in
-    let o = restore_obeys new (trace_of talk) (stands_after instance FitsRestore (λ (c : Restore). next_in c.session) old new replies talk r.begins r.took) in
+    let instance = (who_in old).instance in
+    let o = session_obeys (λ (j : Restore). j.snapshot) restore_rule IsNewRestore KnowsRestore (λ j fs. ⊥) new (trace_of talk) (stands_after instance FitsRestore (λ (s : Session Restore). next_in s) old new replies talk r.begins r.took) in
     let begun = begun_of (wish_of new) (trace_of talk) o.obeys in (
-      came_in instance FitsRestore (λ (c : Restore). next_in c.session) old new replies talk r.took,
+      came_in instance FitsRestore (λ (s : Session Restore). next_in s) old new replies talk r.took,
       subst (λ (w : Wish). FileHolds (trace_of talk) w.snapshot path bytes) r.wish (file_held (trace_of talk) (wish_of new).snapshot (emitted_in (trace_of talk)) before inside after path bytes (sym (given_is talk) ∙ is) are begun),
     )

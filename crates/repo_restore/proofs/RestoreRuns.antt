@@ -47,15 +47,17 @@ use Rattle.repo_session.specs.Received.{Received}
 use Rattle.repo_session.specs.Trees.{HasRoot, Under, IsUnindexed}
 use Rattle.repo_restore.specs.Restoring.{Wish, restore_task, HaveLength, IsUneven, IsBadTree, RestoreAllows, RestoreGives, RestoreConcludes}
 use Rattle.repo_restore.proofs.Firsts.{first_is_of_all}
+use Rattle.repo_restore.proofs.Advancing.{only_reads}
+use Rattle.repo_session.proofs.KindReads.{kind_reads}
 use Rattle.repo_restore.proofs.Replied.{begun_of}
 
 -- ---- nothing changes
 
 restore_never : (snapshot : Name) → OnlyReads (RestoreAllows snapshot)
-restore_never snapshot es ask h = h
+restore_never snapshot es ask h = only_reads snapshot es ask h
 
 list_never : {J : Type 0} (j : J) → OnlyReads (ListAllows j)
-list_never j es ask h = h
+list_never j es ask h = kind_reads Kind.Snapshot es ask h
 
 pub restore_changes_nothing : RestoreChangesNothing
 restore_changes_nothing w from mid to failed failing talk next outcome ran may is =

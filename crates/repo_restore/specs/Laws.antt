@@ -16,10 +16,10 @@ use Rattle.repo_tree.specs.Spelling.{Spells, file_entry}
 use Rattle.repo_session.specs.Versions.{upto}
 use Rattle.repo_session.specs.Alone.{IsFit, AreVersionsUpto, IsSent, IsSpoken, NoClash}
 use Rattle.repo_session.specs.Askers.{Asker}
-use Rattle.repo_session.specs.Clients.{IsObedient}
+use Rattle.repo_session.specs.Clients.{IsObedientBy}
 use Rattle.repo_session.specs.Ends.{before_unlock}
 use Rattle.repo_session.specs.Rebuilding.{rebuilt, Follow}
-use Rattle.repo_session.specs.Sessions.{next_in, ended_in}
+use Rattle.repo_session.specs.Sessions.{next_in, ended_in, who_in}
 use Rattle.repo_session.specs.Soundness.{IsHeld, IsSound}
 use Rattle.repo_session.specs.Received.{Received}
 use Rattle.repo_session.specs.Talks.{Talk, trace_of, given_in, TalkRan, MayBeAhead, TookEach, CameIn}
@@ -28,21 +28,21 @@ use Rattle.repo_session.specs.Trees.{HasRoot}
 use Rattle.repo_session.specs.declared.emissions.Emission.{Emission}
 use Rattle.repo_session.specs.declared.outcomes.End.{End}
 use Rattle.repo_session.specs.declared.outcomes.Outcome.{Outcome}
-use Rattle.repo_restore.specs.Listing.{list_task, ListAllows, ListGives, ListConcludes}
+use Rattle.repo_restore.specs.Listing.{list_task, ListAllows, ListGives, ListConcludes, list_rule}
 use Rattle.repo_restore.specs.Beginnings.{SpellsFirst, IsBeginning}
-use Rattle.repo_restore.specs.Restoring.{Wish, restore_task, MayGive, IsFileAt, IsRestored, RestoreAllows, RestoreGives, RestoreConcludes}
-use Rattle.repo_restore.specs.RestoreObedience.{wish_of}
-use Rattle.repo_restore.specs.RestoreStates.{FitsRestore}
+use Rattle.repo_restore.specs.Restoring.{Wish, restore_task, MayGive, IsFileAt, IsRestored, RestoreAllows, RestoreGives, RestoreConcludes, restore_rule}
+use Rattle.repo_restore.specs.RestoreStates.{FitsRestore, wish_of}
 use Rattle.repo_restore.specs.Walks.{ArePieces}
+use Rattle.repo_session.specs.declared.sessions.Session.{Session}
 use Rattle.repo_restore.specs.declared.restores.Restore.{Restore}
 
 -- these exchanges, what is pending and the outcome are a restore's
 abbrev pub IsRestore : Wish → Option Request → Option Outcome → Trace → Type 0
-IsRestore w next outcome es = IsObedient (restore_task w) (RestoreAllows w.snapshot) (RestoreGives w.snapshot) (RestoreConcludes w.snapshot) next outcome es
+IsRestore w next outcome es = IsObedientBy (restore_rule w.snapshot) w.who next outcome es
 
 -- these are a list's
 abbrev pub IsList : Asker → Option Request → Option Outcome → Trace → Type 0
-IsList who next outcome es = IsObedient (list_task who) (ListAllows who) (ListGives who) (ListConcludes who) next outcome es
+IsList who next outcome es = IsObedientBy list_rule who next outcome es
 
 -- a restore, or a list, changes no object of the store, also where it is one step ahead
 abbrev pub RestoreChangesNothing : Type 0
@@ -77,15 +77,15 @@ RestoreEndsWell = (w : Wish) (from to : Store) (failed : ℕ) (talk : Talk) (out
 -- ---- whatever the replies
 
 -- a restore whose ticket was pending had these replies, whoever sent them and whatever they say, and took these turns of them
-pub record RestoreTook (old : Restore) (replies : List Reply) (talk : Talk) (new : Restore) : Type 0 where
+pub record RestoreTook (old : Session Restore) (replies : List Reply) (talk : Talk) (new : Session Restore) : Type 0 where
   pub begins : FitsRestore old []
-  pub took : TookEach (restore_task (wish_of old)).who.instance FitsRestore (λ c. next_in c.session) old replies talk new
+  pub took : TookEach (who_in old).instance FitsRestore (λ s. next_in s) old replies talk new
   pub wish : wish_of new ≡ wish_of old
 
 -- Where it is complete, what it gave out, and that is all that it gave out, is what the snapshot's tree spells in the blobs that were received; and what was
 -- received came in those replies.
 abbrev pub RestoredIsWhatCame : Type 0
-RestoredIsWhatCame = (old new : Restore) (replies : List Reply) (talk : Talk) (entries : ℕ) → RestoreTook old replies talk new → ended_in new.session ≡ Some (Outcome.Complete entries)
+RestoredIsWhatCame = (old new : Session Restore) (replies : List Reply) (talk : Talk) (entries : ℕ) → RestoreTook old replies talk new → ended_in new ≡ Some (Outcome.Complete entries)
     → CameIn replies (trace_of talk) × IsRestored (before_unlock (trace_of talk)) (wish_of old).snapshot entries × (emitted_in (before_unlock (trace_of talk)) ≡ given_in talk)
 
 -- by what was received, this may be given out where the snapshot is restored
@@ -94,7 +94,7 @@ MayBeGiven es snapshot given = (version : ℕ) × (root : Name) × HasRoot es sn
 
 -- And however it ends, or doesn't, each part that it gave out is one that may be.
 abbrev pub GivenIsWhatCame : Type 0
-GivenIsWhatCame = (old new : Restore) (replies : List Reply) (talk : Talk) (given : Emission) → RestoreTook old replies talk new → Contains (given_in talk) given
+GivenIsWhatCame = (old new : Session Restore) (replies : List Reply) (talk : Talk) (given : Emission) → RestoreTook old replies talk new → Contains (given_in talk) given
     → CameIn replies (trace_of talk) × MayBeGiven (trace_of talk) (wish_of old).snapshot given
 
 -- by what was received, nothing was given out, or a beginning of what the snapshot's tree spells
@@ -103,7 +103,7 @@ BeginsSnapshot es snapshot given = (given ≡ []) ⊎ ((version : ℕ) × (root 
 
 -- And all that it gave out is that: no entry is left out before another, none comes twice, and the file that is open has its first bytes.
 abbrev pub GivenIsABeginning : Type 0
-GivenIsABeginning = (old new : Restore) (replies : List Reply) (talk : Talk) → RestoreTook old replies talk new → CameIn replies (trace_of talk) × BeginsSnapshot (trace_of talk) (wish_of old).snapshot (given_in talk)
+GivenIsABeginning = (old new : Session Restore) (replies : List Reply) (talk : Talk) → RestoreTook old replies talk new → CameIn replies (trace_of talk) × BeginsSnapshot (trace_of talk) (wish_of old).snapshot (given_in talk)
 
 -- by what was received, the file at this path has these bytes where the snapshot is restored
 abbrev pub FileHolds : Trace → Name → List (List ℕ) → List ℕ → Type 0
@@ -111,7 +111,7 @@ FileHolds es snapshot path bytes = (version : ℕ) × (root : Name) × HasRoot e
 
 -- And so is a file that it closed whole: wherever it gave out a file's beginning, pieces of some bytes and a close, the file at that path has these bytes.
 abbrev pub ClosedIsWhole : Type 0
-ClosedIsWhole = (old new : Restore) (replies : List Reply) (talk : Talk) (before inside after : List Emission) (path : List (List ℕ)) (bytes : List ℕ) → RestoreTook old replies talk new
+ClosedIsWhole = (old new : Session Restore) (replies : List Reply) (talk : Talk) (before inside after : List Emission) (path : List (List ℕ)) (bytes : List ℕ) → RestoreTook old replies talk new
     → given_in talk ≡ before ++ Emission.File path ∷ (inside ++ Emission.Close ∷ after) → ArePieces inside bytes → CameIn replies (trace_of talk) × FileHolds (trace_of talk) (wish_of old).snapshot path bytes
 
 -- ---- what is first

@@ -1,12 +1,10 @@
 -- The definitions that the contracts of this crate cite.
 pub mod Listing
 pub mod ListStates
-pub mod ListObedience
 pub mod Beginnings
 pub mod Restoring
 pub mod Walks
 pub mod Nodes
 pub mod Walking
 pub mod RestoreStates
-pub mod RestoreObedience
 pub mod Laws

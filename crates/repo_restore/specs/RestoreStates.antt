@@ -14,17 +14,17 @@ use Rattle.repo_session.specs.Jobs.{StepsOn, MayStep, task_under, GivesBy}
 use Rattle.repo_session.specs.Listings.{IsOfKnownVersion}
 use Rattle.repo_session.specs.Readings.{KnowsIndexes}
 use Rattle.repo_session.specs.Rebuilding.{rebuilt, AreWhole}
-use Rattle.repo_session.specs.Sessions.{FitsSession}
+use Rattle.repo_session.specs.Sessions.{FitsSession, who_in}
+use Rattle.repo_session.specs.declared.sessions.Session.{Session}
 use Rattle.repo_session.specs.Traces.{Trace, emitted_in, giving, silent, Exchange}
 use Rattle.repo_session.specs.declared.versions.Versions.{Versions}
 use Rattle.repo_restore.specs.declared.restores.Restore.{Restore}
-use Rattle.repo_restore.specs.declared.restores.RestoreJob.{RestoreJob}
 use Rattle.repo_restore.specs.declared.restores.Stage.{Stage}
 use Rattle.repo_restore.specs.declared.walks.Turn.{Turn}
 use Rattle.repo_restore.specs.declared.walks.Walk.{Walk}
 use Rattle.repo_session.specs.Received.{Received}
 use Rattle.repo_session.specs.Trees.{HasRoot}
-use Rattle.repo_restore.specs.Restoring.{counted, restore_rule}
+use Rattle.repo_restore.specs.Restoring.{Wish, counted, restore_rule}
 use Rattle.repo_restore.specs.Walking.{WaitsForBlob, WalkEnds}
 use Rattle.repo_name.specs.Naming as naming
 use Rattle.repo_name.specs.declared.tokens.Token.{Token}
@@ -45,7 +45,7 @@ pub record IsBefore (walk : Walk) (given : List Emission) (es : Trace) : Type 0 
   pub nothing : emitted_in es ≡ []
 
 -- nothing was asked for yet
-pub record IsNewRestore (j : RestoreJob) : Type 0 where
+pub record IsNewRestore (j : Restore) : Type 0 where
   pub at_start : j.stage ≡ Stage.Snapshot
   pub of_indexes : j.catalog.roll.kind ≡ Kind.Index
   pub no_names : j.catalog.roll.names.items ≡ []
@@ -57,7 +57,7 @@ pub record IsNewRestore (j : RestoreJob) : Type 0 where
   pub none_given : j.given.items ≡ []
 
 -- the walk waits for the blob that is asked for
-pub record IsWalking (j : RestoreJob) (version : ℕ) (fact : Fact) (es : Trace) : Type 0 where
+pub record IsWalking (j : Restore) (version : ℕ) (fact : Fact) (es : Trace) : Type 0 where
   pub root : Name
   pub found : HasRoot es j.snapshot version root
   pub indexes : Catalogs j.catalog true es
@@ -65,20 +65,20 @@ pub record IsWalking (j : RestoreJob) (version : ℕ) (fact : Fact) (es : Trace)
   pub waits : WaitsForBlob j.catalog.lookup version (Received es) root j.walk fact (emitted_in es)
 
 -- what is known at each stage where this is pending
-abbrev pub KnowsAtStage : RestoreJob → Stage → Ask → Trace → Type 0
+abbrev pub KnowsAtStage : Restore → Stage → Ask → Trace → Type 0
 KnowsAtStage j Stage.Snapshot ask es = (ask ≡ Ask.Get Kind.Snapshot j.snapshot) × (j.catalog.roll.read ≡ 0) × Catalogs j.catalog false es × IsBefore j.walk j.given.items es
 KnowsAtStage j (Stage.Indexes root version) ask es = KnowsIndexes j.catalog ask es × HasRoot es j.snapshot version root × IsBefore j.walk j.given.items es
 KnowsAtStage j (Stage.Walk fact version) ask es = IsRangeOf fact ask × IsWalking j version fact es
 
-abbrev pub KnowsRestore : RestoreJob → Ask → Trace → Type 0
+abbrev pub KnowsRestore : Restore → Ask → Trace → Type 0
 KnowsRestore j ask es = KnowsAtStage j j.stage ask es
 
 -- the step on the reply to what was pending, with what was given out on it, for who holds this lock
-abbrev pub RestoreRepliedTo : Holding → RestoreJob → Ask → Say → Step → RestoreJob → Type 0
+abbrev pub RestoreRepliedTo : Holding → Restore → Ask → Say → Step → Restore → Type 0
 RestoreRepliedTo holding old ask say step new = StepsOn (restore_rule old.snapshot) holding (KnowsRestore old) (KnowsRestore new) (giving ask say new.given.items) step
 
 -- whoever holds it
-abbrev pub RestoreReplied : RestoreJob → Ask → Say → Step → RestoreJob → Type 0
+abbrev pub RestoreReplied : Restore → Ask → Say → Step → Restore → Type 0
 RestoreReplied old ask say step new = (holding : Holding) → RestoreRepliedTo holding old ask say step new
 
 -- it goes on by no snapshot of a version that isn't among these
@@ -87,7 +87,7 @@ GoesOnKnown versions n say (Step.Ask ask) = IsOfKnownVersion versions (silent (A
 GoesOnKnown versions n say step = ⊤
 
 -- where nothing was taken, what was known is known
-abbrev pub RestoreStays : RestoreJob → RestoreJob → Type 0
+abbrev pub RestoreStays : Restore → Restore → Type 0
 RestoreStays old new = (new.given ≡ old.given) × ((ask : Ask) (es : Trace) → KnowsRestore old ask es → KnowsRestore new ask es)
 
 -- what is known by what comes next of the walk
@@ -97,7 +97,7 @@ RestoreTurnIs facts walk version root es (Turn.Complete count) = Spells version 
 RestoreTurnIs facts walk version root es (Turn.Ended end) = WalkEnds facts version (Received es) root end
 
 -- all indexes were read, and the walk goes on so
-pub record IsTurnNext (j : RestoreJob) (version : ℕ) (es : Trace) (turn : Turn) : Type 0 where
+pub record IsTurnNext (j : Restore) (version : ℕ) (es : Trace) (turn : Turn) : Type 0 where
   pub root : Name
   pub found : HasRoot es j.snapshot version root
   pub indexes : Catalogs j.catalog true es
@@ -105,14 +105,18 @@ pub record IsTurnNext (j : RestoreJob) (version : ℕ) (es : Trace) (turn : Turn
   pub turns : RestoreTurnIs j.catalog.lookup j.walk version root es turn
 
 -- the restore stands where the trace leaves it
-abbrev pub FitsRestore : Restore → Trace → Type 0
-FitsRestore c es = FitsSession (λ (j : RestoreJob). j.snapshot) restore_rule IsNewRestore KnowsRestore c.session es
+abbrev pub FitsRestore : Session Restore → Trace → Type 0
+FitsRestore s es = FitsSession (λ (j : Restore). j.snapshot) restore_rule IsNewRestore KnowsRestore s es
+
+-- what a restore was made for
+abbrev pub wish_of : Session Restore → Wish
+wish_of s = record { who = who_in s; snapshot = s.job.snapshot }
 
 -- wherever this turn is next, a step that a client may make
-abbrev pub RestoreGoesOn : RestoreJob → ℕ → Turn → Step → RestoreJob → Type 0
+abbrev pub RestoreGoesOn : Restore → ℕ → Turn → Step → Restore → Type 0
 RestoreGoesOn old version turn step new = (who : Asker) (token : Token) (e : Exchange) (es : Trace) → IsWorking (task_under (restore_rule old.snapshot) who) token (e ∷ es)
     → GivesBy (restore_rule old.snapshot) es e → IsTurnNext old version (e ∷ es) turn → MayStep (restore_rule old.snapshot) who (KnowsRestore new) es e step
 
 -- the bytes of the blob that a fact gives were replied
-abbrev pub RestoreTakesBlob : RestoreJob → Fact → List ℕ → Step → RestoreJob → Type 0
+abbrev pub RestoreTakesBlob : Restore → Fact → List ℕ → Step → Restore → Type 0
 RestoreTakesBlob old fact bytes step new = (ask : Ask) → naming.name bytes ≡ fact.name → length bytes ≡ fact.place.length → RestoreReplied old ask (Say.Bytes bytes) step new

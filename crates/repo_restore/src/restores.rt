@@ -1,6 +1,5 @@
 //! The restore of a snapshot.
 
-ghost use Rattle.std.specs.Fn.{CalledAt};
 ghost use Rattle.std.specs.Prelude.{◌≡◌, [], ℕ, List, ◌↔◌, IfOk, OnErr, IsOk, IsTrue};
 ghost use Rattle.repo_name.specs.Naming as naming;
 ghost use Rattle.repo_name.specs.declared.names.Name.{Name};
@@ -10,21 +9,17 @@ ghost use Rattle.repo_wire.specs.declared.messages.Say.{Say};
 ghost use Rattle.repo_session.specs.declared.emissions.Emission.{Emission};
 ghost use Rattle.repo_session.specs.Ends.{IsBadBlob};
 ghost use Rattle.repo_session.specs.Jobs.{IsShort, IsShortStep};
-ghost use Rattle.repo_dial.specs.Bringing.{BroughtInto};
-ghost use Rattle.repo_restore.specs.Restoring.{restore_rule};
-ghost use Rattle.repo_restore.specs.RestoreObedience.{wish_of};
-ghost use Rattle.repo_restore.specs.RestoreStates.{FitsRestore, GoesOnKnown, IsNewRestore, KnowsRestore, RestoreReplied, RestoreRepliedTo, RestoreStays, RestoreGoesOn, RestoreTakesBlob};
+ghost use Rattle.repo_restore.specs.RestoreStates.{FitsRestore, wish_of, GoesOnKnown, IsNewRestore, KnowsRestore, RestoreReplied, RestoreRepliedTo, RestoreStays, RestoreGoesOn, RestoreTakesBlob};
 
 use crate::walks::{Turn, Walk};
-use repo_dial::{Dial, TryError, bring};
 use repo_index::Fact;
-use repo_name::{Kind, Name, Thing, Token, name_of};
+use repo_name::{Kind, Name, Thing, name_of};
 use repo_session::{
-    Catalog, Client, Emission, End, Fetched, Holder, Job, Outcome, Reading, Session, Step,
-    Versions, Who, blob_of, blob_thing, get_ask, range_ask, snapshot_end,
+    Catalog, Emission, End, Fetched, Holder, Job, Outcome, Reading, Session, Step, Versions, Who,
+    blob_of, blob_thing, get_ask, range_ask, snapshot_end,
 };
 use repo_tree::{Config, Snapshot};
-use repo_wire::{Ask, Reply, Request, Say};
+use repo_wire::{Ask, Say};
 use std::alloc::{AllocError, Global};
 
 /// How far a restore has come.
@@ -38,9 +33,16 @@ enum Stage {
     Walk(Fact, u64),
 }
 
-/// The snapshot that is restored, and how far that has come.
+/// The job of a client `Session<Restore>` that restores a snapshot: it gives out the directories and files that the snapshot's tree spells, in
+/// order, a file by pieces. A file that it closes is whole. Its outcome is `Complete` where all was given out.
+///
+/// A blob in no index ends it as `Missing`: a file's blobs are all looked up before anything of the file is given
+/// out, a directory's tree right after the directory. Bytes of another name, of another length than their place's,
+/// or that can't be read end it as `BadObject`; and so do a tree with nodes at a path of 100 components, a tree with a
+/// file whose blobs haven't its size, and a part of a directory that may not come behind the one before. A snapshot of a
+/// version that isn't known ends it as `Version`.
 #[derive(Drop)]
-struct RestoreJob {
+pub struct Restore {
     snapshot: Name,
     stage: Stage,
     catalog: Catalog,
@@ -56,13 +58,22 @@ fn is_named(bytes: &[u8], name: Name) -> bool
     name_of(bytes) == name
 }
 
-impl RestoreJob {
+impl Restore {
+    /// A client that restores the snapshot of this name. Its ticket is pending. It takes no memory.
+    pub fn new(alloc: Global, who: Who, snapshot: Name) -> Session<Restore>
+        ensures fits { FitsRestore result [] }
+        ensures who { (wish_of result).who ≡ who }
+        ensures snapshot { (wish_of result).snapshot ≡ snapshot }
+    {
+        Session::new(alloc, who, Restore::begun(alloc, snapshot))
+    }
+
     /// A restore that has asked for nothing. It takes no memory.
-    fn new(alloc: Global, snapshot: Name) -> RestoreJob
+    fn begun(alloc: Global, snapshot: Name) -> Restore
         ensures new { IsNewRestore result }
         ensures snapshot { result.snapshot ≡ snapshot }
     {
-        RestoreJob {
+        Restore {
             snapshot,
             stage: Stage::Snapshot,
             catalog: Catalog::new(alloc),
@@ -196,7 +207,7 @@ impl RestoreJob {
     }
 }
 
-impl Job for RestoreJob {
+impl Job for Restore {
     ghost use Rattle.repo_name.specs.declared.names.Name.{Name};
     ghost use Rattle.repo_restore.specs.Restoring.{restore_rule};
     ghost use Rattle.repo_restore.specs.RestoreStates.{IsNewRestore, KnowsRestore};
@@ -237,106 +248,5 @@ impl Job for RestoreJob {
 
     fn emitted(&self) -> &[Emission] {
         self.given.as_slice()
-    }
-}
-
-/// A client that restores a snapshot: it gives out the directories and files that the snapshot's tree spells, in
-/// order, a file by pieces. A file that it closes is whole. Its outcome is `Complete` where all was given out.
-///
-/// A blob in no index ends it as `Missing`: a file's blobs are all looked up before anything of the file is given
-/// out, a directory's tree right after the directory. Bytes of another name, of another length than their place's,
-/// or that can't be read end it as `BadObject`; and so do a tree with nodes at a path of 100 components, a tree with a
-/// file whose blobs haven't its size, and a part of a directory that may not come behind the one before. A snapshot of a
-/// version that isn't known ends it as `Version`.
-#[derive(Drop)]
-pub struct Restore {
-    session: Session<RestoreJob>,
-}
-
-impl Restore {
-    /// A restore of the snapshot of this name, whose ticket is pending. It takes no memory.
-    pub fn new(alloc: Global, who: Who, snapshot: Name) -> Restore
-        ensures fits { FitsRestore result [] }
-        ensures who { (wish_of result).who ≡ who }
-        ensures snapshot { (wish_of result).snapshot ≡ snapshot }
-    {
-        Restore {
-            session: Session::new(alloc, who, RestoreJob::new(alloc, snapshot)),
-        }
-    }
-
-    /// Brings a restore that hasn't begun to its end, as [`bring`] does, and gives how it ended; what it gives out is handed to the sink,
-    /// each part once and in order.
-    pub fn bring<D: Dial, F: FnMut(&Emission) -> bool>(
-        self,
-        alloc: Global,
-        sink: &mut F,
-        dial: &mut D,
-        retry: u64,
-    ) -> Result<Outcome, TryError>
-        requires fits { FitsRestore self [] }
-        requires callable { (state : F) (x : _) → F.pre state x }
-        ensures { BroughtInto (CalledAt F.FnMut) sink.old (restore_rule (wish_of self).snapshot) (wish_of self).who result retry (D.connections dial.old) (D.connections dial.new) sink.new }
-    {
-        let Restore { session } = self;
-        bring(alloc, session, sink, dial, retry)
-    }
-}
-
-impl Client for Restore {
-    ghost use Rattle.std.specs.Prelude.{⊤};
-    ghost use Rattle.repo_session.specs.Sessions.{next_in, ended_in, given_by, token_in};
-    ghost use Rattle.repo_restore.specs.Restoring.{Wish, restore_task, RestoreAllows, RestoreGives, RestoreConcludes};
-    ghost use Rattle.repo_restore.specs.RestoreStates.{FitsRestore};
-    ghost use Rattle.repo_restore.specs.RestoreObedience.{wish_of, restore_obeys, restore_tells};
-
-    ghost Job = { Wish };
-
-    ghost job = { wish_of };
-
-    ghost task = { restore_task };
-
-    ghost allows = { λ w. RestoreAllows w.snapshot };
-
-    ghost gives = { λ w. RestoreGives w.snapshot };
-
-    ghost concludes = { λ w. RestoreConcludes w.snapshot };
-
-    ghost calm = { λ job. ⊤ };
-
-    ghost wanting = { λ j es. ⊥ };
-
-    ghost fits = { FitsRestore };
-
-    ghost next = { λ c. next_in c.session };
-
-    ghost ended = { λ c. ended_in c.session };
-
-    ghost given = { λ c. given_by (λ j. j.given.items) c.session };
-
-    ghost token_of = { λ c. token_in c.session };
-
-    ghost obedient = { restore_obeys };
-
-    ghost ticketed = { restore_tells };
-
-    fn pending(&self) -> Option<&Request> {
-        self.session.pending()
-    }
-
-    fn take(&mut self, reply: &Reply) -> Result<(), AllocError> {
-        self.session.take(reply)
-    }
-
-    fn outcome(&self) -> Option<&Outcome> {
-        self.session.outcome()
-    }
-
-    fn emitted(&self) -> &[Emission] {
-        self.session.emitted()
-    }
-
-    fn token(&self) -> Option<Token> {
-        self.session.token()
     }
 }

@@ -9,7 +9,8 @@ use Rattle.repo_store.specs.Stores.{Objects, Removed}
 use Rattle.repo_session.specs.Soundness.{IsSound}
 use Rattle.repo_session.specs.Told.{AskedToPut}
 use Rattle.repo_session.specs.Traces.{Trace, IsListed, Lists}
-use Rattle.repo_prune.specs.Pruning.{IsSettled, ListsPack}
+use Rattle.repo_writing.specs.Writing.{ListsPack}
+use Rattle.repo_prune.specs.Pruning.{IsSettled}
 
 -- what it deletes: as the rule has it, but that no old index need be gone
 pub record MayDeletePackFirst (es : Trace) (n : Name) : Type 0 where

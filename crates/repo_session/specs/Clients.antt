@@ -8,6 +8,8 @@ use Rattle.repo_wire.specs.declared.messages.Say.{Say}
 use Rattle.repo_session.specs.declared.emissions.Emission.{Emission}
 use Rattle.repo_session.specs.declared.outcomes.Outcome.{Outcome}
 use Rattle.repo_session.specs.Ends.{MayConclude, NumbersAreSpent, before_unlock}
+use Rattle.repo_session.specs.Askers.{Asker}
+use Rattle.repo_session.specs.Jobs.{Rule, task_under}
 use Rattle.repo_session.specs.Order.{Task, IsUnlock, Holds, May, IsPermitted, Obeys}
 use Rattle.repo_session.specs.Traces.{Exchange, Exchanged, Trace, giving}
 use Rattle.repo_session.specs.Versions.{upto}
@@ -44,6 +46,10 @@ pub record IsObedientWith (task : Task) (Allows : Trace → Ask → Type 0) (Giv
   pub released : next ≡ None → outcome ≢ None → (token : Token) → Holds task token es → NumbersAreSpent es
   pub beside : (request : Request) → next ≡ Some request → outcome ≢ None → IsUnlock request.ask
   pub ending : (request : Request) → next ≡ Some request → IsUnlock request.ask → outcome ≢ None
+
+-- the same by a job's rule and who asks
+abbrev pub IsObedientBy : Rule → Asker → Option Request → Option Outcome → Trace → Type 0
+IsObedientBy rule who next outcome es = IsObedientWith (task_under rule who) rule.allows rule.gives rule.concludes rule.wanting next outcome es
 
 -- a client that never wants input
 abbrev pub IsObedient : Task → (Trace → Ask → Type 0) → (Trace → Exchange → Type 0) → (Trace → Outcome → Type 0) → Option Request → Option Outcome → Trace → Type 0

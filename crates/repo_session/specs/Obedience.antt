@@ -9,11 +9,11 @@ use Rattle.repo_session.specs.declared.lines.Line.{Line}
 use Rattle.repo_session.specs.declared.outcomes.Outcome.{Outcome}
 use Rattle.repo_session.specs.declared.sessions.Session.{Session}
 use Rattle.repo_session.specs.Askers.{Holding}
-use Rattle.repo_session.specs.Clients.{IsNextRequest, IsObedientWith}
+use Rattle.repo_session.specs.Clients.{IsNextRequest, IsObedientBy}
 use Rattle.repo_session.specs.Ends.{MayConclude, NumbersAreSpent, without_unlock, before_unlock}
 use Rattle.repo_session.specs.Jobs.{Rule, task_under, known_under}
 use Rattle.repo_session.specs.Order.{Task, locked, IsNoUnlock, IsUnlock, Holds, May}
-use Rattle.repo_session.specs.Sessions.{KnowsAt, SessionStands, SessionAt, FitsWanting}
+use Rattle.repo_session.specs.Sessions.{KnowsAt, SessionStands, SessionAt, FitsWanting, who_in, next_in, ended_in}
 use Rattle.repo_session.specs.Traces.{Each, Exchange, Trace}
 
 -- ---- traces without the end of the lock
@@ -121,7 +121,7 @@ module _ (rule : Rule) (holding : Holding) (lock : Option LockRow) (Fresh : Type
   is_ending line None es r s p u = absurd (cc)
   is_ending line (Some q) es r s p u = let same : r ≡ q = cc in unlock_there q.ask line.outcome es s.knows (subst (λ x. IsUnlock x.ask) same u)
 
-  pub obeys_at : (line : Line) (es : Trace) → SessionAt rule holding lock Fresh Knows Wants line es → IsObedientWith (task_under rule holding.who) rule.allows rule.gives rule.concludes rule.wanting line.next line.outcome es
+  pub obeys_at : (line : Line) (es : Trace) → SessionAt rule holding lock Fresh Knows Wants line es → IsObedientBy rule holding.who line.next line.outcome es
   obeys_at line es s = record {
     obeys = s.obeys;
     pending = λ r p. pending_is line line.next es r s.stands p;
@@ -133,5 +133,5 @@ module _ (rule : Rule) (holding : Holding) (lock : Option LockRow) (Fresh : Type
   }
 
 pub session_obeys : {J H : Type 0} (handed : J → H) (rule : H → Rule) (fresh : J → Type 0) (knows : J → Ask → Trace → Type 0) (wants : J → Trace → Type 0) (s : Session J) (es : Trace) → FitsWanting handed rule fresh knows wants s es
-    → IsObedientWith (task_under (rule (handed s.job)) s.head.holder.who) (rule (handed s.job)).allows (rule (handed s.job)).gives (rule (handed s.job)).concludes (rule (handed s.job)).wanting s.head.line.next s.head.line.outcome es
+    → IsObedientBy (rule (handed s.job)) (who_in s) (next_in s) (ended_in s) es
 session_obeys handed rule fresh knows wants s es f = obeys_at (rule (handed s.job)) s.head.holder s.head.lock (fresh s.job) (knows s.job) (wants s.job) s.head.line es f

@@ -2,7 +2,6 @@
 
 ghost use Rattle.std.specs.Prelude.{◌≡◌, ◌∷◌, ℕ, List, Some, OnOk, OnErr, IsOk, IfSome, Option, option_map};
 ghost use Rattle.repo_name.specs.declared.tokens.Token.{Token};
-ghost use Rattle.repo_wire.specs.declared.messages.Ask.{Ask};
 ghost use Rattle.repo_wire.specs.declared.messages.Code.{Code};
 ghost use Rattle.repo_wire.specs.declared.messages.Request.{Request};
 ghost use Rattle.repo_wire.specs.declared.messages.Say.{Say};
@@ -10,9 +9,10 @@ ghost use Rattle.repo_wire.specs.Messages.{requests};
 ghost use Rattle.repo_wire.specs.Stream.{FitsFrame};
 ghost use Rattle.repo_session.specs.declared.emissions.Emission.{Emission};
 ghost use Rattle.repo_session.specs.declared.outcomes.Outcome.{Outcome};
-ghost use Rattle.repo_session.specs.Clients.{IsReplyTo, AnswersNext, exchange, IsObedientWith, IsSteady, TellsToken};
-ghost use Rattle.repo_session.specs.Order.{Task};
-ghost use Rattle.repo_session.specs.Traces.{Exchange, Trace};
+ghost use Rattle.repo_session.specs.Askers.{Asker};
+ghost use Rattle.repo_session.specs.Clients.{IsReplyTo, AnswersNext, exchange, IsObedientBy, IsSteady, TellsToken};
+ghost use Rattle.repo_session.specs.Jobs.{Rule};
+ghost use Rattle.repo_session.specs.Traces.{Trace};
 
 use crate::emissions::Emission;
 use crate::outcomes::Outcome;
@@ -31,18 +31,10 @@ pub trait Client {
     ghost Job: { Type 0 };
 
     ghost job: { Self → Job };
-    /// Who asks, and under which kind of lock.
-    ghost task: { Job → Task };
-    /// What the job's own rule allows to be asked after a trace.
-    ghost allows: { Job → Trace → Ask → Type 0 };
-    /// What the job's own rule allows to be given out on an exchange after a trace.
-    ghost gives: { Job → Trace → Exchange → Type 0 };
-    /// The outcomes that the job's own rule allows after a trace.
-    ghost concludes: { Job → Trace → Outcome → Type 0 };
-    /// After these traces it may want input.
-    ghost wanting: { Job → Trace → Type 0 };
-    /// It takes each refusal without memory.
-    ghost calm: { Job → Type 0 };
+    /// Who asks.
+    ghost who: { Job → Asker };
+    /// The rule of its job: all that it owes.
+    ghost rule: { Job → Rule };
     /// The client stands where this trace leaves it.
     ghost fits: { Self → Trace → Type 0 };
     /// The request that is pending.
@@ -70,7 +62,7 @@ pub trait Client {
         ensures other { ¬ AnswersNext (next self.old) reply.now → self.new ≡ self.old }
         ensures steady { ¬ AnswersNext (next self.old) reply.now → IsOk result }
         ensures sure { (request : Request) → next self.old ≡ Some request → IsSteady request.ask → IsOk result }
-        ensures calm { (code : Code) → reply.now.say ≡ Say.Refused code → calm (job self.old) → IsOk result }
+        ensures calm { (code : Code) → reply.now.say ≡ Say.Refused code → (rule (job self.old)).calm → IsOk result }
         ensures stays { (es : Trace) (outcome : Outcome) → fits self.old es → ended self.old ≡ Some outcome → ended self.new ≡ Some outcome }
         ensures fits { OnErr result ((es : Trace) → fits self.old es → fits self.new es) }
         ensures next { OnErr result (next self.new ≡ next self.old) }
@@ -95,7 +87,7 @@ pub trait Client {
     /// pending; where nothing is, there is an outcome, and the lock was ended, or it wants input, where it may; and an outcome comes only
     /// where it may.
     ghost obedient: { (client : Self) (es : Trace) → fits client es
-        → IsObedientWith (task (job client)) (allows (job client)) (gives (job client)) (concludes (job client)) (wanting (job client)) (next client) (ended client) es };
+        → IsObedientBy (rule (job client)) (who (job client)) (next client) (ended client) es };
     /// The token that it tells is the one that it was given.
     ghost ticketed: { (client : Self) (es : Trace) → fits client es → TellsToken (token_of client) (ended client) es };
 }

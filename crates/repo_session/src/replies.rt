@@ -24,9 +24,9 @@ pub struct Untaken {
 /// It fails for memory alone, at a reply to the request that is pending. Those before it were taken or passed over then, and
 /// it may be taken again, with those behind it.
 pub fn take_each<C: Client>(client: &mut C, replies: &[Reply]) -> Result<(), Untaken>
-    ensures all { OnOk result ((talk : Talk) × TookEach (C.task (C.job client.old)).who.instance C.fits C.next client.old replies.now talk client.new) }
-    ensures part { IfErr result (λ untaken. ((talk : Talk) × TookEach (C.task (C.job client.old)).who.instance C.fits C.next client.old (take untaken.before replies.now) talk client.new)
-        × WantsMemory (C.calm (C.job client.old)) (C.next client.new) replies.now untaken.before) }
+    ensures all { OnOk result ((talk : Talk) × TookEach (C.who (C.job client.old)).instance C.fits C.next client.old replies.now talk client.new) }
+    ensures part { IfErr result (λ untaken. ((talk : Talk) × TookEach (C.who (C.job client.old)).instance C.fits C.next client.old (take untaken.before replies.now) talk client.new)
+        × WantsMemory (C.rule (C.job client.old)).calm (C.next client.new) replies.now untaken.before) }
     ensures stays { (es : Trace) (outcome : Outcome) → C.fits client.old es → C.ended client.old ≡ Some outcome → C.ended client.new ≡ Some outcome }
     ensures job { C.job client.new ≡ C.job client.old }
 {

@@ -267,7 +267,6 @@ impl<J: Job + Drop> Session<J> {
 }
 
 impl<J: Job + Drop> Client for Session<J> {
-    ghost use Rattle.repo_session.specs.Jobs.{task_under};
     ghost use Rattle.repo_session.specs.Sessions.{Given, FitsWanting, given_by, who_in, next_in, ended_in, token_in};
     ghost use Rattle.repo_session.specs.Obedience.{session_obeys};
     ghost use Rattle.repo_session.specs.Tickets.{session_tells};
@@ -276,17 +275,9 @@ impl<J: Job + Drop> Client for Session<J> {
 
     ghost job = { λ s. record { who = who_in s; handed = J.handed s.job } };
 
-    ghost task = { λ j. task_under (J.rule j.handed) j.who };
+    ghost who = { λ j. j.who };
 
-    ghost allows = { λ j. (J.rule j.handed).allows };
-
-    ghost gives = { λ j. (J.rule j.handed).gives };
-
-    ghost concludes = { λ j. (J.rule j.handed).concludes };
-
-    ghost calm = { λ j. (J.rule j.handed).calm };
-
-    ghost wanting = { λ j. (J.rule j.handed).wanting };
+    ghost rule = { λ j. J.rule j.handed };
 
     ghost fits = { λ s es. FitsWanting J.handed J.rule J.fresh J.knows J.wants s es };
 

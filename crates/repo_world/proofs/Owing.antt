@@ -14,7 +14,7 @@ use Rattle.repo_tree.specs.declared.snapshots.Snapshot.{Snapshot}
 use Rattle.repo_tree.proofs.SpellingLemmas.{spells_move}
 use Rattle.repo_store.specs.Pages.{Has}
 use Rattle.repo_session.specs.Askers.{Asker}
-use Rattle.repo_session.specs.Clients.{IsNextRequest, IsObedientWith}
+use Rattle.repo_session.specs.Clients.{IsNextRequest, IsObedientWith, IsObedientBy}
 use Rattle.repo_session.specs.Ends as ends
 use Rattle.repo_session.specs.Ends.{before_unlock, without_unlock}
 use Rattle.repo_session.specs.Listings.{IsReadRow}
@@ -43,9 +43,12 @@ use Rattle.repo_prune.proofs.PruneRuns.{nothing_deleted, row_replaced}
 use Rattle.repo_world.specs.AnyClients.{FitsAny, any_obeys, client_of}
 use Rattle.repo_world.specs.Clients.{Client, MadeOf, handed_by, task_of}
 use Rattle.repo_world.specs.Duties.{GivesAny, IndexMayGo, IsAllHanded, IsDutiful, HasGivenBack, MayPutSnapshot, NothingDeleted, Owes, PackMayGo, Tells}
-use Rattle.repo_world.specs.Rules.{JobAllows, JobConcludes, JobGives, JobWants, ruled_task}
+use Rattle.repo_world.specs.Rules.{rule_of}
 use Rattle.repo_world.specs.declared.any_clients.AnyClient.{AnyClient}
 use Rattle.repo_world.specs.declared.jobs.Job.{Job}
+use Rattle.repo_session.specs.Jobs.{task_under}
+use Rattle.repo_restore.proofs.Advancing.{only_reads}
+use Rattle.repo_session.proofs.KindReads.{kind_reads}
 use Rattle.repo_world.proofs.PieceMaking.{all_made}
 
 -- ---- the order is that of the job's rule, for who notes nothing
@@ -53,7 +56,7 @@ use Rattle.repo_world.proofs.PieceMaking.{all_made}
 abbrev quiet : Task → Task
 quiet t = record { who = t.who; exclusive = t.exclusive; snapshot = t.snapshot; versions = t.versions; notes = false }
 
-same_task : (job : Job) (who : Asker) → quiet (ruled_task job who) ≡ task_of job who
+same_task : (job : Job) (who : Asker) → quiet (task_under (rule_of job) who) ≡ task_of job who
 same_task (Job.Backup entries) who = refl
 same_task Job.Pieces who = refl
 same_task (Job.Restore s) who = refl
@@ -108,7 +111,7 @@ module _ (entries : List Entry) (es : Trace) (token : Token) (x : List ℕ) (job
 put_alone : (es : Trace) (x : List ℕ) → IsIndexOf (IsListedPack es) x → IsIndexOf (IsPutOrKept es) x
 put_alone es x l = record { packs = l.packs; reads = l.reads; some = l.some; each = λ listed among. inl (l.each listed among) }
 
-backup_owes : (entries : List Entry) (es : Trace) → NothingDeleted es → (ask : Ask) → JobAllows (Job.Backup entries) es ask → Owes (Job.Backup entries) es ask
+backup_owes : (entries : List Entry) (es : Trace) → NothingDeleted es → (ask : Ask) → (rule_of (Job.Backup entries)).allows es ask → Owes (Job.Backup entries) es ask
 backup_owes entries es none (Ask.Put token Kind.Pack n x) r = (none, (r.items, r.pack))
 backup_owes entries es none (Ask.Put token Kind.Index n x) r = (none, put_alone es x r.0.lists)
 backup_owes entries es none (Ask.Put token Kind.Snapshot n x) r =
@@ -116,7 +119,7 @@ backup_owes entries es none (Ask.Put token Kind.Snapshot n x) r =
 backup_owes entries es none (Ask.Delete token k n) r = absurd r
 backup_owes entries es none _ r = tt
 
-pieces_owe : (es : Trace) → NothingDeleted es → (ask : Ask) → JobAllows Job.Pieces es ask → Owes Job.Pieces es ask
+pieces_owe : (es : Trace) → NothingDeleted es → (ask : Ask) → (rule_of Job.Pieces).allows es ask → Owes Job.Pieces es ask
 pieces_owe es none (Ask.Put token Kind.Pack n x) r = (none, (r.items, r.pack))
 pieces_owe es none (Ask.Put token Kind.Index n x) r = (none, put_alone es x r.0.lists)
 pieces_owe es none (Ask.Put token Kind.Snapshot n x) r =
@@ -165,7 +168,7 @@ prune_pack es n r =
       unnamed = λ u i x fact asked says same. let l = put_says r.packs es s.listed u i x fact asked says in r.unlisted (l.0, l.1, sym l.3 ∙ same);
     }
 
-prune_owes : (es : Trace) (ask : Ask) → JobAllows Job.Prune es ask → Owes Job.Prune es ask
+prune_owes : (es : Trace) (ask : Ask) → (rule_of Job.Prune).allows es ask → Owes Job.Prune es ask
 prune_owes es (Ask.Put token Kind.Pack n x) r = (nothing_deleted es r.none, (r.items, r.pack))
 prune_owes es (Ask.Put token Kind.Index n x) r = (nothing_deleted es r.none, r.lists)
 prune_owes es (Ask.Put token Kind.Snapshot n x) r = absurd r
@@ -176,7 +179,7 @@ prune_owes es _ r = tt
 
 -- ---- what the others ask
 
-forget_owes : (choice : Choice) (es : Trace) (ask : Ask) → JobAllows (Job.Forget choice) es ask → Owes (Job.Forget choice) es ask
+forget_owes : (choice : Choice) (es : Trace) (ask : Ask) → (rule_of (Job.Forget choice)).allows es ask → Owes (Job.Forget choice) es ask
 forget_owes choice es (Ask.Put token k n x) r = absurd r.0
 forget_owes choice es (Ask.Delete token Kind.Snapshot n) r = (choice, refl, r.1)
 forget_owes choice es (Ask.Delete token Kind.Pack n) r = let same : Kind.Pack ≡ Kind.Snapshot = r.0 in absurd (cc)
@@ -189,19 +192,19 @@ reading_owes job es (Ask.Get k n) r = tt
 reading_owes job es (Ask.Range pack offset len) r = tt
 reading_owes job es _ r = absurd r
 
-upgrade_owes : (es : Trace) (ask : Ask) → JobAllows Job.Upgrade es ask → Owes Job.Upgrade es ask
+upgrade_owes : (es : Trace) (ask : Ask) → (rule_of Job.Upgrade).allows es ask → Owes Job.Upgrade es ask
 upgrade_owes es (Ask.Put token k n x) r = absurd r
 upgrade_owes es (Ask.Delete token k n) r = absurd r
 upgrade_owes es _ r = tt
 
 -- ---- whatever the job
 
-rule_owes : (job : Job) (who : Asker) (es : Trace) → Obeys (ruled_task job who) (JobAllows job) (JobGives job) es → (ask : Ask) → JobAllows job es ask → Owes job es ask
+rule_owes : (job : Job) (who : Asker) (es : Trace) → Obeys (task_under (rule_of job) who) (rule_of job).allows (rule_of job).gives es → (ask : Ask) → (rule_of job).allows es ask → Owes job es ask
 rule_owes (Job.Backup entries) who es o ask r =
-    backup_owes entries es (λ k n d. unasked (ruled_task (Job.Backup entries) who) (JobAllows (Job.Backup entries)) (JobGives (Job.Backup entries)) (Ask.Delete d.0 k n) (λ fs p. p tt) es o d.1) ask r
-rule_owes Job.Pieces who es o ask r = pieces_owe es (λ k n d. unasked (ruled_task Job.Pieces who) (JobAllows Job.Pieces) (JobGives Job.Pieces) (Ask.Delete d.0 k n) (λ fs p. p tt) es o d.1) ask r
-rule_owes (Job.Restore s) who es o ask r = reading_owes (Job.Restore s) es ask r
-rule_owes Job.List who es o ask r = reading_owes Job.List es ask r
+    backup_owes entries es (λ k n d. unasked (task_under (rule_of (Job.Backup entries)) who) (rule_of (Job.Backup entries)).allows (rule_of (Job.Backup entries)).gives (Ask.Delete d.0 k n) (λ fs p. p tt) es o d.1) ask r
+rule_owes Job.Pieces who es o ask r = pieces_owe es (λ k n d. unasked (task_under (rule_of Job.Pieces) who) (rule_of Job.Pieces).allows (rule_of Job.Pieces).gives (Ask.Delete d.0 k n) (λ fs p. p tt) es o d.1) ask r
+rule_owes (Job.Restore s) who es o ask r = reading_owes (Job.Restore s) es ask (only_reads s es ask r)
+rule_owes Job.List who es o ask r = reading_owes Job.List es ask (kind_reads Kind.Snapshot es ask r)
 rule_owes (Job.Forget choice) who es o ask r = forget_owes choice es ask r
 rule_owes Job.Prune who es o ask r = prune_owes es ask r
 rule_owes Job.Check who es o ask r = reading_owes Job.Check es ask r.0
@@ -209,22 +212,22 @@ rule_owes Job.Upgrade who es o ask r = upgrade_owes es ask r
 
 module _ (job : Job) (who : Asker) where
   abbrev Ruled : Trace → Type 0
-  Ruled es = Obeys (ruled_task job who) (JobAllows job) (JobGives job) es
+  Ruled es = Obeys (task_under (rule_of job) who) (rule_of job).allows (rule_of job).gives es
 
-  may_so : (es : Trace) (ask : Ask) → May (ruled_task job who) es ask → May (task_of job who) es ask
-  may_so es ask h = subst (λ (t : Task). May t es ask) (same_task job who) (may_quietly (ruled_task job who) es ask h)
+  may_so : (es : Trace) (ask : Ask) → May (task_under (rule_of job) who) es ask → May (task_of job who) es ask
+  may_so es ask h = subst (λ (t : Task). May t es ask) (same_task job who) (may_quietly (task_under (rule_of job) who) es ask h)
 
   obeys_so : (es : Trace) → Ruled es → Obeys (task_of job who) (Owes job) GivesAny es
   obeys_so [] o = tt
   obeys_so (e ∷ es) o = (may_so es e.ask o.0, λ work. rule_owes job who es o.3 e.ask (o.1 work), inr tt, obeys_so es o.3)
 
-  next_so : (es : Trace) (request : Request) → Ruled es → IsNextRequest (ruled_task job who) (JobAllows job) es request → IsNextRequest (task_of job who) (Owes job) es request
+  next_so : (es : Trace) (request : Request) → Ruled es → IsNextRequest (task_under (rule_of job) who) (rule_of job).allows es request → IsNextRequest (task_of job who) (Owes job) es request
   next_so es request o n = record { instance = n.instance; sequence = n.sequence; may = may_so es request.ask n.may; permitted = λ work. rule_owes job who es o request.ask (n.permitted work) }
 
 -- ---- what it tells
 
 -- nothing is given out on the end of the lock
-unlock_gives : (job : Job) (es : Trace) (e : Exchange) (token : Token) → e.ask ≡ Ask.Unlock token → JobGives job es e → ⊥
+unlock_gives : (job : Job) (es : Trace) (e : Exchange) (token : Token) → e.ask ≡ Ask.Unlock token → (rule_of job).gives es e → ⊥
 unlock_gives (Job.Restore s) es e token q gives = subst IsForBlob q gives.0
 unlock_gives (Job.Backup entries) es e token q gives = gives
 unlock_gives Job.Pieces es e token q gives = gives
@@ -260,7 +263,7 @@ with_unlock : (P : Trace → Type 0) (ask : Ask) (e : Exchange) (es : Trace) →
 with_unlock P (Ask.Unlock token) e es q more h = more token q h
 with_unlock P _ e es q more h = h
 
-rule_tells : (job : Job) (es : Trace) (o : Outcome) (known : ℕ) → ends.Concludes known (JobConcludes job) es o → Tells job es o
+rule_tells : (job : Job) (es : Trace) (o : Outcome) (known : ℕ) → ends.Concludes known (rule_of job).concludes es o → Tells job es o
 rule_tells (Job.Backup entries) es (Outcome.Stored name blobs bytes) known r = (r.text, r.put)
 rule_tells Job.Pieces es (Outcome.Stored name blobs bytes) known r = (r.text, r.put)
 rule_tells (Job.Restore s) es (Outcome.Complete count) known (version, root, found, spells, counted, whole) = record { version = version; root = root; found = found; spells = spells; whole = whole }
@@ -287,14 +290,14 @@ told_so job who (e ∷ es) o obeys h =
 
 -- ---- whoever goes by the rule is dutiful
 
-pub ruled_dutiful : (c : Client) → IsObedientWith (ruled_task c.job c.who) (JobAllows c.job) (JobGives c.job) (JobConcludes c.job) (JobWants c.job) c.next c.outcome c.trace → IsDutiful c
+pub ruled_dutiful : (c : Client) → IsObedientBy (rule_of c.job) c.who c.next c.outcome c.trace → IsDutiful c
 ruled_dutiful c o =
-    let known = upto (ruled_task c.job c.who).versions in
+    let known = upto (task_under (rule_of c.job) c.who).versions in
     record {
       obeys = obeys_so c.job c.who c.trace o.obeys;
       pending = λ request e. next_so c.job c.who c.trace request o.obeys (o.pending request e);
       concluded = λ outcome e. told_so c.job c.who c.trace outcome o.obeys
-          (rule_tells c.job (before_unlock c.trace) outcome known (concluded_of (ruled_task c.job c.who).notes known (JobConcludes c.job) (before_unlock c.trace) outcome (o.concluded outcome e)));
+          (rule_tells c.job (before_unlock c.trace) outcome known (concluded_of (task_under (rule_of c.job) c.who).notes known (rule_of c.job).concludes (before_unlock c.trace) outcome (o.concluded outcome e)));
     }
 
 -- so is each client of this repository

@@ -7,7 +7,7 @@ use Rattle.repo_name.specs.declared.kinds.Kind.{Kind}
 use Rattle.repo_name.specs.declared.names.Name.{Name}
 use Rattle.repo_tree.specs.declared.entries.Entry.{Entry}
 use Rattle.repo_session.specs.Versions.{upto}
-use Rattle.repo_session.specs.Clients.{IsObedientWith}
+use Rattle.repo_session.specs.Clients.{IsObedientWith, IsObedientBy}
 use Rattle.repo_session.specs.Order.{May, Task}
 use Rattle.repo_session.specs.Traces.{Trace, is_complete}
 use Rattle.repo_session.specs.declared.outcomes.End.{End}
@@ -17,8 +17,9 @@ use Rattle.repo_prune.specs.Forgetting.{IsForgotten, IsDecided}
 use Rattle.repo_prune.specs.declared.choices.Choice.{Choice}
 use Rattle.repo_session.proofs.GoingOn.{concluded_of}
 use Rattle.repo_world.specs.AnyClients.{FitsAny, any_ended, any_next, any_obeys, given_to}
-use Rattle.repo_world.specs.Rules.{JobAllows, JobConcludes, JobGives, JobWants, ruled_task}
+use Rattle.repo_world.specs.Rules.{rule_of}
 use Rattle.repo_world.specs.declared.any_clients.AnyClient.{AnyClient}
+use Rattle.repo_session.specs.Jobs.{task_under}
 use Rattle.repo_world.specs.declared.jobs.Job.{Job}
 
 -- ---- nothing was asked, so no job is at its end
@@ -26,7 +27,7 @@ use Rattle.repo_world.specs.declared.jobs.Job.{Job}
 unlisted : false ≡ true → ⊥
 unlisted e = absurd (cc)
 
-restore_ends : (snapshot : Name) (end : End) → JobConcludes (Job.Restore snapshot) [] (Outcome.Ended end) → ⊥
+restore_ends : (snapshot : Name) (end : End) → (rule_of (Job.Restore snapshot)).concludes [] (Outcome.Ended end) → ⊥
 restore_ends snapshot (End.Missing thing name) h = h.found.2.0
 restore_ends snapshot (End.BadObject Thing.Tree tree) h = h.found.2.0
 restore_ends snapshot (End.BadObject Thing.Pack tree) h = h
@@ -42,7 +43,7 @@ restore_ends snapshot End.DirectoryTooLarge h = h
 restore_ends snapshot End.FileTooLarge h = h
 restore_ends snapshot End.Abandoned h = h
 
-prune_ends : (end : End) → JobConcludes Job.Prune [] (Outcome.Ended end) → ⊥
+prune_ends : (end : End) → (rule_of Job.Prune).concludes [] (Outcome.Ended end) → ⊥
 prune_ends (End.Missing thing name) h = h.1.1
 prune_ends (End.BadObject Thing.Tree tree) h = h.1.among
 prune_ends (End.BadObject Thing.Pack tree) h = h
@@ -58,7 +59,7 @@ prune_ends End.DirectoryTooLarge h = h
 prune_ends End.FileTooLarge h = h
 prune_ends End.Abandoned h = h
 
-backup_ends : (entries : List Entry) (end : End) → JobConcludes (Job.Backup entries) [] (Outcome.Ended end) → ⊥
+backup_ends : (entries : List Entry) (end : End) → (rule_of (Job.Backup entries)).concludes [] (Outcome.Ended end) → ⊥
 backup_ends entries End.DirectoryTooLarge h = h.cut.read
 backup_ends entries End.FileTooLarge h = h.cut.read
 backup_ends entries End.Abandoned h = h
@@ -70,7 +71,7 @@ backup_ends entries (End.Refused code) h = h
 backup_ends entries End.BadReply h = h
 backup_ends entries End.Version h = h
 
-pieces_ends : (end : End) → JobConcludes Job.Pieces [] (Outcome.Ended end) → ⊥
+pieces_ends : (end : End) → (rule_of Job.Pieces).concludes [] (Outcome.Ended end) → ⊥
 pieces_ends End.DirectoryTooLarge h = h.at.has.read
 pieces_ends End.FileTooLarge h = h.at.has.read
 pieces_ends End.Abandoned h = h.1
@@ -83,7 +84,7 @@ pieces_ends End.BadReply h = h
 pieces_ends End.Version h = h
 
 -- an end of a job's own has something that was asked
-no_end : (job : Job) (end : End) → JobConcludes job [] (Outcome.Ended end) → ⊥
+no_end : (job : Job) (end : End) → (rule_of job).concludes [] (Outcome.Ended end) → ⊥
 no_end (Job.Backup entries) end h = backup_ends entries end h
 no_end Job.Pieces end h = pieces_ends end h
 no_end (Job.Restore snapshot) end h = restore_ends snapshot end h
@@ -100,7 +101,7 @@ forgot_listed choice es names h = go choice h.chosen.decided where
   go (Choice.Keep policy) k = k.listed.complete
   go (Choice.KeepOf host policy) k = k.listed.complete
 
-no_outcome : (job : Job) (o : Outcome) → JobConcludes job [] o → ⊥
+no_outcome : (job : Job) (o : Outcome) → (rule_of job).concludes [] o → ⊥
 no_outcome job (Outcome.Ended end) h = no_end job end h
 no_outcome (Job.Backup entries) (Outcome.Stored name blobs bytes) h = h.put.1
 no_outcome Job.Pieces (Outcome.Stored name blobs bytes) h = h.put.1
@@ -121,7 +122,7 @@ no_outcome Job.Prune _ h = h
 no_outcome Job.Check _ h = h
 no_outcome Job.Upgrade _ h = h
 
-not_concluded : (known : ℕ) (job : Job) (o : Outcome) → ends.Concludes known (JobConcludes job) [] o → ⊥
+not_concluded : (known : ℕ) (job : Job) (o : Outcome) → ends.Concludes known (rule_of job).concludes [] o → ⊥
 not_concluded known job (Outcome.Ended end) (inl h) = h
 not_concluded known job (Outcome.Ended end) (inr h) = no_end job end h
 not_concluded known job (Outcome.Stored name blobs bytes) h = no_outcome job (Outcome.Stored name blobs bytes) h
@@ -134,7 +135,7 @@ not_concluded known job (Outcome.Faults faults) h = no_outcome job (Outcome.Faul
 not_concluded known job Outcome.Upgraded h = no_outcome job Outcome.Upgraded h
 
 -- and it wants no input
-no_wish : (job : Job) → JobWants job [] → ⊥
+no_wish : (job : Job) → (rule_of job).wanting [] → ⊥
 no_wish (Job.Backup entries) h = h
 no_wish Job.Pieces h = unlisted h.indexes.listed.complete
 no_wish (Job.Restore snapshot) h = h
@@ -165,15 +166,15 @@ only_ticket task (Ask.Refresh token time) h = absurd h
 only_ticket task Ask.Locks h = absurd h
 
 module _ (c : AnyClient) (f : FitsAny c []) where
-  owes : IsObedientWith (ruled_task (given_to c).handed (given_to c).who) (JobAllows (given_to c).handed) (JobGives (given_to c).handed) (JobConcludes (given_to c).handed) (JobWants (given_to c).handed) (any_next c) (any_ended c) []
+  owes : IsObedientBy (rule_of (given_to c).handed) (given_to c).who (any_next c) (any_ended c) []
   owes = any_obeys c [] f
 
   pub no_outcome_yet : any_ended c ≡ None
   no_outcome_yet = go (any_ended c) refl where
     go : (o : Option Outcome) → any_ended c ≡ o → any_ended c ≡ None
     go None e = e
-    go (Some o) e = absurd (not_concluded (upto (ruled_task (given_to c).handed (given_to c).who).versions) (given_to c).handed o
-        (concluded_of (ruled_task (given_to c).handed (given_to c).who).notes (upto (ruled_task (given_to c).handed (given_to c).who).versions) (JobConcludes (given_to c).handed) [] o (owes.concluded o e)))
+    go (Some o) e = absurd (not_concluded (upto (task_under (rule_of (given_to c).handed) (given_to c).who).versions) (given_to c).handed o
+        (concluded_of (task_under (rule_of (given_to c).handed) (given_to c).who).notes (upto (task_under (rule_of (given_to c).handed) (given_to c).who).versions) (rule_of (given_to c).handed).concludes [] o (owes.concluded o e)))
 
   pub ticket_pending : any_next c ≡ Some (record { instance = (given_to c).who.instance; sequence = 1; ask = Ask.Ticket })
   ticket_pending = go (any_next c) refl where
@@ -181,5 +182,5 @@ module _ (c : AnyClient) (f : FitsAny c []) where
     go None e = absurd (no_wish (given_to c).handed (owes.settled e no_outcome_yet))
     go (Some request) e =
         let n = owes.pending request e in
-        let t = only_ticket (ruled_task (given_to c).handed (given_to c).who) request.ask n.may in
+        let t = only_ticket (task_under (rule_of (given_to c).handed) (given_to c).who) request.ask n.may in
         e ∙ (λ i. Some (record { instance = n.instance i; sequence = n.sequence i; ask = t i }))

@@ -3,7 +3,7 @@ use Rattle.std.specs.Prelude.{◌<◌, ℕ, List, length, map, slice_index_or}
 use Rattle.repo_store.specs.Stores.{Store}
 use Rattle.repo_session.specs.Traces.{Each}
 use Rattle.repo_world.specs.Clients.{Client}
-use Rattle.repo_world.specs.Rules.{IsRuled}
+use Rattle.repo_world.specs.Rules.{IsRuled, rule_of}
 use Rattle.repo_world.specs.Seats.{Seated, empty_seat, nothing, silence}
 use Rattle.repo_world.specs.World as world
 use Rattle.repo_world.specs.World.{World}

@@ -19,21 +19,21 @@ use repo_check::Check;
 use repo_name::Token;
 use repo_prune::{Forget, ForgetError, Prune, Upgrade};
 use repo_restore::{Restore, SnapshotList};
-use repo_session::{Client, Emission, Outcome, Who};
+use repo_session::{Client, Emission, Outcome, Session, Who};
 use repo_wire::{Reply, Request};
 use std::alloc::{AllocError, Global};
 
 /// A client of any job.
 #[derive(Drop)]
 pub enum AnyClient {
-    Backup(Backup),
+    Backup(Session<Backup>),
     Pieces(PieceBackup),
-    Restore(Restore),
-    List(SnapshotList),
-    Forget(Forget),
-    Prune(Prune),
-    Check(Check),
-    Upgrade(Upgrade),
+    Restore(Session<Restore>),
+    List(Session<SnapshotList>),
+    Forget(Session<Forget>),
+    Prune(Session<Prune>),
+    Check(Session<Check>),
+    Upgrade(Session<Upgrade>),
 }
 
 /// Why a client isn't begun: it is refused, or there is no memory.
@@ -131,24 +131,16 @@ impl AnyClient {
 impl Client for AnyClient {
     ghost use Rattle.repo_session.specs.Sessions.{Given};
     ghost use Rattle.repo_world.specs.AnyClients.{FitsAny, any_ended, any_given, any_next, any_obeys, any_tells, any_token, given_to};
-    ghost use Rattle.repo_world.specs.Rules.{JobAllows, JobConcludes, JobGives, JobWants, rule_of, ruled_task};
+    ghost use Rattle.repo_world.specs.Rules.{rule_of};
     ghost use Rattle.repo_world.specs.declared.jobs.Job.{Job as AnyJob};
 
     ghost Job = { Given AnyJob };
 
     ghost job = { given_to };
 
-    ghost task = { λ j. ruled_task j.handed j.who };
+    ghost who = { λ j. j.who };
 
-    ghost allows = { λ j. JobAllows j.handed };
-
-    ghost gives = { λ j. JobGives j.handed };
-
-    ghost concludes = { λ j. JobConcludes j.handed };
-
-    ghost calm = { λ j. (rule_of j.handed).calm };
-
-    ghost wanting = { λ j. JobWants j.handed };
+    ghost rule = { λ j. rule_of j.handed };
 
     ghost fits = { FitsAny };
 

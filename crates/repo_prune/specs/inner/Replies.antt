@@ -8,39 +8,39 @@ use Rattle.repo_prune.specs.declared.moving.Moving.{Moving}
 use Rattle.repo_name.specs.declared.kinds.Kind.{Kind}
 use Rattle.repo_name.specs.declared.tokens.Token.{Token}
 use Rattle.repo_wire.specs.declared.messages.Say.{Say}
-use Rattle.repo_prune.specs.declared.prunes.PruneJob.{PruneJob}
+use Rattle.repo_prune.specs.declared.prunes.Prune.{Prune}
 use Rattle.repo_wire.specs.declared.messages.Ask.{Ask}
 use Rattle.repo_prune.specs.declared.prunes.Stage.{Stage}
 use Rattle.repo_name.specs.declared.names.Name.{Name}
 use Rattle.repo_session.specs.declared.jobs.Step.{Step}
 
 -- while it walks the trees: what comes of a part of a pack; what is known; and what comes after
-abbrev pub StepsInWalk : PruneJob → Token → Say → Step → PruneJob → Type 0
+abbrev pub StepsInWalk : Prune → Token → Say → Step → Prune → Type 0
 StepsInWalk old token say step new = (trees : Trees) (fact : Fact) (pack : Name) (offset len : ℕ) → old.stage ≡ Stage.Walking trees fact
     → StepsFrom old token (Ask.Range pack offset len) say step new
 
-abbrev pub KnowsInWalk : PruneJob → PruneJob → Type 0
+abbrev pub KnowsInWalk : Prune → Prune → Type 0
 KnowsInWalk old new = (trees : Trees) (fact : Fact) (pack : Name) (offset len : ℕ) → old.stage ≡ Stage.Walking trees fact → KnowsAsMuch old (Ask.Range pack offset len) new
 
-abbrev pub EndsWalk : PruneJob → Token → Step → PruneJob → Type 0
+abbrev pub EndsWalk : Prune → Token → Step → Prune → Type 0
 EndsWalk old token step new = (trees : Trees) (fact : Fact) → old.stage ≡ Stage.Walking trees fact → GoesTo (known_in old) token (HasWalked (known_in old) trees) step new
 
 -- while it moves blobs
-abbrev pub StepsInMoves : PruneJob → Token → Say → Step → PruneJob → Type 0
+abbrev pub StepsInMoves : Prune → Token → Say → Step → Prune → Type 0
 StepsInMoves old token say step new = (moving : Moving) (pack : Name) (offset len : ℕ) → old.stage ≡ Stage.Moving moving
     → StepsFrom old token (Ask.Range pack offset len) say step new
 
-abbrev pub KnowsInMoves : PruneJob → PruneJob → Type 0
+abbrev pub KnowsInMoves : Prune → Prune → Type 0
 KnowsInMoves old new = (moving : Moving) (pack : Name) (offset len : ℕ) → old.stage ≡ Stage.Moving moving → KnowsAsMuch old (Ask.Range pack offset len) new
 
-abbrev pub EndsMoves : PruneJob → Token → Step → PruneJob → Type 0
+abbrev pub EndsMoves : Prune → Token → Step → Prune → Type 0
 EndsMoves old token step new = (moving : Moving) → old.stage ≡ Stage.Moving moving → GoesTo (known_in old) token (HasMoved (known_in old) moving) step new
 
 -- after its indexes were put
-abbrev pub EndsIndexes : PruneJob → Token → Step → PruneJob → Type 0
+abbrev pub EndsIndexes : Prune → Token → Step → Prune → Type 0
 EndsIndexes old token step new = (relisting : Relisting) → old.stage ≡ Stage.Relisting relisting
     → GoesTo (known_in old) token (HasListed (known_in old) relisting) step new
 
 -- what comes of what was said to a put of a kind, whichever
-abbrev pub StepsFromPut : Kind → Say → PruneJob → Token → Step → PruneJob → Type 0
+abbrev pub StepsFromPut : Kind → Say → Prune → Token → Step → Prune → Type 0
 StepsFromPut kind say old token step new = (own : Token) (name : Name) (bytes : List ℕ) → StepsFrom old token (Ask.Put own kind name bytes) say step new

@@ -17,7 +17,7 @@ use Rattle.repo_backup.specs.Items.{AreTaken, IsCountOf, fed_part, size_of}
 use Rattle.repo_backup.specs.declared.items.Item.{Item}
 use Rattle.repo_world.specs.Clients.{IsWaiting, MayBeFed}
 use Rattle.repo_world.specs.Events.{RefusesItem}
-use Rattle.repo_world.specs.Rules.{IsRuled}
+use Rattle.repo_world.specs.Rules.{IsRuled, rule_of}
 use Rattle.repo_world.specs.Seats.{Seated, listed, nothing, silence}
 use Rattle.repo_world.specs.World.{crashed_one}
 use Rattle.repo_world.specs.declared.seats.Arrival.{Arrival}

@@ -17,7 +17,7 @@ returns-in_err-connection g c =
       no_call came,
       refl,
       refl,
-      not_driven (driven_by g.C.Client.task g.C.Client.job g.C.Client.fits g.C.Client.next g.C.Client.token_of) c.args.client.now came,
+      not_driven (driven_by g.C.Client.who g.C.Client.job g.C.Client.fits g.C.Client.next g.C.Client.token_of) c.args.client.now came,
       handed_all (CalledAt g.F.FnMut) (failed ≡ Err DriveError.Sink) [] c.args.sink.now c.args.sink.now (λ sink. absurd (cc)) refl,
     )
 
@@ -38,8 +38,7 @@ returns g c =
         drives = n.drives;
         same = c.drive_over-driven.ensures.job;
         leaves = subst (λ r. TakesLeave r (g.C.Client.next client) (g.C.Client.token_of client) call) (sym is) f.1;
-        ends = ends_own g.C.Client.fits client (g.C.Client.task (g.C.Client.job client)) (g.C.Client.allows (g.C.Client.job client)) (g.C.Client.gives (g.C.Client.job client)) (g.C.Client.concludes (g.C.Client.job client))
-            (g.C.Client.wanting (g.C.Client.job client)) (g.C.Client.next client) (g.C.Client.ended client) (g.C.Client.token_of client) (λ es h. g.met.C.Client.obedient client es h) (λ es h. g.met.C.Client.ticketed client es h) left f.0 f.1;
+        ends = ends_own g.C.Client.fits client (g.C.Client.rule (g.C.Client.job client)) (g.C.Client.who (g.C.Client.job client)) (g.C.Client.next client) (g.C.Client.ended client) (g.C.Client.token_of client) (λ es h. g.met.C.Client.obedient client es h) (λ es h. g.met.C.Client.ticketed client es h) left f.0 f.1;
       },
       handed.1,
     )

@@ -3,17 +3,21 @@ use Rattle.std.proofs.lemmas.Option.{same_Some}
 use Rattle.repo_wire.specs.declared.messages.Request.{Request}
 use Rattle.repo_session.specs.declared.emissions.Emission.{Emission}
 use Rattle.repo_session.specs.declared.outcomes.Outcome.{Outcome}
-use Rattle.repo_session.specs.Sessions.{who_in, ended_in}
+use Rattle.repo_session.specs.Sessions.{who_in, ended_in, Given}
 use Rattle.repo_session.specs.Talks.{trace_of, given_in}
 use Rattle.repo_session.specs.Traces.{Trace}
 use Rattle.repo_backup.specs.Backups.{FitsBackup, handed_to}
-use Rattle.repo_backup.specs.BackupObedience.{backup_obeys}
+use Rattle.repo_backup.specs.Backups.{IsFreshBackup, Knows, handed_to}
 use Rattle.repo_backup.specs.Laws.{IsBackup}
-use Rattle.repo_restore.specs.Restoring.{Wish}
-use Rattle.repo_restore.specs.RestoreObedience.{wish_of, restore_obeys}
+use Rattle.repo_restore.specs.Restoring.{Wish, restore_rule}
+use Rattle.repo_restore.specs.declared.restores.Restore.{Restore}
+use Rattle.repo_restore.specs.RestoreStates.{wish_of, IsNewRestore, KnowsRestore}
 use Rattle.repo_restore.specs.RestoreStates.{FitsRestore}
 use Rattle.repo_restore.specs.Laws.{IsRestore}
 use Rattle.repo_laws.proofs.AloneRuns.{gives_back}
+use Rattle.repo_session.specs.Obedience.{session_obeys}
+use Rattle.repo_backup.specs.Rules.{backup_rule}
+use Rattle.repo_name.specs.declared.names.Name.{Name}
 use Rattle.repo_laws.proofs.alone.back_up_and_restore.Goals as goal
 
 pub returns-then-is_complete-clause-back : goal.returns-then-is_complete-clause-back
@@ -30,20 +34,20 @@ returns-then-is_complete-clause-back g c = λ sound emissions gave.
     let stored : Outcome = Outcome.Stored c.in-Some-Stored.name c.in-Some-Stored.field-0-1 c.in-Some-Stored.field-0-2 in
     let done = c.is_complete.ensures.yes c.if-is_complete.true in
     let complete : Outcome = Outcome.Complete done.0 in
-    let e : ended_in new.session ≡ Some stored = sym c.outcome.ensures ∙ (ap (λ o. option_map (λ x. x.now) o) c.in-Some-Stored.is ∙ ap (λ o. Some o) c.in-Some-Stored.field-0-is) in
-    let f : ended_in last.session ≡ Some complete = done.1 in
+    let e : ended_in new ≡ Some stored = sym c.outcome.ensures ∙ (ap (λ o. option_map (λ x. x.now) o) c.in-Some-Stored.is ∙ ap (λ o. Some o) c.in-Some-Stored.field-0-is) in
+    let f : ended_in last ≡ Some complete = done.1 in
     let here = subst (λ (es : Trace). FitsBackup new es) (append-nil (trace_of s.0)) (s.1.0.fits [] c.requires.fresh) in
     let there = subst (λ (es : Trace). FitsRestore last es) (append-nil (trace_of t.0)) (t.1.0.fits [] c.new-restore.ensures.fits) in
-    let is : IsBackup (who_in new.session) (handed_to new.session.job) None (Some stored) (trace_of s.0) =
-    subst (λ (o : Option Outcome). IsBackup (who_in new.session) (handed_to new.session.job) None o (trace_of s.0)) e
-    (subst (λ (r : Option Request). IsBackup (who_in new.session) (handed_to new.session.job) r (ended_in new.session) (trace_of s.0)) s.1.2 (backup_obeys new (trace_of s.0) here)) in
+    let is : IsBackup (who_in new) (handed_to new.job) None (Some stored) (trace_of s.0) =
+    subst (λ (o : Option Outcome). IsBackup (who_in new) (handed_to new.job) None o (trace_of s.0)) e
+    (subst (λ (r : Option Request). IsBackup (who_in new) (handed_to new.job) r (ended_in new) (trace_of s.0)) s.1.2 (session_obeys handed_to backup_rule IsFreshBackup Knows (λ j fs. ⊥) new (trace_of s.0) here)) in
     let is' : IsRestore (wish_of last) None (Some complete) (trace_of t.0) =
     subst (λ (o : Option Outcome). IsRestore (wish_of last) None o (trace_of t.0)) f
-    (subst (λ (r : Option Request). IsRestore (wish_of last) r (ended_in last.session) (trace_of t.0)) t.1.2 (restore_obeys last (trace_of t.0) there)) in
+    (subst (λ (r : Option Request). IsRestore (wish_of last) r (ended_in last) (trace_of t.0)) t.1.2 (session_obeys (λ (j : Restore). j.snapshot) restore_rule IsNewRestore KnowsRestore (λ j fs. ⊥) last (trace_of t.0) there)) in
     let job = c.lockstep.ensures.job in
-    let wish : wish_of last ≡ record { who = (wish_of made).who; snapshot = c.in-Some-Stored.name } = c.lockstep-2.ensures.job ∙ ap (λ n. record { who = (wish_of made).who; snapshot = n }) c.new-restore.ensures.snapshot in
-    gives_back (who_in new.session) (handed_to old.session.job) from mid to _ _ _ _ s.0 t.0 c.in-Some-Stored.name c.in-Some-Stored.field-0-1 c.in-Some-Stored.field-0-2 done.0 (wish_of made).who emissions sound s.1.3
-    (subst (λ es. IsBackup (who_in new.session) es None (Some stored) (trace_of s.0)) (λ i. (job i).entries) is) t.1.3
+    let wish : wish_of last ≡ record { who = (wish_of made).who; snapshot = c.in-Some-Stored.name } = ap (λ (g : Given Name). record { who = g.who; snapshot = g.handed }) c.lockstep-2.ensures.job ∙ ap (λ n. record { who = (wish_of made).who; snapshot = n }) c.new-restore.ensures.snapshot in
+    gives_back (who_in new) (handed_to old.job) from mid to _ _ _ _ s.0 t.0 c.in-Some-Stored.name c.in-Some-Stored.field-0-1 c.in-Some-Stored.field-0-2 done.0 (wish_of made).who emissions sound s.1.3
+    (subst (λ es. IsBackup (who_in new) es None (Some stored) (trace_of s.0)) (λ i. (job i).handed) is) t.1.3
     (subst (λ (w : Wish). IsRestore w None (Some complete) (trace_of t.0)) wish is')
     (sym (same_Some c.lockstep-2.new.out.items emissions gave) ∙ (t.1.4 ∙ ap (λ (x : List Emission). x ++ given_in t.0) c.new-out-2.ensures.items))
 
@@ -54,11 +58,11 @@ returns-clause-none g c = λ none.
     let last = c.lockstep-2.new.client in
     let t = c.in_ok-lockstep-2.ensures.steps (c.lockstep.ensures.honest c.requires.honest) in
     let stored : Outcome = Outcome.Stored c.in-Some-Stored.name c.in-Some-Stored.field-0-1 c.in-Some-Stored.field-0-2 in
-    let e : ended_in new.session ≡ Some stored = sym c.outcome.ensures ∙ (ap (λ o. option_map (λ x. x.now) o) c.in-Some-Stored.is ∙ ap (λ o. Some o) c.in-Some-Stored.field-0-is) in
+    let e : ended_in new ≡ Some stored = sym c.outcome.ensures ∙ (ap (λ o. option_map (λ x. x.now) o) c.in-Some-Stored.is ∙ ap (λ o. Some o) c.in-Some-Stored.field-0-is) in
     let there = subst (λ (es : Trace). FitsRestore last es) (append-nil (trace_of t.0)) (t.1.0.fits [] c.new-restore.ensures.fits) in
-    let is : IsRestore (wish_of last) None (ended_in last.session) (trace_of t.0) = subst (λ (r : Option Request). IsRestore (wish_of last) r (ended_in last.session) (trace_of t.0)) t.1.2 (restore_obeys last (trace_of t.0) there) in
+    let is : IsRestore (wish_of last) None (ended_in last) (trace_of t.0) = subst (λ (r : Option Request). IsRestore (wish_of last) r (ended_in last) (trace_of t.0)) t.1.2 (session_obeys (λ (j : Restore). j.snapshot) restore_rule IsNewRestore KnowsRestore (λ j fs. ⊥) last (trace_of t.0) there) in
     let wish : wish_of last ≡ record { who = c.args.who; snapshot = c.in-Some-Stored.name } =
-    c.lockstep-2.ensures.job ∙ (ap (λ n. record { who = (wish_of made).who; snapshot = n }) c.new-restore.ensures.snapshot ∙ ap (λ w. record { who = w; snapshot = c.in-Some-Stored.name }) c.new-restore.ensures.who) in
+    ap (λ (g : Given Name). record { who = g.who; snapshot = g.handed }) c.lockstep-2.ensures.job ∙ (ap (λ n. record { who = (wish_of made).who; snapshot = n }) c.new-restore.ensures.snapshot ∙ ap (λ w. record { who = w; snapshot = c.in-Some-Stored.name }) c.new-restore.ensures.who) in
     inr (
       c.in-Some-Stored.name,
       c.in-Some-Stored.field-0-1,
@@ -70,8 +74,8 @@ returns-clause-none g c = λ none.
         failing = g.S.Shelf.failed c.lockstep-2.new.shelf;
         talk = t.0;
         ran = t.1.3;
-        outcome = ended_in last.session;
-        is = subst (λ (w : Wish). IsRestore w None (ended_in last.session) (trace_of t.0)) wish is;
+        outcome = ended_in last;
+        is = subst (λ (w : Wish). IsRestore w None (ended_in last) (trace_of t.0)) wish is;
         other = λ count h. c.is_complete.ensures.no c.if-is_complete.false count h;
       },
     )

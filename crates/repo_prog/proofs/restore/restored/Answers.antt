@@ -5,7 +5,7 @@ use Rattle.repo_name.specs.declared.names.Name.{Name}
 use Rattle.repo_session.specs.Askers.{Asker}
 use Rattle.repo_dial.specs.Bringing.{BroughtInto}
 use Rattle.repo_restore.specs.Restoring.{restore_rule}
-use Rattle.repo_restore.specs.RestoreObedience.{wish_of}
+use Rattle.repo_restore.specs.RestoreStates.{wish_of}
 use Rattle.repo_prog.specs.Jobs.{vault_asker}
 use Rattle.repo_prog.proofs.restore.restored.Goals as goal
 
@@ -17,5 +17,5 @@ returns-in_err-who g c =
 pub returns : goal.returns
 returns g c =
     let made = c.new-restore.ensures in
-    let Into : Name → Asker → Type 0 = λ name who. BroughtInto (CalledAt g.S.FnMut) c.args.sink.now (restore_rule name) who c.bring.result c.args.retry (g.D.Dial.connections c.args.dial.now) (g.D.Dial.connections c.bring.new.dial) c.bring.new.sink in
-    inr (subst (λ name. Into name (vault_asker c.args.caller.now)) made.snapshot (subst (λ who. Into (wish_of c.new-restore.result).snapshot who) (made.who ∙ c.in_ok-who.ensures) c.bring.ensures))
+    let Into : Name → Asker → Type 0 = λ name who. BroughtInto (CalledAt g.S.FnMut) c.args.sink.now (restore_rule name) who c.bring_into.result c.args.retry (g.D.Dial.connections c.args.dial.now) (g.D.Dial.connections c.bring_into.new.dial) c.bring_into.new.sink in
+    inr (subst (λ name. Into name (vault_asker c.args.caller.now)) made.snapshot (subst (λ who. Into (wish_of c.new-restore.result).snapshot who) (made.who ∙ c.in_ok-who.ensures) c.bring_into.ensures))

@@ -12,7 +12,7 @@ use Rattle.repo_session.proofs.driving.drive_over.Goals as goal
 
 pub loop-turn-init : goal.loop-turn-init
 loop-turn-init g c = record {
-  gone = λ bytes told h. gone_nowhere g.L.Channel.hears g.L.Channel.says bytes told (g.C.Client.task (g.C.Client.job c.args.client.now)).who.instance g.C.Client.fits g.C.Client.next c.args.client.now c.args.channel.now c.args.connection.now h (λ t. AreTaken (CalledAt g.F.FnMut) c.args.sink.now (given_in t) c.args.sink.now) refl;
+  gone = λ bytes told h. gone_nowhere g.L.Channel.hears g.L.Channel.says bytes told (g.C.Client.who (g.C.Client.job c.args.client.now)).instance g.C.Client.fits g.C.Client.next c.args.client.now c.args.channel.now c.args.connection.now h (λ t. AreTaken (CalledAt g.F.FnMut) c.args.sink.now (given_in t) c.args.sink.now) refl;
   few = lit≤ tt;
   sink = c.requires;
   job = refl;
@@ -65,8 +65,8 @@ returns-then-not-hand_out-clause-carries g c bytes told h =
     let given = g.C.Client.given c.take.new.self in
     let turn : Turn = record { request = c.in-Some.request.now; passed = n.passed; reply = c.in_ok-reply-in-Some.reply; emitted = given } in
     let is : IsTurn turn = record { fits = c.pending.ensures.frame c.in-Some.request.now pending; passed = n.past; answers = n.asks.0.0 } in
-    let went = went_on (g.C.Client.task (g.C.Client.job c.args.client.now)).who.instance g.C.Client.fits c.args.client.now c.loop-turn.client c.take.new.self i.talk turn i.went is
-    (λ es f. numbered_next _ _ _ _ _ _ _ es (g.C.Client.task (g.C.Client.job c.args.client.now)).who.instance c.in-Some.request.now (g.met.C.Client.obedient c.loop-turn.client es f) pending (ap (λ j. (g.C.Client.task j).who.instance) c.loop-turn.invariant.job))
+    let went = went_on (g.C.Client.who (g.C.Client.job c.args.client.now)).instance g.C.Client.fits c.args.client.now c.loop-turn.client c.take.new.self i.talk turn i.went is
+    (λ es f. numbered_next _ _ _ _ _ _ _ es (g.C.Client.who (g.C.Client.job c.args.client.now)).instance c.in-Some.request.now (g.met.C.Client.obedient c.loop-turn.client es f) pending (ap (λ j. (g.C.Client.who j).instance) c.loop-turn.invariant.job))
     (c.in_ok-take.ensures.taken c.in-Some.request.now pending is.answers) in
     let stops = subst (λ xs. StopsAt (CalledAt g.F.FnMut) c.loop-turn.sink xs c.hand_out.new.sink) c.emitted.ensures (c.hand_out.ensures.stops c.if-not-hand_out.true) in
     let stopped : Result ℕ DriveError = Err DriveError.Sink in
@@ -84,8 +84,8 @@ loop-turn-preserved g c = record {
       let given = g.C.Client.given c.take.new.self in
       let turn : Turn = record { request = c.in-Some.request.now; passed = n.passed; reply = c.in_ok-reply-in-Some.reply; emitted = given } in
       let is : IsTurn turn = record { fits = c.pending.ensures.frame c.in-Some.request.now pending; passed = n.past; answers = n.asks.0.0 } in
-      let went = went_on (g.C.Client.task (g.C.Client.job c.args.client.now)).who.instance g.C.Client.fits c.args.client.now c.loop-turn.client c.take.new.self i.talk turn i.went is
-      (λ es f. numbered_next _ _ _ _ _ _ _ es (g.C.Client.task (g.C.Client.job c.args.client.now)).who.instance c.in-Some.request.now (g.met.C.Client.obedient c.loop-turn.client es f) pending (ap (λ j. (g.C.Client.task j).who.instance) c.loop-turn.invariant.job))
+      let went = went_on (g.C.Client.who (g.C.Client.job c.args.client.now)).instance g.C.Client.fits c.args.client.now c.loop-turn.client c.take.new.self i.talk turn i.went is
+      (λ es f. numbered_next _ _ _ _ _ _ _ es (g.C.Client.who (g.C.Client.job c.args.client.now)).instance c.in-Some.request.now (g.met.C.Client.obedient c.loop-turn.client es f) pending (ap (λ j. (g.C.Client.who j).instance) c.loop-turn.invariant.job))
       (c.in_ok-take.ensures.taken c.in-Some.request.now pending is.answers) in
       let all = subst (λ xs. AreTaken (CalledAt g.F.FnMut) c.loop-turn.sink xs c.hand_out.new.sink) c.emitted.ensures (c.hand_out.ensures.taken c.if-not-hand_out.false) in
       gone_on _ _ bytes told _ _ _ _ _ _ _ _ _ i c.in-Some.request.now pending _ c.ask_over.new.self c.ask_over.new.channel n c.in_ok-reply-in-Some.reply refl c.take.new.self given went

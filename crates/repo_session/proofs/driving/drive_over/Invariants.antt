@@ -10,7 +10,7 @@ use Rattle.repo_session.proofs.driving.drive_over.Given as goal
 abbrev pub invariant-loop-turn : goal.invariant-loop-turn
 invariant-loop-turn g l = record {
   gone : (bytes : List ℕ) (told : List Reply) → Heard bytes told l.fn.connection
-      → (gone : Gone g.L.Channel.hears g.L.Channel.says bytes told (g.C.Client.task (g.C.Client.job l.fn.client)).who.instance g.C.Client.fits g.C.Client.next l.fn.client l.fn.channel l.client l.connection l.channel l.turn)
+      → (gone : Gone g.L.Channel.hears g.L.Channel.says bytes told (g.C.Client.who (g.C.Client.job l.fn.client)).instance g.C.Client.fits g.C.Client.next l.fn.client l.fn.channel l.client l.connection l.channel l.turn)
       × AreTaken (CalledAt g.F.FnMut) l.fn.sink (given_in gone.talk) l.sink;
   few : l.turn ≤ 2 ^ 32;
   sink : goal.F-IsAlwaysCallable g l.sink;

@@ -32,7 +32,7 @@ one_more replies k reply within is =
 pub returns-in_default-clause-all : goal.returns-in_default-clause-all
 returns-in_default-clause-all g c =
     let none : g.C.Client.next c.loop-before.client ≡ None = sym c.pending.ensures.next ∙ ap (option_map (λ r. r.now)) c.in_default.is in
-    took_rest (g.C.Client.task (g.C.Client.job c.args.client.now)).who.instance g.C.Client.fits g.C.Client.next c.args.client.now c.loop-before.client c.args.replies.now c.loop-before.before c.loop-before.invariant.took none
+    took_rest (g.C.Client.who (g.C.Client.job c.args.client.now)).instance g.C.Client.fits g.C.Client.next c.args.client.now c.loop-before.client c.args.replies.now c.loop-before.before c.loop-before.invariant.took none
 
 pub returns-then-is_err-clause-part : goal.returns-then-is_err-clause-part
 returns-then-is_err-clause-part g c =
@@ -40,7 +40,7 @@ returns-then-is_err-clause-part g c =
     let reply = c.index-replies-before.result in
     let failed : is_err c.take.result ≡ true = sym c.is_err.ensures.value ∙ c.if-is_err.true in
     let same = on_err c.take.result failed c.take.ensures.next in (
-      took_same (g.C.Client.task (g.C.Client.job c.args.client.now)).who.instance g.C.Client.fits g.C.Client.next c.args.client.now c.loop-before.client c.take.new.self (take c.loop-before.before c.args.replies.now)
+      took_same (g.C.Client.who (g.C.Client.job c.args.client.now)).instance g.C.Client.fits g.C.Client.next c.args.client.now c.loop-before.client c.take.new.self (take c.loop-before.before c.args.replies.now)
           c.loop-before.invariant.took same (on_err c.take.result failed c.take.ensures.fits),
       record {
         request = c.in-Some.field-0.now;
@@ -52,21 +52,21 @@ returns-then-is_err-clause-part g c =
           | inr other ↦ absurd (not_ok c.take.result failed (c.take.ensures.steady (λ a. other (subst (λ n. AnswersNext n reply) pending a))))
         ];
         unsteady = λ steady. not_ok c.take.result failed (c.take.ensures.sure c.in-Some.field-0.now pending steady);
-        refusal = λ code says calm. not_ok c.take.result failed (c.take.ensures.calm code says (subst (λ j. g.C.Client.calm j) (sym c.loop-before.invariant.job) calm));
+        refusal = λ code says calm. not_ok c.take.result failed (c.take.ensures.calm code says (subst (λ j. (g.C.Client.rule j).calm) (sym c.loop-before.invariant.job) calm));
       },
     )
 
 pub loop-before-preserved : goal.loop-before-preserved
 loop-before-preserved g c =
     let pending : g.C.Client.next c.loop-before.client ≡ Some c.in-Some.field-0.now = sym c.pending.ensures.next ∙ ap (option_map (λ r. r.now)) c.in-Some.is in
-    let instance = (g.C.Client.task (g.C.Client.job c.args.client.now)).who.instance in
+    let instance = (g.C.Client.who (g.C.Client.job c.args.client.now)).instance in
     let request = c.in-Some.field-0.now in
     let reply = c.index-replies-before.result in
     let i = c.loop-before.invariant in
     let went : is_err c.take.result ≡ false = sym c.is_err.ensures.value ∙ c.if-is_err.false in
     let on = took_on instance g.C.Client.fits g.C.Client.next c.args.client.now c.loop-before.client c.take.new.self (take c.loop-before.before c.args.replies.now) request reply (g.C.Client.given c.take.new.self) i.took
     pending (c.pending.ensures.frame request pending)
-    (λ es f. numbered_next _ _ _ _ _ _ _ es instance request (g.met.C.Client.obedient c.loop-before.client es f) pending (ap (λ j. (g.C.Client.task j).who.instance) i.job))
+    (λ es f. numbered_next _ _ _ _ _ _ _ es instance request (g.met.C.Client.obedient c.loop-before.client es f) pending (ap (λ j. (g.C.Client.who j).instance) i.job))
     (λ answers. on_ok c.take.result went c.take.ensures.taken request pending answers) c.take.ensures.other in
     record {
       took = (on.0, subst (λ some. TookEach instance g.C.Client.fits g.C.Client.next c.args.client.now some on.0 c.take.new.self) (one_more c.args.replies.now c.loop-before.before reply c.loop-before-test.true c.index-replies-before.is) on.1);

@@ -1,6 +1,7 @@
 use Rattle.std.proofs.Common.{◌∷◌, [], refl, inl}
 use Rattle.repo_session.specs.Traces.{Exchange, silent}
 use Rattle.repo_session.proofs.Cataloguing.{are_indexed}
+use Rattle.repo_session.proofs.KindReads.{due_index}
 use Rattle.repo_backup.specs.PieceStates.{piece_task}
 use Rattle.repo_backup.proofs.PieceStepping.{may_read_pieces, nothing_still, input_first, input_wanted}
 use Rattle.repo_backup.proofs.piece_jobs.PieceJob.read_on.Goals as goal
@@ -14,7 +15,7 @@ returns-in-Ask-clause-ok c = λ holding es working obeys asked.
     let due = reads (piece_task holding.who) holding.token [] es working asked.may asked.knows.0 in
     let work = asked.knows.1 in (
       inl refl,
-      record { work = due.work; may = due.may; allowed = may_read_pieces (silent ask say ∷ es) c.in-Ask.ask due.reads work.2.1; knows = inl (due.knows, (work.0, work.1, nothing_still old.catalog work.0 ask say es asked.knows.0 work.2)) },
+      record { work = due.work; may = due.may; allowed = may_read_pieces (silent ask say ∷ es) c.in-Ask.ask (due_index (piece_task holding.who) c.read_on.new.self (silent ask say ∷ es) c.in-Ask.ask due) work.2.1; knows = inl (due.knows, (work.0, work.1, nothing_still old.catalog work.0 ask say es asked.knows.0 work.2)) },
     )
 
 pub returns-in-All-clause-ok : goal.returns-in-All-clause-ok

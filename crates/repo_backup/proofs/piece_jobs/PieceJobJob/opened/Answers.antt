@@ -2,6 +2,7 @@ use Rattle.std.proofs.Common.{rules, arith, ◌≡◌, [], refl, sym, ap, subst,
 use Rattle.repo_session.specs.Order.{opened, IsWorking}
 use Rattle.repo_session.specs.Traces.{Trace}
 use Rattle.repo_session.proofs.Cataloguing.{catalog_fresh}
+use Rattle.repo_session.proofs.KindReads.{due_index}
 use Rattle.repo_writing.proofs.Filling.{most_known}
 use Rattle.repo_backup.specs.PieceStates.{piece_task, HasBegun}
 use Rattle.repo_backup.specs.Pieces.{PieceStands, IsReady, at_beginning}
@@ -38,4 +39,4 @@ returns-clause-begins c = λ text fresh reads known.
     let catalog = catalog_fresh task holding.token text l.roll.kind l.roll.names.items l.roll.read l.lookup es fresh.of_indexes fresh.no_names fresh.none_read fresh.no_facts refl in
     let working : IsWorking task holding.token es = (config, record { later = []; text = text; since = refl; reads = reads; known = known; held = record { unfenced = tt; unended = tt } }) in
     let due = c.page_ask.ensures.due task holding.token es working fresh.none_read catalog in
-    record { work = due.work; may = due.may; allowed = may_read_pieces es c.page_ask.result due.reads refl; knows = inl (due.knows, (b, refl, (begun, refl))) }
+    record { work = due.work; may = due.may; allowed = may_read_pieces es c.page_ask.result (due_index task l es c.page_ask.result due) refl; knows = inl (due.knows, (b, refl, (begun, refl))) }

@@ -1,0 +1,13 @@
+use Rattle.std.proofs.Common.{sym, subst}
+use Rattle.std.proofs.lemmas.Result.{IfOk-weaker}
+use Rattle.repo_prune.specs.PruneStates.{StepsFrom}
+use Rattle.repo_prune.proofs.prunes.Prune.take.Goals as goal
+
+pub returns-in-Range-clause-steps : goal.returns-in-Range-clause-steps
+returns-in-Range-clause-steps c = IfOk-weaker c.take_range.result _ _ (λ step h who knows. subst (λ a. StepsFrom c.args.self.now c.args.token a c.args.say.now step c.take_range.new.self) (sym c.in-Range.is) (h _ _ _) who) c.take_range.ensures.steps
+
+pub returns-in-Put-clause-steps : goal.returns-in-Put-clause-steps
+returns-in-Put-clause-steps c = IfOk-weaker c.take_put.result _ _ (λ step h who knows. subst (λ a. StepsFrom c.args.self.now c.args.token a c.args.say.now step c.take_put.new.self) (sym c.in-Put.is) (h _ _ _) who) c.take_put.ensures.steps
+
+pub returns-in-Delete-clause-steps : goal.returns-in-Delete-clause-steps
+returns-in-Delete-clause-steps c = λ who knows. subst (λ a. StepsFrom c.args.self.now c.args.token a c.args.say.now c.take_delete.result c.take_delete.new.self) (sym c.in-Delete.is) (c.take_delete.ensures.steps _ _) who

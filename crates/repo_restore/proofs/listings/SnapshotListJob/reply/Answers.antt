@@ -1,0 +1,51 @@
+use Rattle.std.proofs.Common.{◌∷◌, [], List, refl, sym, subst, inl}
+use Rattle.repo_name.specs.declared.names.Name.{Name}
+use Rattle.repo_tree.specs.declared.snapshots.Snapshot.{Snapshot}
+use Rattle.repo_session.specs.Ends.{IsOfOtherVersion}
+use Rattle.repo_session.specs.Jobs.{task_under}
+use Rattle.repo_session.specs.Listings.{IsSnapshotListing}
+use Rattle.repo_session.specs.Traces.{Exchange, silent}
+use Rattle.repo_session.specs.Versions.{upto}
+use Rattle.repo_session.proofs.KindReads.{due_snapshot}
+use Rattle.repo_restore.specs.Listing.{list_rule}
+use Rattle.repo_restore.proofs.listings.SnapshotListJob.reply.Goals as goal
+
+pub returns-in-Ask-clause-steps : goal.returns-in-Ask-clause-steps
+returns-in-Ask-clause-steps c = λ es w obeys asked.
+    let holding = c.args.holder.now in
+    let lists = rw c.in-Ask.is at c.in_ok-next.ensures.ok in
+    let due = (lists (task_under list_rule holding.who) holding.token [] es w asked.may asked.knows).1 in
+    (inl refl, record { work = due.work; may = due.may; allowed = due_snapshot _ _ _ _ due; knows = due.knows })
+
+pub returns-in-All-clause-steps : goal.returns-in-All-clause-steps
+returns-in-All-clause-steps c = λ es w obeys asked.
+    let holding = c.args.holder.now in
+    let e : Exchange = silent c.args.ask.now c.args.say.now in
+    let lists = rw c.in-All.is at c.in_ok-next.ensures.ok in
+    let L : List (Name × Snapshot) → Type 0 = λ rows. IsSnapshotListing (e ∷ es) rows in
+    (inl refl, subst L (sym c.take_rows.ensures.rows) (lists (task_under list_rule holding.who) holding.token [] es w asked.may asked.knows).1)
+
+pub returns-in-Bad-clause-steps : goal.returns-in-Bad-clause-steps
+returns-in-Bad-clause-steps c = λ es w obeys asked.
+    let holding = c.args.holder.now in
+    let lists = rw c.in-Bad.is at c.in_ok-next.ensures.ok in
+    (inl refl, inl (inl (lists (task_under list_rule holding.who) holding.token [] es w asked.may asked.knows)))
+
+pub returns-in-Version-clause-steps : goal.returns-in-Version-clause-steps
+returns-in-Version-clause-steps c = λ es w obeys asked.
+    let holding = c.args.holder.now in
+    let lists = rw c.in-Version.is at c.in_ok-next.ensures.ok in
+    let other = lists (task_under list_rule holding.who) holding.token [] es w asked.may asked.knows in
+    (inl refl, inl (inl (subst (λ versions. IsOfOtherVersion (upto versions) c.args.ask.now c.args.say.now) c.versions.ensures other)))
+
+pub returns-in-Senseless-clause-steps : goal.returns-in-Senseless-clause-steps
+returns-in-Senseless-clause-steps c = λ es w obeys asked.
+    let holding = c.args.holder.now in
+    let lists = rw c.in-Senseless.is at c.in_ok-next.ensures.ok in
+    (inl refl, inl (inl (lists (task_under list_rule holding.who) holding.token [] es w asked.may asked.knows)))
+
+pub returns-in-Unwelcome-clause-steps : goal.returns-in-Unwelcome-clause-steps
+returns-in-Unwelcome-clause-steps c = λ es w obeys asked.
+    let holding = c.args.holder.now in
+    let lists = rw c.in-Unwelcome.is at c.in_ok-next.ensures.ok in
+    lists (task_under list_rule holding.who) holding.token [] es w asked.may asked.knows

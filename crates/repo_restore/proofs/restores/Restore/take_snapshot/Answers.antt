@@ -1,0 +1,93 @@
+use Rattle.std.proofs.Common.{◌≡◌, ◌≢◌, ◌≤◌, ◌∙◌, ◌∷◌, ℕ, false, List, refl, sym, ap, subst, inl}
+use Rattle.repo_name.specs.Naming as naming
+use Rattle.repo_name.specs.declared.kinds.Kind.{Kind}
+use Rattle.repo_wire.specs.declared.messages.Ask.{Ask}
+use Rattle.repo_wire.specs.declared.messages.Say.{Say}
+use Rattle.repo_tree.specs.SnapshotText.{IsSnapshotText, SnapshotFault}
+use Rattle.repo_tree.specs.declared.faults.TextError.{TextError}
+use Rattle.repo_session.specs.Ends.{CausedBy, IsUnwelcome}
+use Rattle.repo_session.specs.Jobs.{task_under}
+use Rattle.repo_session.specs.Listings.{IsOfKnownVersion}
+use Rattle.repo_session.specs.Traces.{Exchange, giving, silent}
+use Rattle.repo_session.specs.Versions.{upto}
+use Rattle.repo_session.proofs.Causes.{snapshot_faultless}
+use Rattle.repo_session.proofs.Receiving.{unwelcome_get, bad_object}
+use Rattle.repo_restore.specs.declared.restores.Stage.{Stage}
+use Rattle.repo_session.specs.Trees.{HasRoot}
+use Rattle.repo_restore.specs.Restoring.{restore_rule}
+use Rattle.repo_restore.specs.RestoreStates.{KnowsAtStage}
+use Rattle.repo_restore.proofs.Advancing.{before_on, reads_allowed, snapshot_on}
+use Rattle.repo_session.proofs.KindReads.{due_index}
+use Rattle.repo_restore.proofs.restores.Restore.take_snapshot.Goals as goal
+
+pub returns-in_default-clause-ok : goal.returns-in_default-clause-ok
+returns-in_default-clause-ok c = λ ask es w obeys asked.
+    let holding = c.args.holder.now in
+    let j = c.args.self.now in
+    let e : Exchange = giving ask c.args.say.now j.given.items in
+    let S : Stage → Type 0 = λ stage. KnowsAtStage j stage e.ask es in
+    let known = subst S c.requires asked.knows in
+    let U : Ask → Type 0 = λ a. IsUnwelcome a e.say in
+    subst U (sym known.0) (unwelcome_get Kind.Snapshot j.snapshot e.say c.in_default.not-Bytes)
+
+pub returns-then-not-is_named-clause-ok : goal.returns-then-not-is_named-clause-ok
+returns-then-not-is_named-clause-ok c = λ ask es w obeys asked.
+    let holding = c.args.holder.now in
+    let j = c.args.self.now in
+    let e : Exchange = giving ask c.args.say.now j.given.items in
+    let S : Stage → Type 0 = λ stage. KnowsAtStage j stage e.ask es in
+    let known = subst S c.requires asked.knows in
+    let n = j.snapshot in
+    let N : List ℕ → Type 0 = λ y. naming.name y ≢ n in
+    let other : naming.name c.as_slice-bytes.result.now ≢ n = λ h. (let yes = c.is_named.ensures.1 h in let no = c.if-not-is_named.true in absurd (cc)) in
+    let bad = bad_object Kind.Snapshot ask e.say n n c.in-Bytes.bytes (e ∷ es) known.0 refl c.in-Bytes.is (inl (subst N c.as_slice-bytes.ensures other)) in
+    (inl known.3.none_given, inl (inl bad))
+
+pub returns-in-Ok-clause-ok : goal.returns-in-Ok-clause-ok
+returns-in-Ok-clause-ok c = λ ask es w obeys asked.
+    let holding = c.args.holder.now in
+    let j = c.args.self.now in
+    let e : Exchange = giving ask c.args.say.now j.given.items in
+    let S : Stage → Type 0 = λ stage. KnowsAtStage j stage e.ask es in
+    let known = subst S c.requires asked.knows in
+    let n = j.snapshot in
+    let x = c.in-Bytes.bytes in
+    let N : List ℕ → Type 0 = λ y. naming.name y ≡ n in
+    let X : List ℕ → Type 0 = λ y. IsSnapshotText y c.in-Ok.snapshot in
+    let named = subst N c.as_slice-bytes.ensures (c.is_named.ensures.0 c.if-not-is_named.false) in
+    let text = subst X c.as_slice-bytes.ensures c.in-Ok.ensures.ok.0 in
+    let indexes = snapshot_on j.catalog e n x false es known.0 c.in-Bytes.is known.2 in
+    let due = c.page_ask.ensures.due (task_under (restore_rule n) holding.who) holding.token (e ∷ es) w known.1 indexes in
+    let found : HasRoot (e ∷ es) n c.in-Ok.snapshot.version c.in-Ok.snapshot.tree = (x, c.in-Ok.snapshot, (inl (known.0, c.in-Bytes.is), named), text, refl, refl) in
+    (inl known.3.none_given, record { work = due.work; may = due.may; allowed = reads_allowed n (e ∷ es) _ (due_index _ j.catalog (e ∷ es) _ due); knows = (due.knows, found, before_on j.walk j.given.items e es refl known.3) })
+
+pub returns-in_ok-end-in-Err-clause-ok : goal.returns-in_ok-end-in-Err-clause-ok
+returns-in_ok-end-in-Err-clause-ok c = λ ask es w obeys asked.
+    let holding = c.args.holder.now in
+    let j = c.args.self.now in
+    let e : Exchange = giving ask c.args.say.now j.given.items in
+    let S : Stage → Type 0 = λ stage. KnowsAtStage j stage e.ask es in
+    let known = subst S c.requires asked.knows in
+    let n = j.snapshot in
+    let end = c.in_ok-end-in-Err.end in
+    let C : List ℕ → Type 0 = λ y. CausedBy (upto holding.who.versions) (e ∷ es) (Ask.Get Kind.Snapshot n) (Say.Bytes y) end in
+    let D : Say → Type 0 = λ y. CausedBy (upto holding.who.versions) (e ∷ es) (Ask.Get Kind.Snapshot n) y end in
+    let E : Ask → Type 0 = λ a. CausedBy (upto holding.who.versions) (e ∷ es) a e.say end in
+    let named = c.is_named.ensures.0 c.if-not-is_named.false in
+    let x = c.as_slice-bytes.result.now in
+    let bound : c.greatest.result ≡ upto holding.who.versions = c.greatest.ensures.greatest ∙ ap (λ versions. upto versions) c.versions.ensures in
+    let fault = subst (λ (v : ℕ). SnapshotFault v x c.in-Err.error) bound c.in-Err.ensures.fault in
+    let cause = subst C c.as_slice-bytes.ensures (c.in_ok-end-in-Err.ensures holding.who.versions x (e ∷ es) named fault) in
+    (inl known.3.none_given, inl (inl (subst E (sym known.0) (subst D (sym c.in-Bytes.is) cause))))
+
+pub returns-in-Ok-clause-known : goal.returns-in-Ok-clause-known
+returns-in-Ok-clause-known c =
+    let who = c.args.holder.now.who in
+    let read = c.in-Ok.ensures.ok in
+    let x = c.as_slice-bytes.result.now in
+    let bound : c.greatest.result ≡ upto who.versions = c.greatest.ensures.greatest ∙ ap (λ versions. upto versions) c.versions.ensures in
+    let within = subst (λ (known : ℕ). c.in-Ok.snapshot.version ≤ known) bound read.1 in
+    let K : Say → Type 0 = λ say. IsOfKnownVersion who.versions (silent (Ask.Get Kind.Snapshot c.args.self.now.snapshot) say) in
+    let B : List ℕ → Type 0 = λ y. K (Say.Bytes y) in
+    let known : B x = λ other. (let q : TextError.Version ≡ TextError.Memory = snapshot_faultless (upto who.versions) x c.in-Ok.snapshot TextError.Version read.0 within other.1 in absurd (cc)) in
+    subst K (sym c.in-Bytes.is) (subst B c.as_slice-bytes.ensures known)
