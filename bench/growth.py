@@ -4,9 +4,9 @@
 Usage: bench/growth.py VAULT [THING..]. SCALE=N has an N-th of the counts.
 
 THING is files (small ones, in folders of 100), snapshots (each of one folder), packs (of 1,024 bytes), blobs (chunks of some 128
-bytes in one file) or tokens (locks that were taken and given back, then a hundred that live); all of them without a word. A line has
+bytes in files of 4 MiB) or tokens (locks that were taken and given back, then a hundred that live); all of them without a word. A line has
 the job, and of each count the seconds of processors of client and server together, and the greatest memory of each in MiB; then the
-exponents from n to 2n and from 2n to 4n: 1.0 where twice as much takes twice as long. A client's memory below some 20 MiB isn't seen,
+exponents from n to 2n, from 2n to 4n, and over both: 1.0 where twice as much takes twice as long. A client's memory below some 20 MiB isn't seen,
 which is what this script has as it starts it. The store's folder is in memory where /dev/shm is there, so a disk's time isn't in it.
 Nothing is kept.
 """
@@ -30,6 +30,7 @@ ADDRESS = f"127.0.0.1:{PORT}"
 TICKS = os.sysconf("SC_CLK_TCK")
 SMALL_PACKS = ("--min", "64", "--max", "1024", "--bits", "9", "--target", "1024")
 SMALL_CHUNKS = ("--min", "64", "--max", "512", "--bits", "6")
+LARGEST = 4 << 20
 
 
 class Served:
@@ -94,20 +95,22 @@ def files(program, count, top):
         return served.told
 
 
-def one_file(program, top, size, numbers):
+def random_files(program, top, size, numbers):
+    """Files of random bytes, of 4 MiB at most, as one of many small chunks can't be larger."""
     (top / "from").mkdir()
-    (top / "from/file").write_bytes(os.urandom(size))
+    for place in range(0, size, LARGEST):
+        (top / f"from/{place:012}").write_bytes(os.urandom(min(LARGEST, size - place)))
     with Served(program, top, *numbers) as served:
         of_folder(served, top / "from", top / "to")
         return served.told
 
 
 def packs(program, count, top):
-    return one_file(program, top, count * 1024, ("--format", "2", *SMALL_PACKS))
+    return random_files(program, top, count * 1024, ("--format", "2", *SMALL_PACKS))
 
 
 def blobs(program, count, top):
-    return one_file(program, top, count * 128, ("--format", "2", *SMALL_CHUNKS))
+    return random_files(program, top, count * 128, ("--format", "2", *SMALL_CHUNKS))
 
 
 def snapshots(program, count, top):
@@ -158,7 +161,8 @@ def tell(thing, counts, told):
     for label in told[0]:
         each = [it[label] for it in told]
         took = ", ".join(f"{seconds:.2f} s ({client:.0f} + {server:.0f} MiB)" for seconds, client, server in each)
-        grows = " and ".join(exponent(less[0], more[0]) for less, more in zip(each, each[1:]))
+        grows = ", ".join(exponent(less[0], more[0]) for less, more in zip(each, each[1:]))
+        grows += f", over both {exponent(each[0][0] ** 0.5, each[-1][0] ** 0.5)}" if each[0][0] >= 0.05 else ""
         print(f"{thing} {' / '.join(f'{it:,}' for it in counts)}: {label}: {took}; exponents {grows}", flush=True)
 
 
