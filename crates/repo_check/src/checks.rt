@@ -34,11 +34,11 @@ impl Check {
         ensures fits { FitsCheck result [] }
         ensures who { who_in result ≡ who }
     {
-        Session::new(alloc, who, Check::begun(alloc))
+        Session::new(alloc, who, Check::fresh(alloc))
     }
 
     /// A check that hasn't begun. It takes no memory.
-    fn begun(alloc: Global) -> Check
+    fn fresh(alloc: Global) -> Check
         ensures { IsFreshCheck result }
     {
         Check {

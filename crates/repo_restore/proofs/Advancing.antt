@@ -1,5 +1,5 @@
 -- What is known while a snapshot is restored.
-use Rattle.std.proofs.Common.{◌≡◌, ◌≢◌, ◌≤◌, ◌∷◌, ◌++◌, [], ℕ, Bool, true, false, List, length, Option, refl, sym, ap, subst, inl, inr, ◌∙◌, ⊎_elim}
+use Rattle.std.proofs.Common.{◌≡◌, ◌≢◌, ◌↔◌, ◌≤◌, ◌∷◌, ◌++◌, [], ℕ, Bool, true, false, List, length, Option, refl, sym, ap, subst, inl, inr, ◌∙◌, ⊎_elim, Contains}
 use Rattle.std.proofs.lemmas.List.{append-nil}
 use Rattle.repo_name.specs.Naming as naming
 use Rattle.repo_name.specs.declared.kinds.Kind.{Kind}
@@ -27,7 +27,7 @@ use Rattle.repo_session.specs.Blobs.{range_of}
 use Rattle.repo_session.specs.Order.{IsReading, IsWorking, ReadsKind, opened}
 use Rattle.repo_session.specs.Rebuilding.{rebuilt, Follow}
 use Rattle.repo_session.specs.Traces.{Each, Exchange, Trace, emitted_in, page_names, is_last_page, object_got, ReadFact}
-use Rattle.repo_session.proofs.Cataloguing.{catalog_fresh, catalog_on}
+use Rattle.repo_session.proofs.Cataloguing.{are_indexed, catalog_fresh, catalog_on}
 use Rattle.repo_session.proofs.Descending.{fact_read, received_grows, root_grows, unindexed}
 use Rattle.repo_session.proofs.Holding.{opened_working}
 use Rattle.repo_session.proofs.Receiving.{each_more}
@@ -39,23 +39,27 @@ use Rattle.repo_restore.specs.declared.walks.Turn.{Turn}
 use Rattle.repo_restore.specs.declared.walks.Walk.{Walk}
 use Rattle.repo_session.specs.Received.{Received}
 use Rattle.repo_session.specs.Trees.{HasRoot, Under}
-use Rattle.repo_restore.specs.Restoring.{HaveLength, IsUneven, IsBadTree, MayGive, counted, restore_rule, RestoreAllows, RestoreConcludes}
+use Rattle.repo_restore.specs.Restoring.{HaveLength, IsUneven, IsBadTree, MayGive, counted, restore_rule, RestoreAllows, RestoreConcludes, Sums}
 use Rattle.repo_restore.specs.RestoreStates.{IsRangeOf, IsBefore, IsNewRestore, IsWalking, KnowsAtStage, KnowsRestore, RestoreTurnIs}
 use Rattle.repo_restore.specs.Walking.{WalkEnds, WaitsForBlob, Turns, TurnGives, IsUnevenIn, IsUnfitIn}
-use Rattle.repo_restore.specs.Walks.{Sums, WalkGives}
+use Rattle.repo_restore.specs.Walks.{WalkGives}
 use Rattle.repo_restore.proofs.Growing.{walk_grows}
 use Rattle.repo_restore.proofs.Needing.{waits_needed}
 
+-- what is reckoned by the least places is reckoned by facts that were read
+pub lengths_by : (facts : List Fact) (es : Trace) (content : List Name) (total : ℕ) → ((fact : Fact) → Contains facts fact ↔ ReadFact es fact) → Sums facts content total → HaveLength es content total
+lengths_by facts es [] total gives s = s
+lengths_by facts es (n ∷ ns) total gives s = (fact_of BlobKind.Content n s.0, s.1, (gives (fact_of BlobKind.Content n s.0)).0 s.2.among, refl, refl, lengths_by facts es ns s.1 gives s.3, s.4)
+
 lengths_of : (c : Catalog) (es : Trace) (content : List Name) (total : ℕ) → Catalogs c true es → Sums c.lookup content total → HaveLength es content total
-lengths_of c es [] total h s = s
-lengths_of c es (n ∷ ns) total h s = (fact_of BlobKind.Content n s.0, s.1, (h.gives (fact_of BlobKind.Content n s.0)).0 s.2.among, refl, refl, lengths_of c es ns s.1 h s.3, s.4)
+lengths_of c es content total h s = lengths_by c.lookup es content total h.gives s
 
 bad_tree : (c : Catalog) (s : Name) (version : ℕ) (root : Name) (es : Trace) (tree : Name) → Catalogs c true es → HasRoot es s version root
     → (path : List (List ℕ)) × Under version (Received es) root path tree × IsUnfitIn c.lookup version (Received es) root path tree → IsBadTree es s tree
 bad_tree c s version root es tree h found b = record { version = version; root = root; path = b.0; found = found; leads = b.1; unfit = ⊎_elim inl (λ n. inr (n.0, n.1, uneven n.0 n.2)) b.2 }
   where
     uneven : (nodes : List Node) → IsUnevenIn c.lookup nodes → IsUneven es nodes
-    uneven nodes u = record { name = u.0; size = u.1; content = u.2; total = u.3; among = u.4; lengths = lengths_of c es u.2 u.3 h u.5; other = u.6 }
+    uneven nodes u = record { facts = c.lookup; gives = h.gives; name = u.0; size = u.1; content = u.2; total = u.3; among = u.4; lengths = u.5; other = u.6 }
 
 -- a walk's end is one that a restore may have
 pub walk_concludes : (known : ℕ) (c : Catalog) (s : Name) (version : ℕ) (root : Name) (es : Trace) (end : End) → Catalogs c true es → IsAll c → HasRoot es s version root → WalkEnds c.lookup version (Received es) root end
@@ -150,9 +154,12 @@ waits_asks j version fact who token es at w k =
       work = tt;
       may = ((token, w), (fact, read, refl, refl, refl));
       allowed = record {
+        indexes = are_indexed j.catalog.roll.kind j.catalog.roll.names.items j.catalog.roll.read j.catalog.lookup es k.indexes k.all;
+        facts = j.catalog.lookup;
+        gives = k.indexes.gives;
         fact = fact;
-        read = read;
         at = refl;
+        least = k.waits.least;
         version = version;
         root = k.root;
         found = k.found;

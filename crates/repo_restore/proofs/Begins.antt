@@ -21,7 +21,8 @@ use Rattle.repo_session.specs.Trees.{Under, IsNodeAt}
 use Rattle.repo_restore.specs.Walking.{NodeBegins, NextBegins, LevelStands, LevelEnds, WaitsAs, WaitsIn, WalkEnds}
 use Rattle.repo_session.specs.Catalogs.{IsBlobNowhere}
 use Rattle.repo_restore.specs.Beginnings.{NodeSpellsFirst, SpellsFirst}
-use Rattle.repo_restore.specs.Walks.{IsWriting, PartIs, Sums, is_open, WalkGave, AtLevel, AtOpen}
+use Rattle.repo_restore.specs.Walks.{IsWriting, PartIs, is_open, WalkGave, AtLevel, AtOpen}
+use Rattle.repo_restore.specs.Restoring.{Sums}
 use Rattle.repo_restore.specs.Nodes.{PartFollows}
 use Rattle.repo_restore.proofs.Rebuilds.{rebuilt_both, writing_new}
 use Rattle.repo_restore.proofs.Beginnings.{first_none}

@@ -27,9 +27,9 @@ use Rattle.repo_restore.specs.declared.nodes.Begun.{Begun}
 use Rattle.repo_restore.specs.declared.nodes.Level.{Level}
 use Rattle.repo_restore.specs.Nodes.{WaitsFor, BlobFollows}
 use Rattle.repo_session.specs.Trees.{Under, IsNodeAt, IsNeeded, IsNoText, GoesWrong}
-use Rattle.repo_restore.specs.Restoring.{counted}
+use Rattle.repo_restore.specs.Restoring.{counted, Sums}
 use Rattle.repo_restore.specs.Walking.{WaitsIn, WaitsBehind, WaitsAs, with_begun, IsNextPath, MayFollow, FileWaits, TreeWaits, PartWaits, TreeWaitsBy, WaitsByKind, WalkWaits, WalkEnds}
-use Rattle.repo_restore.specs.Walks.{PartIs, LeadsThrough, ComesBehind, HaveNodes, LaterHaveNodes, nodes_in, IsOpenLevel, DirectoryIsBegun, IsFile, IsWriting, LeadsOn, AtLevel, AtOpen, Sums, WalkGives, is_open, WalkGave, WalkStopped}
+use Rattle.repo_restore.specs.Walks.{PartIs, LeadsThrough, ComesBehind, HaveNodes, LaterHaveNodes, nodes_in, IsOpenLevel, DirectoryIsBegun, IsFile, IsWriting, LeadsOn, AtLevel, AtOpen, WalkGives, is_open, WalkGave, WalkStopped}
 use Rattle.repo_session.proofs.Descending.{under_more}
 use Rattle.repo_restore.proofs.Rebuilds.{rebuilt_length, writing_more, writing_done}
 use Rattle.repo_restore.proofs.Flows.{follow_both, piece_follows}

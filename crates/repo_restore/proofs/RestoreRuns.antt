@@ -47,7 +47,7 @@ use Rattle.repo_session.specs.Received.{Received}
 use Rattle.repo_session.specs.Trees.{HasRoot, Under, IsUnindexed}
 use Rattle.repo_restore.specs.Restoring.{Wish, restore_task, HaveLength, IsUneven, IsBadTree, RestoreAllows, RestoreGives, RestoreConcludes}
 use Rattle.repo_restore.proofs.Firsts.{first_is_of_all}
-use Rattle.repo_restore.proofs.Advancing.{only_reads}
+use Rattle.repo_restore.proofs.Advancing.{only_reads, lengths_by}
 use Rattle.repo_session.proofs.KindReads.{kind_reads}
 use Rattle.repo_restore.proofs.Replied.{begun_of}
 
@@ -176,7 +176,7 @@ module _ (w : Wish) (from : Store) (sound : IsSound from.objects) (agree : Agree
   no_uneven version root entries path tree nodes spells leads lists u =
       let at = root_spells_at version B agree root entries path tree spells leads in
       let f = file_spelled version B agree greatest_depth path tree nodes u.name u.size u.content at lists u.among in
-      u.other (lengths_are u.content u.total f.0 u.lengths f.1 ∙ f.2)
+      u.other (lengths_are u.content u.total f.0 (lengths_by u.facts (trace_of talk) u.content u.total u.gives u.lengths) f.1 ∙ f.2)
 
   no_bad_tree : (tree : Name) → IsBadTree (trace_of talk) w.snapshot tree → ⊥
   no_bad_tree tree b =

@@ -16,7 +16,7 @@ use Rattle.repo_pack.specs.declared.places.Place.{Place}
 use Rattle.repo_index.specs.declared.facts.Fact.{Fact}
 use Rattle.repo_index.specs.Lookups.{IsLeast}
 use Rattle.repo_session.specs.Catalogs.{IsBlobNowhere}
-use Rattle.repo_restore.specs.Walks.{Sums}
+use Rattle.repo_restore.specs.Restoring.{Sums}
 
 -- one more behind some
 pub one_more : {A : Type 0} (xs : List A) (i : ℕ) (x : A) → slice_get xs i ≡ Some x → take (i + 1) xs ≡ take i xs ++ x ∷ []

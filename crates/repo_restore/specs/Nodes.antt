@@ -9,7 +9,7 @@ use Rattle.repo_session.specs.declared.emissions.Emission.{Emission}
 use Rattle.repo_session.specs.declared.outcomes.End.{End}
 use Rattle.repo_restore.specs.declared.nodes.Begun.{Begun}
 use Rattle.repo_session.specs.Catalogs.{IsBlobNowhere}
-use Rattle.repo_restore.specs.Walks.{Sums}
+use Rattle.repo_restore.specs.Restoring.{Sums}
 
 -- the blob of this kind and name comes next
 abbrev pub WaitsFor : List Fact → BlobKind → Name → Fact → Type 0

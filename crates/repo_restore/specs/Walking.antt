@@ -24,9 +24,9 @@ use Rattle.repo_index.specs.Lookups.{IsLeast}
 use Rattle.repo_restore.specs.Nodes.{WaitsFor, DirBegins, FileBegins}
 use Rattle.repo_session.specs.Trees.{Under, IsNeeded, IsBroken}
 use Rattle.repo_restore.specs.Beginnings.{SpellsFirst}
-use Rattle.repo_restore.specs.Restoring.{counted}
+use Rattle.repo_restore.specs.Restoring.{counted, Sums}
 use Rattle.repo_session.specs.Catalogs.{IsBlobNowhere}
-use Rattle.repo_restore.specs.Walks.{Sums, PartIs, WalkGives, is_open, WalkGave, WalkStopped, IsOpenLevel, DirectoryIsBegun, IsFile, LeadsOn, IsWriting, AtOpen}
+use Rattle.repo_restore.specs.Walks.{PartIs, WalkGives, is_open, WalkGave, WalkStopped, IsOpenLevel, DirectoryIsBegun, IsFile, LeadsOn, IsWriting, AtOpen}
 use Rattle.repo_session.specs.Received.{Received}
 use Rattle.repo_name.specs.Naming as naming
 

@@ -19,11 +19,7 @@ use Rattle.repo_session.specs.Trees.{Under, IsNodeAt}
 use Rattle.repo_restore.specs.declared.nodes.Filed.{Filed}
 use Rattle.repo_restore.specs.declared.nodes.Level.{Level}
 use Rattle.repo_restore.specs.Beginnings.{IsBeginning}
-
--- the least places of content blobs of these names have so many bytes
-abbrev pub Sums : List Fact → List Name → ℕ → Type 0
-Sums facts [] total = total ≡ 0
-Sums facts (name ∷ names) total = (place : Place) × (rest : ℕ) × IsLeast facts BlobKind.Content name place × Sums facts names rest × (total ≡ place.length + rest)
+use Rattle.repo_restore.specs.Restoring.{Sums}
 
 -- what a walk may give out: directories and files that received trees have at their paths, each file only where its blobs have places and its size; and
 -- content that was received

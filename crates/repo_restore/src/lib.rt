@@ -1,11 +1,11 @@
 //! What a store gives back: the list of its snapshots, and a snapshot's directories and files.
 //!
-//! A [`SnapshotList`] is a client that lists the store's snapshots and reads each of them. A [`Restore`] is one
+//! A [`SnapshotList`] is a job that lists the store's snapshots and reads each of them. A [`Restore`] is one
 //! that gives out the directories and files of a snapshot, in order, a file by pieces: it reads the snapshot and
-//! the indexes, and walks over the trees, depth first. Each is a session around a job of its own.
+//! the indexes, and walks over the trees, depth first. A session of repo_session around each is its client.
 //!
-//! Promised: both are clients of repo_session, so each request was one that the exchanges before it allow, whoever
-//! answers. `Listed` comes only where the snapshots were listed to their end, and gives each of them, in order, as
+//! Promised: each request was one that the exchanges before it allow, whoever answers: a list reads snapshots alone, and a
+//! restore its snapshot, then all indexes, each once, and from their least places blobs that the snapshot's tree needs. `Listed` comes only where the snapshots were listed to their end, and gives each of them, in order, as
 //! the bytes that were read under its name say. `Complete` comes only where what was given out is what the
 //! snapshot's tree spells in the blobs that were received, which have the names that indexes which were read give
 //! them; each part given out is a piece of such a blob, or a directory or a file that a tree which was received has

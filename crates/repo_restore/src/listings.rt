@@ -29,11 +29,11 @@ impl SnapshotList {
         ensures fits { FitsList result [] }
         ensures who { who_in result ≡ who }
     {
-        Session::new(alloc, who, SnapshotList::begun(alloc))
+        Session::new(alloc, who, SnapshotList::fresh(alloc))
     }
 
     /// A list of nothing so far. It takes no memory.
-    fn begun(alloc: Global) -> SnapshotList
+    fn fresh(alloc: Global) -> SnapshotList
         ensures { IsFreshList result }
     {
         SnapshotList {

@@ -65,11 +65,11 @@ impl Restore {
         ensures who { (wish_of result).who ≡ who }
         ensures snapshot { (wish_of result).snapshot ≡ snapshot }
     {
-        Session::new(alloc, who, Restore::begun(alloc, snapshot))
+        Session::new(alloc, who, Restore::fresh(alloc, snapshot))
     }
 
     /// A restore that has asked for nothing. It takes no memory.
-    fn begun(alloc: Global, snapshot: Name) -> Restore
+    fn fresh(alloc: Global, snapshot: Name) -> Restore
         ensures new { IsNewRestore result }
         ensures snapshot { result.snapshot ≡ snapshot }
     {

@@ -4,7 +4,7 @@ use Rattle.repo_index.specs.declared.facts.Fact.{Fact}
 use Rattle.repo_session.specs.declared.emissions.Emission.{Emission}
 use Rattle.repo_restore.specs.declared.nodes.Begun.{Begun}
 use Rattle.repo_restore.specs.Nodes.{BlobFollows, FileBegins}
-use Rattle.repo_restore.specs.Walks.{Sums}
+use Rattle.repo_restore.specs.Restoring.{Sums}
 use Rattle.repo_restore.proofs.Summing.{summed_place}
 use Rattle.repo_restore.proofs.nodes.begin_file.Goals as goal
 
